@@ -1,0 +1,4 @@
+pub mod PartLaws
+pub mod TableLaws
+pub mod NsListLaws
+pub mod RecordLaws

@@ -1,0 +1,156 @@
+-- One field over some bytes, and the reading of numbers.
+use Rattle.std.proofs.Common.{◌≡◌, ◌∙◌, ℕ, zero, suc, ◌+◌, ◌-◌, ◌*◌, ◌%◌, ◌^◌, ◌<◌, ◌≤◌, ap, refl, sym, arith, mul-zero, List, [], ◌∷◌, ◌++◌, take, drop, set, length, get_or, map}
+use Rattle.std.specs.List.{flat_map}
+use Rattle.std.proofs.lemmas.Grind.{common_steps, same_number_lists}
+use Rattle.std.proofs.lemmas.List.{drop-append-le, drop-drop, drop-take, length-append, length-drop, length-replicate, length-take-le, set_split, take-append-le}
+use Rattle.std.proofs.lemmas.Nat.{mod_below, one_shl, pow_pos, shl_whole}
+use Rattle.std.proofs.Math.Seq.{drop-append_seam, take-append_seam}
+use Rattle.byteorder.specs.Endian.{little_bytes, little_from, little_number}
+use Rattle.byteorder.specs.Numbers.{length-bytes_low_first, little_from-take}
+use Rattle.nv_layout.specs.Parts.{Part, at_bits, bytes_of, number, number_at, numbers, numbers_at, place_of, placed, text, text_at, width_of, zeros}
+
+pub length_zeros : (n : ℕ) → length (zeros n) ≡ n
+unfolding zeros
+length_zeros n = length-replicate n 0
+
+-- ---- a field is as long as its width
+
+-- what an array and a text need for that: a number always is
+abbrev pub IsSized : Part → Type 0
+IsSized (number at width x) = Unit {0}
+IsSized (numbers at width count xs) = length xs ≡ count
+IsSized (text at width bytes) = length bytes ≡ width
+
+pub times_suc : (w n : ℕ) → w * suc n ≡ w + w * n
+times_suc w n = omega arith
+
+length_each : (width : ℕ) (xs : List ℕ) → length (flat_map (little_bytes width) xs) ≡ width * length xs
+length_each width [] = sym (mul-zero width)
+length_each width (x ∷ xs) =
+    length-append (little_bytes width x) (flat_map (little_bytes width) xs)
+    ∙ ap (λ n. n + length (flat_map (little_bytes width) xs)) (length-bytes_low_first 0 width x)
+    ∙ ap (λ n. width + n) (length_each width xs)
+    ∙ sym (times_suc width (length xs))
+
+pub length-bytes_of : (p : Part) → IsSized p → length (bytes_of p) ≡ width_of p
+length-bytes_of (number at width x) s = length-bytes_low_first 0 width x
+length-bytes_of (numbers at width count xs) s = length_each width xs ∙ ap (λ n. width * n) s
+length-bytes_of (text at width bytes) s = s
+
+-- ---- a field over some bytes
+
+length_over : (b c : List ℕ) (at width : ℕ) → length c ≡ width → at + width ≤ length b
+    → length (take at b ++ (c ++ drop width (drop at b))) ≡ length b
+length_over b c at width e h = grind (arith, common_steps)
+
+pub length-placed : (b : List ℕ) (p : Part) → IsSized p → place_of p + width_of p ≤ length b
+    → length (placed b p) ≡ length b
+unfolding placed
+length-placed b p s h = length_over b (bytes_of p) (place_of p) (width_of p) (length-bytes_of p s) h
+
+read_over : (b c d : List ℕ) (at width : ℕ) → length c ≡ width → at ≤ length b
+    → take width (drop at (take at b ++ (c ++ d))) ≡ c
+read_over b c d at width e h =
+    let front : length (take at b) ≡ at = length-take-le at b h in
+    ap (λ n. take width (drop n (take at b ++ (c ++ d)))) (sym front)
+    ∙ ap (take width) (drop-append_seam (take at b) (c ++ d))
+    ∙ ap (λ n. take n (c ++ d)) (sym e)
+    ∙ take-append_seam c d
+
+-- the field itself
+pub text_at-placed : (b : List ℕ) (p : Part) → IsSized p → place_of p ≤ length b
+    → text_at (place_of p) (width_of p) (placed b p) ≡ bytes_of p
+unfolding placed text_at
+text_at-placed b p s h =
+    read_over b (bytes_of p) (drop (width_of p) (drop (place_of p) b)) (place_of p) (width_of p) (length-bytes_of p s) h
+
+take_fewer : (k n : ℕ) (xs : List ℕ) → n ≤ k → take n (take k xs) ≡ take n xs
+take_fewer k n xs h = grind (arith, common_steps)
+
+read_before : (b rest : List ℕ) (end at n : ℕ) → at + n ≤ end → end ≤ length b
+    → take n (drop at (take end b ++ rest)) ≡ take n (drop at b)
+read_before b rest end at n h k =
+    let front : length (take end b) ≡ end = length-take-le end b k in
+    let cut : drop at (take end b ++ rest) ≡ drop at (take end b) ++ rest = drop-append-le at (take end b) rest (omega arith) in
+    let room : n ≤ length (drop at (take end b)) = simp length-drop (omega arith) in
+    let both : end ≡ at + (end - at) = omega arith in
+    let part : drop at (take end b) ≡ take (end - at) (drop at b) = ap (λ m. drop at (take m b)) both ∙ drop-take at (end - at) b in
+    ap (take n) cut
+    ∙ take-append-le n (drop at (take end b)) rest room
+    ∙ ap (take n) part
+    ∙ take_fewer (end - at) n (drop at b) (omega arith)
+
+-- what stands before the field
+pub text_at-placed_before : (b : List ℕ) (p : Part) (at n : ℕ) → at + n ≤ place_of p
+    → place_of p ≤ length b → text_at at n (placed b p) ≡ text_at at n b
+unfolding placed text_at
+text_at-placed_before b p at n h k =
+    read_before b (bytes_of p ++ drop (width_of p) (drop (place_of p) b)) (place_of p) at n h k
+
+-- one byte
+pub byte_placed : (b : List ℕ) (at x : ℕ) → at < length b → x < 256 → set b at x ≡ placed b (number at 1 x)
+unfolding placed
+byte_placed b at x h small =
+    let whole : x ≡ x % 256 = omega arith in
+    let next : suc at ≡ at + 1 = omega arith in
+    let rest : drop (suc at) b ≡ drop 1 (drop at b) = ap (λ m. drop m b) next ∙ sym (drop-drop 1 at b) in
+    set_split b at x h ∙ (λ i. take at b ++ (whole i ∷ rest i))
+
+-- ---- numbers in a row
+
+pub length-numbers_at : (at width n : ℕ) (bytes : List ℕ) → length (numbers_at at width n bytes) ≡ n
+unfolding numbers_at
+length-numbers_at at width zero bytes = refl
+length-numbers_at at width (suc n) bytes = ap suc (length-numbers_at (at + width) width n bytes)
+
+pub get_or-numbers_at : (at width n : ℕ) (bytes : List ℕ) (k : ℕ) → k < n
+    → get_or (numbers_at at width n bytes) k 0 ≡ number_at (at + width * k) width bytes
+unfolding numbers_at
+get_or-numbers_at at width zero bytes k h = absurd (omega arith)
+get_or-numbers_at at width (suc n) bytes zero h = ap (λ m. number_at m width bytes) (omega arith)
+get_or-numbers_at at width (suc n) bytes (suc k) h =
+    get_or-numbers_at (at + width) width n bytes k (omega arith) ∙ ap (λ m. number_at m width bytes) (omega (arith, times_suc width k))
+
+-- values that were read one by one
+pub numbers_read : (at width n : ℕ) (bytes xs : List ℕ) → length xs ≡ n
+    → ((k : ℕ) → k < n → get_or xs k 0 ≡ number_at (at + width * k) width bytes)
+    → xs ≡ numbers_at at width n bytes
+numbers_read at width n bytes xs e h =
+    let size : length (numbers_at at width n bytes) ≡ n = length-numbers_at at width n bytes in
+    same_number_lists xs (numbers_at at width n bytes) (e ∙ sym size)
+    (λ k below. h k (omega (arith, e)) ∙ sym (get_or-numbers_at at width n bytes k (omega (arith, e))))
+
+-- a number in a part of the bytes
+pub number_at-part : (at width size skip : ℕ) (bytes : List ℕ) → skip + width ≤ size
+    → little_number width (drop skip (take size (drop at bytes))) ≡ number_at (at + skip) width bytes
+unfolding number_at
+number_at-part at width size skip bytes h =
+    let more : size ≡ skip + (size - skip) = omega arith in
+    ap (λ (m : ℕ). little_from 0 width (drop skip (take m (drop at bytes)))) more
+    ∙ ap (little_from 0 width) (drop-take skip (size - skip) (drop at bytes))
+    ∙ little_from-take 0 width (size - skip) (drop skip (drop at bytes)) (omega arith)
+    ∙ ap (little_from 0 width) (drop-drop skip at bytes)
+
+-- ---- bits of 32
+
+pub to_bits_value : (value low count : ℕ) → low < 32 → count < 32 → low + count ≤ 32
+    → value % (1 * 2 ^ count % 2 ^ 32) * 2 ^ low % 2 ^ 32 ≡ at_bits low count value
+to_bits_value value low count l c h =
+    let size : 1 * 2 ^ count % 2 ^ 32 ≡ 2 ^ count = one_shl count 32 c in
+    let below : value % 2 ^ count < 2 ^ count = mod_below value (2 ^ count) (pow_pos count) in
+    ap (λ m. value % m * 2 ^ low % 2 ^ 32) size ∙ shl_whole (value % 2 ^ count) count low 32 below (omega arith)
+
+-- ---- arrays
+
+-- what a function gave for each element
+pub map_read : {X Y : Type 0} (f : X → Y) (xs : List X) (ys : List Y) (d : X) (e : Y)
+    → length ys ≡ length xs → ((k : ℕ) → k < length xs → get_or ys k e ≡ f (get_or xs k d))
+    → ys ≡ map f xs
+map_read f [] [] d e l h = refl
+map_read f [] (y ∷ ys) d e l h = absurd (omega arith)
+map_read f (x ∷ xs) [] d e l h = absurd (omega arith)
+map_read f (x ∷ xs) (y ∷ ys) d e l h =
+    let first : y ≡ f x = h 0 (omega arith) in
+    let rest = map_read f xs ys d e (omega arith)
+    (λ k below. let here : get_or ys k e ≡ f (get_or xs k d) = h (suc k) (omega arith) in here) in
+    (λ i. first i ∷ rest i)

@@ -1,0 +1,17 @@
+use Rattle.nv_layout.proofs.RecordLaws.{cqe_back, id_ns_back, ns_list_back, sqe_back, status_back}
+use Rattle.nv_layout.proofs.reads_back.Goals as goal
+
+pub returns-clause-sqe : goal.returns-clause-sqe
+returns-clause-sqe c = sqe_back
+
+pub returns-clause-cqe : goal.returns-clause-cqe
+returns-clause-cqe c = cqe_back
+
+pub returns-clause-status : goal.returns-clause-status
+returns-clause-status c = status_back
+
+pub returns-clause-id_ns : goal.returns-clause-id_ns
+returns-clause-id_ns c = id_ns_back
+
+pub returns-clause-ns_list : goal.returns-clause-ns_list
+returns-clause-ns_list c = ns_list_back

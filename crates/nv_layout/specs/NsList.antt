@@ -1,0 +1,24 @@
+-- A namespace list: its identifiers, then zeros.
+use Rattle.std.specs.Prelude.{◌≡◌, ◌≢◌, ◌≤◌, ◌<◌, ◌-◌, ◌==◌, ◌^◌, Bool, ℕ, List, [], ◌∷◌, ◌++◌, length}
+use Rattle.std.specs.List.{AllByRecursion, before_first}
+use Rattle.nv_layout.specs.Parts.{Part, laid_out, numbers, numbers_at, zeros}
+
+abbrev pub padded : ℕ → List ℕ → List ℕ
+padded size xs = xs ++ zeros (size - length xs)
+
+abbrev pub ns_list_parts : List ℕ → List Part
+ns_list_parts ids = numbers 0 4 1024 (padded 1024 ids) ∷ []
+
+unfoldable pub bytes_of_ns_list : List ℕ → List ℕ
+bytes_of_ns_list ids = laid_out 4096 (ns_list_parts ids)
+
+abbrev pub is_zero : ℕ → Bool
+is_zero x = x == 0
+
+-- those before the first zero
+unfoldable pub ns_list_of_bytes : List ℕ → List ℕ
+ns_list_of_bytes bytes = before_first is_zero (numbers_at 0 4 1024 bytes)
+
+abbrev pub NsListReadsBack : Type 0
+NsListReadsBack = (ids : List ℕ) → length ids ≤ 1024 → AllByRecursion (λ x. (x ≢ 0) × (x < 2 ^ 32)) ids
+    → ns_list_of_bytes (bytes_of_ns_list ids) ≡ ids

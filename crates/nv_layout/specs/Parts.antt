@@ -1,0 +1,86 @@
+-- A record as bytes: a table of its fields, each at its place.
+use Rattle.std.specs.Prelude.{◌≡◌, ℕ, zero, suc, Bool, ◌&&◌, nat_le, if◌then◌else◌, ◌+◌, ◌*◌, ◌/◌, ◌%◌, ◌^◌, ◌<◌, List, [], ◌∷◌, ◌++◌, take, drop, fold, replicate, length}
+use Rattle.std.specs.List.{AllByRecursion, flat_map}
+use Rattle.byteorder.specs.Endian.{little_bytes, little_number}
+
+-- a field of a record: its first byte, how many bytes it has, and its value. `numbers` stand one after
+-- the other: its second number is the bytes of each, and its third how many there are
+pub data Part : Type 0 where
+  number : ℕ → ℕ → ℕ → Part
+  numbers : ℕ → ℕ → ℕ → List ℕ → Part
+  text : ℕ → ℕ → List ℕ → Part
+
+abbrev pub place_of : Part → ℕ
+place_of (number at width x) = at
+place_of (numbers at width count xs) = at
+place_of (text at width bytes) = at
+
+abbrev pub width_of : Part → ℕ
+width_of (number at width x) = width
+width_of (numbers at width count xs) = width * count
+width_of (text at width bytes) = width
+
+-- a number's lowest byte comes first
+abbrev pub bytes_of : Part → List ℕ
+bytes_of (number at width x) = little_bytes width x
+bytes_of (numbers at width count xs) = flat_map (little_bytes width) xs
+bytes_of (text at width bytes) = bytes
+
+-- the bytes with a field over them
+unfoldable pub placed : List ℕ → Part → List ℕ
+placed bytes p = take (place_of p) bytes ++ (bytes_of p ++ drop (width_of p) (drop (place_of p) bytes))
+
+unfoldable pub zeros : ℕ → List ℕ
+zeros n = replicate n 0
+
+-- the fields at their places, and zeros elsewhere
+abbrev pub laid_out : ℕ → List Part → List ℕ
+laid_out size parts = fold placed (zeros size) parts
+
+-- ---- reading
+
+-- the `width` bytes from a place on
+unfoldable pub text_at : ℕ → ℕ → List ℕ → List ℕ
+text_at at width bytes = take width (drop at bytes)
+
+-- the number in them
+unfoldable pub number_at : ℕ → ℕ → List ℕ → ℕ
+number_at at width bytes = little_number width (drop at bytes)
+
+-- `count` numbers of `width` bytes each, one after the other
+unfoldable pub numbers_at : ℕ → ℕ → ℕ → List ℕ → List ℕ
+numbers_at at width zero bytes = []
+numbers_at at width (suc count) bytes = number_at at width bytes ∷ numbers_at (at + width) width count bytes
+
+-- ---- the bits of a number
+
+-- the `count` bits from bit `low` on
+abbrev pub bits : ℕ → ℕ → ℕ → ℕ
+bits low count x = x / 2 ^ low % 2 ^ count
+
+-- a number with the lowest `count` bits of x from bit `low` on, and zeros elsewhere
+abbrev pub at_bits : ℕ → ℕ → ℕ → ℕ
+at_bits low count x = x % 2 ^ count * 2 ^ low
+
+-- a flag's bit
+abbrev pub bit : Bool → ℕ
+bit flag = if flag then 1 else 0
+
+-- ---- tables
+
+-- the fields stand in order, without overlap, from a place on and within the size
+abbrev pub is_table : ℕ → ℕ → List Part → Bool
+is_table from size [] = nat_le from size
+is_table from size (p ∷ ps) = nat_le from (place_of p) && is_table (place_of p + width_of p) size ps
+
+-- the value fits its bytes
+abbrev pub Fits : Part → Type 0
+Fits (number at width x) = x < 256 ^ width
+Fits (numbers at width count xs) = (length xs ≡ count) × AllByRecursion (λ x. x < 256 ^ width) xs
+Fits (text at width bytes) = length bytes ≡ width
+
+-- the bytes hold the value
+abbrev pub Holds : List ℕ → Part → Type 0
+Holds bytes (number at width x) = number_at at width bytes ≡ x
+Holds bytes (numbers at width count xs) = numbers_at at width count bytes ≡ xs
+Holds bytes (text at width t) = text_at at width bytes ≡ t

@@ -1,0 +1,37 @@
+//! The records that an NVM Express host and a controller exchange, to and from bytes. All numbers
+//! are little endian. Reserved bytes and bits are written 0 and ignored on reading.
+//!
+//! Sections are named as in the NVM Express Base Specification, revision 1.4.
+#![tactic(auto)]
+
+ghost use Rattle.nv_layout.specs.Cqe.{CqeReadsBack};
+ghost use Rattle.nv_layout.specs.IdNs.{IdNsReadsBack};
+ghost use Rattle.nv_layout.specs.NsList.{NsListReadsBack};
+ghost use Rattle.nv_layout.specs.Sqe.{SqeReadsBack};
+ghost use Rattle.nv_layout.specs.Status.{StatusReadsBack};
+
+mod cqe;
+mod error_entry;
+mod id_ns;
+mod ns_list;
+mod parts;
+mod sqe;
+mod status;
+#[cfg(test)]
+mod tests;
+
+pub use cqe::Cqe;
+pub use error_entry::ErrorEntry;
+pub use id_ns::{IdNs, Lbaf};
+pub use ns_list::NsList;
+pub use sqe::Sqe;
+pub use status::Status;
+
+/// The law of this crate: a record whose fields fit their bits is what is read from its bytes.
+pub fn reads_back()
+    ensures sqe { SqeReadsBack }
+    ensures cqe { CqeReadsBack }
+    ensures status { StatusReadsBack }
+    ensures id_ns { IdNsReadsBack }
+    ensures ns_list { NsListReadsBack }
+{}

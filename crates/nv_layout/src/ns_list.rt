@@ -1,0 +1,93 @@
+//! Namespace lists.
+
+ghost use Rattle.std.specs.Prelude.{◌≡◌, ◌≤◌, ◌<◌, ◌-◌, ◌↔◌, ◌++◌, ◌∷◌, [], ℕ, IsTrue, List, drop, length, take};
+ghost use Rattle.nv_layout.specs.NsList.{bytes_of_ns_list, ns_list_of_bytes};
+ghost use Rattle.nv_layout.specs.Parts.{zeros};
+
+use crate::parts::{clear, put_u32s, u32_at};
+use std::marker::Model;
+
+/// Up to 1,024 namespace identifiers. In the list's bytes they are followed by zeros, so that a 0
+/// among them ends the list. Section "Namespace List".
+#[derive(Drop)]
+pub struct NsList {
+    ids: [u32; 1024],
+    len: usize,
+}
+
+impl Model for NsList {
+    ghost Value = { List ℕ };
+
+    ghost view = { λ s. take s.len s.ids };
+
+    ghost invariant = { λ s. (s.len ≤ 1024) × (drop s.len s.ids ≡ zeros (1024 - s.len)) };
+}
+
+impl NsList {
+    /// The list of no identifiers.
+    #[tactic(auto, unfolding(crate::specs::Parts::zeros))]
+    pub fn new() -> NsList
+        ensures { result ≡ [] }
+    {
+        NsList {
+            ids: [0; 1024],
+            len: 0,
+        }
+    }
+
+    /// How many identifiers the list has.
+    pub fn len(&self) -> usize
+        ensures count { result ≡ length self.now }
+        ensures within { result ≤ 1024 }
+    {
+        self.as_slice().len()
+    }
+
+    /// Whether the list has no identifiers.
+    pub fn is_empty(&self) -> bool
+        ensures { IsTrue result ↔ (self.now ≡ []) }
+    {
+        self.as_slice().is_empty()
+    }
+
+    /// The identifiers in order.
+    pub fn as_slice(&self) -> &[u32]
+        ensures items { result.now ≡ self.now }
+        ensures within { length self.now ≤ 1024 }
+    {
+        &self.ids[..self.len]
+    }
+
+    /// Adds an identifier at the end.
+    pub fn push(&mut self, nsid: u32)
+        requires { length self.old < 1024 }
+        ensures { self.new ≡ self.old ++ nsid ∷ [] }
+    {
+        self.ids[self.len] = nsid;
+        self.len += 1;
+    }
+
+    /// Writes the list's bytes.
+    #[tactic(auto, unfolding(crate::specs::NsList::bytes_of_ns_list))]
+    pub fn put(&self, out: &mut [u8; 4096])
+        ensures { out.new ≡ bytes_of_ns_list self.now }
+    {
+        clear(out);
+        put_u32s(out, 0, &self.ids);
+    }
+
+    /// Reads a list from its bytes. It ends at the first zero.
+    pub fn get(bytes: &[u8; 4096]) -> NsList
+        ensures { result ≡ ns_list_of_bytes bytes.now }
+    {
+        let mut list = NsList::new();
+        for i in 0..1024 {
+            let nsid = u32_at(bytes, 4 * i);
+            if nsid == 0 {
+                return list;
+            }
+            list.push(nsid);
+        }
+        list
+    }
+}

@@ -1,0 +1,130 @@
+//! Numbers at their places in a record's bytes, and in the bits of a number.
+
+ghost use Rattle.std.specs.Prelude.{◌≡◌, ◌≤◌, ◌<◌, ◌+◌, ◌*◌, length};
+ghost use Rattle.nv_layout.specs.Parts.{at_bits, bits, number, number_at, numbers, numbers_at, placed, zeros};
+
+use byteorder::{ByteOrder, LittleEndian};
+
+/// Zeros in all of a record's bytes, before its fields are put.
+#[tactic(auto, unfolding(crate::specs::Parts::zeros))]
+pub fn clear(out: &mut [u8])
+    ensures { out.new ≡ zeros (length out.old) }
+{
+    out.fill(0);
+}
+
+#[tactic(auto, unfolding(crate::specs::Parts::placed))]
+pub fn put_u8(out: &mut [u8], at: usize, value: u8)
+    requires { at < length out.old }
+    ensures { out.new ≡ placed out.old (number at 1 value) }
+{
+    out[at] = value;
+}
+
+#[tactic(auto, unfolding(crate::specs::Parts::placed))]
+pub fn put_u16(out: &mut [u8], at: usize, value: u16)
+    requires { at + 2 ≤ length out.old }
+    ensures { out.new ≡ placed out.old (number at 2 value) }
+{
+    LittleEndian::write_u16(&mut out[at..], value);
+}
+
+#[tactic(auto, unfolding(crate::specs::Parts::placed))]
+pub fn put_u32(out: &mut [u8], at: usize, value: u32)
+    requires { at + 4 ≤ length out.old }
+    ensures { out.new ≡ placed out.old (number at 4 value) }
+{
+    LittleEndian::write_u32(&mut out[at..], value);
+}
+
+#[tactic(auto, unfolding(crate::specs::Parts::placed))]
+pub fn put_u64(out: &mut [u8], at: usize, value: u64)
+    requires { at + 8 ≤ length out.old }
+    ensures { out.new ≡ placed out.old (number at 8 value) }
+{
+    LittleEndian::write_u64(&mut out[at..], value);
+}
+
+#[tactic(auto, unfolding(crate::specs::Parts::placed))]
+pub fn put_u128(out: &mut [u8], at: usize, value: u128)
+    requires { at + 16 ≤ length out.old }
+    ensures { out.new ≡ placed out.old (number at 16 value) }
+{
+    LittleEndian::write_u128(&mut out[at..], value);
+}
+
+#[tactic(auto, unfolding(crate::specs::Parts::placed))]
+pub fn put_u32s<const N: usize>(out: &mut [u8], at: usize, values: &[u32; N])
+    requires { at + 4 * N ≤ length out.old }
+    ensures { out.new ≡ placed out.old (numbers at 4 N values.now) }
+{
+    LittleEndian::write_u32_into(values, &mut out[at..at + 4 * N]);
+}
+
+#[tactic(auto, unfolding(crate::specs::Parts::number_at))]
+pub fn u8_at(bytes: &[u8], at: usize) -> u8
+    requires { at < length bytes.now }
+    ensures { result ≡ number_at at 1 bytes.now }
+{
+    bytes[at]
+}
+
+#[tactic(auto, unfolding(crate::specs::Parts::number_at))]
+pub fn u16_at(bytes: &[u8], at: usize) -> u16
+    requires { at + 2 ≤ length bytes.now }
+    ensures { result ≡ number_at at 2 bytes.now }
+{
+    LittleEndian::read_u16(&bytes[at..])
+}
+
+#[tactic(auto, unfolding(crate::specs::Parts::number_at))]
+pub fn u32_at(bytes: &[u8], at: usize) -> u32
+    requires { at + 4 ≤ length bytes.now }
+    ensures { result ≡ number_at at 4 bytes.now }
+{
+    LittleEndian::read_u32(&bytes[at..])
+}
+
+#[tactic(auto, unfolding(crate::specs::Parts::number_at))]
+pub fn u64_at(bytes: &[u8], at: usize) -> u64
+    requires { at + 8 ≤ length bytes.now }
+    ensures { result ≡ number_at at 8 bytes.now }
+{
+    LittleEndian::read_u64(&bytes[at..])
+}
+
+#[tactic(auto, unfolding(crate::specs::Parts::number_at))]
+pub fn u128_at(bytes: &[u8], at: usize) -> u128
+    requires { at + 16 ≤ length bytes.now }
+    ensures { result ≡ number_at at 16 bytes.now }
+{
+    LittleEndian::read_u128(&bytes[at..])
+}
+
+pub fn u32s_at<const N: usize>(bytes: &[u8], at: usize) -> [u32; N]
+    requires { at + 4 * N ≤ length bytes.now }
+    ensures { result ≡ numbers_at at 4 N bytes.now }
+{
+    let mut values = [0; N];
+    LittleEndian::read_u32_into(&bytes[at..at + 4 * N], &mut values);
+    values
+}
+
+/// The `count` bits of a number from bit `low` on.
+pub fn bits_of(number: u32, low: u32, count: u32) -> u32
+    requires low { low < 32 }
+    requires count { count < 32 }
+    ensures { result ≡ bits low count number }
+{
+    (number >> low) % (1 << count)
+}
+
+/// A number with the lowest `count` bits of a value from bit `low` on, and zeros elsewhere.
+pub fn to_bits(value: u32, low: u32, count: u32) -> u32
+    requires low { low < 32 }
+    requires count { count < 32 }
+    requires inside { low + count ≤ 32 }
+    ensures { result ≡ at_bits low count value }
+{
+    (value % (1 << count)) << low
+}

@@ -1,0 +1,60 @@
+//! The status field of a completion.
+
+use crate::parts::{bits_of, to_bits};
+
+/// The outcome of a command, the 15 bits beside the phase tag in a completion. Section "Status
+/// Field Definition".
+#[derive(Clone, Copy, Debug, PartialEq, Eq)]
+pub struct Status {
+    /// Status Code.
+    pub sc: u8,
+    /// Status Code Type, 3 bits.
+    pub sct: u8,
+    /// Command Retry Delay, 2 bits.
+    pub crd: u8,
+    /// More: the Error Information log has more on this command.
+    pub more: bool,
+    /// Do Not Retry.
+    pub dnr: bool,
+}
+
+impl Status {
+    ghost use Rattle.std.specs.Prelude.{◌≡◌, ◌↔◌, IsTrue};
+    ghost use Rattle.nv_layout.specs.Status.{number_of_status, status_of_number};
+
+    /// Whether the command was accepted: status code 0 of the generic type. Section "Generic Command
+    /// Status Definition".
+    pub fn is_success(self) -> bool
+        ensures { IsTrue result ↔ ((self.sct ≡ 0) × (self.sc ≡ 0)) }
+    {
+        self.sct == 0 && self.sc == 0
+    }
+
+    /// The field as a number of 15 bits.
+    #[tactic(auto, unfolding(crate::specs::Status::number_of_status))]
+    pub fn number(self) -> u16
+        ensures { result ≡ number_of_status self }
+    {
+        let number = to_bits(self.sc as u32, 0, 8)
+            + to_bits(self.sct as u32, 8, 3)
+            + to_bits(self.crd as u32, 11, 2)
+            + to_bits(self.more as u32, 13, 1)
+            + to_bits(self.dnr as u32, 14, 1);
+        number as u16
+    }
+
+    /// The field with this number. Bit 15 is no part of it and is ignored.
+    #[tactic(auto, unfolding(crate::specs::Status::status_of_number))]
+    pub fn from_number(number: u16) -> Status
+        ensures { result ≡ status_of_number number }
+    {
+        let number = number as u32;
+        Status {
+            sc: bits_of(number, 0, 8) as u8,
+            sct: bits_of(number, 8, 3) as u8,
+            crd: bits_of(number, 11, 2) as u8,
+            more: bits_of(number, 13, 1) == 1,
+            dnr: bits_of(number, 14, 1) == 1,
+        }
+    }
+}
