@@ -1,0 +1,209 @@
+-- The subsystem of a file is well formed.
+use Rattle.std.proofs.Common.{◌≡◌, ◌≢◌, ◌∙◌, ℕ, zero, suc, ◌≤◌, ◌||◌, ℤ, pos, Bool, true, false, cond, List, [], ◌∷◌, map, length, get_or, Option, Some, None, is_some, refl, sym, ap, subst, arith, int_eq}
+use Rattle.std.specs.Prelude.{All, AllPairs, if◌then◌else◌, count_by}
+use Rattle.std.specs.List.{fold, list_any}
+use Rattle.std.specs.Ordering.{nat_cmp, eq_by_cmp}
+use Rattle.std.specs.Cmp.{nat_cmp_total, unsigned_tied}
+use Rattle.std.specs.FinMap as map_of
+use Rattle.std.specs.FinMap.{get-empty, get-insert}
+use Rattle.std.proofs.lemmas.Bool.Decides.{Decides-int_eq, nat_tests}
+use Rattle.std.proofs.lemmas.List.{length-map, get_or-map}
+use Rattle.std.proofs.lemmas.List.Elements.{All-map, All-weaker}
+use Rattle.std.proofs.lemmas.List.Sums.{sum_by-cons}
+use Rattle.nv_subsystem.specs.FileValue.{ControllerValue, FileValue, NamespaceValue}
+use Rattle.nv_subsystem.specs.FromFile.{controller_of, is_attached_to, state_of, with_attachment, with_namespace}
+use Rattle.nv_subsystem.specs.IsFile as is_file
+use Rattle.nv_subsystem.specs.IsFile.{IsAttached, IsFile}
+use Rattle.nv_subsystem.specs.State.{Namespaces, Nsids}
+use Rattle.nv_subsystem.specs.WellFormed.{IsController, IsNamespace, IsWellFormed}
+use Rattle.nv_subsystem.specs.declared.parts.Namespace.{Namespace}
+use Rattle.nv_subsystem.proofs.ByNsid.{differs}
+use Rattle.nv_subsystem.proofs.Capacities.{used-all, used-empty}
+
+-- the namespace of a file with an NSID
+entry_at : List NamespaceValue → ℕ → Option NamespaceValue
+entry_at [] q = None
+entry_at (n ∷ ns) q = cond (eq_by_cmp nat_cmp q n.nsid) (Some n) (entry_at ns q)
+
+Distinct : List NamespaceValue → Type 0
+Distinct ns = AllPairs (λ a b. a.nsid ≢ b.nsid) ns
+
+abbrev or_else : Option NamespaceValue → Option Namespace → Option Namespace
+or_else None o = o
+or_else (Some e) o = Some e.namespace
+
+abbrev says : (NamespaceValue → Bool) → Option NamespaceValue → Bool
+says p None = false
+says p (Some e) = p e
+
+is_nsid : (q n : ℕ) → eq_by_cmp nat_cmp q n ≡ true → q ≡ n
+is_nsid q n h = let e = sym (unsigned_tied q n) ∙ h in grind (arith, nat_tests)
+
+-- an NSID that none of them has
+absent : (ns : List NamespaceValue) (q : ℕ) → All (λ n. q ≢ n.nsid) ns → entry_at ns q ≡ None
+unfolding entry_at
+absent [] q h = refl
+absent (n ∷ ns) q h = rw (differs q n.nsid (h zero n (omega arith))) (absent ns q (λ k d b. h (suc k) d (omega arith)))
+
+later : (n : NamespaceValue) (ns : List NamespaceValue) → Distinct (n ∷ ns) → Distinct ns
+unfolding Distinct
+later n ns h = λ i j d a b. h (suc i) (suc j) d (omega arith) (omega arith)
+
+alone : (n : NamespaceValue) (ns : List NamespaceValue) (q : ℕ) → Distinct (n ∷ ns) → eq_by_cmp nat_cmp q n.nsid ≡ true → entry_at ns q ≡ None
+unfolding Distinct
+alone n ns q h e = absent ns q (λ k d b. subst (λ m. m ≢ (get_or ns k d).nsid) (sym (is_nsid q n.nsid e)) (h zero (suc k) d (omega arith) (omega arith)))
+
+-- what the map of a file's namespaces has
+found_at : (m : Namespaces) (n : NamespaceValue) (ns : List NamespaceValue) (q : ℕ) (t : Bool) → eq_by_cmp nat_cmp q n.nsid ≡ t → Distinct (n ∷ ns)
+    → or_else (entry_at ns q) (cond t (Some n.namespace) (map_of.get m q)) ≡ or_else (cond t (Some n) (entry_at ns q)) (map_of.get m q)
+found_at m n ns q true e d = ap (λ o. or_else o (Some n.namespace)) (alone n ns q d e)
+found_at m n ns q false e d = refl
+
+found : (m : Namespaces) (ns : List NamespaceValue) (q : ℕ) → Distinct ns → map_of.get (fold with_namespace m ns) q ≡ or_else (entry_at ns q) (map_of.get m q)
+unfolding entry_at
+found m [] q d = refl
+found m (n ∷ ns) q d =
+    found (with_namespace m n) ns q (later n ns d) ∙ ap (or_else (entry_at ns q)) (get-insert nat_cmp_total m n.nsid n.namespace q) ∙ found_at m n ns q (eq_by_cmp nat_cmp q n.nsid) refl d
+
+-- which NSIDs are attached to a controller
+marked_one : (m : Nsids) (n : NamespaceValue) (cntlid q : ℕ) (t : Bool) → is_attached_to cntlid n ≡ t → is_some (map_of.get (if t then map_of.insert m n.nsid tt else m) q) ≡ (cond (eq_by_cmp nat_cmp q n.nsid) t false || is_some (map_of.get m q))
+marked_one m n cntlid q true e = ap is_some (get-insert nat_cmp_total m n.nsid tt q) ∙ (elim (eq_by_cmp nat_cmp q n.nsid) as (λ b. is_some (cond b (Some tt) (map_of.get m q)) ≡ (cond b true false || is_some (map_of.get m q))) [ true ↦ refl | false ↦ refl ])
+marked_one m n cntlid q false e = elim (eq_by_cmp nat_cmp q n.nsid) as (λ b. is_some (map_of.get m q) ≡ (cond b false false || is_some (map_of.get m q))) [ true ↦ refl | false ↦ refl ]
+
+marked_at : (n : NamespaceValue) (ns : List NamespaceValue) (cntlid q : ℕ) (held t : Bool) → eq_by_cmp nat_cmp q n.nsid ≡ t → Distinct (n ∷ ns)
+    → (says (is_attached_to cntlid) (entry_at ns q) || (cond t (is_attached_to cntlid n) false || held)) ≡ (says (is_attached_to cntlid) (cond t (Some n) (entry_at ns q)) || held)
+marked_at n ns cntlid q held true e d = ap (λ o. says (is_attached_to cntlid) o || (is_attached_to cntlid n || held)) (alone n ns q d e)
+marked_at n ns cntlid q held false e d = refl
+
+marked : (m : Nsids) (ns : List NamespaceValue) (cntlid q : ℕ) → Distinct ns → map_of.contains_key (fold (with_attachment cntlid) m ns) q ≡ (says (is_attached_to cntlid) (entry_at ns q) || map_of.contains_key m q)
+unfolding entry_at
+marked m [] cntlid q d = refl
+marked m (n ∷ ns) cntlid q d =
+    marked (with_attachment cntlid m n) ns cntlid q (later n ns d)
+    ∙ ap (λ b. says (is_attached_to cntlid) (entry_at ns q) || b) (marked_one m n cntlid q (is_attached_to cntlid n) refl)
+    ∙ marked_at n ns cntlid q (is_some (map_of.get m q)) (eq_by_cmp nat_cmp q n.nsid) refl d
+
+-- what holds of each namespace of the file holds of the one with an NSID, which has that NSID
+at_nsid : (P : NamespaceValue → Type 0) (ns : List NamespaceValue) (q : ℕ) (e : NamespaceValue) → All P ns → entry_at ns q ≡ Some e → P e × (e.nsid ≡ q)
+unfolding entry_at
+at_nsid P [] q e all is = absurd (cc is)
+at_nsid P (n ∷ ns) q e all is = at_test (eq_by_cmp nat_cmp q n.nsid) refl is (at_nsid P ns q e (λ k d b. all (suc k) d (omega arith)))
+  where
+    at_test : (t : Bool) → eq_by_cmp nat_cmp q n.nsid ≡ t → ◌≡◌ {A = Option NamespaceValue} (cond t (Some n) (entry_at ns q)) (Some e) → (entry_at ns q ≡ Some e → P e × (e.nsid ≡ q)) → P e × (e.nsid ≡ q)
+    at_test true h w rest = let same : n ≡ e = cc w in subst (λ x. P x × (x.nsid ≡ q)) same (all zero n (omega arith), sym (is_nsid q n.nsid h))
+    at_test false h w rest = rest w
+
+-- a list of one number at most attaches to one controller at most
+one_number : (zs : List ℤ) (a b : ℕ) → length zs ≤ 1 → list_any (λ z. int_eq z (pos a)) zs ≡ true → list_any (λ z. int_eq z (pos b)) zs ≡ true → a ≡ b
+one_number [] a b h i j = absurd (cc i)
+one_number (z ∷ []) a b h i j = same (sym (is_number z a i) ∙ is_number z b j)
+  where
+    is_number : (z : ℤ) (a : ℕ) → list_any (λ z. int_eq z (pos a)) (z ∷ []) ≡ true → z ≡ pos a
+    is_number z a i = (Decides-int_eq z (pos a)).0 (or_one (int_eq z (pos a)) i)
+      where
+        or_one : (b : Bool) → (b || false) ≡ true → b ≡ true
+        or_one true h = refl
+        or_one false h = absurd (cc h)
+
+    same : pos a ≡ pos b → a ≡ b
+    same e = cc e
+one_number (z ∷ y ∷ zs) a b h i j = absurd (omega arith)
+
+-- ---- at most one of them
+
+none_pass : {X : Type 0} (p : X → Bool) (xs : List X) → All (λ x. p x ≡ false) xs → count_by p xs ≡ 0
+none_pass p [] h = refl
+none_pass p (x ∷ xs) h =
+    let here : p x ≡ false = h zero x (omega arith) in
+    let one : ◌≡◌ {A = ℕ} (cond (p x) 1 0) 0 = ap (λ b. cond b 1 0) here in
+    omega (arith, sum_by-cons (λ x. cond (p x) 1 0) x xs, none_pass p xs (λ k d b. h (suc k) d (omega arith)), one)
+
+untrue : (b : Bool) → (b ≡ true → ⊥) → b ≡ false
+untrue true h = absurd (h refl)
+untrue false h = refl
+
+one_passes : {X : Type 0} (p : X → Bool) (xs : List X) → AllPairs (λ x y. p x ≡ true → p y ≡ true → ⊥) xs → count_by p xs ≤ 1
+one_passes p [] h = omega arith
+one_passes p (x ∷ xs) h = at_test (p x) refl (one_passes p xs (λ i j d a b. h (suc i) (suc j) d (omega arith) (omega arith)))
+  where
+    at_test : (t : Bool) → p x ≡ t → count_by p xs ≤ 1 → count_by p (x ∷ xs) ≤ 1
+    at_test true e rest =
+        let none = none_pass p xs (λ k d b. untrue (p (get_or xs k d)) (h zero (suc k) d (omega arith) (omega arith) e)) in
+        let one : ◌≡◌ {A = ℕ} (cond (p x) 1 0) 1 = ap (λ b. cond b 1 0) e in
+        omega (arith, sum_by-cons (λ x. cond (p x) 1 0) x xs, none, one)
+    at_test false e rest =
+        let one : ◌≡◌ {A = ℕ} (cond (p x) 1 0) 0 = ap (λ b. cond b 1 0) e in
+        omega (arith, sum_by-cons (λ x. cond (p x) 1 0) x xs, rest, one)
+
+pairs_map : {X Y : Type 0} (R : Y → Y → Type 0) (f : X → Y) (xs : List X) → AllPairs (λ a b. R (f a) (f b)) xs → AllPairs R (map f xs)
+pairs_map R f [] h i j d a b = absurd (omega arith)
+pairs_map R f (x ∷ xs) h i j d a b =
+    let len : length (map f (x ∷ xs)) ≡ length (x ∷ xs) = length-map (x ∷ xs) f in
+    let first = get_or-map f (x ∷ xs) i x d (omega arith) in
+    let second = get_or-map f (x ∷ xs) j x d (omega arith) in
+    subst (λ y. R y (get_or (map f (x ∷ xs)) j d)) (sym first) (subst (R (f (get_or (x ∷ xs) i x))) (sym second) (h i j x a (omega arith)))
+
+-- ---- the state
+
+-- what the state has under an NSID
+namespaces_of : (ns : List NamespaceValue) (q : ℕ) → AllPairs (λ a b. a.nsid ≢ b.nsid) ns → map_of.get (fold with_namespace map_of.empty ns) q ≡ or_else (entry_at ns q) None
+unfolding Distinct
+namespaces_of ns q d = found map_of.empty ns q d ∙ ap (or_else (entry_at ns q)) (get-empty nat_cmp q)
+
+or_none : (b : Bool) → (b || false) ≡ b
+or_none true = refl
+or_none false = refl
+
+attached_of : (ns : List NamespaceValue) (cntlid q : ℕ) → AllPairs (λ a b. a.nsid ≢ b.nsid) ns → map_of.contains_key (fold (with_attachment cntlid) map_of.empty ns) q ≡ says (is_attached_to cntlid) (entry_at ns q)
+unfolding Distinct
+attached_of ns cntlid q d = marked map_of.empty ns cntlid q d ∙ ap (λ o. says (is_attached_to cntlid) (entry_at ns q) || is_some o) (get-empty nat_cmp q) ∙ or_none _
+
+only_allocated : (o : Option NamespaceValue) (p : NamespaceValue → Bool) → says p o ≡ true → is_some (or_else o None) ≡ true
+only_allocated None p h = absurd (cc h)
+only_allocated (Some e) p h = refl
+
+controller_ok : (f : FileValue) → IsFile f → (c : ControllerValue) → is_file.IsController c → IsController (state_of f).namespaces (controller_of f.namespaces c)
+controller_ok f h c is = record {
+  identity = is.identity;
+  rules = is.rules;
+  fids = is.fids;
+  smart = is.smart;
+  log = omega arith;
+  entries = λ k d b. absurd (omega arith);
+  refusals = omega arith;
+  commands = omega arith;
+  attached = λ n t.
+      ap is_some (namespaces_of f.namespaces n h.nsids)
+      ∙ only_allocated (entry_at f.namespaces n) (is_attached_to c.identity.cntlid) (sym (attached_of f.namespaces c.identity.cntlid n h.nsids) ∙ t);
+}
+
+namespace_ok : (f : FileValue) → IsFile f → (n : ℕ) (x : Namespace) (o : Option NamespaceValue) → entry_at f.namespaces n ≡ o → or_else o None ≡ Some x → IsNamespace (state_of f) n x
+namespace_ok f h n x None e is = absurd (cc is)
+namespace_ok f h n x (Some v) e is =
+    let same : v.namespace ≡ x = cc is in
+    let fine = at_nsid (is_file.IsNamespace f.nn f.mc f.formats) f.namespaces n v h.namespaces e in
+    let attached = at_nsid (IsAttached f.controllers) f.namespaces n v h.attachments e in
+    subst (IsNamespace (state_of f) n) same (record {
+      nsid = (omega (arith, fine.0.nsid.0, fine.1), omega (arith, fine.0.nsid.1, fine.1));
+      format = fine.0.format;
+      private = λ p. one_passes (λ c. map_of.contains_key c.attached n) (state_of f).controllers (λ i j d a b s t.
+          pairs_map (λ x y. x.identity.cntlid ≢ y.identity.cntlid) (controller_of f.namespaces) f.controllers h.cntlids i j d a b
+          (one_number v.controllers (get_or (state_of f).controllers i d).identity.cntlid (get_or (state_of f).controllers j d).identity.cntlid (attached.0.private p)
+          (named i d (omega arith) s) (named j d b t)));
+    })
+  where
+    named : All (λ y. map_of.contains_key y.attached n ≡ true → is_attached_to y.identity.cntlid v ≡ true) (state_of f).controllers
+    named = All-map (λ y. map_of.contains_key y.attached n ≡ true → is_attached_to y.identity.cntlid v ≡ true) (controller_of f.namespaces) f.controllers
+        (λ k d b t. sym (attached_of f.namespaces (get_or f.controllers k d).identity.cntlid n h.nsids ∙ ap (says (is_attached_to (get_or f.controllers k d).identity.cntlid)) e) ∙ t)
+
+pub state_ok : (f : FileValue) → IsFile f → IsWellFormed (state_of f)
+state_ok f h = record {
+  keys = h.keys;
+  format_count = h.format_count;
+  formats = h.formats;
+  controller_count = subst (λ n. (1 ≤ n) × (n ≤ 16)) (sym (length-map f.controllers (controller_of f.namespaces))) h.controller_count;
+  controllers = All-map (IsController (state_of f).namespaces) (controller_of f.namespaces) f.controllers (All-weaker is_file.IsController (λ c. IsController (state_of f).namespaces (controller_of f.namespaces c)) (controller_ok f h) f.controllers h.controllers);
+  cntlids = pairs_map (λ x y. x.identity.cntlid ≢ y.identity.cntlid) (controller_of f.namespaces) f.controllers h.cntlids;
+  namespaces = λ n x e. namespace_ok f h n x (entry_at f.namespaces n) refl (sym (namespaces_of f.namespaces n h.nsids) ∙ e);
+  capacities = omega (arith, used-all map_of.empty f.namespaces h.nsids (λ k d b. get-empty nat_cmp (get_or f.namespaces k d).nsid), used-empty, h.capacities);
+}

@@ -1,0 +1,16 @@
+-- The controllers of the code as values.
+use Rattle.nv_subsystem.specs.Identity.{identity_view}
+use Rattle.nv_subsystem.specs.Slots.{marked_nsids}
+use Rattle.nv_subsystem.specs.State.{Controller}
+use Rattle.nv_subsystem.specs.declared.controllers.Controller as controllers
+
+abbrev pub controller_view : controllers.Controller → Controller
+controller_view x = record {
+  identity = identity_view x.identity;
+  rules = x.rules.items;
+  smart = x.smart;
+  log = x.log.entries;
+  refusals = x.refusals;
+  commands = x.commands;
+  attached = marked_nsids x.attached.items;
+}

@@ -1,0 +1,48 @@
+-- The subsystem that a file gives: nothing was refused or counted yet.
+use Rattle.std.specs.Prelude.{ℕ, pos, Bool, List, [], map, Result, Ok, if◌then◌else◌}
+use Rattle.std.specs.List.{fold, list_any}
+use Rattle.std.specs.Ordering.{int_eq}
+use Rattle.std.specs.FinMap as map_of
+use Rattle.nv_subsystem.specs.declared.error.SubsystemError.{SubsystemError}
+use Rattle.nv_subsystem.specs.Fault.{◌>>=◌}
+use Rattle.nv_subsystem.specs.File.{file}
+use Rattle.nv_subsystem.specs.FileValue.{ControllerValue, FileValue, NamespaceValue}
+use Rattle.nv_subsystem.specs.State.{Controller, Namespaces, Nsids, State}
+
+abbrev pub with_namespace : Namespaces → NamespaceValue → Namespaces
+with_namespace namespaces n = map_of.insert namespaces n.nsid n.namespace
+
+-- the namespace is attached to the controller with the identifier
+abbrev pub is_attached_to : ℕ → NamespaceValue → Bool
+is_attached_to cntlid n = list_any (λ z. int_eq z (pos cntlid)) n.controllers
+
+abbrev pub with_attachment : ℕ → Nsids → NamespaceValue → Nsids
+with_attachment cntlid nsids n = if is_attached_to cntlid n then map_of.insert nsids n.nsid tt else nsids
+
+abbrev pub controller_of : List NamespaceValue → ControllerValue → Controller
+controller_of namespaces c = record {
+  identity = c.identity;
+  rules = c.rules;
+  smart = c.smart;
+  log = [];
+  refusals = 0;
+  commands = 0;
+  attached = fold (with_attachment c.identity.cntlid) map_of.empty namespaces;
+}
+
+abbrev pub state_of : FileValue → State
+state_of f = record {
+  nn = f.nn;
+  tnvmcap = f.tnvmcap;
+  mc = f.mc;
+  subnqn = f.subnqn;
+  formats = f.formats;
+  controllers = map (controller_of f.namespaces) f.controllers;
+  namespaces = fold with_namespace map_of.empty f.namespaces;
+}
+
+-- the subsystem of a file, or the file's first fault
+unfoldable pub subsystem : List ℕ → Result State SubsystemError
+subsystem bytes = do
+  f ← file bytes
+  Ok (state_of f)

@@ -1,0 +1,55 @@
+-- An NVM subsystem as a value: what commands read and change, and nothing of how they travel.
+use Rattle.std.specs.Prelude.{ℕ, List, Option, slice_get}
+use Rattle.std.specs.Ordering.{nat_cmp}
+use Rattle.std.specs.FinMap as map_of
+use Rattle.std.specs.FinSet as set_of
+use Rattle.nv_subsystem.specs.Identity.{Identity}
+use Rattle.nv_subsystem.specs.declared.error_log.LogEntry.{LogEntry}
+use Rattle.nv_subsystem.specs.declared.parts.FeatureRule.{FeatureRule}
+use Rattle.nv_subsystem.specs.declared.parts.Format.{Format}
+use Rattle.nv_subsystem.specs.declared.parts.Namespace.{Namespace}
+use Rattle.nv_subsystem.specs.declared.parts.SmartBase.{SmartBase}
+
+-- what finds what by its NSID
+abbrev pub Namespaces : Type 0
+Namespaces = map_of.FinMap nat_cmp Namespace
+
+abbrev pub Nsids : Type 0
+Nsids = set_of.FinSet nat_cmp
+
+-- a controller: what its file table gives, its error log newest first, how many commands it refused and
+-- how many it took, and the NSIDs that are attached to it
+pub record Controller : Type 0 where
+  pub identity : Identity
+  pub rules : List FeatureRule
+  pub smart : SmartBase
+  pub log : List LogEntry
+  pub refusals : ℕ
+  pub commands : ℕ
+  pub attached : Nsids
+
+-- a subsystem: the greatest NSID, the capacity in bytes, how metadata may lie, the name, the formats, the
+-- controllers, and the namespaces by their NSIDs
+pub record State : Type 0 where
+  pub nn : ℕ
+  pub tnvmcap : ℕ
+  pub mc : ℕ
+  pub subnqn : List ℕ
+  pub formats : List Format
+  pub controllers : List Controller
+  pub namespaces : Namespaces
+
+abbrev pub controller_at : State → ℕ → Option Controller
+controller_at s c = slice_get s.controllers c
+
+-- the greatest value of a count, where it stays
+abbrev pub greatest_count : ℕ
+greatest_count = 18446744073709551615
+
+-- the NSIDs of a set, ascending
+abbrev pub ascending : Nsids → List ℕ
+ascending ns = map_of.keys ns
+
+-- the allocated NSIDs, ascending
+abbrev pub allocated_nsids : State → List ℕ
+allocated_nsids s = map_of.keys s.namespaces

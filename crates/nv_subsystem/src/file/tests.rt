@@ -1,0 +1,265 @@
+use crate::error::SubsystemError;
+use crate::file::read;
+use crate::parts::{FeatureRule, Format, Namespace};
+use std::alloc::Global;
+use std::test::Fail;
+
+const DEMO: &str = r#"version = 1
+nn = 4
+tnvmcap = 10485760
+mc = 1
+subnqn = "nqn.2014-08.org.example:demo"
+
+[[format]]
+lbads = 9
+
+[[format]]
+lbads = 12
+
+[[format]]
+lbads = 9
+ms = 8
+rp = 1
+
+[[controller]]
+cntlid = 0
+sn = "S0"
+mn = "Demo Controller"
+fr = "1.0"
+elpe = 3
+vwc = 7
+
+[[controller.feature]]
+fid = 6
+default = 1
+saveable = true
+
+[[controller]]
+cntlid = 1
+sn = "S1"
+mn = "Demo Controller"
+fr = "1.0"
+elpe = 0
+
+[[namespace]]
+nsid = 1
+bytes = 1048576
+format = 0
+shared = true
+controllers = [0]
+
+[[namespace]]
+nsid = 3
+bytes = 4608
+format = 0
+controllers = [0]
+"#;
+
+#[test]
+fn reads_the_top_table_and_the_formats(rt: HostRuntime) -> Result<(), Fail> {
+    let file = read(rt.alloc(), DEMO.as_bytes())?;
+    assert_eq!(rt; file.nn, 4);
+    assert_eq!(rt; file.tnvmcap, 10485760);
+    assert_eq!(rt; file.mc, 1);
+    assert!(rt; file.subnqn.as_str() == "nqn.2014-08.org.example:demo");
+    assert_eq!(rt; file.formats.len(), 3);
+    assert!(rt;
+        file.formats.get(0)
+            == Some(&Format {
+                lbads: 9,
+                ms: 0,
+                rp: 0
+            })
+    );
+    assert!(rt;
+        file.formats.get(1)
+            == Some(&Format {
+                lbads: 12,
+                ms: 0,
+                rp: 0
+            })
+    );
+    assert!(rt;
+        file.formats.get(2)
+            == Some(&Format {
+                lbads: 9,
+                ms: 8,
+                rp: 1
+            })
+    );
+    Ok(())
+}
+
+#[test]
+fn reads_the_controllers(rt: HostRuntime) -> Result<(), Fail> {
+    let file = read(rt.alloc(), DEMO.as_bytes())?;
+    assert!(rt; file.controllers.len() == 2);
+    let first = &file.controllers[0];
+    assert_eq!(rt; first.identity.cntlid, 0);
+    assert!(rt; first.identity.sn.as_str() == "S0");
+    assert!(rt; first.identity.mn.as_str() == "Demo Controller");
+    assert!(rt; first.identity.fr.as_str() == "1.0");
+    assert_eq!(rt; first.identity.mdts, 5);
+    assert_eq!(rt; first.identity.elpe, 3);
+    assert_eq!(rt; first.identity.wctemp, 343);
+    assert_eq!(rt; first.identity.cctemp, 353);
+    assert_eq!(rt; first.identity.vwc, 7);
+    assert!(rt; !first.identity.crypto_erase);
+    assert_eq!(rt; first.rules.len(), 1);
+    let rule = FeatureRule {
+        fid: 6,
+        default: 1,
+        saveable: true,
+        changeable: true,
+    };
+    assert!(rt; first.rules.get(0) == Some(&rule));
+    let second = &file.controllers[1];
+    assert_eq!(rt; second.identity.cntlid, 1);
+    assert_eq!(rt; second.identity.elpe, 0);
+    assert!(rt; second.rules.is_empty());
+    assert_eq!(rt; second.smart.temperature, 0);
+    Ok(())
+}
+
+#[test]
+fn reads_the_namespaces(rt: HostRuntime) -> Result<(), Fail> {
+    let file = read(rt.alloc(), DEMO.as_bytes())?;
+    assert!(rt; file.namespaces.len() == 2);
+    let first = &file.namespaces[0];
+    let namespace = Namespace {
+        capacity: 1048576,
+        format: 0,
+        extended: false,
+        shared: true,
+    };
+    assert_eq!(rt; first.nsid, 1);
+    assert!(rt; first.namespace == namespace);
+    assert!(rt; first.controllers.as_slice() == [0].as_slice());
+    let second = &file.namespaces[1];
+    assert_eq!(rt; second.nsid, 3);
+    assert_eq!(rt; second.namespace.capacity, 4608);
+    assert!(rt; !second.namespace.shared);
+    Ok(())
+}
+
+#[test]
+fn reads_a_health_log(rt: HostRuntime) -> Result<(), Fail> {
+    let alloc = rt.alloc();
+    let smart =
+        "elpe = 0\nsmart = { temperature = 300, data_units_read = 7, sensors = [301, 302] }";
+    let text = DEMO.replace(alloc, "elpe = 0", smart)?;
+    let file = read(alloc, text.as_bytes())?;
+    assert!(rt; file.controllers.len() == 2);
+    let smart = file.controllers[1].smart;
+    assert_eq!(rt; smart.temperature, 300);
+    assert_eq!(rt; smart.counters.data_units_read, 7);
+    assert!(rt; smart.sensors == [301, 302, 0, 0, 0, 0, 0, 0]);
+    Ok(())
+}
+
+/// The text of the fault of DEMO with an edit.
+fn fault(alloc: Global, old: &str, new: &str) -> Result<String, Fail> {
+    let text = DEMO.replace(alloc, old, new)?;
+    match read(alloc, text.as_bytes()) {
+        Ok(_) => Ok(String::from_str(alloc, "none")?),
+        Err(error) => Ok(format!(in alloc; "{error}")?),
+    }
+}
+
+#[test]
+fn names_the_first_fault(rt: HostRuntime) -> Result<(), Fail> {
+    let alloc = rt.alloc();
+    let third = "nsid = 3\nbytes = 4608\nformat = 0\ncontrollers = [0]";
+    for (old, new, want) in [
+        ("version = 1", "=", "not TOML"),
+        ("nn = 4\n", "", "missing top.nn"),
+        ("nn = 4", "nn = \"4\"", "wrong kind top.nn"),
+        ("nn = 4", "nn = 1025", "out of range top.nn"),
+        ("nn = 4", "nn = 2", "out of range namespace.nsid"),
+        ("nn = 4", "nn = 1", "out of range top.namespace"),
+        ("version = 1", "version = 2", "out of range top.version"),
+        ("nn = 4", "nn = 4\nx = 1", "unknown key in top"),
+        ("lbads = 12", "lbads = 17", "out of range format.lbads"),
+        ("cntlid = 1", "cntlid = 0", "repeated controller.cntlid"),
+        ("\"S1\"", "\"S1 \"", "out of range controller.sn"),
+        (
+            "elpe = 0",
+            "elpe = 0\nsmart = 1",
+            "wrong kind controller.smart",
+        ),
+        (
+            "fid = 6\ndefault = 1",
+            "fid = 7",
+            "out of range feature.fid",
+        ),
+        (
+            "fid = 6\ndefault = 1",
+            "fid = 5",
+            "out of range feature.saveable",
+        ),
+        ("fid = 6", "x = 1", "missing feature.fid"),
+        (
+            "fid = 6\ndefault = 1",
+            "fid = 2\ndefault = 1",
+            "out of range feature.default",
+        ),
+        (
+            "elpe = 0",
+            "elpe = 0\nx = 1\nfeature = [{ fid = 7 }]",
+            "unknown key in controller",
+        ),
+        (
+            "elpe = 0",
+            "elpe = 0\nsmart = { sensors = [1, 2, 3, 4, 5, 6, 7, 8, 9] }",
+            "out of range smart.sensors",
+        ),
+        (third, "nsid = 3", "missing namespace.format"),
+        (
+            third,
+            "nsid = 3\nbytes = 511\nformat = 0",
+            "out of range namespace.bytes",
+        ),
+        (
+            third,
+            "bytes = 4608\nformat = 0\nx = 1",
+            "missing namespace.nsid",
+        ),
+        (
+            third,
+            "nsid = 1\nbytes = 4608\nformat = 0",
+            "repeated namespace.nsid",
+        ),
+        (
+            third,
+            "nsid = 3\nbytes = 4608\nformat = 0\nextended = true",
+            "out of range namespace.extended",
+        ),
+        ("tnvmcap = 10485760", "tnvmcap = 1053183", "capacity"),
+        (
+            third,
+            "nsid = 3\nbytes = 4608\nformat = 0\ncontrollers = [0, 1]",
+            "attachment",
+        ),
+        (
+            "shared = true\ncontrollers = [0]",
+            "shared = true\ncontrollers = [0, 2]",
+            "attachment",
+        ),
+        (
+            "shared = true\ncontrollers = [0]",
+            "shared = true\ncontrollers = [0, 0]",
+            "attachment",
+        ),
+    ] {
+        let told = fault(alloc, old, new)?;
+        assert!(rt; told.as_str() == want, "{told}");
+    }
+    Ok(())
+}
+
+#[test]
+fn refuses_bytes_that_are_no_text(rt: HostRuntime) -> Result<(), Fail> {
+    let fault = read(rt.alloc(), &[0xff]).err();
+    assert!(rt; fault == Some(SubsystemError::NotToml));
+    Ok(())
+}
