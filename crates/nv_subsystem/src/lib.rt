@@ -3,6 +3,7 @@
 
 mod commands;
 mod controllers;
+mod demo;
 mod describe;
 mod error;
 mod error_log;
@@ -14,6 +15,7 @@ mod slots;
 mod subsystems;
 
 pub use commands::{Command, Origin, Refusal, Reply, StatusCode};
+pub use demo::DEMO;
 pub use error::SubsystemError;
 pub use error_log::LogEntry;
 pub use file::names::{Key, TableName};

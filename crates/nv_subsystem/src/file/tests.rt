@@ -1,59 +1,9 @@
+use crate::demo::DEMO;
 use crate::error::SubsystemError;
 use crate::file::read;
 use crate::parts::{FeatureRule, Format, Namespace};
 use std::alloc::Global;
 use std::test::Fail;
-
-const DEMO: &str = r#"version = 1
-nn = 4
-tnvmcap = 10485760
-mc = 1
-subnqn = "nqn.2014-08.org.example:demo"
-
-[[format]]
-lbads = 9
-
-[[format]]
-lbads = 12
-
-[[format]]
-lbads = 9
-ms = 8
-rp = 1
-
-[[controller]]
-cntlid = 0
-sn = "S0"
-mn = "Demo Controller"
-fr = "1.0"
-elpe = 3
-vwc = 7
-
-[[controller.feature]]
-fid = 6
-default = 1
-saveable = true
-
-[[controller]]
-cntlid = 1
-sn = "S1"
-mn = "Demo Controller"
-fr = "1.0"
-elpe = 0
-
-[[namespace]]
-nsid = 1
-bytes = 1048576
-format = 0
-shared = true
-controllers = [0]
-
-[[namespace]]
-nsid = 3
-bytes = 4608
-format = 0
-controllers = [0]
-"#;
 
 #[test]
 fn reads_the_top_table_and_the_formats(rt: HostRuntime) -> Result<(), Fail> {

@@ -1,0 +1,17 @@
+//! Worked examples that cross the crates: scripts over the demonstration subsystem, and what they leave.
+#![tactic(auto)]
+
+mod harness;
+
+pub use harness::{Outcome, run_script};
+
+#[cfg(test)]
+mod files;
+#[cfg(test)]
+mod largest;
+#[cfg(test)]
+mod lines;
+#[cfg(test)]
+mod scripts;
+#[cfg(test)]
+mod streams;

@@ -1,0 +1,135 @@
+//! Scripts over the demonstration subsystem.
+
+use crate::harness::run_script;
+use nv_script::RunEnd;
+use nv_subsystem::DEMO;
+use std::test::Fail;
+
+#[test]
+fn an_empty_script_leaves_nothing(rt: HostRuntime) -> Result<(), Fail> {
+    let left = run_script(rt.alloc(), DEMO, b"")?;
+    assert!(rt; left.end == RunEnd::Status(0));
+    assert!(rt; left.out.is_empty() && left.messages.is_empty());
+    Ok(())
+}
+
+#[test]
+fn lists_the_active_namespaces(rt: HostRuntime) -> Result<(), Fail> {
+    for script in [
+        "list-ns /dev/nvme0\n",
+        "list-ns /dev/nvme0",
+        "nvme list-ns /dev/nvme0\n",
+    ] {
+        let left = run_script(rt.alloc(), DEMO, script.as_bytes())?;
+        assert!(rt; left.end == RunEnd::Status(0));
+        assert!(rt; left.out.as_slice() == "[   0]:0x1\n[   1]:0x3\n".as_bytes());
+        assert!(rt; left.messages.is_empty());
+    }
+    Ok(())
+}
+
+#[test]
+fn numbers_skipped_lines(rt: HostRuntime) -> Result<(), Fail> {
+    let left = run_script(rt.alloc(), DEMO, b"# c\n\nbogus\n")?;
+    assert!(rt; left.end == RunEnd::Status(1));
+    assert!(rt; left.out.is_empty());
+    assert!(rt; left.messages.as_slice() == "line 3: usage error\n".as_bytes());
+    Ok(())
+}
+
+#[test]
+fn lists_from_an_nsid_on(rt: HostRuntime) -> Result<(), Fail> {
+    let script =
+        "list-ns /dev/nvme0 -n 3\nlist-ns /dev/nvme0 -n 4\nlist-ns /dev/nvme0 -n 4294967295\nlist-ns /dev/nvme0 -n 0\n";
+    let left = run_script(rt.alloc(), DEMO, script.as_bytes())?;
+    assert!(rt; left.end == RunEnd::Status(1));
+    assert!(rt; left.out.as_slice() == "[   0]:0x3\n".as_bytes());
+    assert!(rt;
+        left.messages.as_slice()
+            == "line 3: NVMe status: Invalid Namespace or Format (0x600b)\nline 4: bad number for --namespace-id\n".as_bytes()
+    );
+    Ok(())
+}
+
+#[test]
+fn describes_a_namespace(rt: HostRuntime) -> Result<(), Fail> {
+    let want = "nsze                : 0x9
+ncap                : 0x9
+nuse                : 0x0
+nsfeat              : 0x0
+nlbaf               : 2
+flbas               : 0x0
+mc                  : 0x1
+dpc                 : 0x0
+dps                 : 0x0
+nmic                : 0x0
+nvmcap              : 4608
+lbaf  0             : ms:0 lbads:9 rp:0 (in use)
+lbaf  1             : ms:0 lbads:12 rp:0
+lbaf  2             : ms:8 lbads:9 rp:1
+";
+    let left = run_script(rt.alloc(), DEMO, b"id-ns /dev/nvme0n3\n")?;
+    assert!(rt; left.end == RunEnd::Status(0));
+    assert!(rt; left.out.as_slice() == want.as_bytes());
+    Ok(())
+}
+
+#[test]
+fn describes_an_inactive_namespace_as_zeros(rt: HostRuntime) -> Result<(), Fail> {
+    let want = "nsze                : 0x0
+ncap                : 0x0
+nuse                : 0x0
+nsfeat              : 0x0
+nlbaf               : 0
+flbas               : 0x0
+mc                  : 0x0
+dpc                 : 0x0
+dps                 : 0x0
+nmic                : 0x0
+nvmcap              : 0
+lbaf  0             : ms:0 lbads:0 rp:0 (in use)
+";
+    let left = run_script(rt.alloc(), DEMO, b"id-ns /dev/nvme1 -n 1\n")?;
+    assert!(rt; left.out.as_slice() == want.as_bytes());
+    let forced = run_script(rt.alloc(), DEMO, b"id-ns /dev/nvme1 -n 1 --force\n")?;
+    let first = "nsze                : 0x800\n";
+    assert!(rt; forced.out.starts_with(first.as_bytes()));
+    let all = run_script(
+        rt.alloc(),
+        DEMO,
+        b"list-ns /dev/nvme1\nlist-ns /dev/nvme1 -a\n",
+    )?;
+    assert!(rt; all.out.as_slice() == "[   0]:0x1\n[   1]:0x3\n".as_bytes());
+    Ok(())
+}
+
+#[test]
+fn books_refusals_on_their_controller(rt: HostRuntime) -> Result<(), Fail> {
+    let left = run_script(
+        rt.alloc(),
+        DEMO,
+        b"id-ns /dev/nvme0 -n 0\nid-ns /dev/nvme0 -n 5\n",
+    )?;
+    assert!(rt; left.end == RunEnd::Status(2));
+    assert!(rt;
+        left.messages.as_slice()
+            == "line 1: NVMe status: Invalid Namespace or Format (0x600b)\nline 2: NVMe status: Invalid Namespace or Format (0x600b)\n".as_bytes()
+    );
+    let subsystem = left.direct.subsystem();
+    if subsystem.controllers() != 2 {
+        panic!(rt; "the demonstration has two controllers");
+    }
+    assert!(rt; subsystem.counts(0) == (2, 2));
+    assert!(rt; subsystem.counts(1) == (0, 0));
+    for (index, count, cid, nsid) in [(0, 2, 1, 5), (1, 1, 0, 0)] {
+        match subsystem.log_entry(0, index) {
+            None => panic!(rt; "an entry is missing"),
+            Some(entry) => {
+                assert!(rt; entry.count == count && entry.cid == cid && entry.nsid == nsid);
+                assert!(rt; entry.status.number() == 0x600b);
+            }
+        }
+    }
+    assert!(rt; subsystem.log_entry(0, 2).is_none());
+    Ok(())
+}

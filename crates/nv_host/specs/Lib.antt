@@ -1,0 +1,5 @@
+pub mod Bytes
+pub mod Pages
+pub mod PageSets
+pub mod BytesLaws
+pub mod PageLaws

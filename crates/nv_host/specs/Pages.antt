@@ -1,0 +1,16 @@
+-- A memory in pages.
+use Rattle.std.specs.Prelude.{ℕ, ◌==◌, ◌+◌, ◌*◌, ◌≤◌, IsTrue, List, [], ◌∷◌, length}
+use Rattle.std.specs.List.{list_any}
+
+-- the five sizes that a page can have
+unfoldable pub IsPageSize : ℕ → Type 0
+IsPageSize size = IsTrue (list_any (λ one. one == size) (4096 ∷ 8192 ∷ 16384 ∷ 32768 ∷ 65536 ∷ []))
+
+-- page n lies in the memory
+abbrev pub HasPage : List ℕ → ℕ → ℕ → Type 0
+HasPage bytes page_size n = (n + 1) * page_size ≤ length bytes
+
+-- a memory's bytes, and how many of them a page has
+pub record PagedBytes : Type 0 where
+  pub page_size : ℕ
+  pub bytes : List ℕ

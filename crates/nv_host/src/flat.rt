@@ -1,0 +1,102 @@
+//! A host's memory in one vector.
+
+ghost use Rattle.std.specs.Prelude.{◌≡◌, ◌*◌, IfOk, length, refl, replicate, take};
+ghost use Rattle.nv_host.specs.Bytes.{with_bytes};
+ghost use Rattle.nv_host.specs.BytesLaws.{page_within, take-with_bytes};
+ghost use Rattle.nv_host.specs.Pages.{IsPageSize};
+
+use crate::{HostMemory, Memory, OutOfMemoryRange};
+use std::alloc::Global;
+use std::marker::Model;
+
+/// A host's memory in one vector.
+#[derive(Drop)]
+pub struct FlatMemory {
+    page_size: u32,
+    pages: u32,
+    bytes: Vec<u8>,
+}
+
+impl Model for FlatMemory {
+    ghost use Rattle.std.specs.Prelude.{◌≡◌, ◌*◌, vec_len};
+    ghost use Rattle.nv_host.specs.Pages.{IsPageSize, PagedBytes};
+
+    ghost Value = { PagedBytes };
+
+    ghost view = { λ m. record { page_size = m.page_size; bytes = m.bytes.items } };
+
+    ghost invariant = { λ m. IsPageSize m.page_size × (m.pages * m.page_size ≡ vec_len m.bytes) };
+}
+
+impl FlatMemory {
+    /// A memory of this many pages, all of whose bytes are 0.
+    #[tactic(auto, using(crate::specs::PageLaws::page_size_bounds))]
+    pub fn new(alloc: Global, page_size: u32, pages: u32) -> Result<FlatMemory, Memory>
+        requires { IsPageSize page_size }
+        ensures { IfOk result (λ m. m ≡ record { page_size = page_size; bytes = replicate (pages * page_size) 0 }) }
+    {
+        let size = pages as usize * page_size as usize;
+        match vec![in alloc; 0u8; size] {
+            Ok(bytes) => Ok(FlatMemory {
+                page_size,
+                pages,
+                bytes,
+            }),
+            Err(_) => Err(Memory),
+        }
+    }
+}
+
+#[tactic(auto, unfolding(crate::specs::Bytes::bytes_at, crate::specs::Bytes::with_bytes))]
+impl HostMemory for FlatMemory {
+    ghost bytes = { λ m. m.bytes };
+
+    ghost page_len = { λ m. m.page_size };
+
+    ghost with_page = { λ m n w. record { page_size = m.page_size; bytes = take (length m.bytes) (with_bytes m.bytes (n * m.page_size) w) } };
+
+    ghost with_page_bytes = { λ m n w h l. take-with_bytes m.bytes (n * m.page_size) w (page_within n m.page_size (length m.bytes) (length w) h l) };
+
+    ghost with_page_len = { λ m n w. refl };
+
+    fn page_size(&self) -> u32 {
+        self.page_size
+    }
+
+    fn pages(&self) -> u32 {
+        self.pages
+    }
+
+    fn load(&self, addr: u64, out: &mut [u8]) -> Result<(), OutOfMemoryRange> {
+        let size = self.bytes.len();
+        let start = addr as usize;
+        if start > size || out.len() > size - start {
+            return Err(OutOfMemoryRange);
+        }
+        let end = start + out.len();
+        out.copy_from_slice(&self.bytes[start..end]);
+        Ok(())
+    }
+
+    fn store(&mut self, addr: u64, source: &[u8]) -> Result<(), OutOfMemoryRange> {
+        let size = self.bytes.len();
+        let start = addr as usize;
+        if start > size || source.len() > size - start {
+            return Err(OutOfMemoryRange);
+        }
+        let end = start + source.len();
+        self.bytes[start..end].copy_from_slice(source);
+        Ok(())
+    }
+
+    fn page(&self, n: u32) -> &[u8] {
+        let start = n as usize * self.page_size as usize;
+        &self.bytes[start..start + self.page_size as usize]
+    }
+
+    fn page_mut(&mut self, n: u32) -> &mut [u8] {
+        let start = n as usize * self.page_size as usize;
+        let end = start + self.page_size as usize;
+        self.bytes.slice_mut(start..end)
+    }
+}

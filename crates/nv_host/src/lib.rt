@@ -1,0 +1,27 @@
+//! The memory of an NVM Express host: its bytes in pages, and sets of page numbers.
+//!
+//! Sections are named as in the NVM Express Base Specification, revision 1.4.
+#![tactic(auto)]
+
+ghost use Rattle.nv_host.specs.Bytes.{LengthStays, OthersStay, WrittenIsRead};
+
+mod error;
+mod flat;
+mod inside;
+mod memory;
+mod page_set;
+#[cfg(test)]
+mod tests;
+
+pub use error::{Memory, OutOfMemoryRange};
+pub use flat::FlatMemory;
+pub use inside::{load_inside, store_inside};
+pub use memory::{HostMemory, is_page_size};
+pub use page_set::{PageNo, PageSet};
+
+/// The laws of loads and stores: what was stored is loaded, and other bytes stay.
+pub fn store_then_load()
+    ensures written { WrittenIsRead }
+    ensures others { OthersStay }
+    ensures length { LengthStays }
+{}

@@ -1,0 +1,69 @@
+//! What the memory of a host does.
+
+ghost use Rattle.std.specs.Prelude.{◌≡◌, ◌+◌, ◌*◌, ◌≤◌, ◌↔◌, ℕ, IsOk, IsTrue, List, OnErr, OnOk, length};
+ghost use Rattle.std.specs.Borrow.{sem, Array, Lends, u8 as byte};
+ghost use Rattle.nv_host.specs.Bytes.{bytes_at, with_bytes};
+ghost use Rattle.nv_host.specs.Pages.{HasPage, IsPageSize};
+
+use crate::OutOfMemoryRange;
+
+/// The memory of a host, as its bytes in pages. Page n begins at address n times the page size.
+/// Section "Physical Region Page Entry and List".
+pub trait HostMemory {
+    /// All bytes, from address 0 on.
+    ghost bytes: { Self → List ℕ };
+
+    ghost page_len: { Self → ℕ };
+
+    /// The memory with other bytes in a page.
+    ghost with_page: { Self → ℕ → List ℕ → Self };
+
+    /// How many bytes a page has: 4096, 8192, 16384, 32768 or 65536.
+    fn page_size(&self) -> u32
+        ensures value { result ≡ page_len self.now }
+        ensures one_of_five { IsPageSize result };
+
+    /// How many pages the memory has.
+    fn pages(&self) -> u32
+        ensures { result * page_len self.now ≡ length (bytes self.now) };
+
+    /// Reads the bytes from an address on. Where the range leaves the memory, nothing is read.
+    fn load(&self, addr: u64, out: &mut [u8]) -> Result<(), OutOfMemoryRange>
+        ensures inside { IsOk result ↔ (addr + length out.old ≤ length (bytes self.now)) }
+        ensures value { OnOk result (out.new ≡ bytes_at (bytes self.now) addr (length out.old)) }
+        ensures err { OnErr result (out.new ≡ out.old) };
+
+    /// Writes the bytes from an address on. Where the range leaves the memory, nothing is written.
+    fn store(&mut self, addr: u64, source: &[u8]) -> Result<(), OutOfMemoryRange>
+        ensures inside { IsOk result ↔ (addr + length source.now ≤ length (bytes self.old)) }
+        ensures value { OnOk result (bytes self.new ≡ with_bytes (bytes self.old) addr source.now) }
+        ensures err { OnErr result (bytes self.new ≡ bytes self.old) }
+        ensures page { page_len self.new ≡ page_len self.old };
+
+    /// The bytes of a page.
+    fn page(&self, n: u32) -> &[u8]
+        requires { HasPage (bytes self.now) (page_len self.now) n }
+        ensures value { result.now ≡ bytes_at (bytes self.now) (n * page_len self.now) (page_len self.now) }
+        ensures len { length result.now ≡ page_len self.now };
+
+    /// Lends the bytes of a page, and nothing else.
+    fn page_mut(&mut self, n: u32) -> &mut [u8]
+        requires { HasPage (bytes self.old) (page_len self.old) n }
+        ensures* writes_back { sem 𝓛 (Lends Self.row (Array byte 0) self.entry result (with_page self.old n)) }
+        ensures value { result.now ≡ bytes_at (bytes self.old) (n * page_len self.old) (page_len self.old) }
+        ensures len { length result.now ≡ page_len self.old };
+
+    /// Only the page's bytes are other ones.
+    ghost with_page_bytes: { (m : Self) (n : ℕ) (w : List ℕ) → HasPage (bytes m) (page_len m) n → length w ≡ page_len m
+        → bytes (with_page m n w) ≡ with_bytes (bytes m) (n * page_len m) w };
+
+    ghost with_page_len: { (m : Self) (n : ℕ) (w : List ℕ) → page_len (with_page m n w) ≡ page_len m };
+}
+
+/// Whether a page can have this many bytes.
+#[tactic(auto, unfolding(crate::specs::Pages::IsPageSize))]
+pub fn is_page_size(size: u32) -> bool
+    ensures { IsTrue result ↔ IsPageSize size }
+{
+    [4096, 8192, 16384, 32768, 65536].contains(&size)
+}

@@ -1,0 +1,51 @@
+-- A single entry's fault.
+use Rattle.std.proofs.Common.{◌≡◌, ◌≢◌, ◌∙◌, ℕ, ◌+◌, ◌-◌, ◌*◌, ◌/◌, ◌%◌, ◌<◌, ◌≤◌, None, Some, arith, inl, inr, sym}
+use Rattle.std.proofs.Math.Nat.{mul-le-mul_right}
+use Rattle.std.proofs.lemmas.Bool.{cases_eq, cases_lt, eq-eqb, le-leb, lt-leb, ne_eqb}
+use Rattle.std.proofs.lemmas.Nat.{div_below, div-add-mod'}
+use Rattle.nv_prp.specs.Transfer.{entry_fault}
+use Rattle.nv_prp.specs.declared.error.PrpError.TheVariants.{Offset, Outside}
+
+-- the page of an entry lies in a memory of whole pages where the entry does
+pub page_inside : (pages page_size size entry : ℕ) → pages * page_size ≡ size → 0 < page_size → entry < size
+    → entry - entry % page_size + page_size ≤ size
+page_inside pages page_size size entry whole some inside =
+    let q = entry / page_size in
+    let split = div-add-mod' entry page_size in
+    let below : q < pages = div_below entry page_size pages some (omega arith) in
+    let next : (q + 1) * page_size ≤ pages * page_size = mul-le-mul_right page_size (omega arith) in
+    omega arith
+
+pub page_outside : (pages page_size size entry : ℕ) → pages * page_size ≡ size → 0 < page_size → size ≤ entry
+    → size < entry - entry % page_size + page_size
+page_outside pages page_size size entry whole some outside = omega arith
+
+pub fault_offset : (page_size size alignment entry : ℕ) → entry % alignment ≢ 0
+    → entry_fault page_size size alignment entry ≡ Some Offset
+unfolding entry_fault
+fault_offset page_size size alignment entry odd =
+    rw (ne_eqb (entry % alignment) 0 odd)
+
+pub fault_outside : (page_size size alignment entry : ℕ) → entry % alignment ≡ 0 → size < entry - entry % page_size + page_size
+    → entry_fault page_size size alignment entry ≡ Some Outside
+unfolding entry_fault
+fault_outside page_size size alignment entry even outside =
+    rw (eq-eqb (entry % alignment) 0 even, lt-leb (entry - entry % page_size + page_size) size outside)
+
+pub fault_none : (page_size size alignment entry : ℕ) → entry % alignment ≡ 0 → entry - entry % page_size + page_size ≤ size
+    → entry_fault page_size size alignment entry ≡ None
+unfolding entry_fault
+fault_none page_size size alignment entry even inside =
+    rw (eq-eqb (entry % alignment) 0 even, le-leb (entry - entry % page_size + page_size) size inside)
+
+-- what an entry without a fault is
+pub from_no_fault : (page_size size alignment entry : ℕ) → entry_fault page_size size alignment entry ≡ None
+    → (entry % alignment ≡ 0) × (entry - entry % page_size + page_size ≤ size)
+from_no_fault page_size size alignment entry none =
+    elim (cases_eq (entry % alignment) 0) [
+      | inl even ↦ elim (cases_lt size (entry - entry % page_size + page_size)) [
+        | inl outside ↦ absurd (let e = sym none ∙ fault_outside page_size size alignment entry even outside in cc)
+        | inr inside ↦ (even, inside)
+      ]
+      | inr odd ↦ absurd (let e = sym none ∙ fault_offset page_size size alignment entry odd in cc)
+    ]

@@ -1,0 +1,10 @@
+pub mod EntryLaws
+pub mod PageLaws
+pub mod FaultLaws
+pub mod ListLaws
+pub mod PlaceLaws
+pub mod SpanLaws
+pub mod CopyLaws
+pub mod BuildLaws
+pub mod BuiltLaws
+pub mod WrittenLaws

@@ -1,0 +1,139 @@
+-- A transfer between a memory and a controller, described by two PRP entries: which byte lies where.
+use Rattle.std.specs.Prelude.{◌≡◌, ℕ, zero, suc, ◌==◌, ◌+◌, ◌-◌, ◌*◌, ◌/◌, ◌%◌, ◌&&◌, ◌<◌, ◌≤◌, Bool, List, None, Option, Some, if◌then◌else◌, length, min, nat_le, nat_lt}
+use Rattle.std.specs.Int.{div_ceil, from_le_bytes, w64}
+use Rattle.std.specs.Option.{option_or}
+use Rattle.nv_host.specs.Bytes.{bytes_at}
+use Rattle.nv_host.specs.Pages.{IsPageSize}
+use Rattle.nv_prp.specs.Places.{table}
+use Rattle.nv_prp.specs.declared.error.PrpError.{PrpError}
+use Rattle.nv_prp.specs.declared.error.PrpError.TheVariants.{Offset, Outside}
+use Rattle.nv_prp.specs.declared.spans.Span.{Span}
+
+pub record Transfer : Type 0 where
+  pub page_size : ℕ
+  pub bytes : List ℕ
+  pub prp1 : ℕ
+  pub prp2 : ℕ
+  pub len : ℕ
+
+abbrev pub transfer : ℕ → List ℕ → ℕ → ℕ → ℕ → Transfer
+transfer page_size bytes prp1 prp2 len =
+    record { page_size = page_size; bytes = bytes; prp1 = prp1; prp2 = prp2; len = len }
+
+-- where the first byte lies in its page
+abbrev pub offset : Transfer → ℕ
+offset t = t.prp1 % t.page_size
+
+-- in how many pages the bytes lie
+abbrev pub data_pages : Transfer → ℕ
+data_pages t = div_ceil (offset t + t.len) t.page_size
+
+-- ---- the list, where there are more than two data pages
+
+-- the Qword at an address
+unfoldable pub qword : List ℕ → ℕ → ℕ
+qword bytes addr = from_le_bytes w64 (bytes_at bytes addr 8)
+
+-- how many Qwords there are from the list's first one to the end of its page
+abbrev pub room : Transfer → ℕ
+room t = (t.page_size - t.prp2 % t.page_size) / 8
+
+-- the list goes on in a second page, since the first one has no room for all data pages but the first
+abbrev pub is_chained : Transfer → Bool
+is_chained t = nat_lt (room t) (data_pages t - 1)
+
+-- then the last Qword of the first list page is the second one's address
+abbrev pub second_page : Transfer → ℕ
+second_page t = qword t.bytes (t.prp2 + 8 * (room t - 1))
+
+-- the place of Qword n of the list
+unfoldable pub qword_place : Transfer → ℕ → ℕ
+qword_place t n = if nat_lt n (room t) then t.prp2 + 8 * n else second_page t + 8 * (n - room t)
+
+-- how many Qwords of the list are used
+unfoldable pub qwords : Transfer → ℕ
+qwords t =
+    if nat_lt 2 (data_pages t)
+    then (if is_chained t then data_pages t else data_pages t - 1)
+    else 0
+
+-- the Qword of the list that holds data page j's address, j from 1 on
+unfoldable pub naming_qword : Transfer → ℕ → ℕ
+naming_qword t j = if is_chained t && nat_le (room t) j then j else j - 1
+
+-- ---- which byte lies where
+
+-- where data page j begins
+unfoldable pub page_base : Transfer → ℕ → ℕ
+page_base t zero = t.prp1 - offset t
+page_base t (suc j) =
+    if nat_lt 2 (data_pages t)
+    then qword t.bytes (qword_place t (naming_qword t (suc j)))
+    else t.prp2
+
+-- the place of byte i
+unfoldable pub place_of : Transfer → ℕ → ℕ
+place_of t i =
+    let at = offset t + i in
+    page_base t (at / t.page_size) + at % t.page_size
+
+-- the places of all bytes, in order
+unfoldable pub transfer_places : Transfer → List ℕ
+transfer_places t = table t.len (place_of t)
+
+-- the first byte of data page j, or the number of bytes where there is none
+abbrev pub first_byte : Transfer → ℕ → ℕ
+first_byte t j = min t.len (j * t.page_size - offset t)
+
+-- the bytes of data page j
+unfoldable pub span_of : Transfer → ℕ → Span
+span_of t j = record { address = place_of t (first_byte t j); len = first_byte t (j + 1) - first_byte t j }
+
+unfoldable pub spans_of : Transfer → List Span
+spans_of t = table (data_pages t) (span_of t)
+
+-- ---- which transfers are legal
+
+-- an entry is a multiple of its alignment, and its page lies in the memory. The memory is whole pages,
+-- so that a Qword lies in it where its page does
+unfoldable pub entry_fault : ℕ → ℕ → ℕ → ℕ → Option PrpError
+entry_fault page_size size alignment entry =
+    if entry % alignment == 0
+    then (if nat_le (entry - entry % page_size + page_size) size then None else Some Outside)
+    else Some Offset
+
+abbrev pub prp1_fault : Transfer → Option PrpError
+prp1_fault t = entry_fault t.page_size (length t.bytes) 4 t.prp1
+
+-- of one data page PRP2 has no meaning, of two it is the second one, and of more the list's address
+unfoldable pub prp2_fault : Transfer → Option PrpError
+prp2_fault t =
+    if nat_lt 2 (data_pages t)
+    then entry_fault t.page_size (length t.bytes) 8 t.prp2
+    else (if data_pages t == 2 then entry_fault t.page_size (length t.bytes) t.page_size t.prp2 else None)
+
+-- Qword n of the list is the address of a data page or of the second list page
+unfoldable pub qword_fault : Transfer → ℕ → Option PrpError
+qword_fault t n = entry_fault t.page_size (length t.bytes) t.page_size (qword t.bytes (qword_place t n))
+
+pub record IsLegal (t : Transfer) : Type 0 where
+  pub prp1 : prp1_fault t ≡ None
+  pub prp2 : prp2_fault t ≡ None
+  pub list : (n : ℕ) → n < qwords t → qword_fault t n ≡ None
+
+-- a transfer of more than two data pages, legal as far as PRP2
+pub record HasList (t : Transfer) : Type 0 where
+  pub size : IsPageSize t.page_size
+  pub limit : t.len ≤ 1048576
+  pub many : 2 < data_pages t
+  pub prp1 : prp1_fault t ≡ None
+  pub address : entry_fault t.page_size (length t.bytes) 8 t.prp2 ≡ None
+
+-- the fault at the first of the n Qwords that has one
+abbrev pub first_qword_fault : Transfer → ℕ → Option PrpError
+first_qword_fault t zero = None
+first_qword_fault t (suc n) = option_or (first_qword_fault t n) (qword_fault t n)
+
+-- the fault at the first place, in the order PRP1, PRP2, then the Qwords in the order of use
+unfoldable pub first_fault : Transfer → Option PrpError
+first_fault t = option_or (prp1_fault t) (option_or (prp2_fault t) (first_qword_fault t (qwords t)))

@@ -1,0 +1,37 @@
+//! Bytes copied between a transfer's spans and a slice, in the order of the transfer.
+
+ghost use Rattle.std.specs.Prelude.{◌≡◌, length};
+ghost use Rattle.nv_prp.specs.Places.{LieIn, places, read_at, written_at};
+
+use crate::Spans;
+use nv_host::{HostMemory, load_inside, store_inside};
+
+/// Writes the bytes to the memory's spans. Of two bytes for one place the later one stays.
+pub fn copy_out<M: HostMemory>(mem: &mut M, spans: &Spans, source: &[u8])
+    requires inside { LieIn (length (M.bytes mem.old)) spans.now }
+    requires len { length (places spans.now) ≡ length source.now }
+    ensures bytes { M.bytes mem.new ≡ written_at (M.bytes mem.old) (places spans.now) source.now }
+    ensures len { length (M.bytes mem.new) ≡ length (M.bytes mem.old) }
+    ensures page { M.page_len mem.new ≡ M.page_len mem.old }
+{
+    let mut at = 0;
+    for span in spans.as_slice() {
+        let end = at + span.len as usize;
+        store_inside(mem, span.address, &source[at..end]);
+        at = end;
+    }
+}
+
+/// Reads the bytes of the memory's spans.
+pub fn copy_in<M: HostMemory>(mem: &M, spans: &Spans, out: &mut [u8])
+    requires inside { LieIn (length (M.bytes mem.now)) spans.now }
+    requires len { length (places spans.now) ≡ length out.old }
+    ensures { out.new ≡ read_at (M.bytes mem.now) (places spans.now) }
+{
+    let mut at = 0;
+    for span in spans.as_slice() {
+        let end = at + span.len as usize;
+        load_inside(mem, span.address, &mut out[at..end]);
+        at = end;
+    }
+}

@@ -1,0 +1,65 @@
+//! The spans of memory that a transfer covers, in order.
+
+ghost use Rattle.std.specs.Prelude.{◌≡◌, ◌≤◌, ◌<◌, ◌++◌, ◌∷◌, [], length, take};
+ghost use Rattle.nv_prp.specs.declared.spans.Span.{Span};
+
+use std::marker::Model;
+
+/// Bytes of the memory that follow one another, all in one page.
+#[derive(Clone, Copy, Debug, PartialEq, Eq)]
+pub struct Span {
+    pub address: u64,
+    pub len: u32,
+}
+
+/// At most 257 spans, one for each data page of a transfer.
+#[derive(Drop)]
+pub struct Spans {
+    spans: [Span; 257],
+    count: usize,
+}
+
+impl Model for Spans {
+    ghost use Rattle.std.specs.Prelude.{◌≤◌, List, take};
+    ghost use Rattle.nv_prp.specs.declared.spans.Span.{Span};
+
+    ghost Value = { List Span };
+
+    ghost view = { λ s. take s.count s.spans };
+
+    ghost invariant = { λ s. s.count ≤ 257 };
+}
+
+impl Spans {
+    /// No spans.
+    pub fn new() -> Spans
+        ensures { result ≡ [] }
+    {
+        Spans {
+            spans: [Span { address: 0, len: 0 }; 257],
+            count: 0,
+        }
+    }
+
+    /// The spans in order.
+    pub fn as_slice(&self) -> &[Span]
+        ensures spans { result.now ≡ self.now }
+        ensures within { length self.now ≤ 257 }
+    {
+        &self.spans[..self.count]
+    }
+
+    pub(crate) fn clear(&mut self)
+        ensures { self.new ≡ [] }
+    {
+        self.count = 0;
+    }
+
+    pub(crate) fn push(&mut self, span: Span)
+        requires { length self.old < 257 }
+        ensures { self.new ≡ self.old ++ span ∷ [] }
+    {
+        self.spans[self.count] = span;
+        self.count += 1;
+    }
+}

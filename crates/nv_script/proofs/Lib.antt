@@ -1,0 +1,12 @@
+pub mod ClapRules
+pub mod DigitLemmas
+pub mod FaultOrder
+pub mod Pieces
+pub mod Strip
+pub mod AskedLaws
+pub mod Padding
+pub mod NumberedLines
+pub mod Taking
+pub mod LineLaws
+pub mod PieceLaws
+pub mod RunLaws

@@ -1,0 +1,146 @@
+-- What one line leaves, by how its text was printed.
+use Rattle.std.proofs.Common.{◌≡◌, ◌∙◌, ℕ, ◌+◌, List, [], ◌++◌, length, sym, ap, subst, refl, inl, inr, append-nil, arith, Bool, false, String, string_bytes, Option, Result, Ok, Err}
+use Rattle.std.specs.Prelude.{IfOk}
+use Rattle.std.specs.Io.KnownBytes.{Appends}
+use Rattle.std.proofs.lemmas.List.{take_all}
+use Rattle.nv_subsystem.specs.State.{State}
+use Rattle.nv_script.specs.Ends.{Holds, IsFailureOf, Left, LineLeaves, CutIn, Printed, left_at, state_amid}
+use Rattle.nv_script.specs.Faults.{IsUnlessMemory}
+use Rattle.nv_script.specs.Outcomes.{carried_out, commands_of}
+use Rattle.nv_script.specs.Reading.{reading}
+use Rattle.nv_script.specs.Results.{LineResult, Progress, advanced, line_result, position, result_at, said_at, told}
+use Rattle.nv_script.specs.declared.ends.RunEnd.{RunEnd}
+use Rattle.nv_script.specs.declared.ends.RunEnd.TheVariants.{OutWrite, MessageWrite}
+use Rattle.nv_script.specs.declared.executing.Position.{Position}
+use Rattle.nv_script.specs.declared.faults.LineFault.{LineFault}
+use Rattle.nv_script.specs.declared.faults.LineFault.TheVariants as fault
+use Rattle.nv_script.specs.declared.reading.Line.{Line}
+use Rattle.nv_script.specs.declared.reading.Line.TheVariants.{Skipped, Asked}
+use Rattle.nv_script.specs.declared.requests.Request.{Request}
+use Rattle.nv_script.proofs.Taking.{Appends-at, Appends-join}
+
+-- a stream that took nothing more
+took_none : (a b : Option (List ℕ)) (x y : List ℕ) → y ≡ [] → Appends a b x → Appends a b (x ++ y)
+took_none a b x y e h = Appends-at a b x (x ++ y) (sym (ap (λ t. x ++ t) e ∙ append-nil x)) h
+
+took_same : (a b c : Option (List ℕ)) (x : List ℕ) → c ≡ b → Appends a b x → Appends a c x
+took_same a b c x e h = subst (λ t. Appends a t x) (sym e) h
+
+module _ {A E Z : Type 0} (p : Progress) (text : List ℕ) (lr : LineResult) (k : ℕ) (old : Left) (new : State) (serials : List ℕ) (at : Position)
+    (same : result_at p text ≡ lr) (held : Holds old p.output p.messages p.state) (reached : new ≡ lr.state) (next : serials ≡ lr.serials)
+    (place : at ≡ position (advanced p lr)) (all : lr.state ≡ state_amid p.state p.serials (said_at p text) k) where
+  pub message_leaves : (r : Result A RunEnd) (t : Result (String Z) E) (messages : Option (List ℕ)) (failed : Bool) → lr.output ≡ [] → IfOk t (λ t. string_bytes t ≡ lr.message) → Printed r MessageWrite t old.messages messages failed
+      → LineLeaves r p text (left_at old.out_before old.out old.messages_before messages new) serials at
+  message_leaves (Ok done) (Ok t) messages failed none is h = record {
+    holds = record {
+      took_output = took_none old.out_before old.out p.output _ (ap (λ (x : LineResult). x.output) same ∙ none) held.took_output;
+      took_messages = Appends-join old.messages_before old.messages messages p.messages _ held.took_messages (Appends-at old.messages messages _ _ (is ∙ sym (ap (λ (x : LineResult). x.message) same)) h.0);
+      reached = reached ∙ sym (ap (λ (x : LineResult). x.state) same);
+    };
+    next = next ∙ sym (ap (λ (x : LineResult). x.serials) same);
+    place = place ∙ ap (λ (x : LineResult). position (advanced p x)) (sym same);
+  }
+  message_leaves (Ok done) (Err e) messages failed none is h = absurd h
+  message_leaves (Err end) (Ok t) messages failed none is h =
+      subst (λ x. CutIn x p text (left_at old.out_before old.out old.messages_before messages new)) (sym h.0) (
+        h.1.0,
+        (h.1.1.0, ap (λ (x : LineResult). x.message) same ∙ sym is ∙ h.1.1.1),
+        record {
+          took_output = held.took_output;
+          took_messages = Appends-join old.messages_before old.messages messages p.messages h.1.0 held.took_messages h.1.2;
+          reached = reached ∙ sym (ap (λ (x : LineResult). x.state) same);
+        },
+      )
+  message_leaves (Err end) (Err e) messages failed none is h =
+      subst (λ x. CutIn x p text (left_at old.out_before old.out old.messages_before messages new)) (sym h.0) (
+        k,
+        record { took_output = held.took_output; took_messages = took_same old.messages_before old.messages messages p.messages h.1 held.took_messages; reached = reached ∙ all },
+      )
+
+  pub output_leaves : (r : Result A RunEnd) (t : Result (String Z) E) (out : Option (List ℕ)) (failed : Bool) → lr.message ≡ [] → IfOk t (λ t. string_bytes t ≡ lr.output) → Printed r OutWrite t old.out out failed
+      → LineLeaves r p text (left_at old.out_before out old.messages_before old.messages new) serials at
+  output_leaves (Ok done) (Ok t) out failed none is h = record {
+    holds = record {
+      took_output = Appends-join old.out_before old.out out p.output _ held.took_output (Appends-at old.out out _ _ (is ∙ sym (ap (λ (x : LineResult). x.output) same)) h.0);
+      took_messages = took_none old.messages_before old.messages p.messages _ (ap (λ (x : LineResult). x.message) same ∙ none) held.took_messages;
+      reached = reached ∙ sym (ap (λ (x : LineResult). x.state) same);
+    };
+    next = next ∙ sym (ap (λ (x : LineResult). x.serials) same);
+    place = place ∙ ap (λ (x : LineResult). position (advanced p x)) (sym same);
+  }
+  output_leaves (Ok done) (Err e) out failed none is h = absurd h
+  output_leaves (Err end) (Ok t) out failed none is h =
+      subst (λ x. CutIn x p text (left_at old.out_before out old.messages_before old.messages new)) (sym h.0) (
+        h.1.0,
+        (h.1.1.0, ap (λ (x : LineResult). x.output) same ∙ sym is ∙ h.1.1.1),
+        record {
+          took_output = Appends-join old.out_before old.out out p.output h.1.0 held.took_output h.1.2;
+          took_messages = held.took_messages;
+          reached = reached ∙ sym (ap (λ (x : LineResult). x.state) same);
+        },
+      )
+  output_leaves (Err end) (Err e) out failed none is h =
+      subst (λ x. CutIn x p text (left_at old.out_before out old.messages_before old.messages new)) (sym h.0) (
+        k,
+        record { took_output = took_same old.out_before old.out out p.output h.1 held.took_output; took_messages = held.took_messages; reached = reached ∙ all },
+      )
+
+-- ---- what the line said
+
+abbrev Said : Type 0
+Said = Result Line LineFault
+
+pub line_said : (line : Line) (said : Said) → IsUnlessMemory said (Ok line) → ◌≡◌ {A = Said} said (Ok line)
+line_said line said (inl e) = absurd (cc)
+line_said line said (inr e) = sym e
+
+pub fault_said : (f : LineFault) (said : Said) → (f ≡ fault.Memory → ⊥) → IsUnlessMemory {T = Line} said (Err f) → ◌≡◌ {A = Said} said (Err f)
+fault_said f said other (inl e) = absurd (other (cc))
+fault_said f said other (inr e) = sym e
+
+-- at the place where the run stands
+pub said_here : (p : Progress) (text : List ℕ) (s : State) (controllers : ℕ) (said : Said) → s ≡ p.state → controllers ≡ length s.controllers → reading text controllers ≡ said → said_at p text ≡ said
+said_here p text s controllers said es ec e = ap (λ (x : State). reading text (length x.controllers)) (sym es) ∙ ap (reading text) (sym ec) ∙ e
+
+pub result_asked : (p : Progress) (text : List ℕ) (r : Request) (s : State) (serials : List ℕ) (n : ℕ) → said_at p text ≡ Ok (Asked r) → s ≡ p.state → serials ≡ p.serials → n ≡ p.number
+    → result_at p text ≡ told (n + 1) r (carried_out s serials (commands_of s r))
+result_asked p text r s serials n e es er en =
+    ap (λ (x : Said). line_result p.state p.serials (p.number + 1) x) e
+    ∙ ap (λ (x : State). told (p.number + 1) r (carried_out x p.serials (commands_of x r))) (sym es)
+    ∙ ap (λ (x : List ℕ). told (p.number + 1) r (carried_out s x (commands_of s r))) (sym er)
+    ∙ ap (λ (x : ℕ). told (x + 1) r (carried_out s serials (commands_of s r))) (sym en)
+
+pub result_fault : (p : Progress) (text : List ℕ) (f : LineFault) (s : State) (serials : List ℕ) (n : ℕ) → said_at p text ≡ Err f → s ≡ p.state → serials ≡ p.serials → n ≡ p.number
+    → result_at p text ≡ line_result s serials (n + 1) (Err f)
+result_fault p text f s serials n e es er en =
+    ap (λ (x : Said). line_result p.state p.serials (p.number + 1) x) e
+    ∙ ap (λ (x : State). line_result x p.serials (p.number + 1) (Err f)) (sym es)
+    ∙ ap (λ (x : List ℕ). line_result s x (p.number + 1) (Err f)) (sym er)
+    ∙ ap (λ (x : ℕ). line_result s serials (x + 1) (Err f)) (sym en)
+
+pub amid-zero : (s : State) (serials : List ℕ) (said : Said) → state_amid s serials said 0 ≡ s
+amid-zero s serials (Ok Skipped) = refl
+amid-zero s serials (Ok (Asked r)) = refl
+amid-zero s serials (Err f) = refl
+
+pub amid-all : (p : Progress) (text : List ℕ) (r : Request) (s : State) (serials : List ℕ) → said_at p text ≡ Ok (Asked r) → s ≡ p.state → serials ≡ p.serials
+    → (carried_out s serials (commands_of s r)).state ≡ state_amid p.state p.serials (said_at p text) (length (commands_of p.state r))
+amid-all p text r s serials e es er =
+    ap (λ (x : State). (carried_out x serials (commands_of x r)).state) es
+    ∙ ap (λ (x : List ℕ). (carried_out p.state x (commands_of p.state r)).state) er
+    ∙ ap (λ os. (carried_out p.state p.serials os).state) (sym (take_all (length (commands_of p.state r)) (commands_of p.state r) (omega arith)))
+    ∙ ap (λ (x : Said). state_amid p.state p.serials x (length (commands_of p.state r))) (sym e)
+
+-- ---- which sink failed
+
+pub out_failure : {A E Z : Type 0} (r : Result A RunEnd) (t : Result (String Z) E) (old new : Option (List ℕ)) (out messages : Bool) → messages ≡ false → Printed r OutWrite t old new out → IsFailureOf r out messages
+out_failure (Ok done) (Ok text) old new out messages m h = (h.1, m)
+out_failure (Ok done) (Err e) old new out messages m h = absurd h
+out_failure {A = A} (Err end) (Ok text) old new out messages m h = subst (λ x. IsFailureOf {A = A} (Err x) out messages) (sym h.0) (h.2, m)
+out_failure {A = A} (Err end) (Err e) old new out messages m h = subst (λ x. IsFailureOf {A = A} (Err x) out messages) (sym h.0) (h.2, m)
+
+pub message_failure : {A E Z : Type 0} (r : Result A RunEnd) (t : Result (String Z) E) (old new : Option (List ℕ)) (out messages : Bool) → out ≡ false → Printed r MessageWrite t old new messages → IsFailureOf r out messages
+message_failure (Ok done) (Ok text) old new out messages m h = (m, h.1)
+message_failure (Ok done) (Err e) old new out messages m h = absurd h
+message_failure {A = A} (Err end) (Ok text) old new out messages m h = subst (λ x. IsFailureOf {A = A} (Err x) out messages) (sym h.0) (m, h.2)
+message_failure {A = A} (Err end) (Err e) old new out messages m h = subst (λ x. IsFailureOf {A = A} (Err x) out messages) (sym h.0) (m, h.2)

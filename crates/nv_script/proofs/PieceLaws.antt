@@ -1,0 +1,129 @@
+-- Bytes cut at their newlines, a byte at a time.
+use Rattle.std.proofs.Common.{◌≡◌, ◌≢◌, ℕ, suc, ◌+◌, ◌<◌, List, [], ◌∷◌, ◌++◌, length, take, drop, get_or, sym, ap, subst, ◌∙◌, refl, Bool, true, false, eqb, cond, append_assoc, append-nil, arith, fold}
+use Rattle.std.proofs.lemmas.List.{take_more, take-append-drop, length-append}
+use Rattle.std.proofs.lemmas.Grind.{fold-append}
+use Rattle.std.proofs.lemmas.Bool.Decides.{nat_tests}
+use Rattle.std.specs.Prelude.{Option, Some, None, nat_le}
+use Rattle.nv_subsystem.specs.State.{State}
+use Rattle.nv_script.specs.Ends.{joined_lines}
+use Rattle.nv_script.specs.Results.{after, start, whole}
+use Rattle.nv_script.specs.ScriptLines.{Pieces, as_line, begun, held, held_more, pieces, script_lines, with_byte}
+
+with-newline : (p : Pieces) (b : ℕ) → b ≡ 10 → with_byte p b ≡ record { ended = p.ended ++ p.last ∷ []; last = [] }
+with-newline p b e = subst (λ n. with_byte p n ≡ record { ended = p.ended ++ p.last ∷ []; last = [] }) (sym e) refl
+
+with-other : (p : Pieces) (b : ℕ) → b ≢ 10 → with_byte p b ≡ record { ended = p.ended; last = p.last ++ b ∷ [] }
+with-other p b n = at_test (eqb b 10) (grind (arith, nat_tests))
+  where
+    at_test : (t : Bool) → t ≡ false → ◌≡◌ {A = Pieces} (cond t (record { ended = p.ended ++ p.last ∷ []; last = [] }) (record { ended = p.ended; last = p.last ++ b ∷ [] })) (record { ended = p.ended; last = p.last ++ b ∷ [] })
+    at_test true e = cc
+    at_test false e = refl
+
+-- a piece of which one byte more was read
+pub taken-more : (bytes piece : List ℕ) (i : ℕ) → i < length piece → bytes ++ take (i + 1) piece ≡ (bytes ++ take i piece) ++ get_or piece i 0 ∷ []
+taken-more bytes piece i h = ap (λ t. bytes ++ t) (take_more piece i 0 h) ∙ sym (append_assoc bytes (take i piece) (get_or piece i 0 ∷ []))
+
+pieces-append : (xs ys : List ℕ) → pieces (xs ++ ys) ≡ fold with_byte (pieces xs) ys
+pieces-append xs ys = fold-append with_byte (begun []) xs ys
+
+-- a newline ends a line; any other byte is of the line
+pub pieces-newline : (xs : List ℕ) (b : ℕ) → b ≡ 10 → pieces (xs ++ b ∷ []) ≡ record { ended = (pieces xs).ended ++ (pieces xs).last ∷ []; last = [] }
+pieces-newline xs b e = pieces-append xs (b ∷ []) ∙ with-newline (pieces xs) b e
+
+pub pieces-other : (xs : List ℕ) (b : ℕ) → b ≢ 10 → pieces (xs ++ b ∷ []) ≡ record { ended = (pieces xs).ended; last = (pieces xs).last ++ b ∷ [] }
+pieces-other xs b n = pieces-append xs (b ∷ []) ∙ with-other (pieces xs) b n
+
+-- one line more
+pub whole-more : (s : State) (lines : List (List ℕ)) (line : List ℕ) → whole s (lines ++ line ∷ []) ≡ after (whole s lines) line
+whole-more s lines line = fold-append after (start s) lines (line ∷ [])
+
+-- lines that were ended stay
+ended-stay : (p : Pieces) (bytes : List ℕ) → (later : List (List ℕ)) × ((fold with_byte p bytes).ended ≡ p.ended ++ later)
+ended-stay p [] = ([], sym (append-nil p.ended))
+ended-stay p (b ∷ bytes) =
+    at_test (ended-stay (record { ended = p.ended ++ p.last ∷ []; last = [] }) bytes) (ended-stay (record { ended = p.ended; last = p.last ++ b ∷ [] }) bytes) (eqb b 10)
+  where
+    at_test : ((later : List (List ℕ)) × ((fold with_byte (record { ended = p.ended ++ p.last ∷ []; last = [] }) bytes).ended ≡ (p.ended ++ p.last ∷ []) ++ later))
+        → ((later : List (List ℕ)) × ((fold with_byte (record { ended = p.ended; last = p.last ++ b ∷ [] }) bytes).ended ≡ p.ended ++ later))
+        → (t : Bool) → (later : List (List ℕ)) × ((fold with_byte (cond t (record { ended = p.ended ++ p.last ∷ []; last = [] }) (record { ended = p.ended; last = p.last ++ b ∷ [] })) bytes).ended ≡ p.ended ++ later)
+    at_test h k true = (p.last ∷ h.0, h.1 ∙ append_assoc p.ended (p.last ∷ []) h.0)
+    at_test h k false = k
+
+-- the line that a newline ends is among the lines of all the bytes
+pub line-among : (xs ys : List ℕ) (b : ℕ) → b ≡ 10 → (later : List (List ℕ)) × (script_lines ((xs ++ b ∷ []) ++ ys) ≡ (pieces xs).ended ++ (pieces xs).last ∷ later)
+line-among xs ys b e =
+    let p = pieces xs in
+    let s = ended-stay (record { ended = p.ended ++ p.last ∷ []; last = [] }) ys in
+    let q : pieces ((xs ++ b ∷ []) ++ ys) ≡ fold with_byte (record { ended = p.ended ++ p.last ∷ []; last = [] }) ys =
+    pieces-append (xs ++ b ∷ []) ys ∙ ap (λ x. fold with_byte x ys) (pieces-newline xs b e) in
+    let last = (pieces ((xs ++ b ∷ []) ++ ys)).last in (
+      s.0 ++ as_line last,
+      ap (λ x. x ++ as_line last) (ap (λ (x : Pieces). x.ended) q ∙ s.1 ∙ append_assoc p.ended (p.last ∷ []) s.0)
+          ∙ append_assoc p.ended (p.last ∷ s.0) (as_line last),
+    )
+
+-- the same where the newline stands at an index of a further piece
+pub piece-among : (bytes piece : List ℕ) (i : ℕ) → i < length piece → get_or piece i 0 ≡ 10
+    → (later : List (List ℕ)) × (script_lines (bytes ++ piece) ≡ (pieces (bytes ++ take i piece)).ended ++ (pieces (bytes ++ take i piece)).last ∷ later)
+piece-among bytes piece i h e =
+    let xs = bytes ++ take i piece in
+    let b = get_or piece i 0 in
+    let ys = drop (i + 1) piece in
+    let whole : bytes ++ piece ≡ (xs ++ b ∷ []) ++ ys =
+    ap (λ t. bytes ++ t) (sym (take-append-drop (i + 1) piece)) ∙ sym (append_assoc bytes (take (i + 1) piece) ys) ∙ ap (λ t. t ++ ys) (taken-more bytes piece i h) in
+    let among = line-among xs ys b e in
+    (among.0, ap script_lines whole ∙ among.1)
+
+pub as_line-some : (piece : List ℕ) → 0 < length piece → as_line piece ≡ piece ∷ []
+as_line-some [] h = absurd (omega arith)
+as_line-some (b ∷ bs) h = refl
+
+-- what is held of a line, one byte on
+pub held-more : (line : List ℕ) (b : ℕ) → held_more (held line) b ≡ held (line ++ b ∷ [])
+held-more line b = at_test (nat_le (length line) 4095) refl
+  where
+    too_long : (t : Bool) → nat_le (length line) 4095 ≡ false → nat_le (length (line ++ b ∷ [])) 4095 ≡ t → t ≡ false
+    too_long t e f = grind (arith, nat_tests, length-append line (b ∷ []))
+
+    at_test : (t : Bool) → nat_le (length line) 4095 ≡ t → held_more (cond t (Some line) None) b ≡ held (line ++ b ∷ [])
+    at_test true e = refl
+    at_test false e = ap (λ x. cond x (Some (line ++ b ∷ [])) None) (sym (too_long (nat_le (length (line ++ b ∷ [])) 4095) e refl))
+
+pub held-some : (line : List ℕ) → (held line ≡ Some [] → ⊥) → 0 < length line
+held-some [] h = absurd (h refl)
+held-some (b ∷ bs) h = omega arith
+
+pub held-none : (line : List ℕ) → held line ≡ Some [] → as_line line ≡ []
+held-none [] e = refl
+held-none (b ∷ bs) e = at_test (nat_le (length (b ∷ bs)) 4095) e
+  where
+    at_test : (t : Bool) → ◌≡◌ {A = Option (List ℕ)} (cond t (Some (b ∷ bs)) None) (Some []) → as_line (b ∷ bs) ≡ []
+    at_test true e = cc
+    at_test false e = cc
+
+-- ---- lengths
+
+joined-append : (xs ys : List (List ℕ)) → joined_lines (xs ++ ys) ≡ joined_lines xs ++ joined_lines ys
+joined-append [] ys = refl
+joined-append (x ∷ xs) ys = ap (λ z. (x ++ 10 ∷ []) ++ z) (joined-append xs ys) ∙ sym (append_assoc (x ++ 10 ∷ []) (joined_lines xs) (joined_lines ys))
+
+pub length-joined : (lines : List (List ℕ)) (line : List ℕ) → length (joined_lines (lines ++ line ∷ [])) ≡ length (joined_lines lines) + length line + 1
+length-joined lines line =
+    let e = ap length (joined-append lines (line ∷ [])) ∙ length-append (joined_lines lines) (joined_lines (line ∷ [])) ∙ ap (λ n. length (joined_lines lines) + n) (ap length (append-nil (line ++ 10 ∷ [])) ∙ length-append line (10 ∷ [])) in
+    omega (arith, e)
+
+length-fed : (p : Pieces) (bytes : List ℕ) → length (joined_lines (fold with_byte p bytes).ended) + length (fold with_byte p bytes).last ≡ length (joined_lines p.ended) + length p.last + length bytes
+length-fed p [] = omega arith
+length-fed p (b ∷ bytes) =
+    at_test (length-fed (record { ended = p.ended ++ p.last ∷ []; last = [] }) bytes) (length-fed (record { ended = p.ended; last = p.last ++ b ∷ [] }) bytes) (eqb b 10)
+  where
+    size : Pieces → ℕ
+    size q = length (joined_lines (fold with_byte q bytes).ended) + length (fold with_byte q bytes).last
+
+    at_test : size (record { ended = p.ended ++ p.last ∷ []; last = [] }) ≡ length (joined_lines (p.ended ++ p.last ∷ [])) + 0 + length bytes → size (record { ended = p.ended; last = p.last ++ b ∷ [] }) ≡ length (joined_lines p.ended) + length (p.last ++ b ∷ []) + length bytes → (t : Bool) → size (cond t (record { ended = p.ended ++ p.last ∷ []; last = [] }) (record { ended = p.ended; last = p.last ++ b ∷ [] })) ≡ length (joined_lines p.ended) + length p.last + suc (length bytes)
+    at_test h k true = omega (arith, h, length-joined p.ended p.last)
+    at_test h k false = omega (arith, k, length-append p.last (b ∷ []))
+
+-- the pieces are the bytes
+pub length-pieces : (bytes : List ℕ) → length (joined_lines (pieces bytes).ended) + length (pieces bytes).last ≡ length bytes
+length-pieces bytes = omega (arith, length-fed (begun []) bytes)

@@ -1,0 +1,52 @@
+use Rattle.std.proofs.Common.{◌≡◌, ◌∙◌, ◌<◌, ap, sym, arith, get_or, true, Ok}
+use Rattle.nv_layout.specs.Cqe.{cqe_of_bytes}
+use Rattle.nv_layout.specs.declared.cqe.Cqe.{Cqe}
+use Rattle.nv_script.proofs.AskedLaws.{accepted, asked_as, completion_read, entry_known, entry_read, fits_nsid, ready_after, rejected, reply_read, served}
+use Rattle.nv_script.proofs.asking.ask.Goals as goal
+
+pub serve-requires-clause-entry : goal.serve-requires-clause-entry
+serve-requires-clause-entry g c =
+    entry_known c.args.command.now _ c.put.new.out (entry_read c.args.command.now _ c.encode.result c.put.new.out c.encode.ensures.entry c.encode.ensures.fits c.put.ensures)
+
+pub returns-then-is_success-clause-asked : goal.returns-then-is_success-clause-asked
+returns-then-is_success-clause-asked g c =
+    let s = g.D.Direct.state c.args.direct.now in
+    let k = c.args.command.now in
+    let ctrl = c.args.ctrl in
+    let cid = get_or c.args.serials.now ctrl 0 in
+    let low : cid < 65535 = c.requires.ready.below ctrl 0 c.requires.ctrl in
+    let done = served k cid ctrl c.put.new.out s (g.D.Direct.state c.serve.new.self) c.new_page-page.result c.serve.new.page c.serve.result
+    (entry_read k cid c.encode.result c.put.new.out c.encode.ensures.entry c.encode.ensures.fits c.put.ensures) c.serve.ensures in
+    let status = ap (λ (x : Cqe). x.status) (c.get-completion.ensures ∙ ap cqe_of_bytes done.completion) ∙ completion_read s ctrl k cid (omega arith) in
+    let answer = accepted s ctrl k cid _ status (c.is_success.ensures.0 c.if-is_success.true) in
+    asked_as s (g.D.Direct.state c.serve.new.self) c.args.serials.now ctrl k _
+    (ap Ok (c.read_reply.ensures ∙ reply_read s ctrl k _ c.new_page-page.result c.serve.new.page c.requires.ready.well_formed c.new_page-page.ensures answer done.page) ∙ sym answer) done.state
+
+pub returns-then-is_success-clause-ready : goal.returns-then-is_success-clause-ready
+returns-then-is_success-clause-ready g c =
+    let k = c.args.command.now in
+    let cid = get_or c.args.serials.now c.args.ctrl 0 in
+    let done = served k cid c.args.ctrl c.put.new.out _ (g.D.Direct.state c.serve.new.self) c.new_page-page.result c.serve.new.page c.serve.result
+    (entry_read k cid c.encode.result c.put.new.out c.encode.ensures.entry c.encode.ensures.fits c.put.ensures) c.serve.ensures in
+    ready_after (g.D.Direct.state c.args.direct.now) _ c.args.serials.now c.args.ctrl k c.requires.ready c.requires.ctrl (fits_nsid k cid c.encode.result c.encode.ensures.entry c.encode.ensures.fits) done.state
+
+pub returns-else-is_success-clause-asked : goal.returns-else-is_success-clause-asked
+returns-else-is_success-clause-asked g c =
+    let s = g.D.Direct.state c.args.direct.now in
+    let k = c.args.command.now in
+    let ctrl = c.args.ctrl in
+    let cid = get_or c.args.serials.now ctrl 0 in
+    let low : cid < 65535 = c.requires.ready.below ctrl 0 c.requires.ctrl in
+    let done = served k cid ctrl c.put.new.out s (g.D.Direct.state c.serve.new.self) c.new_page-page.result c.serve.new.page c.serve.result
+    (entry_read k cid c.encode.result c.put.new.out c.encode.ensures.entry c.encode.ensures.fits c.put.ensures) c.serve.ensures in
+    let status = ap (λ (x : Cqe). x.status) (c.get-completion.ensures ∙ ap cqe_of_bytes done.completion) ∙ completion_read s ctrl k cid (omega arith) in
+    asked_as s (g.D.Direct.state c.serve.new.self) c.args.serials.now ctrl k _
+    (sym (rejected s ctrl k cid _ status (λ z. let yes : c.is_success.result ≡ true = c.is_success.ensures.1 z in cc))) done.state
+
+pub returns-else-is_success-clause-ready : goal.returns-else-is_success-clause-ready
+returns-else-is_success-clause-ready g c =
+    let k = c.args.command.now in
+    let cid = get_or c.args.serials.now c.args.ctrl 0 in
+    let done = served k cid c.args.ctrl c.put.new.out _ (g.D.Direct.state c.serve.new.self) c.new_page-page.result c.serve.new.page c.serve.result
+    (entry_read k cid c.encode.result c.put.new.out c.encode.ensures.entry c.encode.ensures.fits c.put.ensures) c.serve.ensures in
+    ready_after (g.D.Direct.state c.args.direct.now) _ c.args.serials.now c.args.ctrl k c.requires.ready c.requires.ctrl (fits_nsid k cid c.encode.result c.encode.ensures.entry c.encode.ensures.fits) done.state

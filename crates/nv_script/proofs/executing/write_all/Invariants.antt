@@ -1,0 +1,12 @@
+use Rattle.std.proofs.Common.{◌≡◌, ◌++◌, false, length, List, ℕ}
+use Rattle.std.specs.Io.KnownBytes.{Appends}
+use Rattle.nv_script.proofs.executing.write_all.Given as goal
+
+abbrev pub invariant-loop-rest : goal.invariant-loop-rest
+invariant-loop-rest g l = record {
+  failed : g.S.Sink.has_failed l.sink ≡ false;
+  written : (done : List ℕ) × (l.text ≡ done ++ l.rest) × Appends (g.S.Sink.taken l.initial.sink) (g.S.Sink.taken l.sink) done;
+}
+
+abbrev pub decreases-loop-rest : goal.decreases-loop-rest
+decreases-loop-rest g l = length l.rest

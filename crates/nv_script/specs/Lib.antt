@@ -1,0 +1,17 @@
+pub mod Streams
+pub mod Words
+pub mod Numbers
+pub mod DevicePath
+pub mod OptionNames
+pub mod Faults
+pub mod Options
+pub mod Requests
+pub mod Reading
+pub mod Entries
+pub mod Serving
+pub mod Asking
+pub mod Outcomes
+pub mod Texts
+pub mod ScriptLines
+pub mod Results
+pub mod Ends

@@ -1,0 +1,100 @@
+-- What a line prints.
+use Rattle.std.specs.Prelude.{ℕ, ◌+◌, ◌-◌, ◌%◌, min, take, ◌==◌, ◌&&◌, false, List, [], ◌∷◌, ◌++◌, length, replicate, codes, if◌then◌else◌}
+use Rattle.std.specs.Fmt.{decimal, digits}
+use Rattle.std.specs.List.{fold}
+use Rattle.nv_layout.specs.Status.{number_of_status}
+use Rattle.nv_layout.specs.declared.status.Status.{Status}
+use Rattle.nv_layout.specs.declared.id_ns.IdNs.{IdNs}
+use Rattle.nv_layout.specs.declared.id_ns.Lbaf.{Lbaf}
+use Rattle.nv_subsystem.specs.Reply.{blank}
+use Rattle.nv_subsystem.specs.declared.commands.Reply.{Reply}
+use Rattle.nv_subsystem.specs.declared.commands.Reply.TheVariants as reply
+use Rattle.nv_script.specs.declared.requests.Request.{Request}
+use Rattle.nv_script.specs.declared.requests.Request.TheVariants as request
+
+-- 0x and hexadecimal digits
+abbrev pub hexadecimal : ℕ → List ℕ
+hexadecimal n = codes "0x" ++ digits 16 false n
+
+-- a text on the right of so many places
+abbrev pub right : ℕ → List ℕ → List ℕ
+right width text = replicate (width - length text) 32 ++ text
+
+-- an NSID with its index: "[   0]:0x1"
+abbrev pub nsid_line : ℕ → ℕ → List ℕ
+nsid_line i nsid = codes "[" ++ (right 4 (decimal i) ++ (codes "]:" ++ (hexadecimal nsid ++ 10 ∷ [])))
+
+-- a line for each element, by its index
+abbrev pub lines_of : {A : Type 0} → (ℕ → A → List ℕ) → ℕ → List A → List ℕ
+lines_of line i [] = []
+lines_of line i (x ∷ xs) = line i x ++ lines_of line (i + 1) xs
+
+-- the text of a list of NSIDs
+abbrev pub text_of_nsids : List ℕ → List ℕ
+text_of_nsids nsids = lines_of nsid_line 0 nsids
+
+-- the NSIDs of the first reply
+abbrev pub nsids_in : List Reply → List ℕ
+nsids_in [] = []
+nsids_in (reply.List nsids ∷ rest) = nsids
+nsids_in (reply.Namespace r ∷ rest) = []
+
+-- a field: its key on the left of 20 places, and its value
+abbrev pub field_line : List ℕ → List ℕ → List ℕ
+field_line key value = key ++ (replicate (20 - length key) 32 ++ (codes ": " ++ (value ++ 10 ∷ [])))
+
+-- a format with its index, whose key has 7 of the 20 places: "lbaf  0             : ms:0 lbads:9 rp:0 (in use)"
+abbrev pub lbaf_line : ℕ → ℕ → Lbaf → List ℕ
+lbaf_line in_use i f =
+    codes "lbaf " ++ (right 2 (decimal i) ++ (replicate 13 32
+    ++ (codes ": ms:" ++ (decimal f.ms ++ (codes " lbads:" ++ (decimal f.lbads ++ (codes " rp:" ++ (decimal f.rp
+    ++ ((if in_use == i then codes " (in use)" else []) ++ 10 ∷ [])))))))))
+
+-- texts, one after another
+abbrev pub joined : List (List ℕ) → List ℕ
+joined texts = fold (λ text next. text ++ next) [] texts
+
+-- the fields of a namespace before its formats
+unfoldable pub namespace_fields : IdNs → List ℕ
+namespace_fields r = joined (
+    field_line (codes "nsze") (hexadecimal r.nsze)
+    ∷ field_line (codes "ncap") (hexadecimal r.ncap)
+    ∷ field_line (codes "nuse") (hexadecimal r.nuse)
+    ∷ field_line (codes "nsfeat") (hexadecimal r.nsfeat)
+    ∷ field_line (codes "nlbaf") (decimal r.nlbaf)
+    ∷ field_line (codes "flbas") (hexadecimal r.flbas)
+    ∷ field_line (codes "mc") (hexadecimal r.mc)
+    ∷ field_line (codes "dpc") (hexadecimal r.dpc)
+    ∷ field_line (codes "dps") (hexadecimal r.dps)
+    ∷ field_line (codes "nmic") (hexadecimal r.nmic)
+    ∷ field_line (codes "nvmcap") (decimal r.nvmcap)
+    ∷ [])
+
+-- the text of a namespace: its formats are NLBAF + 1, the one in use is FLBAS 3:0
+unfoldable pub text_of_namespace : IdNs → List ℕ
+text_of_namespace r = namespace_fields r ++ lines_of (lbaf_line (r.flbas % 16)) 0 (take (min r.nlbaf 15 + 1) r.lbafs)
+
+-- the namespace of the first reply
+abbrev pub namespace_in : List Reply → IdNs
+namespace_in [] = blank
+namespace_in (reply.List nsids ∷ rest) = blank
+namespace_in (reply.Namespace r ∷ rest) = r
+
+-- what a request prints of its replies
+abbrev pub text_of : Request → List Reply → List ℕ
+text_of (request.ListNs controller first all) replies = text_of_nsids (nsids_in replies)
+text_of (request.IdNs controller nsid force) replies = text_of_namespace (namespace_in replies)
+
+-- ---- messages
+
+-- "line 3: usage error", and a newline
+abbrev pub message_of : ℕ → List ℕ → List ℕ
+message_of number text = codes "line " ++ (decimal number ++ (codes ": " ++ (text ++ 10 ∷ [])))
+
+-- the name of a status, by its type and its code
+abbrev pub status_name : Status → List ℕ
+status_name s = if s.sct == 0 && s.sc == 0x0b then codes "Invalid Namespace or Format" else codes "Unknown"
+
+-- "NVMe status: Invalid Namespace or Format (0x600b)"
+abbrev pub refusal_text : Status → List ℕ
+refusal_text s = codes "NVMe status: " ++ (status_name s ++ (codes " (" ++ (hexadecimal (number_of_status s) ++ codes ")")))

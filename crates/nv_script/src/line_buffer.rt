@@ -1,0 +1,70 @@
+//! One line of a script, as far as it can be held.
+
+ghost use Rattle.std.specs.Prelude.{◌≡◌, ◌≤◌, [], List, ℕ, Option, Some, None, if◌then◌else◌, take, IsTrue, ◌↔◌};
+ghost use Rattle.std.specs.Option.{option_copied};
+ghost use Rattle.nv_script.specs.ScriptLines.{held_more};
+
+use std::marker::Model;
+
+/// A line, or that it has more than 4,095 bytes.
+#[derive(Drop)]
+pub struct LineBuffer {
+    bytes: [u8; 4095],
+    len: usize,
+    is_too_long: bool,
+}
+
+impl Model for LineBuffer {
+    ghost Value = { Option (List ℕ) };
+
+    ghost view = { λ a. if a.is_too_long then None else Some (take a.len a.bytes) };
+
+    ghost invariant = { λ a. a.len ≤ 4095 };
+}
+
+impl LineBuffer {
+    pub fn new() -> Self
+        ensures { result ≡ Some [] }
+    {
+        LineBuffer {
+            bytes: [0; 4095],
+            len: 0,
+            is_too_long: false,
+        }
+    }
+
+    pub fn push(&mut self, byte: u8)
+        ensures { self.new ≡ held_more self.old byte }
+    {
+        if self.len < 4095 {
+            self.bytes[self.len] = byte;
+            self.len += 1;
+        } else {
+            self.is_too_long = true;
+        }
+    }
+
+    pub fn clear(&mut self)
+        ensures { self.new ≡ Some [] }
+    {
+        self.len = 0;
+        self.is_too_long = false;
+    }
+
+    /// The line; `None` where it is too long.
+    pub fn held(&self) -> Option<&[u8]>
+        ensures { option_copied result ≡ self.now }
+    {
+        if self.is_too_long {
+            None
+        } else {
+            Some(&self.bytes[..self.len])
+        }
+    }
+
+    pub fn is_empty(&self) -> bool
+        ensures { IsTrue result ↔ (self.now ≡ Some []) }
+    {
+        !self.is_too_long && self.len == 0
+    }
+}

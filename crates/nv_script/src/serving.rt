@@ -1,0 +1,111 @@
+//! What serves the commands of a script.
+
+ghost use Rattle.std.specs.Prelude.{◌≡◌, ◌<◌, length, IsSome, IfSome};
+ghost use Rattle.nv_layout.specs.Cqe.{bytes_of_cqe};
+ghost use Rattle.nv_layout.specs.Sqe.{sqe_of_bytes};
+ghost use Rattle.nv_subsystem.specs.State.{State};
+ghost use Rattle.nv_script.specs.Entries.{decoded};
+ghost use Rattle.nv_script.specs.Serving.{IsServed, completion_with, data_of, success, with_data};
+
+use crate::entries::decode;
+use nv_layout::{Cqe, Sqe, Status};
+use nv_subsystem::{Origin, Reply, Subsystem};
+
+/// The status of a command that was accepted.
+const SUCCESS: Status = Status {
+    sc: 0,
+    sct: 0,
+    crd: 0,
+    more: false,
+    dnr: false,
+};
+
+/// A subsystem that takes one submission queue entry at a time, and writes the data of its reply to the
+/// front of a page.
+pub trait Direct {
+    // The subsystem that it serves.
+    ghost state: { Self → State };
+
+    /// The number of controllers.
+    fn controllers(&self) -> u16
+        ensures { result ≡ length (state self.now).controllers };
+
+    /// Executes the command of an entry on a controller, and answers its completion.
+    fn serve(&mut self, ctrl: u16, entry: &[u8; 64], page: &mut [u8; 4096]) -> [u8; 16]
+        requires ctrl { ctrl < length (state self.old).controllers }
+        requires entry { IsSome (decoded (sqe_of_bytes entry.now)) }
+        ensures { IfSome (decoded (sqe_of_bytes entry.now)) (λ command.
+            IsServed command (sqe_of_bytes entry.now).cid ctrl (state self.old) (state self.new) page.old page.new result) };
+}
+
+/// A subsystem that is served with nothing in between.
+#[derive(Drop)]
+pub struct Straight {
+    subsystem: Subsystem,
+}
+
+impl Straight {
+    pub fn new(subsystem: Subsystem) -> Straight
+        ensures { ⟦<Straight as Direct>⟧.state result ≡ subsystem }
+    {
+        Straight { subsystem }
+    }
+
+    /// The subsystem as it is now.
+    pub fn subsystem(&self) -> &Subsystem
+        ensures { result.now ≡ ⟦<Straight as Direct>⟧.state self.now }
+    {
+        &self.subsystem
+    }
+}
+
+/// The completion of a command, at the head and with the phase tag that stand for no ring.
+fn completion(cid: u16, status: Status) -> [u8; 16]
+    ensures { result ≡ bytes_of_cqe (completion_with cid status) }
+{
+    let entry = Cqe {
+        command_specific: 0,
+        sq_head: 0,
+        sq_identifier: 0,
+        cid,
+        phase: false,
+        status,
+    };
+    let mut bytes = [0; 16];
+    entry.put(&mut bytes);
+    bytes
+}
+
+/// Writes the data of a reply.
+fn put_reply(reply: &Reply, page: &mut [u8; 4096])
+    ensures { page.new ≡ with_data (data_of reply.now) page.old }
+{
+    match reply {
+        Reply::List(list) => list.put(page),
+        Reply::Namespace(namespace) => namespace.put(page),
+    }
+}
+
+impl Direct for Straight {
+    ghost state = { λ s. s.subsystem };
+
+    fn controllers(&self) -> u16 {
+        self.subsystem.controllers()
+    }
+
+    fn serve(&mut self, ctrl: u16, entry: &[u8; 64], page: &mut [u8; 4096]) -> [u8; 16] {
+        let entry = Sqe::get(entry);
+        let command = decode(&entry).unwrap();
+        let origin = Origin {
+            cid: entry.cid,
+            phase: false,
+        };
+        match self.subsystem.execute(ctrl, &command, origin) {
+            Ok(reply) => {
+                put_reply(&reply, page);
+                completion(entry.cid, SUCCESS)
+            }
+            Err(refusal) => completion(entry.cid, refusal.status),
+        }
+    }
+}

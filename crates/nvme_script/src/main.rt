@@ -1,0 +1,122 @@
+//! Runs a script of `nvme` commands on a model of an NVM subsystem.
+#![tactic(auto)]
+
+ghost use Rattle.std.specs.Prelude.{IfOk};
+ghost use Rattle.nv_subsystem.specs.WellFormed.{IsWellFormed};
+
+mod arguments;
+mod stop;
+
+use arguments::subsystem_file;
+use nv_script::{OverRead, OverWrite, Straight, run};
+use nv_subsystem::{DEMO, Subsystem};
+use std::alloc::Global;
+use std::fs;
+use std::io::{self, BufWriter, Read, Write};
+use std::process::ExitCode;
+use stop::{Stop, status_of};
+
+/// The longest subsystem file in bytes.
+const MOST_BYTES: usize = 1_048_576;
+
+/// The bytes of a file.
+fn bytes_of(rt: &HostRuntime, path: &str) -> Result<Vec<u8>, Stop> {
+    let Ok(mut file) = fs::open(rt, path) else {
+        return Err(Stop::Unreadable);
+    };
+    let mut bytes = Vec::new(rt.alloc());
+    let mut piece = [0u8; 4096];
+    for _ in 0..=MOST_BYTES {
+        let Ok(count) = file.read(&mut piece) else {
+            return Err(Stop::Unreadable);
+        };
+        if count == 0 {
+            return Ok(bytes);
+        }
+        if bytes.len() + count > MOST_BYTES {
+            return Err(Stop::Unreadable);
+        }
+        if bytes.extend_from_slice(&piece[..count]).is_err() {
+            return Err(Stop::Memory);
+        }
+    }
+    Err(Stop::Unreadable)
+}
+
+/// The subsystem of these bytes.
+fn subsystem_of(alloc: Global, bytes: &[u8]) -> Result<Subsystem, Stop>
+    ensures { IfOk result IsWellFormed }
+{
+    let subsystem = Subsystem::from_toml(alloc, bytes)?;
+    Ok(subsystem)
+}
+
+/// The subsystem of a file, or the built-in one.
+fn read_subsystem(rt: &HostRuntime, path: Option<&str>) -> Result<Subsystem, Stop>
+    ensures { IfOk result IsWellFormed }
+{
+    match path {
+        Some(path) => {
+            let bytes = bytes_of(rt, path)?;
+            subsystem_of(rt.alloc(), &bytes)
+        }
+        None => subsystem_of(rt.alloc(), DEMO.as_bytes()),
+    }
+}
+
+/// The subsystem that the arguments ask for.
+fn subsystem(rt: &HostRuntime) -> Result<Subsystem, Stop>
+    ensures { IfOk result IsWellFormed }
+{
+    let alloc = rt.alloc();
+    let Ok(arguments) = std::env::args(rt) else {
+        return Err(Stop::Memory);
+    };
+    let Ok(texts) = arguments.collect(alloc) else {
+        return Err(Stop::Memory);
+    };
+    let texts: Vec<String> = texts;
+    let mut words = Vec::new(alloc);
+    for text in &texts {
+        if words.push(text.as_str()).is_err() {
+            return Err(Stop::Memory);
+        }
+    }
+    let path = subsystem_file(alloc, words.as_slice())?;
+    read_subsystem(rt, path)
+}
+
+/// Runs the script on standard input.
+fn run_script(rt: &HostRuntime, subsystem: Subsystem) -> Result<u8, Stop>
+    requires { IsWellFormed subsystem }
+{
+    let alloc = rt.alloc();
+    let Ok(buffered) = BufWriter::new(alloc, io::writer(rt)) else {
+        return Err(Stop::Memory);
+    };
+    let mut direct = Straight::new(subsystem);
+    let mut script = OverRead::new(rt.reader());
+    let mut out = OverWrite::new(buffered);
+    let mut messages = OverWrite::new(rt.stderr());
+    let end = run(alloc, &mut direct, &mut script, &mut out, &mut messages);
+    let flushed = out.into_inner().flush();
+    let status = status_of(end)?;
+    match flushed {
+        Ok(()) => Ok(status),
+        Err(_) => Err(Stop::Write),
+    }
+}
+
+fn main(rt: HostRuntime) -> ExitCode {
+    let done = match subsystem(&rt) {
+        Ok(subsystem) => run_script(&rt, subsystem),
+        Err(stop) => Err(stop),
+    };
+    match done {
+        Ok(status) => ExitCode::from(status),
+        Err(stop) => {
+            let _ = eprintln!(&rt; "nvme-script: {stop}");
+            ExitCode::from(stop.status())
+        }
+    }
+}

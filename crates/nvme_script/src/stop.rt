@@ -1,0 +1,56 @@
+//! Why the program stops, and the exit status that it stops with.
+
+use nv_script::RunEnd;
+use nv_subsystem::SubsystemError;
+use thiserror::Error;
+
+/// Why a run didn't come to the end of its script.
+#[derive(Clone, Copy, Debug, PartialEq, Eq, Error)]
+pub enum Stop {
+    /// The arguments were refused.
+    #[error("arguments")]
+    Arguments,
+    /// The subsystem file can't be read, or is too long.
+    #[error("subsystem: unreadable")]
+    Unreadable,
+    /// The subsystem file was refused.
+    #[error("subsystem: {0}")]
+    Subsystem(SubsystemError),
+    #[error("read fault")]
+    Read,
+    #[error("write fault")]
+    Write,
+    #[error("out of memory")]
+    Memory,
+}
+
+impl Stop {
+    /// The exit status.
+    pub fn status(self) -> u8 {
+        match self {
+            Stop::Arguments | Stop::Unreadable | Stop::Subsystem(_) => 3,
+            Stop::Read => 4,
+            Stop::Write => 5,
+            Stop::Memory => 6,
+        }
+    }
+}
+
+impl From<SubsystemError> for Stop {
+    fn from(error: SubsystemError) -> Stop {
+        match error {
+            SubsystemError::Memory => Stop::Memory,
+            error => Stop::Subsystem(error),
+        }
+    }
+}
+
+/// The status of a run that came to the end of its script, or why it stopped.
+pub fn status_of(end: RunEnd) -> Result<u8, Stop> {
+    match end {
+        RunEnd::Status(status) => Ok(status),
+        RunEnd::Read => Err(Stop::Read),
+        RunEnd::OutWrite | RunEnd::MessageWrite => Err(Stop::Write),
+        RunEnd::Memory => Err(Stop::Memory),
+    }
+}
