@@ -1,0 +1,4 @@
+pub mod Numbers
+pub mod Rings
+pub mod Slots
+pub mod Runs

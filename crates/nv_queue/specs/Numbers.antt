@@ -1,0 +1,49 @@
+-- Submissions and completions have numbers, from 0 since their rings were made. A ring keeps the rest of
+-- a number modulo twice its depth: the number's slot and phase, and how far two numbers less than twice
+-- the depth lie apart, depend on that alone.
+use Rattle.std.specs.Prelude.{ℕ, ◌+◌, ◌-◌, ◌*◌, ◌/◌, ◌%◌, ◌==◌, ◌<◌, ◌≤◌, Bool, if◌then◌else◌, nat_lt, not}
+
+-- how many slots a ring can have
+abbrev pub IsDepth : ℕ → Type 0
+IsDepth depth = (1 < depth) × (depth ≤ 4096)
+
+-- what a ring keeps of a number
+unfoldable pub kept : ℕ → ℕ → ℕ
+kept depth n = n % (2 * depth)
+
+-- the slot that number n stands in
+unfoldable pub slot_of : ℕ → ℕ → ℕ
+slot_of depth n = n % depth
+
+-- whether completion n has phase tag 1
+unfoldable pub phase_of : ℕ → ℕ → Bool
+phase_of depth n = (n / depth) % 2 == 0
+
+-- the number after n
+unfoldable pub next : ℕ → ℕ → ℕ
+next depth n = (n + 1) % (2 * depth)
+
+-- how many numbers lie from b up to a
+unfoldable pub above : ℕ → ℕ → ℕ → ℕ
+above depth a b = (a + 2 * depth - b) % (2 * depth)
+
+-- how far above number n the first number in slot t lies
+unfoldable pub ahead : ℕ → ℕ → ℕ → ℕ
+ahead depth n t = (t + 2 * depth - n) % depth
+
+-- that first number
+unfoldable pub reached : ℕ → ℕ → ℕ → ℕ
+reached depth n t = (n + ahead depth n t) % (2 * depth)
+
+-- slot t is that of a number from `low` up to `high`
+abbrev pub IsSlotBetween : ℕ → ℕ → ℕ → ℕ → Type 0
+IsSlotBetween depth low high t = (t < depth) × (ahead depth low t ≤ above depth high low)
+
+-- the number that a slot in the first or the second pass stands for
+abbrev pub number_of : ℕ → ℕ → Bool → ℕ
+number_of depth slot second = if second then depth + slot else slot
+
+-- the phase tag of a slot where the numbers below n were posted: that of the greatest of them that falls
+-- on it, or 0
+unfoldable pub tag_below : ℕ → ℕ → ℕ → Bool
+tag_below depth n slot = if nat_lt slot (slot_of depth n) then phase_of depth n else not (phase_of depth n)

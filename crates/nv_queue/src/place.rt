@@ -1,0 +1,92 @@
+//! Places in a ring.
+
+ghost use Rattle.std.specs.Prelude.{◌≡◌, ◌<◌, ◌↔◌, IsTrue, false};
+ghost use Rattle.nv_queue.specs.Numbers.{IsDepth, IsSlotBetween, above, ahead, next, number_of, reached};
+
+/// A slot, and whether it is met in the second of two passes over the ring.
+#[derive(Clone, Copy, PartialEq, Eq)]
+pub struct Place {
+    pub slot: u16,
+    pub second: bool,
+}
+
+impl Place {
+    /// The place of number 0.
+    pub fn first() -> Place
+        ensures { result ≡ record { slot = 0; second = false } }
+    {
+        Place {
+            slot: 0,
+            second: false,
+        }
+    }
+
+    /// The place of the next number.
+    #[tactic(auto, using(crate::proofs::NumberLaws::step_wraps, crate::proofs::NumberLaws::step_stays))]
+    pub fn step(self, depth: u16) -> Place
+        requires depth { IsDepth depth }
+        requires within { self.slot < depth }
+        ensures number { number_of depth result.slot result.second
+            ≡ next depth (number_of depth self.slot self.second) }
+        ensures within { result.slot < depth }
+    {
+        if self.slot + 1 == depth {
+            Place {
+                slot: 0,
+                second: !self.second,
+            }
+        } else {
+            Place {
+                slot: self.slot + 1,
+                second: self.second,
+            }
+        }
+    }
+
+    /// Whether a slot is met on the way from here to a place less than the depth ahead, ends included.
+    #[tactic(auto, using(crate::proofs::NumberLaws::told_slots))]
+    pub fn meets(self, slot: u16, end: Place, depth: u16) -> bool
+        requires depth { IsDepth depth }
+        requires within { self.slot < depth }
+        requires end { end.slot < depth }
+        requires near { above depth (number_of depth end.slot end.second)
+            (number_of depth self.slot self.second) < depth }
+        ensures { IsTrue result ↔ IsSlotBetween depth (number_of depth self.slot self.second)
+            (number_of depth end.slot end.second) slot }
+    {
+        slot < depth && self.ahead(slot, depth) <= self.ahead(end.slot, depth)
+    }
+
+    /// How many places from here to the next one in a slot.
+    #[tactic(auto, using(crate::proofs::NumberLaws::ahead_behind, crate::proofs::NumberLaws::ahead_before))]
+    pub fn ahead(self, slot: u16, depth: u16) -> u16
+        requires depth { IsDepth depth }
+        requires within { self.slot < depth }
+        requires slot { slot < depth }
+        ensures { result ≡ ahead depth (number_of depth self.slot self.second) slot }
+    {
+        if slot < self.slot {
+            slot + depth - self.slot
+        } else {
+            slot - self.slot
+        }
+    }
+
+    /// The next place in a slot, this one included.
+    #[tactic(auto, using(crate::proofs::NumberLaws::reach_wraps, crate::proofs::NumberLaws::reach_stays))]
+    pub fn reach(self, slot: u16, depth: u16) -> Place
+        requires depth { IsDepth depth }
+        requires within { self.slot < depth }
+        requires slot { slot < depth }
+        ensures number { number_of depth result.slot result.second
+            ≡ reached depth (number_of depth self.slot self.second) slot }
+        ensures slot { result.slot ≡ slot }
+    {
+        let second = if slot < self.slot {
+            !self.second
+        } else {
+            self.second
+        };
+        Place { slot, second }
+    }
+}
