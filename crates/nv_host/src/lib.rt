@@ -16,7 +16,7 @@ mod tests;
 pub use error::{Memory, OutOfMemoryRange};
 pub use flat::FlatMemory;
 pub use inside::{load_inside, store_inside};
-pub use memory::{HostMemory, is_page_size};
+pub use memory::{HostMemory, is_page_size, size_of_memory};
 pub use page_set::{PageNo, PageSet};
 
 /// The laws of loads and stores: what was stored is loaded, and other bytes stay.

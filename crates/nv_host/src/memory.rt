@@ -67,3 +67,12 @@ pub fn is_page_size(size: u32) -> bool
 {
     [4096, 8192, 16384, 32768, 65536].contains(&size)
 }
+
+/// How many bytes the memory has. They fill whole pages.
+pub fn size_of_memory<M: HostMemory>(mem: &M) -> u64
+    ensures value { result ≡ length (M.bytes mem.now) }
+    ensures whole { (pages : ℕ) × (pages * M.page_len mem.now ≡ length (M.bytes mem.now)) }
+    ensures page { IsPageSize (M.page_len mem.now) }
+{
+    u64::from(mem.pages()) * u64::from(mem.page_size())
+}

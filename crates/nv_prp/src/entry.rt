@@ -2,21 +2,11 @@
 
 ghost use Rattle.std.specs.Prelude.{◌≡◌, ℕ, ◌+◌, ◌*◌, ◌<◌, ◌≤◌, ◌^◌, MatchResult, length};
 ghost use Rattle.nv_host.specs.Bytes.{with_bytes};
-ghost use Rattle.nv_host.specs.Pages.{IsPageSize};
 ghost use Rattle.nv_prp.specs.Transfer.{entry_fault, qword};
 ghost use Rattle.std.specs.Int.{to_le_bytes, w64};
 
 use crate::PrpError;
-use nv_host::{HostMemory, load_inside, store_inside};
-
-/// The size of the memory in bytes.
-fn size_of_memory<M: HostMemory>(mem: &M) -> u64
-    ensures value { result ≡ length (M.bytes mem.now) }
-    ensures whole { (pages : ℕ) × (pages * M.page_len mem.now ≡ length (M.bytes mem.now)) }
-    ensures page { IsPageSize (M.page_len mem.now) }
-{
-    u64::from(mem.pages()) * u64::from(mem.page_size())
-}
+use nv_host::{HostMemory, load_inside, size_of_memory, store_inside};
 
 /// Whether an entry is a multiple of its alignment and its page lies in the memory.
 pub fn check<M: HostMemory>(mem: &M, alignment: u32, entry: u64) -> Result<(), PrpError>

@@ -1,6 +1,6 @@
 use Rattle.std.proofs.Common.{subst}
 use Rattle.nv_host.specs.Pages.{IsPageSize}
-use Rattle.nv_prp.proofs.entry.size_of_memory.Goals as goal
+use Rattle.nv_host.proofs.memory.size_of_memory.Goals as goal
 
 pub returns-clause-whole : goal.returns-clause-whole
 returns-clause-whole g c = (c.pages.result, c.pages.ensures)
