@@ -1,6 +1,6 @@
 //! A host's memory in one vector.
 
-ghost use Rattle.std.specs.Prelude.{◌≡◌, ◌*◌, IfOk, length, refl, replicate, take};
+ghost use Rattle.std.specs.Prelude.{◌≡◌, ◌+◌, ◌*◌, ◌≤◌, ◌↔◌, IfOk, IsOk, length, refl, replicate, take};
 ghost use Rattle.nv_host.specs.Bytes.{with_bytes};
 ghost use Rattle.nv_host.specs.BytesLaws.{page_within, take-with_bytes};
 ghost use Rattle.nv_host.specs.Pages.{IsPageSize};
@@ -45,6 +45,18 @@ impl FlatMemory {
             Err(_) => Err(Memory),
         }
     }
+
+    /// Where a range of the memory's bytes ends.
+    fn end_of_range(&self, addr: u64, len: usize) -> Result<usize, OutOfMemoryRange>
+        ensures inside { IsOk result ↔ (addr + len ≤ length self.now.bytes) }
+        ensures value { IfOk result (λ end. end ≡ addr + len) }
+    {
+        let size = self.bytes.len() as u64;
+        if addr > size || len as u64 > size - addr {
+            return Err(OutOfMemoryRange);
+        }
+        Ok(addr as usize + len)
+    }
 }
 
 #[tactic(auto, unfolding(crate::specs::Bytes::bytes_at, crate::specs::Bytes::with_bytes))]
@@ -68,24 +80,14 @@ impl HostMemory for FlatMemory {
     }
 
     fn load(&self, addr: u64, out: &mut [u8]) -> Result<(), OutOfMemoryRange> {
-        let size = self.bytes.len();
-        let start = addr as usize;
-        if start > size || out.len() > size - start {
-            return Err(OutOfMemoryRange);
-        }
-        let end = start + out.len();
-        out.copy_from_slice(&self.bytes[start..end]);
+        let end = self.end_of_range(addr, out.len())?;
+        out.copy_from_slice(&self.bytes[addr as usize..end]);
         Ok(())
     }
 
     fn store(&mut self, addr: u64, source: &[u8]) -> Result<(), OutOfMemoryRange> {
-        let size = self.bytes.len();
-        let start = addr as usize;
-        if start > size || source.len() > size - start {
-            return Err(OutOfMemoryRange);
-        }
-        let end = start + source.len();
-        self.bytes[start..end].copy_from_slice(source);
+        let end = self.end_of_range(addr, source.len())?;
+        self.bytes[addr as usize..end].copy_from_slice(source);
         Ok(())
     }
 
