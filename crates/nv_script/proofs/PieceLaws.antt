@@ -7,24 +7,12 @@ use Rattle.std.specs.Prelude.{Option, Some, None, nat_le}
 use Rattle.nv_subsystem.specs.State.{State}
 use Rattle.nv_script.specs.Ends.{joined_lines}
 use Rattle.nv_script.specs.Results.{after, start, whole}
-use Rattle.nv_script.specs.ScriptLines.{Pieces, as_line, begun, held, held_more, pieces, script_lines, with_byte}
-
-with-newline : (p : Pieces) (b : ℕ) → b ≡ 10 → with_byte p b ≡ record { ended = p.ended ++ p.last ∷ []; last = [] }
-with-newline p b e = subst (λ n. with_byte p n ≡ record { ended = p.ended ++ p.last ∷ []; last = [] }) (sym e) refl
-
-with-other : (p : Pieces) (b : ℕ) → b ≢ 10 → with_byte p b ≡ record { ended = p.ended; last = p.last ++ b ∷ [] }
-with-other p b n = at_test (eqb b 10) (grind (arith, nat_tests))
-  where
-    at_test : (t : Bool) → t ≡ false → ◌≡◌ {A = Pieces} (cond t (record { ended = p.ended ++ p.last ∷ []; last = [] }) (record { ended = p.ended; last = p.last ++ b ∷ [] })) (record { ended = p.ended; last = p.last ++ b ∷ [] })
-    at_test true e = cc
-    at_test false e = refl
+use Rattle.nv_script.specs.ScriptLines.{Pieces, as_line, held, held_more, pieces, script_lines}
+use Rattle.nv_script.proofs.PieceSteps.{pieces-append, with-newline, with-other, with_byte}
 
 -- a piece of which one byte more was read
 pub taken-more : (bytes piece : List ℕ) (i : ℕ) → i < length piece → bytes ++ take (i + 1) piece ≡ (bytes ++ take i piece) ++ get_or piece i 0 ∷ []
 taken-more bytes piece i h = ap (λ t. bytes ++ t) (take_more piece i 0 h) ∙ sym (append_assoc bytes (take i piece) (get_or piece i 0 ∷ []))
-
-pieces-append : (xs ys : List ℕ) → pieces (xs ++ ys) ≡ fold with_byte (pieces xs) ys
-pieces-append xs ys = fold-append with_byte (begun []) xs ys
 
 -- a newline ends a line; any other byte is of the line
 pub pieces-newline : (xs : List ℕ) (b : ℕ) → b ≡ 10 → pieces (xs ++ b ∷ []) ≡ record { ended = (pieces xs).ended ++ (pieces xs).last ∷ []; last = [] }
@@ -126,4 +114,4 @@ length-fed p (b ∷ bytes) =
 
 -- the pieces are the bytes
 pub length-pieces : (bytes : List ℕ) → length (joined_lines (pieces bytes).ended) + length (pieces bytes).last ≡ length bytes
-length-pieces bytes = omega (arith, length-fed (begun []) bytes)
+length-pieces bytes = subst (λ p. length (joined_lines p.ended) + length p.last ≡ length bytes) (sym (pieces-append [] bytes)) (omega (arith, length-fed (pieces []) bytes))

@@ -1,22 +1,23 @@
 -- The lines of a script.
-use Rattle.std.specs.Prelude.{ℕ, List, [], ◌∷◌, ◌++◌, length, ◌==◌, nat_le, if◌then◌else◌, Option, None, Some, fold}
+use Rattle.std.specs.Prelude.{ℕ, List, [], ◌∷◌, ◌++◌, length, nat_le, if◌then◌else◌, Option, None, Some}
+use Rattle.std.specs.Char.{is_newline}
+use Rattle.std.specs.List.{slice_split}
 
 -- bytes cut at their newlines: the lines that a newline ended, and what follows the last newline
 pub record Pieces : Type 0 where
   pub ended : List (List ℕ)
   pub last : List ℕ
 
-abbrev pub with_byte : Pieces → ℕ → Pieces
-with_byte p b =
-    if b == 10
-    then record { ended = p.ended ++ p.last ∷ []; last = [] }
-    else record { ended = p.ended; last = p.last ++ b ∷ [] }
-
-abbrev pub begun : List ℕ → Pieces
-begun last = record { ended = []; last = last }
+-- parts, with the last of them set apart
+abbrev pub last_apart : List (List ℕ) → Pieces
+last_apart [] = record { ended = []; last = [] }
+last_apart (part ∷ []) = record { ended = []; last = part }
+last_apart (part ∷ next ∷ parts) =
+    let rest = last_apart (next ∷ parts) in
+    record { ended = part ∷ rest.ended; last = rest.last }
 
 abbrev pub pieces : List ℕ → Pieces
-pieces bytes = fold with_byte (begun []) bytes
+pieces bytes = last_apart (slice_split is_newline bytes)
 
 -- a last piece without newline is a line if it isn't empty
 abbrev pub as_line : List ℕ → List (List ℕ)
