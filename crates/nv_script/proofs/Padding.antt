@@ -1,8 +1,9 @@
 -- A number on the right of some places.
-use Rattle.std.proofs.Common.{◌≡◌, ◌∙◌, ℕ, ◌-◌, ◌^◌, zero, suc, ap, refl, arith, false, List, [], ◌∷◌, ◌++◌, append-nil, length}
-use Rattle.std.specs.Prelude.{replicate}
+use Rattle.std.proofs.Common.{◌≡◌, ◌∙◌, ℕ, ◌-◌, ◌^◌, zero, suc, ap, cond, refl, arith, Bool, false, true, List, [], ◌∷◌, ◌++◌, append-nil, length}
+use Rattle.std.specs.Prelude.{◌&&◌, ◌==◌, replicate}
+use Rattle.std.proofs.lemmas.Bool.Decides.{nat_tests}
 use Rattle.std.specs.List.{repeat}
-use Rattle.std.specs.Fmt.{char_count, format_spec, padded_integral, before_digits, fill_after_digits, fill_text, number_padding}
+use Rattle.std.specs.Fmt.{char_count, decimal, format_spec, padded_integral, styled_decimal, before_digits, fill_after_digits, fill_text, number_padding}
 use lib.Utf8.{encode}
 use Rattle.nv_script.specs.Texts.{right}
 
@@ -23,3 +24,13 @@ right_aligned width ds =
     ∙ ap (λ k. before_digits s false [] (length ds) ++ (ds ++ fill_text s k)) none
     ∙ ap (λ t. before_digits s false [] (length ds) ++ t) (append-nil ds)
     ∙ ap (λ t. t ++ ds) (front ∙ bare ∙ ap (λ k. repeat k (32 ∷ [])) pad ∙ repeated (width - length ds) 32)
+
+-- the same of a number, also where no place is wanted
+pub right_decimal : (width n : ℕ) → styled_decimal (format_spec 32 3 0 width (2 ^ 64 - 1)) n ≡ right width (decimal n)
+right_decimal width n = at_test (width == 0) refl
+  where
+    at_test : (t : Bool) → (width == 0) ≡ t → cond ((t && true) && true) (decimal n) (padded_integral (format_spec 32 3 0 width (2 ^ 64 - 1)) false [] (decimal n)) ≡ right width (decimal n)
+    at_test true e =
+        let none : 0 ≡ width - length (decimal n) = grind (arith, nat_tests) in
+        ap (λ (k : ℕ). replicate {A = ℕ} k 32 ++ decimal n) none
+    at_test false e = right_aligned width (decimal n)

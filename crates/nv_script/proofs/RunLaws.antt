@@ -2,8 +2,11 @@
 use Rattle.std.proofs.Common.{◌≡◌, ◌∙◌, ℕ, ◌+◌, ◌<◌, ◌≤◌, List, [], ◌∷◌, ◌++◌, length, take, sym, ap, subst, refl, append-nil, arith, Option, None, Some, Err}
 use Rattle.std.specs.Prelude.{IfSome, replicate}
 use Rattle.std.specs.Io.KnownBytes.{Appends, Consumes, IsAtEnd}
-use Rattle.std.proofs.lemmas.List.{length-append, length-take-le}
+use Rattle.std.proofs.lemmas.List.{length-append, length-replicate, length-take-le, take-replicate}
+use Rattle.std.proofs.lemmas.List.Elements.{All-replicate}
 use Rattle.nv_subsystem.specs.State.{State}
+use Rattle.nv_subsystem.specs.WellFormed.{IsWellFormed}
+use Rattle.nv_script.specs.Asking.{IsReady}
 use Rattle.nv_script.specs.Ends.{CutAhead, Holds, HoldsWhole, LastLeaves, Leaves, Left, PieceLeaves, ReadsAhead, Stands, WasRead, joined_lines}
 use Rattle.nv_script.specs.Results.{Progress, whole}
 use Rattle.nv_script.specs.ScriptLines.{as_line, pieces, script_lines}
@@ -27,7 +30,22 @@ pub ends_whole : (s : State) (bytes : List ℕ) (q : Progress) (left : Left) (se
 ends_whole s bytes q left serials at e h =
     (ap (λ (x : Position). x.status) h.place ∙ ap (λ (x : Progress). x.status) (sym e), subst (λ (x : Progress). Holds left x.output x.messages x.state) (sym e) h.holds)
 
--- before the first line
+-- before the first line the serials are 0
+pub serials_first : (s : State) (n : ℕ) → IsWellFormed s → n ≡ length s.controllers → take {A = ℕ} n (replicate 16 0) ≡ replicate (length s.controllers) 0
+serials_first s n well_formed e = take-replicate n 16 0 (omega (arith, well_formed.controller_count.1, e)) ∙ ap (λ k. replicate k 0) e
+
+pub ready_first : (s : State) (serials : List ℕ) → IsWellFormed s → serials ≡ replicate (length s.controllers) 0 → IsReady s serials
+ready_first s serials well_formed e = subst (IsReady s) (sym e) (record {
+  well_formed = well_formed;
+  each = length-replicate (length s.controllers) 0;
+  below = All-replicate (λ n. n < 65535) (length s.controllers) 0 (omega arith);
+})
+
+-- and nothing is read
+pub read_first : (script : Option (List ℕ)) (given : ℕ) → given ≡ 0 → WasRead script script given []
+read_first None given e = record { told = tt; counted = sym e }
+read_first (Some xs) given e = record { told = refl; counted = sym e }
+
 pub stands_first : (s : State) (left : Left) (serials : List ℕ) → left.out ≡ left.out_before → left.messages ≡ left.messages_before → left.state ≡ s → serials ≡ replicate (length s.controllers) 0
     → Stands (whole s (pieces []).ended) left serials (record { number = 0; status = 0 })
 stands_first s left serials eo em es er = record {

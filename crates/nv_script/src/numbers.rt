@@ -31,16 +31,22 @@ fn numeral(text: &str) -> Option<u64>
     digits(text, 10)
 }
 
-/// A number from `least` to `most`.
-pub fn number(text: &str, least: u64, most: u64) -> Option<u64>
-    ensures { result ≡ number_in least most text.now }
+/// The value, if it is from `least` to `most`.
+fn within(least: u64, most: u64, value: u64) -> Option<u64>
+    ensures { result ≡ within least most value }
 {
-    let value = numeral(text)?;
     if least <= value && value <= most {
         Some(value)
     } else {
         None
     }
+}
+
+/// A number from `least` to `most`.
+pub fn number(text: &str, least: u64, most: u64) -> Option<u64>
+    ensures { result ≡ number_in least most text.now }
+{
+    within(least, most, numeral(text)?)
 }
 
 /// A number from `least` to `most`, in decimal and without leading zeros.
@@ -51,10 +57,5 @@ pub fn plain(text: &str, least: u64, most: u64) -> Option<u64>
     if bytes.len() > 1 && bytes[0] == b'0' {
         return None;
     }
-    let value = digits(text, 10)?;
-    if least <= value && value <= most {
-        Some(value)
-    } else {
-        None
-    }
+    within(least, most, digits(text, 10)?)
 }

@@ -73,64 +73,6 @@ fn finish<D: Direct, O: Sink, M: Sink>(
     Ok(at.status)
 }
 
-/// Runs a script in pieces of at most 4,096 bytes, with at most this many read calls, from these serials.
-fn run_pieces<D: Direct, R: Source, O: Sink, M: Sink>(
-    alloc: Global,
-    direct: &mut D,
-    serials: &mut [u16],
-    script: &mut R,
-    out: &mut O,
-    messages: &mut M,
-    reads: u32,
-) -> RunEnd
-    requires ready { IsReady (D.state direct.old) serials.old }
-    requires serials { serials.old ≡ replicate (length (D.state direct.old).controllers) 0 }
-    requires fresh_script { R.has_failed script.old ≡ false }
-    requires no_call { R.calls script.old ≡ 0 }
-    requires no_byte { R.given script.old ≡ 0 }
-    requires fresh_out { O.has_failed out.old ≡ false }
-    requires fresh_messages { M.has_failed messages.old ≡ false }
-    requires some_read { 0 < reads }
-    ensures headline { Headline result (D.state direct.old) (R.to_come script.old)
-        (left_at (O.taken out.old) (O.taken out.new) (M.taken messages.old) (M.taken messages.new) (D.state direct.new)) }
-    ensures left { (bytes : List ℕ) × WasRead (R.to_come script.old) (R.to_come script.new) (R.given script.new) bytes
-        × Leaves result (D.state direct.old) bytes
-        (left_at (O.taken out.old) (O.taken out.new) (M.taken messages.old) (M.taken messages.new) (D.state direct.new)) }
-    ensures read { IsReadFor result (R.to_come script.new) }
-    ensures end { IsEndOf result (R.has_failed script.new || R.calls script.new == reads) (O.has_failed out.new) (M.has_failed messages.new) }
-    ensures ahead { (bytes : List ℕ) × WasRead (R.to_come script.old) (R.to_come script.new) (R.given script.new) bytes
-        × ReadsAhead result (D.state direct.old) bytes
-        (left_at (O.taken out.old) (O.taken out.new) (M.taken messages.old) (M.taken messages.new) (D.state direct.new)) }
-{
-    let mut at = Position {
-        number: 0,
-        status: 0,
-    };
-    let mut line = LineBuffer::new();
-    let mut piece = [0u8; 4096];
-    for call in 0..reads {
-        let Some(count) = script.read(&mut piece) else {
-            return RunEnd::Read;
-        };
-        if count == 0 {
-            if call + 1 == reads {
-                return RunEnd::Read;
-            }
-            return match finish(alloc, direct, serials, out, messages, &mut at, &line) {
-                Ok(status) => RunEnd::Status(status),
-                Err(end) => end,
-            };
-        }
-        let piece = &piece[..count];
-        if let Err(end) = feed(
-            alloc, direct, serials, out, messages, &mut at, &mut line, piece,
-        ) {
-            return end;
-        }
-    }
-    RunEnd::Read
-}
-
 /// Runs a script with at most this many read calls: each line is executed as soon as its newline is read.
 fn run_within<D: Direct, R: Source, O: Sink, M: Sink>(
     alloc: Global,
@@ -161,7 +103,33 @@ fn run_within<D: Direct, R: Source, O: Sink, M: Sink>(
     let mut serials = [0u16; 16];
     let controllers = direct.controllers() as usize;
     let serials = &mut serials[..controllers];
-    run_pieces(alloc, direct, serials, script, out, messages, reads)
+    let mut at = Position {
+        number: 0,
+        status: 0,
+    };
+    let mut line = LineBuffer::new();
+    let mut piece = [0u8; 4096];
+    for call in 0..reads {
+        let Some(count) = script.read(&mut piece) else {
+            return RunEnd::Read;
+        };
+        if count == 0 {
+            if call + 1 == reads {
+                return RunEnd::Read;
+            }
+            return match finish(alloc, direct, serials, out, messages, &mut at, &line) {
+                Ok(status) => RunEnd::Status(status),
+                Err(end) => end,
+            };
+        }
+        let piece = &piece[..count];
+        if let Err(end) = feed(
+            alloc, direct, serials, out, messages, &mut at, &mut line, piece,
+        ) {
+            return end;
+        }
+    }
+    RunEnd::Read
 }
 
 /// Runs a script on a subsystem: its lines in order, each executed as soon as its newline is read, with the

@@ -24,35 +24,23 @@ impl fmt::Display for Hexadecimal {
     }
 }
 
-/// An index on the right of four places.
+/// An index on the right of so many places.
 #[derive(Clone, Copy)]
-struct Index(usize);
+struct Index {
+    index: usize,
+    width: usize,
+}
 
 impl fmt::Display for Index {
     ghost use Rattle.std.specs.Prelude.{Some};
     ghost use Rattle.std.specs.Fmt.{decimal};
     ghost use Rattle.nv_script.specs.Texts.{right};
 
-    ghost output = { λ index. Some (right 4 (decimal index.0)) };
+    ghost output = { λ index. Some (right index.width (decimal index.index)) };
 
     fn fmt<W: fmt::Write>(&self, f: &mut fmt::Formatter<W>) -> fmt::Result {
-        write!(f, "{:>4}", self.0)
-    }
-}
-
-/// An index on the right of two places.
-#[derive(Clone, Copy)]
-struct FormatIndex(usize);
-
-impl fmt::Display for FormatIndex {
-    ghost use Rattle.std.specs.Prelude.{Some};
-    ghost use Rattle.std.specs.Fmt.{decimal};
-    ghost use Rattle.nv_script.specs.Texts.{right};
-
-    ghost output = { λ index. Some (right 2 (decimal index.0)) };
-
-    fn fmt<W: fmt::Write>(&self, f: &mut fmt::Formatter<W>) -> fmt::Result {
-        write!(f, "{:>2}", self.0)
+        let Index { index, width } = *self;
+        write!(f, "{index:>width$}")
     }
 }
 
@@ -70,7 +58,10 @@ impl fmt::Display for NsidLine {
     ghost output = { λ line. Some (nsid_line line.index line.nsid) };
 
     fn fmt<W: fmt::Write>(&self, f: &mut fmt::Formatter<W>) -> fmt::Result {
-        let index = Index(self.index);
+        let index = Index {
+            index: self.index,
+            width: 4,
+        };
         let nsid = Hexadecimal(u64::from(self.nsid));
         write!(f, "[{index}]:{nsid}\n")
     }
@@ -92,7 +83,7 @@ pub fn list_text(alloc: Global, list: &NsList) -> Result<String, AllocError>
     Ok(text)
 }
 
-/// A format of a namespace with its index, and whether it is in use.
+/// A format of a namespace with its index, and the index of the one in use.
 #[derive(Clone, Copy)]
 struct LbafLine {
     index: usize,
@@ -107,7 +98,10 @@ impl fmt::Display for LbafLine {
     ghost output = { λ line. Some (lbaf_line line.in_use line.index line.lbaf) };
 
     fn fmt<W: fmt::Write>(&self, f: &mut fmt::Formatter<W>) -> fmt::Result {
-        let index = FormatIndex(self.index);
+        let index = Index {
+            index: self.index,
+            width: 2,
+        };
         let Lbaf { ms, lbads, rp } = self.lbaf;
         let in_use = if self.in_use == self.index {
             " (in use)"

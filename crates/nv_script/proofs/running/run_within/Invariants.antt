@@ -3,7 +3,7 @@ use Rattle.nv_script.specs.Asking.{IsReady}
 use Rattle.nv_script.specs.Ends.{Stands, WasRead, left_at}
 use Rattle.nv_script.specs.Results.{whole}
 use Rattle.nv_script.specs.ScriptLines.{held, pieces}
-use Rattle.nv_script.proofs.running.run_pieces.Given as goal
+use Rattle.nv_script.proofs.running.run_within.Given as goal
 
 abbrev pub invariant-loop-call : goal.invariant-loop-call
 invariant-loop-call g l = record {

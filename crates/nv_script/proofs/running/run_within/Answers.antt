@@ -1,9 +1,9 @@
-use Rattle.std.proofs.Common.{◌∙◌, ◌≤◌, ◌<◌, ◌++◌, ◌||◌, ap, arith, false, length, take}
+use Rattle.std.proofs.Common.{◌∙◌, ◌≤◌, ◌<◌, ◌++◌, ◌||◌, [], ap, arith, false, length, refl, take}
 use Rattle.std.proofs.lemmas.List.{length-take-le}
 use Rattle.nv_script.specs.Ends.{Leaves, left_at}
 use Rattle.nv_script.specs.declared.ends.RunEnd.TheVariants.{Status}
-use Rattle.nv_script.proofs.RunLaws.{cut_ahead, cut_leaves, last_cut, piece_cut, read_more, read_none, read_whole}
-use Rattle.nv_script.proofs.running.run_pieces.Goals as goal
+use Rattle.nv_script.proofs.RunLaws.{cut_ahead, cut_leaves, last_cut, piece_cut, read_first, read_more, read_none, read_whole, ready_first, serials_first, stands_first}
+use Rattle.nv_script.proofs.running.run_within.Goals as goal
 
 pub returns-in-Ok-clause-left : goal.returns-in-Ok-clause-left
 returns-in-Ok-clause-left g c =
@@ -78,5 +78,26 @@ loop-call-preserved g c =
         read_more _ _ _ _ _ run.0 c.read.new.buf c.in-Some.count run.1 c.in-Some.ensures.bytes.0 c.in-Some.ensures.bound c.in-Some.ensures.count,
         fed.0,
         fed.1,
+      );
+    }
+
+pub loop-call-init : goal.loop-call-init
+loop-call-init g c =
+    let s = g.D.Direct.state c.args.direct.now in
+    let serials = serials_first s c.controllers-controllers.result c.requires.well_formed c.controllers-controllers.ensures in
+    record {
+      going = c.requires.fresh_script;
+      calls = c.requires.no_call;
+      few = omega (arith, c.requires.no_byte);
+      room = refl;
+      numbered = omega arith;
+      out_ready = c.requires.fresh_out;
+      messages_ready = c.requires.fresh_messages;
+      ready = ready_first s _ c.requires.well_formed serials;
+      run = (
+        [],
+        read_first (g.R.Source.to_come c.args.script.now) (g.R.Source.given c.args.script.now) c.requires.no_byte,
+        c.new-line.ensures,
+        stands_first s _ _ refl refl refl serials,
       );
     }
