@@ -7,13 +7,10 @@ use std::alloc::Global;
 
 /// The subsystem file that the arguments name; the first word is the program.
 pub fn subsystem_file<'a>(alloc: Global, words: &'a [&'a str]) -> Result<Option<&'a str>, Stop> {
-    let Ok(command) = Command::new(alloc, "nvme-script").arg(
-        Arg::new(alloc, "subsystem")
-            .long("subsystem")
-            .action(ArgAction::Set),
-    ) else {
-        return Err(Stop::Memory);
-    };
+    let option = Arg::new(alloc, "subsystem")
+        .long("subsystem")
+        .action(ArgAction::Set);
+    let command = Command::new(alloc, "nvme-script").arg(option)?;
     match command.try_get_matches_from(words) {
         Ok(matches) => Ok(matches.get_str("subsystem")),
         Err(error) => match error.kind() {

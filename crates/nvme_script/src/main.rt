@@ -12,35 +12,30 @@ use nv_script::{OverRead, OverWrite, Straight, run};
 use nv_subsystem::{DEMO, Subsystem};
 use std::alloc::Global;
 use std::fs;
-use std::io::{self, BufWriter, Read, Write};
+use std::io::{self, BufWriter, ErrorKind, Read, Write};
 use std::process::ExitCode;
 use stop::{Stop, status_of};
 
 /// The longest subsystem file in bytes.
-const MOST_BYTES: usize = 1_048_576;
+const MOST_BYTES: u64 = 1_048_576;
+
+/// Why a file could not be read.
+fn file_fault(error: io::Error) -> Stop {
+    match error.kind() {
+        ErrorKind::OutOfMemory => Stop::Memory,
+        _ => Stop::Unreadable,
+    }
+}
 
 /// The bytes of a file.
 fn bytes_of(rt: &HostRuntime, path: &str) -> Result<Vec<u8>, Stop> {
-    let Ok(mut file) = fs::open(rt, path) else {
-        return Err(Stop::Unreadable);
-    };
+    let mut file = fs::open(rt, path).map_err(file_fault)?.take(MOST_BYTES + 1);
     let mut bytes = Vec::new(rt.alloc());
-    let mut piece = [0u8; 4096];
-    for _ in 0..=MOST_BYTES {
-        let Ok(count) = file.read(&mut piece) else {
-            return Err(Stop::Unreadable);
-        };
-        if count == 0 {
-            return Ok(bytes);
-        }
-        if bytes.len() + count > MOST_BYTES {
-            return Err(Stop::Unreadable);
-        }
-        if bytes.extend_from_slice(&piece[..count]).is_err() {
-            return Err(Stop::Memory);
-        }
+    let count = file.read_to_end(&mut bytes).map_err(file_fault)?;
+    if count as u64 > MOST_BYTES {
+        return Err(Stop::Unreadable);
     }
-    Err(Stop::Unreadable)
+    Ok(bytes)
 }
 
 /// The subsystem of these bytes.
@@ -72,16 +67,8 @@ fn subsystem(rt: &HostRuntime) -> Result<Subsystem, Stop>
     let Ok(arguments) = std::env::args(rt) else {
         return Err(Stop::Memory);
     };
-    let Ok(texts) = arguments.collect(alloc) else {
-        return Err(Stop::Memory);
-    };
-    let texts: Vec<String> = texts;
-    let mut words = Vec::new(alloc);
-    for text in &texts {
-        if words.push(text.as_str()).is_err() {
-            return Err(Stop::Memory);
-        }
-    }
+    let texts: Vec<String> = arguments.collect(alloc)?;
+    let words: Vec<&str> = texts.iter().map(|text| text.as_str()).collect(alloc)?;
     let path = subsystem_file(alloc, words.as_slice())?;
     read_subsystem(rt, path)
 }

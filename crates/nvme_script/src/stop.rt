@@ -1,7 +1,11 @@
 //! Why the program stops, and the exit status that it stops with.
 
+ghost use Rattle.std.specs.Prelude.{◌≡◌};
+ghost use Rattle.nvme_script.specs.Stops.{ended, exit_status};
+
 use nv_script::RunEnd;
 use nv_subsystem::SubsystemError;
+use std::alloc::AllocError;
 use thiserror::Error;
 
 /// Why a run didn't come to the end of its script.
@@ -26,7 +30,9 @@ pub enum Stop {
 
 impl Stop {
     /// The exit status.
-    pub fn status(self) -> u8 {
+    pub fn status(self) -> u8
+        ensures { result ≡ exit_status self }
+    {
         match self {
             Stop::Arguments | Stop::Unreadable | Stop::Subsystem(_) => 3,
             Stop::Read => 4,
@@ -45,8 +51,16 @@ impl From<SubsystemError> for Stop {
     }
 }
 
+impl From<AllocError> for Stop {
+    fn from(_: AllocError) -> Stop {
+        Stop::Memory
+    }
+}
+
 /// The status of a run that came to the end of its script, or why it stopped.
-pub fn status_of(end: RunEnd) -> Result<u8, Stop> {
+pub fn status_of(end: RunEnd) -> Result<u8, Stop>
+    ensures { result ≡ ended end }
+{
     match end {
         RunEnd::Status(status) => Ok(status),
         RunEnd::Read => Err(Stop::Read),

@@ -1,0 +1,22 @@
+-- Why the program stops, and the exit status that it stops with.
+use Rattle.std.specs.Prelude.{ℕ, Result, Ok, Err}
+use Rattle.nv_script.specs.declared.ends.RunEnd.{RunEnd}
+use Rattle.nv_script.specs.declared.ends.RunEnd.TheVariants as end
+use Rattle.nvme_script.specs.declared.stop.Stop.{Stop}
+use Rattle.nvme_script.specs.declared.stop.Stop.TheVariants as stop
+
+abbrev pub exit_status : Stop → ℕ
+exit_status stop.Arguments = 3
+exit_status stop.Unreadable = 3
+exit_status (stop.Subsystem e) = 3
+exit_status stop.Read = 4
+exit_status stop.Write = 5
+exit_status stop.Memory = 6
+
+-- the status of a run that came to the end of its script, or why it stopped
+abbrev pub ended : RunEnd → Result ℕ Stop
+ended (end.Status status) = Ok status
+ended end.Read = Err stop.Read
+ended end.OutWrite = Err stop.Write
+ended end.MessageWrite = Err stop.Write
+ended end.Memory = Err stop.Memory
