@@ -1,0 +1,146 @@
+//! A transfer of 1 MiB in a memory of its own, and the times of its calls.
+
+ghost use Rattle.std.specs.Prelude.{◌≡◌, ◌∷◌, length};
+ghost use Rattle.nv_host.specs.Pages.{IsPageSize};
+ghost use Rattle.nv_prp.specs.Buffers.{IsBuffer, IsListPlace};
+ghost use Rattle.nv_prp.specs.Places.{AreDistinct, LieIn, places};
+
+use crate::pages::buffer_pages;
+use crate::times::{LENGTH, ROUNDS, Times};
+use nv_host::{FlatMemory, HostMemory};
+use nv_prp::{Buffer, ListPlace, Spans, build, build_then_walk, copy_in, copy_out, walk};
+use std::io::{self, ErrorKind};
+use std::time::{Duration, Instant};
+
+/// The most pages that a transfer can have.
+const MOST_PAGES: u32 = 257;
+
+/// What was measured of a transfer.
+#[derive(Clone, Copy)]
+pub struct Measured {
+    pub spans: usize,
+    pub times: Times,
+}
+
+/// Measures a transfer of 1 MiB that begins 4 bytes after a page's first one.
+pub fn measure(rt: &HostRuntime, page_size: u32) -> io::Result<Measured>
+    requires { IsPageSize page_size }
+{
+    let alloc = rt.alloc();
+    let pages = buffer_pages(alloc, MOST_PAGES)?;
+    let Ok(mut mem) = FlatMemory::new(alloc, page_size, MOST_PAGES + 2) else {
+        return Err(io::Error::from(ErrorKind::OutOfMemory));
+    };
+    let buffer = Buffer {
+        pages: pages.as_slice(),
+        offset: 4,
+    };
+    let list = ListPlace {
+        first: 0,
+        second: 1,
+        offset: 0,
+    };
+    measure_calls(rt, &mut mem, &buffer, &list)
+}
+
+/// Measures the calls of a transfer.
+fn measure_calls<M: HostMemory>(
+    rt: &HostRuntime,
+    mem: &mut M,
+    buffer: &Buffer,
+    list: &ListPlace,
+) -> io::Result<Measured>
+    requires buffer { IsBuffer (M.bytes mem.old) (M.page_len mem.old) buffer.now.pages.now buffer.now.offset 1048576 }
+    requires list { IsListPlace (M.bytes mem.old) (M.page_len mem.old) list.now.first list.now.second list.now.offset }
+    requires distinct { AreDistinct (list.now.first ∷ list.now.second ∷ buffer.now.pages.now) }
+{
+    let source = vec![in rt.alloc(); 7u8; LENGTH as usize]?;
+    let mut read = vec![in rt.alloc(); 0u8; LENGTH as usize]?;
+    let build_time = time_builds(rt, mem, buffer, list)?;
+    let (prp1, prp2) = build(mem, buffer, list, LENGTH);
+    let walk_time = time_walks(rt, mem, prp1, prp2)?;
+    let mut spans = Spans::new();
+    build_then_walk(mem, buffer, list, LENGTH, &mut spans);
+    let copy_out_time = time_copies_out(rt, mem, &spans, &source)?;
+    let copy_in_time = time_copies_in(rt, mem, &spans, &mut read)?;
+    let times = Times {
+        build: build_time,
+        walk: walk_time,
+        copy_out: copy_out_time,
+        copy_in: copy_in_time,
+    };
+    Ok(Measured {
+        spans: spans.as_slice().len(),
+        times,
+    })
+}
+
+/// What it takes to build the transfer so many times.
+fn time_builds<M: HostMemory>(
+    rt: &HostRuntime,
+    mem: &mut M,
+    buffer: &Buffer,
+    list: &ListPlace,
+) -> io::Result<Duration>
+    requires buffer { IsBuffer (M.bytes mem.old) (M.page_len mem.old) buffer.now.pages.now buffer.now.offset 1048576 }
+    requires list { IsListPlace (M.bytes mem.old) (M.page_len mem.old) list.now.first list.now.second list.now.offset }
+    requires distinct { AreDistinct (list.now.first ∷ list.now.second ∷ buffer.now.pages.now) }
+    ensures len { length (M.bytes mem.new) ≡ length (M.bytes mem.old) }
+    ensures page { M.page_len mem.new ≡ M.page_len mem.old }
+{
+    let start = Instant::now(rt)?;
+    for round in 0..ROUNDS {
+        let _ = build(mem, buffer, list, LENGTH);
+    }
+    start.elapsed(rt)
+}
+
+/// What it takes to walk a transfer so many times.
+fn time_walks<M: HostMemory>(
+    rt: &HostRuntime,
+    mem: &M,
+    prp1: u64,
+    prp2: u64,
+) -> io::Result<Duration> {
+    let mut spans = Spans::new();
+    let start = Instant::now(rt)?;
+    for round in 0..ROUNDS {
+        let _ = walk(mem, prp1, prp2, LENGTH, &mut spans);
+    }
+    start.elapsed(rt)
+}
+
+/// What it takes to copy bytes to the spans so many times.
+fn time_copies_out<M: HostMemory>(
+    rt: &HostRuntime,
+    mem: &mut M,
+    spans: &Spans,
+    source: &[u8],
+) -> io::Result<Duration>
+    requires inside { LieIn (length (M.bytes mem.old)) spans.now }
+    requires len { length (places spans.now) ≡ length source.now }
+    ensures len { length (M.bytes mem.new) ≡ length (M.bytes mem.old) }
+{
+    let start = Instant::now(rt)?;
+    for round in 0..ROUNDS {
+        copy_out(mem, spans, source);
+    }
+    start.elapsed(rt)
+}
+
+/// What it takes to copy bytes from the spans so many times.
+fn time_copies_in<M: HostMemory>(
+    rt: &HostRuntime,
+    mem: &M,
+    spans: &Spans,
+    out: &mut [u8],
+) -> io::Result<Duration>
+    requires inside { LieIn (length (M.bytes mem.now)) spans.now }
+    requires len { length (places spans.now) ≡ length out.old }
+{
+    let start = Instant::now(rt)?;
+    for round in 0..ROUNDS {
+        copy_in(mem, spans, out);
+    }
+    start.elapsed(rt)
+}
