@@ -1,102 +1,236 @@
 //! Subsystem files with one edit, and what is said of each.
 
 use nv_subsystem::{DEMO, Subsystem};
+use std::alloc::Global;
+use std::process::Abort;
 use std::test::Fail;
 
-#[test]
-fn tells_the_first_fault(rt: HostRuntime) -> Result<(), Fail> {
-    for (old, new, want) in [
-        (DEMO, "=", "not TOML"),
-        ("nn = 4\n", "", "missing top.nn"),
-        ("nn = 4\n", "nn = \"4\"\n", "wrong kind top.nn"),
-        ("nn = 4\n", "nn = 1025\n", "out of range top.nn"),
-        ("nn = 4\n", "nn = 2\n", "out of range namespace.nsid"),
-        ("version = 1", "version = 2", "out of range top.version"),
-        ("cntlid = 1", "cntlid = 0", "repeated controller.cntlid"),
-        ("mc = 1", "mc = 1\nx = 1", "unknown key in top"),
-        ("10485760", "1053183", "capacity"),
-        (
-            "bytes = 4608\nformat = 0\ncontrollers = [0]",
-            "bytes = 4608\nformat = 0\ncontrollers = [0, 1]",
-            "attachment",
-        ),
-        ("fid = 6", "fid = 7", "out of range feature.fid"),
-    ] {
-        let file = DEMO.replace(rt.alloc(), old, new)?;
-        match Subsystem::from_toml(rt.alloc(), file.as_bytes()) {
-            Ok(_) => panic!(rt; "a fault was let through"),
-            Err(error) => {
-                let text = error.to_string(rt.alloc())?;
-                assert!(rt; text.as_str() == want);
-            }
+/// An edit of the demonstration file: a text of it, what stands there instead, and what is then said.
+type Edit<'a> = (&'a str, &'a str, &'a str);
+
+/// Each edit of the demonstration file is refused with its text.
+fn tells(rt: &impl Abort, alloc: Global, edits: &[Edit<'_>]) -> Result<(), Fail> {
+    for (old, new, want) in edits {
+        let file = DEMO.replace(alloc, *old, *new)?;
+        tells_of(rt, alloc, file.as_bytes(), *want)?;
+    }
+    Ok(())
+}
+
+/// A file is refused with this text.
+fn tells_of(rt: &impl Abort, alloc: Global, file: &[u8], want: &str) -> Result<(), Fail> {
+    match Subsystem::from_toml(alloc, file) {
+        Ok(_) => panic!(rt; "a fault was let through: {want}"),
+        Err(error) => {
+            let text = error.to_string(alloc)?;
+            assert!(rt; text.as_str() == want, "{text}, not {want}");
         }
     }
     Ok(())
 }
 
 #[test]
-fn tells_a_fault_of_each_kind_at_each_table(rt: HostRuntime) -> Result<(), Fail> {
-    for (old, new, want) in [
-        ("lbads = 12", "ms = 0", "missing format.lbads"),
-        ("lbads = 12", "lbads = \"12\"", "wrong kind format.lbads"),
-        ("lbads = 12", "lbads = 8", "out of range format.lbads"),
-        ("lbads = 12", "lbads = 12\nx = 1", "unknown key in format"),
-        ("cntlid = 1", "cntlid = []", "wrong kind controller.cntlid"),
-        (
-            "cntlid = 1",
-            "cntlid = 65520",
-            "out of range controller.cntlid",
-        ),
-        ("elpe = 0", "elpe = 0\nx = 1", "unknown key in controller"),
-        ("fid = 6\n", "", "missing feature.fid"),
-        (
-            "saveable = true",
-            "saveable = 1",
-            "wrong kind feature.saveable",
-        ),
-        ("default = 1", "default = 2", "out of range feature.default"),
-        (
-            "saveable = true",
-            "saveable = true\n\n[[controller.feature]]\nfid = 6\ndefault = 0",
-            "repeated feature.fid",
-        ),
-        ("saveable = true", "x = 1", "unknown key in feature"),
-        (
-            "elpe = 0",
-            "smart = { temperature = true }",
-            "wrong kind smart.temperature",
-        ),
-        (
-            "elpe = 0",
-            "smart = { temperature = 65536 }",
-            "out of range smart.temperature",
-        ),
-        ("elpe = 0", "smart = { x = 1 }", "unknown key in smart"),
-        ("nsid = 3\n", "", "missing namespace.nsid"),
-        ("bytes = 4608", "bytes = \"\"", "wrong kind namespace.bytes"),
-        (
-            "bytes = 4608",
-            "bytes = 511",
-            "out of range namespace.bytes",
-        ),
-        ("nsid = 3", "nsid = 1", "repeated namespace.nsid"),
-        (
-            "bytes = 4608",
-            "bytes = 4608\nx = 1",
-            "unknown key in namespace",
-        ),
-        ("mc = 1", "mc = 4\nx = 1", "out of range top.mc"),
-    ] {
-        let file = DEMO.replace(rt.alloc(), old, new)?;
-        match Subsystem::from_toml(rt.alloc(), file.as_bytes()) {
-            Ok(_) => panic!(rt; "a fault was let through"),
-            Err(error) => {
-                let text = error.to_string(rt.alloc())?;
-                assert!(rt; text.as_str() == want);
-            }
-        }
-    }
-    Ok(())
+fn tells_the_faults_of_the_top_table(rt: HostRuntime) -> Result<(), Fail> {
+    tells(
+        &rt,
+        rt.alloc(),
+        &[
+            (DEMO, "=", "not TOML"),
+            ("version = 1", "=", "not TOML"),
+            ("version = 1", "version = 2", "out of range top.version"),
+            ("nn = 4\n", "", "missing top.nn"),
+            ("nn = 4\n", "nn = \"4\"\n", "wrong kind top.nn"),
+            ("nn = 4\n", "nn = 1025\n", "out of range top.nn"),
+            ("nn = 4\n", "nn = 1\n", "out of range top.namespace"),
+            ("mc = 1", "mc = 4\nx = 1", "out of range top.mc"),
+            ("mc = 1", "mc = 1\nx = 1", "unknown key in top"),
+            ("nn = 4\n", "nn = 4\nx = 1\n", "unknown key in top"),
+        ],
+    )
+}
+
+#[test]
+fn tells_the_faults_of_a_format(rt: HostRuntime) -> Result<(), Fail> {
+    tells(
+        &rt,
+        rt.alloc(),
+        &[
+            ("lbads = 12", "ms = 0", "missing format.lbads"),
+            ("lbads = 12", "lbads = \"12\"", "wrong kind format.lbads"),
+            ("lbads = 12", "lbads = 8", "out of range format.lbads"),
+            ("lbads = 12", "lbads = 17", "out of range format.lbads"),
+            ("lbads = 12", "lbads = 12\nx = 1", "unknown key in format"),
+        ],
+    )
+}
+
+#[test]
+fn tells_the_faults_of_a_controller(rt: HostRuntime) -> Result<(), Fail> {
+    tells(
+        &rt,
+        rt.alloc(),
+        &[
+            ("cntlid = 1", "cntlid = []", "wrong kind controller.cntlid"),
+            (
+                "cntlid = 1",
+                "cntlid = 65520",
+                "out of range controller.cntlid",
+            ),
+            ("cntlid = 1", "cntlid = 0", "repeated controller.cntlid"),
+            ("\"S1\"", "\"S1 \"", "out of range controller.sn"),
+            (
+                "elpe = 0",
+                "elpe = 0\nsmart = 1",
+                "wrong kind controller.smart",
+            ),
+            ("elpe = 0", "elpe = 0\nx = 1", "unknown key in controller"),
+            (
+                "elpe = 0",
+                "elpe = 0\nx = 1\nfeature = [{ fid = 7 }]",
+                "unknown key in controller",
+            ),
+        ],
+    )
+}
+
+#[test]
+fn tells_the_faults_of_a_feature(rt: HostRuntime) -> Result<(), Fail> {
+    tells(
+        &rt,
+        rt.alloc(),
+        &[
+            ("fid = 6\n", "", "missing feature.fid"),
+            ("fid = 6", "x = 1", "missing feature.fid"),
+            ("fid = 6", "fid = 7", "out of range feature.fid"),
+            (
+                "fid = 6\ndefault = 1",
+                "fid = 7",
+                "out of range feature.fid",
+            ),
+            ("default = 1", "default = 2", "out of range feature.default"),
+            (
+                "fid = 6\ndefault = 1",
+                "fid = 2\ndefault = 1",
+                "out of range feature.default",
+            ),
+            (
+                "saveable = true",
+                "saveable = 1",
+                "wrong kind feature.saveable",
+            ),
+            (
+                "fid = 6\ndefault = 1",
+                "fid = 5",
+                "out of range feature.saveable",
+            ),
+            (
+                "saveable = true",
+                "saveable = true\n\n[[controller.feature]]\nfid = 6\ndefault = 0",
+                "repeated feature.fid",
+            ),
+            ("saveable = true", "x = 1", "unknown key in feature"),
+        ],
+    )
+}
+
+#[test]
+fn tells_the_faults_of_a_health_log(rt: HostRuntime) -> Result<(), Fail> {
+    tells(
+        &rt,
+        rt.alloc(),
+        &[
+            (
+                "elpe = 0",
+                "smart = { temperature = true }",
+                "wrong kind smart.temperature",
+            ),
+            (
+                "elpe = 0",
+                "smart = { temperature = 65536 }",
+                "out of range smart.temperature",
+            ),
+            (
+                "elpe = 0",
+                "elpe = 0\nsmart = { sensors = [1, 2, 3, 4, 5, 6, 7, 8, 9] }",
+                "out of range smart.sensors",
+            ),
+            ("elpe = 0", "smart = { x = 1 }", "unknown key in smart"),
+        ],
+    )
+}
+
+#[test]
+fn tells_the_faults_of_a_namespace(rt: HostRuntime) -> Result<(), Fail> {
+    let third = "nsid = 3\nbytes = 4608\nformat = 0\ncontrollers = [0]";
+    tells(
+        &rt,
+        rt.alloc(),
+        &[
+            ("nsid = 3\n", "", "missing namespace.nsid"),
+            (
+                third,
+                "bytes = 4608\nformat = 0\nx = 1",
+                "missing namespace.nsid",
+            ),
+            ("nn = 4\n", "nn = 2\n", "out of range namespace.nsid"),
+            ("nsid = 3", "nsid = 1", "repeated namespace.nsid"),
+            (
+                third,
+                "nsid = 1\nbytes = 4608\nformat = 0",
+                "repeated namespace.nsid",
+            ),
+            ("bytes = 4608", "bytes = \"\"", "wrong kind namespace.bytes"),
+            (
+                "bytes = 4608",
+                "bytes = 511",
+                "out of range namespace.bytes",
+            ),
+            (
+                third,
+                "nsid = 3\nbytes = 511\nformat = 0",
+                "out of range namespace.bytes",
+            ),
+            (third, "nsid = 3", "missing namespace.format"),
+            (
+                third,
+                "nsid = 3\nbytes = 4608\nformat = 0\nextended = true",
+                "out of range namespace.extended",
+            ),
+            (
+                "bytes = 4608",
+                "bytes = 4608\nx = 1",
+                "unknown key in namespace",
+            ),
+        ],
+    )
+}
+
+#[test]
+fn tells_what_the_tables_break_together(rt: HostRuntime) -> Result<(), Fail> {
+    let third = "nsid = 3\nbytes = 4608\nformat = 0\ncontrollers = [0]";
+    let shared = "shared = true\ncontrollers = [0]";
+    tells(
+        &rt,
+        rt.alloc(),
+        &[
+            ("tnvmcap = 10485760", "tnvmcap = 1053183", "capacity"),
+            (
+                third,
+                "nsid = 3\nbytes = 4608\nformat = 0\ncontrollers = [0, 1]",
+                "attachment",
+            ),
+            (
+                shared,
+                "shared = true\ncontrollers = [0, 2]",
+                "attachment",
+            ),
+            (
+                shared,
+                "shared = true\ncontrollers = [0, 0]",
+                "attachment",
+            ),
+        ],
+    )
 }
 
 #[test]
@@ -113,16 +247,9 @@ fn tells_what_a_beginning_misses(rt: HostRuntime) -> Result<(), Fail> {
         ("mn = ", "missing controller.mn"),
         ("fr = ", "missing controller.fr"),
     ] {
-        let bytes = DEMO.as_bytes();
-        let end = DEMO.find(up_to).unwrap_or(0);
-        if end < bytes.len() {
-            match Subsystem::from_toml(rt.alloc(), &bytes[..end]) {
-                Ok(_) => panic!(rt; "a fault was let through"),
-                Err(error) => {
-                    let text = error.to_string(rt.alloc())?;
-                    assert!(rt; text.as_str() == want);
-                }
-            }
+        match DEMO.split_once(up_to) {
+            Some((beginning, _)) => tells_of(&rt, rt.alloc(), beginning.as_bytes(), want)?,
+            None => panic!(&rt; "the file has no {up_to}"),
         }
     }
     Ok(())

@@ -2,7 +2,6 @@ use crate::demo::DEMO;
 use crate::error::SubsystemError;
 use crate::file::read;
 use crate::parts::{FeatureRule, Format, Namespace};
-use std::alloc::Global;
 use std::test::Fail;
 
 #[test]
@@ -104,106 +103,6 @@ fn reads_a_health_log(rt: HostRuntime) -> Result<(), Fail> {
     assert_eq!(rt; smart.temperature, 300);
     assert_eq!(rt; smart.counters.data_units_read, 7);
     assert!(rt; smart.sensors == [301, 302, 0, 0, 0, 0, 0, 0]);
-    Ok(())
-}
-
-/// The text of the fault of DEMO with an edit.
-fn fault(alloc: Global, old: &str, new: &str) -> Result<String, Fail> {
-    let text = DEMO.replace(alloc, old, new)?;
-    match read(alloc, text.as_bytes()) {
-        Ok(_) => Ok(String::from_str(alloc, "none")?),
-        Err(error) => Ok(format!(in alloc; "{error}")?),
-    }
-}
-
-#[test]
-fn names_the_first_fault(rt: HostRuntime) -> Result<(), Fail> {
-    let alloc = rt.alloc();
-    let third = "nsid = 3\nbytes = 4608\nformat = 0\ncontrollers = [0]";
-    for (old, new, want) in [
-        ("version = 1", "=", "not TOML"),
-        ("nn = 4\n", "", "missing top.nn"),
-        ("nn = 4", "nn = \"4\"", "wrong kind top.nn"),
-        ("nn = 4", "nn = 1025", "out of range top.nn"),
-        ("nn = 4", "nn = 2", "out of range namespace.nsid"),
-        ("nn = 4", "nn = 1", "out of range top.namespace"),
-        ("version = 1", "version = 2", "out of range top.version"),
-        ("nn = 4", "nn = 4\nx = 1", "unknown key in top"),
-        ("lbads = 12", "lbads = 17", "out of range format.lbads"),
-        ("cntlid = 1", "cntlid = 0", "repeated controller.cntlid"),
-        ("\"S1\"", "\"S1 \"", "out of range controller.sn"),
-        (
-            "elpe = 0",
-            "elpe = 0\nsmart = 1",
-            "wrong kind controller.smart",
-        ),
-        (
-            "fid = 6\ndefault = 1",
-            "fid = 7",
-            "out of range feature.fid",
-        ),
-        (
-            "fid = 6\ndefault = 1",
-            "fid = 5",
-            "out of range feature.saveable",
-        ),
-        ("fid = 6", "x = 1", "missing feature.fid"),
-        (
-            "fid = 6\ndefault = 1",
-            "fid = 2\ndefault = 1",
-            "out of range feature.default",
-        ),
-        (
-            "elpe = 0",
-            "elpe = 0\nx = 1\nfeature = [{ fid = 7 }]",
-            "unknown key in controller",
-        ),
-        (
-            "elpe = 0",
-            "elpe = 0\nsmart = { sensors = [1, 2, 3, 4, 5, 6, 7, 8, 9] }",
-            "out of range smart.sensors",
-        ),
-        (third, "nsid = 3", "missing namespace.format"),
-        (
-            third,
-            "nsid = 3\nbytes = 511\nformat = 0",
-            "out of range namespace.bytes",
-        ),
-        (
-            third,
-            "bytes = 4608\nformat = 0\nx = 1",
-            "missing namespace.nsid",
-        ),
-        (
-            third,
-            "nsid = 1\nbytes = 4608\nformat = 0",
-            "repeated namespace.nsid",
-        ),
-        (
-            third,
-            "nsid = 3\nbytes = 4608\nformat = 0\nextended = true",
-            "out of range namespace.extended",
-        ),
-        ("tnvmcap = 10485760", "tnvmcap = 1053183", "capacity"),
-        (
-            third,
-            "nsid = 3\nbytes = 4608\nformat = 0\ncontrollers = [0, 1]",
-            "attachment",
-        ),
-        (
-            "shared = true\ncontrollers = [0]",
-            "shared = true\ncontrollers = [0, 2]",
-            "attachment",
-        ),
-        (
-            "shared = true\ncontrollers = [0]",
-            "shared = true\ncontrollers = [0, 0]",
-            "attachment",
-        ),
-    ] {
-        let told = fault(alloc, old, new)?;
-        assert!(rt; told.as_str() == want, "{told}");
-    }
     Ok(())
 }
 
