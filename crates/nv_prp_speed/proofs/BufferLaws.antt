@@ -26,8 +26,8 @@ is_buffer bytes size pages some len e = subst (λ ps. IsBuffer bytes size ps 4 1
   below = omega (arith, some);
   aligned = refl;
   enough =
-    let least : 257 * 4096 ≤ 257 * size = mul-le-mul_left 257 some in
-    subst (λ n. 4 + 1048576 ≤ n * size) (sym (length-table 257 (λ (k : ℕ). k + 2))) (omega (arith, least));
+      let least : 257 * 4096 ≤ 257 * size = mul-le-mul_left 257 some in
+      subst (λ n. 4 + 1048576 ≤ n * size) (sym (length-table 257 (λ (k : ℕ). k + 2))) (omega (arith, least));
   inside = All-from_get_or (HasPage bytes size) (table 257 (λ k. k + 2)) 0
       (λ i h.
       let below : i < 257 = omega (arith, h, length-table 257 (λ (k : ℕ). k + 2)) in

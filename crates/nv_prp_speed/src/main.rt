@@ -2,7 +2,6 @@
 //! speeds go to standard error.
 #![tactic(auto)]
 
-mod pages;
 mod times;
 mod transfer;
 

@@ -1,14 +1,14 @@
 //! A transfer of 1 MiB in a memory of its own, and the times of its calls.
 
-ghost use Rattle.std.specs.Prelude.{◌≡◌, ◌∷◌, length};
+ghost use Rattle.std.specs.Prelude.{◌≡◌, ◌+◌, ◌<◌, ◌^◌, ◌∷◌, IfOk, length};
 ghost use Rattle.nv_host.specs.Pages.{IsPageSize};
 ghost use Rattle.nv_prp.specs.Buffers.{IsBuffer, IsListPlace};
-ghost use Rattle.nv_prp.specs.Places.{AreDistinct, LieIn, places};
+ghost use Rattle.nv_prp.specs.Places.{AreDistinct, LieIn, places, table};
 
-use crate::pages::buffer_pages;
 use crate::times::{LENGTH, ROUNDS, Times};
-use nv_host::{FlatMemory, HostMemory};
+use nv_host::{FlatMemory, HostMemory, PageNo};
 use nv_prp::{Buffer, ListPlace, Spans, build, build_then_walk, copy_in, copy_out, walk};
+use std::alloc::{AllocError, Global};
 use std::io::{self, ErrorKind};
 use std::time::{Duration, Instant};
 
@@ -20,6 +20,18 @@ const MOST_PAGES: u32 = 257;
 pub struct Measured {
     pub spans: usize,
     pub times: Times,
+}
+
+/// So many pages, from page 2 on: pages 0 and 1 are left for the list.
+fn buffer_pages(alloc: Global, count: u32) -> Result<Vec<PageNo>, AllocError>
+    requires { count < 2 ^ 16 }
+    ensures { IfOk result (λ pages. pages.items ≡ table count (λ k. k + 2)) }
+{
+    let mut pages = Vec::new(alloc);
+    for index in 0..count {
+        pages.push(index + 2)?;
+    }
+    Ok(pages)
 }
 
 /// Measures a transfer of 1 MiB that begins 4 bytes after a page's first one.
