@@ -42,11 +42,11 @@ no_fault_of_page bytes page page_size some has =
 
 -- ---- a transfer with a buffer's pages
 
-pub record HasPages (t : Transfer) (pages : List ℕ) (start : ℕ) : Type 0 where
+record HasPages (t : Transfer) (pages : List ℕ) (start : ℕ) : Type 0 where
   pub begins : offset t ≡ start
   pub bases : (j : ℕ) → j < data_pages t → page_base t j ≡ get_or pages j 0 * t.page_size
 
-pub places_of_buffer : (t : Transfer) (pages : List ℕ) (start i : ℕ) → 0 < t.page_size → HasPages t pages start → i < t.len
+places_of_buffer : (t : Transfer) (pages : List ℕ) (start i : ℕ) → 0 < t.page_size → HasPages t pages start → i < t.len
     → place_of t i ≡ buffer_place t.page_size pages start i
 unfolding place_of buffer_place
 places_of_buffer t pages start i some has below =
@@ -55,8 +55,13 @@ places_of_buffer t pages start i some has below =
     ap (λ n. n + (offset t + i) % t.page_size) (has.bases ((offset t + i) / t.page_size) page)
     ∙ ap (λ o. get_or pages ((o + i) / t.page_size) 0 * t.page_size + (o + i) % t.page_size) has.begins
 
+-- a legal transfer of a buffer's first bytes
+pub record IsFor (t : Transfer) (pages : List ℕ) (start : ℕ) : Type 0 where
+  pub legal : IsLegal t
+  pub places : (i : ℕ) → i < t.len → place_of t i ≡ buffer_place t.page_size pages start i
+
 -- a buffer that is long enough has the data pages
-pub enough_pages : (t : Transfer) (pages : List ℕ) → 0 < t.page_size → offset t + t.len ≤ length pages * t.page_size
+enough_pages : (t : Transfer) (pages : List ℕ) → 0 < t.page_size → offset t + t.len ≤ length pages * t.page_size
     → data_pages t ≤ length pages
 enough_pages t pages some enough =
     let span = pages_span t some in
@@ -73,7 +78,7 @@ pub record Begins (t : Transfer) (pages : List ℕ) (start : ℕ) : Type 0 where
   pub buffer : IsBuffer t.bytes t.page_size pages start t.len
   pub prp1 : t.prp1 ≡ get_or pages 0 0 * t.page_size + start
 
-pub begins_at : (t : Transfer) (pages : List ℕ) (start : ℕ) → Begins t pages start → offset t ≡ start
+begins_at : (t : Transfer) (pages : List ℕ) (start : ℕ) → Begins t pages start → offset t ≡ start
 begins_at t pages start begins =
     ap (λ n. n % t.page_size) begins.prp1 ∙ mod-mul-add (get_or pages 0 0) t.page_size start begins.buffer.below
 
@@ -82,60 +87,66 @@ pages_enough t pages start begins =
     enough_pages t pages (omega (arith, page_size_bounds t.page_size begins.size))
     (omega (arith, begins_at t pages start begins, begins.buffer.enough))
 
-pub page_has : (t : Transfer) (pages : List ℕ) (start j : ℕ) → Begins t pages start → j < data_pages t
+page_has : (t : Transfer) (pages : List ℕ) (start j : ℕ) → Begins t pages start → j < data_pages t
     → HasPage t.bytes t.page_size (get_or pages j 0)
 page_has t pages start j begins below =
     begins.buffer.inside j 0 (omega (arith, pages_enough t pages start begins))
 
-pub prp1_has_no_fault : (t : Transfer) (pages : List ℕ) (start : ℕ) → Begins t pages start → 0 < data_pages t → prp1_fault t ≡ None
+prp1_has_no_fault : (t : Transfer) (pages : List ℕ) (start : ℕ) → Begins t pages start → 0 < data_pages t → prp1_fault t ≡ None
 prp1_has_no_fault t pages start begins some =
     let whole = page_size_in_qwords t.page_size begins.size in
     ap (λ n. entry_fault t.page_size (length t.bytes) 4 n) begins.prp1
     ∙ no_fault_at t.bytes (get_or pages 0 0) t.page_size start 4 begins.buffer.below (page_has t pages start 0 begins some)
     (address_aligned_4 (get_or pages 0 0) t.page_size start whole ∙ begins.buffer.aligned)
 
-pub first_base : (t : Transfer) (pages : List ℕ) (start : ℕ) → Begins t pages start → page_base t 0 ≡ get_or pages 0 0 * t.page_size
+is_for : (t : Transfer) (pages : List ℕ) (start : ℕ) → Begins t pages start → IsLegal t
+    → ((j : ℕ) → j < data_pages t → page_base t j ≡ get_or pages j 0 * t.page_size) → IsFor t pages start
+is_for t pages start begins legal bases =
+    let some : 0 < t.page_size = omega (arith, page_size_bounds t.page_size begins.size) in
+    let has : HasPages t pages start = record { begins = begins_at t pages start begins; bases = bases } in
+    record { legal = legal; places = λ i below. places_of_buffer t pages start i some has below }
+
+first_base : (t : Transfer) (pages : List ℕ) (start : ℕ) → Begins t pages start → page_base t 0 ≡ get_or pages 0 0 * t.page_size
 unfolding page_base
 first_base t pages start begins = omega (arith, begins.prp1, begins_at t pages start begins)
 
+-- data page 0 is the buffer's first one, and the others are shown one by one
+base_at : (t : Transfer) (pages : List ℕ) (start j : ℕ) → Begins t pages start → (0 < j → page_base t j ≡ get_or pages j 0 * t.page_size)
+    → page_base t j ≡ get_or pages j 0 * t.page_size
+base_at t pages start j begins later =
+    elim (cases_lt 0 j) [
+      | inl above ↦ later above
+      | inr first ↦ let is : j ≡ 0 = omega arith in
+          ap (λ k. page_base t k) is ∙ first_base t pages start begins ∙ sym (ap (λ k. get_or pages k 0 * t.page_size) is)
+    ]
+
 -- ---- one data page, and two
 
-pub one_page : (t : Transfer) (pages : List ℕ) (start : ℕ) → Begins t pages start → data_pages t ≡ 1
-    → IsLegal t × HasPages t pages start
-one_page t pages start begins one = (
-  record {
-    prp1 = prp1_has_no_fault t pages start begins (omega arith);
-    prp2 = prp2_of_one t one;
-    list = λ n h. absurd (omega (arith, no_qwords t (omega arith)));
-  },
-  record {
-    begins = begins_at t pages start begins;
-    bases = λ j below. let is : j ≡ 0 = omega arith in
-        ap (λ k. page_base t k) is ∙ first_base t pages start begins ∙ sym (ap (λ k. get_or pages k 0 * t.page_size) is);
-  },
-)
+pub one_page : (t : Transfer) (pages : List ℕ) (start : ℕ) → Begins t pages start → data_pages t ≡ 1 → IsFor t pages start
+one_page t pages start begins one = is_for t pages start begins
+    (record {
+      prp1 = prp1_has_no_fault t pages start begins (omega arith);
+      prp2 = prp2_of_one t one;
+      list = λ n h. absurd (omega (arith, no_qwords t (omega arith)));
+    })
+    (λ j below. base_at t pages start j begins (λ later. absurd (omega arith)))
 
 pub two_pages : (t : Transfer) (pages : List ℕ) (start : ℕ) → Begins t pages start → data_pages t ≡ 2
-    → t.prp2 ≡ get_or pages 1 0 * t.page_size → IsLegal t × HasPages t pages start
+    → t.prp2 ≡ get_or pages 1 0 * t.page_size → IsFor t pages start
 two_pages t pages start begins two second =
-    let some : 0 < t.page_size = omega (arith, page_size_bounds t.page_size begins.size) in (
-      record {
-        prp1 = prp1_has_no_fault t pages start begins (omega arith);
-        prp2 = prp2_of_two t two
-            ∙ ap (λ n. entry_fault t.page_size (length t.bytes) t.page_size n) second
-            ∙ no_fault_of_page t.bytes (get_or pages 1 0) t.page_size some (page_has t pages start 1 begins (omega arith));
-        list = λ n h. absurd (omega (arith, no_qwords t (omega arith)));
-      },
-      record {
-        begins = begins_at t pages start begins;
-        bases = λ j below. elim (cases_lt 0 j) [
-          | inl later ↦ let is : j ≡ 1 = omega arith in
-              ap (λ k. page_base t k) is ∙ base_of_second t two ∙ second ∙ sym (ap (λ k. get_or pages k 0 * t.page_size) is)
-          | inr first ↦ let is : j ≡ 0 = omega arith in
-              ap (λ k. page_base t k) is ∙ first_base t pages start begins ∙ sym (ap (λ k. get_or pages k 0 * t.page_size) is)
-        ];
-      },
-    )
+    let some : 0 < t.page_size = omega (arith, page_size_bounds t.page_size begins.size) in
+    is_for t pages start begins
+    (record {
+      prp1 = prp1_has_no_fault t pages start begins (omega arith);
+      prp2 = prp2_of_two t two
+          ∙ ap (λ n. entry_fault t.page_size (length t.bytes) t.page_size n) second
+          ∙ no_fault_of_page t.bytes (get_or pages 1 0) t.page_size some (page_has t pages start 1 begins (omega arith));
+      list = λ n h. absurd (omega (arith, no_qwords t (omega arith)));
+    })
+    (λ j below. base_at t pages start j begins
+    (λ later.
+    let is : j ≡ 1 = omega arith in
+    ap (λ k. page_base t k) is ∙ base_of_second t two ∙ second ∙ sym (ap (λ k. get_or pages k 0 * t.page_size) is)))
 
 -- ---- a list
 
@@ -275,37 +286,29 @@ page_is_inside t l n size is has used =
           subst P (sym (new_page_single l n (omega (arith, is.count)))) (has (n + 1) (omega arith))
     ]
 
-pub many_pages : (t : Transfer) (pages : List ℕ) (start : ℕ) (l : NewList) → Begins t pages start → IsWritten t l → l.pages ≡ pages
-    → IsLegal t × HasPages t pages start
+pub many_pages : (t : Transfer) (start : ℕ) (l : NewList) → Begins t l.pages start → IsWritten t l → IsFor t l.pages start
 unfolding qword_fault
-many_pages t pages start l begins is e =
+many_pages t start l begins is =
     let some : 0 < t.page_size = omega (arith, page_size_bounds t.page_size begins.size) in
-    let has : (j : ℕ) → j < data_pages t → HasPage t.bytes t.page_size (get_or l.pages j 0) =
-    λ j below. subst (λ p. HasPage t.bytes t.page_size (get_or p j 0)) (sym e) (page_has t pages start j begins below) in
-    let whole = page_size_in_qwords t.page_size begins.size in (
-      record {
-        prp1 = prp1_has_no_fault t pages start begins (omega (arith, is.many));
-        prp2 = prp2_of_list t is.many
-            ∙ ap (λ n. entry_fault t.page_size (length t.bytes) 8 n) is.prp2
-            ∙ no_fault_at t.bytes l.first t.page_size l.offset 8 is.place.below is.place.has_first
-            (address_aligned l.first t.page_size l.offset whole ∙ is.place.aligned);
-        list = λ n used.
-            ap (λ v. entry_fault t.page_size (length t.bytes) t.page_size v) (qword_is_new t l n begins.size is used)
-            ∙ no_fault_of_page t.bytes (new_page l n) t.page_size some (page_is_inside t l n begins.size is has used);
-      },
-      record {
-        begins = begins_at t pages start begins;
-        bases = λ j below. elim (cases_lt 0 j) [
-          | inl later ↦
-              let named = named_page_is t l j begins.size is later below in
-              base_by_list t j is.many later
-              ∙ qword_is_new t l (naming_qword t j) begins.size is named.0
-              ∙ ap (λ p. p * t.page_size) (named.1 ∙ ap (λ p. get_or p j 0) e)
-          | inr first ↦ let is_first : j ≡ 0 = omega arith in
-              ap (λ k. page_base t k) is_first ∙ first_base t pages start begins ∙ sym (ap (λ k. get_or pages k 0 * t.page_size) is_first)
-        ];
-      },
-    )
+    let whole = page_size_in_qwords t.page_size begins.size in
+    is_for t l.pages start begins
+    (record {
+      prp1 = prp1_has_no_fault t l.pages start begins (omega (arith, is.many));
+      prp2 = prp2_of_list t is.many
+          ∙ ap (λ n. entry_fault t.page_size (length t.bytes) 8 n) is.prp2
+          ∙ no_fault_at t.bytes l.first t.page_size l.offset 8 is.place.below is.place.has_first
+          (address_aligned l.first t.page_size l.offset whole ∙ is.place.aligned);
+      list = λ n used.
+          ap (λ v. entry_fault t.page_size (length t.bytes) t.page_size v) (qword_is_new t l n begins.size is used)
+          ∙ no_fault_of_page t.bytes (new_page l n) t.page_size some
+          (page_is_inside t l n begins.size is (λ j below. page_has t l.pages start j begins below) used);
+    })
+    (λ j below. base_at t l.pages start j begins
+    (λ later.
+    let named = named_page_is t l j begins.size is later below in
+    base_by_list t j is.many later
+    ∙ qword_is_new t l (naming_qword t j) begins.size is named.0
+    ∙ ap (λ p. p * t.page_size) named.1))
 
 -- ---- in other bytes
 
