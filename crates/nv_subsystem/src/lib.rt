@@ -17,7 +17,6 @@ mod subsystems;
 pub use commands::{Command, Origin, Refusal, Reply, StatusCode};
 pub use demo::DEMO;
 pub use error::SubsystemError;
-pub use error_log::LogEntry;
 pub use file::names::{Key, TableName};
 pub use parts::{Counters, FeatureRule, Format, Identity, Namespace, SmartBase};
 pub use subsystems::Subsystem;

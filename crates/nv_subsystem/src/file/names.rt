@@ -99,8 +99,13 @@ impl TableName {
 }
 
 impl fmt::Display for TableName {
+    ghost use Rattle.std.specs.Prelude.{Some};
+    ghost use Rattle.nv_subsystem.specs.Names.{table_text};
+
+    ghost output = { λ name. Some (table_text name) };
+
     fn fmt<W: fmt::Write>(&self, f: &mut fmt::Formatter<W>) -> fmt::Result {
-        f.write_str(self.text())
+        f.write_str(TableName::text(*self))
     }
 }
 
@@ -227,7 +232,12 @@ impl Key {
 }
 
 impl fmt::Display for Key {
+    ghost use Rattle.std.specs.Prelude.{Some};
+    ghost use Rattle.nv_subsystem.specs.Names.{key_text};
+
+    ghost output = { λ key. Some (key_text key) };
+
     fn fmt<W: fmt::Write>(&self, f: &mut fmt::Formatter<W>) -> fmt::Result {
-        f.write_str(self.text())
+        f.write_str(Key::text(*self))
     }
 }
