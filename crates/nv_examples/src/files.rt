@@ -219,16 +219,8 @@ fn tells_what_the_tables_break_together(rt: HostRuntime) -> Result<(), Fail> {
                 "nsid = 3\nbytes = 4608\nformat = 0\ncontrollers = [0, 1]",
                 "attachment",
             ),
-            (
-                shared,
-                "shared = true\ncontrollers = [0, 2]",
-                "attachment",
-            ),
-            (
-                shared,
-                "shared = true\ncontrollers = [0, 0]",
-                "attachment",
-            ),
+            (shared, "shared = true\ncontrollers = [0, 2]", "attachment"),
+            (shared, "shared = true\ncontrollers = [0, 0]", "attachment"),
         ],
     )
 }
