@@ -1,5 +1,5 @@
 -- What a list that was written holds.
-use Rattle.std.proofs.Common.{◌≡◌, ◌≢◌, ◌∙◌, ◌⊎◌, ℕ, ◌+◌, ◌-◌, ◌*◌, ◌/◌, ◌==◌, ◌<◌, ◌≤◌, ◌^◌, List, ap, arith, get_or, if◌then◌else◌, inl, inr, length, nat_lt, refl, sym}
+use Rattle.std.proofs.Common.{◌≡◌, ◌≢◌, ◌∙◌, ◌⊎◌, ℕ, ◌+◌, ◌-◌, ◌*◌, ◌/◌, ◌<◌, ◌≤◌, ◌^◌, List, ap, arith, inl, inr, length, refl, sym}
 use Rattle.std.proofs.Math.Nat.{mul-le-mul_right}
 use Rattle.std.proofs.lemmas.Bool.{cases_lt, cases_order, le-ltb, lt-ltb}
 use Rattle.std.proofs.lemmas.Nat.{from_le_bytes-to_le_bytes_8}
@@ -8,8 +8,8 @@ use Rattle.nv_host.specs.Bytes.{bytes_at, with_bytes}
 use Rattle.nv_host.specs.BytesLaws.{bytes_at-with_after, bytes_at-with_before, bytes_at-with_same}
 use Rattle.nv_host.specs.Pages.{IsPageSize}
 use Rattle.nv_host.specs.PageLaws.{page_size_bounds, page_size_in_qwords}
-use Rattle.nv_prp.specs.Buffers.{IsListPlace, IsOutside, NewList, new_page, new_place, new_qwords, new_room}
-use Rattle.nv_prp.specs.Transfer.{qword}
+use Rattle.nv_prp.specs.Buffers.{IsListPlace, IsOutside, NewList, named_page, new_page, new_place, new_qwords, new_room}
+use Rattle.nv_prp.specs.Transfer.{list_place, list_qwords, qword}
 
 -- ---- a Qword that is written
 
@@ -119,26 +119,16 @@ places_apart bytes l k n is below few =
 -- ---- what the code computes
 
 pub place_is : (l : NewList) (n page_size space at : ℕ) → page_size ≡ l.page_size → space ≡ new_room l
-    → at ≡ (if nat_lt n space then l.first * page_size + l.offset + 8 * n else l.second * page_size + 8 * (n - space))
-    → at ≡ new_place l n
+    → at ≡ list_place space (l.first * page_size + l.offset) (l.second * page_size) n → at ≡ new_place l n
 unfolding new_place
-place_is l n page_size space at e f h =
-    h ∙ (λ i. if nat_lt n (f i) then l.first * e i + l.offset + 8 * n else l.second * e i + 8 * (n - f i))
+place_is l n page_size space at e f h = h ∙ (λ i. list_place (f i) (l.first * e i + l.offset) (l.second * e i) n)
 
-pub page_is : (l : NewList) (n space page : ℕ) → space ≡ new_room l
-    → page ≡ (if nat_lt space (l.count - 1)
-    then (if n + 1 == space then l.second else (if nat_lt n space then get_or l.pages (n + 1) 0 else get_or l.pages n 0))
-    else get_or l.pages (n + 1) 0)
-    → page ≡ new_page l n
+pub page_is : (l : NewList) (n space page : ℕ) → space ≡ new_room l → page ≡ named_page space l.count l.pages l.second n → page ≡ new_page l n
 unfolding new_page
-page_is l n space page f h =
-    h ∙ (λ i. if nat_lt (f i) (l.count - 1)
-    then (if n + 1 == f i then l.second else (if nat_lt n (f i) then get_or l.pages (n + 1) 0 else get_or l.pages n 0))
-    else get_or l.pages (n + 1) 0)
+page_is l n space page f h = h ∙ ap (λ r. named_page r l.count l.pages l.second n) f
 
-pub all_are : (l : NewList) (space all : ℕ) → space ≡ new_room l
-    → all ≡ (if nat_lt space (l.count - 1) then l.count else l.count - 1) → all ≡ new_qwords l
-all_are l space all f h = h ∙ (λ i. if nat_lt (f i) (l.count - 1) then l.count else l.count - 1)
+pub all_are : (l : NewList) (space all : ℕ) → space ≡ new_room l → all ≡ list_qwords space l.count → all ≡ new_qwords l
+all_are l space all f h = h ∙ ap (λ r. list_qwords r l.count) f
 
 pub all_few : (l : NewList) → new_qwords l ≤ l.count
 all_few l =

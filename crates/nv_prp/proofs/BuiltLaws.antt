@@ -6,10 +6,10 @@ use Rattle.std.proofs.lemmas.Nat.{div_below, mod-mul-add}
 use Rattle.nv_host.specs.Pages.{HasPage, IsPageSize}
 use Rattle.nv_host.specs.PageLaws.{page_size_bounds, page_size_in_qwords}
 use Rattle.nv_prp.specs.Buffers.{IsBuffer, IsListPlace, NewList, buffer_place, new_page, new_place, new_qwords, new_room}
-use Rattle.nv_prp.specs.Transfer.{IsLegal, Transfer, data_pages, entry_fault, naming_qword, offset, page_base, place_of, prp1_fault, qword, qword_fault, qword_place, qwords, room, second_page}
+use Rattle.nv_prp.specs.Transfer.{IsLegal, Transfer, data_pages, entry_fault, list_qwords, naming_qword, offset, page_base, place_of, prp1_fault, qword, qword_fault, qword_place, qwords, room, second_page}
 use Rattle.nv_prp.proofs.BuildLaws.{new_place_far, new_place_near}
 use Rattle.nv_prp.proofs.EntryLaws.{fault_none}
-use Rattle.nv_prp.proofs.ListLaws.{base_by_list, base_of_second, naming_far, naming_near, naming_single, no_qwords, place_far, place_near, prp2_of_list, prp2_of_one, prp2_of_two, qwords_chained, qwords_single}
+use Rattle.nv_prp.proofs.ListLaws.{base_by_list, base_of_second, naming_far, naming_near, naming_single, no_qwords, place_far, place_near, prp2_of_list, prp2_of_one, prp2_of_two, qwords_chained, qwords_of_list, qwords_single}
 use Rattle.nv_prp.proofs.PageLaws.{pages_span}
 
 -- ---- an address in a page of the memory
@@ -173,13 +173,8 @@ some_room t l size is =
 
 all_written : (t : Transfer) (l : NewList) (n : ℕ) → IsWritten t l → n < qwords t → n < new_qwords l
 all_written t l n is used =
-    let same = same_room t l is in
-    elim (cases_lt (room t) (data_pages t - 1)) [
-      | inl chained ↦
-          rw (lt-ltb (new_room l) (l.count - 1) (omega (arith, is.count))) (omega (arith, is.count, qwords_chained t is.many chained))
-      | inr single ↦
-          rw (le-ltb (new_room l) (l.count - 1) (omega (arith, is.count))) (omega (arith, is.count, qwords_single t is.many single))
-    ]
+    let same : new_qwords l ≡ qwords t = (λ i. list_qwords (same_room t l is i) (is.count i)) ∙ sym (qwords_of_list t is.many) in
+    omega (arith, same)
 
 new_page_chain : (l : NewList) (n : ℕ) → new_room l < l.count - 1 → n + 1 ≡ new_room l → new_page l n ≡ l.second
 unfolding new_page

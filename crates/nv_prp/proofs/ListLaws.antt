@@ -1,9 +1,9 @@
 -- The Qwords of a list, by their numbers.
-use Rattle.std.proofs.Common.{◌≡◌, ◌≢◌, ◌∙◌, ℕ, zero, suc, ◌+◌, ◌-◌, ◌*◌, ◌/◌, ◌%◌, ◌<◌, ◌≤◌, ◌&&◌, true, false, None, Option, ap, arith, if◌then◌else◌, inl, inr, length, nat_le, nat_lt, refl, sym}
+use Rattle.std.proofs.Common.{◌≡◌, ◌≢◌, ◌∙◌, ℕ, zero, suc, ◌+◌, ◌-◌, ◌*◌, ◌/◌, ◌%◌, ◌<◌, ◌≤◌, ◌&&◌, true, false, None, Option, ap, arith, if◌then◌else◌, inl, inr, length, nat_le, refl, sym}
 use Rattle.std.proofs.lemmas.Bool.{cases_lt, eq-eqb, ne_eqb, le-leb, le-ltb, lt-leb, lt-ltb}
 use Rattle.std.proofs.lemmas.Nat.{div-add-mod'}
 use Rattle.nv_host.specs.PageLaws.{page_size_bounds, page_size_in_qwords}
-use Rattle.nv_prp.specs.Transfer.{HasList, Transfer, data_pages, is_chained, naming_qword, page_base, prp2_fault, qword, qword_fault, qword_place, qwords, room, second_page, entry_fault}
+use Rattle.nv_prp.specs.Transfer.{HasList, Transfer, data_pages, is_chained, list_qwords, naming_qword, page_base, prp2_fault, qword, qword_fault, qword_place, qwords, room, second_page, entry_fault}
 use Rattle.nv_prp.specs.declared.error.PrpError.{PrpError}
 use Rattle.nv_prp.proofs.EntryLaws.{from_no_fault}
 use Rattle.nv_prp.proofs.PageLaws.{at_most_257}
@@ -38,13 +38,15 @@ pub place_far : (t : Transfer) (n : ℕ) → room t ≤ n → qword_place t n �
 unfolding qword_place
 place_far t n far = rw (le-ltb n (room t) far)
 
-pub qwords_chained : (t : Transfer) → 2 < data_pages t → room t < data_pages t - 1 → qwords t ≡ data_pages t
+pub qwords_of_list : (t : Transfer) → 2 < data_pages t → qwords t ≡ list_qwords (room t) (data_pages t)
 unfolding qwords
-qwords_chained t many chained = rw (lt-ltb 2 (data_pages t) many, lt-ltb (room t) (data_pages t - 1) chained)
+qwords_of_list t many = rw (lt-ltb 2 (data_pages t) many)
+
+pub qwords_chained : (t : Transfer) → 2 < data_pages t → room t < data_pages t - 1 → qwords t ≡ data_pages t
+qwords_chained t many chained = qwords_of_list t many ∙ rw (lt-ltb (room t) (data_pages t - 1) chained)
 
 pub qwords_single : (t : Transfer) → 2 < data_pages t → data_pages t - 1 ≤ room t → qwords t ≡ data_pages t - 1
-unfolding qwords
-qwords_single t many single = rw (lt-ltb 2 (data_pages t) many, le-ltb (room t) (data_pages t - 1) single)
+qwords_single t many single = qwords_of_list t many ∙ rw (le-ltb (room t) (data_pages t - 1) single)
 
 -- the second list page is a page of the memory
 second_page_inside : (t : Transfer) → HasList t → qword_fault t (room t - 1) ≡ None
@@ -234,12 +236,8 @@ base_of_second t two = rw (le-ltb 2 (data_pages t) (omega arith))
 -- ---- what the code computes
 
 pub qwords_are : (t : Transfer) (space pages all : ℕ) → 2 < data_pages t → space ≡ room t → pages ≡ data_pages t
-    → all ≡ (if nat_lt space (pages - 1) then pages else pages - 1) → all ≡ qwords t
-qwords_are t space pages all many e f h =
-    elim (cases_lt (room t) (data_pages t - 1)) [
-      | inl chained ↦ h ∙ rw (lt-ltb space (pages - 1) (omega arith)) (f ∙ sym (qwords_chained t many chained))
-      | inr single ↦ h ∙ rw (le-ltb space (pages - 1) (omega arith)) (ap (λ n. n - 1) f ∙ sym (qwords_single t many single))
-    ]
+    → all ≡ list_qwords space pages → all ≡ qwords t
+qwords_are t space pages all many e f h = h ∙ (λ i. list_qwords (e i) (f i)) ∙ sym (qwords_of_list t many)
 
 pub chained_here : (t : Transfer) (n page space pages : ℕ) → page ≡ known_pages t n → space ≡ room t → pages ≡ data_pages t
     → (n + 1 ≡ space) × (page + 1 < pages) → (n + 1 ≡ room t) × (room t < data_pages t - 1)

@@ -3,6 +3,7 @@ use Rattle.std.specs.Prelude.{◌≡◌, ℕ, ◌==◌, ◌+◌, ◌-◌, ◌*�
 use Rattle.nv_host.specs.Bytes.{bytes_at}
 use Rattle.nv_host.specs.Pages.{HasPage}
 use Rattle.nv_prp.specs.Places.{table}
+use Rattle.nv_prp.specs.Transfer.{list_place, list_qwords}
 
 -- the place of byte i of a buffer: its pages by their numbers, and where it begins in the first one
 unfoldable pub buffer_place : ℕ → List ℕ → ℕ → ℕ → ℕ
@@ -58,18 +59,18 @@ abbrev pub new_room : NewList → ℕ
 new_room l = (l.page_size - l.offset) / 8
 
 abbrev pub new_qwords : NewList → ℕ
-new_qwords l = if nat_lt (new_room l) (l.count - 1) then l.count else l.count - 1
+new_qwords l = list_qwords (new_room l) l.count
 
 -- the place of its Qword n
 unfoldable pub new_place : NewList → ℕ → ℕ
-new_place l n =
-    if nat_lt n (new_room l)
-    then l.first * l.page_size + l.offset + 8 * n
-    else l.second * l.page_size + 8 * (n - new_room l)
+new_place l n = list_place (new_room l) (l.first * l.page_size + l.offset) (l.second * l.page_size) n
 
--- the page whose address it holds
+-- the page whose address Qword n holds: a data page but the first, or the second list page
+abbrev pub named_page : ℕ → ℕ → List ℕ → ℕ → ℕ → ℕ
+named_page room count pages second n =
+    if nat_lt room (count - 1)
+    then (if n + 1 == room then second else (if nat_lt n room then slice_index pages (n + 1) else slice_index pages n))
+    else slice_index pages (n + 1)
+
 unfoldable pub new_page : NewList → ℕ → ℕ
-new_page l n =
-    if nat_lt (new_room l) (l.count - 1)
-    then (if n + 1 == new_room l then l.second else (if nat_lt n (new_room l) then slice_index l.pages (n + 1) else slice_index l.pages n))
-    else slice_index l.pages (n + 1)
+new_page l n = named_page (new_room l) l.count l.pages l.second n

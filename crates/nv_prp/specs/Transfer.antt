@@ -34,6 +34,15 @@ data_pages t = div_ceil (offset t + t.len) t.page_size
 unfoldable pub qword : List ℕ → ℕ → ℕ
 qword bytes addr = from_le_bytes w64 (bytes_at bytes addr 8)
 
+-- how many Qwords of a list are used, where its first page has room for so many: one for each data page but the
+-- first, and one for the address of its second page where they don't fit
+abbrev pub list_qwords : ℕ → ℕ → ℕ
+list_qwords room pages = if nat_lt room (pages - 1) then pages else pages - 1
+
+-- the place of Qword n of a list that goes on in a second page where the first one's room ends
+abbrev pub list_place : ℕ → ℕ → ℕ → ℕ → ℕ
+list_place room first second n = if nat_lt n room then first + 8 * n else second + 8 * (n - room)
+
 -- how many Qwords there are from the list's first one to the end of its page
 abbrev pub room : Transfer → ℕ
 room t = (t.page_size - t.prp2 % t.page_size) / 8
@@ -48,14 +57,11 @@ second_page t = qword t.bytes (t.prp2 + 8 * (room t - 1))
 
 -- the place of Qword n of the list
 unfoldable pub qword_place : Transfer → ℕ → ℕ
-qword_place t n = if nat_lt n (room t) then t.prp2 + 8 * n else second_page t + 8 * (n - room t)
+qword_place t n = list_place (room t) t.prp2 (second_page t) n
 
 -- how many Qwords of the list are used
 unfoldable pub qwords : Transfer → ℕ
-qwords t =
-    if nat_lt 2 (data_pages t)
-    then (if is_chained t then data_pages t else data_pages t - 1)
-    else 0
+qwords t = if nat_lt 2 (data_pages t) then list_qwords (room t) (data_pages t) else 0
 
 -- the Qword of the list that holds data page j's address, j from 1 on
 unfoldable pub naming_qword : Transfer → ℕ → ℕ

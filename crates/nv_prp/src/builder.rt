@@ -1,10 +1,10 @@
 //! Transfers built for a buffer in pages.
 
-ghost use Rattle.std.specs.Prelude.{◌≡◌, ◌≢◌, ℕ, ◌==◌, ◌+◌, ◌-◌, ◌*◌, ◌%◌, ◌/◌, ◌<◌, ◌≤◌, ◌^◌, ◌∷◌, if◌then◌else◌, length, nat_lt, slice_index};
+ghost use Rattle.std.specs.Prelude.{◌≡◌, ◌≢◌, ℕ, ◌+◌, ◌*◌, ◌<◌, ◌≤◌, ◌^◌, ◌∷◌, length};
 ghost use Rattle.nv_host.specs.Pages.{IsPageSize};
-ghost use Rattle.nv_prp.specs.Buffers.{IsBuffer, IsListPlace, KeepsOutside, buffer_place, new_list, new_page, new_place, new_qwords};
+ghost use Rattle.nv_prp.specs.Buffers.{IsBuffer, IsListPlace, KeepsOutside, buffer_place, named_page, new_list, new_page, new_place, new_qwords};
 ghost use Rattle.nv_prp.specs.Places.{AreDistinct};
-ghost use Rattle.nv_prp.specs.Transfer.{IsLegal, data_pages as pages_of, place_of, qword, transfer};
+ghost use Rattle.nv_prp.specs.Transfer.{IsLegal, data_pages as pages_of, list_place, list_qwords, place_of, qword, transfer};
 
 use crate::entry::store_qword;
 use crate::walker::{data_pages, qwords_of};
@@ -95,9 +95,7 @@ fn page_address<M: HostMemory>(mem: &M, page: PageNo) -> u64
 /// The address of a Qword of a list.
 fn qword_address<M: HostMemory>(mem: &M, list: &ListPlace, room: u32, number: u32) -> u64
     requires { number < 1000 }
-    ensures { result ≡ (if nat_lt number room
-        then list.now.first * M.page_len mem.now + list.now.offset + 8 * number
-        else list.now.second * M.page_len mem.now + 8 * (number - room)) }
+    ensures { result ≡ list_place room (list.now.first * M.page_len mem.now + list.now.offset) (list.now.second * M.page_len mem.now) number }
 {
     if number < room {
         page_address(mem, list.first) + u64::from(list.offset) + 8 * u64::from(number)
@@ -111,11 +109,8 @@ fn named_page(pages: &[PageNo], second: PageNo, room: u32, count: u32, number: u
     requires few { number < 1000 }
     requires enough { count ≤ length pages.now }
     requires some { 0 < count }
-    requires used { number < (if nat_lt room (count - 1) then count else count - 1) }
-    ensures { result ≡ (if nat_lt room (count - 1)
-        then (if number + 1 == room then second
-        else (if nat_lt number room then slice_index pages.now (number + 1) else slice_index pages.now number))
-        else slice_index pages.now (number + 1)) }
+    requires used { number < list_qwords room count }
+    ensures { result ≡ named_page room count pages.now second number }
 {
     let chained = room < count - 1;
     if chained && number + 1 == room {

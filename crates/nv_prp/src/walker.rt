@@ -1,10 +1,10 @@
 //! The walk over a transfer's entries.
 
-ghost use Rattle.std.specs.Prelude.{◌≡◌, ◌+◌, ◌-◌, ◌%◌, ◌/◌, ◌*◌, ◌<◌, ◌≤◌, ◌↔◌, ◌∷◌, [], IfErr, IsOk, IsTrue, MatchResult, OnErr, OnOk, if◌then◌else◌, length, min, nat_lt};
+ghost use Rattle.std.specs.Prelude.{◌≡◌, ◌+◌, ◌-◌, ◌%◌, ◌/◌, ◌*◌, ◌<◌, ◌≤◌, ◌↔◌, ◌∷◌, [], IfErr, IsOk, IsTrue, MatchResult, OnErr, OnOk, length, min};
 ghost use Rattle.std.specs.Int.{div_ceil};
 ghost use Rattle.nv_host.specs.Pages.{IsPageSize};
 ghost use Rattle.nv_prp.specs.Places.{LieIn, places};
-ghost use Rattle.nv_prp.specs.Transfer.{HasList, IsLegal, data_pages as pages_of, first_fault, prp1_fault, span_of, spans_of, transfer, transfer_places};
+ghost use Rattle.nv_prp.specs.Transfer.{HasList, IsLegal, data_pages as pages_of, first_fault, list_qwords, prp1_fault, span_of, spans_of, transfer, transfer_places};
 
 use crate::entry::{check, load_qword};
 use crate::{PrpError, Span, Spans};
@@ -147,7 +147,7 @@ fn walk_qwords<M: HostMemory>(
 /// second list page where the first one has no room for them.
 pub fn qwords_of(pages: u32, room: u32) -> u32
     requires { 0 < pages }
-    ensures { result ≡ (if nat_lt room (pages - 1) then pages else pages - 1) }
+    ensures { result ≡ list_qwords room pages }
 {
     if room < pages - 1 { pages } else { pages - 1 }
 }
