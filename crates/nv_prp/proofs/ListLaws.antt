@@ -163,7 +163,7 @@ pub record NamesPage (t : Transfer) (n : ℕ) : Type 0 where
   pub next_page : known_pages t (n + 1) ≡ known_pages t n + 1
   pub next_place : n + 1 < qwords t → qword_place t (n + 1) ≡ qword_place t n + 8
 
-pub at_page : (t : Transfer) (n : ℕ) → HasList t → n < qwords t → (n + 1 ≡ room t → room t < data_pages t - 1 → ⊥) → NamesPage t n
+at_page : (t : Transfer) (n : ℕ) → HasList t → n < qwords t → (n + 1 ≡ room t → room t < data_pages t - 1 → ⊥) → NamesPage t n
 at_page t n list used other =
     elim (cases_lt (room t) (data_pages t - 1)) [
       | inl chained ↦ elim (cases_lt n (room t)) [
@@ -245,10 +245,14 @@ chained_here t n page space pages e f h leads =
     let last : n + 1 ≡ room t = leads.0 ∙ f in
     (last, omega (arith, leads.1, known_near t n (omega arith)))
 
-pub not_chained_here : (t : Transfer) (n page space pages : ℕ) → page ≡ known_pages t n → space ≡ room t → pages ≡ data_pages t
+not_chained_here : (t : Transfer) (n page space pages : ℕ) → page ≡ known_pages t n → space ≡ room t → pages ≡ data_pages t
     → ((n + 1 ≡ space) × (page + 1 < pages) → ⊥) → n + 1 ≡ room t → room t < data_pages t - 1 → ⊥
 not_chained_here t n page space pages e f h not last chained =
     not (last ∙ sym f, omega (arith, known_near t n (omega arith)))
+
+pub names_here : (t : Transfer) (n page space pages : ℕ) → HasList t → n < qwords t → page ≡ known_pages t n → space ≡ room t → pages ≡ data_pages t
+    → ((n + 1 ≡ space) × (page + 1 < pages) → ⊥) → NamesPage t n
+names_here t n page space pages list used e f h not = at_page t n list used (not_chained_here t n page space pages e f h not)
 
 -- no more Qwords than data pages
 pub few_qwords : (t : Transfer) → HasList t → qwords t ≤ 257

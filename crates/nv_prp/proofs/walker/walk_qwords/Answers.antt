@@ -5,7 +5,7 @@ use Rattle.nv_host.specs.PageLaws.{page_size_bounds}
 use Rattle.nv_prp.specs.Places.{table}
 use Rattle.nv_prp.specs.Transfer.{page_base, qword, qword_fault, qword_place, qwords, span_of, spans_of, transfer}
 use Rattle.nv_prp.proofs.FaultLaws.{fault_at_qword}
-use Rattle.nv_prp.proofs.ListLaws.{NamesPage, at_chain, at_end, at_page, at_start, chained_here, few_known, few_qwords, known_pages, not_chained_here, prp2_of_list, qword_fault_is, qword_inside, qwords_are}
+use Rattle.nv_prp.proofs.ListLaws.{at_chain, at_end, at_start, chained_here, few_known, few_qwords, known_pages, names_here, prp2_of_list, qword_fault_is, qword_inside, qwords_are}
 use Rattle.nv_prp.proofs.PageLaws.{at_most_257, page_begins, span_with_base}
 use Rattle.nv_prp.proofs.PlaceLaws.{length-table, table-more}
 use Rattle.nv_prp.proofs.walker.walk_qwords.Goals as goal
@@ -47,8 +47,7 @@ pub leads_on-requires-clause-number : goal.leads_on-requires-clause-number
 leads_on-requires-clause-number g c =
     let t = transfer (g.M.HostMemory.page_len c.args.mem.now) (g.M.HostMemory.bytes c.args.mem.now) c.args.prp1 c.args.prp2 c.args.len in
     let now = c.loop-number.invariant in
-    let used : c.loop-number.number < qwords t = omega (arith, now.all) in
-    omega (arith, few_qwords t c.requires.list)
+    omega (arith, now.all, few_qwords t c.requires.list)
 
 pub leads_on-requires-clause-page : goal.leads_on-requires-clause-page
 leads_on-requires-clause-page g c =
@@ -62,9 +61,7 @@ later_span-requires-clause-later g c =
     let t = transfer (g.M.HostMemory.page_len c.args.mem.now) (g.M.HostMemory.bytes c.args.mem.now) c.args.prp1 c.args.prp2 c.args.len in
     let now = c.loop-number.invariant in
     let used : c.loop-number.number < qwords t = omega (arith, now.all) in
-    let names : NamesPage t c.loop-number.number = at_page t c.loop-number.number c.requires.list used
-    (not_chained_here t c.loop-number.number c.loop-number.page c.room_in_page-room.result c.data_pages-pages.result
-    now.page c.room_in_page-room.ensures c.data_pages-pages.ensures (iff_false c.leads_on.ensures c.if-leads_on.false)) in
+    let names = names_here t _ _ _ _ c.requires.list used now.page c.room_in_page-room.ensures c.data_pages-pages.ensures (iff_false c.leads_on.ensures c.if-leads_on.false) in
     omega (arith, now.page, names.later)
 
 pub later_span-requires-clause-few : goal.later_span-requires-clause-few
@@ -72,9 +69,7 @@ later_span-requires-clause-few g c =
     let t = transfer (g.M.HostMemory.page_len c.args.mem.now) (g.M.HostMemory.bytes c.args.mem.now) c.args.prp1 c.args.prp2 c.args.len in
     let now = c.loop-number.invariant in
     let used : c.loop-number.number < qwords t = omega (arith, now.all) in
-    let names : NamesPage t c.loop-number.number = at_page t c.loop-number.number c.requires.list used
-    (not_chained_here t c.loop-number.number c.loop-number.page c.room_in_page-room.result c.data_pages-pages.result
-    now.page c.room_in_page-room.ensures c.data_pages-pages.ensures (iff_false c.leads_on.ensures c.if-leads_on.false)) in
+    let names = names_here t _ _ _ _ c.requires.list used now.page c.room_in_page-room.ensures c.data_pages-pages.ensures (iff_false c.leads_on.ensures c.if-leads_on.false) in
     omega (arith, now.page, names.below, at_most_257 t c.requires.list.size c.requires.list.limit)
 
 pub later_span-requires-clause-begins : goal.later_span-requires-clause-begins
@@ -82,9 +77,7 @@ later_span-requires-clause-begins g c =
     let t = transfer (g.M.HostMemory.page_len c.args.mem.now) (g.M.HostMemory.bytes c.args.mem.now) c.args.prp1 c.args.prp2 c.args.len in
     let now = c.loop-number.invariant in
     let used : c.loop-number.number < qwords t = omega (arith, now.all) in
-    let names : NamesPage t c.loop-number.number = at_page t c.loop-number.number c.requires.list used
-    (not_chained_here t c.loop-number.number c.loop-number.page c.room_in_page-room.result c.data_pages-pages.result
-    now.page c.room_in_page-room.ensures c.data_pages-pages.ensures (iff_false c.leads_on.ensures c.if-leads_on.false)) in
+    let names = names_here t _ _ _ _ c.requires.list used now.page c.room_in_page-room.ensures c.data_pages-pages.ensures (iff_false c.leads_on.ensures c.if-leads_on.false) in
     let some : 0 < t.page_size = omega (arith, page_size_bounds t.page_size c.requires.list.size) in
     page_begins t c.loop-number.page some (omega (arith, now.page, names.below))
 
@@ -93,9 +86,7 @@ push-requires g c =
     let t = transfer (g.M.HostMemory.page_len c.args.mem.now) (g.M.HostMemory.bytes c.args.mem.now) c.args.prp1 c.args.prp2 c.args.len in
     let now = c.loop-number.invariant in
     let used : c.loop-number.number < qwords t = omega (arith, now.all) in
-    let names : NamesPage t c.loop-number.number = at_page t c.loop-number.number c.requires.list used
-    (not_chained_here t c.loop-number.number c.loop-number.page c.room_in_page-room.result c.data_pages-pages.result
-    now.page c.room_in_page-room.ensures c.data_pages-pages.ensures (iff_false c.leads_on.ensures c.if-leads_on.false)) in
+    let names = names_here t _ _ _ _ c.requires.list used now.page c.room_in_page-room.ensures c.data_pages-pages.ensures (iff_false c.leads_on.ensures c.if-leads_on.false) in
     let count : length c.loop-number.spans ≡ c.loop-number.page = ap length now.spans ∙ length-table c.loop-number.page (span_of t) in
     omega (arith, now.page, names.below, at_most_257 t c.requires.list.size c.requires.list.limit)
 
@@ -104,9 +95,7 @@ overflow_add-page g c =
     let t = transfer (g.M.HostMemory.page_len c.args.mem.now) (g.M.HostMemory.bytes c.args.mem.now) c.args.prp1 c.args.prp2 c.args.len in
     let now = c.loop-number.invariant in
     let used : c.loop-number.number < qwords t = omega (arith, now.all) in
-    let names : NamesPage t c.loop-number.number = at_page t c.loop-number.number c.requires.list used
-    (not_chained_here t c.loop-number.number c.loop-number.page c.room_in_page-room.result c.data_pages-pages.result
-    now.page c.room_in_page-room.ensures c.data_pages-pages.ensures (iff_false c.leads_on.ensures c.if-leads_on.false)) in
+    let names = names_here t _ _ _ _ c.requires.list used now.page c.room_in_page-room.ensures c.data_pages-pages.ensures (iff_false c.leads_on.ensures c.if-leads_on.false) in
     omega (arith, now.page, names.below, at_most_257 t c.requires.list.size c.requires.list.limit)
 
 pub overflow_add-at : goal.overflow_add-at
@@ -114,9 +103,7 @@ overflow_add-at g c =
     let t = transfer (g.M.HostMemory.page_len c.args.mem.now) (g.M.HostMemory.bytes c.args.mem.now) c.args.prp1 c.args.prp2 c.args.len in
     let now = c.loop-number.invariant in
     let used : c.loop-number.number < qwords t = omega (arith, now.all) in
-    let names : NamesPage t c.loop-number.number = at_page t c.loop-number.number c.requires.list used
-    (not_chained_here t c.loop-number.number c.loop-number.page c.room_in_page-room.result c.data_pages-pages.result
-    now.page c.room_in_page-room.ensures c.data_pages-pages.ensures (iff_false c.leads_on.ensures c.if-leads_on.false)) in
+    let names = names_here t _ _ _ _ c.requires.list used now.page c.room_in_page-room.ensures c.data_pages-pages.ensures (iff_false c.leads_on.ensures c.if-leads_on.false) in
     let inside = qword_inside t c.loop-number.number c.requires.list used now.none in
     omega (arith, now.place used, inside, c.in_ok-check.ensures.1)
 
@@ -144,9 +131,7 @@ loop-number-preserved g c =
             spans = w.spans-is ∙ now.spans ∙ ap (λ k. table k (span_of t)) (sym w.page-is);
           }
       | else-leads_on w ↦
-          let names : NamesPage t n = at_page t n c.requires.list used
-          (not_chained_here t n c.loop-number.page c.room_in_page-room.result c.data_pages-pages.result
-          now.page c.room_in_page-room.ensures c.data_pages-pages.ensures (iff_false c.leads_on.ensures w.if-leads_on.false)) in
+          let names = names_here t _ _ _ _ c.requires.list used now.page c.room_in_page-room.ensures c.data_pages-pages.ensures (iff_false c.leads_on.ensures w.if-leads_on.false) in
           let some : 0 < t.page_size = omega (arith, page_size_bounds t.page_size c.requires.list.size) in
           let span : span_of t c.loop-number.page ≡ w.later_span.result =
           span_with_base t c.loop-number.page c.load_qword-entry.result some (omega (arith, now.page, names.later))
