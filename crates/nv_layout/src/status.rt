@@ -22,6 +22,15 @@ impl Status {
     ghost use Rattle.std.specs.Prelude.{◌≡◌, ◌↔◌, IsTrue};
     ghost use Rattle.nv_layout.specs.Status.{number_of_status, status_of_number};
 
+    /// Successful Completion.
+    pub const SUCCESS: Status = Status {
+        sc: 0,
+        sct: 0,
+        crd: 0,
+        more: false,
+        dnr: false,
+    };
+
     /// Whether the command was accepted: status code 0 of the generic type. Section "Generic Command
     /// Status Definition".
     pub fn is_success(self) -> bool

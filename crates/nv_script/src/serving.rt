@@ -11,15 +11,6 @@ use crate::entries::decode;
 use nv_layout::{Cqe, Sqe, Status};
 use nv_subsystem::{Origin, Reply, Subsystem};
 
-/// The status of a command that was accepted.
-const SUCCESS: Status = Status {
-    sc: 0,
-    sct: 0,
-    crd: 0,
-    more: false,
-    dnr: false,
-};
-
 /// A subsystem that takes one submission queue entry at a time, and writes the data of its reply to the
 /// front of a page.
 pub trait Direct {
@@ -103,7 +94,7 @@ impl Direct for Straight {
         match self.subsystem.execute(ctrl, &command, origin) {
             Ok(reply) => {
                 put_reply(&reply, page);
-                completion(entry.cid, SUCCESS)
+                completion(entry.cid, Status::SUCCESS)
             }
             Err(refusal) => completion(entry.cid, refusal.status),
         }
