@@ -2,7 +2,7 @@
 
 use crate::harness::run_script;
 use nv_script::RunEnd;
-use nv_subsystem::DEMO;
+use nv_subsystem::{Command, DEMO, Origin, Subsystem};
 use std::test::Fail;
 
 #[test]
@@ -131,5 +131,25 @@ fn books_refusals_on_their_controller(rt: HostRuntime) -> Result<(), Fail> {
         }
     }
     assert!(rt; subsystem.log_entry(0, 2).is_none());
+    Ok(())
+}
+
+#[test]
+fn keeps_the_phase_tag_of_a_refusal(rt: HostRuntime) -> Result<(), Fail> {
+    let mut subsystem = Subsystem::from_toml(rt.alloc(), DEMO.as_bytes())?;
+    for (cid, phase) in [(7, true), (8, false)] {
+        let command = Command::AllocatedNamespace { nsid: 0 };
+        assert!(rt; subsystem.controllers() == 2);
+        assert!(rt;
+            subsystem
+                .execute(0, &command, Origin { cid, phase })
+                .is_err()
+        );
+        assert!(rt; subsystem.controllers() == 2);
+        match subsystem.log_entry(0, 0) {
+            None => panic!(rt; "an entry is missing"),
+            Some(entry) => assert!(rt; entry.cid == cid && entry.phase == phase),
+        }
+    }
     Ok(())
 }

@@ -28,6 +28,9 @@ use std::marker::Model;
 /// The NSID that names every namespace.
 const BROADCAST: u32 = 0xffff_ffff;
 
+/// The least NSID after which no list can be asked for. Section "Identify command".
+const LIST_LIMIT: u32 = 0xffff_fffe;
+
 /// An NVM subsystem.
 #[derive(Drop)]
 pub struct Subsystem {
@@ -137,8 +140,9 @@ impl Subsystem {
         let holds = match command {
             Command::IdentifyNamespace { nsid } => self.is_valid(*nsid) || *nsid == BROADCAST,
             Command::AllocatedNamespace { nsid } => self.is_valid(*nsid),
-            Command::ActiveList { after } | Command::AllocatedList { after } => *after
-                < 0xffff_fffe,
+            Command::ActiveList { after } | Command::AllocatedList { after } => {
+                *after < LIST_LIMIT
+            }
         };
         if holds {
             None
