@@ -1,12 +1,13 @@
 -- The buffer of a measured transfer: pages 2 to 258 of a memory of 259 pages.
 use Rattle.std.proofs.Common.{◌≡◌, ◌∙◌, ℕ, suc, zero, ◌+◌, ◌*◌, ◌<◌, ◌≤◌, List, ◌∷◌, length, get_or, mul-le-mul_left, mul-le-mul_right, sym, subst, refl, arith}
-use Rattle.std.specs.Prelude.{All, replicate}
+use Rattle.std.specs.Prelude.{replicate}
 use Rattle.std.proofs.lemmas.List.{length-replicate}
 use Rattle.std.proofs.lemmas.List.Elements.{All-from_get_or}
 use Rattle.nv_host.specs.PageLaws.{page_size_bounds}
 use Rattle.nv_host.specs.Pages.{HasPage, IsPageSize, PagedBytes}
 use Rattle.nv_prp.specs.Buffers.{IsBuffer, IsListPlace}
 use Rattle.nv_prp.specs.Places.{AreDistinct, table}
+use Rattle.nv_prp.proofs.BuiltLaws.{buffer_kept}
 use Rattle.nv_prp.proofs.PlaceLaws.{get_or-table, length-table}
 
 -- the memory was made of so many pages
@@ -55,12 +56,7 @@ are_distinct n pages e = subst (λ ps. AreDistinct (0 ∷ 1 ∷ ps)) (sym e) (λ
     omega (arith, one, before))
 
 -- a buffer stays one while the memory keeps its size
-pub buffer_stays : (old new : List ℕ) (old_size new_size : ℕ) (pages : List ℕ) (offset len : ℕ) → length new ≡ length old → new_size ≡ old_size
-    → IsBuffer old old_size pages offset len → IsBuffer new new_size pages offset len
-buffer_stays old new old_size new_size pages offset len same_len same_size h =
-    subst (λ size. IsBuffer new size pages offset len) (sym same_size) (record {
-      below = h.below;
-      aligned = h.aligned;
-      enough = h.enough;
-      inside = subst (λ n. All (λ page. (page + 1) * old_size ≤ n) pages) (sym same_len) h.inside;
-    })
+pub buffer_stays : {old_size new_size start len : ℕ} {old new pages : List ℕ} → length new ≡ length old → new_size ≡ old_size
+    → IsBuffer old old_size pages start len → IsBuffer new new_size pages start len
+buffer_stays {start = start} {len = len} {new = new} {pages = pages} same_len same_size h =
+    subst (λ size. IsBuffer new size pages start len) (sym same_size) (buffer_kept _ new _ pages start len same_len h)
