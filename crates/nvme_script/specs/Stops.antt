@@ -2,6 +2,8 @@
 use Rattle.std.specs.Prelude.{ℕ, Result, Ok, Err}
 use Rattle.nv_script.specs.declared.ends.RunEnd.{RunEnd}
 use Rattle.nv_script.specs.declared.ends.RunEnd.TheVariants as end
+use Rattle.nv_subsystem.specs.declared.error.SubsystemError.{SubsystemError}
+use Rattle.nv_subsystem.specs.declared.error.SubsystemError.TheVariants as error
 use Rattle.nvme_script.specs.declared.stop.Stop.{Stop}
 use Rattle.nvme_script.specs.declared.stop.Stop.TheVariants as stop
 
@@ -12,6 +14,11 @@ exit_status (stop.Subsystem e) = 3
 exit_status stop.Read = 4
 exit_status stop.Write = 5
 exit_status stop.Memory = 6
+
+-- a subsystem file that was refused
+abbrev pub of_file : SubsystemError → Stop
+of_file error.Memory = stop.Memory
+of_file e = stop.Subsystem e
 
 -- the status of a run that came to the end of its script, or why it stopped
 abbrev pub ended : RunEnd → Result ℕ Stop

@@ -1,7 +1,8 @@
 //! Why the program stops, and the exit status that it stops with.
 
 ghost use Rattle.std.specs.Prelude.{◌≡◌};
-ghost use Rattle.nvme_script.specs.Stops.{ended, exit_status};
+ghost use Rattle.nvme_script.specs.Stops.{ended, exit_status, of_file};
+ghost use Rattle.nvme_script.specs.declared.stop.Stop.TheVariants.{Memory};
 
 use nv_script::RunEnd;
 use nv_subsystem::SubsystemError;
@@ -43,6 +44,8 @@ impl Stop {
 }
 
 impl From<SubsystemError> for Stop {
+    ghost from_gives = { λ error stop. stop ≡ of_file error };
+
     fn from(error: SubsystemError) -> Stop {
         match error {
             SubsystemError::Memory => Stop::Memory,
@@ -52,6 +55,8 @@ impl From<SubsystemError> for Stop {
 }
 
 impl From<AllocError> for Stop {
+    ghost from_gives = { λ _ stop. stop ≡ Memory };
+
     fn from(_: AllocError) -> Stop {
         Stop::Memory
     }
