@@ -1,5 +1,7 @@
 -- Why the program stops, and the exit status that it stops with.
 use Rattle.std.specs.Prelude.{ℕ, Result, Ok, Err}
+use Rattle.std.specs.declared.io.ErrorKind.{ErrorKind}
+use Rattle.std.specs.declared.io.ErrorKind.TheVariants as kind
 use Rattle.nv_script.specs.declared.ends.RunEnd.{RunEnd}
 use Rattle.nv_script.specs.declared.ends.RunEnd.TheVariants as end
 use Rattle.nv_subsystem.specs.declared.error.SubsystemError.{SubsystemError}
@@ -14,6 +16,11 @@ exit_status (stop.Subsystem e) = 3
 exit_status stop.Read = 4
 exit_status stop.Write = 5
 exit_status stop.Memory = 6
+
+-- want of memory is told as such, and any other fault as what it means there
+abbrev pub unless_memory : ErrorKind → Stop → Stop
+unless_memory kind.OutOfMemory otherwise = stop.Memory
+unless_memory other otherwise = otherwise
 
 -- a subsystem file that was refused
 abbrev pub of_file : SubsystemError → Stop

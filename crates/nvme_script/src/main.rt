@@ -11,27 +11,20 @@ use arguments::subsystem_file;
 use nv_script::{OverRead, OverWrite, Straight, run};
 use nv_subsystem::{DEMO, Subsystem};
 use std::alloc::Global;
-use std::fs;
-use std::io::{self, BufWriter, ErrorKind, Read, Write};
+use std::io::{self, BufWriter, Read, Write};
 use std::process::ExitCode;
+use std::{env, fs};
 use stop::{Stop, status_of};
 
 /// The longest subsystem file in bytes.
 const MOST_BYTES: u64 = 1_048_576;
 
-/// Why a file could not be read.
-fn file_fault(error: io::Error) -> Stop {
-    match error.kind() {
-        ErrorKind::OutOfMemory => Stop::Memory,
-        _ => Stop::Unreadable,
-    }
-}
-
 /// The bytes of a file.
 fn bytes_of(rt: &HostRuntime, path: &str) -> Result<Vec<u8>, Stop> {
-    let mut file = fs::open(rt, path).map_err(file_fault)?.take(MOST_BYTES + 1);
+    let unreadable = |error| Stop::of_fault(error, Stop::Unreadable);
+    let mut file = fs::open(rt, path).map_err(unreadable)?.take(MOST_BYTES + 1);
     let mut bytes = Vec::new(rt.alloc());
-    let count = file.read_to_end(&mut bytes).map_err(file_fault)?;
+    let count = file.read_to_end(&mut bytes).map_err(unreadable)?;
     if count as u64 > MOST_BYTES {
         return Err(Stop::Unreadable);
     }
@@ -64,9 +57,7 @@ fn subsystem(rt: &HostRuntime) -> Result<Subsystem, Stop>
     ensures { IfOk result IsWellFormed }
 {
     let alloc = rt.alloc();
-    let Ok(arguments) = std::env::args(rt) else {
-        return Err(Stop::Memory);
-    };
+    let arguments = env::args(rt).map_err(|error| Stop::of_fault(error, Stop::Arguments))?;
     let texts: Vec<String> = arguments.collect(alloc)?;
     let words: Vec<&str> = texts.iter().map(|text| text.as_str()).collect(alloc)?;
     let path = subsystem_file(alloc, words.as_slice())?;

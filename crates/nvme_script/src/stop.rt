@@ -1,12 +1,14 @@
 //! Why the program stops, and the exit status that it stops with.
 
 ghost use Rattle.std.specs.Prelude.{◌≡◌};
-ghost use Rattle.nvme_script.specs.Stops.{ended, exit_status, of_file};
+ghost use Rattle.std.specs.IoError.{error_kind};
+ghost use Rattle.nvme_script.specs.Stops.{ended, exit_status, of_file, unless_memory};
 ghost use Rattle.nvme_script.specs.declared.stop.Stop.TheVariants.{Memory};
 
 use nv_script::RunEnd;
 use nv_subsystem::SubsystemError;
 use std::alloc::AllocError;
+use std::io::{self, ErrorKind};
 use thiserror::Error;
 
 /// Why a run didn't come to the end of its script.
@@ -39,6 +41,16 @@ impl Stop {
             Stop::Read => 4,
             Stop::Write => 5,
             Stop::Memory => 6,
+        }
+    }
+
+    /// What a fault of the arguments or of a file stops the program with: want of memory, or this.
+    pub fn of_fault(error: io::Error, otherwise: Stop) -> Stop
+        ensures { result ≡ unless_memory (error_kind error) otherwise }
+    {
+        match error.kind() {
+            ErrorKind::OutOfMemory => Stop::Memory,
+            _ => otherwise,
         }
     }
 }
