@@ -85,7 +85,7 @@ impl IdNs {
     ghost use Rattle.std.specs.Prelude.{◌≡◌};
     ghost use Rattle.nv_layout.specs.IdNs.{bytes_of_id_ns, id_ns_of_bytes};
 
-    /// Writes the data's bytes.
+    /// Writes the data's bytes. The relative performance of a format is cut to its two bits.
     #[tactic(auto, unfolding(crate::specs::IdNs::bytes_of_id_ns))]
     pub fn put(&self, out: &mut [u8; 4096])
         ensures { out.new ≡ bytes_of_id_ns self.now }

@@ -1,6 +1,17 @@
 //! The records that an NVM Express host and a controller exchange, to and from bytes. All numbers
 //! are little endian. Reserved bytes and bits are written 0 and ignored on reading.
 //!
+//! A record is a plain struct with the standard's field names. `put` writes its bytes, `get` reads them:
+//!
+//! ```
+//! let command = Sqe { opcode: 0x06, cid: 7, nsid: 1, .. };
+//! let mut bytes = [0; 64];
+//! command.put(&mut bytes);
+//! let same = Sqe::get(&bytes);
+//! ```
+//!
+//! A field wider than its bits is cut to them by `put`; a record whose fields fit is what `get` reads.
+//!
 //! Sections are named as in the NVM Express Base Specification, revision 1.4.
 #![tactic(auto)]
 
@@ -27,7 +38,8 @@ pub use ns_list::NsList;
 pub use sqe::Sqe;
 pub use status::Status;
 
-/// The law of this crate: a record whose fields fit their bits is what is read from its bytes.
+/// The law of this crate: a record whose fields fit their bits is what is read from its bytes. The call
+/// does nothing.
 pub fn reads_back()
     ensures sqe { SqeReadsBack }
     ensures cqe { CqeReadsBack }

@@ -5,6 +5,7 @@ ghost use Rattle.nv_layout.specs.NsList.{bytes_of_ns_list, ns_list_of_bytes};
 ghost use Rattle.nv_layout.specs.Parts.{zeros};
 
 use crate::parts::{clear, put_u32s, u32_at};
+use std::fmt;
 use std::marker::Model;
 
 /// Up to 1,024 namespace identifiers. In the list's bytes they are followed by zeros, so that a 0
@@ -21,6 +22,34 @@ impl Model for NsList {
     ghost view = { λ s. take s.len s.ids };
 
     ghost invariant = { λ s. (s.len ≤ 1024) × (drop s.len s.ids ≡ zeros (1024 - s.len)) };
+}
+
+/// Lists are equal where their identifiers are, in order.
+impl PartialEq for NsList {
+    ghost use Rattle.std.specs.Cmp.Lexicographic.{pointwise};
+    ghost use Rattle.std.specs.Cmp.{partial_equiv_from_equiv};
+    ghost use Rattle.std.specs.Prelude.{nat_eq};
+    ghost use Rattle.std.proofs.lemmas.Cmp.{nat_list_eq_equiv};
+
+    ghost eq = { λ a b. pointwise nat_eq a b };
+
+    ghost laws = { partial_equiv_from_equiv nat_list_eq_equiv };
+
+    fn eq(&self, other: &NsList) -> bool {
+        self.as_slice() == other.as_slice()
+    }
+}
+
+impl Eq for NsList {
+    ghost use Rattle.std.proofs.lemmas.Cmp.{nat_list_eq_equiv};
+
+    ghost laws = { nat_list_eq_equiv };
+}
+
+impl fmt::Debug for NsList {
+    fn fmt<W: fmt::Write>(&self, f: &mut fmt::Formatter<W>) -> fmt::Result {
+        f.debug_list().entries(self.as_slice().iter()).finish()
+    }
 }
 
 impl NsList {
@@ -67,7 +96,7 @@ impl NsList {
         self.len += 1;
     }
 
-    /// Writes the list's bytes.
+    /// Writes the list's bytes, all 4,096 of them.
     #[tactic(auto, unfolding(crate::specs::NsList::bytes_of_ns_list))]
     pub fn put(&self, out: &mut [u8; 4096])
         ensures { out.new ≡ bytes_of_ns_list self.now }

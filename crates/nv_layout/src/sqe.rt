@@ -49,7 +49,7 @@ impl Sqe {
             + to_bits(self.cid as u32, 16, 16)
     }
 
-    /// Writes the entry's bytes.
+    /// Writes the entry's bytes. FUSE and PSDT are cut to their two bits.
     #[tactic(auto, unfolding(crate::specs::Sqe::bytes_of_sqe))]
     pub fn put(&self, out: &mut [u8; 64])
         ensures { out.new ≡ bytes_of_sqe self.now }

@@ -39,7 +39,7 @@ impl Status {
         self.sct == 0 && self.sc == 0
     }
 
-    /// The field as a number of 15 bits.
+    /// The field as a number of 15 bits. The type is cut to its three bits, the delay to its two.
     #[tactic(auto, unfolding(crate::specs::Status::number_of_status))]
     pub fn number(self) -> u16
         ensures { result ≡ number_of_status self }

@@ -1,5 +1,6 @@
 use super::*;
 use std::process::Abort;
+use std::test::Fail;
 
 /// Writes pieces of a record's bytes at their places.
 fn write_pieces(rt: &impl Abort, bytes: &mut [u8], pieces: &[(usize, &[u8])]) {
@@ -161,4 +162,17 @@ fn namespace_list_ends_at_a_zero_or_is_full(rt: HostRuntime) {
     assert_eq!(rt; NsList::get(&bytes).as_slice(), [5].as_slice());
     let full = NsList::get(&[1; 4096]);
     assert_eq!(rt; full.as_slice(), [0x0101_0101; 1024].as_slice());
+}
+
+#[test]
+fn namespace_lists_compare_and_print_as_lists(rt: HostRuntime) -> Result<(), Fail> {
+    let mut one = NsList::new();
+    one.push(1);
+    let mut two = NsList::new();
+    two.push(1);
+    assert!(rt; one == two);
+    two.push(3);
+    assert!(rt; one != two);
+    assert!(rt; format!(in rt.alloc(); "{two:?}")?.as_str() == "[1, 3]");
+    Ok(())
 }
