@@ -1,4 +1,1 @@
-pub mod PartLaws
-pub mod TableLaws
-pub mod NsListLaws
 pub mod RecordLaws

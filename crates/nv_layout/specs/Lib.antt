@@ -4,3 +4,7 @@ pub mod Sqe
 pub mod Cqe
 pub mod NsList
 pub mod IdNs
+pub mod PartLaws
+pub mod TableLaws
+pub mod NsListLaws
+pub mod RecordLaws

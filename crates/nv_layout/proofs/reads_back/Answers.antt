@@ -1,4 +1,4 @@
-use Rattle.nv_layout.proofs.RecordLaws.{cqe_back, id_ns_back, ns_list_back, sqe_back, status_back}
+use Rattle.nv_layout.specs.RecordLaws.{cqe_back, id_ns_back, ns_list_back, sqe_back, status_back}
 use Rattle.nv_layout.proofs.reads_back.Goals as goal
 
 pub returns-clause-sqe : goal.returns-clause-sqe

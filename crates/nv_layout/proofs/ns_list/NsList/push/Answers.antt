@@ -1,6 +1,6 @@
 use Rattle.std.proofs.Common.{◌<◌, ap, arith, length}
 use Rattle.std.proofs.lemmas.Grind.{common_steps}
-use Rattle.nv_layout.proofs.NsListLaws.{drop-set_zeros}
+use Rattle.nv_layout.specs.NsListLaws.{drop-set_zeros}
 use Rattle.nv_layout.proofs.ns_list.NsList.push.Goals as goal
 
 pub invariant_of-self : goal.invariant_of-self

@@ -5,7 +5,7 @@ use Rattle.std.proofs.lemmas.List.{drop-drop, drop-replicate, drop-set-lt, lengt
 use Rattle.std.proofs.lemmas.Bool.{false_from_ne_true}
 use Rattle.nv_layout.specs.NsList.{is_zero, padded}
 use Rattle.nv_layout.specs.Parts.{number_at, numbers_at, zeros}
-use Rattle.nv_layout.proofs.PartLaws.{get_or-numbers_at, length-numbers_at, length_zeros}
+use Rattle.nv_layout.specs.PartLaws.{get_or-numbers_at, length-numbers_at, length_zeros}
 
 -- ---- one more identifier in the list's array
 

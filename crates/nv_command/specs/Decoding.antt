@@ -1,0 +1,42 @@
+-- The command of an entry, or the status of the first rule that the entry breaks.
+use Rattle.std.specs.Prelude.{ℕ, ◌==◌, ◌&&◌, Bool, List, Result, Ok, Err, if◌then◌else◌}
+use Rattle.nv_layout.specs.declared.sqe.Sqe.{Sqe}
+use Rattle.nv_command.specs.Identify.{identify_command, identify_transfer}
+use Rattle.nv_command.specs.Steps.{◌>>=◌}
+use Rattle.nv_command.specs.declared.command.Command.{Command}
+use Rattle.nv_command.specs.declared.entry.Opcode.{Opcode}
+use Rattle.nv_command.specs.declared.entry.Opcode.TheVariants.{Identify}
+use Rattle.nv_command.specs.declared.status_code.StatusCode.{StatusCode}
+use Rattle.nv_command.specs.declared.status_code.StatusCode.TheVariants.{InvalidCommandOpcode, InvalidFieldInCommand}
+use Rattle.nv_command.specs.declared.transfer.Transfer.{Transfer}
+
+abbrev pub opcode_by : ℕ → Result Opcode StatusCode
+opcode_by n = if n == 0x06 then Ok Identify else Err InvalidCommandOpcode
+
+-- neither fused nor by SGLs
+abbrev pub is_plain : Sqe → Bool
+is_plain e = e.fuse == 0 && e.psdt == 0
+
+-- the opcode is known, and the entry is plain
+abbrev pub opcode_of : Sqe → Result Opcode StatusCode
+opcode_of e = do
+  opcode ← opcode_by e.opcode
+  if is_plain e then Ok opcode else Err InvalidFieldInCommand
+
+abbrev pub transfer_as : Opcode → Sqe → Result Transfer StatusCode
+transfer_as Identify e = identify_transfer e
+
+-- which way the data goes, and how many bytes
+abbrev pub transfer_of : Sqe → Result Transfer StatusCode
+transfer_of e = do
+  opcode ← opcode_of e
+  transfer_as opcode e
+
+abbrev pub command_as : Opcode → Sqe → List ℕ → Result Command StatusCode
+command_as Identify e «data» = identify_command e
+
+-- the command, with the data from the host
+abbrev pub command_of : Sqe → List ℕ → Result Command StatusCode
+command_of e «data» = do
+  opcode ← opcode_of e
+  command_as opcode e «data»

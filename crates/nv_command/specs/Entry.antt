@@ -1,0 +1,42 @@
+-- Commands as submission queue entries.
+use Rattle.std.specs.Prelude.{ℕ}
+use Rattle.nv_layout.specs.declared.sqe.Sqe.{Sqe}
+use Rattle.nv_command.specs.Command.{namespace_of}
+use Rattle.nv_command.specs.Identify.{identify_fields}
+use Rattle.nv_command.specs.declared.command.Command.{Command}
+use Rattle.nv_command.specs.declared.command.Command.TheVariants.{IdentifyNamespace, AllocatedNamespace, ActiveList, AllocatedList}
+use Rattle.nv_command.specs.declared.entry.Fields.{Fields}
+
+-- fields, an NSID and a command identifier; all else is 0
+abbrev pub entry_with : Fields → ℕ → ℕ → Sqe
+entry_with f nsid cid = record {
+  opcode = f.opcode;
+  fuse = 0;
+  psdt = 0;
+  cid = cid;
+  nsid = nsid;
+  mptr = 0;
+  prp1 = 0;
+  prp2 = 0;
+  cdw10 = f.cdw10;
+  cdw11 = f.cdw11;
+  cdw12 = f.cdw12;
+  cdw13 = f.cdw13;
+  cdw14 = 0;
+  cdw15 = 0;
+}
+
+-- the opcode of a command and its own dwords
+abbrev pub fields_of : Command → Fields
+fields_of (IdentifyNamespace n) = identify_fields 0x00
+fields_of (ActiveList after) = identify_fields 0x02
+fields_of (AllocatedList after) = identify_fields 0x10
+fields_of (AllocatedNamespace n) = identify_fields 0x11
+
+-- a command with this command identifier
+abbrev pub entry_of : Command → ℕ → Sqe
+entry_of k cid = entry_with (fields_of k) (namespace_of k) cid
+
+-- the entry with its data pointer
+abbrev pub with_pointer : Sqe → ℕ → ℕ → Sqe
+with_pointer e prp1 prp2 = record e { prp1 = prp1; prp2 = prp2 }

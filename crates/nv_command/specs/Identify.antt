@@ -1,0 +1,49 @@
+-- The Identify commands: opcode 06h, with what is asked for (CNS) in CDW10 7:0.
+use Rattle.std.specs.Prelude.{ℕ, ◌%◌, ◌^◌, ◌<◌, ◌==◌, List, Result, Ok, Err, if◌then◌else◌}
+use Rattle.nv_layout.specs.IdNs.{id_ns_of_bytes}
+use Rattle.nv_layout.specs.NsList.{ns_list_of_bytes}
+use Rattle.nv_layout.specs.declared.sqe.Sqe.{Sqe}
+use Rattle.nv_command.specs.Steps.{◌>>=◌}
+use Rattle.nv_command.specs.declared.command.Command.{Command}
+use Rattle.nv_command.specs.declared.command.Command.TheVariants.{IdentifyNamespace, AllocatedNamespace, ActiveList, AllocatedList}
+use Rattle.nv_command.specs.declared.entry.Fields.{Fields}
+use Rattle.nv_command.specs.declared.reply.Reply.{Reply}
+use Rattle.nv_command.specs.declared.reply.Reply.TheVariants as reply
+use Rattle.nv_command.specs.declared.status_code.StatusCode.{StatusCode}
+use Rattle.nv_command.specs.declared.status_code.StatusCode.TheVariants.{InvalidFieldInCommand}
+use Rattle.nv_command.specs.declared.transfer.Transfer.{Transfer}
+use Rattle.nv_command.specs.declared.transfer.Transfer.TheVariants.{ToHost}
+
+abbrev pub identify_fields : ℕ → Fields
+identify_fields cns = record { opcode = 0x06; cdw10 = cns; cdw11 = 0; cdw12 = 0; cdw13 = 0 }
+
+abbrev pub IdentifyFits : ℕ → Type 0
+IdentifyFits nsid = nsid < 2 ^ 32
+
+-- each answers a page
+abbrev pub identify_data : Transfer
+identify_data = ToHost 4096
+
+abbrev pub identify_by : ℕ → ℕ → Result Command StatusCode
+identify_by cns n =
+    if cns == 0x00 then Ok (IdentifyNamespace n)
+    else (if cns == 0x02 then Ok (ActiveList n)
+    else (if cns == 0x10 then Ok (AllocatedList n)
+    else (if cns == 0x11 then Ok (AllocatedNamespace n)
+    else Err InvalidFieldInCommand)))
+
+abbrev pub identify_command : Sqe → Result Command StatusCode
+identify_command e = identify_by (e.cdw10 % 2 ^ 8) e.nsid
+
+abbrev pub identify_transfer : Sqe → Result Transfer StatusCode
+identify_transfer e = do
+  command ← identify_command e
+  Ok identify_data
+
+-- the namespace that a page holds
+abbrev pub namespace_in : List ℕ → Reply
+namespace_in page = reply.Namespace (id_ns_of_bytes page)
+
+-- the NSIDs that a page holds
+abbrev pub list_in : List ℕ → Reply
+list_in page = reply.List (ns_list_of_bytes page)

@@ -1,0 +1,9 @@
+pub mod Steps
+pub mod StatusCode
+pub mod Refusal
+pub mod Command
+pub mod Entry
+pub mod Identify
+pub mod Decoding
+pub mod Reply
+pub mod Travel

@@ -1,0 +1,28 @@
+-- What travels arrives.
+use Rattle.std.specs.Prelude.{◌≡◌, ℕ, ◌^◌, ◌<◌, length, Ok}
+use Rattle.nv_layout.specs.Sqe.{SqeFits}
+use Rattle.nv_command.specs.Command.{CommandFits, bytes_from_host, bytes_to_host, host_data_of, transfer_by}
+use Rattle.nv_command.specs.Decoding.{command_of, transfer_of}
+use Rattle.nv_command.specs.Entry.{entry_of, with_pointer}
+use Rattle.nv_command.specs.Reply.{FitsRecord, IsReplyTo, data_of, dword0_of, reply_in}
+use Rattle.nv_command.specs.declared.command.Command.{Command}
+use Rattle.nv_command.specs.declared.reply.Reply.{Reply}
+
+-- the entry of a command fits its bits, and wherever its data lies it decodes to the command and to the
+-- way of its data
+pub record Arrives (k : Command) (cid : ℕ) : Type 0 where
+  pub fits : SqeFits (entry_of k cid)
+  pub transfer : (prp1 prp2 : ℕ) → transfer_of (with_pointer (entry_of k cid) prp1 prp2) ≡ Ok (transfer_by k)
+  pub command : (prp1 prp2 : ℕ) → command_of (with_pointer (entry_of k cid) prp1 prp2) (host_data_of k) ≡ Ok k
+  pub sent : length (host_data_of k) ≡ bytes_from_host (transfer_by k)
+
+abbrev pub CommandsTravel : Type 0
+CommandsTravel = (k : Command) (cid : ℕ) → CommandFits k → cid < 2 ^ 16 → Arrives k cid
+
+-- the data of a reply has the bytes that its command says, and gives the reply back
+pub record ArrivesFor (k : Command) (r : Reply) : Type 0 where
+  pub bytes : length (data_of r) ≡ bytes_to_host (transfer_by k)
+  pub reply : reply_in k (dword0_of r) (data_of r) ≡ r
+
+abbrev pub RepliesTravel : Type 0
+RepliesTravel = (k : Command) (r : Reply) → IsReplyTo k r → FitsRecord r → ArrivesFor k r

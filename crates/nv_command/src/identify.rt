@@ -1,0 +1,63 @@
+//! The Identify commands. Section "Identify command".
+
+ghost use Rattle.std.specs.Prelude.{◌≡◌};
+ghost use Rattle.nv_command.specs.Identify.{identify_command, identify_fields, identify_transfer, list_in, namespace_in};
+
+use crate::command::Command;
+use crate::entry::Fields;
+use crate::reply::Reply;
+use crate::status_code::StatusCode;
+use crate::transfer::Transfer;
+use nv_layout::{IdNs, NsList, Sqe};
+
+/// The data of every Identify command.
+pub const TRANSFER: Transfer = Transfer::ToHost(4096);
+
+/// The fields of an Identify command of this Controller or Namespace Structure (CNS).
+pub fn fields(cns: u8) -> Fields
+    ensures { result ≡ identify_fields cns }
+{
+    Fields {
+        opcode: 0x06,
+        cdw10: cns as u32,
+        cdw11: 0,
+        cdw12: 0,
+        cdw13: 0,
+    }
+}
+
+/// The command of an Identify entry.
+pub fn command(entry: &Sqe) -> Result<Command, StatusCode>
+    ensures { result ≡ identify_command entry.now }
+{
+    let nsid = entry.nsid;
+    match entry.cdw10 % 0x100 {
+        0x00 => Ok(Command::IdentifyNamespace { nsid }),
+        0x02 => Ok(Command::ActiveList { after: nsid }),
+        0x10 => Ok(Command::AllocatedList { after: nsid }),
+        0x11 => Ok(Command::AllocatedNamespace { nsid }),
+        _ => Err(StatusCode::InvalidFieldInCommand),
+    }
+}
+
+/// The data of an Identify entry.
+pub fn transfer(entry: &Sqe) -> Result<Transfer, StatusCode>
+    ensures { result ≡ identify_transfer entry.now }
+{
+    command(entry)?;
+    Ok(TRANSFER)
+}
+
+/// The namespace that a page holds.
+pub fn namespace(page: &[u8; 4096]) -> Reply
+    ensures { result ≡ namespace_in page.now }
+{
+    Reply::Namespace(IdNs::get(page))
+}
+
+/// The NSIDs that a page holds.
+pub fn list(page: &[u8; 4096]) -> Reply
+    ensures { result ≡ list_in page.now }
+{
+    Reply::List(NsList::get(page))
+}

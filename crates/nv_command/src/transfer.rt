@@ -1,0 +1,33 @@
+//! The data of a command.
+
+ghost use Rattle.std.specs.Prelude.{◌≡◌};
+ghost use Rattle.nv_command.specs.Decoding.{transfer_of};
+
+use crate::entry::Opcode;
+use crate::identify;
+use crate::status_code::StatusCode;
+use nv_layout::Sqe;
+
+/// Which way the data of a command goes beside its entry and its completion, and how many bytes it
+/// has.
+#[derive(Clone, Copy, Debug, PartialEq, Eq)]
+pub enum Transfer {
+    /// There is none.
+    NoData,
+    /// From the controller to the host, in bytes.
+    ToHost(u64),
+    /// From the host to the controller, in bytes.
+    FromHost(u64),
+}
+
+impl Transfer {
+    /// The data of an entry's command, or the status of the first rule that the entry breaks: its
+    /// opcode is unknown, it is fused or uses SGLs, a field of it has no meaning.
+    pub fn of(entry: &Sqe) -> Result<Transfer, StatusCode>
+        ensures { result ≡ transfer_of entry.now }
+    {
+        match Opcode::of(entry)? {
+            Opcode::Identify => identify::transfer(entry),
+        }
+    }
+}
