@@ -1,8 +1,3 @@
-pub mod ClapRules
-pub mod DigitLemmas
-pub mod FaultOrder
-pub mod Pieces
-pub mod Strip
 pub mod AskedLaws
 pub mod Padding
 pub mod NumberedLines

@@ -5,18 +5,18 @@ use Rattle.std.specs.Io.KnownBytes.{Appends}
 use Rattle.std.proofs.lemmas.List.{take_all}
 use Rattle.nv_subsystem.specs.State.{State}
 use Rattle.nv_script.specs.Ends.{Holds, IsFailureOf, Left, LineLeaves, CutIn, Printed, left_at, state_amid}
-use Rattle.nv_script.specs.Faults.{IsUnlessMemory}
+use Rattle.nv_line.specs.LineFault.{IsUnlessMemory}
 use Rattle.nv_script.specs.Outcomes.{carried_out, commands_of}
-use Rattle.nv_script.specs.Reading.{reading}
+use Rattle.nv_line.specs.Line.{reading}
 use Rattle.nv_script.specs.Results.{LineResult, Progress, advanced, line_result, position, result_at, said_at, told}
 use Rattle.nv_script.specs.declared.ends.RunEnd.{RunEnd}
 use Rattle.nv_script.specs.declared.ends.RunEnd.TheVariants.{OutWrite, MessageWrite}
 use Rattle.nv_script.specs.declared.executing.Position.{Position}
-use Rattle.nv_script.specs.declared.faults.LineFault.{LineFault}
-use Rattle.nv_script.specs.declared.faults.LineFault.TheVariants as fault
-use Rattle.nv_script.specs.declared.reading.Line.{Line}
-use Rattle.nv_script.specs.declared.reading.Line.TheVariants.{Skipped, Asked}
-use Rattle.nv_script.specs.declared.requests.Request.{Request}
+use Rattle.nv_line.specs.declared.fault.LineFault.{LineFault}
+use Rattle.nv_line.specs.declared.fault.LineFault.TheVariants as fault
+use Rattle.nv_line.specs.declared.line.Line.{Line}
+use Rattle.nv_line.specs.declared.line.Line.TheVariants.{Skipped, Asked}
+use Rattle.nv_line.specs.declared.request.Request.{Request}
 use Rattle.nv_script.proofs.Taking.{Appends-at, Appends-join}
 
 -- a stream that took nothing more

@@ -10,9 +10,9 @@ use Rattle.nv_script.specs.Streams.{IsBeginning}
 use Rattle.nv_script.specs.declared.ends.RunEnd.{RunEnd}
 use Rattle.nv_script.specs.declared.ends.RunEnd.TheVariants.{Status, Read, OutWrite, MessageWrite, Memory}
 use Rattle.nv_script.specs.declared.executing.Position.{Position}
-use Rattle.nv_script.specs.declared.faults.LineFault.{LineFault}
-use Rattle.nv_script.specs.declared.reading.Line.{Line}
-use Rattle.nv_script.specs.declared.reading.Line.TheVariants.{Skipped, Asked}
+use Rattle.nv_line.specs.declared.fault.LineFault.{LineFault}
+use Rattle.nv_line.specs.declared.line.Line.{Line}
+use Rattle.nv_line.specs.declared.line.Line.TheVariants.{Skipped, Asked}
 
 -- Which end it is: a write's exactly where that Sink has failed, and Read exactly where no write
 -- failed, no memory was refused and the Source has stopped

@@ -8,8 +8,8 @@ use Rattle.nv_subsystem.specs.declared.commands.Command.TheVariants.{IdentifyNam
 use Rattle.nv_subsystem.specs.declared.commands.Reply.{Reply}
 use Rattle.nv_script.specs.Asking.{asked}
 use Rattle.nv_script.specs.Texts.{text_of}
-use Rattle.nv_script.specs.declared.requests.Request.{Request}
-use Rattle.nv_script.specs.declared.requests.Request.TheVariants as request
+use Rattle.nv_line.specs.declared.request.Request.{Request}
+use Rattle.nv_line.specs.declared.request.Request.TheVariants as request
 
 -- a command for a controller
 pub record Order : Type 0 where

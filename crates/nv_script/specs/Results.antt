@@ -2,15 +2,15 @@
 use Rattle.std.specs.Prelude.{ℕ, ◌+◌, List, [], ◌++◌, length, replicate, Option, None, Some, Result, Ok, Err, unwrap_or, fold}
 use Rattle.nv_layout.specs.declared.status.Status.{Status}
 use Rattle.nv_subsystem.specs.State.{State}
-use Rattle.nv_script.specs.Faults.{fault_text}
+use Rattle.nv_line.specs.LineFault.{fault_text}
 use Rattle.nv_script.specs.Outcomes.{Outcome, carried_out, commands_of}
-use Rattle.nv_script.specs.Reading.{reading}
+use Rattle.nv_line.specs.Line.{reading}
 use Rattle.nv_script.specs.Texts.{message_of, refusal_text, text_of}
 use Rattle.nv_script.specs.declared.executing.Position.{Position}
-use Rattle.nv_script.specs.declared.faults.LineFault.{LineFault}
-use Rattle.nv_script.specs.declared.reading.Line.{Line}
-use Rattle.nv_script.specs.declared.reading.Line.TheVariants.{Skipped, Asked}
-use Rattle.nv_script.specs.declared.requests.Request.{Request}
+use Rattle.nv_line.specs.declared.fault.LineFault.{LineFault}
+use Rattle.nv_line.specs.declared.line.Line.{Line}
+use Rattle.nv_line.specs.declared.line.Line.TheVariants.{Skipped, Asked}
+use Rattle.nv_line.specs.declared.request.Request.{Request}
 
 -- what a line prints, on one of the two streams at most; its status, if it has one; and what it leaves
 pub record LineResult : Type 0 where

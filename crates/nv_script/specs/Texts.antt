@@ -9,8 +9,8 @@ use Rattle.nv_layout.specs.declared.id_ns.Lbaf.{Lbaf}
 use Rattle.nv_subsystem.specs.Reply.{blank}
 use Rattle.nv_subsystem.specs.declared.commands.Reply.{Reply}
 use Rattle.nv_subsystem.specs.declared.commands.Reply.TheVariants as reply
-use Rattle.nv_script.specs.declared.requests.Request.{Request}
-use Rattle.nv_script.specs.declared.requests.Request.TheVariants as request
+use Rattle.nv_line.specs.declared.request.Request.{Request}
+use Rattle.nv_line.specs.declared.request.Request.TheVariants as request
 
 -- 0x and hexadecimal digits
 abbrev pub hexadecimal : ℕ → List ℕ

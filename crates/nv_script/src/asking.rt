@@ -3,7 +3,7 @@
 ghost use Rattle.std.specs.Prelude.{◌≡◌, ◌<◌, length};
 ghost use Rattle.nv_subsystem.specs.declared.commands.Reply.TheVariants as reply;
 ghost use Rattle.nv_script.specs.Asking.{IsReady, asked, reply_in};
-ghost use Rattle.nv_script.specs.Faults.{ok_map};
+ghost use Rattle.nv_line.specs.LineFault.{ok_map};
 ghost use Rattle.nv_script.specs.Outcomes.{list_command, namespace_command};
 
 use crate::entries::encode;

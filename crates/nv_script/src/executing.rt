@@ -4,23 +4,21 @@ ghost use Rattle.std.specs.Prelude.{◌≡◌, ◌+◌, ◌<◌, ◌^◌, ℕ, L
 ghost use Rattle.std.specs.Option.{option_copied};
 ghost use Rattle.nv_script.specs.Asking.{IsReady};
 ghost use Rattle.nv_script.specs.Ends.{IsFailureOf, LineLeaves, Printed, Stands, left_at};
-ghost use Rattle.nv_script.specs.Faults.{IsUnlessMemory};
+ghost use Rattle.nv_line.specs.LineFault.{IsUnlessMemory};
 ghost use Rattle.nv_script.specs.Outcomes.{Answers, carried_out, commands_of};
-ghost use Rattle.nv_script.specs.Reading.{IsKnown, reading};
-ghost use Rattle.nv_script.specs.Requests.{controller_of};
+ghost use Rattle.nv_line.specs.Line.{IsKnown, reading};
+ghost use Rattle.nv_line.specs.Request.{controller_of};
 ghost use Rattle.nv_script.specs.Results.{Progress};
 ghost use Rattle.nv_script.specs.ScriptLines.{held};
 ghost use Rattle.nv_script.specs.Streams.{WritesAll};
 
 use crate::asking::{ask_list, ask_namespace};
 use crate::ends::RunEnd;
-use crate::faults::LineFault;
-use crate::reading::{Line, read_line};
-use crate::requests::Request;
 use crate::serving::Direct;
 use crate::streams::Sink;
 use crate::texts::{fault_message, list_text, namespace_text, refusal_message};
 use nv_layout::Status;
+use nv_line::{Line, LineFault, Request, read_line};
 use std::alloc::{AllocError, Global};
 
 /// Where a run stands between two lines: how many lines there were, and the status of the last one that

@@ -2,27 +2,17 @@
 #![tactic(auto)]
 
 mod asking;
-mod device_path;
 mod ends;
 mod entries;
 mod executing;
-mod faults;
 mod line_buffer;
-mod numbers;
-mod options;
-mod reading;
-mod requests;
 mod running;
 mod serving;
 mod streams;
 mod texts;
-mod words;
 
 pub use ends::RunEnd;
-pub use faults::LineFault;
-pub use options::OptionName;
-pub use reading::{Line, read_line};
-pub use requests::Request;
+pub use nv_line::{Line, LineFault, OptionName, Request, read_line};
 pub use running::run;
 pub use serving::{Direct, Straight};
 pub use streams::{OverRead, OverWrite, Sink, Source};

@@ -1,11 +1,11 @@
 //! What a line prints.
 
 ghost use Rattle.std.specs.Prelude.{◌≡◌, IfOk, string_bytes};
-ghost use Rattle.nv_script.specs.Faults.{fault_text};
+ghost use Rattle.nv_line.specs.LineFault.{fault_text};
 ghost use Rattle.nv_script.specs.Texts.{message_of, namespace_fields, refusal_text, status_name, text_of_namespace, text_of_nsids};
 
-use crate::faults::LineFault;
 use nv_layout::{IdNs, Lbaf, NsList, Status};
+use nv_line::LineFault;
 use std::alloc::{AllocError, Global};
 use std::{cmp, fmt};
 

@@ -1,11 +1,11 @@
 use Rattle.std.proofs.Common.{◌∙◌, ◌+◌, sym, ap, refl, length, [], Some, Ok, Err}
 use Rattle.nv_script.specs.Ends.{left_at}
-use Rattle.nv_script.specs.Faults.{fault_text}
+use Rattle.nv_line.specs.LineFault.{fault_text}
 use Rattle.nv_script.specs.Outcomes.{carried_out, commands_of}
 use Rattle.nv_script.specs.Results.{LineResult, told_by}
 use Rattle.nv_script.specs.Texts.{message_of, refusal_text, text_of}
 use Rattle.nv_script.specs.declared.executing.Position.{Position}
-use Rattle.nv_script.specs.declared.reading.Line.TheVariants.{Asked}
+use Rattle.nv_line.specs.declared.line.Line.TheVariants.{Asked}
 use Rattle.nv_script.proofs.LineLaws.{amid-all, amid-zero, fault_said, line_said, message_leaves, output_leaves, result_asked, result_fault, said_here}
 use Rattle.nv_script.proofs.executing.execute_line.Goals as goal
 

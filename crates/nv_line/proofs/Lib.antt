@@ -1,0 +1,5 @@
+pub mod ClapRules
+pub mod DigitLemmas
+pub mod FaultOrder
+pub mod Pieces
+pub mod Strip

@@ -1,0 +1,37 @@
+-- The paths of devices: /dev/nvmeX and /dev/nvmeXnY.
+use Rattle.std.specs.Prelude.{ℕ, Bool, ◌==◌, nat_lt, drop, take, length, codes, if◌then◌else◌, Option, Some, None, option_map, option_and_then}
+use Rattle.std.specs.List.{after_first, before_first, position_or_len}
+use Rattle.std.specs.Str.{bytes_eq}
+use Rattle.clap.specs.Words.{Text}
+use Rattle.nv_line.specs.Number.{plain_number, within}
+use Rattle.nv_line.specs.declared.device.Device.{Device}
+
+-- X, the place of a controller in the subsystem's file
+abbrev pub controller_of : ℕ → Text → Option ℕ
+controller_of controllers text =
+    option_and_then (λ x. if nat_lt x controllers then Some x else None) (plain_number text)
+
+-- Y, an NSID
+abbrev pub nsid_of : Text → Option ℕ
+nsid_of text = option_and_then (within 1 4294967295) (plain_number text)
+
+-- the letter n
+abbrev pub is_n : ℕ → Bool
+is_n b = b == 110
+
+-- X, or XnY
+abbrev pub address_of : ℕ → Text → Option Device
+address_of controllers text =
+    if nat_lt (position_or_len is_n text) (length text)
+    then option_and_then (λ x. option_map (λ y. record { controller = x; nsid = Some y }) (nsid_of (after_first is_n text)))
+    (controller_of controllers (before_first is_n text))
+    else option_map (λ x. record { controller = x; nsid = None }) (controller_of controllers text)
+
+-- what follows a prefix
+unfoldable pub strip : Text → Text → Option Text
+strip prefix text =
+    if bytes_eq (take (length prefix) text) prefix then Some (drop (length prefix) text) else None
+
+-- /dev/nvmeX, or /dev/nvmeXnY
+abbrev pub device_of : ℕ → Text → Option Device
+device_of controllers text = option_and_then (address_of controllers) (strip (codes "/dev/nvme") text)

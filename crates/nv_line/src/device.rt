@@ -1,0 +1,59 @@
+//! The paths of devices.
+
+ghost use Rattle.std.specs.Prelude.{◌≡◌, ◌<◌, IfSome};
+ghost use Rattle.nv_line.specs.Device.{address_of, controller_of, device_of};
+
+use crate::number::plain;
+
+/// A device: a controller by its place in the subsystem's file, counted from 0, and a namespace.
+#[derive(Clone, Copy, Debug, PartialEq, Eq)]
+pub struct Device {
+    pub controller: u16,
+    pub nsid: Option<u32>,
+}
+
+/// The controller X, which is one of the subsystem's.
+fn controller(text: &str, controllers: u16) -> Option<u16>
+    ensures value { result ≡ controller_of controllers text.now }
+    ensures known { IfSome result (λ x. x < controllers) }
+{
+    let value = plain(text, 0, 65535)? as u16;
+    if value < controllers {
+        Some(value)
+    } else {
+        None
+    }
+}
+
+/// X, or XnY.
+fn address(text: &str, controllers: u16) -> Option<Device>
+    ensures value { result ≡ address_of controllers text.now }
+    ensures known { IfSome result (λ d. d.controller < controllers) }
+{
+    match text.split_once('n') {
+        None => {
+            let controller = controller(text, controllers)?;
+            Some(Device {
+                controller,
+                nsid: None,
+            })
+        }
+        Some((x, y)) => {
+            let controller = controller(x, controllers)?;
+            let nsid = plain(y, 1, 0xffff_ffff)? as u32;
+            Some(Device {
+                controller,
+                nsid: Some(nsid),
+            })
+        }
+    }
+}
+
+/// `/dev/nvmeX`, or `/dev/nvmeXnY`.
+pub fn read_device(text: &str, controllers: u16) -> Option<Device>
+    ensures value { result ≡ device_of controllers text.now }
+    ensures known { IfSome result (λ d. d.controller < controllers) }
+{
+    let rest = text.strip_prefix("/dev/nvme")?;
+    address(rest, controllers)
+}

@@ -1,0 +1,54 @@
+//! What can be wrong with a line.
+
+ghost use Rattle.std.specs.Prelude.{◌≡◌};
+ghost use Rattle.nv_line.specs.declared.fault.LineFault.TheVariants.{Memory};
+
+use crate::option::OptionName;
+use std::alloc::AllocError;
+use std::error::Error;
+use std::fmt;
+
+/// What is wrong with a line.
+#[derive(Clone, Copy, Debug, PartialEq, Eq)]
+pub enum LineFault {
+    /// It isn't UTF-8.
+    NotText,
+    /// It has no command word, or that command doesn't take its words.
+    Usage,
+    /// It names no device of the subsystem.
+    Device,
+    /// It gives an option something else than a number of its range.
+    Number(OptionName),
+    /// Memory was refused.
+    Memory,
+    /// It has more than 4,095 bytes.
+    TooLong,
+}
+
+impl Error for LineFault {}
+
+impl fmt::Display for LineFault {
+    ghost use Rattle.std.specs.Prelude.{Some};
+    ghost use Rattle.nv_line.specs.LineFault.{fault_text};
+
+    ghost output = { λ fault. Some (fault_text fault) };
+
+    fn fmt<W: fmt::Write>(&self, f: &mut fmt::Formatter<W>) -> fmt::Result {
+        match self {
+            LineFault::NotText => write!(f, "not UTF-8 text"),
+            LineFault::Usage => write!(f, "usage error"),
+            LineFault::Device => write!(f, "no such device"),
+            LineFault::Number(option) => write!(f, "bad number for --{option}"),
+            LineFault::Memory => write!(f, "out of memory"),
+            LineFault::TooLong => write!(f, "line too long"),
+        }
+    }
+}
+
+impl From<AllocError> for LineFault {
+    ghost from_gives = { λ _ fault. fault ≡ Memory };
+
+    fn from(_: AllocError) -> LineFault {
+        LineFault::Memory
+    }
+}

@@ -1,0 +1,41 @@
+//! What a line says.
+
+ghost use Rattle.std.specs.Prelude.{IfOk};
+ghost use Rattle.nv_line.specs.LineFault.{IsUnlessMemory};
+ghost use Rattle.nv_line.specs.Line.{IsKnown, reading};
+
+use crate::fault::LineFault;
+use crate::request::{Request, read_words};
+use crate::word::{is_skipped_line, split_words, without_program};
+use std::alloc::Global;
+
+/// What a line says: nothing, or a request.
+#[derive(Clone, Copy, Debug, PartialEq, Eq)]
+pub enum Line {
+    /// It is blank, or a comment.
+    Skipped,
+    /// It asks for something.
+    Asked(Request),
+}
+
+/// Reads a line of a script for a subsystem with this many controllers. A fault is the first of: too
+/// long, not text, usage, device, a missing NSID, a bad number.
+pub fn read_line(alloc: Global, line: &[u8], controllers: u16) -> Result<Line, LineFault>
+    ensures exact { IsUnlessMemory (reading line.now controllers) result }
+    ensures known { IfOk result (IsKnown controllers) }
+{
+    if line.len() > 4095 {
+        return Err(LineFault::TooLong);
+    }
+    if is_skipped_line(line) {
+        return Ok(Line::Skipped);
+    }
+    let Ok(text) = str::from_utf8(line) else {
+        return Err(LineFault::NotText);
+    };
+    let words = split_words(alloc, text)?;
+    match read_words(alloc, without_program(words.as_slice()), controllers) {
+        Ok(request) => Ok(Line::Asked(request)),
+        Err(fault) => Err(fault),
+    }
+}

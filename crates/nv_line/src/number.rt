@@ -1,0 +1,61 @@
+//! The numbers of a line.
+
+ghost use Rattle.std.specs.Prelude.{◌≡◌, ◌≤◌, option_and_then};
+ghost use Rattle.nv_line.specs.Number.{digits_of, number_in, number_of, plain_number, within};
+
+/// The number that digits of a base write.
+fn digits(text: &str, base: u32) -> Option<u64>
+    requires low { 2 ≤ base }
+    requires high { base ≤ 16 }
+    ensures { result ≡ option_and_then (within 0 u64.MAX) (digits_of base text.now) }
+{
+    let bytes = text.as_bytes();
+    if !bytes.is_empty() && bytes[0] == b'+' {
+        return None;
+    }
+    u64::from_str_radix(text, base).ok()
+}
+
+/// A number in decimal, hexadecimal or octal digits.
+#[tactic(auto, using(std::proofs::lemmas::Str::lead_after_ascii))]
+fn numeral(text: &str) -> Option<u64>
+    ensures { result ≡ option_and_then (within 0 u64.MAX) (number_of text.now) }
+{
+    let bytes = text.as_bytes();
+    if bytes.len() > 1 && bytes[0] == b'0' {
+        if bytes[1] == b'x' || bytes[1] == b'X' {
+            return digits(&text[2..], 16);
+        }
+        return digits(&text[1..], 8);
+    }
+    digits(text, 10)
+}
+
+/// The value, if it is from `least` to `most`.
+fn within(least: u64, most: u64, value: u64) -> Option<u64>
+    ensures { result ≡ within least most value }
+{
+    if least <= value && value <= most {
+        Some(value)
+    } else {
+        None
+    }
+}
+
+/// A number from `least` to `most`.
+pub fn number(text: &str, least: u64, most: u64) -> Option<u64>
+    ensures { result ≡ number_in least most text.now }
+{
+    within(least, most, numeral(text)?)
+}
+
+/// A number from `least` to `most`, in decimal and without leading zeros.
+pub fn plain(text: &str, least: u64, most: u64) -> Option<u64>
+    ensures { result ≡ option_and_then (within least most) (plain_number text.now) }
+{
+    let bytes = text.as_bytes();
+    if bytes.len() > 1 && bytes[0] == b'0' {
+        return None;
+    }
+    within(least, most, digits(text, 10)?)
+}
