@@ -4,7 +4,7 @@ ghost use Rattle.std.specs.Prelude.{◌≡◌, ◌≤◌, ◌<◌, length, All};
 ghost use Rattle.nv_subsystem.specs.Capacity.{blocks};
 ghost use Rattle.nv_subsystem.specs.Reply.{blank, common_of, described, flbas_of, lbaf_of, lbafs_of};
 
-use crate::parts::{Format, Namespace};
+use nv_file::{Format, Namespace};
 use nv_layout::{IdNs, Lbaf};
 
 impl From<Format> for Lbaf {
