@@ -10,10 +10,10 @@ use Rattle.std.specs.FinMap.{entries-insert, get-entries, get-insert, len-empty,
 use Rattle.std.specs.FinMap.Entries.{put, find}
 use Rattle.std.proofs.lemmas.List.Sums.{sum_by-cons}
 use Rattle.nv_subsystem.specs.Capacity.{used}
-use Rattle.nv_subsystem.specs.FileValue.{NamespaceValue}
+use Rattle.nv_file.specs.FileValue.{NamespaceValue}
 use Rattle.nv_subsystem.specs.FromFile.{with_namespace}
 use Rattle.nv_subsystem.specs.State.{Namespaces}
-use Rattle.nv_subsystem.specs.declared.parts.Namespace.{Namespace}
+use Rattle.nv_file.specs.declared.parts.Namespace.{Namespace}
 use Rattle.nv_subsystem.proofs.ByNsid.{differs}
 
 total : List (ℕ × Namespace) → ℕ

@@ -6,17 +6,17 @@ use Rattle.std.specs.Option.{ForSome}
 use Rattle.std.proofs.lemmas.List.{get_or-map, length-map}
 use Rattle.std.proofs.lemmas.List.Elements.{All-weaker}
 use Rattle.nv_subsystem.specs.ControllerView as state_of_code
-use Rattle.nv_subsystem.specs.FileValue.{controller_view, file_view, namespace_view}
+use Rattle.nv_file.specs.FileValue.{controller_view, file_view, namespace_view}
 use Rattle.nv_subsystem.specs.FromFile.{controller_of, state_of}
-use Rattle.nv_subsystem.specs.IsFile.{IsFile}
-use Rattle.nv_subsystem.specs.Ranges.{IsFormat}
+use Rattle.nv_file.specs.IsFile.{IsFile}
+use Rattle.nv_file.specs.Ranges.{IsFormat}
 use Rattle.nv_subsystem.specs.Slots.{by_nsid}
 use Rattle.nv_subsystem.specs.Sound.{IsSized, IsSound}
 use Rattle.nv_subsystem.specs.State.{Namespaces}
 use Rattle.nv_subsystem.specs.declared.controllers.Controller.{Controller}
-use Rattle.nv_subsystem.specs.declared.file.entries.File.{File}
-use Rattle.nv_subsystem.specs.declared.file.entries.NamespaceEntry.{NamespaceEntry}
-use Rattle.nv_subsystem.specs.declared.parts.Namespace.{Namespace}
+use Rattle.nv_file.specs.declared.file.entries.File.{File}
+use Rattle.nv_file.specs.declared.file.entries.NamespaceEntry.{NamespaceEntry}
+use Rattle.nv_file.specs.declared.parts.Namespace.{Namespace}
 use Rattle.nv_subsystem.proofs.ByNsid.{get_slot}
 use Rattle.nv_subsystem.proofs.FileStates.{state_ok}
 use Rattle.nv_subsystem.proofs.InFormat.{format_below}

@@ -10,13 +10,13 @@ use Rattle.std.proofs.lemmas.Bool.Decides.{Decides-int_eq, nat_tests}
 use Rattle.std.proofs.lemmas.List.{length-map, get_or-map}
 use Rattle.std.proofs.lemmas.List.Elements.{All-map, All-weaker}
 use Rattle.std.proofs.lemmas.List.Sums.{sum_by-cons}
-use Rattle.nv_subsystem.specs.FileValue.{ControllerValue, FileValue, NamespaceValue}
+use Rattle.nv_file.specs.FileValue.{ControllerValue, FileValue, NamespaceValue}
 use Rattle.nv_subsystem.specs.FromFile.{controller_of, is_attached_to, state_of, with_attachment, with_namespace}
-use Rattle.nv_subsystem.specs.IsFile as is_file
-use Rattle.nv_subsystem.specs.IsFile.{IsAttached, IsFile}
+use Rattle.nv_file.specs.IsFile as is_file
+use Rattle.nv_file.specs.IsFile.{IsAttached, IsFile}
 use Rattle.nv_subsystem.specs.State.{Namespaces, Nsids}
 use Rattle.nv_subsystem.specs.WellFormed.{IsController, IsNamespace, IsWellFormed}
-use Rattle.nv_subsystem.specs.declared.parts.Namespace.{Namespace}
+use Rattle.nv_file.specs.declared.parts.Namespace.{Namespace}
 use Rattle.nv_subsystem.proofs.ByNsid.{differs}
 use Rattle.nv_subsystem.proofs.Capacities.{used-all, used-empty}
 

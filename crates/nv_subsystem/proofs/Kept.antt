@@ -4,7 +4,7 @@ use Rattle.std.proofs.lemmas.List.{length-take}
 use Rattle.std.proofs.lemmas.List.Elements.{All-cons, All-take}
 use Rattle.std.specs.Prelude.{All}
 use Rattle.std.specs.FinMap as map_of
-use Rattle.nv_subsystem.specs.Identity.{Identity}
+use Rattle.nv_file.specs.Identity.{Identity}
 use Rattle.nv_subsystem.specs.State.{Controller, Namespaces, Nsids, State, greatest_count}
 use Rattle.nv_subsystem.specs.Step.{booked, counted, counted_on, namespace_of, refused, step, step_by, with_controller}
 use Rattle.nv_subsystem.specs.Refusal.{invalid_unless, refusal_of}

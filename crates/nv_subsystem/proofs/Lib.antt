@@ -7,11 +7,6 @@ pub mod InFormat
 pub mod Listing
 pub mod Describing
 pub mod ReplyFits
-pub mod Attached
-pub mod Distinct
-pub mod Fused
-pub mod Keys
-pub mod Readings
 pub mod Entries
 pub mod Capacities
 pub mod FileStates

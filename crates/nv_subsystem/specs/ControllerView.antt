@@ -1,5 +1,5 @@
 -- The controllers of the code as values.
-use Rattle.nv_subsystem.specs.Identity.{identity_view}
+use Rattle.nv_file.specs.Identity.{identity_view}
 use Rattle.nv_subsystem.specs.Slots.{marked_nsids}
 use Rattle.nv_subsystem.specs.State.{Controller}
 use Rattle.nv_subsystem.specs.declared.controllers.Controller as controllers

@@ -3,10 +3,10 @@ use Rattle.std.specs.Prelude.{ℕ, pos, Bool, List, [], map, Result, Ok, if◌th
 use Rattle.std.specs.List.{fold, list_any}
 use Rattle.std.specs.Ordering.{int_eq}
 use Rattle.std.specs.FinMap as map_of
-use Rattle.nv_subsystem.specs.declared.error.SubsystemError.{SubsystemError}
-use Rattle.nv_subsystem.specs.Fault.{◌>>=◌}
-use Rattle.nv_subsystem.specs.File.{file}
-use Rattle.nv_subsystem.specs.FileValue.{ControllerValue, FileValue, NamespaceValue}
+use Rattle.nv_file.specs.declared.error.SubsystemError.{SubsystemError}
+use Rattle.nv_file.specs.Fault.{◌>>=◌}
+use Rattle.nv_file.specs.File.{file}
+use Rattle.nv_file.specs.FileValue.{ControllerValue, FileValue, NamespaceValue}
 use Rattle.nv_subsystem.specs.State.{Controller, Namespaces, Nsids, State}
 
 abbrev pub with_namespace : Namespaces → NamespaceValue → Namespaces

@@ -1,4 +1,3 @@
-pub mod Identity
 pub mod Statuses
 pub mod ErrorLog
 pub mod State
@@ -12,16 +11,8 @@ pub mod ControllerView
 pub mod Sound
 pub mod WellFormed
 pub mod Fits
-pub mod Fault
-pub mod Features
-pub mod File
-pub mod FileValue
-pub mod IsFile
-pub mod Names
-pub mod Ranges
-pub mod Section
-pub mod SectionView
-pub mod Tables
-pub mod TopView
 pub mod FromFile
 pub mod Entry
+pub use Rattle.nv_file.specs.Fault
+pub use Rattle.nv_file.specs.Identity
+pub use Rattle.nv_file.specs.Ranges

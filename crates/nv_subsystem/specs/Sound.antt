@@ -2,8 +2,8 @@
 use Rattle.std.specs.Prelude.{◌≡◌, ℕ, ◌+◌, ◌<◌, ◌≤◌, List, length, Option, All}
 use Rattle.std.specs.Option.{ForSome}
 use Rattle.nv_subsystem.specs.declared.controllers.Controller.{Controller}
-use Rattle.nv_subsystem.specs.declared.parts.Format.{Format}
-use Rattle.nv_subsystem.specs.declared.parts.Namespace.{Namespace}
+use Rattle.nv_file.specs.declared.parts.Format.{Format}
+use Rattle.nv_file.specs.declared.parts.Namespace.{Namespace}
 
 -- a place for each NSID, and room for ELPE + 1 log entries
 pub record IsSized (nn : ℕ) (x : Controller) : Type 0 where

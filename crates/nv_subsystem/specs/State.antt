@@ -3,12 +3,12 @@ use Rattle.std.specs.Prelude.{ℕ, List, Option, slice_get}
 use Rattle.std.specs.Ordering.{nat_cmp}
 use Rattle.std.specs.FinMap as map_of
 use Rattle.std.specs.FinSet as set_of
-use Rattle.nv_subsystem.specs.Identity.{Identity}
+use Rattle.nv_file.specs.Identity.{Identity}
 use Rattle.nv_subsystem.specs.declared.error_log.LogEntry.{LogEntry}
-use Rattle.nv_subsystem.specs.declared.parts.FeatureRule.{FeatureRule}
-use Rattle.nv_subsystem.specs.declared.parts.Format.{Format}
-use Rattle.nv_subsystem.specs.declared.parts.Namespace.{Namespace}
-use Rattle.nv_subsystem.specs.declared.parts.SmartBase.{SmartBase}
+use Rattle.nv_file.specs.declared.parts.FeatureRule.{FeatureRule}
+use Rattle.nv_file.specs.declared.parts.Format.{Format}
+use Rattle.nv_file.specs.declared.parts.Namespace.{Namespace}
+use Rattle.nv_file.specs.declared.parts.SmartBase.{SmartBase}
 
 -- what finds what by its NSID
 abbrev pub Namespaces : Type 0

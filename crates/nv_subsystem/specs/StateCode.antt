@@ -4,14 +4,14 @@ use Rattle.std.specs.FinMap as map_of
 use Rattle.std.specs.FinSet as set_of
 use Rattle.std.specs.Coded.{Coded, code_by, coded×, coded_ℕ, coded_bool, coded_list}
 use Rattle.nv_subsystem.specs.ErrorLog.{entry_code}
-use Rattle.nv_subsystem.specs.Identity.{Identity}
+use Rattle.nv_file.specs.Identity.{Identity}
 use Rattle.nv_subsystem.specs.State.{Controller, State, Namespaces, Nsids}
 use Rattle.nv_subsystem.specs.declared.error_log.LogEntry.{LogEntry}
-use Rattle.nv_subsystem.specs.declared.parts.Counters.{Counters}
-use Rattle.nv_subsystem.specs.declared.parts.FeatureRule.{FeatureRule}
-use Rattle.nv_subsystem.specs.declared.parts.Format.{Format}
-use Rattle.nv_subsystem.specs.declared.parts.Namespace.{Namespace}
-use Rattle.nv_subsystem.specs.declared.parts.SmartBase.{SmartBase}
+use Rattle.nv_file.specs.declared.parts.Counters.{Counters}
+use Rattle.nv_file.specs.declared.parts.FeatureRule.{FeatureRule}
+use Rattle.nv_file.specs.declared.parts.Format.{Format}
+use Rattle.nv_file.specs.declared.parts.Namespace.{Namespace}
+use Rattle.nv_file.specs.declared.parts.SmartBase.{SmartBase}
 
 abbrev pub format_code : Coded Format
 format_code = code_by (ℕ × (ℕ × ℕ))

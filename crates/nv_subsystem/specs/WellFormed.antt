@@ -2,12 +2,12 @@
 use Rattle.std.specs.Prelude.{◌≡◌, ◌≢◌, ℕ, ◌+◌, ◌^◌, ◌<◌, ◌≤◌, min, true, false, length, count_by, All, AllPairs, Some, IsSomeAnd, slice_get}
 use Rattle.std.specs.FinMap as map_of
 use Rattle.nv_subsystem.specs.Capacity.{used}
-use Rattle.nv_subsystem.specs.Ranges.{AreTopKeys, IsFeatureRule, IsFormat, IsIdentity, IsInFormat, IsSmart}
+use Rattle.nv_file.specs.Ranges.{AreTopKeys, IsFeatureRule, IsFormat, IsIdentity, IsInFormat, IsSmart}
 use Rattle.nv_subsystem.specs.State.{Controller, Namespaces, State, greatest_count}
 use Rattle.nv_layout.specs.Status.{StatusFits}
 use Rattle.nv_subsystem.specs.declared.commands.Refusal.{Refusal}
 use Rattle.nv_subsystem.specs.declared.error_log.LogEntry.{LogEntry}
-use Rattle.nv_subsystem.specs.declared.parts.Namespace.{Namespace}
+use Rattle.nv_file.specs.declared.parts.Namespace.{Namespace}
 
 -- a status that is no success, in numbers that fit the fields of an error log entry
 pub record IsRefusal (r : Refusal) : Type 0 where

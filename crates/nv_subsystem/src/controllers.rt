@@ -7,7 +7,7 @@ ghost use Rattle.nv_subsystem.specs.Step.{booked, counted_on};
 
 use crate::commands::{Origin, Refusal};
 use crate::error_log::{ErrorLog, LogEntry};
-use crate::parts::{FeatureRule, Identity, SmartBase};
+use nv_file::{FeatureRule, Identity, SmartBase};
 
 /// A controller: what its file table gives, and what its commands change.
 #[derive(Drop)]

@@ -4,21 +4,17 @@ ghost use Rattle.std.specs.Prelude.{◌≡◌, ◌≤◌, ◌<◌, length, All};
 ghost use Rattle.nv_subsystem.specs.Capacity.{blocks};
 ghost use Rattle.nv_subsystem.specs.Reply.{blank, common_of, described, flbas_of, lbaf_of, lbafs_of};
 
-use crate::parts::{Format, Namespace};
+use nv_file::{Format, Namespace};
 use nv_layout::{IdNs, Lbaf};
 
-impl From<Format> for Lbaf {
-    ghost use Rattle.std.specs.Prelude.{◌≡◌};
-    ghost use Rattle.nv_subsystem.specs.Reply.{lbaf_of};
-
-    ghost from_gives = { λ format lbaf. lbaf ≡ lbaf_of format };
-
-    fn from(format: Format) -> Lbaf {
-        Lbaf {
-            ms: format.ms,
-            lbads: format.lbads,
-            rp: format.rp,
-        }
+/// A format as Identify lists it.
+fn lbaf(format: &Format) -> Lbaf
+    ensures { result ≡ lbaf_of format.now }
+{
+    Lbaf {
+        ms: format.ms,
+        lbads: format.lbads,
+        rp: format.rp,
     }
 }
 
@@ -35,7 +31,7 @@ fn lbafs(formats: &[Format]) -> [Lbaf; 16]
 {
     let mut lbafs = [NO_LBAF; 16];
     for (i, format) in formats.iter().enumerate() {
-        lbafs[i] = Lbaf::from(*format);
+        lbafs[i] = lbaf(format);
     }
     lbafs
 }

@@ -4,17 +4,17 @@ ghost use Rattle.std.specs.Prelude.{◌≡◌, ◌+◌, ◌<◌, ◌≤◌, ℕ,
 ghost use Rattle.std.specs.List.{fold};
 ghost use Rattle.std.specs.FinMap as map_of;
 ghost use Rattle.nv_subsystem.specs.ControllerView as state_of_code;
-ghost use Rattle.nv_subsystem.specs.FileValue.{controller_view, file_view, namespace_view};
+ghost use Rattle.nv_file.specs.FileValue.{controller_view, file_view, namespace_view};
 ghost use Rattle.nv_subsystem.specs.FromFile.{controller_of, with_attachment, with_namespace};
 ghost use Rattle.nv_subsystem.specs.Slots.{by_nsid, marked_nsids};
 ghost use Rattle.nv_subsystem.specs.Sound.{IsSized};
 
 use crate::controllers::Controller;
-use crate::error::SubsystemError;
+use nv_file::SubsystemError;
 use crate::error_log::ErrorLog;
-use crate::file::attachments::stands_in;
-use crate::file::entries::{ControllerEntry, NamespaceEntry};
-use crate::parts::Namespace;
+use nv_file::stands_in;
+use nv_file::{ControllerEntry, NamespaceEntry};
+use nv_file::Namespace;
 use std::alloc::Global;
 
 fn put(slots: &mut [Option<Namespace>], index: usize, namespace: Namespace)

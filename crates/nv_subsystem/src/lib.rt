@@ -3,20 +3,15 @@
 
 mod commands;
 mod controllers;
-mod demo;
 mod describe;
-mod error;
 mod error_log;
-mod features;
-mod file;
 mod from_file;
-mod parts;
 mod slots;
 mod subsystems;
 
 pub use commands::{Command, Origin, Refusal, Reply, StatusCode};
-pub use demo::DEMO;
-pub use error::SubsystemError;
-pub use file::names::{Key, TableName};
-pub use parts::{Counters, FeatureRule, Format, Identity, Namespace, SmartBase};
+pub use nv_file::{
+    Counters, DEMO, FeatureRule, Format, Identity, Key, Namespace, SmartBase, SubsystemError,
+    TableName,
+};
 pub use subsystems::Subsystem;

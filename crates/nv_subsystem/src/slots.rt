@@ -7,7 +7,7 @@ ghost use Rattle.nv_subsystem.specs.Reply.{above};
 ghost use Rattle.nv_subsystem.specs.Slots.{by_nsid, marked_nsids};
 ghost use Rattle.nv_subsystem.specs.State.{ascending};
 
-use crate::parts::Namespace;
+use nv_file::Namespace;
 use nv_layout::NsList;
 
 /// The namespace of an NSID.

@@ -4,8 +4,8 @@ use Rattle.std.specs.declared.io.ErrorKind.{ErrorKind}
 use Rattle.std.specs.declared.io.ErrorKind.TheVariants as kind
 use Rattle.nv_script.specs.declared.ends.RunEnd.{RunEnd}
 use Rattle.nv_script.specs.declared.ends.RunEnd.TheVariants as end
-use Rattle.nv_subsystem.specs.declared.error.SubsystemError.{SubsystemError}
-use Rattle.nv_subsystem.specs.declared.error.SubsystemError.TheVariants as error
+use Rattle.nv_file.specs.declared.error.SubsystemError.{SubsystemError}
+use Rattle.nv_file.specs.declared.error.SubsystemError.TheVariants as error
 use Rattle.nvme_script.specs.declared.stop.Stop.{Stop}
 use Rattle.nvme_script.specs.declared.stop.Stop.TheVariants as stop
 

@@ -3,7 +3,7 @@ use Rattle.std.specs.Prelude.{All}
 use Rattle.std.proofs.lemmas.List.{map_push}
 use Rattle.std.proofs.lemmas.List.Elements.{All-push}
 use Rattle.nv_subsystem.specs.ControllerView as state_of_code
-use Rattle.nv_subsystem.specs.FileValue.{controller_view, namespace_view}
+use Rattle.nv_file.specs.FileValue.{controller_view, namespace_view}
 use Rattle.nv_subsystem.specs.FromFile.{controller_of}
 use Rattle.nv_subsystem.specs.Sound.{IsSized}
 use Rattle.nv_subsystem.proofs.from_file.controllers.Goals as goal

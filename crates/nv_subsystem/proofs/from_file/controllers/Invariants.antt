@@ -1,7 +1,7 @@
 use Rattle.std.proofs.Common.{◌≡◌, map}
 use Rattle.std.specs.Prelude.{All}
 use Rattle.nv_subsystem.specs.ControllerView as state_of_code
-use Rattle.nv_subsystem.specs.FileValue.{controller_view, namespace_view}
+use Rattle.nv_file.specs.FileValue.{controller_view, namespace_view}
 use Rattle.nv_subsystem.specs.FromFile.{controller_of}
 use Rattle.nv_subsystem.specs.Sound.{IsSized}
 use Rattle.nv_subsystem.proofs.from_file.controllers.Given as goal

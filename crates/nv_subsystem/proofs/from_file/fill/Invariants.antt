@@ -1,6 +1,6 @@
 use Rattle.std.proofs.Common.{◌≡◌, drop, map, length}
 use Rattle.std.specs.List.{fold}
-use Rattle.nv_subsystem.specs.FileValue.{namespace_view}
+use Rattle.nv_file.specs.FileValue.{namespace_view}
 use Rattle.nv_subsystem.specs.FromFile.{with_namespace}
 use Rattle.nv_subsystem.specs.Slots.{by_nsid}
 use Rattle.nv_subsystem.proofs.from_file.fill.Given as goal

@@ -1,6 +1,6 @@
 use Rattle.std.specs.FinMap as map_of
 use Rattle.std.specs.List.{fold}
-use Rattle.nv_subsystem.specs.FileValue.{controller_view, namespace_view}
+use Rattle.nv_file.specs.FileValue.{controller_view, namespace_view}
 use Rattle.nv_subsystem.specs.FromFile.{controller_of, with_namespace}
 use Rattle.std.proofs.Common.{ap, map, ◌∙◌}
 use Rattle.nv_subsystem.proofs.FileCode.{is_sound, nsids_within}

@@ -1,0 +1,51 @@
+-- What the test of the attachments says.
+use Rattle.std.proofs.Common.{◌≡◌, ◌≢◌, ℕ, ◌≤◌, ℤ, pos, Bool, true, false, not, ◌&&◌, ◌||◌, List, [], ◌∷◌, length, get_or, int_eq, nat_le, refl, sym, ◌∙◌, arith}
+use Rattle.std.specs.Prelude.{All, Any, AllPairs}
+use Rattle.std.specs.List.{list_any, list_all}
+use Rattle.std.proofs.lemmas.Bool.{and_parts, false≢true, leb-true}
+use Rattle.std.proofs.lemmas.Bool.Decides.{Decides-int_eq}
+use Rattle.std.proofs.lemmas.List.Elements.{All-weaker}
+use Rattle.std.proofs.lemmas.List.Folds.{Any-from_list_any, list_any_at}
+use Rattle.std.proofs.lemmas.List.Kept.{AllPairs-cons}
+use Rattle.std.proofs.lemmas.List.Sums.{AllPass-from_list_all}
+use Rattle.nv_file.specs.FileValue.{ControllerValue, NamespaceValue}
+use Rattle.nv_file.specs.File.{may_attach, is_cntlid, differ, attaches}
+use Rattle.nv_file.specs.IsFile.{IsAttached}
+
+named_one : (cs : List ControllerValue) (z : ℤ) → is_cntlid cs z ≡ true → Any (λ c. pos c.identity.cntlid ≡ z) cs
+named_one cs z h =
+    let found = Any-from_list_any (λ c. int_eq (pos c.identity.cntlid) z) cs h in
+    (found.0, found.1, found.2, found.3, (Decides-int_eq (pos found.1.identity.cntlid) z).0 found.4)
+
+none_is : (z : ℤ) (zs : List ℤ) → list_any (λ y. int_eq y z) zs ≡ false → All (λ y. z ≢ y) zs
+none_is z zs h k d lt same =
+    let found = list_any_at (λ y. int_eq y z) zs k d lt ((Decides-int_eq (get_or zs k d) z).1 (sym same)) in
+    false≢true (sym h ∙ found)
+
+not_true : (b : Bool) → not b ≡ true → b ≡ false
+not_true true h = absurd (cc h)
+not_true false h = refl
+
+distinct : (zs : List ℤ) → differ zs ≡ true → AllPairs (λ y z. y ≢ z) zs
+distinct [] h = λ i j d before below. absurd (omega arith)
+distinct (z ∷ zs) h =
+    let parts = and_parts (not (list_any (λ y. int_eq y z) zs)) (differ zs) h in
+    AllPairs-cons (λ y z. y ≢ z) z zs (none_is z zs (not_true (list_any (λ y. int_eq y z) zs) parts.0)) (distinct zs parts.1)
+
+one_where_private : (shared : Bool) (n : ℕ) → (shared || nat_le n 1) ≡ true → shared ≡ false → n ≤ 1
+one_where_private true n h private = absurd (cc private)
+one_where_private false n h private = leb-true n 1 h
+
+is_attached : (cs : List ControllerValue) (n : NamespaceValue) → may_attach cs n ≡ true → IsAttached cs n
+is_attached cs n h =
+    let parts = and_parts (list_all (is_cntlid cs) n.controllers) (differ n.controllers && (n.namespace.shared || nat_le (length n.controllers) 1)) h in
+    let more = and_parts (differ n.controllers) (n.namespace.shared || nat_le (length n.controllers) 1) parts.1 in
+    record {
+      known = All-weaker (λ z. is_cntlid cs z ≡ true) (λ z. Any (λ c. pos c.identity.cntlid ≡ z) cs) (named_one cs) n.controllers (AllPass-from_list_all (is_cntlid cs) n.controllers parts.0);
+      distinct = distinct n.controllers more.0;
+      private = one_where_private n.namespace.shared (length n.controllers) more.1;
+    }
+
+pub attached : (cs : List ControllerValue) (ns : List NamespaceValue) → attaches cs ns ≡ true → All (IsAttached cs) ns
+unfolding attaches
+attached cs ns h = All-weaker (λ n. may_attach cs n ≡ true) (IsAttached cs) (is_attached cs) ns (AllPass-from_list_all (may_attach cs) ns h)

@@ -1,0 +1,17 @@
+-- The keys of a map, and those of the members that it stands for.
+use Rattle.std.proofs.Common.{◌≡◌, List, [], ◌∷◌, String, BTreeMap, Global, map, string_bytes, refl}
+use Rattle.std.specs.List.{list_all, list_any}
+use Rattle.std.specs.Str.{bytes_eq}
+use Rattle.std.specs.BTreeMap.{keys}
+use Rattle.toml.specs.declared.value.Value.{Value}
+use Rattle.toml.specs.View.{table_view, members_view}
+use Rattle.nv_file.specs.declared.file.names.Key.{Key}
+use Rattle.nv_file.specs.Names.{key_text}
+use Rattle.nv_file.specs.Section.{has_only}
+
+known_entries : (known : List Key) (es : List (String Global × Value)) → list_all (λ k. list_any (λ x. bytes_eq (key_text x) (string_bytes k)) known) (map (λ e. e.0) es) ≡ has_only known (members_view es)
+known_entries known [] = refl
+known_entries known (e ∷ es) = rw (known_entries known es)
+
+pub known_keys : (known : List Key) (m : BTreeMap (String Global) Value) → list_all (λ k. list_any (λ x. bytes_eq (key_text x) (string_bytes k)) known) (keys m) ≡ has_only known (table_view m)
+known_keys known m = known_entries known m.entries

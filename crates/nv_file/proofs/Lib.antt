@@ -1,0 +1,5 @@
+pub mod Attached
+pub mod Distinct
+pub mod Fused
+pub mod Keys
+pub mod Readings

@@ -1,0 +1,105 @@
+-- A whole file: its tables, and what must hold between them.
+use Rattle.std.specs.Prelude.{ℕ, ℤ, pos, Bool, true, not, ◌&&◌, ◌||◌, List, [], ◌∷◌, length, Option, Some, None, Result, Ok, Err, nat_le, sum_by, if◌then◌else◌}
+use Rattle.std.specs.List.{list_all, list_any}
+use Rattle.std.specs.Ordering.{int_eq}
+use Rattle.std.specs.Str.{is_utf8}
+use Rattle.toml.specs.Data.{Members}
+use Rattle.toml.specs.Parse.{parse_document}
+use Rattle.nv_file.specs.declared.error.SubsystemError.{SubsystemError}
+use Rattle.nv_file.specs.declared.error.SubsystemError.TheVariants.{NotToml, Capacity, Attachment}
+use Rattle.nv_file.specs.declared.file.names.TableName.TheVariants as table
+use Rattle.nv_file.specs.declared.file.names.Key.TheVariants as key
+use Rattle.nv_file.specs.Fault.{◌>>=◌}
+use Rattle.nv_file.specs.FileValue.{ControllerValue, NamespaceValue, FileValue}
+use Rattle.nv_file.specs.Section.{number, number_or, text, tables, tables_or_none, within, only_known, readings}
+use Rattle.nv_file.specs.Tables.{greatest, format_of, controller_of, namespace_of}
+
+-- what the top table holds, before the tables in it are read
+pub record Top : Type 0 where
+  pub nn : ℕ
+  pub tnvmcap : ℕ
+  pub mc : ℕ
+  pub subnqn : List ℕ
+  pub formats : List Members
+  pub controllers : List Members
+  pub namespaces : List Members
+
+unfoldable pub top_of : Members → Result Top SubsystemError
+top_of members = do
+  version ← number table.Top key.Version 1 1 members
+  nn ← number table.Top key.Nn 1 1024 members
+  tnvmcap ← number table.Top key.Tnvmcap 0 greatest members
+  mc ← number_or table.Top key.Mc 0 0 3 members
+  subnqn ← text table.Top key.Subnqn 223 members
+  formats ← tables table.Top key.Format 16 members
+  controllers ← tables table.Top key.Controller 16 members
+  namespaces ← tables_or_none table.Top key.Namespace members
+  few ← within table.Top key.Namespace (nat_le (length namespaces) nn)
+  known ← only_known table.Top members
+  Ok (record {
+    nn = nn;
+    tnvmcap = tnvmcap;
+    mc = mc;
+    subnqn = subnqn;
+    formats = formats;
+    controllers = controllers;
+    namespaces = namespaces;
+  })
+
+-- the capacities add up to no more than there is
+abbrev pub fits : ℕ → List NamespaceValue → Bool
+fits tnvmcap namespaces = nat_le (sum_by (λ n. n.namespace.capacity) namespaces) tnvmcap
+
+-- a controller has the identifier
+abbrev pub is_cntlid : List ControllerValue → ℤ → Bool
+is_cntlid controllers z = list_any (λ c. int_eq (pos c.identity.cntlid) z) controllers
+
+-- no number stands twice
+abbrev pub differ : List ℤ → Bool
+differ [] = true
+differ (z ∷ zs) = not (list_any (λ y. int_eq y z) zs) && differ zs
+
+-- the list names controllers, each once, and one at most where the namespace is not shared
+abbrev pub may_attach : List ControllerValue → NamespaceValue → Bool
+may_attach controllers n =
+    list_all (is_cntlid controllers) n.controllers
+    && (differ n.controllers && (n.namespace.shared || nat_le (length n.controllers) 1))
+
+unfoldable pub attaches : List ControllerValue → List NamespaceValue → Bool
+attaches controllers namespaces = list_all (may_attach controllers) namespaces
+
+unfoldable pub provided : SubsystemError → Bool → Result (Unit {0}) SubsystemError
+provided e holds = if holds then Ok tt else Err e
+
+-- the tables within the top table, in the order of the file, and then what must hold between them
+unfoldable pub file_of : Members → Result FileValue SubsystemError
+file_of members = do
+  top ← top_of members
+  formats ← readings (λ _. format_of) [] top.formats
+  controllers ← readings controller_of [] top.controllers
+  namespaces ← readings (namespace_of top.nn top.mc formats) [] top.namespaces
+  room ← provided Capacity (fits top.tnvmcap namespaces)
+  attached ← provided Attachment (attaches controllers namespaces)
+  Ok (record {
+    nn = top.nn;
+    tnvmcap = top.tnvmcap;
+    mc = top.mc;
+    subnqn = top.subnqn;
+    formats = formats;
+    controllers = controllers;
+    namespaces = namespaces;
+  })
+
+-- the top table of a document
+abbrev pub as_document : Option Members → Result Members SubsystemError
+as_document None = Err NotToml
+as_document (Some members) = Ok members
+
+unfoldable pub document : List ℕ → Result Members SubsystemError
+document bytes = if is_utf8 bytes then as_document (parse_document bytes) else Err NotToml
+
+-- what a file holds, or its first fault
+unfoldable pub file : List ℕ → Result FileValue SubsystemError
+file bytes = do
+  members ← document bytes
+  file_of members

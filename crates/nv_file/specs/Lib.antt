@@ -1,0 +1,12 @@
+pub mod Fault
+pub mod Features
+pub mod File
+pub mod FileValue
+pub mod Identity
+pub mod IsFile
+pub mod Names
+pub mod Ranges
+pub mod Section
+pub mod SectionView
+pub mod Tables
+pub mod TopView

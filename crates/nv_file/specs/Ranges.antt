@@ -1,0 +1,89 @@
+-- The ranges of what a subsystem is made of.
+use Rattle.std.specs.Prelude.{◌≡◌, ℕ, ◌^◌, ◌<◌, ◌≤◌, true, false, List, length, All, bit_and}
+use Rattle.nv_file.specs.declared.parts.Format.{Format}
+use Rattle.nv_file.specs.declared.parts.Namespace.{Namespace}
+use Rattle.nv_file.specs.declared.parts.FeatureRule.{FeatureRule}
+use Rattle.nv_file.specs.declared.parts.Counters.{Counters}
+use Rattle.nv_file.specs.declared.parts.SmartBase.{SmartBase}
+use Rattle.nv_file.specs.declared.file.controllers.Numbers.{Numbers}
+use Rattle.nv_file.specs.Features.{is_fid, is_feature_value}
+use Rattle.nv_file.specs.Identity.{Identity}
+use Rattle.nv_file.specs.Section.{is_text}
+use Rattle.nv_file.specs.Tables.{greatest}
+
+-- The greatest NSID, the capacity in bytes, where metadata can lie, and the name of the subsystem.
+pub record AreTopKeys (last_nsid capacity metadata : ℕ) (name : List ℕ) : Type 0 where
+  pub nn : (1 ≤ last_nsid) × (last_nsid ≤ 1024)
+  pub tnvmcap : capacity ≤ greatest
+  pub mc : metadata ≤ 3
+  pub subnqn : is_text 223 name ≡ true
+
+pub record IsFormat (f : Format) : Type 0 where
+  pub lbads : (9 ≤ f.lbads) × (f.lbads ≤ 16)
+  pub ms : f.ms ≤ 65535
+  pub rp : f.rp ≤ 3
+
+-- Error Recovery is never saveable.
+pub record IsFeatureRule (r : FeatureRule) : Type 0 where
+  pub fid : is_fid r.fid ≡ true
+  pub default : is_feature_value r.fid r.default ≡ true
+  pub saveable : r.fid ≡ 0x05 → r.saveable ≡ false
+
+pub record IsCounters (c : Counters) : Type 0 where
+  pub data_units_read : c.data_units_read ≤ greatest
+  pub data_units_written : c.data_units_written ≤ greatest
+  pub host_read_commands : c.host_read_commands ≤ greatest
+  pub host_write_commands : c.host_write_commands ≤ greatest
+  pub controller_busy_time : c.controller_busy_time ≤ greatest
+  pub power_cycles : c.power_cycles ≤ greatest
+  pub power_on_hours : c.power_on_hours ≤ greatest
+  pub unsafe_shutdowns : c.unsafe_shutdowns ≤ greatest
+  pub media_errors : c.media_errors ≤ greatest
+
+pub record IsSmart (s : SmartBase) : Type 0 where
+  pub critical_warning : s.critical_warning ≤ 255
+  pub temperature : s.temperature ≤ 65535
+  pub avail_spare : s.avail_spare ≤ 255
+  pub spare_thresh : s.spare_thresh ≤ 255
+  pub percent_used : s.percent_used ≤ 255
+  pub counters : IsCounters s.counters
+  pub warning_temp_time : s.warning_temp_time ≤ 4294967295
+  pub critical_comp_time : s.critical_comp_time ≤ 4294967295
+  pub sensors : (length s.sensors ≡ 8) × All (λ n. n ≤ 65535) s.sensors
+
+-- The optional numbers of a controller.
+pub record IsNumbers (n : Numbers) : Type 0 where
+  pub vid : n.vid ≤ 65535
+  pub ssvid : n.ssvid ≤ 65535
+  pub rab : n.rab ≤ 255
+  pub ieee : n.ieee ≤ 16777215
+  pub mdts : (2 ≤ n.mdts) × (n.mdts ≤ 8)
+  pub elpe : n.elpe ≤ 255
+  pub wctemp : n.wctemp ≤ 65535
+  pub cctemp : n.cctemp ≤ 65535
+  pub vwc : n.vwc ≤ 7
+
+abbrev pub numbers_in : Identity → Numbers
+numbers_in i = record {
+  vid = i.vid;
+  ssvid = i.ssvid;
+  rab = i.rab;
+  ieee = i.ieee;
+  mdts = i.mdts;
+  elpe = i.elpe;
+  wctemp = i.wctemp;
+  cctemp = i.cctemp;
+  vwc = i.vwc;
+}
+
+pub record IsIdentity (i : Identity) : Type 0 where
+  pub cntlid : i.cntlid ≤ 65519
+  pub sn : is_text 20 i.sn ≡ true
+  pub mn : is_text 40 i.mn ≡ true
+  pub fr : is_text 8 i.fr ≡ true
+  pub numbers : IsNumbers (numbers_in i)
+
+-- A namespace has at least one block of its format, and extended blocks only where format and subsystem allow them.
+pub record IsInFormat (mc : ℕ) (f : Format) (n : Namespace) : Type 0 where
+  pub capacity : (2 ^ f.lbads ≤ n.capacity) × (n.capacity ≤ greatest)
+  pub extended : n.extended ≡ true → (0 < f.ms) × (bit_and mc 1 ≡ 1)

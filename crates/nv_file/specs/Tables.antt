@@ -1,0 +1,207 @@
+-- The tables of a file, key by key in the order of the checks, with the first fault that is met.
+use Rattle.std.specs.Prelude.{ℕ, ◌^◌, Bool, true, false, not, ◌&&◌, ◌||◌, List, [], ◌∷◌, map, Option, Some, None, Result, Ok, nat_lt, ◌==◌, bit_and, slice_get, slice_index}
+use Rattle.std.specs.List.{list_any}
+use Rattle.toml.specs.Data.{Members}
+use Rattle.nv_file.specs.declared.parts.Format.{Format}
+use Rattle.nv_file.specs.declared.parts.FeatureRule.{FeatureRule}
+use Rattle.nv_file.specs.declared.parts.Counters.{Counters}
+use Rattle.nv_file.specs.declared.parts.SmartBase.{SmartBase}
+use Rattle.nv_file.specs.declared.file.controllers.Numbers.{Numbers}
+use Rattle.nv_file.specs.declared.error.SubsystemError.{SubsystemError}
+use Rattle.nv_file.specs.declared.file.names.TableName.TheVariants as table
+use Rattle.nv_file.specs.declared.file.names.Key.TheVariants as key
+use Rattle.nv_file.specs.Fault.{◌>>=◌}
+use Rattle.nv_file.specs.Features.{is_fid, is_feature_value}
+use Rattle.nv_file.specs.Identity.{Identity}
+use Rattle.nv_file.specs.FileValue.{ControllerValue, NamespaceValue}
+use Rattle.nv_file.specs.Section.{number, number_or, flag_or, text, tables_or_none, table_or_none, integers_or_none, numbers_or_none, readings, within, unrepeated, named, only_known}
+
+-- the greatest integer that a file can spell
+abbrev pub greatest : ℕ
+greatest = 9223372036854775807
+
+unfoldable pub format_of : Members → Result Format SubsystemError
+format_of members = do
+  lbads ← number table.Format key.Lbads 9 16 members
+  ms ← number_or table.Format key.Ms 0 0 65535 members
+  rp ← number_or table.Format key.Rp 0 0 3 members
+  known ← only_known table.Format members
+  Ok (record { lbads = lbads; ms = ms; rp = rp })
+
+-- a feature, with those before it at hand
+unfoldable pub feature_of : List FeatureRule → Members → Result FeatureRule SubsystemError
+feature_of before members = do
+  fid ← number table.Feature key.Fid 0 255 members
+  supported ← within table.Feature key.Fid (is_fid fid)
+  new ← unrepeated table.Feature key.Fid (list_any (λ rule. rule.fid == fid) before)
+  value ← number_or table.Feature key.Default 0 0 4294967295 members
+  masked ← within table.Feature key.Default (is_feature_value fid value)
+  saveable ← flag_or table.Feature key.Saveable false members
+  may_save ← within table.Feature key.Saveable (not (saveable && (fid == 0x05)))
+  changeable ← flag_or table.Feature key.Changeable true members
+  known ← only_known table.Feature members
+  Ok (record { fid = fid; default = value; saveable = saveable; changeable = changeable })
+
+unfoldable pub counters_of : Members → Result Counters SubsystemError
+counters_of members = do
+  data_units_read ← number_or table.Smart key.DataUnitsRead 0 0 greatest members
+  data_units_written ← number_or table.Smart key.DataUnitsWritten 0 0 greatest members
+  host_read_commands ← number_or table.Smart key.HostReadCommands 0 0 greatest members
+  host_write_commands ← number_or table.Smart key.HostWriteCommands 0 0 greatest members
+  controller_busy_time ← number_or table.Smart key.ControllerBusyTime 0 0 greatest members
+  power_cycles ← number_or table.Smart key.PowerCycles 0 0 greatest members
+  power_on_hours ← number_or table.Smart key.PowerOnHours 0 0 greatest members
+  unsafe_shutdowns ← number_or table.Smart key.UnsafeShutdowns 0 0 greatest members
+  media_errors ← number_or table.Smart key.MediaErrors 0 0 greatest members
+  Ok (record {
+    data_units_read = data_units_read;
+    data_units_written = data_units_written;
+    host_read_commands = host_read_commands;
+    host_write_commands = host_write_commands;
+    controller_busy_time = controller_busy_time;
+    power_cycles = power_cycles;
+    power_on_hours = power_on_hours;
+    unsafe_shutdowns = unsafe_shutdowns;
+    media_errors = media_errors;
+  })
+
+-- the eight sensors; those that the list does not reach are 0
+abbrev pub eight : List ℕ → List ℕ
+eight numbers = map (slice_index numbers) (0 ∷ 1 ∷ 2 ∷ 3 ∷ 4 ∷ 5 ∷ 6 ∷ 7 ∷ [])
+
+unfoldable pub smart_of : Members → Result SmartBase SubsystemError
+smart_of members = do
+  critical_warning ← number_or table.Smart key.CriticalWarning 0 0 255 members
+  avail_spare ← number_or table.Smart key.AvailSpare 0 0 255 members
+  spare_thresh ← number_or table.Smart key.SpareThresh 0 0 255 members
+  percent_used ← number_or table.Smart key.PercentUsed 0 0 255 members
+  temperature ← number_or table.Smart key.Temperature 0 0 65535 members
+  counters ← counters_of members
+  warning_temp_time ← number_or table.Smart key.WarningTempTime 0 0 4294967295 members
+  critical_comp_time ← number_or table.Smart key.CriticalCompTime 0 0 4294967295 members
+  sensors ← numbers_or_none table.Smart key.Sensors 8 65535 members
+  known ← only_known table.Smart members
+  Ok (record {
+    critical_warning = critical_warning;
+    temperature = temperature;
+    avail_spare = avail_spare;
+    spare_thresh = spare_thresh;
+    percent_used = percent_used;
+    counters = counters;
+    warning_temp_time = warning_temp_time;
+    critical_comp_time = critical_comp_time;
+    sensors = eight sensors;
+  })
+
+-- a health log whose table is missing
+abbrev pub zero_smart : SmartBase
+zero_smart = record {
+  critical_warning = 0;
+  temperature = 0;
+  avail_spare = 0;
+  spare_thresh = 0;
+  percent_used = 0;
+  counters = record {
+    data_units_read = 0;
+    data_units_written = 0;
+    host_read_commands = 0;
+    host_write_commands = 0;
+    controller_busy_time = 0;
+    power_cycles = 0;
+    power_on_hours = 0;
+    unsafe_shutdowns = 0;
+    media_errors = 0;
+  };
+  warning_temp_time = 0;
+  critical_comp_time = 0;
+  sensors = eight [];
+}
+
+abbrev pub smart_or_zero : Option Members → Result SmartBase SubsystemError
+smart_or_zero None = Ok zero_smart
+smart_or_zero (Some members) = smart_of members
+
+-- the optional numbers of a controller
+unfoldable pub numbers_of : Members → Result Numbers SubsystemError
+numbers_of members = do
+  vid ← number_or table.Controller key.Vid 0 0 65535 members
+  ssvid ← number_or table.Controller key.Ssvid 0 0 65535 members
+  rab ← number_or table.Controller key.Rab 0 0 255 members
+  ieee ← number_or table.Controller key.Ieee 0 0 16777215 members
+  mdts ← number_or table.Controller key.Mdts 5 2 8 members
+  elpe ← number_or table.Controller key.Elpe 63 0 255 members
+  wctemp ← number_or table.Controller key.Wctemp 343 0 65535 members
+  cctemp ← number_or table.Controller key.Cctemp 353 0 65535 members
+  vwc ← number_or table.Controller key.Vwc 0 0 7 members
+  Ok (record {
+    vid = vid;
+    ssvid = ssvid;
+    rab = rab;
+    ieee = ieee;
+    mdts = mdts;
+    elpe = elpe;
+    wctemp = wctemp;
+    cctemp = cctemp;
+    vwc = vwc;
+  })
+
+-- what a controller says of itself, with the controllers before it at hand
+unfoldable pub identity_of : List ControllerValue → Members → Result Identity SubsystemError
+identity_of before members = do
+  cntlid ← number table.Controller key.Cntlid 0 65519 members
+  new ← unrepeated table.Controller key.Cntlid (list_any (λ c. c.identity.cntlid == cntlid) before)
+  sn ← text table.Controller key.Sn 20 members
+  mn ← text table.Controller key.Mn 40 members
+  fr ← text table.Controller key.Fr 8 members
+  numbers ← numbers_of members
+  crypto_erase ← flag_or table.Controller key.CryptoErase false members
+  Ok (record {
+    cntlid = cntlid;
+    sn = sn;
+    mn = mn;
+    fr = fr;
+    vid = numbers.vid;
+    ssvid = numbers.ssvid;
+    rab = numbers.rab;
+    ieee = numbers.ieee;
+    mdts = numbers.mdts;
+    elpe = numbers.elpe;
+    wctemp = numbers.wctemp;
+    cctemp = numbers.cctemp;
+    vwc = numbers.vwc;
+    crypto_erase = crypto_erase;
+  })
+
+-- a controller: its own table, then its features, then its health log
+unfoldable pub controller_of : List ControllerValue → Members → Result ControllerValue SubsystemError
+controller_of before members = do
+  identity ← identity_of before members
+  features ← tables_or_none table.Controller key.Feature members
+  smart ← table_or_none table.Controller key.Smart members
+  known ← only_known table.Controller members
+  rules ← readings feature_of [] features
+  base ← smart_or_zero smart
+  Ok (record { identity = identity; rules = rules; smart = base })
+
+-- metadata can lie at the end of the blocks of a format that has some, where bit 0 of mc is 1
+abbrev pub may_extend : ℕ → Format → Bool → Bool
+may_extend mc format extended = not extended || (nat_lt 0 format.ms && (bit_and mc 1 == 1))
+
+-- a namespace, with those before it at hand
+unfoldable pub namespace_of : ℕ → ℕ → List Format → List NamespaceValue → Members → Result NamespaceValue SubsystemError
+namespace_of nn mc formats before members = do
+  nsid ← number table.Namespace key.Nsid 1 nn members
+  new ← unrepeated table.Namespace key.Nsid (list_any (λ n. n.nsid == nsid) before)
+  format ← number table.Namespace key.Format 0 15 members
+  in_use ← named table.Namespace key.Format (slice_get formats format)
+  capacity ← number table.Namespace key.Bytes (2 ^ in_use.lbads) greatest members
+  extended ← flag_or table.Namespace key.Extended false members
+  extends ← within table.Namespace key.Extended (may_extend mc in_use extended)
+  shared ← flag_or table.Namespace key.Shared false members
+  controllers ← integers_or_none table.Namespace key.Controllers members
+  known ← only_known table.Namespace members
+  Ok (record {
+    nsid = nsid;
+    namespace = record { capacity = capacity; format = format; extended = extended; shared = shared };
+    controllers = controllers;
+  })

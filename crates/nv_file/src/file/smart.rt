@@ -1,0 +1,138 @@
+//! The health log of a controller of a file.
+ghost use Rattle.std.specs.Prelude.{◌≡◌, ◌≤◌, All, IfOk, option_map, slice_index};
+ghost use Rattle.toml.specs.View.{table_view};
+ghost use Rattle.nv_file.specs.Fault.{Gives};
+ghost use Rattle.nv_file.specs.Tables.{counters_of, eight, smart_of, zero_smart, smart_or_zero};
+ghost use Rattle.nv_file.specs.Ranges.{IsCounters, IsSmart};
+
+use crate::error::SubsystemError;
+use crate::file::names::{Key, TableName};
+use crate::file::section::{GREATEST, Section};
+use crate::parts::{Counters, SmartBase};
+use std::alloc::Global;
+use toml::Table;
+
+#[tactic(auto, unfolding(crate::specs::Tables::counters_of))]
+fn counters_of(table: &Table) -> Result<Counters, SubsystemError>
+    ensures exact { Gives (λ c. c) result (counters_of (table_view table.now)) }
+    ensures sound { IfOk result IsCounters }
+{
+    let section = Section {
+        name: TableName::Smart,
+        table,
+    };
+    let data_units_read = section.number_or(Key::DataUnitsRead, 0, 0, GREATEST)?;
+    let data_units_written = section.number_or(Key::DataUnitsWritten, 0, 0, GREATEST)?;
+    let host_read_commands = section.number_or(Key::HostReadCommands, 0, 0, GREATEST)?;
+    let host_write_commands = section.number_or(Key::HostWriteCommands, 0, 0, GREATEST)?;
+    let controller_busy_time = section.number_or(Key::ControllerBusyTime, 0, 0, GREATEST)?;
+    let power_cycles = section.number_or(Key::PowerCycles, 0, 0, GREATEST)?;
+    let power_on_hours = section.number_or(Key::PowerOnHours, 0, 0, GREATEST)?;
+    let unsafe_shutdowns = section.number_or(Key::UnsafeShutdowns, 0, 0, GREATEST)?;
+    let media_errors = section.number_or(Key::MediaErrors, 0, 0, GREATEST)?;
+    Ok(Counters {
+        data_units_read,
+        data_units_written,
+        host_read_commands,
+        host_write_commands,
+        controller_busy_time,
+        power_cycles,
+        power_on_hours,
+        unsafe_shutdowns,
+        media_errors,
+    })
+}
+
+/// The number at an index, or 0 where the list ends before it.
+fn number_at(numbers: &[u16], index: usize) -> u16
+    ensures { result ≡ slice_index numbers.now index }
+{
+    numbers.get(index).copied().unwrap_or(0)
+}
+
+fn eight(numbers: &[u16]) -> [u16; 8]
+    ensures exact { result ≡ eight numbers.now }
+    ensures range { All (λ n. n ≤ 65535) result }
+{
+    [
+        number_at(numbers, 0),
+        number_at(numbers, 1),
+        number_at(numbers, 2),
+        number_at(numbers, 3),
+        number_at(numbers, 4),
+        number_at(numbers, 5),
+        number_at(numbers, 6),
+        number_at(numbers, 7),
+    ]
+}
+
+#[tactic(auto, unfolding(crate::specs::Tables::smart_of))]
+fn smart_of(alloc: Global, table: &Table) -> Result<SmartBase, SubsystemError>
+    ensures exact { Gives (λ s. s) result (smart_of (table_view table.now)) }
+    ensures sound { IfOk result IsSmart }
+{
+    let section = Section {
+        name: TableName::Smart,
+        table,
+    };
+    let critical_warning = section.number_or(Key::CriticalWarning, 0, 0, 255)? as u8;
+    let avail_spare = section.number_or(Key::AvailSpare, 0, 0, 255)? as u8;
+    let spare_thresh = section.number_or(Key::SpareThresh, 0, 0, 255)? as u8;
+    let percent_used = section.number_or(Key::PercentUsed, 0, 0, 255)? as u8;
+    let temperature = section.number_or(Key::Temperature, 0, 0, 65535)? as u16;
+    let counters = counters_of(table)?;
+    let warning_temp_time = section.number_or(Key::WarningTempTime, 0, 0, 4294967295)? as u32;
+    let critical_comp_time = section.number_or(Key::CriticalCompTime, 0, 0, 4294967295)? as u32;
+    let sensors = section.numbers_or_none(alloc, Key::Sensors, 8, 65535)?;
+    section.only_known()?;
+    Ok(SmartBase {
+        critical_warning,
+        temperature,
+        avail_spare,
+        spare_thresh,
+        percent_used,
+        counters,
+        warning_temp_time,
+        critical_comp_time,
+        sensors: eight(&sensors),
+    })
+}
+
+fn zero_smart() -> SmartBase
+    ensures exact { result ≡ zero_smart }
+    ensures sound { IsSmart result }
+{
+    SmartBase {
+        critical_warning: 0,
+        temperature: 0,
+        avail_spare: 0,
+        spare_thresh: 0,
+        percent_used: 0,
+        counters: Counters {
+            data_units_read: 0,
+            data_units_written: 0,
+            host_read_commands: 0,
+            host_write_commands: 0,
+            controller_busy_time: 0,
+            power_cycles: 0,
+            power_on_hours: 0,
+            unsafe_shutdowns: 0,
+            media_errors: 0,
+        },
+        warning_temp_time: 0,
+        critical_comp_time: 0,
+        sensors: [0; 8],
+    }
+}
+
+/// The health log that a table gives, or all zeros where there is none.
+pub fn smart_or_zero(alloc: Global, table: Option<&Table>) -> Result<SmartBase, SubsystemError>
+    ensures exact { Gives (λ s. s) result
+        (smart_or_zero (option_map (λ t. table_view t.now) table.entry)) }
+    ensures sound { IfOk result IsSmart }
+{
+    match table {
+        Some(table) => smart_of(alloc, table),
+        None => Ok(zero_smart()),
+    }
+}

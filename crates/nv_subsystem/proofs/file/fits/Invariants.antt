@@ -1,5 +1,0 @@
-use Rattle.std.proofs.Common.{◌≡◌, ◌+◌, take, sum_by}
-use Rattle.nv_subsystem.proofs.file.fits.Given as goal
-
-abbrev pub invariant-loop-entry : goal.invariant-loop-entry
-invariant-loop-entry l = l.left + sum_by (λ n. n.namespace.capacity) (take l.entry-index l.namespaces) ≡ l.tnvmcap
