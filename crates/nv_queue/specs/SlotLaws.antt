@@ -4,15 +4,16 @@ use Rattle.std.proofs.lemmas.Bool.{cases_lt}
 use Rattle.std.proofs.lemmas.Nat.{mod_below}
 use Rattle.std.proofs.lemmas.List.{get_or_append_left, get_or_push, length_push}
 use Rattle.nv_host.specs.Bytes.{bytes_at, with_bytes}
-use Rattle.nv_host.specs.BytesLaws.{bytes_at-with_after, bytes_at-with_before, bytes_at-with_same}
+use Rattle.nv_host.specs.BytesLaws.{bytes_at-with_after, bytes_at-with_before, bytes_at-with_same, length-with_bytes}
 use Rattle.nv_layout.specs.Cqe.{CqeFits, bytes_of_cqe, cqe_of_bytes}
 use Rattle.nv_layout.specs.declared.cqe.Cqe.{Cqe}
 use Rattle.nv_layout.proofs.RecordLaws.{cqe_back, length-bytes_of_cqe}
-use Rattle.nv_queue.specs.Numbers.{phase_of, slot_of}
+use Rattle.nv_queue.specs.Numbers.{kept_number, phase_of, slot_of}
 use Rattle.nv_queue.specs.Rings.{CollectNumbers, PostNumbers}
-use Rattle.nv_queue.specs.Slots.{CollectsPosted, HoldsOneMore, HoldsPosted, completion_at, posted_as}
-use Rattle.nv_queue.proofs.NumberLaws.{phase_low, slot_low}
-use Rattle.nv_queue.proofs.KeptLaws.{phase_again, phase_kept, slot_again, slot_kept, slots_apart}
+use Rattle.nv_queue.specs.Slots.{CollectsPosted, HoldsOneMore, HoldsPosted, IsAwaitedThere, awaited_completion, completion_at}
+use Rattle.nv_queue.specs.Slots.{completion_place, posted_as, put_as, with_completion}
+use Rattle.nv_queue.specs.NumberLaws.{phase_low, slot_low}
+use Rattle.nv_queue.specs.KeptLaws.{phase_again, phase_kept, slot_again, slot_kept, slots_apart}
 
 -- ---- the awaited slot
 
@@ -116,25 +117,48 @@ holds_one_more old new ring c p written posted number inside fits holds =
     let phase : phase_of d ring.posted ≡ phase_of d n = ap (phase_of d) number ∙ phase_kept d n (omega arith) in
     rw (written, slot, phase) (holds_after old ring.base d n posted c (omega arith) inside fits refl holds)
 
-collected : (bytes : List ℕ) (base d : ℕ) (posted : List Cqe) (k : ℕ) (r : Option Cqe) → 1 < d → k ≤ length posted → length posted ≤ k + d → HoldsPosted bytes base d posted
-    → (IsSome r ↔ ((completion_at bytes base (slot_of d k)).phase ≡ phase_of d k)) → IfSome r (λ c. c ≡ completion_at bytes base (slot_of d k))
-    → (IsSome r ↔ (k < length posted)) × IfSome r (λ c. c ≡ slice_index_or posted k c)
-collected bytes base d posted k None p l h holds awaited value =
-    ((λ e. cc, λ below. awaited.1 (posted_tag bytes base d posted k holds below h)), tt)
-collected bytes base d posted k (Some c) p l h holds awaited value =
-    let below : k < length posted =
-    elim (cases_lt k (length posted)) [
-      | inl b ↦ b
-      | inr g ↦ absurd (not_posted bytes base d posted k (omega arith) holds (omega arith) (awaited.0 refl))
-    ] in
-    ((λ e. below, λ b. refl), value ∙ holds.standing k c below h)
-
-pub collects_posted : (bytes : List ℕ) (ring : CollectNumbers) (r : Option Cqe) → 1 < ring.depth
-    → (IsSome r ↔ ((completion_at bytes ring.base (slot_of ring.depth ring.collected)).phase ≡ phase_of ring.depth ring.collected))
-    → IfSome r (λ c. c ≡ completion_at bytes ring.base (slot_of ring.depth ring.collected))
-    → CollectsPosted bytes ring r
-collects_posted bytes ring r p awaited value posted k number l h holds =
-    let d = ring.depth in
+-- completion k is awaited: its slot has its phase exactly where it was posted
+pub awaited_posted : (bytes : List ℕ) (ring : CollectNumbers) (posted : List Cqe) (k : ℕ) → 1 < ring.depth
+    → ring.collected ≡ kept_number ring.depth k → k ≤ length posted → length posted ≤ k + ring.depth
+    → HoldsPosted bytes ring.base ring.depth posted
+    → IsAwaitedThere bytes ring ↔ (k < length posted)
+awaited_posted bytes ring posted k p number l h holds =
+    let base = ring.base in let d = ring.depth in
     let slot : slot_of d ring.collected ≡ slot_of d k = ap (slot_of d) number ∙ slot_kept d k in
     let phase : phase_of d ring.collected ≡ phase_of d k = ap (phase_of d) number ∙ phase_kept d k (omega arith) in
-    collected bytes ring.base d posted k r p l h holds (rw (slot, phase) at awaited) (rw slot at value)
+    rw (slot, phase) (
+      (λ there. elim (cases_lt k (length posted)) [
+        | inl b ↦ b
+        | inr g ↦ absurd (not_posted bytes base d posted k (omega arith) holds (omega arith) there)
+      ]),
+      (λ below. posted_tag bytes base d posted k holds below h),
+    )
+
+-- and then it stands there
+pub awaited_stands : (bytes : List ℕ) (ring : CollectNumbers) (posted : List Cqe) (k : ℕ) (other : Cqe)
+    → 1 < ring.depth → ring.collected ≡ kept_number ring.depth k → k < length posted
+    → length posted ≤ k + ring.depth → HoldsPosted bytes ring.base ring.depth posted
+    → awaited_completion bytes ring ≡ slice_index_or posted k other
+awaited_stands bytes ring posted k other p number l h holds =
+    let slot : slot_of ring.depth ring.collected ≡ slot_of ring.depth k =
+    ap (slot_of ring.depth) number ∙ slot_kept ring.depth k in
+    ap (completion_at bytes ring.base) slot ∙ holds.standing k other l h
+
+pub collects_posted : (bytes : List ℕ) (ring : CollectNumbers) (r : Option Cqe) → 1 < ring.depth
+    → (IsSome r ↔ IsAwaitedThere bytes ring) → IfSome r (λ c. c ≡ awaited_completion bytes ring)
+    → CollectsPosted bytes ring r
+collects_posted bytes ring None p awaited value posted k number l h holds =
+    let there = awaited_posted bytes ring posted k p number l h holds in
+    (((λ e. cc), (λ below. awaited.1 (there.1 below))), tt)
+collects_posted bytes ring (Some c) p awaited value posted k number l h holds =
+    let there = awaited_posted bytes ring posted k p number l h holds in
+    let below = there.0 (awaited.0 refl) in
+    (((λ e. below), (λ b. refl)), value ∙ awaited_stands bytes ring posted k c p number below h holds)
+
+pub length-with_completion : (bytes : List ℕ) (ring : PostNumbers) (c : Cqe) → 0 < ring.depth
+    → ring.base + 16 * ring.depth ≤ length bytes → length (with_completion bytes ring c) ≡ length bytes
+length-with_completion bytes ring c p inside =
+    let place = completion_place ring.base ring.depth ring.posted in
+    let low = slot_within ring.depth ring.posted p in
+    let len = length-bytes_of_cqe (put_as ring c) in
+    length-with_bytes bytes place (bytes_of_cqe (put_as ring c)) (omega arith)

@@ -1,6 +1,6 @@
-use Rattle.nv_queue.proofs.SlotLaws.{collects_posted}
-use Rattle.nv_queue.proofs.TagLaws.{finds_by_tags}
-use Rattle.nv_queue.proofs.collect.CompletionRing.poll.Goals as goal
+use Rattle.nv_queue.specs.SlotLaws.{collects_posted}
+use Rattle.nv_queue.specs.TagLaws.{finds_by_tags}
+use Rattle.nv_queue.proofs.completion_ring.CompletionRing.poll.Goals as goal
 
 pub returns-then-is_some-clause-posted : goal.returns-then-is_some-clause-posted
 returns-then-is_some-clause-posted g c =

@@ -3,8 +3,8 @@ use Rattle.std.proofs.Common.{◌≡◌, ◌≢◌, ℕ, ◌+◌, ◌-◌, ◌*�
 use Rattle.std.proofs.lemmas.Bool.{cases_lt}
 use Rattle.std.proofs.lemmas.Nat.{mod_below}
 use Rattle.std.proofs.Math.Nat.{add-mod_right, add-mul-mod_self_left, div-add-mod, mod-add-mod, zero-mod}
-use Rattle.nv_queue.specs.Numbers.{IsSlotBetween, above, ahead, kept, next, phase_of, reached, slot_of}
-use Rattle.nv_queue.proofs.NumberLaws.{above_cases, ahead_slot, rest_is, slot_below, slot_cases, times_is}
+use Rattle.nv_queue.specs.Numbers.{IsSlotBetween, above, ahead, first_in_slot, kept_number, next, phase_of, slot_of}
+use Rattle.nv_queue.specs.NumberLaws.{above_cases, ahead_slot, rest_is, slot_below, slot_cases, times_is}
 
 -- ---- whole numbers
 
@@ -26,34 +26,34 @@ phase_again d n p =
 
 -- ---- what is kept of them
 
-pub kept_below : (d n : ℕ) → 0 < d → kept d n < 2 * d
-unfolding kept
+pub kept_below : (d n : ℕ) → 0 < d → kept_number d n < 2 * d
+unfolding kept_number
 kept_below d n h = mod_below n (2 * d) (omega arith)
 
-pub kept_zero : (d : ℕ) → kept d 0 ≡ 0
-unfolding kept
+pub kept_zero : (d : ℕ) → kept_number d 0 ≡ 0
+unfolding kept_number
 kept_zero d = zero-mod (2 * d)
 
-pub kept_add : (d b j : ℕ) → kept d (b + j) ≡ (kept d b + j) % (2 * d)
-unfolding kept
+pub kept_add : (d b j : ℕ) → kept_number d (b + j) ≡ (kept_number d b + j) % (2 * d)
+unfolding kept_number
 kept_add d b j = sym (mod-add-mod b (2 * d) j)
 
-pub kept_next : (d n : ℕ) → next d (kept d n) ≡ kept d (n + 1)
-unfolding kept next
+pub kept_next : (d n : ℕ) → next d (kept_number d n) ≡ kept_number d (n + 1)
+unfolding kept_number next
 kept_next d n = mod-add-mod n (2 * d) 1
 
 whole : (d n : ℕ) → n ≡ n % (2 * d) + d * (2 * (n / (2 * d)))
 whole d n = omega (arith, div-add-mod n (2 * d))
 
-pub slot_kept : (d n : ℕ) → slot_of d (kept d n) ≡ slot_of d n
-unfolding slot_of kept
+pub slot_kept : (d n : ℕ) → slot_of d (kept_number d n) ≡ slot_of d n
+unfolding slot_of kept_number
 slot_kept d n = sym (ap (λ x. x % d) (whole d n) ∙ add-mul-mod_self_left (n % (2 * d)) d (2 * (n / (2 * d))))
 
 even_more : (q k : ℕ) → (q + 2 * k) % 2 ≡ q % 2
 even_more q k = add-mul-mod_self_left q 2 k
 
-pub phase_kept : (d n : ℕ) → 0 < d → phase_of d (kept d n) ≡ phase_of d n
-unfolding phase_of kept
+pub phase_kept : (d n : ℕ) → 0 < d → phase_of d (kept_number d n) ≡ phase_of d n
+unfolding phase_of kept_number
 phase_kept d n p =
     let r = n % (2 * d) in let k = n / (2 * d) in
     let e : n ≡ (r / d + 2 * k) * d + r % d = omega (arith, div-add-mod n (2 * d), div-add-mod r d) in
@@ -71,9 +71,9 @@ further d r j h i =
 above_further : (d r j x : ℕ) → r < 2 * d → j < 2 * d → x ≡ (r + j) % (2 * d) → x < 2 * d → above d x r ≡ j
 above_further d r j x h i e l = grind (arith, further d r j h i, above_cases d x r l h)
 
-pub above_kept : (d a b j : ℕ) → 0 < d → a ≡ b + j → j < 2 * d → above d (kept d a) (kept d b) ≡ j
+pub above_kept : (d a b j : ℕ) → 0 < d → a ≡ b + j → j < 2 * d → above d (kept_number d a) (kept_number d b) ≡ j
 above_kept d a b j p e l =
-    above_further d (kept d b) j (kept d a) (kept_below d b p) l (ap (kept d) e ∙ kept_add d b j) (kept_below d a p)
+    above_further d (kept_number d b) j (kept_number d a) (kept_below d b p) l (ap (kept_number d) e ∙ kept_add d b j) (kept_below d a p)
 
 apart_further : (d r j x : ℕ) → r < 2 * d → 0 < j → j < d → x ≡ (r + j) % (2 * d) → x < 2 * d → slot_of d x ≢ slot_of d r
 apart_further d r j x h p i e l =
@@ -83,22 +83,22 @@ apart_further d r j x h p i e l =
 pub slots_apart : (d a b : ℕ) → b < a → a < b + d → slot_of d a ≢ slot_of d b
 slots_apart d a b l h =
     let e : a ≡ b + (a - b) = omega arith in
-    λ same. apart_further d (kept d b) (a - b) (kept d a) (kept_below d b (omega arith)) (omega arith) (omega arith)
-    (ap (kept d) e ∙ kept_add d b (a - b)) (kept_below d a (omega arith)) (slot_kept d a ∙ (same ∙ sym (slot_kept d b)))
+    λ same. apart_further d (kept_number d b) (a - b) (kept_number d a) (kept_below d b (omega arith)) (omega arith) (omega arith)
+    (ap (kept_number d) e ∙ kept_add d b (a - b)) (kept_below d a (omega arith)) (slot_kept d a ∙ (same ∙ sym (slot_kept d b)))
 
--- the slot of a number less than a depth further is reached as that number
-pub ahead_kept : (d a b j : ℕ) → a ≡ b + j → j < d → ahead d (kept d b) (slot_of d (kept d a)) ≡ j
+-- the slot of a number less than a depth further is first_in_slot as that number
+pub ahead_kept : (d a b j : ℕ) → a ≡ b + j → j < d → ahead d (kept_number d b) (slot_of d (kept_number d a)) ≡ j
 ahead_kept d a b j e l =
-    let is : above d (kept d a) (kept d b) ≡ j = above_kept d a b j (omega arith) e (omega arith) in
-    ahead_slot d (kept d a) (kept d b) (kept_below d a (omega arith)) (kept_below d b (omega arith)) (omega arith) ∙ is
+    let is : above d (kept_number d a) (kept_number d b) ≡ j = above_kept d a b j (omega arith) e (omega arith) in
+    ahead_slot d (kept_number d a) (kept_number d b) (kept_below d a (omega arith)) (kept_below d b (omega arith)) (omega arith) ∙ is
 
-pub reached_kept : (d a b j : ℕ) → a ≡ b + j → j < d → reached d (kept d b) (slot_of d (kept d a)) ≡ kept d a
-unfolding reached
-reached_kept d a b j e l = ap (λ x. (kept d b + x) % (2 * d)) (ahead_kept d a b j e l) ∙ sym (ap (kept d) e ∙ kept_add d b j)
+pub first_kept : (d a b j : ℕ) → a ≡ b + j → j < d → first_in_slot d (kept_number d b) (slot_of d (kept_number d a)) ≡ kept_number d a
+unfolding first_in_slot
+first_kept d a b j e l = ap (λ x. (kept_number d b + x) % (2 * d)) (ahead_kept d a b j e l) ∙ sym (ap (kept_number d) e ∙ kept_add d b j)
 
-pub between_kept : (d b j m a c : ℕ) → j ≤ m → m < d → a ≡ b + j → c ≡ b + m → IsSlotBetween d (kept d b) (kept d c) (slot_of d (kept d a))
+pub between_kept : (d b j m a c : ℕ) → j ≤ m → m < d → a ≡ b + j → c ≡ b + m → IsSlotBetween d (kept_number d b) (kept_number d c) (slot_of d (kept_number d a))
 between_kept d b j m a c l h at end = (
-  slot_below d (kept d a) (kept_below d a (omega arith)),
+  slot_below d (kept_number d a) (kept_below d a (omega arith)),
   (let x = ahead_kept d a b j at (omega arith) in
       let y = above_kept d c b m (omega arith) end (omega arith) in omega arith),
 )
