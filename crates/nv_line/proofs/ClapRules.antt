@@ -7,10 +7,10 @@ use Rattle.clap.specs.Words.{App, IsAmong, Kinds, Row, Text, fault_of, is_simple
 use Rattle.clap.specs.declared.error.kind.ErrorKind.{ErrorKind}
 use Rattle.clap.specs.declared.error.kind.ErrorKind.TheVariants as kind
 use Rattle.nv_line.specs.LineFault.{IsUnlessMemory}
-use Rattle.nv_line.specs.OptionTable.{app_for, found_in, is_taken, rows_of_words}
+use Rattle.nv_line.specs.ClapRule.{app_for, clap_rows, is_taken, rows_of_words}
 use Rattle.nv_line.specs.declared.fault.LineFault.TheVariants as fault
-use Rattle.nv_line.specs.declared.option.Verb.{Verb}
-use Rattle.nv_line.specs.declared.option.Verb.TheVariants.{ListNs, IdNs}
+use Rattle.nv_line.specs.declared.verb.Verb.{Verb}
+use Rattle.nv_line.specs.declared.verb.Verb.TheVariants.{ListNs, IdNs}
 
 pub each_is_simple : (v : Verb) → is_simple_and_free (app_for v) ≡ true
 each_is_simple ListNs = refl
@@ -33,17 +33,17 @@ among_taken : (k : ErrorKind) (ks : Kinds) → IsAmong k ks → is_empty ks ≡ 
 among_taken k [] h = absurd h
 among_taken k (x ∷ xs) h = search rules
 
-taken_rows : (v : Verb) (ws : List Text) → is_taken v ws ≡ true → rows_of_words v ws ≡ Ok (found_in v ws)
+taken_rows : (v : Verb) (ws : List Text) → is_taken v ws ≡ true → rows_of_words v ws ≡ Ok (clap_rows v ws)
 taken_rows v ws h = rw h refl
 
 refused_rows : (v : Verb) (ws : List Text) → is_taken v ws ≡ false → rows_of_words v ws ≡ Err fault.Usage
 refused_rows v ws h = rw h refl
 
 pub taken : (v : Verb) (ws : List Text) (a : App) (rows : List Row) → a ≡ app_for v → fault_of a ws ≡ [] → rows ≡ matches_of a ws → IsUnlessMemory (rows_of_words v ws) (Ok rows)
-unfolding is_taken found_in
+unfolding is_taken clap_rows
 taken v ws a rows e f r =
     let test : is_taken v ws ≡ true = none_taken _ (ap (λ (x : App). fault_of x ws) (sym e) ∙ f) in
-    let found : rows ≡ found_in v ws = r ∙ ap (λ (x : App). matches_of x ws) e in
+    let found : rows ≡ clap_rows v ws = r ∙ ap (λ (x : App). matches_of x ws) e in
     inr (ap Ok found ∙ sym (taken_rows v ws test))
 
 pub refused : (v : Verb) (ws : List Text) (a : App) (k : ErrorKind) → a ≡ app_for v → (k ≡ kind.OutOfMemory) ⊎ IsAmong k (fault_of a ws) → (k ≡ kind.OutOfMemory → ⊥) → IsUnlessMemory {T = List Row} (rows_of_words v ws) (Err fault.Usage)

@@ -1,7 +1,7 @@
 //! The paths of devices.
 
 ghost use Rattle.std.specs.Prelude.{◌≡◌, ◌<◌, IfSome};
-ghost use Rattle.nv_line.specs.Device.{address_of, controller_of, device_of};
+ghost use Rattle.nv_line.specs.Device.{address_of, controller_index, device_of};
 
 use crate::number::plain;
 
@@ -13,8 +13,8 @@ pub struct Device {
 }
 
 /// The controller X, which is one of the subsystem's.
-fn controller(text: &str, controllers: u16) -> Option<u16>
-    ensures value { result ≡ controller_of controllers text.now }
+fn controller_index(text: &str, controllers: u16) -> Option<u16>
+    ensures value { result ≡ controller_index controllers text.now }
     ensures known { IfSome result (λ x. x < controllers) }
 {
     let value = plain(text, 0, 65535)? as u16;
@@ -32,14 +32,14 @@ fn address(text: &str, controllers: u16) -> Option<Device>
 {
     match text.split_once('n') {
         None => {
-            let controller = controller(text, controllers)?;
+            let controller = controller_index(text, controllers)?;
             Some(Device {
                 controller,
                 nsid: None,
             })
         }
         Some((x, y)) => {
-            let controller = controller(x, controllers)?;
+            let controller = controller_index(x, controllers)?;
             let nsid = plain(y, 1, 0xffff_ffff)? as u32;
             Some(Device {
                 controller,

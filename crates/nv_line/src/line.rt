@@ -1,13 +1,16 @@
 //! What a line says.
 
 ghost use Rattle.std.specs.Prelude.{IfOk};
-ghost use Rattle.nv_line.specs.LineFault.{IsUnlessMemory};
 ghost use Rattle.nv_line.specs.Line.{IsKnown, reading};
+ghost use Rattle.nv_line.specs.LineFault.{IsUnlessMemory};
 
 use crate::fault::LineFault;
-use crate::request::{Request, read_words};
+use crate::request::{Request, read_request};
 use crate::word::{is_skipped_line, split_words, without_program};
 use std::alloc::Global;
+
+/// The most bytes of a line, without its newline.
+pub const LINE_LIMIT: usize = 4095;
 
 /// What a line says: nothing, or a request.
 #[derive(Clone, Copy, Debug, PartialEq, Eq)]
@@ -15,7 +18,7 @@ pub enum Line {
     /// It is blank, or a comment.
     Skipped,
     /// It asks for something.
-    Asked(Request),
+    Request(Request),
 }
 
 /// Reads a line of a script for a subsystem with this many controllers. A fault is the first of: too
@@ -24,7 +27,7 @@ pub fn read_line(alloc: Global, line: &[u8], controllers: u16) -> Result<Line, L
     ensures exact { IsUnlessMemory (reading line.now controllers) result }
     ensures known { IfOk result (IsKnown controllers) }
 {
-    if line.len() > 4095 {
+    if line.len() > LINE_LIMIT {
         return Err(LineFault::TooLong);
     }
     if is_skipped_line(line) {
@@ -34,8 +37,8 @@ pub fn read_line(alloc: Global, line: &[u8], controllers: u16) -> Result<Line, L
         return Err(LineFault::NotText);
     };
     let words = split_words(alloc, text)?;
-    match read_words(alloc, without_program(words.as_slice()), controllers) {
-        Ok(request) => Ok(Line::Asked(request)),
+    match read_request(alloc, without_program(words.as_slice()), controllers) {
+        Ok(request) => Ok(Line::Request(request)),
         Err(fault) => Err(fault),
     }
 }
