@@ -1,7 +1,6 @@
 -- What clap's contract says of each command.
 use Rattle.std.proofs.Common.{◌≡◌, ◌⊎◌, ◌∙◌, ap, refl, sym, inl, inr, rules, true, false, List, [], ◌∷◌, Ok, Err}
-use Rattle.clap.proofs.OnLiterals.{clap_on_literals}
-use Rattle.std.proofs.Common.{codes}
+use Rattle.clap.proofs.WalkLemmas.{both}
 use Rattle.clap.specs.Walk.{is_empty}
 use Rattle.clap.specs.Words.{App, IsAmong, Kinds, Row, Text, fault_of, is_simple, is_simple_and_free, matches_of}
 use Rattle.clap.specs.declared.error.kind.ErrorKind.{ErrorKind}
@@ -12,19 +11,15 @@ use Rattle.nv_line.specs.declared.fault.LineFault.TheVariants as fault
 use Rattle.nv_line.specs.declared.verb.Verb.{Verb}
 use Rattle.nv_line.specs.declared.verb.Verb.TheVariants.{ListNs, IdNs}
 
-pub each_is_simple : (v : Verb) → is_simple_and_free (app_for v) ≡ true
+each_is_simple : (v : Verb) → is_simple_and_free (app_for v) ≡ true
 each_is_simple ListNs = refl
 each_is_simple IdNs = refl
-
-each_has_matches : (v : Verb) → is_simple (app_for v) ≡ true
-each_has_matches ListNs = refl
-each_has_matches IdNs = refl
 
 pub simple_as : (v : Verb) (a : App) → a ≡ app_for v → is_simple_and_free a ≡ true
 simple_as v a e = ap is_simple_and_free e ∙ each_is_simple v
 
 pub matches_as : (v : Verb) (a : App) → a ≡ app_for v → is_simple a ≡ true
-matches_as v a e = ap is_simple e ∙ each_has_matches v
+matches_as v a e = (both _ _ (simple_as v a e)).0
 
 none_taken : (ks : Kinds) → ks ≡ [] → is_empty ks ≡ true
 none_taken ks e = ap (λ (x : Kinds). is_empty x) e
@@ -52,18 +47,3 @@ refused v ws a k e (inl m) n = absurd (n m)
 refused v ws a k e (inr among) n =
     let test : is_taken v ws ≡ false = ap (λ (x : App). is_empty (fault_of x ws)) (sym e) ∙ among_taken k _ among in
     inr (sym (refused_rows v ws test))
-
-use_words : (List Text) → List Text
-use_words ws = ws
-
-refuses_help : is_taken ListNs (codes "list-ns" ∷ codes "--help" ∷ []) ≡ false
-unfolding is_taken clap_on_literals
-refuses_help = refl
-
-takes_joined : is_taken ListNs (codes "list-ns" ∷ codes "-an3" ∷ codes "x" ∷ []) ≡ true
-unfolding is_taken clap_on_literals
-takes_joined = refl
-
-refuses_twice : is_taken ListNs (codes "list-ns" ∷ codes "-n" ∷ codes "1" ∷ codes "-n" ∷ codes "1" ∷ codes "x" ∷ []) ≡ false
-unfolding is_taken clap_on_literals
-refuses_twice = refl
