@@ -18,7 +18,8 @@ IsUnlessMemory answer r = (r ≡ Err fault.Memory) ⊎ (r ≡ answer)
 
 -- reading goes on with what was read, or ends at the first fault
 infixl 10 ◌>>=◌
-abbrev pub ◌>>=◌ : {A B : Type 0} → Result A LineFault → (A → Result B LineFault) → Result B LineFault
+abbrev pub ◌>>=◌ : {A B : Type 0}
+    → Result A LineFault → (A → Result B LineFault) → Result B LineFault
 (Ok x) >>= f = f x
 (Err e) >>= f = Err e
 

@@ -58,7 +58,8 @@ pub fn clap_matches<'a>(
     verb: Verb,
     words: &'a [&'a str],
 ) -> Result<ArgMatches<'a>, LineFault>
-    ensures { IsUnlessMemory (rows_of_words verb (map (λ w. w.now) words.entry.now)) (ok_map (λ m. rows_of (found_of m)) result) }
+    ensures { IsUnlessMemory (rows_of_words verb (map (λ w. w.now) words.entry.now))
+        (ok_map (λ m. rows_of (found_of m)) result) }
 {
     let command = clap_command(alloc, verb)?;
     match command.try_get_matches_from(words) {

@@ -21,8 +21,8 @@ pub enum Line {
     Request(Request),
 }
 
-/// Reads a line of a script for a subsystem with this many controllers. A fault is the first of: too
-/// long, not text, usage, device, a missing NSID, a bad number.
+/// Reads a line of a script for a subsystem with this many controllers. A fault is the first of: too long,
+/// not text, usage, device, and then, option by option, a missing NSID or a bad number.
 pub fn read_line(alloc: Global, line: &[u8], controllers: u16) -> Result<Line, LineFault>
     ensures exact { IsUnlessMemory (reading line.now controllers) result }
     ensures known { IfOk result (IsKnown controllers) }
@@ -37,8 +37,6 @@ pub fn read_line(alloc: Global, line: &[u8], controllers: u16) -> Result<Line, L
         return Err(LineFault::NotText);
     };
     let words = split_words(alloc, text)?;
-    match read_request(alloc, without_program(words.as_slice()), controllers) {
-        Ok(request) => Ok(Line::Request(request)),
-        Err(fault) => Err(fault),
-    }
+    let request = read_request(alloc, without_program(words.as_slice()), controllers)?;
+    Ok(Line::Request(request))
 }

@@ -3,10 +3,8 @@
 ghost use Rattle.std.specs.Prelude.{◌≡◌};
 ghost use Rattle.nv_line.specs.Verb.{options_of, verb_of, word_of};
 
+use crate::device::NSID_LIMIT;
 use crate::option::{CommandOption, FlagOption, NumberOption, OptionName};
-
-/// The greatest NSID.
-const NSID_LIMIT: u64 = 0xffff_ffff;
 
 /// An NSID, by default that of the path; one is needed.
 pub const NSID: NumberOption = NumberOption {
