@@ -1,6 +1,6 @@
 use Rattle.std.proofs.Common.{◌∙◌}
 use Rattle.nv_line.proofs.ClapRules.{matches_as, refused, simple_as, taken}
-use Rattle.nv_line.proofs.option.clap_matches.Goals as goal
+use Rattle.nv_line.proofs.clap_rule.clap_matches.Goals as goal
 
 pub returns-in-Ok : goal.returns-in-Ok
 returns-in-Ok c =

@@ -1,8 +1,9 @@
 use Rattle.std.proofs.Common.{◌∙◌, ap₂, sym}
 use Rattle.std.proofs.lemmas.List.Sums.{fold_more}
-use Rattle.nv_line.specs.OptionTable.{device_rule, option_rule, word_of}
+use Rattle.nv_line.specs.ClapRule.{device_rule, option_rule}
+use Rattle.nv_line.specs.Verb.{word_of}
 use Rattle.clap.specs.Words.{with_rule, new_app}
-use Rattle.nv_line.proofs.option.clap_command.Goals as goal
+use Rattle.nv_line.proofs.clap_rule.clap_command.Goals as goal
 
 pub loop-option-preserved : goal.loop-option-preserved
 loop-option-preserved c =
