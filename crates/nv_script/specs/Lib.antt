@@ -7,7 +7,6 @@ pub mod Faults
 pub mod Options
 pub mod Requests
 pub mod Reading
-pub mod Entries
 pub mod Serving
 pub mod Asking
 pub mod Outcomes

@@ -4,7 +4,6 @@
 mod asking;
 mod device_path;
 mod ends;
-mod entries;
 mod executing;
 mod faults;
 mod line_buffer;

@@ -1,12 +1,15 @@
 pub mod Identity
-pub mod Statuses
+pub mod Row
 pub mod ErrorLog
 pub mod State
 pub mod StateCode
 pub mod Slots
 pub mod Capacity
+pub mod Nsid
+pub mod Identify
 pub mod Refusal
 pub mod Reply
+pub mod Effect
 pub mod Step
 pub mod ControllerView
 pub mod Sound
@@ -25,3 +28,9 @@ pub mod Tables
 pub mod TopView
 pub mod FromFile
 pub mod Entry
+pub mod ChangedAtLaws
+pub mod StepLaws
+pub mod IdentifyLaws
+pub mod ListLaws
+pub mod InFormatLaws
+pub mod ReplyLaws

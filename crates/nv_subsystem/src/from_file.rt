@@ -9,7 +9,7 @@ ghost use Rattle.nv_subsystem.specs.FromFile.{controller_of, with_attachment, wi
 ghost use Rattle.nv_subsystem.specs.Slots.{by_nsid, marked_nsids};
 ghost use Rattle.nv_subsystem.specs.Sound.{IsSized};
 
-use crate::controllers::Controller;
+use crate::controller::Controller;
 use crate::error::SubsystemError;
 use crate::error_log::ErrorLog;
 use crate::file::attachments::stands_in;

@@ -1,22 +1,24 @@
 //! An NVM subsystem: its file, its namespaces, and what each command does to it.
 #![tactic(auto)]
 
-mod commands;
-mod controllers;
+mod controller;
 mod demo;
-mod describe;
 mod error;
 mod error_log;
 mod features;
 mod file;
 mod from_file;
+mod identify;
+mod origin;
 mod parts;
+mod row;
 mod slots;
-mod subsystems;
+mod subsystem;
 
-pub use commands::{Command, Origin, Refusal, Reply, StatusCode};
 pub use demo::DEMO;
 pub use error::SubsystemError;
 pub use file::names::{Key, TableName};
+pub use nv_command::{Command, Refusal, Reply, StatusCode};
+pub use origin::{Origin, SERIALS};
 pub use parts::{Counters, FeatureRule, Format, Identity, Namespace, SmartBase};
-pub use subsystems::Subsystem;
+pub use subsystem::Subsystem;
