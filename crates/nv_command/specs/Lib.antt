@@ -1,9 +1,13 @@
 pub mod Steps
 pub mod StatusCode
 pub mod Refusal
+pub mod Identify
 pub mod Command
 pub mod Entry
-pub mod Identify
 pub mod Decoding
 pub mod Reply
 pub mod Travel
+pub mod RefusalLaws
+pub mod EntryLaws
+pub mod IdentifyLaws
+pub mod TravelLaws

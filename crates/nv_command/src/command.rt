@@ -5,12 +5,16 @@ ghost use Rattle.nv_layout.specs.Sqe.{SqeFits};
 ghost use Rattle.nv_command.specs.Command.{namespace_of, transfer_by};
 ghost use Rattle.nv_command.specs.Decoding.{command_of};
 ghost use Rattle.nv_command.specs.Entry.{entry_of, fields_of};
+ghost use Rattle.nv_command.specs.Travel.{Arrives};
 
 use crate::entry::{Fields, Opcode};
 use crate::identify;
 use crate::status_code::StatusCode;
 use crate::transfer::Transfer;
 use nv_layout::Sqe;
+
+/// The NSID that stands for all namespaces. Section "Namespace Identifier".
+pub const BROADCAST_NSID: u32 = 0xffff_ffff;
 
 /// A command with its fields as numbers. Section "Admin Command Set".
 #[derive(Debug, Drop, PartialEq, Eq)]
@@ -65,6 +69,7 @@ impl Command {
     pub fn entry(&self, cid: u16) -> Sqe
         ensures entry { result ≡ entry_of self.now cid }
         ensures fits { SqeFits result }
+        ensures arrives { Arrives self.now cid }
     {
         self.fields().entry(self.nsid(), cid)
     }

@@ -17,7 +17,7 @@ mod status_code;
 mod tests;
 mod transfer;
 
-pub use command::Command;
+pub use command::{BROADCAST_NSID, Command};
 pub use refusal::Refusal;
 pub use reply::Reply;
 pub use status_code::StatusCode;

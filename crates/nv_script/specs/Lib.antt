@@ -1,7 +1,6 @@
 pub use Rattle.nv_line.specs.LineFault
 pub use Rattle.nv_line.specs.Line
 pub mod Streams
-pub mod Entries
 pub mod Serving
 pub mod Asking
 pub mod Outcomes

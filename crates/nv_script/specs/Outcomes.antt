@@ -3,9 +3,9 @@ use Rattle.std.specs.Prelude.{◌≡◌, ℕ, ◌-◌, Bool, List, IfOk, string_
 use Rattle.std.specs.declared.string.String.{String}
 use Rattle.nv_layout.specs.declared.status.Status.{Status}
 use Rattle.nv_subsystem.specs.State.{State}
-use Rattle.nv_subsystem.specs.declared.commands.Command.{Command}
-use Rattle.nv_subsystem.specs.declared.commands.Command.TheVariants.{IdentifyNamespace, AllocatedNamespace, ActiveList, AllocatedList}
-use Rattle.nv_subsystem.specs.declared.commands.Reply.{Reply}
+use Rattle.nv_command.specs.declared.command.Command.{Command}
+use Rattle.nv_command.specs.declared.command.Command.TheVariants.{IdentifyNamespace, AllocatedNamespace, ActiveList, AllocatedList}
+use Rattle.nv_command.specs.declared.reply.Reply.{Reply}
 use Rattle.nv_script.specs.Asking.{asked}
 use Rattle.nv_script.specs.Texts.{text_of}
 use Rattle.nv_line.specs.declared.request.Ask.{Ask}

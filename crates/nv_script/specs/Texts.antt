@@ -1,14 +1,15 @@
 -- What a line prints.
-use Rattle.std.specs.Prelude.{ℕ, ◌+◌, ◌-◌, ◌%◌, min, take, ◌==◌, ◌&&◌, false, List, [], ◌∷◌, ◌++◌, length, replicate, codes, if◌then◌else◌}
+use Rattle.std.specs.Prelude.{ℕ, ◌+◌, ◌-◌, ◌%◌, min, take, ◌==◌, false, List, [], ◌∷◌, ◌++◌, length, replicate, codes, if◌then◌else◌}
 use Rattle.std.specs.Fmt.{decimal, digits}
 use Rattle.std.specs.List.{fold}
 use Rattle.nv_layout.specs.Status.{number_of_status}
 use Rattle.nv_layout.specs.declared.status.Status.{Status}
 use Rattle.nv_layout.specs.declared.id_ns.IdNs.{IdNs}
 use Rattle.nv_layout.specs.declared.id_ns.Lbaf.{Lbaf}
-use Rattle.nv_subsystem.specs.Reply.{blank}
-use Rattle.nv_subsystem.specs.declared.commands.Reply.{Reply}
-use Rattle.nv_subsystem.specs.declared.commands.Reply.TheVariants as reply
+use Rattle.nv_command.specs.StatusCode.{name_of_status}
+use Rattle.nv_subsystem.specs.Identify.{blank}
+use Rattle.nv_command.specs.declared.reply.Reply.{Reply}
+use Rattle.nv_command.specs.declared.reply.Reply.TheVariants as reply
 use Rattle.nv_line.specs.declared.request.Ask.{Ask}
 use Rattle.nv_line.specs.declared.request.Ask.TheVariants as ask
 
@@ -91,10 +92,6 @@ text_of (ask.IdNs nsid force) replies = text_of_namespace (namespace_in replies)
 abbrev pub message_of : ℕ → List ℕ → List ℕ
 message_of number text = codes "line " ++ (decimal number ++ (codes ": " ++ (text ++ 10 ∷ [])))
 
--- the name of a status, by its type and its code
-abbrev pub status_name : Status → List ℕ
-status_name s = if s.sct == 0 && s.sc == 0x0b then codes "Invalid Namespace or Format" else codes "Unknown"
-
 -- "NVMe status: Invalid Namespace or Format (0x600b)"
 abbrev pub refusal_text : Status → List ℕ
-refusal_text s = codes "NVMe status: " ++ (status_name s ++ (codes " (" ++ (hexadecimal (number_of_status s) ++ codes ")")))
+refusal_text s = codes "NVMe status: " ++ (name_of_status s ++ (codes " (" ++ (hexadecimal (number_of_status s) ++ codes ")")))

@@ -1,29 +1,15 @@
 //! One command: its entry out, its completion and its data in.
 
 ghost use Rattle.std.specs.Prelude.{◌≡◌, ◌<◌, length};
-ghost use Rattle.nv_subsystem.specs.declared.commands.Reply.TheVariants as reply;
-ghost use Rattle.nv_script.specs.Asking.{IsReady, asked, reply_in};
+ghost use Rattle.nv_command.specs.declared.reply.Reply.TheVariants as reply;
+ghost use Rattle.nv_script.specs.Asking.{IsReady, asked};
 ghost use Rattle.nv_line.specs.LineFault.{ok_map};
 ghost use Rattle.nv_script.specs.Outcomes.{list_command, namespace_command};
 
-use crate::entries::encode;
 use crate::serving::Direct;
+use nv_command::{Command, Reply};
 use nv_layout::{Cqe, IdNs, NsList, Status};
-use nv_subsystem::{Command, Reply};
-
-/// The reply that a page holds, for the command that was asked.
-fn read_reply(command: &Command, page: &[u8; 4096]) -> Reply
-    ensures { result ≡ reply_in command.now page.now }
-{
-    match command {
-        Command::IdentifyNamespace { nsid: _ } | Command::AllocatedNamespace { nsid: _ } => {
-            Reply::Namespace(IdNs::get(page))
-        }
-        Command::ActiveList { after: _ } | Command::AllocatedList { after: _ } => {
-            Reply::List(NsList::get(page))
-        }
-    }
-}
+use nv_subsystem::SERIALS;
 
 /// A page for the data of a reply.
 fn new_page() -> [u8; 4096]
@@ -47,12 +33,13 @@ pub fn ask<D: Direct>(
 {
     let cid = serials[ctrl as usize];
     let mut entry = [0; 64];
-    encode(command, cid).put(&mut entry);
+    let sqe = command.entry(cid);
+    sqe.put(&mut entry);
     let mut page = new_page();
     let completion = Cqe::get(&direct.serve(ctrl, &entry, &mut page));
-    serials[ctrl as usize] = (cid + 1) % 65535;
+    serials[ctrl as usize] = (cid + 1) % SERIALS;
     if completion.status.is_success() {
-        Ok(read_reply(command, &page))
+        Ok(Reply::read(command, completion.command_specific, &page))
     } else {
         Err(completion.status)
     }

@@ -3,7 +3,6 @@
 
 mod asking;
 mod ends;
-mod entries;
 mod executing;
 mod line_buffer;
 mod running;

@@ -1,15 +1,15 @@
 //! What serves the commands of a script.
 
-ghost use Rattle.std.specs.Prelude.{◌≡◌, ◌<◌, length, IsSome, IfSome};
+ghost use Rattle.std.specs.Prelude.{◌≡◌, ◌<◌, [], length, IsOk, IfOk};
 ghost use Rattle.nv_layout.specs.Cqe.{bytes_of_cqe};
 ghost use Rattle.nv_layout.specs.Sqe.{sqe_of_bytes};
+ghost use Rattle.nv_command.specs.Decoding.{command_of};
 ghost use Rattle.nv_subsystem.specs.State.{State};
-ghost use Rattle.nv_script.specs.Entries.{decoded};
-ghost use Rattle.nv_script.specs.Serving.{IsServed, completion_with, data_of, success, with_data};
+ghost use Rattle.nv_script.specs.Serving.{IsServed, completion_with};
 
-use crate::entries::decode;
+use nv_command::Command;
 use nv_layout::{Cqe, Sqe, Status};
-use nv_subsystem::{Origin, Reply, Subsystem};
+use nv_subsystem::{Origin, Subsystem};
 
 /// A subsystem that takes one submission queue entry at a time, and writes the data of its reply to the
 /// front of a page.
@@ -24,8 +24,8 @@ pub trait Direct {
     /// Executes the command of an entry on a controller, and answers its completion.
     fn serve(&mut self, ctrl: u16, entry: &[u8; 64], page: &mut [u8; 4096]) -> [u8; 16]
         requires ctrl { ctrl < length (state self.old).controllers }
-        requires entry { IsSome (decoded (sqe_of_bytes entry.now)) }
-        ensures { IfSome (decoded (sqe_of_bytes entry.now)) (λ command.
+        requires entry { IsOk (command_of (sqe_of_bytes entry.now) []) }
+        ensures { IfOk (command_of (sqe_of_bytes entry.now) []) (λ command.
             IsServed command (sqe_of_bytes entry.now).cid ctrl (state self.old) (state self.new) page.old page.new result) };
 }
 
@@ -51,11 +51,11 @@ impl Straight {
 }
 
 /// The completion of a command, at the head and with the phase tag that stand for no ring.
-fn completion(cid: u16, status: Status) -> [u8; 16]
-    ensures { result ≡ bytes_of_cqe (completion_with cid status) }
+fn completion(cid: u16, command_specific: u32, status: Status) -> [u8; 16]
+    ensures { result ≡ bytes_of_cqe (completion_with cid command_specific status) }
 {
     let entry = Cqe {
-        command_specific: 0,
+        command_specific,
         sq_head: 0,
         sq_identifier: 0,
         cid,
@@ -67,16 +67,6 @@ fn completion(cid: u16, status: Status) -> [u8; 16]
     bytes
 }
 
-/// Writes the data of a reply.
-fn put_reply(reply: &Reply, page: &mut [u8; 4096])
-    ensures { page.new ≡ with_data (data_of reply.now) page.old }
-{
-    match reply {
-        Reply::List(list) => list.put(page),
-        Reply::Namespace(namespace) => namespace.put(page),
-    }
-}
-
 impl Direct for Straight {
     ghost state = { λ s. s.subsystem };
 
@@ -86,17 +76,17 @@ impl Direct for Straight {
 
     fn serve(&mut self, ctrl: u16, entry: &[u8; 64], page: &mut [u8; 4096]) -> [u8; 16] {
         let entry = Sqe::get(entry);
-        let command = decode(&entry).unwrap();
+        let command = Command::of(&entry, &[]).unwrap();
         let origin = Origin {
             cid: entry.cid,
             phase: false,
         };
         match self.subsystem.execute(ctrl, &command, origin) {
             Ok(reply) => {
-                put_reply(&reply, page);
-                completion(entry.cid, Status::SUCCESS)
+                reply.put(page);
+                completion(entry.cid, reply.dword0(), Status::SUCCESS)
             }
-            Err(refusal) => completion(entry.cid, refusal.status),
+            Err(refusal) => completion(entry.cid, 0, refusal.status),
         }
     }
 }

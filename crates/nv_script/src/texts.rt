@@ -2,8 +2,9 @@
 
 ghost use Rattle.std.specs.Prelude.{◌≡◌, IfOk, string_bytes};
 ghost use Rattle.nv_line.specs.LineFault.{fault_text};
-ghost use Rattle.nv_script.specs.Texts.{message_of, namespace_fields, refusal_text, status_name, text_of_namespace, text_of_nsids};
+ghost use Rattle.nv_script.specs.Texts.{message_of, namespace_fields, refusal_text, text_of_namespace, text_of_nsids};
 
+use nv_command::StatusCode;
 use nv_layout::{IdNs, Lbaf, NsList, Status};
 use nv_line::LineFault;
 use std::alloc::{AllocError, Global};
@@ -164,16 +165,6 @@ pub fn namespace_text(alloc: Global, namespace: &IdNs) -> Result<String, AllocEr
     Ok(text)
 }
 
-/// The name of a status ("Status Code").
-fn name_of_status(status: Status) -> &'static str
-    ensures { result.now ≡ status_name status }
-{
-    match (status.sct, status.sc) {
-        (0, 0x0b) => "Invalid Namespace or Format",
-        _ => "Unknown",
-    }
-}
-
 /// The status of a refusal, as a message says it.
 #[derive(Clone, Copy)]
 struct Refused(Status);
@@ -185,7 +176,7 @@ impl fmt::Display for Refused {
     ghost output = { λ refused. Some (refusal_text refused.0) };
 
     fn fmt<W: fmt::Write>(&self, f: &mut fmt::Formatter<W>) -> fmt::Result {
-        let name = name_of_status(self.0);
+        let name = StatusCode::name_of(self.0);
         let field = Hexadecimal(u64::from(self.0.number()));
         write!(f, "NVMe status: {name} ({field})")
     }

@@ -13,13 +13,13 @@ use Rattle.nv_file.specs.Ranges.{IsFormat}
 use Rattle.nv_subsystem.specs.Slots.{by_nsid}
 use Rattle.nv_subsystem.specs.Sound.{IsSized, IsSound}
 use Rattle.nv_subsystem.specs.State.{Namespaces}
-use Rattle.nv_subsystem.specs.declared.controllers.Controller.{Controller}
+use Rattle.nv_subsystem.specs.declared.controller.Controller.{Controller}
 use Rattle.nv_file.specs.declared.file.entries.File.{File}
 use Rattle.nv_file.specs.declared.file.entries.NamespaceEntry.{NamespaceEntry}
 use Rattle.nv_file.specs.declared.parts.Namespace.{Namespace}
 use Rattle.nv_subsystem.proofs.ByNsid.{get_slot}
 use Rattle.nv_subsystem.proofs.FileStates.{state_ok}
-use Rattle.nv_subsystem.proofs.InFormat.{format_below}
+use Rattle.nv_subsystem.specs.InFormatLaws.{format_below}
 
 pub nsids_within : (f : File) → IsFile (file_view f) → (k : ℕ) (d : NamespaceEntry) → k < length f.namespaces.items → (1 ≤ (get_or f.namespaces.items k d).nsid) × ((get_or f.namespaces.items k d).nsid ≤ f.nn)
 nsids_within f h k d b =

@@ -1,12 +1,6 @@
 pub mod ByNsid
 pub mod Filling
-pub mod ChangedAt
 pub mod WithController
-pub mod Kept
-pub mod InFormat
-pub mod Listing
-pub mod Describing
-pub mod ReplyFits
 pub mod Entries
 pub mod Capacities
 pub mod FileStates

@@ -4,8 +4,8 @@ use Rattle.std.proofs.lemmas.List.{length-map}
 use Rattle.nv_subsystem.specs.ControllerView.{controller_view}
 use Rattle.nv_subsystem.specs.State.{Controller, State}
 use Rattle.nv_subsystem.specs.Step.{with_controller}
-use Rattle.nv_subsystem.specs.declared.controllers.Controller as code
-use Rattle.nv_subsystem.proofs.ChangedAt.{views_changed}
+use Rattle.nv_subsystem.specs.declared.controller.Controller as code
+use Rattle.nv_subsystem.specs.ChangedAtLaws.{views_changed}
 
 abbrev pub with_controllers : State → List Controller → State
 with_controllers s cs = record s { controllers = cs }

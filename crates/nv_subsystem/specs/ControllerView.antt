@@ -2,7 +2,7 @@
 use Rattle.nv_file.specs.Identity.{identity_view}
 use Rattle.nv_subsystem.specs.Slots.{marked_nsids}
 use Rattle.nv_subsystem.specs.State.{Controller}
-use Rattle.nv_subsystem.specs.declared.controllers.Controller as controllers
+use Rattle.nv_subsystem.specs.declared.controller.Controller as controllers
 
 abbrev pub controller_view : controllers.Controller → Controller
 controller_view x = record {

@@ -1,7 +1,7 @@
 -- What is true of the parts of every subsystem in memory, so that its calls are safe.
 use Rattle.std.specs.Prelude.{◌≡◌, ℕ, ◌+◌, ◌<◌, ◌≤◌, List, length, Option, All}
 use Rattle.std.specs.Option.{ForSome}
-use Rattle.nv_subsystem.specs.declared.controllers.Controller.{Controller}
+use Rattle.nv_subsystem.specs.declared.controller.Controller.{Controller}
 use Rattle.nv_file.specs.declared.parts.Format.{Format}
 use Rattle.nv_file.specs.declared.parts.Namespace.{Namespace}
 

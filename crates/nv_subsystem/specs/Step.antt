@@ -1,24 +1,19 @@
 -- What one command does: its answer, and the state after it.
 use Rattle.std.specs.Prelude.{ℕ, zero, suc, ◌+◌, ◌%◌, min, List, [], ◌∷◌, take, Option, Some, None, Result, Ok, Err}
 use Rattle.nv_layout.specs.declared.status.Status.{Status}
+use Rattle.nv_command.specs.Command.{namespace_of}
+use Rattle.nv_command.specs.declared.command.Command.{Command}
+use Rattle.nv_command.specs.declared.refusal.Refusal.{Refusal}
+use Rattle.nv_command.specs.declared.reply.Reply.{Reply}
+use Rattle.nv_subsystem.specs.Effect.{effect_of}
 use Rattle.nv_subsystem.specs.Refusal.{refusal_of}
 use Rattle.nv_subsystem.specs.Reply.{reply_of}
 use Rattle.nv_subsystem.specs.State.{Controller, State, greatest_count}
-use Rattle.nv_subsystem.specs.declared.commands.Command.{Command}
-use Rattle.nv_subsystem.specs.declared.commands.Command.TheVariants.{IdentifyNamespace, AllocatedNamespace, ActiveList, AllocatedList}
-use Rattle.nv_subsystem.specs.declared.commands.Refusal.{Refusal}
-use Rattle.nv_subsystem.specs.declared.commands.Reply.{Reply}
-
--- the NSID that a refusal is booked with: that of the command, which for a list is the one before it
-abbrev pub namespace_of : Command → ℕ
-namespace_of (IdentifyNamespace n) = n
-namespace_of (AllocatedNamespace n) = n
-namespace_of (ActiveList after) = after
-namespace_of (AllocatedList after) = after
+use Rattle.nv_subsystem.specs.declared.origin.TheConstants.{SERIALS}
 
 -- one more, up to the greatest count
-abbrev pub counted_on : ℕ → ℕ
-counted_on n = min (n + 1) greatest_count
+abbrev pub next_count : ℕ → ℕ
+next_count n = min (n + 1) greatest_count
 
 -- a list with the element at a place changed
 abbrev pub changed_at : {A : Type 0} → List A → ℕ → (A → A) → List A
@@ -29,14 +24,10 @@ changed_at (x ∷ xs) (suc n) f = x ∷ changed_at xs n f
 abbrev pub with_controller : State → ℕ → (Controller → Controller) → State
 with_controller s c f = record s { controllers = changed_at s.controllers c f }
 
--- what the accepted command changes: none of these changes anything
-abbrev pub effect_of : State → ℕ → Command → State
-effect_of s c k = s
-
--- a controller that has booked a refusal: the newest entry stands first, and ELPE + 1 are kept
-abbrev pub booked : ℕ → ℕ → Refusal → Controller → Controller
-booked nsid cid r x =
-    let refusals = counted_on x.refusals in
+-- a controller with one refusal more: the newest entry stands first, and ELPE + 1 are kept
+abbrev pub with_refusal : ℕ → ℕ → Refusal → Controller → Controller
+with_refusal nsid cid r x =
+    let refusals = next_count x.refusals in
     record x {
       refusals = refusals;
       log = take (x.identity.elpe + 1) (record { count = refusals; cid = cid; status = r.status; nsid = nsid; specific = r.specific } ∷ x.log);
@@ -44,11 +35,11 @@ booked nsid cid r x =
 
 -- the state after a refusal of controller c
 abbrev pub refused : State → ℕ → ℕ → ℕ → Refusal → State
-refused s c nsid cid r = with_controller s c (booked nsid cid r)
+refused s c nsid cid r = with_controller s c (with_refusal nsid cid r)
 
 -- each command that a controller takes is counted
-abbrev pub counted : State → ℕ → State
-counted s c = with_controller s c (λ x. record x { commands = counted_on x.commands })
+abbrev pub with_command : State → ℕ → State
+with_command s c = with_controller s c (λ x. record x { commands = next_count x.commands })
 
 -- the answer, with the whole refusal
 abbrev pub answer_by : Option Refusal → Reply → Result Reply Refusal
@@ -63,8 +54,8 @@ pub record Step : Type 0 where
   pub state : State
 
 abbrev pub step_by : Option Refusal → State → ℕ → Command → ℕ → Step
-step_by None s c k cid = record { answer = Ok (reply_of s c k); state = counted (effect_of s c k) c }
-step_by (Some r) s c k cid = record { answer = Err r.status; state = counted (refused s c (namespace_of k) cid r) c }
+step_by None s c k cid = record { answer = Ok (reply_of s c k); state = with_command (effect_of s c k) c }
+step_by (Some r) s c k cid = record { answer = Err r.status; state = with_command (refused s c (namespace_of k) cid r) c }
 
 -- a command of controller c with this command identifier
 abbrev pub step : State → ℕ → Command → ℕ → Step
@@ -72,4 +63,4 @@ step s c k cid = step_by (refusal_of s c k) s c k cid
 
 -- the command identifier after one: FFFFh is never used
 abbrev pub next_serial : ℕ → ℕ
-next_serial serial = (serial + 1) % 65535
+next_serial serial = (serial + 1) % SERIALS

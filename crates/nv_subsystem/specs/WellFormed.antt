@@ -5,15 +5,8 @@ use Rattle.nv_subsystem.specs.Capacity.{used}
 use Rattle.nv_file.specs.Ranges.{AreTopKeys, IsFeatureRule, IsFormat, IsIdentity, IsInFormat, IsSmart}
 use Rattle.nv_subsystem.specs.State.{Controller, Namespaces, State, greatest_count}
 use Rattle.nv_layout.specs.Status.{StatusFits}
-use Rattle.nv_subsystem.specs.declared.commands.Refusal.{Refusal}
 use Rattle.nv_subsystem.specs.declared.error_log.LogEntry.{LogEntry}
 use Rattle.nv_file.specs.declared.parts.Namespace.{Namespace}
-
--- a status that is no success, in numbers that fit the fields of an error log entry
-pub record IsRefusal (r : Refusal) : Type 0 where
-  pub status : StatusFits r.status
-  pub fails : (r.status.sct ≡ 0) × (r.status.sc ≡ 0) → ⊥
-  pub specific : r.specific ≤ greatest_count
 
 -- the numbers of an entry fit their fields
 pub record IsLogEntry (e : LogEntry) : Type 0 where

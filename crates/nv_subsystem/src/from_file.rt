@@ -9,12 +9,9 @@ ghost use Rattle.nv_subsystem.specs.FromFile.{controller_of, with_attachment, wi
 ghost use Rattle.nv_subsystem.specs.Slots.{by_nsid, marked_nsids};
 ghost use Rattle.nv_subsystem.specs.Sound.{IsSized};
 
-use crate::controllers::Controller;
-use nv_file::SubsystemError;
+use crate::controller::Controller;
 use crate::error_log::ErrorLog;
-use nv_file::stands_in;
-use nv_file::{ControllerEntry, NamespaceEntry};
-use nv_file::Namespace;
+use nv_file::{ControllerEntry, Namespace, NamespaceEntry, SubsystemError, stands_in};
 use std::alloc::Global;
 
 fn put(slots: &mut [Option<Namespace>], index: usize, namespace: Namespace)

@@ -1,17 +1,19 @@
 //! An NVM subsystem: its file, its namespaces, and what each command does to it.
 #![tactic(auto)]
 
-mod commands;
-mod controllers;
-mod describe;
+mod controller;
 mod error_log;
 mod from_file;
+mod identify;
+mod origin;
+mod row;
 mod slots;
-mod subsystems;
+mod subsystem;
 
-pub use commands::{Command, Origin, Refusal, Reply, StatusCode};
+pub use nv_command::{Command, Refusal, Reply, StatusCode};
 pub use nv_file::{
     Counters, DEMO, FeatureRule, Format, Identity, Key, Namespace, SmartBase, SubsystemError,
     TableName,
 };
-pub use subsystems::Subsystem;
+pub use origin::{Origin, SERIALS};
+pub use subsystem::Subsystem;

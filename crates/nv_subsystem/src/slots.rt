@@ -3,7 +3,7 @@
 ghost use Rattle.std.specs.Prelude.{◌≡◌, ◌≤◌, ◌<◌, length, All, IfSome};
 ghost use Rattle.std.specs.FinMap as map_of;
 ghost use Rattle.std.specs.Option.{ForSome};
-ghost use Rattle.nv_subsystem.specs.Reply.{above};
+ghost use Rattle.nv_subsystem.specs.Nsid.{above};
 ghost use Rattle.nv_subsystem.specs.Slots.{by_nsid, marked_nsids};
 ghost use Rattle.nv_subsystem.specs.State.{ascending};
 

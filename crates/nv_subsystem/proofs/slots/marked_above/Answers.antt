@@ -2,7 +2,7 @@ use Rattle.std.proofs.Common.{◌≡◌, ◌+◌, ◌&&◌, ◌∙◌, ◌<◌, 
 use Rattle.std.proofs.lemmas.Bool.Decides.{nat_tests}
 use Rattle.std.proofs.lemmas.Grind.{common_steps}
 use Rattle.std.proofs.lemmas.List.{length-map, take_all}
-use Rattle.nv_subsystem.specs.Reply.{above}
+use Rattle.nv_subsystem.specs.Nsid.{above}
 use Rattle.nv_subsystem.specs.Slots.{as_member, marked_nsids}
 use Rattle.nv_subsystem.proofs.ByNsid.{is_member, keys_are, listed, member_at, not_listed, nsids_from}
 use Rattle.nv_subsystem.proofs.slots.marked_above.Goals as goal

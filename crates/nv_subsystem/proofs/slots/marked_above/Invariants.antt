@@ -1,5 +1,5 @@
 use Rattle.std.proofs.Common.{◌≡◌, ◌≤◌, length, map, take}
-use Rattle.nv_subsystem.specs.Reply.{above}
+use Rattle.nv_subsystem.specs.Nsid.{above}
 use Rattle.nv_subsystem.specs.Slots.{as_member}
 use Rattle.nv_subsystem.proofs.ByNsid.{nsids_from}
 use Rattle.nv_subsystem.proofs.slots.marked_above.Given as goal

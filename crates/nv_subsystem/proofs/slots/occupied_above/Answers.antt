@@ -2,7 +2,7 @@ use Rattle.std.proofs.Common.{◌≡◌, ◌+◌, ◌&&◌, ◌∙◌, sym, ap, 
 use Rattle.std.proofs.lemmas.Bool.Decides.{nat_tests}
 use Rattle.std.proofs.lemmas.Grind.{common_steps}
 use Rattle.std.proofs.lemmas.List.{take_all}
-use Rattle.nv_subsystem.specs.Reply.{above}
+use Rattle.nv_subsystem.specs.Nsid.{above}
 use Rattle.nv_subsystem.specs.Slots.{by_nsid}
 use Rattle.nv_subsystem.proofs.ByNsid.{keys_are, listed, not_listed, nsids_from}
 use Rattle.nv_subsystem.proofs.slots.occupied_above.Goals as goal

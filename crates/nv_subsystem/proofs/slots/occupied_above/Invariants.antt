@@ -1,5 +1,5 @@
 use Rattle.std.proofs.Common.{◌≡◌, ◌≤◌, length, take}
-use Rattle.nv_subsystem.specs.Reply.{above}
+use Rattle.nv_subsystem.specs.Nsid.{above}
 use Rattle.nv_subsystem.proofs.ByNsid.{nsids_from}
 use Rattle.nv_subsystem.proofs.slots.occupied_above.Given as goal
 

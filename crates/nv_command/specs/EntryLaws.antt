@@ -1,0 +1,30 @@
+-- An entry fits its bits where its fields do.
+use Rattle.std.proofs.Common.{ℕ, ◌<◌, ◌^◌, lit<}
+use Rattle.nv_layout.specs.Sqe.{SqeFits}
+use Rattle.nv_command.specs.Entry.{entry_with}
+use Rattle.nv_command.specs.declared.entry.Fields.{Fields}
+
+pub record FieldsFit (f : Fields) : Type 0 where
+  pub opcode : f.opcode < 2 ^ 8
+  pub cdw10 : f.cdw10 < 2 ^ 32
+  pub cdw11 : f.cdw11 < 2 ^ 32
+  pub cdw12 : f.cdw12 < 2 ^ 32
+  pub cdw13 : f.cdw13 < 2 ^ 32
+
+pub entry_with_fits : (f : Fields) (nsid cid : ℕ) → FieldsFit f → nsid < 2 ^ 32 → cid < 2 ^ 16 → SqeFits (entry_with f nsid cid)
+entry_with_fits f nsid cid fits n c = record {
+  opcode = fits.opcode;
+  fuse = lit< tt;
+  psdt = lit< tt;
+  cid = c;
+  nsid = n;
+  mptr = lit< tt;
+  prp1 = lit< tt;
+  prp2 = lit< tt;
+  cdw10 = fits.cdw10;
+  cdw11 = fits.cdw11;
+  cdw12 = fits.cdw12;
+  cdw13 = fits.cdw13;
+  cdw14 = lit< tt;
+  cdw15 = lit< tt;
+}

@@ -1,7 +1,0 @@
-use Rattle.std.proofs.Common.{◌≡◌, ◌-◌, ◌++◌, map, take}
-use Rattle.std.specs.Prelude.{replicate}
-use Rattle.nv_subsystem.specs.Reply.{lbaf_of, no_lbaf}
-use Rattle.nv_subsystem.proofs.describe.lbafs.Given as goal
-
-abbrev pub invariant-loop-i : goal.invariant-loop-i
-invariant-loop-i l = l.lbafs ≡ map lbaf_of (take l.i l.formats) ++ replicate (16 - l.i) no_lbaf

@@ -1,0 +1,5 @@
+use Rattle.nv_subsystem.specs.ReplyLaws.{reply_fits}
+use Rattle.nv_subsystem.proofs.subsystem.replies_fit.Goals as goal
+
+pub returns : goal.returns
+returns c = reply_fits

@@ -1,9 +1,0 @@
-use Rattle.nv_subsystem.specs.Step.{counted_on}
-use Rattle.nv_subsystem.specs.contracts.subsystems.Subsystem.{the_view}
-use Rattle.nv_subsystem.proofs.WithController.{controller_written}
-use Rattle.nv_subsystem.proofs.subsystems.Subsystem.count.Goals as goal
-
-pub returns : goal.returns
-returns c =
-    controller_written c.args.self.now (the_view c.self.inside) c.self.inside.controllers.items c.args.ctrl _ c.count_command.new.self (λ x. record x { commands = counted_on x.commands })
-    c.self.view_is c.requires c.index_mut-controller.ensures.value c.count_command.ensures.counted

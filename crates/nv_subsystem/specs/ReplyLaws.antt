@@ -1,0 +1,56 @@
+-- Each reply of a well-formed subsystem fits its record.
+use Rattle.std.proofs.Common.{◌≡◌, ℕ, ◌≤◌, ◌==◌, arith, refl, subst, [], Bool, true, false, Option, Some, None, is_some}
+use Rattle.std.specs.FinMap as map_of
+use Rattle.std.specs.Option.{option_map_or}
+use Rattle.std.proofs.lemmas.Option.{get_or_from_slice_get, slice_get_within}
+use Rattle.nv_layout.specs.IdNs.{IdNsFits}
+use Rattle.std.specs.Prelude.{if◌then◌else◌, slice_get}
+use Rattle.nv_command.specs.Reply.{IsNsidList}
+use Rattle.nv_command.specs.declared.command.TheConstants.{BROADCAST_NSID}
+use Rattle.nv_subsystem.specs.Fits.{RepliesFit}
+use Rattle.nv_subsystem.specs.Identify.{blank, id_ns_of}
+use Rattle.nv_subsystem.specs.Nsid.{above, is_active}
+use Rattle.nv_subsystem.specs.State.{Controller, State, ascending, controller_at}
+use Rattle.nv_subsystem.specs.WellFormed.{IsController, IsWellFormed}
+use Rattle.nv_command.specs.declared.command.Command.TheVariants.{IdentifyNamespace, AllocatedNamespace, ActiveList, AllocatedList}
+use Rattle.nv_file.specs.declared.parts.Namespace.{Namespace}
+use Rattle.nv_subsystem.specs.IdentifyLaws.{blank_fits, common_fits, id_ns_fits}
+use Rattle.nv_subsystem.specs.InFormatLaws.{capacity_fits, format_below}
+use Rattle.nv_subsystem.specs.ListLaws.{keys_fit}
+
+-- an allocated NSID is from 1 to NN
+inside : (s : State) → IsWellFormed s → (n : ℕ) (o : Option Namespace) → map_of.get s.namespaces n ≡ o → is_some o ≡ true → (1 ≤ n) × (n ≤ s.nn)
+inside s w n None e t = absurd (cc)
+inside s w n (Some x) e t = (w.namespaces n x e).nsid
+
+allocated_fits : (s : State) → IsWellFormed s → (n : ℕ) (o : Option Namespace) → map_of.get s.namespaces n ≡ o → IdNsFits (option_map_or (id_ns_of s.formats s.mc) o blank)
+allocated_fits s w n None e = blank_fits
+allocated_fits s w n (Some x) e =
+    let is = w.namespaces n x e in
+    id_ns_fits s.formats s.mc x w.keys.mc w.format_count.1 w.formats (omega (arith, format_below s.mc x s.formats is.format, w.format_count.1)) (capacity_fits s.mc x (slice_get s.formats x.format) is.format)
+
+chosen_fits : (b : Bool) (r q : _) → IdNsFits r → IdNsFits q → IdNsFits (if b then r else q)
+chosen_fits true r q a b = a
+chosen_fits false r q a b = b
+
+list_fits : (s : State) (after : ℕ) → IsWellFormed s → (o : Option Controller) → ((x : Controller) → o ≡ Some x → IsController s.namespaces x) → IsNsidList (above after (option_map_or (λ x. ascending x.attached) o []))
+list_fits s after w None is = record { count = omega arith; numbers = tt }
+list_fits s after w (Some x) is =
+    let c = is x refl in
+    keys_fit after s.nn x.attached w.keys.nn.1 (λ n t. inside s w n (map_of.get s.namespaces n) refl (c.attached n t))
+
+pub reply_fits : RepliesFit
+reply_fits s c (IdentifyNamespace n) w = record {
+  is_reply = tt;
+  fits = chosen_fits (n == BROADCAST_NSID) _ _ (common_fits s.formats s.mc w.keys.mc w.format_count.1 w.formats)
+      (chosen_fits (is_active s c n) _ _ (allocated_fits s w n (map_of.get s.namespaces n) refl) blank_fits);
+}
+reply_fits s c (AllocatedNamespace n) w = record { is_reply = tt; fits = allocated_fits s w n (map_of.get s.namespaces n) refl }
+reply_fits s c (ActiveList after) w = record {
+  is_reply = tt;
+  fits = list_fits s after w (controller_at s c) (λ x e. subst (IsController s.namespaces) (get_or_from_slice_get s.controllers c x x e) (w.controllers c x (slice_get_within s.controllers c x e)));
+}
+reply_fits s c (AllocatedList after) w = record {
+  is_reply = tt;
+  fits = keys_fit after s.nn s.namespaces w.keys.nn.1 (λ n t. inside s w n (map_of.get s.namespaces n) refl t);
+}

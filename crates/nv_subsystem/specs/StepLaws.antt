@@ -1,0 +1,143 @@
+-- A command leaves a well-formed subsystem well formed.
+use Rattle.std.proofs.Common.{◌≡◌, ◌∙◌, ℕ, ◌+◌, ◌<◌, ◌≤◌, ◌^◌, ap, sym, refl, subst, arith, suc, Bool, true, false, List, [], ◌∷◌, length, take, Option, Some, None, min}
+use Rattle.std.proofs.lemmas.List.{length-take}
+use Rattle.std.proofs.lemmas.List.Elements.{All-cons, All-take}
+use Rattle.std.specs.Prelude.{All, if◌then◌else◌}
+use Rattle.std.specs.List.{AllByRecursion}
+use Rattle.std.specs.FinMap as map_of
+use Rattle.nv_file.specs.Identity.{Identity}
+use Rattle.nv_subsystem.specs.State.{Controller, Namespaces, Nsids, State, greatest_count}
+use Rattle.nv_subsystem.specs.Step.{next_count, refused, step, step_by, with_command, with_controller, with_refusal}
+use Rattle.nv_subsystem.specs.Effect.{effect_of}
+use Rattle.nv_subsystem.specs.Refusal.{refusal_of, rows_of}
+use Rattle.nv_subsystem.specs.Row.{Row, first_refusal}
+use Rattle.nv_command.specs.Command.{namespace_of}
+use Rattle.nv_command.specs.Refusal.{IsRefusal}
+use Rattle.nv_command.specs.RefusalLaws.{is_refusal-refusal_by}
+use Rattle.nv_subsystem.specs.WellFormed.{IsController, IsLogEntry, IsWellFormed}
+use Rattle.nv_command.specs.declared.command.Command.{Command}
+use Rattle.nv_command.specs.declared.command.Command.TheVariants.{IdentifyNamespace, AllocatedNamespace, ActiveList, AllocatedList}
+use Rattle.nv_command.specs.declared.status_code.StatusCode.TheVariants.{InvalidNamespaceOrFormat}
+use Rattle.nv_command.specs.declared.refusal.Refusal.{Refusal}
+use Rattle.nv_subsystem.specs.declared.error_log.LogEntry.{LogEntry}
+use Rattle.nv_subsystem.specs.ChangedAtLaws.{All-changed_at, count_by-changed_at, each_place, length-changed_at}
+
+-- what a command keeps of each controller
+pub record Keeps (f : Controller → Controller) : Type 0 where
+  pub identity : (x : Controller) → (f x).identity ≡ x.identity
+  pub attached : (x : Controller) → (f x).attached ≡ x.attached
+  pub sound : (ns : Namespaces) (x : Controller) → IsController ns x → IsController ns (f x)
+
+same_shared : (f : Controller → Controller) (k : Keeps f) (n : ℕ) (x : Controller) → map_of.contains_key (f x).attached n ≡ map_of.contains_key x.attached n
+same_shared f k n x = ap (λ (a : Nsids). map_of.contains_key a n) (k.attached x)
+
+pub keeps : (s : State) (c : ℕ) (f : Controller → Controller) → Keeps f → IsWellFormed s → IsWellFormed (with_controller s c f)
+keeps s c f k w =
+    let cs = s.controllers in
+    let len = length-changed_at f cs c in
+    record {
+      keys = w.keys;
+      format_count = w.format_count;
+      formats = w.formats;
+      controller_count = (omega (arith, len, w.controller_count.0), omega (arith, len, w.controller_count.1));
+      controllers = All-changed_at (IsController s.namespaces) f (k.sound s.namespaces) cs c w.controllers;
+      cntlids = λ i j d h l.
+          let at = λ (n : ℕ). each_place (λ (a b : Controller). b.identity.cntlid ≡ a.identity.cntlid) f (λ y. refl) (λ y. ap (λ (i : Identity). i.cntlid) (k.identity y)) cs c n d in
+          λ e. w.cntlids i j d h (omega (arith, len)) (sym (at i) ∙ e ∙ at j);
+      namespaces = λ n x e.
+          let old = w.namespaces n x e in
+          record {
+            nsid = old.nsid;
+            format = old.format;
+            private = λ p. subst (λ m. m ≤ 1) (sym (count_by-changed_at (λ (y : Controller). map_of.contains_key y.attached n) f (same_shared f k n) cs c)) (old.private p);
+          };
+      capacities = w.capacities;
+    }
+
+next_count-le : (n : ℕ) → next_count n ≤ greatest_count
+next_count-le n = omega arith
+
+pub counting_keeps : Keeps (λ x. record x { commands = next_count x.commands })
+counting_keeps = record {
+  identity = λ x. refl;
+  attached = λ x. refl;
+  sound = λ s x h. record { identity = h.identity; rules = h.rules; fids = h.fids; smart = h.smart; log = h.log; entries = h.entries; refusals = h.refusals; commands = next_count-le x.commands; attached = h.attached };
+}
+
+length-with_refusal : (most refusals : ℕ) (e : LogEntry) (log : List LogEntry) → 0 < most → most ≤ 256 → refusals ≤ greatest_count → length log ≡ min refusals most → length (take most (e ∷ log)) ≡ min (next_count refusals) most
+length-with_refusal most refusals e log some few low len =
+    length-take most (e ∷ log) ∙ (let up : length (e ∷ log) ≡ suc (length log) = refl in omega arith)
+
+all_entries : (most : ℕ) (e : LogEntry) (log : List LogEntry) → IsLogEntry e → All IsLogEntry log → All IsLogEntry (take most (e ∷ log))
+all_entries most e log h all = All-take IsLogEntry most (e ∷ log) (All-cons IsLogEntry e log h all)
+
+pub booking_keeps : (nsid cid : ℕ) (r : Refusal) → nsid < 2 ^ 32 → cid < 2 ^ 16 → IsRefusal r → Keeps (with_refusal nsid cid r)
+booking_keeps nsid cid r a b fits = record {
+  identity = λ x. refl;
+  attached = λ x. refl;
+  sound = λ s x h. record {
+    identity = h.identity;
+    rules = h.rules;
+    fids = h.fids;
+    smart = h.smart;
+    log = length-with_refusal (x.identity.elpe + 1) x.refusals _ x.log (omega arith) (omega (arith, h.identity.numbers.elpe)) h.refusals h.log;
+    entries = all_entries (x.identity.elpe + 1) (record { count = next_count x.refusals; cid = cid; status = r.status; nsid = nsid; specific = r.specific }) x.log (record { count = next_count-le x.refusals; cid = b; status = fits.status; nsid = a; specific = omega (arith, fits.specific) }) h.entries;
+    refusals = next_count-le x.refusals;
+    commands = h.commands;
+    attached = h.attached;
+  };
+}
+
+pub with_command_keeps : (s : State) (c : ℕ) → IsWellFormed s → IsWellFormed (with_command s c)
+with_command_keeps s c w = keeps s c _ counting_keeps w
+
+pub refused_keeps : (s : State) (c nsid cid : ℕ) (r : Refusal) → nsid < 2 ^ 32 → cid < 2 ^ 16 → IsRefusal r → IsWellFormed s → IsWellFormed (with_command (refused s c nsid cid r) c)
+refused_keeps s c nsid cid r a b fits w = with_command_keeps (refused s c nsid cid r) c (keeps s c _ (booking_keeps nsid cid r a b fits) w)
+
+-- ---- one command
+
+pub rows_fit : (s : State) (c : ℕ) (k : Command) → AllByRecursion (λ row. IsRefusal row.refusal) (rows_of s c k)
+rows_fit s c (IdentifyNamespace n) = (is_refusal-refusal_by InvalidNamespaceOrFormat, tt)
+rows_fit s c (AllocatedNamespace n) = (is_refusal-refusal_by InvalidNamespaceOrFormat, tt)
+rows_fit s c (ActiveList after) = (is_refusal-refusal_by InvalidNamespaceOrFormat, tt)
+rows_fit s c (AllocatedList after) = (is_refusal-refusal_by InvalidNamespaceOrFormat, tt)
+
+chosen_fits : (b : Bool) (first r : Refusal) (later : Option Refusal) → IsRefusal first → (later ≡ Some r → IsRefusal r)
+    → (if b then Some first else later) ≡ Some r → IsRefusal r
+chosen_fits true first r later here there e = let same : first ≡ r = cc in subst IsRefusal same here
+chosen_fits false first r later here there e = there e
+
+first_fits : (rows : List Row) (r : Refusal) → AllByRecursion (λ row. IsRefusal row.refusal) rows → first_refusal rows ≡ Some r → IsRefusal r
+first_fits [] r all e = absurd (cc)
+first_fits (row ∷ rows) r all e = chosen_fits row.when row.refusal r (first_refusal rows) all.0 (first_fits rows r all.1) e
+
+pub refusal_fits : (s : State) (c : ℕ) (k : Command) (r : Refusal) → refusal_of s c k ≡ Some r → IsRefusal r
+refusal_fits s c k r e = first_fits (rows_of s c k) r (rows_fit s c k) e
+
+-- what an accepted command changes keeps well-formedness, and makes and takes no controller
+pub effect_keeps : (s : State) (c : ℕ) (k : Command) → IsWellFormed s → IsWellFormed (effect_of s c k)
+effect_keeps s c (IdentifyNamespace n) w = w
+effect_keeps s c (AllocatedNamespace n) w = w
+effect_keeps s c (ActiveList after) w = w
+effect_keeps s c (AllocatedList after) w = w
+
+pub effect_controllers : (s : State) (c : ℕ) (k : Command) → length (effect_of s c k).controllers ≡ length s.controllers
+effect_controllers s c (IdentifyNamespace n) = refl
+effect_controllers s c (AllocatedNamespace n) = refl
+effect_controllers s c (ActiveList after) = refl
+effect_controllers s c (AllocatedList after) = refl
+
+step_by_keeps : (o : Option Refusal) (s : State) (c : ℕ) (k : Command) (cid : ℕ) → ((r : Refusal) → o ≡ Some r → IsRefusal r) → namespace_of k < 2 ^ 32 → cid < 2 ^ 16 → IsWellFormed s → IsWellFormed (step_by o s c k cid).state
+step_by_keeps None s c k cid fits a b w = with_command_keeps (effect_of s c k) c (effect_keeps s c k w)
+step_by_keeps (Some r) s c k cid fits a b w = refused_keeps s c (namespace_of k) cid r a b (fits r refl) w
+
+pub step_keeps : (s : State) (c : ℕ) (k : Command) (cid : ℕ) → namespace_of k < 2 ^ 32 → cid < 2 ^ 16 → IsWellFormed s → IsWellFormed (step s c k cid).state
+step_keeps s c k cid a b w = step_by_keeps (refusal_of s c k) s c k cid (refusal_fits s c k) a b w
+
+-- no command makes or takes a controller
+step_by_controllers : (o : Option Refusal) (s : State) (c : ℕ) (k : Command) (cid : ℕ) → length (step_by o s c k cid).state.controllers ≡ length s.controllers
+step_by_controllers None s c k cid = length-changed_at _ (effect_of s c k).controllers c ∙ effect_controllers s c k
+step_by_controllers (Some r) s c k cid = length-changed_at _ (refused s c (namespace_of k) cid r).controllers c ∙ length-changed_at (with_refusal (namespace_of k) cid r) s.controllers c
+
+pub step_controllers : (s : State) (c : ℕ) (k : Command) (cid : ℕ) → length (step s c k cid).state.controllers ≡ length s.controllers
+step_controllers s c k cid = step_by_controllers (refusal_of s c k) s c k cid

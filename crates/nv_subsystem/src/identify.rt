@@ -1,0 +1,189 @@
+//! The Identify commands: when they are refused, and what they answer. Section "Identify command".
+
+ghost use Rattle.std.specs.Prelude.{◌≡◌, ◌≤◌, ◌<◌, length, All};
+ghost use Rattle.nv_subsystem.specs.Capacity.{blocks};
+ghost use Rattle.nv_subsystem.specs.Identify.{active_list_reply, active_namespace, active_reply, active_rows, allocated_list_reply, allocated_namespace, allocated_reply, allocated_rows, blank, common_of, flbas_of, id_ns_of, lbaf_of, lbafs_of, list_rows};
+ghost use Rattle.nv_subsystem.specs.Row.{Checks};
+
+use crate::row::refuse_if;
+use crate::slots::{is_marked, marked_above, namespace_at, occupied_above};
+use crate::subsystem::Subsystem;
+use nv_command::{BROADCAST_NSID, Refusal, Reply, StatusCode};
+use nv_file::{Format, Namespace};
+use nv_layout::{IdNs, Lbaf};
+
+/// The least NSID after which no list can be asked for.
+pub const LIST_LIMIT: u32 = 0xffff_fffe;
+
+/// Why a list after an NSID is refused.
+pub fn check_list(after: u32) -> Result<(), Refusal>
+    ensures { Checks (list_rows after) result }
+{
+    refuse_if(after >= LIST_LIMIT, StatusCode::InvalidNamespaceOrFormat)
+}
+
+impl Subsystem {
+    /// Why an active namespace is refused.
+    pub(crate) fn check_active(&self, nsid: u32) -> Result<(), Refusal>
+        ensures { Checks (active_rows self.now nsid) result }
+    {
+        refuse_if(
+            !(self.is_valid(nsid) || nsid == BROADCAST_NSID),
+            StatusCode::InvalidNamespaceOrFormat,
+        )
+    }
+
+    /// Why an allocated namespace is refused.
+    pub(crate) fn check_allocated(&self, nsid: u32) -> Result<(), Refusal>
+        ensures { Checks (allocated_rows self.now nsid) result }
+    {
+        refuse_if(!self.is_valid(nsid), StatusCode::InvalidNamespaceOrFormat)
+    }
+
+    /// An allocated namespace; zeros where there is none.
+    fn allocated(&self, nsid: u32) -> IdNs
+        ensures { result ≡ allocated_namespace self.now nsid }
+    {
+        match namespace_at(&self.slots, nsid) {
+            Some(namespace) => describe(&self.formats, self.mc, &namespace),
+            None => blank_namespace(),
+        }
+    }
+
+    /// A namespace that is attached to a controller; zeros where it isn't.
+    fn active(&self, ctrl: u16, nsid: u32) -> IdNs
+        requires { ctrl < length self.now.controllers }
+        ensures { result ≡ active_namespace self.now ctrl nsid }
+    {
+        if is_marked(&self.controllers[ctrl as usize].attached, nsid) {
+            self.allocated(nsid)
+        } else {
+            blank_namespace()
+        }
+    }
+
+    /// An active namespace; what all have in common for the broadcast NSID.
+    pub(crate) fn active_reply(&self, ctrl: u16, nsid: u32) -> Reply
+        requires { ctrl < length self.now.controllers }
+        ensures { result ≡ active_reply self.now ctrl nsid }
+    {
+        if nsid == BROADCAST_NSID {
+            Reply::Namespace(common(&self.formats, self.mc))
+        } else {
+            Reply::Namespace(self.active(ctrl, nsid))
+        }
+    }
+
+    /// An allocated namespace.
+    pub(crate) fn allocated_reply(&self, nsid: u32) -> Reply
+        ensures { result ≡ allocated_reply self.now nsid }
+    {
+        Reply::Namespace(self.allocated(nsid))
+    }
+
+    /// The NSIDs above one that are attached to a controller.
+    pub(crate) fn active_list_reply(&self, ctrl: u16, after: u32) -> Reply
+        requires { ctrl < length self.now.controllers }
+        ensures { result ≡ active_list_reply self.now ctrl after }
+    {
+        Reply::List(marked_above(&self.controllers[ctrl as usize].attached, after))
+    }
+
+    /// The allocated NSIDs above one.
+    pub(crate) fn allocated_list_reply(&self, after: u32) -> Reply
+        ensures { result ≡ allocated_list_reply self.now after }
+    {
+        Reply::List(occupied_above(&self.slots, after))
+    }
+}
+
+/// A format as Identify lists it.
+fn lbaf(format: &Format) -> Lbaf
+    ensures { result ≡ lbaf_of format.now }
+{
+    Lbaf {
+        ms: format.ms,
+        lbads: format.lbads,
+        rp: format.rp,
+    }
+}
+
+const NO_LBAF: Lbaf = Lbaf {
+    ms: 0,
+    lbads: 0,
+    rp: 0,
+};
+
+/// The formats, and zeros up to sixteen.
+fn lbafs(formats: &[Format]) -> [Lbaf; 16]
+    requires { length formats.now ≤ 16 }
+    ensures { result ≡ lbafs_of formats.now }
+{
+    let mut lbafs = [NO_LBAF; 16];
+    for (i, format) in formats.iter().enumerate() {
+        lbafs[i] = lbaf(format);
+    }
+    lbafs
+}
+
+/// A namespace that isn't there.
+fn blank_namespace() -> IdNs
+    ensures { result ≡ blank }
+{
+    IdNs {
+        nsze: 0,
+        ncap: 0,
+        nuse: 0,
+        nsfeat: 0,
+        nlbaf: 0,
+        flbas: 0,
+        mc: 0,
+        dpc: 0,
+        dps: 0,
+        nmic: 0,
+        nvmcap: 0,
+        lbafs: [NO_LBAF; 16],
+    }
+}
+
+/// What all namespaces have in common.
+fn common(formats: &[Format], mc: u8) -> IdNs
+    requires formats { (1 ≤ length formats.now) × (length formats.now ≤ 16) }
+    ensures { result ≡ common_of formats.now mc }
+{
+    IdNs {
+        nlbaf: (formats.len() - 1) as u8,
+        mc,
+        lbafs: lbafs(formats),
+        ..blank_namespace()
+    }
+}
+
+/// The size of a namespace in logical blocks of its format, rounded down.
+fn block_count(formats: &[Format], namespace: &Namespace) -> u64
+    requires { All (λ f. f.lbads ≤ 16) formats.now }
+    ensures { result ≡ blocks formats.now namespace.now }
+{
+    match formats.get(namespace.format as usize) {
+        Some(format) => namespace.capacity >> format.lbads,
+        None => 0,
+    }
+}
+
+/// What is told of a namespace.
+fn describe(formats: &[Format], mc: u8, namespace: &Namespace) -> IdNs
+    requires formats { (1 ≤ length formats.now) × (length formats.now ≤ 16) }
+    requires block_sizes { All (λ f. f.lbads ≤ 16) formats.now }
+    requires format { namespace.now.format < 16 }
+    ensures { result ≡ id_ns_of formats.now mc namespace.now }
+{
+    let blocks = block_count(formats, namespace);
+    IdNs {
+        nsze: blocks,
+        ncap: blocks,
+        flbas: namespace.format + if namespace.extended { 16 } else { 0 },
+        nmic: if namespace.shared { 1 } else { 0 },
+        nvmcap: namespace.capacity as u128,
+        ..common(formats, mc)
+    }
+}

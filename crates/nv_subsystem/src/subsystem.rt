@@ -1,0 +1,226 @@
+//! A subsystem, and what its commands do.
+
+ghost use Rattle.std.specs.Prelude.{◌≡◌, ◌<◌, ◌^◌, ℕ, length, option_map, IfOk, IfErr};
+ghost use Rattle.nv_subsystem.specs.Entry.{counts_of, log_entry_of, without_phase};
+ghost use Rattle.nv_file.specs.Fault.{Gives};
+ghost use Rattle.nv_file.specs.FileValue.{file_view};
+ghost use Rattle.nv_subsystem.specs.FromFile.{state_of, subsystem};
+ghost use Rattle.nv_file.specs.IsFile.{IsFile};
+ghost use Rattle.nv_subsystem.specs.Effect.{effect_of};
+ghost use Rattle.nv_subsystem.specs.Fits.{RepliesFit};
+ghost use Rattle.nv_subsystem.specs.Nsid.{is_valid};
+ghost use Rattle.nv_subsystem.specs.Refusal.{rows_of};
+ghost use Rattle.nv_subsystem.specs.Reply.{reply_of};
+ghost use Rattle.nv_subsystem.specs.Row.{Checks};
+ghost use Rattle.nv_subsystem.specs.Step.{answer_to, refused, step, with_command};
+ghost use Rattle.nv_subsystem.specs.WellFormed.{IsWellFormed};
+ghost use Rattle.nv_command.specs.Refusal.{IsRefusal};
+
+use crate::controller::Controller;
+use crate::from_file::{controllers, slots};
+use crate::identify::check_list;
+use crate::origin::Origin;
+use nv_command::{Command, Refusal, Reply};
+use nv_file::{File, Format, Namespace, SubsystemError, read};
+use nv_layout::ErrorEntry;
+use std::alloc::Global;
+use std::marker::Model;
+
+/// An NVM subsystem.
+#[derive(Drop)]
+pub struct Subsystem {
+    pub(crate) tnvmcap: u64,
+    pub(crate) mc: u8,
+    pub(crate) subnqn: String,
+    pub(crate) formats: Vec<Format>,
+    pub(crate) controllers: Vec<Controller>,
+    /// The namespace of NSID n, at place n − 1.
+    pub(crate) slots: Vec<Option<Namespace>>,
+}
+
+impl Model for Subsystem {
+    ghost use Rattle.std.specs.Prelude.{length, map, string_bytes};
+    ghost use Rattle.nv_subsystem.specs.State.{State};
+    ghost use Rattle.nv_subsystem.specs.StateCode.{state_code};
+
+    ghost Value = { State };
+
+    ghost coded = { state_code };
+
+    ghost use Rattle.nv_subsystem.specs.ControllerView.{controller_view};
+    ghost use Rattle.nv_subsystem.specs.Slots.{by_nsid};
+    ghost use Rattle.nv_subsystem.specs.Sound.{IsSound};
+
+    ghost view = { λ s. record {
+      nn = length s.slots.items;
+      tnvmcap = s.tnvmcap;
+      mc = s.mc;
+      subnqn = string_bytes s.subnqn;
+      formats = s.formats.items;
+      controllers = map controller_view s.controllers.items;
+      namespaces = by_nsid s.slots.items;
+    } };
+
+    ghost invariant = { λ s. IsSound s.slots.items s.formats.items s.controllers.items };
+}
+
+impl Subsystem {
+    /// The subsystem of a file.
+    fn from_file(alloc: Global, file: File) -> Result<Subsystem, SubsystemError>
+        requires { IsFile (file_view file) }
+        ensures state { IfOk result (λ s. s ≡ state_of (file_view file)) }
+        ensures memory { IfErr result (λ e. e ≡ SubsystemError.Memory) }
+    {
+        let nn = file.nn as usize;
+        let slots = slots(alloc, nn, &file.namespaces)?;
+        let controllers = controllers(alloc, nn, file.controllers, &file.namespaces)?;
+        Ok(Subsystem {
+            tnvmcap: file.tnvmcap,
+            mc: file.mc,
+            subnqn: file.subnqn,
+            formats: file.formats,
+            controllers,
+            slots,
+        })
+    }
+
+    /// Reads a subsystem file: the subsystem that its tables give, or its first fault, unless memory runs out.
+    #[tactic(auto, unfolding(crate::specs::FromFile::subsystem))]
+    pub fn from_toml(alloc: Global, bytes: &[u8]) -> Result<Subsystem, SubsystemError>
+        ensures exact { Gives (λ s. s) result (subsystem bytes.now) }
+        ensures well_formed { IfOk result IsWellFormed }
+    {
+        let file = read(alloc, bytes)?;
+        let subsystem = Subsystem::from_file(alloc, file)?;
+        Ok(subsystem)
+    }
+
+    /// The number of controllers.
+    pub fn controllers(&self) -> u16
+        ensures { result ≡ length self.now.controllers }
+    {
+        self.controllers.len() as u16
+    }
+
+    /// How many commands a controller refused, and how many it took.
+    pub fn counts(&self, ctrl: u16) -> (u64, u64)
+        requires { ctrl < length self.now.controllers }
+        ensures { result ≡ counts_of self.now ctrl }
+    {
+        let controller = &self.controllers[ctrl as usize];
+        (controller.refusals, controller.commands)
+    }
+
+    /// The entry of a controller's error log at this index, from the newest on, with the phase tag that its
+    /// completion had. "Error Information (Log Identifier 01h)".
+    pub fn log_entry(&self, ctrl: u16, index: usize) -> Option<ErrorEntry>
+        requires { ctrl < length self.now.controllers }
+        ensures { option_map without_phase result ≡ log_entry_of self.now ctrl index }
+    {
+        let booked = self.controllers[ctrl as usize].log.get(index)?;
+        Some(ErrorEntry::from(booked))
+    }
+
+    /// Whether the subsystem could have a namespace of this NSID.
+    pub(crate) fn is_valid(&self, nsid: u32) -> bool
+        ensures { result ≡ is_valid self.now nsid }
+    {
+        1 <= nsid && nsid as usize <= self.slots.len()
+    }
+
+    /// Why a command of a controller is refused: the first of its rows that applies.
+    fn check(&self, ctrl: u16, command: &Command) -> Result<(), Refusal>
+        ensures { Checks (rows_of self.now ctrl command.now) result }
+    {
+        match command {
+            Command::IdentifyNamespace { nsid } => self.check_active(*nsid),
+            Command::AllocatedNamespace { nsid } => self.check_allocated(*nsid),
+            Command::ActiveList { after } => check_list(*after),
+            Command::AllocatedList { after } => check_list(*after),
+        }
+    }
+
+    /// What a command that isn't refused is answered.
+    fn reply(&self, ctrl: u16, command: &Command) -> Reply
+        requires { ctrl < length self.now.controllers }
+        ensures { result ≡ reply_of self.now ctrl command.now }
+    {
+        match command {
+            Command::IdentifyNamespace { nsid } => self.active_reply(ctrl, *nsid),
+            Command::AllocatedNamespace { nsid } => self.allocated_reply(*nsid),
+            Command::ActiveList { after } => self.active_list_reply(ctrl, *after),
+            Command::AllocatedList { after } => self.allocated_list_reply(*after),
+        }
+    }
+
+    /// What a command that isn't refused changes.
+    fn apply(&mut self, ctrl: u16, command: &Command)
+        ensures { self.new ≡ effect_of self.old ctrl command.now }
+    {
+        match command {
+            Command::IdentifyNamespace { nsid: _ } => {}
+            Command::AllocatedNamespace { nsid: _ } => {}
+            Command::ActiveList { after: _ } => {}
+            Command::AllocatedList { after: _ } => {}
+        }
+    }
+
+    /// Counts a command of a controller.
+    fn count(&mut self, ctrl: u16)
+        requires { ctrl < length self.old.controllers }
+        ensures { self.new ≡ with_command self.old ctrl }
+    {
+        let controller = &mut self.controllers[ctrl as usize];
+        controller.count_command();
+    }
+
+    /// Books a refusal in the error log of a controller.
+    fn book(&mut self, ctrl: u16, origin: Origin, nsid: u32, refusal: Refusal)
+        requires { ctrl < length self.old.controllers }
+        ensures state { self.new ≡ refused self.old ctrl nsid origin.cid refusal }
+        ensures range { origin.cid < 2 ^ 16 }
+        ensures controllers { length self.new.controllers ≡ length self.old.controllers }
+    {
+        let controller = &mut self.controllers[ctrl as usize];
+        controller.book(origin, nsid, refusal);
+    }
+
+    /// Books a refusal in the error log of a controller, as its newest entry, and counts the command.
+    /// Nothing else changes.
+    pub fn refuse(&mut self, ctrl: u16, origin: Origin, nsid: u32, refusal: Refusal)
+        requires { ctrl < length self.old.controllers }
+        ensures state { self.new ≡ with_command (refused self.old ctrl nsid origin.cid refusal) ctrl }
+        ensures well_formed { IsWellFormed self.old → IsRefusal refusal → IsWellFormed self.new }
+    {
+        self.book(ctrl, origin, nsid, refusal);
+        self.count(ctrl);
+    }
+
+    /// Executes a command of a controller. A refusal books itself in that controller's error log; the
+    /// controller counts the command in both cases.
+    pub fn execute(
+        &mut self,
+        ctrl: u16,
+        command: &Command,
+        origin: Origin,
+    ) -> Result<Reply, Refusal>
+        requires { ctrl < length self.old.controllers }
+        ensures answer { result ≡ answer_to self.old ctrl command.now }
+        ensures state { self.new ≡ (step self.old ctrl command.now origin.cid).state }
+        ensures well_formed { IsWellFormed self.old → IsWellFormed self.new }
+    {
+        if let Err(refusal) = self.check(ctrl, command) {
+            self.refuse(ctrl, origin, command.nsid(), refusal);
+            return Err(refusal);
+        }
+        let reply = self.reply(ctrl, command);
+        self.apply(ctrl, command);
+        self.count(ctrl);
+        Ok(reply)
+    }
+}
+
+/// Each reply is one for its command and fits its record. It does nothing when it is called.
+pub fn replies_fit()
+    ensures { RepliesFit }
+{}
