@@ -75,8 +75,8 @@ booking_keeps nsid cid r a b fits = record {
     rules = h.rules;
     fids = h.fids;
     smart = h.smart;
-    log = length_booked (x.identity.elpe + 1) x.refusals _ x.log (omega arith) (omega (arith, h.identity.numbers.elpe)) h.refusals h.log;
-    entries = all_entries (x.identity.elpe + 1) (record { count = counted_on x.refusals; cid = cid; status = r.status; nsid = nsid; specific = r.specific }) x.log (record { count = counted_le x.refusals; cid = b; status = fits.status; nsid = a; specific = fits.specific }) h.entries;
+    log = length_booked (x.identity.numbers.elpe + 1) x.refusals _ x.log (omega arith) (omega (arith, h.identity.numbers.elpe)) h.refusals h.log;
+    entries = all_entries (x.identity.numbers.elpe + 1) (record { count = counted_on x.refusals; cid = cid; status = r.status; nsid = nsid; specific = r.specific }) x.log (record { count = counted_le x.refusals; cid = b; status = fits.status; nsid = a; specific = fits.specific }) h.entries;
     refusals = counted_le x.refusals;
     commands = h.commands;
     attached = h.attached;

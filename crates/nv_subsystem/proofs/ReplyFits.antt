@@ -11,7 +11,7 @@ use Rattle.nv_subsystem.specs.Reply.{above, blank, described, is_active}
 use Rattle.nv_subsystem.specs.State.{Controller, State, ascending, controller_at}
 use Rattle.nv_subsystem.specs.WellFormed.{IsController, IsWellFormed}
 use Rattle.nv_subsystem.specs.declared.commands.Command.TheVariants.{IdentifyNamespace, AllocatedNamespace, ActiveList, AllocatedList}
-use Rattle.nv_file.specs.declared.parts.Namespace.{Namespace}
+use Rattle.nv_file.specs.declared.namespace.Namespace.{Namespace}
 use Rattle.nv_subsystem.proofs.Describing.{blank_fits, common_fits, described_fits}
 use Rattle.nv_subsystem.proofs.InFormat.{capacity_fits, format_below}
 use Rattle.nv_subsystem.proofs.Listing.{keys_fit}

@@ -12,8 +12,8 @@ use Rattle.nv_subsystem.specs.declared.commands.Command.{Command}
 use Rattle.nv_subsystem.specs.declared.commands.Command.TheVariants.{IdentifyNamespace, AllocatedNamespace, ActiveList, AllocatedList}
 use Rattle.nv_subsystem.specs.declared.commands.Reply.{Reply}
 use Rattle.nv_subsystem.specs.declared.commands.Reply.TheVariants as reply
-use Rattle.nv_file.specs.declared.parts.Format.{Format}
-use Rattle.nv_file.specs.declared.parts.Namespace.{Namespace}
+use Rattle.nv_file.specs.declared.format.Format.{Format}
+use Rattle.nv_file.specs.declared.namespace.Namespace.{Namespace}
 
 -- the NSIDs above one
 abbrev pub above : ℕ → List ℕ → List ℕ

@@ -7,7 +7,7 @@ use Rattle.nv_subsystem.specs.State.{Controller, Namespaces, State, greatest_cou
 use Rattle.nv_layout.specs.Status.{StatusFits}
 use Rattle.nv_subsystem.specs.declared.commands.Refusal.{Refusal}
 use Rattle.nv_subsystem.specs.declared.error_log.LogEntry.{LogEntry}
-use Rattle.nv_file.specs.declared.parts.Namespace.{Namespace}
+use Rattle.nv_file.specs.declared.namespace.Namespace.{Namespace}
 
 -- a status that is no success, in numbers that fit the fields of an error log entry
 pub record IsRefusal (r : Refusal) : Type 0 where
@@ -30,7 +30,7 @@ pub record IsController (namespaces : Namespaces) (x : Controller) : Type 0 wher
   pub rules : All IsFeatureRule x.rules
   pub fids : AllPairs (λ r q. r.fid ≢ q.fid) x.rules
   pub smart : IsSmart x.smart
-  pub log : length x.log ≡ min x.refusals (x.identity.elpe + 1)
+  pub log : length x.log ≡ min x.refusals (x.identity.numbers.elpe + 1)
   pub entries : All IsLogEntry x.log
   pub refusals : x.refusals ≤ greatest_count
   pub commands : x.commands ≤ greatest_count

@@ -11,7 +11,7 @@ mod subsystems;
 
 pub use commands::{Command, Origin, Refusal, Reply, StatusCode};
 pub use nv_file::{
-    Counters, DEMO, FeatureRule, Format, Identity, Key, Namespace, SmartBase, SubsystemError,
-    TableName,
+    Counters, DEMO, FeatureRule, Format, Identity, IdentityNumbers, Key, Namespace, SmartBase,
+    SubsystemError, TableName,
 };
 pub use subsystems::Subsystem;
