@@ -6,10 +6,10 @@ use std::process::Abort;
 use std::test::Fail;
 
 /// An edit of the demonstration file: a text of it, what stands there instead, and what is then said.
-type Edit<'a> = (&'a str, &'a str, &'a str);
+pub type Edit<'a> = (&'a str, &'a str, &'a str);
 
-/// Each edit of the demonstration file is refused with its text.
-fn tells(rt: &impl Abort, alloc: Global, edits: &[Edit<'_>]) -> Result<(), Fail> {
+/// Each edit of the demonstration file is answered with its text.
+pub fn tells(rt: &impl Abort, alloc: Global, edits: &[Edit<'_>]) -> Result<(), Fail> {
     for (old, new, want) in edits {
         let file = DEMO.replace(alloc, *old, *new)?;
         tells_of(rt, alloc, file.as_bytes(), *want)?;
@@ -17,10 +17,13 @@ fn tells(rt: &impl Abort, alloc: Global, edits: &[Edit<'_>]) -> Result<(), Fail>
     Ok(())
 }
 
-/// A file is refused with this text.
-fn tells_of(rt: &impl Abort, alloc: Global, file: &[u8], want: &str) -> Result<(), Fail> {
+/// Said of a file without a fault.
+pub const READ: &str = "read";
+
+/// A file is refused with this text, or read.
+pub fn tells_of(rt: &impl Abort, alloc: Global, file: &[u8], want: &str) -> Result<(), Fail> {
     match Subsystem::from_toml(alloc, file) {
-        Ok(_) => panic!(rt; "a fault was let through: {want}"),
+        Ok(_) => assert!(rt; want == READ, "a fault was let through: {want}"),
         Err(error) => {
             let text = error.to_string(alloc)?;
             assert!(rt; text.as_str() == want, "{text}, not {want}");
@@ -225,34 +228,102 @@ fn tells_what_the_tables_break_together(rt: HostRuntime) -> Result<(), Fail> {
     )
 }
 
-#[test]
-fn tells_what_a_beginning_misses(rt: HostRuntime) -> Result<(), Fail> {
-    for (up_to, want) in [
-        ("version", "missing top.version"),
-        ("nn = 4", "missing top.nn"),
-        ("tnvmcap", "missing top.tnvmcap"),
-        ("mc = 1", "missing top.subnqn"),
-        ("[[format]]", "missing top.format"),
-        ("[[controller]]", "missing top.controller"),
-        ("cntlid", "missing controller.cntlid"),
-        ("sn = ", "missing controller.sn"),
-        ("mn = ", "missing controller.mn"),
-        ("fr = ", "missing controller.fr"),
-    ] {
-        match DEMO.split_once(up_to) {
-            Some((beginning, _)) => tells_of(&rt, rt.alloc(), beginning.as_bytes(), want)?,
-            None => panic!(&rt; "the file has no {up_to}"),
-        }
+/// The lines of the demonstration file that aren't empty: how much of each must stand before it says
+/// something, and the answer from there on to the next line.
+const BEGINNINGS: &[(&str, &str)] = &[
+    ("version = 1", "missing top.nn"),
+    ("nn = 4", "missing top.tnvmcap"),
+    ("tnvmcap = 1", "missing top.subnqn"),
+    ("mc = 1", "missing top.subnqn"),
+    (
+        "subnqn = \"nqn.2014-08.org.example:demo\"",
+        "missing top.format",
+    ),
+    ("[[format]]", "missing top.controller"),
+    ("lbads = 9", "missing top.controller"),
+    ("[[format]]", "missing top.controller"),
+    ("lbads = 1", "missing top.controller"),
+    ("[[format]]", "missing top.controller"),
+    ("lbads = 9", "missing top.controller"),
+    ("ms = 8", "missing top.controller"),
+    ("rp = 1", "missing top.controller"),
+    ("[[controller]]", "missing controller.cntlid"),
+    ("cntlid = 0", "missing controller.sn"),
+    ("sn = \"S0\"", "missing controller.mn"),
+    ("mn = \"Demo Controller\"", "missing controller.fr"),
+    ("fr = \"1.0\"", READ),
+    ("elpe = 3", READ),
+    ("vwc = 7", READ),
+    ("[[controller.feature]]", "missing feature.fid"),
+    ("fid = 6", READ),
+    ("default = 1", READ),
+    ("saveable = true", READ),
+    ("[[controller]]", "missing controller.cntlid"),
+    ("cntlid = 1", "missing controller.sn"),
+    ("sn = \"S1\"", "missing controller.mn"),
+    ("mn = \"Demo Controller\"", "missing controller.fr"),
+    ("fr = \"1.0\"", READ),
+    ("elpe = 0", READ),
+    ("[[namespace]]", "missing namespace.nsid"),
+    ("nsid = 1", "missing namespace.format"),
+    ("bytes = 1", "missing namespace.format"),
+    ("format = 0", READ),
+    ("shared = true", READ),
+    ("controllers = [0]", READ),
+    ("[[namespace]]", "missing namespace.nsid"),
+    ("nsid = 3", "missing namespace.format"),
+    ("bytes = 4", "missing namespace.format"),
+    ("format = 0", READ),
+    ("controllers = [0]", READ),
+];
+
+/// Each beginning of a line that starts at this byte is told what the whole lines before it and what
+/// stands of the line say.
+fn tells_each_beginning(
+    rt: &impl Abort,
+    alloc: Global,
+    start: usize,
+    line: &str,
+    row: &(&str, &str),
+) -> Result<(), Fail> {
+    let (least, want) = *row;
+    assert!(rt;
+        line.starts_with(least),
+        "{line} begins otherwise than {least}"
+    );
+    for shown in 1..=line.len() {
+        let Some(beginning) = DEMO.as_bytes().get(..start.saturating_add(shown)) else {
+            panic!(rt; "the file ends before {line}");
+        };
+        let want = if shown < least.len() {
+            "not TOML"
+        } else {
+            want
+        };
+        tells_of(rt, alloc, beginning, want)?;
     }
     Ok(())
 }
 
 #[test]
-fn answers_every_beginning(rt: HostRuntime) {
-    let bytes = DEMO.as_bytes();
-    let needed = DEMO.find("elpe = 3").unwrap_or(0);
-    for end in 0..bytes.len() {
-        let made = Subsystem::from_toml(rt.alloc(), &bytes[..end]);
-        assert!(rt; needed <= end + 1 || made.is_err());
+fn tells_each_beginning_of_the_file(rt: HostRuntime) -> Result<(), Fail> {
+    let mut rows = BEGINNINGS.iter();
+    let mut start: usize = 0;
+    let mut so_far = "missing top.version";
+    for line in DEMO.lines() {
+        let Some(before) = DEMO.as_bytes().get(..start) else {
+            panic!(&rt; "the file ends before {line}");
+        };
+        tells_of(&rt, rt.alloc(), before, so_far)?;
+        if !line.is_empty() {
+            let Some(row) = rows.next() else {
+                panic!(&rt; "no row for {line}");
+            };
+            tells_each_beginning(&rt, rt.alloc(), start, line, row)?;
+            so_far = row.1;
+        }
+        start = start.saturating_add(line.len()).saturating_add(1);
     }
+    assert!(rt; rows.next().is_none());
+    tells_of(&rt, rt.alloc(), DEMO.as_bytes(), READ)
 }

@@ -6,6 +6,8 @@ mod harness;
 pub use harness::{Outcome, run_script};
 
 #[cfg(test)]
+mod file_ranges;
+#[cfg(test)]
 mod files;
 #[cfg(test)]
 mod largest;

@@ -4,10 +4,10 @@ use Rattle.std.specs.Prelude.{AllPairs}
 use Rattle.std.specs.List.{list_any}
 use Rattle.std.proofs.lemmas.List.{map_push}
 use Rattle.std.proofs.lemmas.List.Quantifiers.{all_pairs_push}
-use Rattle.nv_file.specs.declared.parts.FeatureRule.{FeatureRule}
-use Rattle.nv_file.specs.declared.file.entries.ControllerEntry.{ControllerEntry}
-use Rattle.nv_file.specs.declared.file.entries.NamespaceEntry.{NamespaceEntry}
-use Rattle.nv_file.specs.FileValue.{controller_view, namespace_view}
+use Rattle.nv_file.specs.declared.feature_rule.FeatureRule.{FeatureRule}
+use Rattle.nv_file.specs.declared.controller.ControllerEntry.{ControllerEntry}
+use Rattle.nv_file.specs.declared.namespace.NamespaceEntry.{NamespaceEntry}
+use Rattle.nv_file.specs.FileValue.{controller_entry_view, namespace_entry_view}
 use Rattle.nv_file.proofs.Fused.{cntlids, nsids}
 
 or_false : (a b : Bool) → (a || b) ≡ false → (a ≡ false) × (b ≡ false)
@@ -29,8 +29,8 @@ fresh_last key xs x pairs new = all_pairs_push (λ a b. key a ≢ key b) xs x pa
 pub fresh_rule : (xs : List FeatureRule) (x : FeatureRule) → AllPairs (λ a b. a.fid ≢ b.fid) xs → list_any (λ y. y.fid == x.fid) xs ≡ false → AllPairs (λ a b. a.fid ≢ b.fid) (xs ++ x ∷ [])
 fresh_rule = fresh_last (λ r. r.fid)
 
-pub fresh_controller : (xs : List ControllerEntry) (x : ControllerEntry) → AllPairs (λ a b. a.identity.cntlid ≢ b.identity.cntlid) (map controller_view xs) → list_any (λ y. y.identity.cntlid == x.identity.cntlid) xs ≡ false → AllPairs (λ a b. a.identity.cntlid ≢ b.identity.cntlid) (map controller_view (xs ++ x ∷ []))
-fresh_controller xs x pairs new = rw (map_push controller_view xs x) (fresh_last (λ c. c.identity.cntlid) (map controller_view xs) (controller_view x) pairs (cntlids xs x.identity.cntlid ∙ new))
+pub fresh_controller : (xs : List ControllerEntry) (x : ControllerEntry) → AllPairs (λ a b. a.identity.cntlid ≢ b.identity.cntlid) (map controller_entry_view xs) → list_any (λ y. y.identity.cntlid == x.identity.cntlid) xs ≡ false → AllPairs (λ a b. a.identity.cntlid ≢ b.identity.cntlid) (map controller_entry_view (xs ++ x ∷ []))
+fresh_controller xs x pairs new = rw (map_push controller_entry_view xs x) (fresh_last (λ c. c.identity.cntlid) (map controller_entry_view xs) (controller_entry_view x) pairs (cntlids xs x.identity.cntlid ∙ new))
 
-pub fresh_namespace : (xs : List NamespaceEntry) (x : NamespaceEntry) → AllPairs (λ a b. a.nsid ≢ b.nsid) (map namespace_view xs) → list_any (λ y. y.nsid == x.nsid) xs ≡ false → AllPairs (λ a b. a.nsid ≢ b.nsid) (map namespace_view (xs ++ x ∷ []))
-fresh_namespace xs x pairs new = rw (map_push namespace_view xs x) (fresh_last (λ n. n.nsid) (map namespace_view xs) (namespace_view x) pairs (nsids xs x.nsid ∙ new))
+pub fresh_namespace : (xs : List NamespaceEntry) (x : NamespaceEntry) → AllPairs (λ a b. a.nsid ≢ b.nsid) (map namespace_entry_view xs) → list_any (λ y. y.nsid == x.nsid) xs ≡ false → AllPairs (λ a b. a.nsid ≢ b.nsid) (map namespace_entry_view (xs ++ x ∷ []))
+fresh_namespace xs x pairs new = rw (map_push namespace_entry_view xs x) (fresh_last (λ n. n.nsid) (map namespace_entry_view xs) (namespace_entry_view x) pairs (nsids xs x.nsid ∙ new))

@@ -5,7 +5,7 @@ use Rattle.std.specs.Str.{bytes_eq}
 use Rattle.std.specs.BTreeMap.{keys}
 use Rattle.toml.specs.declared.value.Value.{Value}
 use Rattle.toml.specs.View.{table_view, members_view}
-use Rattle.nv_file.specs.declared.file.names.Key.{Key}
+use Rattle.nv_file.specs.declared.key.Key.{Key}
 use Rattle.nv_file.specs.Names.{key_text}
 use Rattle.nv_file.specs.Section.{has_only}
 

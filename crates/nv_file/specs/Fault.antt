@@ -1,5 +1,5 @@
--- How a reader's answer is compared with what reading says.
-use Rattle.std.specs.Prelude.{◌≡◌, Result, Ok, Err}
+-- What reading answers: a value, or the first fault.
+use Rattle.std.specs.Prelude.{◌≡◌, Bool, Result, Ok, Err, if◌then◌else◌}
 use Rattle.nv_file.specs.declared.error.SubsystemError.{SubsystemError}
 use Rattle.nv_file.specs.declared.error.SubsystemError.TheVariants.{Memory}
 
@@ -9,12 +9,12 @@ abbrev pub ◌>>=◌ : {A B : Type 0} → Result A SubsystemError → (A → Res
 (Ok x) >>= f = f x
 (Err e) >>= f = Err e
 
--- the error is the fault that reading meets first, unless memory ran out
-abbrev pub Fails : {Y : Type 0} → SubsystemError → Result Y SubsystemError → Type 0
-Fails Memory reading = Unit {0}
-Fails e reading = reading ≡ Err e
+-- the fault, unless the rule holds
+unfoldable pub ensure : Bool → SubsystemError → Result (Unit {0}) SubsystemError
+ensure holds e = if holds then Ok tt else Err e
 
--- the answer is what reading gives, as `view` sees it, or the first fault, or that memory ran out
-abbrev pub Gives : {X Y : Type 0} → (X → Y) → Result X SubsystemError → Result Y SubsystemError → Type 0
-Gives view (Ok x) reading = reading ≡ Ok (view x)
-Gives view (Err e) reading = Fails e reading
+-- the result is the answer, as `view` sees it, unless memory ran out
+abbrev pub IsUnlessMemory : {X Y : Type 0} → (X → Y) → Result X SubsystemError → Result Y SubsystemError → Type 0
+IsUnlessMemory view (Ok x) answer = answer ≡ Ok (view x)
+IsUnlessMemory view (Err Memory) answer = Unit {0}
+IsUnlessMemory view (Err e) answer = answer ≡ Err e

@@ -1,18 +1,20 @@
 -- A whole file: its tables, and what must hold between them.
-use Rattle.std.specs.Prelude.{ℕ, ℤ, pos, Bool, true, not, ◌&&◌, ◌||◌, List, [], ◌∷◌, length, Option, Some, None, Result, Ok, Err, nat_le, sum_by, if◌then◌else◌}
+use Rattle.std.specs.Prelude.{ℕ, ℤ, pos, Bool, true, not, ◌&&◌, ◌||◌, List, [], ◌∷◌, length, Result, Ok, Err, nat_le, sum_by, if◌then◌else◌}
 use Rattle.std.specs.List.{list_all, list_any}
+use Rattle.std.specs.Option.{ok_or}
 use Rattle.std.specs.Ordering.{int_eq}
 use Rattle.std.specs.Str.{is_utf8}
 use Rattle.toml.specs.Data.{Members}
 use Rattle.toml.specs.Parse.{parse_document}
 use Rattle.nv_file.specs.declared.error.SubsystemError.{SubsystemError}
-use Rattle.nv_file.specs.declared.error.SubsystemError.TheVariants.{NotToml, Capacity, Attachment}
-use Rattle.nv_file.specs.declared.file.names.TableName.TheVariants as table
-use Rattle.nv_file.specs.declared.file.names.Key.TheVariants as key
-use Rattle.nv_file.specs.Fault.{◌>>=◌}
+use Rattle.nv_file.specs.declared.error.SubsystemError.TheVariants.{NotToml, Range, Capacity, Attachment}
+use Rattle.nv_file.specs.declared.table_name.TableName.TheVariants as table
+use Rattle.nv_file.specs.declared.key.Key.TheVariants as key
+use Rattle.nv_file.specs.declared.section.TheConstants.{GREATEST_INTEGER}
+use Rattle.nv_file.specs.Fault.{◌>>=◌, ensure}
 use Rattle.nv_file.specs.FileValue.{ControllerValue, NamespaceValue, FileValue}
-use Rattle.nv_file.specs.Section.{number, number_or, text, tables, tables_or_none, within, only_known, readings}
-use Rattle.nv_file.specs.Tables.{greatest, format_of, controller_of, namespace_of}
+use Rattle.nv_file.specs.Section.{integer, integer_or, text, tables, tables_or_none, only_known, readings}
+use Rattle.nv_file.specs.Tables.{format_of, controller_entry_of, namespace_entry_of}
 
 -- what the top table holds, before the tables in it are read
 pub record Top : Type 0 where
@@ -26,15 +28,15 @@ pub record Top : Type 0 where
 
 unfoldable pub top_of : Members → Result Top SubsystemError
 top_of members = do
-  version ← number table.Top key.Version 1 1 members
-  nn ← number table.Top key.Nn 1 1024 members
-  tnvmcap ← number table.Top key.Tnvmcap 0 greatest members
-  mc ← number_or table.Top key.Mc 0 0 3 members
+  version ← integer table.Top key.Version 1 1 members
+  nn ← integer table.Top key.Nn 1 1024 members
+  tnvmcap ← integer table.Top key.Tnvmcap 0 GREATEST_INTEGER members
+  mc ← integer_or table.Top key.Mc 0 0 3 members
   subnqn ← text table.Top key.Subnqn 223 members
   formats ← tables table.Top key.Format 16 members
   controllers ← tables table.Top key.Controller 16 members
   namespaces ← tables_or_none table.Top key.Namespace members
-  few ← within table.Top key.Namespace (nat_le (length namespaces) nn)
+  few ← ensure (nat_le (length namespaces) nn) (Range table.Top key.Namespace)
   known ← only_known table.Top members
   Ok (record {
     nn = nn;
@@ -68,18 +70,15 @@ may_attach controllers n =
 unfoldable pub attaches : List ControllerValue → List NamespaceValue → Bool
 attaches controllers namespaces = list_all (may_attach controllers) namespaces
 
-unfoldable pub provided : SubsystemError → Bool → Result (Unit {0}) SubsystemError
-provided e holds = if holds then Ok tt else Err e
-
 -- the tables within the top table, in the order of the file, and then what must hold between them
 unfoldable pub file_of : Members → Result FileValue SubsystemError
 file_of members = do
   top ← top_of members
   formats ← readings (λ _. format_of) [] top.formats
-  controllers ← readings controller_of [] top.controllers
-  namespaces ← readings (namespace_of top.nn top.mc formats) [] top.namespaces
-  room ← provided Capacity (fits top.tnvmcap namespaces)
-  attached ← provided Attachment (attaches controllers namespaces)
+  controllers ← readings controller_entry_of [] top.controllers
+  namespaces ← readings (namespace_entry_of top.nn top.mc formats) [] top.namespaces
+  room ← ensure (fits top.tnvmcap namespaces) Capacity
+  attached ← ensure (attaches controllers namespaces) Attachment
   Ok (record {
     nn = top.nn;
     tnvmcap = top.tnvmcap;
@@ -91,12 +90,8 @@ file_of members = do
   })
 
 -- the top table of a document
-abbrev pub as_document : Option Members → Result Members SubsystemError
-as_document None = Err NotToml
-as_document (Some members) = Ok members
-
 unfoldable pub document : List ℕ → Result Members SubsystemError
-document bytes = if is_utf8 bytes then as_document (parse_document bytes) else Err NotToml
+document bytes = if is_utf8 bytes then ok_or (parse_document bytes) NotToml else Err NotToml
 
 -- what a file holds, or its first fault
 unfoldable pub file : List ℕ → Result FileValue SubsystemError

@@ -1,12 +1,14 @@
 -- What a file holds, without where it lies in memory.
-use Rattle.std.specs.Prelude.{ℕ, ℤ, List, map, string_bytes}
-use Rattle.nv_file.specs.declared.parts.Format.{Format}
-use Rattle.nv_file.specs.declared.parts.Namespace.{Namespace}
-use Rattle.nv_file.specs.declared.parts.FeatureRule.{FeatureRule}
-use Rattle.nv_file.specs.declared.parts.SmartBase.{SmartBase}
-use Rattle.nv_file.specs.declared.file.entries.ControllerEntry.{ControllerEntry}
-use Rattle.nv_file.specs.declared.file.entries.NamespaceEntry.{NamespaceEntry}
-use Rattle.nv_file.specs.declared.file.entries.File.{File}
+use Rattle.std.specs.Prelude.{ℕ, ℤ, pos, Bool, List, map, string_bytes}
+use Rattle.std.specs.List.{list_any}
+use Rattle.std.specs.Ordering.{int_eq}
+use Rattle.nv_file.specs.declared.format.Format.{Format}
+use Rattle.nv_file.specs.declared.namespace.Namespace.{Namespace}
+use Rattle.nv_file.specs.declared.feature_rule.FeatureRule.{FeatureRule}
+use Rattle.nv_file.specs.declared.smart_base.SmartBase.{SmartBase}
+use Rattle.nv_file.specs.declared.controller.ControllerEntry.{ControllerEntry}
+use Rattle.nv_file.specs.declared.namespace.NamespaceEntry.{NamespaceEntry}
+use Rattle.nv_file.specs.declared.file.File.{File}
 use Rattle.nv_file.specs.Identity.{Identity, identity_view}
 
 pub record ControllerValue : Type 0 where
@@ -28,11 +30,11 @@ pub record FileValue : Type 0 where
   pub controllers : List ControllerValue
   pub namespaces : List NamespaceValue
 
-abbrev pub controller_view : ControllerEntry → ControllerValue
-controller_view c = record { identity = identity_view c.identity; rules = c.rules.items; smart = c.smart }
+abbrev pub controller_entry_view : ControllerEntry → ControllerValue
+controller_entry_view c = record { identity = identity_view c.identity; rules = c.rules.items; smart = c.smart }
 
-abbrev pub namespace_view : NamespaceEntry → NamespaceValue
-namespace_view n = record { nsid = n.nsid; namespace = n.namespace; controllers = n.controllers.items }
+abbrev pub namespace_entry_view : NamespaceEntry → NamespaceValue
+namespace_entry_view n = record { nsid = n.nsid; namespace = n.namespace; controllers = n.controllers.items }
 
 abbrev pub file_view : File → FileValue
 file_view f = record {
@@ -41,6 +43,10 @@ file_view f = record {
   mc = f.mc;
   subnqn = string_bytes f.subnqn;
   formats = f.formats.items;
-  controllers = map controller_view f.controllers.items;
-  namespaces = map namespace_view f.namespaces.items;
+  controllers = map controller_entry_view f.controllers.items;
+  namespaces = map namespace_entry_view f.namespaces.items;
 }
+
+-- the list of the namespace names the controller
+abbrev pub is_attached_to : ℕ → NamespaceValue → Bool
+is_attached_to cntlid n = list_any (λ z. int_eq z (pos cntlid)) n.controllers

@@ -1,17 +1,17 @@
 -- What holds of whatever a file gives.
 use Rattle.std.specs.Prelude.{◌≡◌, ◌≢◌, ℕ, pos, ◌≤◌, false, List, length, sum_by, IsSomeAnd, All, Any, AllPairs, slice_get}
-use Rattle.nv_file.specs.declared.parts.Format.{Format}
+use Rattle.nv_file.specs.declared.format.Format.{Format}
 use Rattle.nv_file.specs.FileValue.{ControllerValue, NamespaceValue, FileValue}
 use Rattle.nv_file.specs.File.{Top}
 use Rattle.nv_file.specs.Ranges.{AreTopKeys, IsFormat, IsFeatureRule, IsSmart, IsIdentity, IsInFormat}
 
-pub record IsController (c : ControllerValue) : Type 0 where
+pub record IsControllerEntry (c : ControllerValue) : Type 0 where
   pub identity : IsIdentity c.identity
   pub rules : All IsFeatureRule c.rules
   pub fids : AllPairs (λ r s. r.fid ≢ s.fid) c.rules
   pub smart : IsSmart c.smart
 
-pub record IsNamespace (nn mc : ℕ) (formats : List Format) (n : NamespaceValue) : Type 0 where
+pub record IsNamespaceEntry (nn mc : ℕ) (formats : List Format) (n : NamespaceValue) : Type 0 where
   pub nsid : (1 ≤ n.nsid) × (n.nsid ≤ nn)
   pub format : IsSomeAnd (slice_get formats n.namespace.format) (λ f. IsInFormat mc f n.namespace)
 
@@ -32,10 +32,10 @@ pub record IsFile (f : FileValue) : Type 0 where
   pub format_count : (1 ≤ length f.formats) × (length f.formats ≤ 16)
   pub formats : All IsFormat f.formats
   pub controller_count : (1 ≤ length f.controllers) × (length f.controllers ≤ 16)
-  pub controllers : All IsController f.controllers
+  pub controllers : All IsControllerEntry f.controllers
   pub cntlids : AllPairs (λ c d. c.identity.cntlid ≢ d.identity.cntlid) f.controllers
   pub namespace_count : length f.namespaces ≤ f.nn
-  pub namespaces : All (IsNamespace f.nn f.mc f.formats) f.namespaces
+  pub namespaces : All (IsNamespaceEntry f.nn f.mc f.formats) f.namespaces
   pub nsids : AllPairs (λ m n. m.nsid ≢ n.nsid) f.namespaces
   pub capacities : sum_by (λ n. n.namespace.capacity) f.namespaces ≤ f.tnvmcap
   pub attachments : All (IsAttached f.controllers) f.namespaces

@@ -1,9 +1,9 @@
 -- The tables and keys of a file, as it spells them.
 use Rattle.std.specs.Prelude.{ℕ, List, [], ◌∷◌, codes}
-use Rattle.nv_file.specs.declared.file.names.TableName.{TableName}
-use Rattle.nv_file.specs.declared.file.names.TableName.TheVariants as table
-use Rattle.nv_file.specs.declared.file.names.Key.{Key}
-use Rattle.nv_file.specs.declared.file.names.Key.TheVariants as key
+use Rattle.nv_file.specs.declared.table_name.TableName.{TableName}
+use Rattle.nv_file.specs.declared.table_name.TableName.TheVariants as table
+use Rattle.nv_file.specs.declared.key.Key.{Key}
+use Rattle.nv_file.specs.declared.key.Key.TheVariants as key
 
 unfoldable pub table_text : TableName → List ℕ
 table_text table.Top = codes "top"

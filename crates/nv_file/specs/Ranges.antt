@@ -1,20 +1,26 @@
 -- The ranges of what a subsystem is made of.
-use Rattle.std.specs.Prelude.{◌≡◌, ℕ, ◌^◌, ◌<◌, ◌≤◌, true, false, List, length, All, bit_and}
-use Rattle.nv_file.specs.declared.parts.Format.{Format}
-use Rattle.nv_file.specs.declared.parts.Namespace.{Namespace}
-use Rattle.nv_file.specs.declared.parts.FeatureRule.{FeatureRule}
-use Rattle.nv_file.specs.declared.parts.Counters.{Counters}
-use Rattle.nv_file.specs.declared.parts.SmartBase.{SmartBase}
-use Rattle.nv_file.specs.declared.file.controllers.Numbers.{Numbers}
+use Rattle.std.specs.Prelude.{◌≡◌, ℕ, ◌-◌, ◌^◌, ◌<◌, ◌≤◌, Bool, true, false, not, ◌&&◌, List, length, All, bit_and, nat_le, ◌==◌, slice_index}
+use Rattle.std.specs.List.{list_all}
+use Rattle.nv_file.specs.declared.format.Format.{Format}
+use Rattle.nv_file.specs.declared.namespace.Namespace.{Namespace}
+use Rattle.nv_file.specs.declared.feature_rule.FeatureRule.{FeatureRule}
+use Rattle.nv_file.specs.declared.smart_base.Counters.{Counters}
+use Rattle.nv_file.specs.declared.smart_base.SmartBase.{SmartBase}
+use Rattle.nv_file.specs.declared.identity.IdentityNumbers.{IdentityNumbers}
+use Rattle.nv_file.specs.declared.section.TheConstants.{GREATEST_INTEGER}
 use Rattle.nv_file.specs.Features.{is_fid, is_feature_value}
 use Rattle.nv_file.specs.Identity.{Identity}
-use Rattle.nv_file.specs.Section.{is_text}
-use Rattle.nv_file.specs.Tables.{greatest}
+
+-- 1 to most bytes, each 20h to 7Eh and the last one not a space
+abbrev pub is_text : ℕ → List ℕ → Bool
+is_text most s =
+    (nat_le 1 (length s) && nat_le (length s) most)
+    && (list_all (λ b. nat_le 32 b && nat_le b 126) s && not (slice_index s (length s - 1) == 32))
 
 -- The greatest NSID, the capacity in bytes, where metadata can lie, and the name of the subsystem.
 pub record AreTopKeys (last_nsid capacity metadata : ℕ) (name : List ℕ) : Type 0 where
   pub nn : (1 ≤ last_nsid) × (last_nsid ≤ 1024)
-  pub tnvmcap : capacity ≤ greatest
+  pub tnvmcap : capacity ≤ GREATEST_INTEGER
   pub mc : metadata ≤ 3
   pub subnqn : is_text 223 name ≡ true
 
@@ -30,15 +36,15 @@ pub record IsFeatureRule (r : FeatureRule) : Type 0 where
   pub saveable : r.fid ≡ 0x05 → r.saveable ≡ false
 
 pub record IsCounters (c : Counters) : Type 0 where
-  pub data_units_read : c.data_units_read ≤ greatest
-  pub data_units_written : c.data_units_written ≤ greatest
-  pub host_read_commands : c.host_read_commands ≤ greatest
-  pub host_write_commands : c.host_write_commands ≤ greatest
-  pub controller_busy_time : c.controller_busy_time ≤ greatest
-  pub power_cycles : c.power_cycles ≤ greatest
-  pub power_on_hours : c.power_on_hours ≤ greatest
-  pub unsafe_shutdowns : c.unsafe_shutdowns ≤ greatest
-  pub media_errors : c.media_errors ≤ greatest
+  pub data_units_read : c.data_units_read ≤ GREATEST_INTEGER
+  pub data_units_written : c.data_units_written ≤ GREATEST_INTEGER
+  pub host_read_commands : c.host_read_commands ≤ GREATEST_INTEGER
+  pub host_write_commands : c.host_write_commands ≤ GREATEST_INTEGER
+  pub controller_busy_time : c.controller_busy_time ≤ GREATEST_INTEGER
+  pub power_cycles : c.power_cycles ≤ GREATEST_INTEGER
+  pub power_on_hours : c.power_on_hours ≤ GREATEST_INTEGER
+  pub unsafe_shutdowns : c.unsafe_shutdowns ≤ GREATEST_INTEGER
+  pub media_errors : c.media_errors ≤ GREATEST_INTEGER
 
 pub record IsSmart (s : SmartBase) : Type 0 where
   pub critical_warning : s.critical_warning ≤ 255
@@ -51,8 +57,8 @@ pub record IsSmart (s : SmartBase) : Type 0 where
   pub critical_comp_time : s.critical_comp_time ≤ 4294967295
   pub sensors : (length s.sensors ≡ 8) × All (λ n. n ≤ 65535) s.sensors
 
--- The optional numbers of a controller.
-pub record IsNumbers (n : Numbers) : Type 0 where
+-- The numbers that a controller says of itself.
+pub record IsIdentityNumbers (n : IdentityNumbers) : Type 0 where
   pub vid : n.vid ≤ 65535
   pub ssvid : n.ssvid ≤ 65535
   pub rab : n.rab ≤ 255
@@ -63,27 +69,14 @@ pub record IsNumbers (n : Numbers) : Type 0 where
   pub cctemp : n.cctemp ≤ 65535
   pub vwc : n.vwc ≤ 7
 
-abbrev pub numbers_in : Identity → Numbers
-numbers_in i = record {
-  vid = i.vid;
-  ssvid = i.ssvid;
-  rab = i.rab;
-  ieee = i.ieee;
-  mdts = i.mdts;
-  elpe = i.elpe;
-  wctemp = i.wctemp;
-  cctemp = i.cctemp;
-  vwc = i.vwc;
-}
-
 pub record IsIdentity (i : Identity) : Type 0 where
   pub cntlid : i.cntlid ≤ 65519
   pub sn : is_text 20 i.sn ≡ true
   pub mn : is_text 40 i.mn ≡ true
   pub fr : is_text 8 i.fr ≡ true
-  pub numbers : IsNumbers (numbers_in i)
+  pub numbers : IsIdentityNumbers i.numbers
 
 -- A namespace has at least one block of its format, and extended blocks only where format and subsystem allow them.
 pub record IsInFormat (mc : ℕ) (f : Format) (n : Namespace) : Type 0 where
-  pub capacity : (2 ^ f.lbads ≤ n.capacity) × (n.capacity ≤ greatest)
+  pub capacity : (2 ^ f.lbads ≤ n.capacity) × (n.capacity ≤ GREATEST_INTEGER)
   pub extended : n.extended ≡ true → (0 < f.ms) × (bit_and mc 1 ≡ 1)

@@ -1,58 +1,57 @@
 -- The tables of a file, key by key in the order of the checks, with the first fault that is met.
 use Rattle.std.specs.Prelude.{ℕ, ◌^◌, Bool, true, false, not, ◌&&◌, ◌||◌, List, [], ◌∷◌, map, Option, Some, None, Result, Ok, nat_lt, ◌==◌, bit_and, slice_get, slice_index}
 use Rattle.std.specs.List.{list_any}
+use Rattle.std.specs.Option.{ok_or}
 use Rattle.toml.specs.Data.{Members}
-use Rattle.nv_file.specs.declared.parts.Format.{Format}
-use Rattle.nv_file.specs.declared.parts.FeatureRule.{FeatureRule}
-use Rattle.nv_file.specs.declared.parts.Counters.{Counters}
-use Rattle.nv_file.specs.declared.parts.SmartBase.{SmartBase}
-use Rattle.nv_file.specs.declared.file.controllers.Numbers.{Numbers}
+use Rattle.nv_file.specs.declared.format.Format.{Format}
+use Rattle.nv_file.specs.declared.feature_rule.FeatureRule.{FeatureRule}
+use Rattle.nv_file.specs.declared.smart_base.Counters.{Counters}
+use Rattle.nv_file.specs.declared.smart_base.SmartBase.{SmartBase}
+use Rattle.nv_file.specs.declared.identity.IdentityNumbers.{IdentityNumbers}
 use Rattle.nv_file.specs.declared.error.SubsystemError.{SubsystemError}
-use Rattle.nv_file.specs.declared.file.names.TableName.TheVariants as table
-use Rattle.nv_file.specs.declared.file.names.Key.TheVariants as key
-use Rattle.nv_file.specs.Fault.{◌>>=◌}
+use Rattle.nv_file.specs.declared.table_name.TableName.TheVariants as table
+use Rattle.nv_file.specs.declared.key.Key.TheVariants as key
+use Rattle.nv_file.specs.declared.error.SubsystemError.TheVariants.{Range, Repeated}
+use Rattle.nv_file.specs.declared.section.TheConstants.{GREATEST_INTEGER}
+use Rattle.nv_file.specs.Fault.{◌>>=◌, ensure}
 use Rattle.nv_file.specs.Features.{is_fid, is_feature_value}
 use Rattle.nv_file.specs.Identity.{Identity}
 use Rattle.nv_file.specs.FileValue.{ControllerValue, NamespaceValue}
-use Rattle.nv_file.specs.Section.{number, number_or, flag_or, text, tables_or_none, table_or_none, integers_or_none, numbers_or_none, readings, within, unrepeated, named, only_known}
-
--- the greatest integer that a file can spell
-abbrev pub greatest : ℕ
-greatest = 9223372036854775807
+use Rattle.nv_file.specs.Section.{integer, integer_or, flag_or, text, tables_or_none, table_or_none, integers_or_none, integers_in_range_or_none, readings, only_known}
 
 unfoldable pub format_of : Members → Result Format SubsystemError
 format_of members = do
-  lbads ← number table.Format key.Lbads 9 16 members
-  ms ← number_or table.Format key.Ms 0 0 65535 members
-  rp ← number_or table.Format key.Rp 0 0 3 members
+  lbads ← integer table.Format key.Lbads 9 16 members
+  ms ← integer_or table.Format key.Ms 0 0 65535 members
+  rp ← integer_or table.Format key.Rp 0 0 3 members
   known ← only_known table.Format members
   Ok (record { lbads = lbads; ms = ms; rp = rp })
 
 -- a feature, with those before it at hand
 unfoldable pub feature_of : List FeatureRule → Members → Result FeatureRule SubsystemError
 feature_of before members = do
-  fid ← number table.Feature key.Fid 0 255 members
-  supported ← within table.Feature key.Fid (is_fid fid)
-  new ← unrepeated table.Feature key.Fid (list_any (λ rule. rule.fid == fid) before)
-  value ← number_or table.Feature key.Default 0 0 4294967295 members
-  masked ← within table.Feature key.Default (is_feature_value fid value)
+  fid ← integer table.Feature key.Fid 0 255 members
+  supported ← ensure (is_fid fid) (Range table.Feature key.Fid)
+  new ← ensure (not (list_any (λ rule. rule.fid == fid) before)) (Repeated table.Feature key.Fid)
+  value ← integer_or table.Feature key.Default 0 0 4294967295 members
+  masked ← ensure (is_feature_value fid value) (Range table.Feature key.Default)
   saveable ← flag_or table.Feature key.Saveable false members
-  may_save ← within table.Feature key.Saveable (not (saveable && (fid == 0x05)))
+  may_save ← ensure (not (saveable && (fid == 0x05))) (Range table.Feature key.Saveable)
   changeable ← flag_or table.Feature key.Changeable true members
   known ← only_known table.Feature members
   Ok (record { fid = fid; default = value; saveable = saveable; changeable = changeable })
 
 unfoldable pub counters_of : Members → Result Counters SubsystemError
 counters_of members = do
-  data_units_read ← number_or table.Smart key.DataUnitsRead 0 0 greatest members
-  data_units_written ← number_or table.Smart key.DataUnitsWritten 0 0 greatest members
-  host_read_commands ← number_or table.Smart key.HostReadCommands 0 0 greatest members
-  host_write_commands ← number_or table.Smart key.HostWriteCommands 0 0 greatest members
-  controller_busy_time ← number_or table.Smart key.ControllerBusyTime 0 0 greatest members
-  power_cycles ← number_or table.Smart key.PowerCycles 0 0 greatest members
-  power_on_hours ← number_or table.Smart key.PowerOnHours 0 0 greatest members
-  unsafe_shutdowns ← number_or table.Smart key.UnsafeShutdowns 0 0 greatest members
-  media_errors ← number_or table.Smart key.MediaErrors 0 0 greatest members
+  data_units_read ← integer_or table.Smart key.DataUnitsRead 0 0 GREATEST_INTEGER members
+  data_units_written ← integer_or table.Smart key.DataUnitsWritten 0 0 GREATEST_INTEGER members
+  host_read_commands ← integer_or table.Smart key.HostReadCommands 0 0 GREATEST_INTEGER members
+  host_write_commands ← integer_or table.Smart key.HostWriteCommands 0 0 GREATEST_INTEGER members
+  controller_busy_time ← integer_or table.Smart key.ControllerBusyTime 0 0 GREATEST_INTEGER members
+  power_cycles ← integer_or table.Smart key.PowerCycles 0 0 GREATEST_INTEGER members
+  power_on_hours ← integer_or table.Smart key.PowerOnHours 0 0 GREATEST_INTEGER members
+  unsafe_shutdowns ← integer_or table.Smart key.UnsafeShutdowns 0 0 GREATEST_INTEGER members
+  media_errors ← integer_or table.Smart key.MediaErrors 0 0 GREATEST_INTEGER members
   Ok (record {
     data_units_read = data_units_read;
     data_units_written = data_units_written;
@@ -71,15 +70,15 @@ eight numbers = map (slice_index numbers) (0 ∷ 1 ∷ 2 ∷ 3 ∷ 4 ∷ 5 ∷ 6
 
 unfoldable pub smart_of : Members → Result SmartBase SubsystemError
 smart_of members = do
-  critical_warning ← number_or table.Smart key.CriticalWarning 0 0 255 members
-  avail_spare ← number_or table.Smart key.AvailSpare 0 0 255 members
-  spare_thresh ← number_or table.Smart key.SpareThresh 0 0 255 members
-  percent_used ← number_or table.Smart key.PercentUsed 0 0 255 members
-  temperature ← number_or table.Smart key.Temperature 0 0 65535 members
+  critical_warning ← integer_or table.Smart key.CriticalWarning 0 0 255 members
+  avail_spare ← integer_or table.Smart key.AvailSpare 0 0 255 members
+  spare_thresh ← integer_or table.Smart key.SpareThresh 0 0 255 members
+  percent_used ← integer_or table.Smart key.PercentUsed 0 0 255 members
+  temperature ← integer_or table.Smart key.Temperature 0 0 65535 members
   counters ← counters_of members
-  warning_temp_time ← number_or table.Smart key.WarningTempTime 0 0 4294967295 members
-  critical_comp_time ← number_or table.Smart key.CriticalCompTime 0 0 4294967295 members
-  sensors ← numbers_or_none table.Smart key.Sensors 8 65535 members
+  warning_temp_time ← integer_or table.Smart key.WarningTempTime 0 0 4294967295 members
+  critical_comp_time ← integer_or table.Smart key.CriticalCompTime 0 0 4294967295 members
+  sensors ← integers_in_range_or_none table.Smart key.Sensors 8 65535 members
   known ← only_known table.Smart members
   Ok (record {
     critical_warning = critical_warning;
@@ -121,18 +120,18 @@ abbrev pub smart_or_zero : Option Members → Result SmartBase SubsystemError
 smart_or_zero None = Ok zero_smart
 smart_or_zero (Some members) = smart_of members
 
--- the optional numbers of a controller
-unfoldable pub numbers_of : Members → Result Numbers SubsystemError
-numbers_of members = do
-  vid ← number_or table.Controller key.Vid 0 0 65535 members
-  ssvid ← number_or table.Controller key.Ssvid 0 0 65535 members
-  rab ← number_or table.Controller key.Rab 0 0 255 members
-  ieee ← number_or table.Controller key.Ieee 0 0 16777215 members
-  mdts ← number_or table.Controller key.Mdts 5 2 8 members
-  elpe ← number_or table.Controller key.Elpe 63 0 255 members
-  wctemp ← number_or table.Controller key.Wctemp 343 0 65535 members
-  cctemp ← number_or table.Controller key.Cctemp 353 0 65535 members
-  vwc ← number_or table.Controller key.Vwc 0 0 7 members
+-- the numbers that a controller says of itself
+unfoldable pub identity_numbers_of : Members → Result IdentityNumbers SubsystemError
+identity_numbers_of members = do
+  vid ← integer_or table.Controller key.Vid 0 0 65535 members
+  ssvid ← integer_or table.Controller key.Ssvid 0 0 65535 members
+  rab ← integer_or table.Controller key.Rab 0 0 255 members
+  ieee ← integer_or table.Controller key.Ieee 0 0 16777215 members
+  mdts ← integer_or table.Controller key.Mdts 5 2 8 members
+  elpe ← integer_or table.Controller key.Elpe 63 0 255 members
+  wctemp ← integer_or table.Controller key.Wctemp 343 0 65535 members
+  cctemp ← integer_or table.Controller key.Cctemp 353 0 65535 members
+  vwc ← integer_or table.Controller key.Vwc 0 0 7 members
   Ok (record {
     vid = vid;
     ssvid = ssvid;
@@ -148,33 +147,25 @@ numbers_of members = do
 -- what a controller says of itself, with the controllers before it at hand
 unfoldable pub identity_of : List ControllerValue → Members → Result Identity SubsystemError
 identity_of before members = do
-  cntlid ← number table.Controller key.Cntlid 0 65519 members
-  new ← unrepeated table.Controller key.Cntlid (list_any (λ c. c.identity.cntlid == cntlid) before)
+  cntlid ← integer table.Controller key.Cntlid 0 65519 members
+  new ← ensure (not (list_any (λ c. c.identity.cntlid == cntlid) before)) (Repeated table.Controller key.Cntlid)
   sn ← text table.Controller key.Sn 20 members
   mn ← text table.Controller key.Mn 40 members
   fr ← text table.Controller key.Fr 8 members
-  numbers ← numbers_of members
+  numbers ← identity_numbers_of members
   crypto_erase ← flag_or table.Controller key.CryptoErase false members
   Ok (record {
     cntlid = cntlid;
     sn = sn;
     mn = mn;
     fr = fr;
-    vid = numbers.vid;
-    ssvid = numbers.ssvid;
-    rab = numbers.rab;
-    ieee = numbers.ieee;
-    mdts = numbers.mdts;
-    elpe = numbers.elpe;
-    wctemp = numbers.wctemp;
-    cctemp = numbers.cctemp;
-    vwc = numbers.vwc;
+    numbers = numbers;
     crypto_erase = crypto_erase;
   })
 
 -- a controller: its own table, then its features, then its health log
-unfoldable pub controller_of : List ControllerValue → Members → Result ControllerValue SubsystemError
-controller_of before members = do
+unfoldable pub controller_entry_of : List ControllerValue → Members → Result ControllerValue SubsystemError
+controller_entry_of before members = do
   identity ← identity_of before members
   features ← tables_or_none table.Controller key.Feature members
   smart ← table_or_none table.Controller key.Smart members
@@ -188,15 +179,15 @@ abbrev pub may_extend : ℕ → Format → Bool → Bool
 may_extend mc format extended = not extended || (nat_lt 0 format.ms && (bit_and mc 1 == 1))
 
 -- a namespace, with those before it at hand
-unfoldable pub namespace_of : ℕ → ℕ → List Format → List NamespaceValue → Members → Result NamespaceValue SubsystemError
-namespace_of nn mc formats before members = do
-  nsid ← number table.Namespace key.Nsid 1 nn members
-  new ← unrepeated table.Namespace key.Nsid (list_any (λ n. n.nsid == nsid) before)
-  format ← number table.Namespace key.Format 0 15 members
-  in_use ← named table.Namespace key.Format (slice_get formats format)
-  capacity ← number table.Namespace key.Bytes (2 ^ in_use.lbads) greatest members
+unfoldable pub namespace_entry_of : ℕ → ℕ → List Format → List NamespaceValue → Members → Result NamespaceValue SubsystemError
+namespace_entry_of nn mc formats before members = do
+  nsid ← integer table.Namespace key.Nsid 1 nn members
+  new ← ensure (not (list_any (λ n. n.nsid == nsid) before)) (Repeated table.Namespace key.Nsid)
+  format ← integer table.Namespace key.Format 0 15 members
+  in_use ← ok_or (slice_get formats format) (Range table.Namespace key.Format)
+  capacity ← integer table.Namespace key.Bytes (2 ^ in_use.lbads) GREATEST_INTEGER members
   extended ← flag_or table.Namespace key.Extended false members
-  extends ← within table.Namespace key.Extended (may_extend mc in_use extended)
+  extends ← ensure (may_extend mc in_use extended) (Range table.Namespace key.Extended)
   shared ← flag_or table.Namespace key.Shared false members
   controllers ← integers_or_none table.Namespace key.Controllers members
   known ← only_known table.Namespace members

@@ -1,6 +1,6 @@
 -- What the top table of the code stands for.
 use Rattle.std.specs.Prelude.{string_bytes}
-use Rattle.nv_file.specs.declared.file.top.Top.{Top as CodeTop}
+use Rattle.nv_file.specs.declared.top.Top.{Top as CodeTop}
 use Rattle.nv_file.specs.SectionView.{tables_view}
 use Rattle.nv_file.specs.File.{Top}
 

@@ -1,8 +1,10 @@
 //! Why a subsystem file was refused.
-ghost use Rattle.std.specs.Prelude.{◌≡◌};
+ghost use Rattle.std.specs.Prelude.{◌≡◌, IfOk, true};
 ghost use Rattle.nv_file.specs.declared.error.SubsystemError.TheVariants.{Memory};
+ghost use Rattle.nv_file.specs.Fault.{ensure};
 
-use crate::file::names::{Key, TableName};
+use crate::key::Key;
+use crate::table_name::TableName;
 use std::alloc::{AllocError, AllocFailed};
 use thiserror::Error;
 
@@ -43,4 +45,13 @@ impl<T: Drop> From<AllocFailed<T>> for SubsystemError {
     fn from(_error: AllocFailed<T>) -> SubsystemError {
         SubsystemError::Memory
     }
+}
+
+/// The fault, unless the rule holds.
+#[tactic(auto, unfolding(crate::specs::Fault::ensure))]
+pub fn ensure(holds: bool, fault: SubsystemError) -> Result<(), SubsystemError>
+    ensures exact { result ≡ ensure holds fault }
+    ensures sound { IfOk result (λ _. holds ≡ true) }
+{
+    if holds { Ok(()) } else { Err(fault) }
 }

@@ -1,34 +1,41 @@
 //! The subsystem file: what it holds, or its first fault.
-ghost use Rattle.std.specs.Prelude.{◌≡◌, ◌≢◌, IfOk, true, nat_le, sum_by};
+ghost use Rattle.std.specs.Prelude.{◌≡◌, IfOk, nat_le, sum_by};
 ghost use Rattle.toml.specs.View.{table_view};
-ghost use Rattle.nv_file.specs.Fault.{Gives};
+ghost use Rattle.nv_file.specs.Fault.{IsUnlessMemory};
 ghost use Rattle.nv_file.specs.FileValue.{file_view};
-ghost use Rattle.nv_file.specs.File.{provided, document, file_of, file};
+ghost use Rattle.nv_file.specs.File.{document, file_of, file};
 ghost use Rattle.nv_file.specs.IsFile.{IsFile};
 
-pub mod attachments;
-mod controllers;
-pub mod entries;
-mod formats;
-pub mod names;
-mod namespaces;
-mod rules;
-mod section;
-mod smart;
-mod top;
-
-use crate::error::SubsystemError;
-use attachments::attaches;
-use controllers::controllers_of;
-use entries::{File, NamespaceEntry};
-use formats::formats_of;
-use namespaces::namespaces_of;
+use crate::attachment::attaches;
+use crate::controller::{ControllerEntry, controller_entries_of};
+use crate::error::{SubsystemError, ensure};
+use crate::format::{Format, formats_of};
+use crate::namespace::{NamespaceEntry, namespace_entries_of};
+use crate::top::top_of;
 use std::alloc::Global;
 use toml::Table;
-use top::top_of;
+
+/// A whole file.
+#[derive(Debug, Drop)]
+pub struct File {
+    /// The greatest NSID, 1 to 1024.
+    pub nn: u32,
+    /// The capacity of the subsystem in bytes.
+    pub tnvmcap: u64,
+    /// Where the metadata of a logical block can lie.
+    pub mc: u8,
+    /// The name of the subsystem, 1 to 223 bytes.
+    pub subnqn: String,
+    /// The formats of logical blocks, 1 to 16.
+    pub formats: Vec<Format>,
+    /// The controllers, 1 to 16, in the order of the file.
+    pub controllers: Vec<ControllerEntry>,
+    /// The namespaces in the order of the file, `nn` at most.
+    pub namespaces: Vec<NamespaceEntry>,
+}
 
 fn document(alloc: Global, bytes: &[u8]) -> Result<Table, SubsystemError>
-    ensures { Gives table_view result (document bytes.now) }
+    ensures { IsUnlessMemory table_view result (document bytes.now) }
 {
     match toml::table_from_slice(alloc, bytes) {
         Ok(table) => Ok(table),
@@ -57,28 +64,19 @@ fn fits(tnvmcap: u64, namespaces: &[NamespaceEntry]) -> bool
     true
 }
 
-#[tactic(auto, unfolding(crate::specs::File::provided))]
-fn provided(error: SubsystemError, holds: bool) -> Result<(), SubsystemError>
-    requires { error ≢ SubsystemError.Memory }
-    ensures exact { Gives (λ _. tt) result (provided error holds) }
-    ensures sound { IfOk result (λ _. holds ≡ true) }
-{
-    if holds { Ok(()) } else { Err(error) }
-}
-
 #[tactic(auto, using(crate::proofs::Fused::capacities), unfolding(crate::specs::File::file_of))]
 fn file_of(alloc: Global, table: &Table) -> Result<File, SubsystemError>
-    ensures exact { Gives file_view result (file_of (table_view table.now)) }
+    ensures exact { IsUnlessMemory file_view result (file_of (table_view table.now)) }
     ensures sound { IfOk result (λ f. IsFile (file_view f)) }
 {
     let top = top_of(alloc, table)?;
     let formats = formats_of(alloc, &top.formats)?;
-    let controllers = controllers_of(alloc, &top.controllers)?;
-    let namespaces = namespaces_of(alloc, top.nn, top.mc, &formats, &top.namespaces)?;
-    provided(SubsystemError::Capacity, fits(top.tnvmcap, &namespaces))?;
-    provided(
-        SubsystemError::Attachment,
+    let controllers = controller_entries_of(alloc, &top.controllers)?;
+    let namespaces = namespace_entries_of(alloc, top.nn, top.mc, &formats, &top.namespaces)?;
+    ensure(fits(top.tnvmcap, &namespaces), SubsystemError::Capacity)?;
+    ensure(
         attaches(&controllers, &namespaces),
+        SubsystemError::Attachment,
     )?;
     Ok(File {
         nn: top.nn,
@@ -91,15 +89,14 @@ fn file_of(alloc: Global, table: &Table) -> Result<File, SubsystemError>
     })
 }
 
-/// What a file holds, or its first fault, unless memory runs out.
-#[tactic(auto, unfolding(crate::specs::File::file))]
-pub fn read(alloc: Global, bytes: &[u8]) -> Result<File, SubsystemError>
-    ensures exact { Gives file_view result (file bytes.now) }
-    ensures sound { IfOk result (λ f. IsFile (file_view f)) }
-{
-    let table = document(alloc, bytes)?;
-    file_of(alloc, &table)
+impl File {
+    /// What the bytes of a file hold, or its first fault, unless memory runs out.
+    #[tactic(auto, unfolding(crate::specs::File::file))]
+    pub fn from_toml(alloc: Global, bytes: &[u8]) -> Result<File, SubsystemError>
+        ensures exact { IsUnlessMemory file_view result (file bytes.now) }
+        ensures sound { IfOk result (λ f. IsFile (file_view f)) }
+    {
+        let table = document(alloc, bytes)?;
+        file_of(alloc, &table)
+    }
 }
-
-#[cfg(test)]
-mod tests;

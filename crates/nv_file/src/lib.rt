@@ -1,16 +1,50 @@
-//! The file of an NVM subsystem: what its tables hold, or its first fault.
+//! The file of an NVM subsystem, in TOML: what its tables hold, or its first fault.
+//!
+//! [`File::from_toml`] reads a file whole. What it gives is in range: each key in its range, each name
+//! once, each namespace in a format of the file and attached to controllers of the file, and the
+//! capacities add up to no more than there is. Otherwise it says the first fault in the order of the
+//! file, as a [`SubsystemError`] that names table and key and prints as one line.
+//!
+//! ```
+//! use nv_file::{DEMO, File, SubsystemError};
+//! use std::alloc::Global;
+//!
+//! /// The greatest NSID and the number of controllers of the demonstration file.
+//! fn size(alloc: Global) -> Result<(u32, usize), SubsystemError> {
+//!     let file = File::from_toml(alloc, DEMO.as_bytes())?;
+//!     Ok((file.nn, file.controllers.len()))
+//! }
+//! ```
+//!
+//! The numbers of controllers, namespaces and logs are those of the NVM Express Base Specification,
+//! revision 1.4, whose sections are named by their titles.
 #![tactic(auto)]
 
+mod attachment;
+mod controller;
 mod demo;
 mod error;
-mod features;
+mod feature_rule;
 mod file;
-mod parts;
+#[cfg(test)]
+mod file_tests;
+mod format;
+mod identity;
+mod key;
+mod namespace;
+mod section;
+mod smart_base;
+mod table_name;
+mod top;
 
+pub use controller::ControllerEntry;
 pub use demo::DEMO;
 pub use error::SubsystemError;
-pub use file::attachments::stands_in;
-pub use file::entries::{ControllerEntry, File, NamespaceEntry};
-pub use file::names::{Key, TableName};
-pub use file::read;
-pub use parts::{Counters, FeatureRule, Format, Identity, Namespace, SmartBase};
+pub use feature_rule::FeatureRule;
+pub use file::File;
+pub use format::Format;
+pub use identity::{Identity, IdentityNumbers};
+pub use key::Key;
+pub use namespace::{Namespace, NamespaceEntry};
+pub use smart_base::{Counters, SmartBase};
+pub use table_name::TableName;

@@ -13,7 +13,7 @@ use Rattle.nv_subsystem.specs.Capacity.{used}
 use Rattle.nv_file.specs.FileValue.{NamespaceValue}
 use Rattle.nv_subsystem.specs.FromFile.{with_namespace}
 use Rattle.nv_subsystem.specs.State.{Namespaces}
-use Rattle.nv_file.specs.declared.parts.Namespace.{Namespace}
+use Rattle.nv_file.specs.declared.namespace.Namespace.{Namespace}
 use Rattle.nv_subsystem.proofs.ByNsid.{differs}
 
 total : List (ℕ × Namespace) → ℕ

@@ -6,7 +6,7 @@ use Rattle.std.specs.Ordering.{nat_cmp, eq_by_cmp}
 use Rattle.std.specs.Cmp.{nat_cmp_total}
 use Rattle.std.specs.FinMap as map_of
 use Rattle.std.specs.FinMap.{empty_of_len, entries-from_sorted, len-entries, get-insert, same_map, nat_cmp-IsAntisymmetric}
-use Rattle.nv_file.specs.declared.parts.Namespace.{Namespace}
+use Rattle.nv_file.specs.declared.namespace.Namespace.{Namespace}
 use Rattle.nv_subsystem.specs.Slots.{as_member, by_nsid, marked_nsids, occupied}
 use Rattle.nv_subsystem.proofs.ByNsid.{differs, get_none, get_slot, ties}
 

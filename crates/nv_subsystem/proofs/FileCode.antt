@@ -5,8 +5,8 @@ use Rattle.std.specs.FinMap as map_of
 use Rattle.std.specs.Option.{ForSome}
 use Rattle.std.proofs.lemmas.List.{get_or-map, length-map}
 use Rattle.std.proofs.lemmas.List.Elements.{All-weaker}
-use Rattle.nv_subsystem.specs.ControllerView as state_of_code
-use Rattle.nv_file.specs.FileValue.{controller_view, file_view, namespace_view}
+use Rattle.nv_subsystem.specs.ControllerView.{controller_view}
+use Rattle.nv_file.specs.FileValue.{controller_entry_view, file_view, namespace_entry_view}
 use Rattle.nv_subsystem.specs.FromFile.{controller_of, state_of}
 use Rattle.nv_file.specs.IsFile.{IsFile}
 use Rattle.nv_file.specs.Ranges.{IsFormat}
@@ -14,9 +14,9 @@ use Rattle.nv_subsystem.specs.Slots.{by_nsid}
 use Rattle.nv_subsystem.specs.Sound.{IsSized, IsSound}
 use Rattle.nv_subsystem.specs.State.{Namespaces}
 use Rattle.nv_subsystem.specs.declared.controller.Controller.{Controller}
-use Rattle.nv_file.specs.declared.file.entries.File.{File}
-use Rattle.nv_file.specs.declared.file.entries.NamespaceEntry.{NamespaceEntry}
-use Rattle.nv_file.specs.declared.parts.Namespace.{Namespace}
+use Rattle.nv_file.specs.declared.file.File.{File}
+use Rattle.nv_file.specs.declared.namespace.NamespaceEntry.{NamespaceEntry}
+use Rattle.nv_file.specs.declared.namespace.Namespace.{Namespace}
 use Rattle.nv_subsystem.proofs.ByNsid.{get_slot}
 use Rattle.nv_subsystem.proofs.FileStates.{state_ok}
 use Rattle.nv_subsystem.specs.InFormatLaws.{format_below}
@@ -24,8 +24,8 @@ use Rattle.nv_subsystem.specs.InFormatLaws.{format_below}
 pub nsids_within : (f : File) → IsFile (file_view f) → (k : ℕ) (d : NamespaceEntry) → k < length f.namespaces.items → (1 ≤ (get_or f.namespaces.items k d).nsid) × ((get_or f.namespaces.items k d).nsid ≤ f.nn)
 nsids_within f h k d b =
     let ns = f.namespaces.items in
-    let at = get_or-map namespace_view ns k d (namespace_view d) b in
-    let is = h.namespaces k (namespace_view d) (omega (arith, length-map ns namespace_view)) in
+    let at = get_or-map namespace_entry_view ns k d (namespace_entry_view d) b in
+    let is = h.namespaces k (namespace_entry_view d) (omega (arith, length-map ns namespace_entry_view)) in
     subst (λ n. (1 ≤ n.nsid) × (n.nsid ≤ f.nn)) at is.nsid
 
 slot_default : (xs : List (Option Namespace)) (k : ℕ) (d : Option Namespace) → k < length xs → get_or xs k None ≡ get_or xs k d
@@ -40,12 +40,12 @@ slots_hold P xs m e h k d b = λ x is. h (k + 1) x (sym (ap (λ t. map_of.get t 
 
 pub is_sound : (f : File) (xs : List (Option Namespace)) (cs : List Controller) → IsFile (file_view f)
     → length xs ≡ f.nn → by_nsid xs ≡ (state_of (file_view f)).namespaces
-    → map state_of_code.controller_view cs ≡ map (controller_of (map namespace_view f.namespaces.items)) (map controller_view f.controllers.items)
+    → map controller_view cs ≡ map (controller_of (map namespace_entry_view f.namespaces.items)) (map controller_entry_view f.controllers.items)
     → All (IsSized f.nn) cs → IsSound xs f.formats.items cs
 is_sound f xs cs h len filled views sized =
     let ok = state_ok (file_view f) h in
-    let entries = map controller_view f.controllers.items in
-    let as_many : length cs ≡ length entries = sym (length-map cs state_of_code.controller_view) ∙ ap length views ∙ length-map entries (controller_of (map namespace_view f.namespaces.items)) in
+    let entries = map controller_entry_view f.controllers.items in
+    let as_many : length cs ≡ length entries = sym (length-map cs controller_view) ∙ ap length views ∙ length-map entries (controller_of (map namespace_entry_view f.namespaces.items)) in
     record {
       slots = omega (arith, len, h.keys.nn.1);
       formats = h.format_count;

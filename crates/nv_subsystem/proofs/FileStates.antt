@@ -10,13 +10,12 @@ use Rattle.std.proofs.lemmas.Bool.Decides.{Decides-int_eq, nat_tests}
 use Rattle.std.proofs.lemmas.List.{length-map, get_or-map}
 use Rattle.std.proofs.lemmas.List.Elements.{All-map, All-weaker}
 use Rattle.std.proofs.lemmas.List.Sums.{sum_by-cons}
-use Rattle.nv_file.specs.FileValue.{ControllerValue, FileValue, NamespaceValue}
-use Rattle.nv_subsystem.specs.FromFile.{controller_of, is_attached_to, state_of, with_attachment, with_namespace}
-use Rattle.nv_file.specs.IsFile as is_file
-use Rattle.nv_file.specs.IsFile.{IsAttached, IsFile}
+use Rattle.nv_file.specs.FileValue.{ControllerValue, FileValue, NamespaceValue, is_attached_to}
+use Rattle.nv_subsystem.specs.FromFile.{controller_of, state_of, with_attachment, with_namespace}
+use Rattle.nv_file.specs.IsFile.{IsAttached, IsControllerEntry, IsFile, IsNamespaceEntry}
 use Rattle.nv_subsystem.specs.State.{Namespaces, Nsids}
 use Rattle.nv_subsystem.specs.WellFormed.{IsController, IsNamespace, IsWellFormed}
-use Rattle.nv_file.specs.declared.parts.Namespace.{Namespace}
+use Rattle.nv_file.specs.declared.namespace.Namespace.{Namespace}
 use Rattle.nv_subsystem.proofs.ByNsid.{differs}
 use Rattle.nv_subsystem.proofs.Capacities.{used-all, used-empty}
 
@@ -162,7 +161,7 @@ only_allocated : (o : Option NamespaceValue) (p : NamespaceValue → Bool) → s
 only_allocated None p h = absurd (cc h)
 only_allocated (Some e) p h = refl
 
-controller_ok : (f : FileValue) → IsFile f → (c : ControllerValue) → is_file.IsController c → IsController (state_of f).namespaces (controller_of f.namespaces c)
+controller_ok : (f : FileValue) → IsFile f → (c : ControllerValue) → IsControllerEntry c → IsController (state_of f).namespaces (controller_of f.namespaces c)
 controller_ok f h c is = record {
   identity = is.identity;
   rules = is.rules;
@@ -181,7 +180,7 @@ namespace_ok : (f : FileValue) → IsFile f → (n : ℕ) (x : Namespace) (o : O
 namespace_ok f h n x None e is = absurd (cc is)
 namespace_ok f h n x (Some v) e is =
     let same : v.namespace ≡ x = cc is in
-    let fine = at_nsid (is_file.IsNamespace f.nn f.mc f.formats) f.namespaces n v h.namespaces e in
+    let fine = at_nsid (IsNamespaceEntry f.nn f.mc f.formats) f.namespaces n v h.namespaces e in
     let attached = at_nsid (IsAttached f.controllers) f.namespaces n v h.attachments e in
     subst (IsNamespace (state_of f) n) same (record {
       nsid = (omega (arith, fine.0.nsid.0, fine.1), omega (arith, fine.0.nsid.1, fine.1));
@@ -202,7 +201,7 @@ state_ok f h = record {
   format_count = h.format_count;
   formats = h.formats;
   controller_count = subst (λ n. (1 ≤ n) × (n ≤ 16)) (sym (length-map f.controllers (controller_of f.namespaces))) h.controller_count;
-  controllers = All-map (IsController (state_of f).namespaces) (controller_of f.namespaces) f.controllers (All-weaker is_file.IsController (λ c. IsController (state_of f).namespaces (controller_of f.namespaces c)) (controller_ok f h) f.controllers h.controllers);
+  controllers = All-map (IsController (state_of f).namespaces) (controller_of f.namespaces) f.controllers (All-weaker IsControllerEntry (λ c. IsController (state_of f).namespaces (controller_of f.namespaces c)) (controller_ok f h) f.controllers h.controllers);
   cntlids = pairs_map (λ x y. x.identity.cntlid ≢ y.identity.cntlid) (controller_of f.namespaces) f.controllers h.cntlids;
   namespaces = λ n x e. namespace_ok f h n x (entry_at f.namespaces n) refl (sym (namespaces_of f.namespaces n h.nsids) ∙ e);
   capacities = omega (arith, used-all map_of.empty f.namespaces h.nsids (λ k d b. get-empty nat_cmp (get_or f.namespaces k d).nsid), used-empty, h.capacities);

@@ -1,20 +1,15 @@
 -- The subsystem that a file gives: nothing was refused or counted yet.
-use Rattle.std.specs.Prelude.{ℕ, pos, Bool, List, [], map, Result, Ok, if◌then◌else◌}
-use Rattle.std.specs.List.{fold, list_any}
-use Rattle.std.specs.Ordering.{int_eq}
+use Rattle.std.specs.Prelude.{ℕ, List, [], map, Result, Ok, if◌then◌else◌}
+use Rattle.std.specs.List.{fold}
 use Rattle.std.specs.FinMap as map_of
 use Rattle.nv_file.specs.declared.error.SubsystemError.{SubsystemError}
 use Rattle.nv_file.specs.Fault.{◌>>=◌}
 use Rattle.nv_file.specs.File.{file}
-use Rattle.nv_file.specs.FileValue.{ControllerValue, FileValue, NamespaceValue}
+use Rattle.nv_file.specs.FileValue.{ControllerValue, FileValue, NamespaceValue, is_attached_to}
 use Rattle.nv_subsystem.specs.State.{Controller, Namespaces, Nsids, State}
 
 abbrev pub with_namespace : Namespaces → NamespaceValue → Namespaces
 with_namespace namespaces n = map_of.insert namespaces n.nsid n.namespace
-
--- the namespace is attached to the controller with the identifier
-abbrev pub is_attached_to : ℕ → NamespaceValue → Bool
-is_attached_to cntlid n = list_any (λ z. int_eq z (pos cntlid)) n.controllers
 
 abbrev pub with_attachment : ℕ → Nsids → NamespaceValue → Nsids
 with_attachment cntlid nsids n = if is_attached_to cntlid n then map_of.insert nsids n.nsid tt else nsids

@@ -13,8 +13,8 @@ use Rattle.nv_subsystem.specs.Nsid.{above, active_nsids, is_active, is_valid}
 use Rattle.nv_subsystem.specs.Row.{Row, row}
 use Rattle.nv_subsystem.specs.State.{State, allocated_nsids}
 use Rattle.nv_subsystem.specs.declared.identify.TheConstants.{LIST_LIMIT}
-use Rattle.nv_file.specs.declared.parts.Format.{Format}
-use Rattle.nv_file.specs.declared.parts.Namespace.{Namespace}
+use Rattle.nv_file.specs.declared.format.Format.{Format}
+use Rattle.nv_file.specs.declared.namespace.Namespace.{Namespace}
 
 -- ---- refusals
 

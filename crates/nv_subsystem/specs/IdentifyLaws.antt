@@ -8,8 +8,8 @@ use native.Mathlib.Nat.{div-le_self}
 use Rattle.nv_layout.specs.IdNs.{IdNsFits, LbafFits}
 use Rattle.nv_file.specs.Ranges.{IsFormat}
 use Rattle.nv_subsystem.specs.Identify.{blank, common_of, id_ns_of, flbas_of, lbaf_of, lbafs_of, no_lbaf}
-use Rattle.nv_file.specs.declared.parts.Format.{Format}
-use Rattle.nv_file.specs.declared.parts.Namespace.{Namespace}
+use Rattle.nv_file.specs.declared.format.Format.{Format}
+use Rattle.nv_file.specs.declared.namespace.Namespace.{Namespace}
 
 no_lbaf_fits : LbafFits no_lbaf
 no_lbaf_fits = record { ms = lit< tt; lbads = lit< tt; rp = lit< tt }

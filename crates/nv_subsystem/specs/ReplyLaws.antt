@@ -13,7 +13,7 @@ use Rattle.nv_subsystem.specs.Nsid.{above, is_active}
 use Rattle.nv_subsystem.specs.State.{Controller, State, ascending, controller_at}
 use Rattle.nv_subsystem.specs.WellFormed.{IsController, IsWellFormed}
 use Rattle.nv_command.specs.declared.command.Command.TheVariants.{IdentifyNamespace, AllocatedNamespace, ActiveList, AllocatedList}
-use Rattle.nv_file.specs.declared.parts.Namespace.{Namespace}
+use Rattle.nv_file.specs.declared.namespace.Namespace.{Namespace}
 use Rattle.nv_subsystem.specs.IdentifyLaws.{blank_fits, common_fits, id_ns_fits}
 use Rattle.nv_subsystem.specs.InFormatLaws.{capacity_fits, format_below}
 use Rattle.nv_subsystem.specs.ListLaws.{keys_fit}

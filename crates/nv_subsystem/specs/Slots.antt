@@ -1,7 +1,7 @@
 -- Slots by NSID, and the finite map or set that they stand for.
 use Rattle.std.specs.Prelude.{ℕ, ◌+◌, Bool, true, false, List, [], ◌∷◌, Option, Some, None, map}
 use Rattle.std.specs.FinMap as map_of
-use Rattle.nv_file.specs.declared.parts.Namespace.{Namespace}
+use Rattle.nv_file.specs.declared.namespace.Namespace.{Namespace}
 use Rattle.nv_subsystem.specs.State.{Namespaces, Nsids}
 
 -- what the slots hold, from NSID n on

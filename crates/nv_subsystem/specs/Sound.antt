@@ -2,13 +2,13 @@
 use Rattle.std.specs.Prelude.{◌≡◌, ℕ, ◌+◌, ◌<◌, ◌≤◌, List, length, Option, All}
 use Rattle.std.specs.Option.{ForSome}
 use Rattle.nv_subsystem.specs.declared.controller.Controller.{Controller}
-use Rattle.nv_file.specs.declared.parts.Format.{Format}
-use Rattle.nv_file.specs.declared.parts.Namespace.{Namespace}
+use Rattle.nv_file.specs.declared.format.Format.{Format}
+use Rattle.nv_file.specs.declared.namespace.Namespace.{Namespace}
 
 -- a place for each NSID, and room for ELPE + 1 log entries
 pub record IsSized (nn : ℕ) (x : Controller) : Type 0 where
   pub attached : length x.attached.items ≡ nn
-  pub log : x.log.most ≡ x.identity.elpe + 1
+  pub log : x.log.most ≡ x.identity.numbers.elpe + 1
 
 pub record IsSound (namespaces : List (Option Namespace)) (table : List Format) (cs : List Controller) : Type 0 where
   pub slots : length namespaces ≤ 1024

@@ -5,10 +5,10 @@ use Rattle.std.specs.FinMap as map_of
 use Rattle.std.specs.FinSet as set_of
 use Rattle.nv_file.specs.Identity.{Identity}
 use Rattle.nv_subsystem.specs.declared.error_log.LogEntry.{LogEntry}
-use Rattle.nv_file.specs.declared.parts.FeatureRule.{FeatureRule}
-use Rattle.nv_file.specs.declared.parts.Format.{Format}
-use Rattle.nv_file.specs.declared.parts.Namespace.{Namespace}
-use Rattle.nv_file.specs.declared.parts.SmartBase.{SmartBase}
+use Rattle.nv_file.specs.declared.feature_rule.FeatureRule.{FeatureRule}
+use Rattle.nv_file.specs.declared.format.Format.{Format}
+use Rattle.nv_file.specs.declared.namespace.Namespace.{Namespace}
+use Rattle.nv_file.specs.declared.smart_base.SmartBase.{SmartBase}
 
 -- what finds what by its NSID
 abbrev pub Namespaces : Type 0

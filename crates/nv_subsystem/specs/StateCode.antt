@@ -7,11 +7,12 @@ use Rattle.nv_subsystem.specs.ErrorLog.{entry_code}
 use Rattle.nv_file.specs.Identity.{Identity}
 use Rattle.nv_subsystem.specs.State.{Controller, State, Namespaces, Nsids}
 use Rattle.nv_subsystem.specs.declared.error_log.LogEntry.{LogEntry}
-use Rattle.nv_file.specs.declared.parts.Counters.{Counters}
-use Rattle.nv_file.specs.declared.parts.FeatureRule.{FeatureRule}
-use Rattle.nv_file.specs.declared.parts.Format.{Format}
-use Rattle.nv_file.specs.declared.parts.Namespace.{Namespace}
-use Rattle.nv_file.specs.declared.parts.SmartBase.{SmartBase}
+use Rattle.nv_file.specs.declared.smart_base.Counters.{Counters}
+use Rattle.nv_file.specs.declared.feature_rule.FeatureRule.{FeatureRule}
+use Rattle.nv_file.specs.declared.format.Format.{Format}
+use Rattle.nv_file.specs.declared.identity.IdentityNumbers.{IdentityNumbers}
+use Rattle.nv_file.specs.declared.namespace.Namespace.{Namespace}
+use Rattle.nv_file.specs.declared.smart_base.SmartBase.{SmartBase}
 
 abbrev pub format_code : Coded Format
 format_code = code_by (ℕ × (ℕ × ℕ))
@@ -25,11 +26,17 @@ namespace_code = code_by (ℕ × (ℕ × (Bool × Bool)))
     (λ x. (x.capacity, (x.format, (x.extended, x.shared))))
     (λ p. record { capacity = p.0; format = p.1.0; extended = p.1.1.0; shared = p.1.1.1 }) (λ _. refl)
 
+abbrev pub numbers_code : Coded IdentityNumbers
+numbers_code = code_by (ℕ × (ℕ × (ℕ × (ℕ × (ℕ × (ℕ × (ℕ × (ℕ × ℕ))))))))
+    (coded× coded_ℕ (coded× coded_ℕ (coded× coded_ℕ (coded× coded_ℕ (coded× coded_ℕ (coded× coded_ℕ (coded× coded_ℕ (coded× coded_ℕ coded_ℕ))))))))
+    (λ x. (x.vid, (x.ssvid, (x.rab, (x.ieee, (x.mdts, (x.elpe, (x.wctemp, (x.cctemp, x.vwc)))))))))
+    (λ p. record { vid = p.0; ssvid = p.1.0; rab = p.1.1.0; ieee = p.1.1.1.0; mdts = p.1.1.1.1.0; elpe = p.1.1.1.1.1.0; wctemp = p.1.1.1.1.1.1.0; cctemp = p.1.1.1.1.1.1.1.0; vwc = p.1.1.1.1.1.1.1.1 }) (λ _. refl)
+
 abbrev pub identity_code : Coded Identity
-identity_code = code_by (ℕ × (List ℕ × (List ℕ × (List ℕ × (ℕ × (ℕ × (ℕ × (ℕ × (ℕ × (ℕ × (ℕ × (ℕ × (ℕ × Bool)))))))))))))
-    (coded× coded_ℕ (coded× (coded_list coded_ℕ) (coded× (coded_list coded_ℕ) (coded× (coded_list coded_ℕ) (coded× coded_ℕ (coded× coded_ℕ (coded× coded_ℕ (coded× coded_ℕ (coded× coded_ℕ (coded× coded_ℕ (coded× coded_ℕ (coded× coded_ℕ (coded× coded_ℕ coded_bool)))))))))))))
-    (λ x. (x.cntlid, (x.sn, (x.mn, (x.fr, (x.vid, (x.ssvid, (x.rab, (x.ieee, (x.mdts, (x.elpe, (x.wctemp, (x.cctemp, (x.vwc, x.crypto_erase))))))))))))))
-    (λ p. record { cntlid = p.0; sn = p.1.0; mn = p.1.1.0; fr = p.1.1.1.0; vid = p.1.1.1.1.0; ssvid = p.1.1.1.1.1.0; rab = p.1.1.1.1.1.1.0; ieee = p.1.1.1.1.1.1.1.0; mdts = p.1.1.1.1.1.1.1.1.0; elpe = p.1.1.1.1.1.1.1.1.1.0; wctemp = p.1.1.1.1.1.1.1.1.1.1.0; cctemp = p.1.1.1.1.1.1.1.1.1.1.1.0; vwc = p.1.1.1.1.1.1.1.1.1.1.1.1.0; crypto_erase = p.1.1.1.1.1.1.1.1.1.1.1.1.1 }) (λ _. refl)
+identity_code = code_by (ℕ × (List ℕ × (List ℕ × (List ℕ × (IdentityNumbers × Bool)))))
+    (coded× coded_ℕ (coded× (coded_list coded_ℕ) (coded× (coded_list coded_ℕ) (coded× (coded_list coded_ℕ) (coded× numbers_code coded_bool)))))
+    (λ x. (x.cntlid, (x.sn, (x.mn, (x.fr, (x.numbers, x.crypto_erase))))))
+    (λ p. record { cntlid = p.0; sn = p.1.0; mn = p.1.1.0; fr = p.1.1.1.0; numbers = p.1.1.1.1.0; crypto_erase = p.1.1.1.1.1 }) (λ _. refl)
 
 abbrev pub rule_code : Coded FeatureRule
 rule_code = code_by (ℕ × (ℕ × (Bool × Bool)))

@@ -30,7 +30,7 @@ with_refusal nsid cid r x =
     let refusals = next_count x.refusals in
     record x {
       refusals = refusals;
-      log = take (x.identity.elpe + 1) (record { count = refusals; cid = cid; status = r.status; nsid = nsid; specific = r.specific } ∷ x.log);
+      log = take (x.identity.numbers.elpe + 1) (record { count = refusals; cid = cid; status = r.status; nsid = nsid; specific = r.specific } ∷ x.log);
     }
 
 -- the state after a refusal of controller c

@@ -80,8 +80,8 @@ booking_keeps nsid cid r a b fits = record {
     rules = h.rules;
     fids = h.fids;
     smart = h.smart;
-    log = length-with_refusal (x.identity.elpe + 1) x.refusals _ x.log (omega arith) (omega (arith, h.identity.numbers.elpe)) h.refusals h.log;
-    entries = all_entries (x.identity.elpe + 1) (record { count = next_count x.refusals; cid = cid; status = r.status; nsid = nsid; specific = r.specific }) x.log (record { count = next_count-le x.refusals; cid = b; status = fits.status; nsid = a; specific = omega (arith, fits.specific) }) h.entries;
+    log = length-with_refusal (x.identity.numbers.elpe + 1) x.refusals _ x.log (omega arith) (omega (arith, h.identity.numbers.elpe)) h.refusals h.log;
+    entries = all_entries (x.identity.numbers.elpe + 1) (record { count = next_count x.refusals; cid = cid; status = r.status; nsid = nsid; specific = r.specific }) x.log (record { count = next_count-le x.refusals; cid = b; status = fits.status; nsid = a; specific = omega (arith, fits.specific) }) h.entries;
     refusals = next_count-le x.refusals;
     commands = h.commands;
     attached = h.attached;

@@ -6,7 +6,7 @@ use Rattle.nv_file.specs.Ranges.{AreTopKeys, IsFeatureRule, IsFormat, IsIdentity
 use Rattle.nv_subsystem.specs.State.{Controller, Namespaces, State, greatest_count}
 use Rattle.nv_layout.specs.Status.{StatusFits}
 use Rattle.nv_subsystem.specs.declared.error_log.LogEntry.{LogEntry}
-use Rattle.nv_file.specs.declared.parts.Namespace.{Namespace}
+use Rattle.nv_file.specs.declared.namespace.Namespace.{Namespace}
 
 -- the numbers of an entry fit their fields
 pub record IsLogEntry (e : LogEntry) : Type 0 where
@@ -23,7 +23,7 @@ pub record IsController (namespaces : Namespaces) (x : Controller) : Type 0 wher
   pub rules : All IsFeatureRule x.rules
   pub fids : AllPairs (λ r q. r.fid ≢ q.fid) x.rules
   pub smart : IsSmart x.smart
-  pub log : length x.log ≡ min x.refusals (x.identity.elpe + 1)
+  pub log : length x.log ≡ min x.refusals (x.identity.numbers.elpe + 1)
   pub entries : All IsLogEntry x.log
   pub refusals : x.refusals ≤ greatest_count
   pub commands : x.commands ≤ greatest_count

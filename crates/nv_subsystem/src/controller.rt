@@ -34,7 +34,7 @@ impl Controller {
 
     /// Books a refusal as the newest entry of the error log.
     pub fn book(&mut self, origin: Origin, nsid: u32, refusal: Refusal)
-        requires { self.old.log.most ≡ self.old.identity.elpe + 1 }
+        requires { self.old.log.most ≡ self.old.identity.numbers.elpe + 1 }
         ensures refusal { controller_view self.new ≡ with_refusal nsid origin.cid refusal (controller_view self.old) }
         ensures range { origin.cid < 2 ^ 16 }
         ensures sized { (nn : ℕ) → IsSized nn self.old → IsSized nn self.new }

@@ -3,15 +3,15 @@
 ghost use Rattle.std.specs.Prelude.{◌≡◌, ◌+◌, ◌<◌, ◌≤◌, ℕ, IfOk, IfErr, map, length, All, false};
 ghost use Rattle.std.specs.List.{fold};
 ghost use Rattle.std.specs.FinMap as map_of;
-ghost use Rattle.nv_subsystem.specs.ControllerView as state_of_code;
-ghost use Rattle.nv_file.specs.FileValue.{controller_view, file_view, namespace_view};
+ghost use Rattle.nv_subsystem.specs.ControllerView.{controller_view};
+ghost use Rattle.nv_file.specs.FileValue.{controller_entry_view, file_view, namespace_entry_view};
 ghost use Rattle.nv_subsystem.specs.FromFile.{controller_of, with_attachment, with_namespace};
 ghost use Rattle.nv_subsystem.specs.Slots.{by_nsid, marked_nsids};
 ghost use Rattle.nv_subsystem.specs.Sound.{IsSized};
 
 use crate::controller::Controller;
 use crate::error_log::ErrorLog;
-use nv_file::{ControllerEntry, Namespace, NamespaceEntry, SubsystemError, stands_in};
+use nv_file::{ControllerEntry, Namespace, NamespaceEntry, SubsystemError};
 use std::alloc::Global;
 
 fn put(slots: &mut [Option<Namespace>], index: usize, namespace: Namespace)
@@ -61,7 +61,7 @@ fn empty_marks(alloc: Global, nn: usize) -> Result<Vec<bool>, SubsystemError>
 /// Puts each namespace into its slot.
 fn fill(slots: &mut [Option<Namespace>], entries: &[NamespaceEntry])
     requires { All (λ n. (1 ≤ n.nsid) × (n.nsid ≤ length slots.old)) entries.now }
-    ensures filled { by_nsid slots.new ≡ fold with_namespace (by_nsid slots.old) (map namespace_view entries.now) }
+    ensures filled { by_nsid slots.new ≡ fold with_namespace (by_nsid slots.old) (map namespace_entry_view entries.now) }
     ensures length { length slots.new ≡ length slots.old }
 {
     for entry in entries {
@@ -77,7 +77,7 @@ pub fn slots(
 ) -> Result<Vec<Option<Namespace>>, SubsystemError>
     requires { All (λ n. (1 ≤ n.nsid) × (n.nsid ≤ nn)) entries.now }
     ensures len { IfOk result (λ v. length v.items ≡ nn) }
-    ensures value { IfOk result (λ v. by_nsid v.items ≡ fold with_namespace map_of.empty (map namespace_view entries.now)) }
+    ensures value { IfOk result (λ v. by_nsid v.items ≡ fold with_namespace map_of.empty (map namespace_entry_view entries.now)) }
     ensures memory { IfErr result (λ e. e ≡ SubsystemError.Memory) }
 {
     let mut slots = empty_slots(alloc, nn)?;
@@ -88,10 +88,10 @@ pub fn slots(
 /// Marks a namespace if it is attached to the controller with this identifier.
 fn attach(marks: &mut [bool], cntlid: u16, entry: &NamespaceEntry)
     requires { (1 ≤ entry.now.nsid) × (entry.now.nsid ≤ length marks.old) }
-    ensures attached { marked_nsids marks.new ≡ with_attachment cntlid (marked_nsids marks.old) (namespace_view entry.now) }
+    ensures attached { marked_nsids marks.new ≡ with_attachment cntlid (marked_nsids marks.old) (namespace_entry_view entry.now) }
     ensures length { length marks.new ≡ length marks.old }
 {
-    if stands_in(i64::from(cntlid), &entry.controllers) {
+    if entry.is_attached_to(cntlid) {
         mark(marks, entry.nsid as usize - 1);
     }
 }
@@ -99,7 +99,7 @@ fn attach(marks: &mut [bool], cntlid: u16, entry: &NamespaceEntry)
 /// Marks each namespace that is attached to the controller with this identifier.
 fn attach_all(marks: &mut [bool], cntlid: u16, entries: &[NamespaceEntry])
     requires { All (λ n. (1 ≤ n.nsid) × (n.nsid ≤ length marks.old)) entries.now }
-    ensures attached { marked_nsids marks.new ≡ fold (with_attachment cntlid) (marked_nsids marks.old) (map namespace_view entries.now) }
+    ensures attached { marked_nsids marks.new ≡ fold (with_attachment cntlid) (marked_nsids marks.old) (map namespace_entry_view entries.now) }
     ensures length { length marks.new ≡ length marks.old }
 {
     for entry in entries {
@@ -115,11 +115,11 @@ fn controller(
     namespaces: &[NamespaceEntry],
 ) -> Result<Controller, SubsystemError>
     requires { All (λ n. (1 ≤ n.nsid) × (n.nsid ≤ nn)) namespaces.now }
-    ensures value { IfOk result (λ c. state_of_code.controller_view c ≡ controller_of (map namespace_view namespaces.now) (controller_view entry)) }
+    ensures value { IfOk result (λ c. controller_view c ≡ controller_of (map namespace_entry_view namespaces.now) (controller_entry_view entry)) }
     ensures sized { IfOk result (IsSized nn) }
     ensures memory { IfErr result (λ e. e ≡ SubsystemError.Memory) }
 {
-    let log = ErrorLog::new(alloc, u16::from(entry.identity.elpe) + 1)?;
+    let log = ErrorLog::new(alloc, u16::from(entry.identity.numbers.elpe) + 1)?;
     let mut attached = empty_marks(alloc, nn)?;
     attach_all(&mut attached, entry.identity.cntlid, namespaces);
     Ok(Controller {
@@ -141,7 +141,7 @@ pub fn controllers(
     namespaces: &[NamespaceEntry],
 ) -> Result<Vec<Controller>, SubsystemError>
     requires { All (λ n. (1 ≤ n.nsid) × (n.nsid ≤ nn)) namespaces.now }
-    ensures value { IfOk result (λ cs. map state_of_code.controller_view cs.items ≡ map (controller_of (map namespace_view namespaces.now)) (map controller_view entries.items)) }
+    ensures value { IfOk result (λ cs. map controller_view cs.items ≡ map (controller_of (map namespace_entry_view namespaces.now)) (map controller_entry_view entries.items)) }
     ensures sized { IfOk result (λ cs. All (IsSized nn) cs.items) }
     ensures memory { IfErr result (λ e. e ≡ SubsystemError.Memory) }
 {

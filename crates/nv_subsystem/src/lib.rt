@@ -12,8 +12,8 @@ mod subsystem;
 
 pub use nv_command::{Command, Refusal, Reply, StatusCode};
 pub use nv_file::{
-    Counters, DEMO, FeatureRule, Format, Identity, Key, Namespace, SmartBase, SubsystemError,
-    TableName,
+    Counters, DEMO, FeatureRule, Format, Identity, IdentityNumbers, Key, Namespace, SmartBase,
+    SubsystemError, TableName,
 };
 pub use origin::{Origin, SERIALS};
 pub use subsystem::Subsystem;

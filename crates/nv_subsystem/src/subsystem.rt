@@ -2,7 +2,7 @@
 
 ghost use Rattle.std.specs.Prelude.{◌≡◌, ◌<◌, ◌^◌, ℕ, length, option_map, IfOk, IfErr};
 ghost use Rattle.nv_subsystem.specs.Entry.{counts_of, log_entry_of, without_phase};
-ghost use Rattle.nv_file.specs.Fault.{Gives};
+ghost use Rattle.nv_file.specs.Fault.{IsUnlessMemory};
 ghost use Rattle.nv_file.specs.FileValue.{file_view};
 ghost use Rattle.nv_subsystem.specs.FromFile.{state_of, subsystem};
 ghost use Rattle.nv_file.specs.IsFile.{IsFile};
@@ -21,7 +21,7 @@ use crate::from_file::{controllers, slots};
 use crate::identify::check_list;
 use crate::origin::Origin;
 use nv_command::{Command, Refusal, Reply};
-use nv_file::{File, Format, Namespace, SubsystemError, read};
+use nv_file::{File, Format, Namespace, SubsystemError};
 use nv_layout::ErrorEntry;
 use std::alloc::Global;
 use std::marker::Model;
@@ -87,10 +87,10 @@ impl Subsystem {
     /// Reads a subsystem file: the subsystem that its tables give, or its first fault, unless memory runs out.
     #[tactic(auto, unfolding(crate::specs::FromFile::subsystem))]
     pub fn from_toml(alloc: Global, bytes: &[u8]) -> Result<Subsystem, SubsystemError>
-        ensures exact { Gives (λ s. s) result (subsystem bytes.now) }
+        ensures exact { IsUnlessMemory (λ s. s) result (subsystem bytes.now) }
         ensures well_formed { IfOk result IsWellFormed }
     {
-        let file = read(alloc, bytes)?;
+        let file = File::from_toml(alloc, bytes)?;
         let subsystem = Subsystem::from_file(alloc, file)?;
         Ok(subsystem)
     }

@@ -1,6 +1,6 @@
 use Rattle.std.specs.FinMap as map_of
 use Rattle.std.specs.List.{fold}
-use Rattle.nv_file.specs.FileValue.{controller_view, namespace_view}
+use Rattle.nv_file.specs.FileValue.{controller_entry_view, namespace_entry_view}
 use Rattle.nv_subsystem.specs.FromFile.{controller_of, with_namespace}
 use Rattle.std.proofs.Common.{ap, map, ◌∙◌}
 use Rattle.nv_subsystem.proofs.FileCode.{is_sound, nsids_within}
@@ -14,4 +14,4 @@ controllers-requires c = rw (c.deref-2.ensures.value) (nsids_within c.args.file 
 
 pub invariant_of-result : goal.invariant_of-result
 invariant_of-result c =
-    is_sound c.args.file c.in_ok-slots.slots.items c.in_ok-controllers.controllers.items c.requires c.in_ok-slots.ensures.len (c.in_ok-slots.ensures.value ∙ ap (λ t. fold with_namespace map_of.empty (map namespace_view t)) c.deref.ensures.value) (c.in_ok-controllers.ensures.value ∙ ap (λ t. map (controller_of (map namespace_view t)) (map controller_view c.args.file.controllers.items)) c.deref-2.ensures.value) c.in_ok-controllers.ensures.sized
+    is_sound c.args.file c.in_ok-slots.slots.items c.in_ok-controllers.controllers.items c.requires c.in_ok-slots.ensures.len (c.in_ok-slots.ensures.value ∙ ap (λ t. fold with_namespace map_of.empty (map namespace_entry_view t)) c.deref.ensures.value) (c.in_ok-controllers.ensures.value ∙ ap (λ t. map (controller_of (map namespace_entry_view t)) (map controller_entry_view c.args.file.controllers.items)) c.deref-2.ensures.value) c.in_ok-controllers.ensures.sized

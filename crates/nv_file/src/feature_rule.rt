@@ -1,0 +1,113 @@
+//! The features of a controller of a file.
+ghost use Rattle.std.specs.Prelude.{◌≡◌, ◌≢◌, ◌==◌, [], All, AllPairs, IfOk, false};
+ghost use Rattle.std.specs.List.{list_any};
+ghost use Rattle.toml.specs.View.{table_view};
+ghost use Rattle.nv_file.specs.Features.{is_fid, mask, is_feature_value};
+ghost use Rattle.nv_file.specs.Fault.{IsUnlessMemory};
+ghost use Rattle.nv_file.specs.Section.{readings};
+ghost use Rattle.nv_file.specs.SectionView.{tables_view};
+ghost use Rattle.nv_file.specs.Tables.{feature_of};
+ghost use Rattle.nv_file.specs.Ranges.{IsFeatureRule};
+
+use crate::error::{SubsystemError, ensure};
+use crate::key::Key;
+use crate::section::Section;
+use crate::table_name::TableName;
+use std::alloc::Global;
+use toml::Table;
+
+/// How a controller treats a feature ("Set Features command", "Feature Specific Information").
+#[derive(Clone, Copy, Debug, PartialEq, Eq)]
+pub struct FeatureRule {
+    /// The feature identifier.
+    pub fid: u8,
+    /// The value before any is set.
+    pub default: u32,
+    /// Whether a value can be saved; that of Error Recovery never can.
+    pub saveable: bool,
+    /// Whether Set Features can change the value.
+    pub changeable: bool,
+}
+
+/// Whether a number is the identifier of a feature.
+fn is_fid(fid: u8) -> bool
+    ensures { result ≡ is_fid fid }
+{
+    matches!(fid, 0x01 | 0x02 | 0x05 | 0x06 | 0x08 | 0x0a | 0x0b)
+}
+
+/// The bits that a value of a feature may have.
+fn mask(fid: u8) -> u32
+    ensures { result ≡ mask fid }
+{
+    match fid {
+        0x01 => 0xffff_ff07,
+        0x02 => 0xff,
+        0x05 => 0x1_ffff,
+        0x06 => 0x1,
+        0x08 => 0xffff,
+        0x0a => 0x1,
+        0x0b => 0x7fff,
+        _ => 0,
+    }
+}
+
+/// Whether a feature may have a value.
+fn is_feature_value(fid: u8, value: u32) -> bool
+    ensures { result ≡ is_feature_value fid value }
+{
+    value & mask(fid) == value && (fid != 0x02 || value & 0x1f == 0)
+}
+
+fn has_fid(rules: &[FeatureRule], fid: u8) -> bool
+    ensures { result ≡ list_any (λ rule. rule.fid == fid) rules.now }
+{
+    rules.iter().any(|rule| rule.fid == fid)
+}
+
+#[tactic(auto, unfolding(crate::specs::Tables::feature_of))]
+fn feature_of(before: &[FeatureRule], table: &Table) -> Result<FeatureRule, SubsystemError>
+    ensures exact { IsUnlessMemory (λ r. r) result (feature_of before.now (table_view table.now)) }
+    ensures sound { IfOk result IsFeatureRule }
+    ensures new { IfOk result (λ r. list_any (λ rule. rule.fid == r.fid) before.now ≡ false) }
+{
+    let section = Section {
+        name: TableName::Feature,
+        table,
+    };
+    let fid = section.integer(Key::Fid, 0, 255)? as u8;
+    ensure(is_fid(fid), section.out_of_range(Key::Fid))?;
+    ensure(!has_fid(before, fid), section.repeated(Key::Fid))?;
+    let default = section.integer_or(Key::Default, 0, 0, 4294967295)? as u32;
+    ensure(
+        is_feature_value(fid, default),
+        section.out_of_range(Key::Default),
+    )?;
+    let saveable = section.flag_or(Key::Saveable, false)?;
+    ensure(
+        !(saveable && fid == 0x05),
+        section.out_of_range(Key::Saveable),
+    )?;
+    let changeable = section.flag_or(Key::Changeable, true)?;
+    section.only_known()?;
+    Ok(FeatureRule {
+        fid,
+        default,
+        saveable,
+        changeable,
+    })
+}
+
+/// The features that some tables give.
+pub fn features_of(alloc: Global, tables: &[&Table]) -> Result<Vec<FeatureRule>, SubsystemError>
+    ensures exact { IsUnlessMemory (λ v. v.items) result (readings feature_of [] (tables_view tables.now)) }
+    ensures sound { IfOk result (λ v. All IsFeatureRule v.items) }
+    ensures fids { IfOk result (λ v. AllPairs (λ r s. r.fid ≢ s.fid) v.items) }
+{
+    let mut rules = Vec::new(alloc);
+    for table in tables {
+        let rule = feature_of(&rules, table)?;
+        rules.push(rule)?;
+    }
+    Ok(rules)
+}

@@ -1,0 +1,159 @@
+//! The namespaces of a file.
+ghost use Rattle.std.specs.Prelude.{◌≡◌, ◌≢◌, ◌==◌, ◌≤◌, ◌^◌, [], length, map, slice_get, All, AllPairs, IfOk, Some, false};
+ghost use Rattle.std.specs.List.{list_any};
+ghost use Rattle.std.specs.Option.{ok_or};
+ghost use Rattle.toml.specs.View.{table_view};
+ghost use Rattle.nv_file.specs.Fault.{IsUnlessMemory};
+ghost use Rattle.nv_file.specs.FileValue.{namespace_entry_view};
+ghost use Rattle.nv_file.specs.Section.{readings};
+ghost use Rattle.nv_file.specs.SectionView.{tables_view};
+ghost use Rattle.nv_file.specs.Tables.{may_extend, namespace_entry_of};
+ghost use Rattle.nv_file.specs.Ranges.{IsFormat};
+ghost use Rattle.nv_file.specs.IsFile.{IsNamespaceEntry};
+
+use crate::error::{SubsystemError, ensure};
+use crate::format::Format;
+use crate::key::Key;
+use crate::section::{GREATEST_INTEGER, Section};
+use crate::table_name::TableName;
+use std::alloc::Global;
+use toml::Table;
+
+/// A namespace, without its NSID and its attachments.
+#[derive(Clone, Copy, Debug, PartialEq, Eq)]
+pub struct Namespace {
+    /// The capacity in bytes.
+    pub capacity: u64,
+    /// The index of its format, 0 to 15.
+    pub format: u8,
+    /// Whether metadata lies at the end of each logical block.
+    pub extended: bool,
+    /// Whether more than one controller may have it attached.
+    pub shared: bool,
+}
+
+/// A namespace of a file, with the identifiers of the controllers that it is attached to.
+#[derive(Debug, Drop)]
+pub struct NamespaceEntry {
+    pub nsid: u32,
+    pub namespace: Namespace,
+    /// The identifiers of the controllers, as the file lists them.
+    pub controllers: Vec<i64>,
+}
+
+impl NamespaceEntry {
+    ghost use Rattle.nv_file.specs.FileValue.{is_attached_to};
+
+    /// Whether the list names the controller with this identifier.
+    pub fn is_attached_to(&self, cntlid: u16) -> bool
+        ensures { result ≡ is_attached_to cntlid (namespace_entry_view self.now) }
+    {
+        self.controllers
+            .iter()
+            .any(|number| *number == i64::from(cntlid))
+    }
+}
+
+fn format_at(formats: &[Format], index: u8) -> Result<Format, SubsystemError>
+    requires { All IsFormat formats.now }
+    ensures exact { IsUnlessMemory (λ f. f) result
+        (ok_or (slice_get formats.now index) (SubsystemError.Range TableName.Namespace Key.Format)) }
+    ensures sound { IfOk result IsFormat }
+    ensures at { IfOk result (λ f. slice_get formats.now index ≡ Some f) }
+{
+    match formats.get(index as usize) {
+        Some(format) => Ok(*format),
+        None => Err(SubsystemError::Range {
+            table: TableName::Namespace,
+            key: Key::Format,
+        }),
+    }
+}
+
+fn has_nsid(namespaces: &[NamespaceEntry], nsid: u32) -> bool
+    ensures { result ≡ list_any (λ n. n.nsid == nsid) namespaces.now }
+{
+    namespaces.iter().any(|namespace| namespace.nsid == nsid)
+}
+
+fn block_size(format: &Format) -> u64
+    requires { format.now.lbads ≤ 16 }
+    ensures { result ≡ 2 ^ format.now.lbads }
+{
+    1u64 << format.lbads
+}
+
+fn may_extend(mc: u8, format: &Format, extended: bool) -> bool
+    ensures { result ≡ may_extend mc format.now extended }
+{
+    !extended || (format.ms > 0 && mc & 1 == 1)
+}
+
+#[tactic(auto, using(crate::proofs::Fused::nsids), unfolding(crate::specs::Tables::namespace_entry_of))]
+fn namespace_entry_of(
+    alloc: Global,
+    nn: u32,
+    mc: u8,
+    formats: &[Format],
+    before: &[NamespaceEntry],
+    table: &Table,
+) -> Result<NamespaceEntry, SubsystemError>
+    requires { All IsFormat formats.now }
+    ensures exact { IsUnlessMemory namespace_entry_view result
+        (namespace_entry_of nn mc formats.now (map namespace_entry_view before.now) (table_view table.now)) }
+    ensures sound { IfOk result (λ n. IsNamespaceEntry nn mc formats.now (namespace_entry_view n)) }
+    ensures new { IfOk result (λ n. list_any (λ m. m.nsid == n.nsid) before.now ≡ false) }
+{
+    let section = Section {
+        name: TableName::Namespace,
+        table,
+    };
+    let nsid = section.integer(Key::Nsid, 1, nn as u64)? as u32;
+    ensure(!has_nsid(before, nsid), section.repeated(Key::Nsid))?;
+    let format = section.integer(Key::Format, 0, 15)? as u8;
+    let in_use = format_at(formats, format)?;
+    let capacity = section.integer(Key::Bytes, block_size(&in_use), GREATEST_INTEGER)?;
+    let extended = section.flag_or(Key::Extended, false)?;
+    ensure(
+        may_extend(mc, &in_use, extended),
+        section.out_of_range(Key::Extended),
+    )?;
+    let shared = section.flag_or(Key::Shared, false)?;
+    let controllers = section.integers_or_none(alloc, Key::Controllers)?;
+    section.only_known()?;
+    Ok(NamespaceEntry {
+        nsid,
+        namespace: Namespace {
+            capacity,
+            format,
+            extended,
+            shared,
+        },
+        controllers,
+    })
+}
+
+/// The namespaces that some tables give, in a subsystem with `nn`, `mc` and the formats.
+pub fn namespace_entries_of(
+    alloc: Global,
+    nn: u32,
+    mc: u8,
+    formats: &[Format],
+    tables: &[&Table],
+) -> Result<Vec<NamespaceEntry>, SubsystemError>
+    requires { All IsFormat formats.now }
+    ensures exact { IsUnlessMemory (λ v. map namespace_entry_view v.items) result
+        (readings (namespace_entry_of nn mc formats.now) [] (tables_view tables.now)) }
+    ensures count { IfOk result (λ v. length v.items ≡ length tables.now) }
+    ensures sound { IfOk result
+        (λ v. All (IsNamespaceEntry nn mc formats.now) (map namespace_entry_view v.items)) }
+    ensures nsids { IfOk result
+        (λ v. AllPairs (λ m n. m.nsid ≢ n.nsid) (map namespace_entry_view v.items)) }
+{
+    let mut namespaces = Vec::new(alloc);
+    for table in tables {
+        let namespace = namespace_entry_of(alloc, nn, mc, formats, &namespaces, table)?;
+        namespaces.push(namespace)?;
+    }
+    Ok(namespaces)
+}

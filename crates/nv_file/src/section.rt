@@ -1,0 +1,341 @@
+//! A table of the file, and the reading of one key of it.
+ghost use Rattle.std.specs.Prelude.{◌≡◌, ◌≤◌, ◌&&◌, nat_le, IfOk, IfErr, true, false, [], length, option_map, string_bytes};
+ghost use Rattle.std.specs.List.{list_all, list_any};
+ghost use Rattle.std.specs.BTreeMap.{keys};
+ghost use Rattle.std.specs.Str.{bytes_eq};
+ghost use Rattle.toml.specs.Data.{get_member, as_table, as_integer};
+ghost use Rattle.toml.specs.View.{view, items_view, table_view};
+ghost use Rattle.nv_file.specs.Names.{key_text, keys_of};
+ghost use Rattle.nv_file.specs.Fault.{IsUnlessMemory};
+ghost use Rattle.nv_file.specs.Section.{in_range, integer_in_range, integer, integer_or, flag_or, text, items_as, tables_in, tables, tables_or_none, table_or_none, integers_in, integers_or_none, readings, element, integers_in_range_or_none, only_known};
+ghost use Rattle.nv_file.specs.Ranges.{is_text};
+ghost use Rattle.nv_file.specs.SectionView.{tables_view};
+
+use crate::error::{SubsystemError, ensure};
+use crate::key::Key;
+use crate::table_name::TableName;
+use std::alloc::Global;
+use toml::{Table, Value};
+
+/// The greatest integer that a file can spell.
+pub const GREATEST_INTEGER: u64 = 9223372036854775807;
+
+/// A table of the file, with the name that a fault gives it.
+#[derive(Clone, Copy)]
+pub struct Section<'a> {
+    pub name: TableName,
+    pub table: &'a Table,
+}
+
+impl<'a> Section<'a> {
+    /// The value at a key.
+    fn find(&self, key: Key) -> Option<&'a Value>
+        ensures { option_map (λ v. view v.now) result ≡
+            get_member (key_text key) (table_view self.now.table.now) }
+    {
+        self.table.get(key.text())
+    }
+
+    fn missing(&self, key: Key) -> SubsystemError
+        ensures { result ≡ SubsystemError.Missing self.now.name key }
+    {
+        SubsystemError::Missing {
+            table: self.name,
+            key,
+        }
+    }
+
+    fn wrong_kind(&self, key: Key) -> SubsystemError
+        ensures { result ≡ SubsystemError.Kind self.now.name key }
+    {
+        SubsystemError::Kind {
+            table: self.name,
+            key,
+        }
+    }
+
+    /// The fault of a value that its key doesn't allow.
+    pub fn out_of_range(&self, key: Key) -> SubsystemError
+        ensures { result ≡ SubsystemError.Range self.now.name key }
+    {
+        SubsystemError::Range {
+            table: self.name,
+            key,
+        }
+    }
+
+    /// The fault of a value that a row before has.
+    pub fn repeated(&self, key: Key) -> SubsystemError
+        ensures { result ≡ SubsystemError.Repeated self.now.name key }
+    {
+        SubsystemError::Repeated {
+            table: self.name,
+            key,
+        }
+    }
+
+    #[tactic(auto, unfolding(crate::specs::Section::in_range))]
+    fn in_range(&self, key: Key, low: u64, high: u64, integer: i64) -> Result<u64, SubsystemError>
+        ensures exact { IsUnlessMemory (λ n. n) result (in_range self.now.name key low high integer) }
+        ensures range { IfOk result (λ n. (low ≤ n) × (n ≤ high)) }
+    {
+        if integer < 0 {
+            return Err(self.out_of_range(key));
+        }
+        let number = integer as u64;
+        if low <= number && number <= high {
+            Ok(number)
+        } else {
+            Err(self.out_of_range(key))
+        }
+    }
+
+    #[tactic(auto, unfolding(crate::specs::Section::integer_in_range))]
+    fn integer_in_range(
+        &self,
+        key: Key,
+        low: u64,
+        high: u64,
+        value: &Value,
+    ) -> Result<u64, SubsystemError>
+        ensures exact { IsUnlessMemory (λ n. n) result
+            (integer_in_range self.now.name key low high (view value.now)) }
+        ensures range { IfOk result (λ n. (low ≤ n) × (n ≤ high)) }
+    {
+        let integer = value.as_integer().ok_or(self.wrong_kind(key))?;
+        self.in_range(key, low, high, integer)
+    }
+
+    /// A required integer from `low` to `high`.
+    #[tactic(auto, unfolding(crate::specs::Section::integer))]
+    pub fn integer(&self, key: Key, low: u64, high: u64) -> Result<u64, SubsystemError>
+        ensures exact { IsUnlessMemory (λ n. n) result
+            (integer self.now.name key low high (table_view self.now.table.now)) }
+        ensures range { IfOk result (λ n. (low ≤ n) × (n ≤ high)) }
+    {
+        let value = self.find(key).ok_or(self.missing(key))?;
+        self.integer_in_range(key, low, high, value)
+    }
+
+    /// An optional integer from `low` to `high`.
+    #[tactic(auto, unfolding(crate::specs::Section::integer_or))]
+    pub fn integer_or(
+        &self,
+        key: Key,
+        default: u64,
+        low: u64,
+        high: u64,
+    ) -> Result<u64, SubsystemError>
+        requires low_default { low ≤ default }
+        requires high_default { default ≤ high }
+        ensures exact { IsUnlessMemory (λ n. n) result
+            (integer_or self.now.name key default low high (table_view self.now.table.now)) }
+        ensures range { IfOk result (λ n. (low ≤ n) × (n ≤ high)) }
+    {
+        match self.find(key) {
+            Some(value) => self.integer_in_range(key, low, high, value),
+            None => Ok(default),
+        }
+    }
+
+    /// An optional true or false.
+    #[tactic(auto, unfolding(crate::specs::Section::flag_or))]
+    pub fn flag_or(&self, key: Key, default: bool) -> Result<bool, SubsystemError>
+        ensures { IsUnlessMemory (λ b. b) result
+            (flag_or self.now.name key default (table_view self.now.table.now)) }
+    {
+        match self.find(key) {
+            Some(value) => value.as_bool().ok_or(self.wrong_kind(key)),
+            None => Ok(default),
+        }
+    }
+
+    /// A required text of 1 to `most` bytes.
+    #[tactic(auto, unfolding(crate::specs::Section::text))]
+    pub fn text(&self, alloc: Global, key: Key, most: usize) -> Result<String, SubsystemError>
+        ensures exact { IsUnlessMemory string_bytes result
+            (text self.now.name key most (table_view self.now.table.now)) }
+        ensures sound { IfOk result (λ s. is_text most (string_bytes s) ≡ true) }
+    {
+        let value = self.find(key).ok_or(self.missing(key))?;
+        let found = value.as_str().ok_or(self.wrong_kind(key))?;
+        if is_text(most, found) {
+            Ok(String::from_str(alloc, found)?)
+        } else {
+            Err(self.out_of_range(key))
+        }
+    }
+
+    #[tactic(auto, unfolding(crate::specs::Section::tables_in))]
+    fn tables_in(
+        &self,
+        alloc: Global,
+        key: Key,
+        value: &'a Value,
+    ) -> Result<Vec<&'a Table>, SubsystemError>
+        ensures { IsUnlessMemory (λ v. tables_view v.items) result
+            (tables_in self.now.name key (view value.now)) }
+    {
+        let values: &[Value] = value.as_array().ok_or(self.wrong_kind(key))?;
+        let mut tables = Vec::new(alloc);
+        for item in values {
+            tables.push(item.as_table().ok_or(self.wrong_kind(key))?)?;
+        }
+        Ok(tables)
+    }
+
+    /// A required list of 1 to `most` tables.
+    #[tactic(auto, unfolding(crate::specs::Section::tables))]
+    pub fn tables(
+        &self,
+        alloc: Global,
+        key: Key,
+        most: usize,
+    ) -> Result<Vec<&'a Table>, SubsystemError>
+        ensures exact { IsUnlessMemory (λ v. tables_view v.items) result
+            (tables self.now.name key most (table_view self.now.table.now)) }
+        ensures count { IfOk result (λ v. (1 ≤ length v.items) × (length v.items ≤ most)) }
+    {
+        let value = self.find(key).ok_or(self.missing(key))?;
+        let tables = self.tables_in(alloc, key, value)?;
+        if 1 <= tables.len() && tables.len() <= most {
+            Ok(tables)
+        } else {
+            Err(self.out_of_range(key))
+        }
+    }
+
+    /// An optional list of tables, of any length.
+    #[tactic(auto, unfolding(crate::specs::Section::tables_or_none))]
+    pub fn tables_or_none(&self, alloc: Global, key: Key) -> Result<Vec<&'a Table>, SubsystemError>
+        ensures { IsUnlessMemory (λ v. tables_view v.items) result
+            (tables_or_none self.now.name key (table_view self.now.table.now)) }
+    {
+        match self.find(key) {
+            Some(value) => self.tables_in(alloc, key, value),
+            None => Ok(Vec::new(alloc)),
+        }
+    }
+
+    /// An optional table.
+    #[tactic(auto, unfolding(crate::specs::Section::table_or_none))]
+    pub fn table_or_none(&self, key: Key) -> Result<Option<&'a Table>, SubsystemError>
+        ensures { IsUnlessMemory (λ o. option_map (λ t. table_view t.now) o) result
+            (table_or_none self.now.name key (table_view self.now.table.now)) }
+    {
+        match self.find(key) {
+            Some(value) => match value.as_table() {
+                Some(table) => Ok(Some(table)),
+                None => Err(self.wrong_kind(key)),
+            },
+            None => Ok(None),
+        }
+    }
+
+    #[tactic(auto, unfolding(crate::specs::Section::integers_in))]
+    fn integers_in(
+        &self,
+        alloc: Global,
+        key: Key,
+        value: &Value,
+    ) -> Result<Vec<i64>, SubsystemError>
+        ensures { IsUnlessMemory (λ v. v.items) result
+            (integers_in self.now.name key (view value.now)) }
+    {
+        let values: &[Value] = value.as_array().ok_or(self.wrong_kind(key))?;
+        let mut integers = Vec::new(alloc);
+        for item in values {
+            integers.push(item.as_integer().ok_or(self.wrong_kind(key))?)?;
+        }
+        Ok(integers)
+    }
+
+    /// An optional list of integers, of any size.
+    #[tactic(auto, unfolding(crate::specs::Section::integers_or_none))]
+    pub fn integers_or_none(&self, alloc: Global, key: Key) -> Result<Vec<i64>, SubsystemError>
+        ensures { IsUnlessMemory (λ v. v.items) result
+            (integers_or_none self.now.name key (table_view self.now.table.now)) }
+    {
+        match self.find(key) {
+            Some(value) => self.integers_in(alloc, key, value),
+            None => Ok(Vec::new(alloc)),
+        }
+    }
+
+    #[tactic(auto, unfolding(crate::specs::Section::element))]
+    fn each_in_range(
+        &self,
+        alloc: Global,
+        key: Key,
+        high: u16,
+        integers: &[i64],
+    ) -> Result<Vec<u16>, SubsystemError>
+        ensures { IsUnlessMemory (λ v. v.items) result
+            (readings (element self.now.name key high) [] integers.now) }
+    {
+        let mut numbers = Vec::new(alloc);
+        for integer in integers {
+            let number = self.in_range(key, 0, high as u64, *integer)?;
+            numbers.push(number as u16)?;
+        }
+        Ok(numbers)
+    }
+
+    /// An optional list of at most `most` integers from 0 to `high`.
+    #[tactic(auto, unfolding(crate::specs::Section::integers_in_range_or_none))]
+    pub fn integers_in_range_or_none(
+        &self,
+        alloc: Global,
+        key: Key,
+        most: usize,
+        high: u16,
+    ) -> Result<Vec<u16>, SubsystemError>
+        ensures { IsUnlessMemory (λ v. v.items) result
+            (integers_in_range_or_none self.now.name key most high (table_view self.now.table.now)) }
+    {
+        let integers = self.integers_or_none(alloc, key)?;
+        ensure(integers.len() <= most, self.out_of_range(key))?;
+        self.each_in_range(alloc, key, high, &integers)
+    }
+
+    /// That the table has no other keys than those of its name.
+    pub fn only_known(&self) -> Result<(), SubsystemError>
+        ensures { result ≡ only_known self.now.name (table_view self.now.table.now) }
+    {
+        let unknown = SubsystemError::Unknown { table: self.name };
+        ensure(has_only(self.name.keys(), self.table), unknown)
+    }
+}
+
+/// Whether each byte is printable ASCII.
+fn is_printable(bytes: &[u8]) -> bool
+    ensures { result ≡ list_all (λ b. nat_le 32 b && nat_le b 126) bytes.now }
+{
+    bytes.iter().all(|byte| 0x20 <= *byte && *byte <= 0x7e)
+}
+
+/// Whether a text is printable ASCII with no space at its end, and has 1 to `most` bytes.
+fn is_text(most: usize, text: &str) -> bool
+    ensures { result ≡ is_text most text.now }
+{
+    let bytes = text.as_bytes();
+    if bytes.is_empty() || bytes.len() > most || !is_printable(bytes) {
+        return false;
+    }
+    bytes[bytes.len() - 1] != b' '
+}
+
+/// Whether a key is one of the known ones.
+fn is_known(known: &[Key], key: &str) -> bool
+    ensures { result ≡ list_any (λ x. bytes_eq (key_text x) key.now) known.now }
+{
+    known.iter().any(|name| name.text() == key)
+}
+
+/// Whether each key of a table is a known one.
+fn has_only(known: &[Key], table: &Table) -> bool
+    ensures { result ≡
+        list_all (λ k. list_any (λ x. bytes_eq (key_text x) (string_bytes k)) known.now) (keys table.now) }
+{
+    table.keys().all(|key| is_known(known, key.as_str()))
+}

@@ -1,0 +1,177 @@
+//! The health log of a controller of a file.
+ghost use Rattle.std.specs.Prelude.{◌≡◌, ◌≤◌, All, IfOk, option_map, slice_index};
+ghost use Rattle.toml.specs.View.{table_view};
+ghost use Rattle.nv_file.specs.Fault.{IsUnlessMemory};
+ghost use Rattle.nv_file.specs.Tables.{counters_of, eight, smart_of, zero_smart, smart_or_zero};
+ghost use Rattle.nv_file.specs.Ranges.{IsCounters, IsSmart};
+
+use crate::error::SubsystemError;
+use crate::key::Key;
+use crate::section::{GREATEST_INTEGER, Section};
+use crate::table_name::TableName;
+use std::alloc::Global;
+use toml::Table;
+
+/// The counters of the health log that the file gives ("SMART / Health Information").
+#[derive(Clone, Copy, Debug, PartialEq, Eq)]
+pub struct Counters {
+    /// Thousands of 512 bytes that hosts read.
+    pub data_units_read: u64,
+    /// Thousands of 512 bytes that hosts wrote.
+    pub data_units_written: u64,
+    pub host_read_commands: u64,
+    pub host_write_commands: u64,
+    /// In minutes.
+    pub controller_busy_time: u64,
+    pub power_cycles: u64,
+    pub power_on_hours: u64,
+    pub unsafe_shutdowns: u64,
+    pub media_errors: u64,
+}
+
+/// What the file gives of the health log ("SMART / Health Information").
+#[derive(Clone, Copy, Debug, PartialEq, Eq)]
+pub struct SmartBase {
+    /// The bits of the warnings.
+    pub critical_warning: u8,
+    /// The composite temperature in Kelvin.
+    pub temperature: u16,
+    /// In percent.
+    pub avail_spare: u8,
+    /// In percent.
+    pub spare_thresh: u8,
+    /// In percent; it may pass 100.
+    pub percent_used: u8,
+    pub counters: Counters,
+    /// Minutes at a warning temperature.
+    pub warning_temp_time: u32,
+    /// Minutes at a critical temperature.
+    pub critical_comp_time: u32,
+    /// The temperature sensors in Kelvin; 0 is a sensor that isn't there.
+    pub sensors: [u16; 8],
+}
+
+#[tactic(auto, unfolding(crate::specs::Tables::counters_of))]
+fn counters_of(table: &Table) -> Result<Counters, SubsystemError>
+    ensures exact { IsUnlessMemory (λ c. c) result (counters_of (table_view table.now)) }
+    ensures sound { IfOk result IsCounters }
+{
+    let section = Section {
+        name: TableName::Smart,
+        table,
+    };
+    let data_units_read = section.integer_or(Key::DataUnitsRead, 0, 0, GREATEST_INTEGER)?;
+    let data_units_written = section.integer_or(Key::DataUnitsWritten, 0, 0, GREATEST_INTEGER)?;
+    let host_read_commands = section.integer_or(Key::HostReadCommands, 0, 0, GREATEST_INTEGER)?;
+    let host_write_commands = section.integer_or(Key::HostWriteCommands, 0, 0, GREATEST_INTEGER)?;
+    let controller_busy_time = section.integer_or(Key::ControllerBusyTime, 0, 0, GREATEST_INTEGER)?;
+    let power_cycles = section.integer_or(Key::PowerCycles, 0, 0, GREATEST_INTEGER)?;
+    let power_on_hours = section.integer_or(Key::PowerOnHours, 0, 0, GREATEST_INTEGER)?;
+    let unsafe_shutdowns = section.integer_or(Key::UnsafeShutdowns, 0, 0, GREATEST_INTEGER)?;
+    let media_errors = section.integer_or(Key::MediaErrors, 0, 0, GREATEST_INTEGER)?;
+    Ok(Counters {
+        data_units_read,
+        data_units_written,
+        host_read_commands,
+        host_write_commands,
+        controller_busy_time,
+        power_cycles,
+        power_on_hours,
+        unsafe_shutdowns,
+        media_errors,
+    })
+}
+
+/// The number at an index, or 0 where the list ends before it.
+fn number_at(numbers: &[u16], index: usize) -> u16
+    ensures { result ≡ slice_index numbers.now index }
+{
+    numbers.get(index).copied().unwrap_or(0)
+}
+
+fn eight(numbers: &[u16]) -> [u16; 8]
+    ensures exact { result ≡ eight numbers.now }
+    ensures range { All (λ n. n ≤ 65535) result }
+{
+    [
+        number_at(numbers, 0),
+        number_at(numbers, 1),
+        number_at(numbers, 2),
+        number_at(numbers, 3),
+        number_at(numbers, 4),
+        number_at(numbers, 5),
+        number_at(numbers, 6),
+        number_at(numbers, 7),
+    ]
+}
+
+#[tactic(auto, unfolding(crate::specs::Tables::smart_of))]
+fn smart_of(alloc: Global, table: &Table) -> Result<SmartBase, SubsystemError>
+    ensures exact { IsUnlessMemory (λ s. s) result (smart_of (table_view table.now)) }
+    ensures sound { IfOk result IsSmart }
+{
+    let section = Section {
+        name: TableName::Smart,
+        table,
+    };
+    let critical_warning = section.integer_or(Key::CriticalWarning, 0, 0, 255)? as u8;
+    let avail_spare = section.integer_or(Key::AvailSpare, 0, 0, 255)? as u8;
+    let spare_thresh = section.integer_or(Key::SpareThresh, 0, 0, 255)? as u8;
+    let percent_used = section.integer_or(Key::PercentUsed, 0, 0, 255)? as u8;
+    let temperature = section.integer_or(Key::Temperature, 0, 0, 65535)? as u16;
+    let counters = counters_of(table)?;
+    let warning_temp_time = section.integer_or(Key::WarningTempTime, 0, 0, 4294967295)? as u32;
+    let critical_comp_time = section.integer_or(Key::CriticalCompTime, 0, 0, 4294967295)? as u32;
+    let sensors = section.integers_in_range_or_none(alloc, Key::Sensors, 8, 65535)?;
+    section.only_known()?;
+    Ok(SmartBase {
+        critical_warning,
+        temperature,
+        avail_spare,
+        spare_thresh,
+        percent_used,
+        counters,
+        warning_temp_time,
+        critical_comp_time,
+        sensors: eight(&sensors),
+    })
+}
+
+fn zero_smart() -> SmartBase
+    ensures exact { result ≡ zero_smart }
+    ensures sound { IsSmart result }
+{
+    SmartBase {
+        critical_warning: 0,
+        temperature: 0,
+        avail_spare: 0,
+        spare_thresh: 0,
+        percent_used: 0,
+        counters: Counters {
+            data_units_read: 0,
+            data_units_written: 0,
+            host_read_commands: 0,
+            host_write_commands: 0,
+            controller_busy_time: 0,
+            power_cycles: 0,
+            power_on_hours: 0,
+            unsafe_shutdowns: 0,
+            media_errors: 0,
+        },
+        warning_temp_time: 0,
+        critical_comp_time: 0,
+        sensors: [0; 8],
+    }
+}
+
+/// The health log that a table gives, or all zeros where there is none.
+pub fn smart_or_zero(alloc: Global, table: Option<&Table>) -> Result<SmartBase, SubsystemError>
+    ensures exact { IsUnlessMemory (λ s. s) result
+        (smart_or_zero (option_map (λ t. table_view t.now) table.entry)) }
+    ensures sound { IfOk result IsSmart }
+{
+    match table {
+        Some(table) => smart_of(alloc, table),
+        None => Ok(zero_smart()),
+    }
+}

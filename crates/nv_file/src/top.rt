@@ -1,0 +1,60 @@
+//! The top table of a file.
+ghost use Rattle.std.specs.Prelude.{◌≡◌, IfOk};
+ghost use Rattle.toml.specs.View.{table_view};
+ghost use Rattle.nv_file.specs.Fault.{IsUnlessMemory};
+ghost use Rattle.nv_file.specs.File.{top_of};
+ghost use Rattle.nv_file.specs.TopView.{top_view};
+ghost use Rattle.nv_file.specs.IsFile.{IsTop};
+
+use crate::error::{SubsystemError, ensure};
+use crate::key::Key;
+use crate::section::{GREATEST_INTEGER, Section};
+use crate::table_name::TableName;
+use std::alloc::Global;
+use toml::Table;
+
+/// What the top table holds, before the tables in it are read.
+#[derive(Drop)]
+pub struct Top<'a> {
+    pub nn: u32,
+    pub tnvmcap: u64,
+    pub mc: u8,
+    pub subnqn: String,
+    pub formats: Vec<&'a Table>,
+    pub controllers: Vec<&'a Table>,
+    pub namespaces: Vec<&'a Table>,
+}
+
+/// What the top table holds.
+#[tactic(auto, unfolding(crate::specs::File::top_of))]
+pub fn top_of<'a>(alloc: Global, table: &'a Table) -> Result<Top<'a>, SubsystemError>
+    ensures exact { IsUnlessMemory top_view result (top_of (table_view table.now)) }
+    ensures sound { IfOk result (λ t. IsTop (top_view t)) }
+{
+    let section = Section {
+        name: TableName::Top,
+        table,
+    };
+    section.integer(Key::Version, 1, 1)?;
+    let nn = section.integer(Key::Nn, 1, 1024)? as u32;
+    let tnvmcap = section.integer(Key::Tnvmcap, 0, GREATEST_INTEGER)?;
+    let mc = section.integer_or(Key::Mc, 0, 0, 3)? as u8;
+    let subnqn = section.text(alloc, Key::Subnqn, 223)?;
+    let formats = section.tables(alloc, Key::Format, 16)?;
+    let controllers = section.tables(alloc, Key::Controller, 16)?;
+    let namespaces = section.tables_or_none(alloc, Key::Namespace)?;
+    ensure(
+        namespaces.len() <= nn as usize,
+        section.out_of_range(Key::Namespace),
+    )?;
+    section.only_known()?;
+    Ok(Top {
+        nn,
+        tnvmcap,
+        mc,
+        subnqn,
+        formats,
+        controllers,
+        namespaces,
+    })
+}
