@@ -1,5 +1,5 @@
 -- The numbers of places in a ring.
-use Rattle.std.proofs.Common.{◌≡◌, ℕ, ◌+◌, ◌-◌, ◌*◌, ◌<◌, ◌≤◌, Bool, true, false, not, sym, arith}
+use Rattle.std.proofs.Common.{◌≡◌, ℕ, ◌+◌, ◌-◌, ◌*◌, ◌<◌, ◌≤◌, Bool, true, false, not, arith}
 use Rattle.nv_queue.specs.Numbers.{above, ahead, first_in_slot, next, number_of, phase_of, slot_of}
 use Rattle.nv_queue.specs.NumberLaws.{ahead_cases, ahead_slot, next_cases, phase_high, phase_low}
 use Rattle.nv_queue.specs.NumberLaws.{slot_high, slot_low}

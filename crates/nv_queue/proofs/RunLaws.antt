@@ -11,7 +11,7 @@ use Rattle.nv_layout.specs.declared.cqe.Cqe.{Cqe}
 use Rattle.nv_queue.specs.Numbers.{IsDepth, kept_number}
 use Rattle.nv_queue.specs.KeptLaws.{above_kept, between_kept, first_kept, kept_next, kept_zero}
 use Rattle.nv_queue.specs.Rings.{IsPostFull}
-use Rattle.nv_queue.specs.Slots.{HoldsPosted, IsAwaitedThere, awaited_completion, completion_at}
+use Rattle.nv_queue.specs.Slots.{HoldsPosted, IsAwaitedThere, awaited_completion}
 use Rattle.nv_queue.specs.Slots.{put_as, with_completion}
 use Rattle.nv_queue.specs.SlotLaws.{awaited_posted, awaited_stands, holds_one_more}
 use Rattle.nv_queue.specs.SlotLaws.{length-with_completion}

@@ -20,7 +20,7 @@ use Rattle.nv_layout.proofs.RecordLaws.{sqe_back}
 use Rattle.nv_queue.specs.Numbers.{kept_number, phase_of, slot_of}
 use Rattle.nv_queue.specs.NumberLaws.{phase_low, slot_low}
 use Rattle.nv_queue.specs.KeptLaws.{phase_again, phase_kept, slot_again, slot_kept, slots_apart}
-use Rattle.nv_queue.specs.Rings.{CollectNumbers, PostNumbers, SubmitNumbers}
+use Rattle.nv_queue.specs.Rings.{CollectNumbers, IsCollectRing, PostNumbers, SubmitNumbers}
 use Rattle.nv_queue.specs.Slots.{CollectsPosted, HoldsOneMore, HoldsPosted, IsAwaitedThere}
 use Rattle.nv_queue.specs.Slots.{WritesCompletion, WritesSubmission, awaited_completion}
 use Rattle.nv_queue.specs.Slots.{completion_at}
@@ -243,14 +243,16 @@ awaited_stands bytes ring posted k other p number l h holds =
     let slot = ap (slot_of ring.depth) number ∙ slot_kept ring.depth k in
     ap (completion_at bytes ring.base) slot ∙ holds.standing k other l h
 
-pub collects_posted : (bytes : List ℕ) (ring : CollectNumbers) (r : Option Cqe) → 1 < ring.depth
+pub collects_posted : (bytes : List ℕ) (ring : CollectNumbers) (r : Option Cqe) → IsCollectRing ring
     → (IsSome r ↔ IsAwaitedThere bytes ring) → IfSome r (λ c. c ≡ awaited_completion bytes ring)
     → CollectsPosted bytes ring r
-collects_posted bytes ring None p awaited value posted k number l h holds =
-    let there = awaited_posted bytes ring posted k p number l h holds in
+collects_posted bytes ring None is awaited value posted k number l h holds =
+    let deep = is.deep in
+    let there = awaited_posted bytes ring posted k deep.0 number l h holds in
     (((λ e. cc), (λ below. awaited.1 (there.1 below))), tt)
-collects_posted bytes ring (Some c) p awaited value posted k number l h holds =
-    let there = awaited_posted bytes ring posted k p number l h holds in
+collects_posted bytes ring (Some c) is awaited value posted k number l h holds =
+    let deep = is.deep in
+    let there = awaited_posted bytes ring posted k deep.0 number l h holds in
     let below = there.0 (awaited.0 refl) in
-    let stands = awaited_stands bytes ring posted k c p number below h holds in
+    let stands = awaited_stands bytes ring posted k c deep.0 number below h holds in
     (((λ e. below), (λ b. refl)), value ∙ stands)

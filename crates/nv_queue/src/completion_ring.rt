@@ -73,6 +73,7 @@ impl CompletionRing {
 
     /// Collects the awaited completion. It was posted exactly where its slot has the phase tag of
     /// its number. Section "Completion Queue Entry". All slots lie in the memory.
+    #[tactic(auto, using(crate::specs::TagLaws::finds_by_tags))]
     pub fn poll<M: HostMemory>(&mut self, mem: &M) -> Option<Cqe>
         requires { self.old.base + 16 * self.old.depth ≤ length (M.bytes mem.now) }
         ensures awaited { IsSome result ↔ IsAwaitedThere (M.bytes mem.now) self.old }
