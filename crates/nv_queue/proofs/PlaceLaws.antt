@@ -1,7 +1,9 @@
 -- The numbers of places in a ring.
-use Rattle.std.proofs.Common.{◌≡◌, ℕ, ◌+◌, ◌-◌, ◌*◌, ◌<◌, ◌≤◌, Bool, true, false, not, sym, arith}
+use Rattle.std.proofs.Common.{◌≡◌, ℕ, ◌+◌, ◌-◌, ◌*◌, ◌<◌, ◌≤◌, Bool, true, false, not, arith}
 use Rattle.nv_queue.specs.Numbers.{above, ahead, first_in_slot, next, number_of, phase_of, slot_of}
-use Rattle.nv_queue.specs.NumberLaws.{ahead_cases, ahead_slot, next_cases, phase_high, phase_low, slot_high, slot_low}
+use Rattle.nv_queue.specs.NumberLaws.{ahead_cases, ahead_slot, next_cases, phase_high, phase_low}
+use Rattle.nv_queue.specs.NumberLaws.{slot_high, slot_low}
+use Rattle.nv_queue.specs.NumberLaws.{within_filled, within_freed, within_more, within_taken}
 
 pub number_below : (d s : ℕ) (b : Bool) → s < d → number_of d s b < 2 * d
 number_below d s true h = omega arith
@@ -45,9 +47,20 @@ first_before d s t false h l = grind (arith, ahead_cases d s t (omega arith) (om
 -- how far ahead the slot of a number less than a depth above is
 pub ahead_place : (d s k : ℕ) (b : Bool) → s < d → k < 2 * d → above d (number_of d s b) k < d
     → ahead d k s ≡ above d (number_of d s b) k
-ahead_place d s k b h i f = rw slot_number_of at (ahead_slot d (number_of d s b) k (number_below d s b h) i f)
+ahead_place d s k b h i f =
+    rw slot_number_of at (ahead_slot d (number_of d s b) k (number_below d s b h) i f)
 
 -- ---- for the attributes of src/
 
 -- the slot and the phase of a place's number
 pub ruleset places = (slot_number_of, phase_number_of, number_below)
+
+-- the place of the next number, the way to a slot, and the first place in it
+pub ruleset steps = (step_wraps, step_stays)
+
+pub ruleset ways = (ahead_behind, ahead_before)
+
+pub ruleset firsts = (first_behind, first_before)
+
+-- rings whose places moved
+pub ruleset rings = (places, within_more, within_taken, within_freed, within_filled)

@@ -1,6 +1,8 @@
 -- Every run over a completion ring is in order.
-use Rattle.std.proofs.Common.{◌≡◌, ◌↔◌, ℕ, ◌+◌, ◌-◌, ◌*◌, ◌<◌, ◌≤◌, inl, inr, Bool, false, true, List, [], ◌∷◌, ◌++◌}
-use Rattle.std.proofs.Common.{length, get_or, refl, sym, ap, subst, ◌∙◌, arith, append_assoc, length-append}
+use Rattle.std.proofs.Common.{◌≡◌, ◌↔◌, ℕ, ◌+◌, ◌-◌, ◌*◌, ◌<◌, ◌≤◌, inl, inr, Bool, false, true}
+use Rattle.std.proofs.Common.{List, [], ◌∷◌, ◌++◌}
+use Rattle.std.proofs.Common.{length, get_or, refl, sym, ap, subst, ◌∙◌, arith, append_assoc}
+use Rattle.std.proofs.Common.{length-append}
 use Rattle.std.proofs.lemmas.Bool.{cases_lt}
 use Rattle.std.proofs.lemmas.List.{length_push}
 use Rattle.std.proofs.Math.Seq.{get_or-append_seam}
@@ -9,9 +11,12 @@ use Rattle.nv_layout.specs.declared.cqe.Cqe.{Cqe}
 use Rattle.nv_queue.specs.Numbers.{IsDepth, kept_number}
 use Rattle.nv_queue.specs.KeptLaws.{above_kept, between_kept, first_kept, kept_next, kept_zero}
 use Rattle.nv_queue.specs.Rings.{IsPostFull}
-use Rattle.nv_queue.specs.Slots.{HoldsPosted, IsAwaitedThere, awaited_completion, completion_at, put_as, with_completion}
-use Rattle.nv_queue.specs.SlotLaws.{awaited_posted, awaited_stands, holds_one_more, length-with_completion}
-use Rattle.nv_queue.specs.Runs.{EveryRunIsInOrder, Event, Exchange, Happens, IsHeadTaken, IsInOrder, IsNew, Poll, Put, Runs, Tell}
+use Rattle.nv_queue.specs.Slots.{HoldsPosted, IsAwaitedThere, awaited_completion}
+use Rattle.nv_queue.specs.Slots.{put_as, with_completion}
+use Rattle.nv_queue.specs.SlotLaws.{awaited_posted, awaited_stands, holds_one_more}
+use Rattle.nv_queue.specs.SlotLaws.{length-with_completion}
+use Rattle.nv_queue.specs.Runs.{EveryRunIsInOrder, Event, Exchange, Happens, IsHeadTaken, IsInOrder}
+use Rattle.nv_queue.specs.Runs.{IsNew, Poll, Put, Runs, Tell}
 use Rattle.nv_queue.specs.Runs.{with_head, with_polled, with_put, with_told}
 
 -- a moment of a run: `rest` was not polled yet, and the device was told of `known`
@@ -55,7 +60,8 @@ record Keeps (base d : ℕ) (m : Moment) : Type 0 where
 abbrev IsReached : ℕ → ℕ → Exchange → Type 0
 IsReached base d x = (m : Moment) × Keeps base d m × (x ≡ exchange_of base d m)
 
-counted : (base d : ℕ) (m : Moment) → Keeps base d m → length m.polled + length m.rest ≡ length m.posted
+counted : (base d : ℕ) (m : Moment) → Keeps base d m
+    → length m.polled + length m.rest ≡ length m.posted
 counted base d m keeps = sym (length-append m.polled m.rest) ∙ ap length keeps.prefix
 
 -- ---- each event
@@ -72,9 +78,12 @@ after_put base d m c keeps fits free =
     let room : n + 1 < m.known + d =
     elim (cases_lt (n + 1) (m.known + d)) [
       | inl l ↦ l
-      | inr g ↦ absurd (free (above_kept d n m.known (d - 1) (omega arith) (omega (arith, keeps.few)) (omega arith)))
+      | inr g ↦
+          let last : n ≡ m.known + (d - 1) = omega (arith, keeps.few) in
+          absurd (free (above_kept d n m.known (d - 1) (omega arith) last (omega arith)))
     ] in
-    let at : ℕ → Exchange = λ k. record (with_put x c) { device = record x.device { posted = k } } in (
+    let y = with_put x c in
+    let at : ℕ → Exchange = λ k. record y { device = record x.device { posted = k } } in (
       record m {
         bytes = with_completion m.bytes x.device c;
         posted = m.posted ++ new ∷ [];
@@ -85,7 +94,8 @@ after_put base d m c keeps fits free =
         inside = omega (arith, same, keeps.inside);
         holds = holds_one_more m.bytes (with_completion m.bytes x.device c) x.device c deep.0 refl
             m.posted refl keeps.inside fits keeps.holds;
-        prefix = sym (append_assoc m.polled m.rest (new ∷ [])) ∙ ap (λ l. l ++ new ∷ []) keeps.prefix;
+        prefix = sym (append_assoc m.polled m.rest (new ∷ []))
+            ∙ ap (λ l. l ++ new ∷ []) keeps.prefix;
         told = keeps.told;
         few = omega (arith, more, room);
       },
@@ -102,7 +112,8 @@ found base d m keeps =
     (omega arith) (omega (arith, keeps.few, keeps.told)) keeps.holds
 
 after_poll : (base d : ℕ) (m : Moment) (rest : List Cqe) → m.rest ≡ rest → Keeps base d m
-    → IsAwaitedThere m.bytes (exchange_of base d m).host → IsReached base d (with_polled (exchange_of base d m))
+    → IsAwaitedThere m.bytes (exchange_of base d m).host
+    → IsReached base d (with_polled (exchange_of base d m))
 after_poll base d m [] none keeps there =
     let l = (found base d m keeps).0 there in
     let count = counted base d m keeps in
@@ -114,17 +125,21 @@ after_poll base d m (r ∷ left) first keeps there =
     let c = awaited_completion m.bytes x.host in
     let more = length_push m.polled c in
     let deep = keeps.deep in
-    let prefix : m.polled ++ (r ∷ left) ≡ m.posted = ap (λ rest. m.polled ++ rest) (sym first) ∙ keeps.prefix in
-    let stands : c ≡ get_or m.posted k r =
-    awaited_stands m.bytes x.host m.posted k r deep.0 refl l (omega (arith, keeps.few, keeps.told)) keeps.holds in
-    let is : c ≡ r = stands ∙ (ap (λ xs. get_or xs k r) (sym prefix) ∙ get_or-append_seam m.polled r left r) in
-    let at : ℕ → Exchange = λ j. record (with_polled x) { host = record x.host { collected = j; untold = true } } in (
+    let prefix : m.polled ++ (r ∷ left) ≡ m.posted =
+    ap (λ rest. m.polled ++ rest) (sym first) ∙ keeps.prefix in
+    let near : length m.posted ≤ k + d = omega (arith, keeps.few, keeps.told) in
+    let stands = awaited_stands m.bytes x.host m.posted k r deep.0 refl l near keeps.holds in
+    let seam = get_or-append_seam m.polled r left r in
+    let is : c ≡ r = stands ∙ (ap (λ xs. get_or xs k r) (sym prefix) ∙ seam) in
+    let y = with_polled x in
+    let at : ℕ → Exchange = λ j. record y { host = record y.host { collected = j } } in (
       record m { polled = m.polled ++ c ∷ []; rest = left; untold = true },
       record {
         deep = deep;
         inside = keeps.inside;
         holds = keeps.holds;
-        prefix = append_assoc m.polled (c ∷ []) left ∙ (ap (λ y. m.polled ++ (y ∷ left)) is ∙ prefix);
+        prefix = append_assoc m.polled (c ∷ []) left
+            ∙ (ap (λ y. m.polled ++ (y ∷ left)) is ∙ prefix);
         told = omega (arith, more, keeps.told);
         few = keeps.few;
       },
@@ -169,14 +184,17 @@ along base d x y e is = (is.0, is.1, e ∙ is.2)
 moment_keeps : (base d : ℕ) (m : Moment) (event : Event) (y : Exchange) → Keeps base d m
     → Happens event (exchange_of base d m) y → IsReached base d y
 moment_keeps base d m (Put c) y keeps (fits, inl w) = (m, keeps, w.1)
-moment_keeps base d m (Put c) y keeps (fits, inr w) = along base d _ y w.1 (after_put base d m c keeps fits w.0)
-moment_keeps base d m Poll y keeps (inl w) = along base d _ y w.1 (after_poll base d m m.rest refl keeps w.0)
+moment_keeps base d m (Put c) y keeps (fits, inr w) =
+    along base d _ y w.1 (after_put base d m c keeps fits w.0)
+moment_keeps base d m Poll y keeps (inl w) =
+    along base d _ y w.1 (after_poll base d m m.rest refl keeps w.0)
 moment_keeps base d m Poll y keeps (inr w) = (m, keeps, w.1)
 moment_keeps base d m Tell y keeps (inl w) = (m, keeps, w.1)
 moment_keeps base d m Tell y keeps (inr (inl w)) = along base d _ y w.2 (after_tell base d m keeps)
 moment_keeps base d m Tell y keeps (inr (inr w)) = absurd (w.1 (head_taken base d m keeps))
 
-run_keeps : (base d : ℕ) (events : List Event) (x y : Exchange) → Runs events x y → IsReached base d x
+run_keeps : (base d : ℕ) (events : List Event) (x y : Exchange) → Runs events x y
+    → IsReached base d x
     → IsReached base d y
 run_keeps base d [] x y e is = along base d x y e is
 run_keeps base d (event ∷ events) x y (z, first, others) is =

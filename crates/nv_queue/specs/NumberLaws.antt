@@ -1,9 +1,11 @@
 -- Slots, phases and distances of numbers below twice the depth.
-use Rattle.std.proofs.Common.{◌≡◌, ◌≢◌, ℕ, ◌+◌, ◌-◌, ◌*◌, ◌/◌, ◌%◌, ◌<◌, ◌≤◌, true, false, ◌∙◌, arith}
+use Rattle.std.proofs.Common.{◌≡◌, ◌≢◌, ℕ, ◌+◌, ◌-◌, ◌*◌, ◌/◌, ◌%◌, ◌<◌, ◌≤◌, true, false}
+use Rattle.std.proofs.Common.{arith}
 use Rattle.std.proofs.Common.{inl, inr, ◌⊎◌, ◌↔◌}
 use Rattle.std.proofs.lemmas.Nat.{mod-mul-add, div-mul-add}
 use Rattle.std.proofs.lemmas.Bool.{cases_lt}
-use Rattle.nv_queue.specs.Numbers.{IsDepth, IsFull, IsSlotBetween, IsWithinRing, above, ahead, first_in_slot, next}
+use Rattle.nv_queue.specs.Numbers.{IsDepth, IsFull, IsSlotBetween, IsWithinRing, above, ahead}
+use Rattle.nv_queue.specs.Numbers.{first_in_slot, next}
 use Rattle.nv_queue.specs.Numbers.{phase_of, slot_of}
 
 pub rest_is : (x q d r : ℕ) → x ≡ q * d + r → r < d → x % d ≡ r
@@ -61,7 +63,9 @@ pub above_cases : (d a b : ℕ) → a < 2 * d → b < 2 * d
 unfolding above
 above_cases d a b h i =
     elim (cases_lt a b) [
-      | inl l ↦ inr (l, rest_is (a + 2 * d - b) 0 (2 * d) (a + 2 * d - b) (omega arith) (omega arith))
+      | inl l ↦
+          let far = a + 2 * d - b in
+          inr (l, rest_is far 0 (2 * d) far (omega arith) (omega arith))
       | inr g ↦ inl (g, rest_is (a + 2 * d - b) 1 (2 * d) (a - b) (omega arith) (omega arith))
     ]
 
@@ -83,10 +87,12 @@ ahead_cases d n t h i =
       | inl l ↦ elim (cases_lt (t + d) n) [
         | inr m ↦
             let e = ahead_is d n t (t + d - n) 1 (omega arith) (omega arith) in
-            inr (inl (l, m, e, rw e (rest_is (n + (t + d - n)) 0 (2 * d) (t + d) (omega arith) (omega arith))))
+            let n2 = n + (t + d - n) in
+            inr (inl (l, m, e, rw e (rest_is n2 0 (2 * d) (t + d) (omega arith) (omega arith))))
         | inl m ↦
             let e = ahead_is d n t (t + 2 * d - n) 0 (omega arith) (omega arith) in
-            inr (inr (m, e, rw e (rest_is (n + (t + 2 * d - n)) 1 (2 * d) t (omega arith) (omega arith))))
+            let n2 = n + (t + 2 * d - n) in
+            inr (inr (m, e, rw e (rest_is n2 1 (2 * d) t (omega arith) (omega arith))))
       ]
     ]
 
@@ -102,24 +108,45 @@ first_in_slot_below d n t h i = grind (arith, ahead_cases d n t h i)
 pub above_next : (d n k : ℕ) → n < 2 * d → k < 2 * d → above d n k + 1 < 2 * d
     → above d (next d n) k ≡ above d n k + 1
 above_next d n k h i l =
-    grind (arith, next_cases d n h, above_cases d n k h i, above_cases d (next d n) k (next_below d n h) i)
+    grind (
+      arith,
+      next_cases d n h,
+      above_cases d n k h i,
+      above_cases d (next d n) k (next_below d n h) i,
+    )
 
 -- one less
-pub next_above : (d n k : ℕ) → n < 2 * d → k < 2 * d → k ≢ n → above d n (next d k) ≡ above d n k - 1
+pub next_above : (d n k : ℕ) → n < 2 * d → k < 2 * d → k ≢ n
+    → above d n (next d k) ≡ above d n k - 1
 next_above d n k h i o =
-    grind (arith, next_cases d k i, above_cases d n k h i, above_cases d n (next d k) h (next_below d k i))
+    grind (
+      arith,
+      next_cases d k i,
+      above_cases d n k h i,
+      above_cases d n (next d k) h (next_below d k i),
+    )
 
 pub above_none : (d n k : ℕ) → n < 2 * d → k < 2 * d → above d n k ≡ 0 → k ≡ n
 above_none d n k h i e = grind (arith, above_cases d n k h i)
 
 -- the slot of a number less than a depth above is as far ahead as that number
-pub ahead_slot : (d a b : ℕ) → a < 2 * d → b < 2 * d → above d a b < d → ahead d b (slot_of d a) ≡ above d a b
+pub ahead_slot : (d a b : ℕ) → a < 2 * d → b < 2 * d → above d a b < d
+    → ahead d b (slot_of d a) ≡ above d a b
 ahead_slot d a b h i f =
-    grind (arith, slot_cases d a h, above_cases d a b h i, ahead_cases d b (slot_of d a) i (slot_below d a h))
+    grind (
+      arith,
+      slot_cases d a h,
+      above_cases d a b h i,
+      ahead_cases d b (slot_of d a) i (slot_below d a h),
+    )
 
 pub above_first : (d n t : ℕ) → n < 2 * d → t < d → above d (first_in_slot d n t) n ≡ ahead d n t
 above_first d n t h i =
-    grind (arith, ahead_cases d n t h i, above_cases d (first_in_slot d n t) n (first_in_slot_below d n t h i) h)
+    grind (
+      arith,
+      ahead_cases d n t h i,
+      above_cases d (first_in_slot d n t) n (first_in_slot_below d n t h i) h,
+    )
 
 -- that many fewer
 pub first_above : (d a n t : ℕ) → a < 2 * d → n < 2 * d → t < d → ahead d n t ≤ above d a n
@@ -146,14 +173,17 @@ pub within_more : (d k n : ℕ) → IsWithinRing d k n → ¬ IsFull d k n → I
 within_more d k n is free =
     let deep = is.deep in
     let more = above_next d n k is.to is.from (omega (arith, is.few)) in
-    record { deep = deep; from = is.from; to = next_below d n is.to; few = omega (arith, is.few, free) }
+    let few : above d (next d n) k < d = omega (arith, is.few, free) in
+    record { deep = deep; from = is.from; to = next_below d n is.to; few = few }
 
 pub within_taken : (d k n : ℕ) → IsWithinRing d k n → k ≢ n → IsWithinRing d (next d k) n
 within_taken d k n is left =
     let less = next_above d n k is.to is.from left in
-    record { deep = is.deep; from = next_below d k is.from; to = is.to; few = omega (arith, is.few) }
+    let few = is.few in
+    record { deep = is.deep; from = next_below d k is.from; to = is.to; few = omega arith }
 
-pub within_freed : (d k n t : ℕ) → IsWithinRing d k n → IsSlotBetween d k n t → IsWithinRing d (first_in_slot d k t) n
+pub within_freed : (d k n t : ℕ) → IsWithinRing d k n → IsSlotBetween d k n t
+    → IsWithinRing d (first_in_slot d k t) n
 within_freed d k n t is slot =
     let less = first_above d n k t is.to is.from slot.0 slot.1 in
     record {
@@ -163,14 +193,17 @@ within_freed d k n t is slot =
       few = omega (arith, is.few);
     }
 
-pub within_filled : (d k n t : ℕ) → IsWithinRing d k n → t < d → IsWithinRing d k (first_in_slot d k t)
+pub within_filled : (d k n t : ℕ) → IsWithinRing d k n → t < d
+    → IsWithinRing d k (first_in_slot d k t)
 within_filled d k n t is low =
     let far = above_first d k t is.from low in
     let near = ahead_below d k t is.from low in
-    record { deep = is.deep; from = is.from; to = first_in_slot_below d k t is.from low; few = omega arith }
+    let to = first_in_slot_below d k t is.from low in
+    record { deep = is.deep; from = is.from; to = to; few = omega arith }
 
 -- it is full where the slot after the last is that of the first
-pub full_slots : (d k n : ℕ) → IsWithinRing d k n → (slot_of d (next d n) ≡ slot_of d k) ↔ IsFull d k n
+pub full_slots : (d k n : ℕ) → IsWithinRing d k n
+    → (slot_of d (next d n) ≡ slot_of d k) ↔ IsFull d k n
 full_slots d k n is =
     let deep = is.deep in
     let few = is.few in (
@@ -194,6 +227,11 @@ full_slots d k n is =
 pub empty_slots : (d k n : ℕ) → IsWithinRing d k n → (slot_of d k ≡ slot_of d n) ↔ (k ≡ n)
 empty_slots d k n is =
     let few = is.few in (
-      (λ e. grind (arith, slot_cases d k is.from, slot_cases d n is.to, above_cases d n k is.to is.from)),
+      (λ e. grind (
+        arith,
+        slot_cases d k is.from,
+        slot_cases d n is.to,
+        above_cases d n k is.to is.from,
+      )),
       (λ e. grind (arith, e)),
     )

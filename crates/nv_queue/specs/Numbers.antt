@@ -1,7 +1,8 @@
--- Submissions and completions have numbers, from 0 since their rings were made. A ring keeps the rest of
--- a number modulo twice its depth: the number's slot and phase, and how far two numbers less than twice
--- the depth lie apart, depend on that alone.
-use Rattle.std.specs.Prelude.{◌≡◌, ℕ, ◌+◌, ◌-◌, ◌*◌, ◌/◌, ◌%◌, ◌==◌, ◌<◌, ◌≤◌, Bool, if◌then◌else◌, nat_lt, not}
+-- Submissions and completions have numbers, from 0 since their rings were made. A ring keeps the
+-- rest of a number modulo twice its depth: the number's slot and phase, and how far two numbers
+-- less than twice the depth lie apart, depend on that alone.
+use Rattle.std.specs.Prelude.{◌≡◌, ℕ, ◌+◌, ◌-◌, ◌*◌, ◌/◌, ◌%◌, ◌==◌, ◌<◌, ◌≤◌, Bool, if◌then◌else◌}
+use Rattle.std.specs.Prelude.{nat_lt, not}
 
 -- how many slots a ring can have
 abbrev pub IsDepth : ℕ → Type 0
@@ -54,7 +55,8 @@ IsFull depth low high = above depth high low ≡ depth - 1
 abbrev pub number_of : ℕ → ℕ → Bool → ℕ
 number_of depth slot second = if second then depth + slot else slot
 
--- the phase tag of a slot where the numbers below n were posted: that of the greatest of them that falls
--- on it, or 0
+-- the phase tag of a slot where the numbers below n were posted: that of the greatest of them that
+-- falls on it, or 0
 unfoldable pub tag_below : ℕ → ℕ → ℕ → Bool
-tag_below depth n slot = if nat_lt slot (slot_of depth n) then phase_of depth n else not (phase_of depth n)
+tag_below depth n slot =
+    if nat_lt slot (slot_of depth n) then phase_of depth n else not (phase_of depth n)

@@ -1,17 +1,17 @@
--- The four sides of a queue pair's rings: where a ring lies, how many slots it has, and its numbers.
+-- The four sides of a queue pair's rings: where a ring lies, how many slots it has, its numbers.
 use Rattle.std.specs.Prelude.{◌≡◌, ℕ, ◌*◌, ◌<◌, Bool, false, true}
 use Rattle.nv_queue.specs.Numbers.{IsDepth, IsFull, IsWithinRing, first_in_slot, next}
 
--- the host's side of a submission ring: the number of the next submission, and up to which number the
--- host knows that submissions were taken
+-- the host's side of a submission ring: the number of the next submission, and up to which number
+-- the host knows that submissions were taken
 pub record SubmitNumbers : Type 0 where
   pub base : ℕ
   pub depth : ℕ
   pub submitted : ℕ
   pub known : ℕ
 
--- the host's side of a completion ring: the number of the awaited completion, up to which number the
--- device was told that completions were collected, and whether it has more to be told
+-- the host's side of a completion ring: the number of the awaited completion, up to which number
+-- the device was told that completions were collected, and whether more were since
 pub record CollectNumbers : Type 0 where
   pub base : ℕ
   pub depth : ℕ
@@ -19,16 +19,16 @@ pub record CollectNumbers : Type 0 where
   pub told : ℕ
   pub untold : Bool
 
--- the device's side of a submission ring: the number of the next submission to take, and up to which
--- number the doorbell told of submissions
+-- the device's side of a submission ring: the number of the next submission to take, and up to
+-- which number the doorbell told of submissions
 pub record FetchNumbers : Type 0 where
   pub base : ℕ
   pub depth : ℕ
   pub fetched : ℕ
   pub rung : ℕ
 
--- the device's side of a completion ring: the number of the next completion, and up to which number the
--- doorbell told that completions were collected
+-- the device's side of a completion ring: the number of the next completion, and up to which
+-- number the doorbell told that completions were collected
 pub record PostNumbers : Type 0 where
   pub base : ℕ
   pub depth : ℕ

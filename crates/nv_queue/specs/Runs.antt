@@ -1,10 +1,13 @@
 -- Runs over one completion ring: what the device posts on it, and the host polls.
-use Rattle.std.specs.Prelude.{◌≡◌, ◌↔◌, ◌⊎◌, ℕ, ◌+◌, ◌*◌, ◌<◌, ◌≤◌, false, true, List, [], ◌∷◌, ◌++◌, length}
+use Rattle.std.specs.Prelude.{◌≡◌, ◌↔◌, ◌⊎◌, ℕ, ◌+◌, ◌*◌, ◌<◌, ◌≤◌, false, true, List, [], ◌∷◌}
+use Rattle.std.specs.Prelude.{◌++◌, length}
 use Rattle.nv_layout.specs.Cqe.{CqeFits}
 use Rattle.nv_layout.specs.declared.cqe.Cqe.{Cqe}
 use Rattle.nv_queue.specs.Numbers.{IsDepth, IsSlotBetween, slot_of}
-use Rattle.nv_queue.specs.Rings.{CollectNumbers, IsPostFull, PostNumbers, collected_one, posted_one, told_all, told_to}
-use Rattle.nv_queue.specs.Slots.{IsAwaitedThere, awaited_completion, completion_at, put_as, with_completion}
+use Rattle.nv_queue.specs.Rings.{CollectNumbers, IsPostFull, PostNumbers, collected_one, posted_one}
+use Rattle.nv_queue.specs.Rings.{told_all, told_to}
+use Rattle.nv_queue.specs.Slots.{IsAwaitedThere, awaited_completion, completion_at, put_as}
+use Rattle.nv_queue.specs.Slots.{with_completion}
 
 -- the device puts a completion, the host polls, the host tells its head by the doorbell
 pub data Event : Type 0 where
@@ -28,7 +31,10 @@ with_put x completion = record x {
 }
 
 abbrev pub with_polled : Exchange → Exchange
-with_polled x = record x { host = collected_one x.host; polled = x.polled ++ awaited_completion x.bytes x.host ∷ [] }
+with_polled x = record x {
+  host = collected_one x.host;
+  polled = x.polled ++ awaited_completion x.bytes x.host ∷ [];
+}
 
 -- the slot of the awaited completion is told
 abbrev pub told_slot : Exchange → ℕ
@@ -49,7 +55,8 @@ Happens (Put completion) x y =
     CqeFits completion
     × ((IsPostFull x.device × (y ≡ x)) ⊎ ((¬ IsPostFull x.device) × (y ≡ with_put x completion)))
 Happens Poll x y =
-    (IsAwaitedThere x.bytes x.host × (y ≡ with_polled x)) ⊎ ((¬ IsAwaitedThere x.bytes x.host) × (y ≡ x))
+    (IsAwaitedThere x.bytes x.host × (y ≡ with_polled x))
+    ⊎ ((¬ IsAwaitedThere x.bytes x.host) × (y ≡ x))
 Happens Tell x y =
     ((x.host.untold ≡ false) × (y ≡ x))
     ⊎ (((x.host.untold ≡ true) × IsHeadTaken x × (y ≡ with_told (with_head x)))
@@ -69,8 +76,8 @@ pub record IsNew (base depth : ℕ) (x : Exchange) : Type 0 where
   pub posted : x.posted ≡ []
   pub polled : x.polled ≡ []
 
--- What was polled is the first of what was posted, each once and in order. One more is found exactly
--- where one is left, and fewer than a depth are.
+-- What was polled is the first of what was posted, each once and in order. One more is found
+-- exactly where one is left, and fewer than a depth are.
 pub record IsInOrder (depth : ℕ) (x : Exchange) : Type 0 where
   pub prefix : (rest : List Cqe) × (x.polled ++ rest ≡ x.posted)
   pub found : IsAwaitedThere x.bytes x.host ↔ (length x.polled < length x.posted)

@@ -1,5 +1,7 @@
 -- What the slots of a ring hold.
-use Rattle.std.specs.Prelude.{◌≡◌, ◌↔◌, ℕ, ◌+◌, ◌*◌, ◌<◌, ◌≤◌, false, List, [], ◌∷◌, ◌++◌, length, slice_index_or}
+use Rattle.std.specs.Prelude.{◌≡◌, ◌≢◌, ◌↔◌, ℕ, ◌+◌, ◌*◌, ◌<◌, ◌≤◌, false, List, [], ◌∷◌, ◌++◌}
+use Rattle.std.specs.Prelude.{length}
+use Rattle.std.specs.Prelude.{slice_index_or}
 use Rattle.std.specs.Prelude.{Option, IfSome, IsNone, IsSome}
 use Rattle.nv_host.specs.Bytes.{bytes_at, with_bytes}
 use Rattle.nv_layout.specs.Cqe.{CqeFits, bytes_of_cqe, cqe_of_bytes}
@@ -16,7 +18,10 @@ submission_place base depth n = base + 64 * slot_of depth n
 abbrev pub completion_place : ℕ → ℕ → ℕ → ℕ
 completion_place base depth n = base + 16 * slot_of depth n
 
--- the completion in a slot
+-- the submission and the completion in a slot
+abbrev pub submission_at : List ℕ → ℕ → ℕ → Sqe
+submission_at bytes base slot = sqe_of_bytes (bytes_at bytes (base + 64 * slot) 64)
+
 abbrev pub completion_at : List ℕ → ℕ → ℕ → Cqe
 completion_at bytes base slot = cqe_of_bytes (bytes_at bytes (base + 16 * slot) 16)
 
@@ -28,7 +33,7 @@ posted_as depth n completion = record completion { phase = phase_of depth n }
 
 -- the submission to take
 abbrev pub next_submission : List ℕ → FetchNumbers → Sqe
-next_submission bytes ring = sqe_of_bytes (bytes_at bytes (submission_place ring.base ring.depth ring.fetched) 64)
+next_submission bytes ring = submission_at bytes ring.base (slot_of ring.depth ring.fetched)
 
 -- the completion in the awaited slot
 abbrev pub awaited_completion : List ℕ → CollectNumbers → Cqe
@@ -36,7 +41,8 @@ awaited_completion bytes ring = completion_at bytes ring.base (slot_of ring.dept
 
 -- it has the phase tag of its number
 abbrev pub IsAwaitedThere : List ℕ → CollectNumbers → Type 0
-IsAwaitedThere bytes ring = (awaited_completion bytes ring).phase ≡ phase_of ring.depth ring.collected
+IsAwaitedThere bytes ring =
+    (awaited_completion bytes ring).phase ≡ phase_of ring.depth ring.collected
 
 -- a completion as it is posted next
 abbrev pub put_as : PostNumbers → Cqe → Cqe
@@ -48,17 +54,31 @@ with_submission bytes ring command =
 
 abbrev pub with_completion : List ℕ → PostNumbers → Cqe → List ℕ
 with_completion bytes ring completion =
-    with_bytes bytes (completion_place ring.base ring.depth ring.posted) (bytes_of_cqe (put_as ring completion))
+    with_bytes bytes (completion_place ring.base ring.depth ring.posted)
+    (bytes_of_cqe (put_as ring completion))
+
+-- ---- one slot is written, and the others stay
+
+pub record WritesSubmission (old new : List ℕ) (base depth slot : ℕ) (c : Sqe) : Type 0 where
+  pub here : submission_at new base slot ≡ c
+  pub others : (s : ℕ) → s < depth → s ≢ slot → submission_at new base s ≡ submission_at old base s
+
+pub record WritesCompletion (old new : List ℕ) (base depth slot : ℕ) (c : Cqe) : Type 0 where
+  pub here : completion_at new base slot ≡ c
+  pub others : (s : ℕ) → s < depth → s ≢ slot → completion_at new base s ≡ completion_at old base s
 
 -- ---- what the slots hold along a run
 
--- These completions were posted on the ring, in this order. Each has the phase of its number, and stands
--- in its slot until the number a depth later is posted. A slot that none fell on has phase tag 0.
+-- These completions were posted on the ring, in this order. Each has the phase of its number, and
+-- stands in its slot until the number a depth later is posted. A slot that none fell on has phase
+-- tag 0.
 pub record HoldsPosted (bytes : List ℕ) (base depth : ℕ) (posted : List Cqe) : Type 0 where
-  pub phases : (n : ℕ) (other : Cqe) → n < length posted → (slice_index_or posted n other).phase ≡ phase_of depth n
+  pub phases : (n : ℕ) (other : Cqe) → n < length posted
+      → (slice_index_or posted n other).phase ≡ phase_of depth n
   pub standing : (n : ℕ) (other : Cqe) → n < length posted → length posted ≤ n + depth
       → completion_at bytes base (slot_of depth n) ≡ slice_index_or posted n other
-  pub blank : (slot : ℕ) → length posted ≤ slot → slot < depth → (completion_at bytes base slot).phase ≡ false
+  pub blank : (slot : ℕ) → length posted ≤ slot → slot < depth
+      → (completion_at bytes base slot).phase ≡ false
 
 -- where the slots held what was posted, they hold this completion too
 abbrev pub HoldsOneMore : List ℕ → List ℕ → PostNumbers → Cqe → Type 0
@@ -89,7 +109,8 @@ KeepsTags old new ring completion =
     → HoldsTags old ring.base ring.depth ring.posted
     → HoldsTags new ring.base ring.depth (next ring.depth ring.posted)
 
--- where this number is the next to be posted, nothing is collected exactly where it is the awaited one
+-- where this number is the next to be posted, nothing is collected exactly where it is the awaited
+-- one
 abbrev pub FindsByTags : List ℕ → CollectNumbers → Option Cqe → Type 0
 FindsByTags bytes ring result =
     (posted : ℕ) → posted < 2 * ring.depth → above ring.depth posted ring.collected < ring.depth

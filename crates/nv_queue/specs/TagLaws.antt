@@ -1,28 +1,30 @@
 -- The phase tags of a completion ring's slots, by the number of the next completion.
-use Rattle.std.proofs.Common.{if◌then◌else◌, ◌≡◌, ◌≢◌, ℕ, ◌+◌, ◌-◌, ◌*◌, ◌<◌, ◌≤◌, Bool, true, false, not, nat_lt, List, length}
-use Rattle.std.proofs.Common.{refl, sym, ◌∙◌, ap, arith, inl, inr, ◌⊎◌, Option, None, Some, IsSome, ◌↔◌}
+use Rattle.std.proofs.Common.{if◌then◌else◌, ◌≡◌, ◌≢◌, ℕ, ◌-◌, ◌*◌, ◌<◌, ◌≤◌, Bool, true}
+use Rattle.std.proofs.Common.{false}
+use Rattle.std.proofs.Common.{not, nat_lt, List, refl, sym, ◌∙◌, ap, arith, inl, inr, ◌⊎◌}
+use Rattle.std.proofs.Common.{Option, None, Some, IsSome, ◌↔◌}
 use Rattle.std.proofs.lemmas.Bool.{cases_eq, cases_lt}
 use Rattle.std.proofs.lemmas.Bool.Decides.{nat_tests}
-use Rattle.nv_host.specs.Bytes.{with_bytes}
-use Rattle.nv_layout.specs.Cqe.{CqeFits, bytes_of_cqe, cqe_of_bytes}
 use Rattle.nv_layout.specs.declared.cqe.Cqe.{Cqe}
-use Rattle.nv_layout.proofs.RecordLaws.{length-bytes_of_cqe}
 use Rattle.nv_queue.specs.Numbers.{above, next, phase_of, slot_of, tag_below}
+use Rattle.nv_queue.specs.NumberLaws.{above_cases, next_below, next_cases, phase_high, phase_low}
+use Rattle.nv_queue.specs.NumberLaws.{slot_below, slot_cases, slot_high, slot_low}
 use Rattle.nv_queue.specs.Rings.{CollectNumbers, IsCollectRing, PostNumbers}
-use Rattle.nv_queue.specs.Slots.{FindsByTags, HoldsTags, IsAwaitedThere, KeepsTags, completion_at, posted_as}
-use Rattle.nv_queue.specs.Slots.{with_completion}
-use Rattle.nv_queue.specs.NumberLaws.{above_cases, next_below, next_cases, phase_high, phase_low, slot_below}
-use Rattle.nv_queue.specs.NumberLaws.{slot_cases, slot_high, slot_low}
-use Rattle.nv_queue.specs.SlotLaws.{not_own, other_slot, same_slot, tagged_fits}
+use Rattle.nv_queue.specs.Slots.{FindsByTags, HoldsTags, IsAwaitedThere, KeepsTags}
+use Rattle.nv_queue.specs.Slots.{WritesCompletion}
+use Rattle.nv_queue.specs.Slots.{completion_at, posted_as, with_completion}
+use Rattle.nv_queue.specs.SlotLaws.{holds_one_more, not_own, put_written}
 
 -- at numbers of the first pass tag 1 stands in the slots below, at those of the second in the rest
 tag_cases : (d n s : ℕ) → n < 2 * d
-    → ((n < d) × (tag_below d n s ≡ nat_lt s n)) ⊎ ((d ≤ n) × (tag_below d n s ≡ not (nat_lt s (n - d))))
+    → ((n < d) × (tag_below d n s ≡ nat_lt s n))
+    ⊎ ((d ≤ n) × (tag_below d n s ≡ not (nat_lt s (n - d))))
 unfolding tag_below
 tag_cases d n s h =
     elim (cases_lt n d) [
       | inl l ↦ inl (l, rw (slot_low d n l, phase_low d n l) (if_true_false (nat_lt s n)))
-      | inr g ↦ inr (g, rw (slot_high d n g h, phase_high d n g h) (if_false_true (nat_lt s (n - d))))
+      | inr g ↦
+          inr (g, rw (slot_high d n g h, phase_high d n g h) (if_false_true (nat_lt s (n - d))))
     ]
   where
     if_true_false : (b : Bool) → (if b then true else false) ≡ b
@@ -37,7 +39,8 @@ tag_cases d n s h =
 pub tag_below_here : (d n : ℕ) → n < 2 * d → tag_below d n (slot_of d n) ≡ not (phase_of d n)
 tag_below_here d n h = grind (arith, nat_tests, slot_cases d n h, tag_cases d n (slot_of d n) h)
 
-pub tag_below_next_same : (d n : ℕ) → n < 2 * d → tag_below d (next d n) (slot_of d n) ≡ phase_of d n
+pub tag_below_next_same : (d n : ℕ) → n < 2 * d
+    → tag_below d (next d n) (slot_of d n) ≡ phase_of d n
 tag_below_next_same d n h =
     grind (
       arith,
@@ -61,28 +64,27 @@ tag_below_next_other d n s h i o =
 
 -- ---- a completion more
 
-pub tags_after : (bytes : List ℕ) (base d n : ℕ) (c : Cqe) → 0 < d → n < 2 * d → base + 16 * d ≤ length bytes
-    → CqeFits c → HoldsTags bytes base d n
-    → HoldsTags (with_bytes bytes (base + 16 * slot_of d n) (bytes_of_cqe (posted_as d n c))) base d (next d n)
-tags_after bytes base d n c p h inside fits tags s l =
-    let new = posted_as d n c in
-    let here = slot_below d n h in
-    let after = with_bytes bytes (base + 16 * slot_of d n) (bytes_of_cqe new) in
+pub tags_after : (old new : List ℕ) (base d n : ℕ) (c : Cqe) → n < 2 * d
+    → WritesCompletion old new base d (slot_of d n) (posted_as d n c)
+    → HoldsTags old base d n → HoldsTags new base d (next d n)
+tags_after old new base d n c h written tags s l =
     elim (cases_eq s (slot_of d n)) [
       | inl e ↦
-          ap (λ t. (completion_at after base t).phase) e
-          ∙ (ap (λ x. x.phase) (same_slot bytes base d (slot_of d n) new inside here (tagged_fits d n c fits))
+          ap (λ t. (completion_at new base t).phase) e
+          ∙ (ap (λ x. x.phase) written.here
           ∙ (sym (tag_below_next_same d n h) ∙ ap (tag_below d (next d n)) (sym e)))
       | inr o ↦
-          ap (λ bs. (cqe_of_bytes bs).phase)
-          (other_slot bytes base d s (slot_of d n) (bytes_of_cqe new) inside (length-bytes_of_cqe new) l here o)
+          ap (λ x. x.phase) (written.others s l o)
           ∙ (tags s l ∙ sym (tag_below_next_other d n s h l o))
     ]
 
 pub keeps_tags : (old new : List ℕ) (ring : PostNumbers) (c : Cqe) → 1 < ring.depth
     → ring.posted < 2 * ring.depth → new ≡ with_completion old ring c → KeepsTags old new ring c
 keeps_tags old new ring c p h written inside fits tags =
-    rw written (tags_after old ring.base ring.depth ring.posted c (omega arith) h inside fits tags)
+    rw written (
+    tags_after old (with_completion old ring c) ring.base ring.depth ring.posted c h
+    (put_written old ring c (omega arith) inside fits) tags
+    )
 
 -- ---- the awaited slot
 
@@ -99,7 +101,9 @@ finds_by_tags bytes ring None is awaited posted h f tags =
     let low = slot_below d k is.collected in (
       (λ e. elim (cases_eq posted k) [
         | inl same ↦ same
-        | inr o ↦ absurd (none_found (awaited.1 (tags (slot_of d k) low ∙ tag_there d posted k h is.collected f o)))
+        | inr o ↦
+            let there = tags (slot_of d k) low ∙ tag_there d posted k h is.collected f o in
+            absurd (none_found (awaited.1 there))
       ]),
       λ same. refl,
     )
@@ -111,4 +115,12 @@ finds_by_tags bytes ring (Some c) is awaited posted h f tags =
     let low = slot_below d k is.collected in
     let there : IsAwaitedThere bytes ring = awaited.0 refl in
     let here = tag_below_here d k is.collected in
-    ((λ e. cc), λ same. absurd (not_own _ _ (tags (slot_of d k) low ∙ (ap (λ n. tag_below d n (slot_of d k)) same ∙ here)) there))
+    let tag = tags (slot_of d k) low in (
+      (λ e. cc),
+      λ same. absurd (
+          not_own _ _ (tag ∙ (ap (λ n. tag_below d n (slot_of d k)) same ∙ here)) there
+          ),
+    )
+
+-- what holds after a completion is posted, for the attribute of `put`
+pub ruleset posts = (holds_one_more, keeps_tags)

@@ -1,9 +1,11 @@
 //! The host's side of a completion ring.
 
-ghost use Rattle.std.specs.Prelude.{◌≡◌, ◌+◌, ◌*◌, ◌<◌, ◌≤◌, ◌↔◌, IfNone, IfSome, IsNone, IsSome, OnSome, false, length};
+ghost use Rattle.std.specs.Prelude.{◌≡◌, ◌+◌, ◌*◌, ◌<◌, ◌≤◌, ◌↔◌, IfNone, IfSome, IsNone, IsSome};
+ghost use Rattle.std.specs.Prelude.{OnSome, false, length};
 ghost use Rattle.nv_queue.specs.Numbers.{IsDepth, slot_of};
 ghost use Rattle.nv_queue.specs.Rings.{IsCollectRing, collected_one, told_all};
-ghost use Rattle.nv_queue.specs.Slots.{CollectsPosted, FindsByTags, IsAwaitedThere, awaited_completion};
+ghost use Rattle.nv_queue.specs.Slots.{CollectsPosted, FindsByTags, IsAwaitedThere};
+ghost use Rattle.nv_queue.specs.Slots.{awaited_completion};
 
 use crate::ring::Ring;
 use nv_host::{HostMemory, load_inside};
@@ -41,7 +43,8 @@ impl CompletionRing {
     /// before by its phase tag alone. Each `poll` needs all slots in its memory.
     pub fn new(base: u64, depth: u16) -> CompletionRing
         requires { IsDepth depth }
-        ensures { result ≡ record { base = base; depth = depth; collected = 0; told = 0; untold = false } }
+        ensures { result
+            ≡ record { base = base; depth = depth; collected = 0; told = 0; untold = false } }
     {
         CompletionRing {
             ring: Ring::new(base, depth),
@@ -70,6 +73,7 @@ impl CompletionRing {
 
     /// Collects the awaited completion. It was posted exactly where its slot has the phase tag of
     /// its number. Section "Completion Queue Entry". All slots lie in the memory.
+    #[tactic(auto, using(crate::specs::TagLaws::finds_by_tags))]
     pub fn poll<M: HostMemory>(&mut self, mem: &M) -> Option<Cqe>
         requires { self.old.base + 16 * self.old.depth ≤ length (M.bytes mem.now) }
         ensures awaited { IsSome result ↔ IsAwaitedThere (M.bytes mem.now) self.old }

@@ -1,6 +1,7 @@
 //! The device's side of a submission ring.
 
-ghost use Rattle.std.specs.Prelude.{◌≡◌, ◌+◌, ◌*◌, ◌<◌, ◌≤◌, ◌↔◌, IfNone, IfSome, IsNone, IsTrue, OnSome, length};
+ghost use Rattle.std.specs.Prelude.{◌≡◌, ◌+◌, ◌*◌, ◌<◌, ◌≤◌, ◌↔◌, IfNone, IfSome, IsNone, IsTrue};
+ghost use Rattle.std.specs.Prelude.{OnSome, length};
 ghost use Rattle.nv_queue.specs.Numbers.{IsDepth, slot_of};
 ghost use Rattle.nv_queue.specs.Rings.{IsFetchRing, fetched_one, rung_to};
 ghost use Rattle.nv_queue.specs.Slots.{next_submission, submission_place};
@@ -44,8 +45,8 @@ impl Fetch {
         }
     }
 
-    /// Takes a write to the tail doorbell. A tail that names no slot is ignored. Section "Submission
-    /// Queue y Tail Doorbell".
+    /// Takes a write to the tail doorbell. A tail that names no slot is ignored. Section
+    /// "Submission Queue y Tail Doorbell".
     pub fn tail(&mut self, value: u32)
         ensures rung { value < self.old.depth → self.new ≡ rung_to self.old value }
         ensures ignored { self.old.depth ≤ value → self.new ≡ self.old }
@@ -72,14 +73,15 @@ impl Fetch {
 
     /// Whether the slot of the next submission lies in the memory: the condition of `next`.
     pub fn fits<M: HostMemory>(&self, mem: &M) -> bool
-        ensures { IsTrue result ↔
-            (submission_place self.now.base self.now.depth self.now.fetched + 64 ≤ length (M.bytes mem.now)) }
+        ensures { IsTrue result
+            ↔ (submission_place self.now.base self.now.depth self.now.fetched + 64
+            ≤ length (M.bytes mem.now)) }
     {
         self.ring.fits(mem, 64)
     }
 
-    /// Takes the next submission, whose slot lies in the memory, as `fits` tells. There is none where
-    /// the ring is empty.
+    /// Takes the next submission, whose slot lies in the memory, as `fits` tells. There is none
+    /// where the ring is empty.
     pub fn next<M: HostMemory>(&mut self, mem: &M) -> Option<Sqe>
         requires { submission_place self.old.base self.old.depth self.old.fetched + 64
             ≤ length (M.bytes mem.now) }

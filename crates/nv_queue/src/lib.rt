@@ -5,10 +5,10 @@
 //! slot n modulo the depth. A completion's phase tag is 1 in the first pass over its ring, and is
 //! inverted on each.
 //!
-//! A ring has 2 to 4,096 slots, of 64 bytes for submissions and 16 for completions. The host's rings
-//! lie in its memory, and the host zeroes the slots of a completion ring before the device uses it.
-//! The device asks by `fits` before it takes or posts, since a ring that it was told of may leave the
-//! memory.
+//! A ring has 2 to 4,096 slots, of 64 bytes for submissions and 16 for completions. The host's
+//! rings lie in its memory, and the host zeroes the slots of a completion ring before the device
+//! uses it. The device asks by `fits` before it takes or posts, since a ring that it was told of
+//! may leave the memory.
 //!
 //! # Example
 //!
@@ -62,8 +62,9 @@ pub use fetch::Fetch;
 pub use post::{CqFull, Post};
 pub use submission_ring::{RingFull, SubmitRing};
 
-/// The law of this crate: along any list of posts, polls and told heads on one completion ring, what
-/// was polled is the first of what was posted, each once and in order. It does nothing when called.
+/// The law of this crate: along any list of posts, polls and told heads on one completion ring,
+/// what was polled is the first of what was posted, each once and in order. It does nothing when
+/// called.
 pub fn any_run()
     ensures { EveryRunIsInOrder }
 {}

@@ -1,7 +1,8 @@
 //! Places in a ring.
 
 ghost use Rattle.std.specs.Prelude.{◌≡◌, ◌<◌, ◌↔◌, IsTrue, false};
-ghost use Rattle.nv_queue.specs.Numbers.{IsDepth, IsSlotBetween, above, ahead, first_in_slot, next, number_of};
+ghost use Rattle.nv_queue.specs.Numbers.{IsDepth, IsSlotBetween, above, ahead, first_in_slot, next};
+ghost use Rattle.nv_queue.specs.Numbers.{number_of};
 
 /// A slot, and whether it is met in the second of two passes over the ring.
 #[derive(Clone, Copy)]
@@ -22,7 +23,7 @@ impl Place {
     }
 
     /// The place of the next number.
-    #[tactic(auto, using(crate::proofs::PlaceLaws::step_wraps, crate::proofs::PlaceLaws::step_stays))]
+    #[tactic(auto, using(crate::proofs::PlaceLaws::steps))]
     pub fn step(self, depth: u16) -> Place
         requires depth { IsDepth depth }
         requires within { self.slot < depth }
@@ -43,7 +44,8 @@ impl Place {
         }
     }
 
-    /// Whether a slot is met on the way from here to a place less than the depth ahead, ends included.
+    /// Whether a slot is met on the way from here to a place less than the depth ahead, ends
+    /// included.
     #[tactic(auto, using(crate::proofs::PlaceLaws::places, crate::proofs::PlaceLaws::ahead_place))]
     pub fn meets(self, slot: u16, end: Place, depth: u16) -> bool
         requires depth { IsDepth depth }
@@ -58,7 +60,7 @@ impl Place {
     }
 
     /// How many places from here to the next one in a slot.
-    #[tactic(auto, using(crate::proofs::PlaceLaws::ahead_behind, crate::proofs::PlaceLaws::ahead_before))]
+    #[tactic(auto, using(crate::proofs::PlaceLaws::ways))]
     fn ahead(self, slot: u16, depth: u16) -> u16
         requires depth { IsDepth depth }
         requires within { self.slot < depth }
@@ -73,7 +75,7 @@ impl Place {
     }
 
     /// The next place in a slot, this one included.
-    #[tactic(auto, using(crate::proofs::PlaceLaws::first_behind, crate::proofs::PlaceLaws::first_before))]
+    #[tactic(auto, using(crate::proofs::PlaceLaws::firsts))]
     pub fn reach(self, slot: u16, depth: u16) -> Place
         requires depth { IsDepth depth }
         requires within { self.slot < depth }

@@ -1,6 +1,7 @@
 //! The device's side of a completion ring.
 
-ghost use Rattle.std.specs.Prelude.{◌≡◌, ◌+◌, ◌*◌, ◌<◌, ◌≤◌, ◌↔◌, IsErr, IsTrue, OnErr, OnOk, length};
+ghost use Rattle.std.specs.Prelude.{◌≡◌, ◌+◌, ◌*◌, ◌<◌, ◌≤◌, ◌↔◌, IsErr, IsTrue, OnErr, OnOk};
+ghost use Rattle.std.specs.Prelude.{length};
 ghost use Rattle.nv_queue.specs.Numbers.{IsDepth, IsSlotBetween, phase_of};
 ghost use Rattle.nv_queue.specs.Rings.{IsPostFull, IsPostRing, posted_one, told_to};
 ghost use Rattle.nv_queue.specs.Slots.{HoldsOneMore, KeepsTags, completion_place, with_completion};
@@ -72,8 +73,8 @@ impl Post {
         self.ring.phase()
     }
 
-    /// Whether all but one of the slots hold completions that are not known to be collected. Section
-    /// "Full Queue".
+    /// Whether all but one of the slots hold completions that are not known to be collected.
+    /// Section "Full Queue".
     pub fn is_full(&self) -> bool
         ensures ring { IsPostRing self.now }
         ensures full { IsTrue result ↔ IsPostFull self.now }
@@ -83,24 +84,28 @@ impl Post {
 
     /// Whether the slot of the next completion lies in the memory: the condition of `put`.
     pub fn fits<M: HostMemory>(&self, mem: &M) -> bool
-        ensures { IsTrue result ↔
-            (completion_place self.now.base self.now.depth self.now.posted + 16 ≤ length (M.bytes mem.now)) }
+        ensures { IsTrue result
+            ↔ (completion_place self.now.base self.now.depth self.now.posted + 16
+            ≤ length (M.bytes mem.now)) }
     {
         self.ring.fits(mem, 16)
     }
 
-    /// Posts a completion with the phase tag that is due in place of its own, and writes no byte but
-    /// those of its slot, which lies in the memory, as `fits` tells. Where the ring is full, nothing
-    /// changes.
-    #[tactic(auto, using(crate::specs::SlotLaws::holds_one_more, crate::specs::TagLaws::keeps_tags))]
+    /// Posts a completion with the phase tag that is due in place of its own, and writes no byte
+    /// but those of its slot, which lies in the memory, as `fits` tells. Where the ring is full,
+    /// nothing changes.
+    #[tactic(auto, using(crate::specs::TagLaws::posts))]
     pub fn put<M: HostMemory>(&mut self, mem: &mut M, completion: Cqe) -> Result<(), CqFull>
         requires { completion_place self.old.base self.old.depth self.old.posted + 16
             ≤ length (M.bytes mem.old) }
         ensures full { IsErr result ↔ IsPostFull self.old }
         ensures posted { OnOk result (self.new ≡ posted_one self.old) }
-        ensures bytes { OnOk result (M.bytes mem.new ≡ with_completion (M.bytes mem.old) self.old completion) }
-        ensures stands { OnOk result (HoldsOneMore (M.bytes mem.old) (M.bytes mem.new) self.old completion) }
-        ensures tags { OnOk result (KeepsTags (M.bytes mem.old) (M.bytes mem.new) self.old completion) }
+        ensures bytes { OnOk result
+            (M.bytes mem.new ≡ with_completion (M.bytes mem.old) self.old completion) }
+        ensures stands { OnOk result
+            (HoldsOneMore (M.bytes mem.old) (M.bytes mem.new) self.old completion) }
+        ensures tags { OnOk result
+            (KeepsTags (M.bytes mem.old) (M.bytes mem.new) self.old completion) }
         ensures err { OnErr result (self.new ≡ self.old) }
         ensures err_bytes { OnErr result (M.bytes mem.new ≡ M.bytes mem.old) }
         ensures len { length (M.bytes mem.new) ≡ length (M.bytes mem.old) }

@@ -1,7 +1,9 @@
 //! A ring of slots in the host's memory, with two places in it.
 
-ghost use Rattle.std.specs.Prelude.{◌≡◌, ◌≢◌, ◌+◌, ◌*◌, ◌<◌, ◌≤◌, ◌↔◌, IfSome, IsNone, IsTrue, length};
-ghost use Rattle.nv_queue.specs.Numbers.{IsDepth, IsFull, IsSlotBetween, first_in_slot, next, phase_of, slot_of};
+ghost use Rattle.std.specs.Prelude.{◌≡◌, ◌≢◌, ◌+◌, ◌*◌, ◌<◌, ◌≤◌, ◌↔◌, IfSome, IsNone, IsTrue};
+ghost use Rattle.std.specs.Prelude.{length};
+ghost use Rattle.nv_queue.specs.Numbers.{IsDepth, IsFull, IsSlotBetween, first_in_slot, next};
+ghost use Rattle.nv_queue.specs.Numbers.{phase_of, slot_of};
 ghost use Rattle.nv_queue.specs.Rings.{IsRing, IsToldAhead, IsToldBehind};
 
 use crate::place::Place;
@@ -68,7 +70,7 @@ impl Ring {
     }
 
     /// Moves the own place to the next number.
-    #[tactic(auto, using(crate::proofs::PlaceLaws::places, crate::specs::NumberLaws::within_more, crate::specs::NumberLaws::within_taken))]
+    #[tactic(auto, using(crate::proofs::PlaceLaws::rings))]
     pub fn step(&mut self)
         ensures behind { IsToldBehind self.old → ¬ IsFull self.old.depth self.old.told self.old.own
             → IsToldBehind self.new }
@@ -117,23 +119,25 @@ impl Ring {
     }
 
     /// Moves the told place forward to a slot.
-    #[tactic(auto, using(crate::proofs::PlaceLaws::places, crate::specs::NumberLaws::within_freed))]
+    #[tactic(auto, using(crate::proofs::PlaceLaws::rings))]
     pub fn free_to(&mut self, slot: u16)
         requires behind { IsToldBehind self.old }
         requires between { IsSlotBetween self.old.depth self.old.told self.old.own slot }
         ensures behind { IsToldBehind self.new }
-        ensures told { self.new ≡ record self.old { told = first_in_slot self.old.depth self.old.told slot } }
+        ensures told { self.new
+            ≡ record self.old { told = first_in_slot self.old.depth self.old.told slot } }
     {
         self.told = self.told.reach(slot, self.depth);
     }
 
     /// Sets the told place to a slot, at the own place or above it.
-    #[tactic(auto, using(crate::proofs::PlaceLaws::places, crate::specs::NumberLaws::within_filled))]
+    #[tactic(auto, using(crate::proofs::PlaceLaws::rings))]
     pub fn fill_to(&mut self, slot: u16)
         requires ahead { IsToldAhead self.old }
         requires slot { slot < self.old.depth }
         ensures ahead { IsToldAhead self.new }
-        ensures told { self.new ≡ record self.old { told = first_in_slot self.old.depth self.old.own slot } }
+        ensures told { self.new
+            ≡ record self.old { told = first_in_slot self.old.depth self.old.own slot } }
     {
         self.told = self.own.reach(slot, self.depth);
     }
@@ -148,8 +152,9 @@ impl Ring {
     /// Whether the memory has the slot of the own place, where a slot has `size` bytes.
     #[tactic(auto, using(crate::proofs::PlaceLaws::places))]
     pub fn fits<M: HostMemory>(&self, mem: &M, size: u16) -> bool
-        ensures { IsTrue result ↔
-            (self.now.base + size * slot_of self.now.depth self.now.own + size ≤ length (M.bytes mem.now)) }
+        ensures { IsTrue result
+            ↔ (self.now.base + size * slot_of self.now.depth self.now.own + size
+            ≤ length (M.bytes mem.now)) }
     {
         let bytes = size_of_memory(mem);
         let end = u64::from(size) * u64::from(self.own.slot) + u64::from(size);
@@ -159,7 +164,8 @@ impl Ring {
     /// The address of that slot.
     #[tactic(auto, using(crate::proofs::PlaceLaws::places))]
     pub fn address<M: HostMemory>(&self, mem: &M, size: u16) -> u64
-        requires { self.now.base + size * slot_of self.now.depth self.now.own + size ≤ length (M.bytes mem.now) }
+        requires { self.now.base + size * slot_of self.now.depth self.now.own + size
+            ≤ length (M.bytes mem.now) }
         ensures { result ≡ self.now.base + size * slot_of self.now.depth self.now.own }
     {
         // That the memory has the slot bounds the sum.

@@ -1,6 +1,7 @@
 //! The host's side of a submission ring.
 
-ghost use Rattle.std.specs.Prelude.{◌≡◌, ◌+◌, ◌*◌, ◌<◌, ◌≤◌, ◌↔◌, IfOk, IsErr, IsTrue, OnErr, OnOk, length};
+ghost use Rattle.std.specs.Prelude.{◌≡◌, ◌+◌, ◌*◌, ◌<◌, ◌≤◌, ◌↔◌, IfOk, IsErr, IsTrue, OnErr, OnOk};
+ghost use Rattle.std.specs.Prelude.{length};
 ghost use Rattle.nv_queue.specs.Numbers.{IsDepth, IsSlotBetween, next, slot_of};
 ghost use Rattle.nv_queue.specs.Rings.{IsSubmitFull, IsSubmitRing, known_to, submitted_one};
 ghost use Rattle.nv_queue.specs.Slots.{with_submission};
@@ -59,8 +60,10 @@ impl SubmitRing {
         requires { self.old.base + 64 * self.old.depth ≤ length (M.bytes mem.old) }
         ensures full { IsErr result ↔ IsSubmitFull self.old }
         ensures submitted { OnOk result (self.new ≡ submitted_one self.old) }
-        ensures tail { IfOk result (λ t. t ≡ slot_of self.old.depth (next self.old.depth self.old.submitted)) }
-        ensures bytes { OnOk result (M.bytes mem.new ≡ with_submission (M.bytes mem.old) self.old command.now) }
+        ensures tail { IfOk result
+            (λ t. t ≡ slot_of self.old.depth (next self.old.depth self.old.submitted)) }
+        ensures bytes { OnOk result
+            (M.bytes mem.new ≡ with_submission (M.bytes mem.old) self.old command.now) }
         ensures err { OnErr result (self.new ≡ self.old) }
         ensures err_bytes { OnErr result (M.bytes mem.new ≡ M.bytes mem.old) }
         ensures len { length (M.bytes mem.new) ≡ length (M.bytes mem.old) }
@@ -81,7 +84,8 @@ impl SubmitRing {
     /// the condition of `freed`.
     pub fn may_free(&self, head: u16) -> bool
         ensures ring { IsSubmitRing self.now }
-        ensures between { IsTrue result ↔ IsSlotBetween self.now.depth self.now.known self.now.submitted head }
+        ensures between { IsTrue result
+            ↔ IsSlotBetween self.now.depth self.now.known self.now.submitted head }
     {
         self.ring.may_free(head)
     }
