@@ -20,11 +20,6 @@ insert s n = map.insert s n tt
 abbrev pub IsOf : ℕ → ℕ → ℕ → Type 0
 IsOf first count n = (first ≤ n) × (n < first + count)
 
--- the `count` numbers from `first` on
-abbrev pub consecutive : ℕ → ℕ → List ℕ
-consecutive first zero = []
-consecutive first (suc count) = consecutive first count ++ (first + count) ∷ []
-
 -- those above a number, in the order of the list
 abbrev pub above : ℕ → List ℕ → List ℕ
 above n ns = filter (λ q. nat_lt n q) ns

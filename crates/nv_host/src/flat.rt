@@ -29,7 +29,8 @@ impl Model for FlatMemory {
 }
 
 impl FlatMemory {
-    /// A memory of this many pages, all of whose bytes are 0.
+    /// A memory of this many pages, all of whose bytes are 0. A page has 4096, 8192, 16384, 32768 or
+    /// 65536 bytes.
     #[tactic(auto, using(crate::specs::PageLaws::page_size_bounds))]
     pub fn new(alloc: Global, page_size: u32, pages: u32) -> Result<FlatMemory, Memory>
         requires { IsPageSize page_size }

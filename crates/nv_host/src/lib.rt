@@ -1,6 +1,18 @@
 //! The memory of an NVM Express host: its bytes in pages, and sets of page numbers.
 //!
 //! Sections are named as in the NVM Express Base Specification, revision 1.4.
+//!
+//! ```
+//! // 16 pages of 4096 bytes, of which those from 4 on are free
+//! let mut mem = FlatMemory::new(alloc, 4096, 16)?;
+//! let mut free = PageSet::new(alloc, 4, 12)?;
+//! if let Some(page) = free.take() {
+//!     mem.store(u64::from(page) * 4096, &[0xff; 2])?;
+//!     let mut dword = [0; 4];
+//!     mem.load(u64::from(page) * 4096, &mut dword)?;
+//!     free.give(page);
+//! }
+//! ```
 #![tactic(auto)]
 
 ghost use Rattle.nv_host.specs.Bytes.{LengthStays, OthersStay, WrittenIsRead};
@@ -19,7 +31,8 @@ pub use inside::{load_inside, store_inside};
 pub use memory::{HostMemory, is_page_size, size_of_memory};
 pub use page_set::{PageNo, PageSet};
 
-/// The laws of loads and stores: what was stored is loaded, and other bytes stay.
+/// The laws of loads and stores: what was stored is loaded, and other bytes stay. A call does
+/// nothing.
 pub fn store_then_load()
     ensures written { WrittenIsRead }
     ensures others { OthersStay }

@@ -40,13 +40,13 @@ pub trait HostMemory {
         ensures err { OnErr result (bytes self.new ≡ bytes self.old) }
         ensures page { page_len self.new ≡ page_len self.old };
 
-    /// The bytes of a page.
+    /// The bytes of a page, whose number is less than `pages`.
     fn page(&self, n: u32) -> &[u8]
         requires { HasPage (bytes self.now) (page_len self.now) n }
         ensures value { result.now ≡ bytes_at (bytes self.now) (n * page_len self.now) (page_len self.now) }
         ensures len { length result.now ≡ page_len self.now };
 
-    /// Lends the bytes of a page, and nothing else.
+    /// Lends the bytes of a page, and nothing else. Its number is less than `pages`.
     fn page_mut(&mut self, n: u32) -> &mut [u8]
         requires { HasPage (bytes self.old) (page_len self.old) n }
         ensures* writes_back { sem 𝓛 (Lends Self.row (Array byte 0) self.entry result (with_page self.old n)) }

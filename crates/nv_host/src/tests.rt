@@ -46,19 +46,69 @@ fn pages_that_are_lent(rt: HostRuntime) {
 }
 
 #[test]
-fn set_of_three_pages(rt: HostRuntime) {
-    let Ok(mut pages) = PageSet::new(rt.alloc(), 5, 3) else {
+fn lowest_free_page_first(rt: HostRuntime) {
+    let Ok(mut pages) = PageSet::new(rt.alloc(), 62, 5) else {
         assert!(rt; false, "out of memory");
         return;
     };
-    let mut sum = 0u64;
-    for _ in 0..3 {
-        let Some(page) = pages.take() else {
-            assert!(rt; false, "a page is missing");
-            return;
-        };
-        sum = sum.wrapping_add(u64::from(page));
+    for page in 62..67 {
+        assert_eq!(rt; pages.take(), Some(page));
     }
-    assert_eq!(rt; sum, 5 + 6 + 7);
     assert_eq!(rt; pages.take(), None);
+}
+
+#[test]
+fn pages_given_in_reverse(rt: HostRuntime) {
+    let Ok(mut pages) = PageSet::new(rt.alloc(), 0, 3) else {
+        assert!(rt; false, "out of memory");
+        return;
+    };
+    let (Some(a), Some(b), Some(c)) = (pages.take(), pages.take(), pages.take()) else {
+        assert!(rt; false, "a page is missing");
+        return;
+    };
+    pages.give(c);
+    pages.give(b);
+    pages.give(a);
+    assert_eq!(rt; pages.take(), Some(0));
+    assert_eq!(rt; pages.take(), Some(1));
+    assert_eq!(rt; pages.take(), Some(2));
+    assert_eq!(rt; pages.take(), None);
+}
+
+#[test]
+fn errors_as_text(rt: HostRuntime) {
+    let Ok(range) = format!(in rt.alloc(); "{}", OutOfMemoryRange) else {
+        assert!(rt; false, "out of memory");
+        return;
+    };
+    let Ok(memory) = format!(in rt.alloc(); "{}", Memory) else {
+        assert!(rt; false, "out of memory");
+        return;
+    };
+    assert_eq!(rt; range.as_str(), "the range leaves the host's memory");
+    assert_eq!(rt; memory.as_str(), "out of memory");
+}
+
+/// The crate page's example.
+#[test]
+#[tactic(auto, unfolding(crate::specs::Pages::IsPageSize))]
+fn page_taken_and_filled(rt: HostRuntime) {
+    let (Ok(mut mem), Ok(mut free)) = (
+        FlatMemory::new(rt.alloc(), 4096, 16),
+        PageSet::new(rt.alloc(), 4, 12),
+    ) else {
+        assert!(rt; false, "out of memory");
+        return;
+    };
+    let Some(page) = free.take() else {
+        assert!(rt; false, "a page is missing");
+        return;
+    };
+    let mut dword = [0; 4];
+    assert_eq!(rt; mem.store(u64::from(page) * 4096, &[0xff; 2]), Ok(()));
+    assert_eq!(rt; mem.load(u64::from(page) * 4096, &mut dword), Ok(()));
+    assert_eq!(rt; dword, [0xff, 0xff, 0, 0]);
+    free.give(page);
+    assert_eq!(rt; free.take(), Some(4));
 }
