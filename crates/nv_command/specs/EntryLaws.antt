@@ -11,7 +11,8 @@ pub record FieldsFit (f : Fields) : Type 0 where
   pub cdw12 : f.cdw12 < 2 ^ 32
   pub cdw13 : f.cdw13 < 2 ^ 32
 
-pub entry_with_fits : (f : Fields) (nsid cid : ℕ) → FieldsFit f → nsid < 2 ^ 32 → cid < 2 ^ 16 → SqeFits (entry_with f nsid cid)
+pub entry_with_fits : (f : Fields) (nsid cid : ℕ) → FieldsFit f → nsid < 2 ^ 32 → cid < 2 ^ 16
+    → SqeFits (entry_with f nsid cid)
 entry_with_fits f nsid cid fits n c = record {
   opcode = fits.opcode;
   fuse = lit< tt;

@@ -36,7 +36,13 @@ row_of code.ControllerListInvalid = row 1 0x1c (codes "Controller List Invalid")
 
 -- the status of a refusal: More and Do Not Retry are set
 abbrev pub status_of_code : StatusCode → Status
-status_of_code code = record { sc = (row_of code).sc; sct = (row_of code).sct; crd = 0; more = true; dnr = true }
+status_of_code code = record {
+  sc = (row_of code).sc;
+  sct = (row_of code).sct;
+  crd = 0;
+  more = true;
+  dnr = true;
+}
 
 abbrev pub name_of_code : StatusCode → List ℕ
 name_of_code code = (row_of code).name

@@ -8,12 +8,14 @@ use Rattle.nv_command.specs.Reply.{FitsRecord, IsReplyTo, data_of, dword0_of, re
 use Rattle.nv_command.specs.declared.command.Command.{Command}
 use Rattle.nv_command.specs.declared.reply.Reply.{Reply}
 
--- the entry of a command fits its bits, and wherever its data lies it decodes to the command and to the
--- way of its data
+-- the entry of a command fits its bits, and wherever its data lies it decodes to the command
+-- and to the way of its data
 pub record Arrives (k : Command) (cid : ℕ) : Type 0 where
   pub fits : SqeFits (entry_of k cid)
-  pub transfer : (prp1 prp2 : ℕ) → transfer_of (with_pointer (entry_of k cid) prp1 prp2) ≡ Ok (transfer_by k)
-  pub command : (prp1 prp2 : ℕ) → command_of (with_pointer (entry_of k cid) prp1 prp2) (host_data_of k) ≡ Ok k
+  pub transfer : (prp1 prp2 : ℕ)
+      → transfer_of (with_pointer (entry_of k cid) prp1 prp2) ≡ Ok (transfer_by k)
+  pub command : (prp1 prp2 : ℕ)
+      → command_of (with_pointer (entry_of k cid) prp1 prp2) (host_data_of k) ≡ Ok k
   pub sent : length (host_data_of k) ≡ bytes_from_host (transfer_by k)
 
 abbrev pub CommandsTravel : Type 0

@@ -24,7 +24,14 @@ dword0_in (Err status) = 0
 -- a completion with this command identifier, dword 0 and status: no ring stands behind it, so its head and
 -- its phase tag are 0
 abbrev pub completion_with : ℕ → ℕ → Status → Cqe
-completion_with cid dword0 status = record { command_specific = dword0; sq_head = 0; sq_identifier = 0; cid = cid; phase = false; status = status }
+completion_with cid dword0 status = record {
+  command_specific = dword0;
+  sq_head = 0;
+  sq_identifier = 0;
+  cid = cid;
+  phase = false;
+  status = status;
+}
 
 abbrev pub completion_of : ℕ → Result Reply Status → Cqe
 completion_of cid answer = completion_with cid (dword0_in answer) (status_of answer)

@@ -44,7 +44,20 @@ lbafs_of fs = map lbaf_of fs ++ replicate (16 - length fs) no_lbaf
 
 -- a namespace that isn't there: zeros
 abbrev pub blank : IdNs
-blank = record { nsze = 0; ncap = 0; nuse = 0; nsfeat = 0; nlbaf = 0; flbas = 0; mc = 0; dpc = 0; dps = 0; nmic = 0; nvmcap = 0; lbafs = replicate 16 no_lbaf }
+blank = record {
+  nsze = 0;
+  ncap = 0;
+  nuse = 0;
+  nsfeat = 0;
+  nlbaf = 0;
+  flbas = 0;
+  mc = 0;
+  dpc = 0;
+  dps = 0;
+  nmic = 0;
+  nvmcap = 0;
+  lbafs = replicate 16 no_lbaf;
+}
 
 -- what all namespaces have in common: the formats (their number less one) and how metadata may lie
 abbrev pub common_of : List Format → ℕ → IdNs
@@ -75,7 +88,8 @@ active_namespace s c n = if is_active s c n then allocated_namespace s n else bl
 -- ---- replies
 
 abbrev pub active_reply : State → ℕ → ℕ → Reply
-active_reply s c n = reply.Namespace (if n == BROADCAST_NSID then common_of s.formats s.mc else active_namespace s c n)
+active_reply s c n =
+    reply.Namespace (if n == BROADCAST_NSID then common_of s.formats s.mc else active_namespace s c n)
 
 abbrev pub allocated_reply : State → ℕ → Reply
 allocated_reply s n = reply.Namespace (allocated_namespace s n)

@@ -9,6 +9,7 @@ use Rattle.nv_subsystem.specs.Effect.{effect_of}
 use Rattle.nv_subsystem.specs.Refusal.{refusal_of}
 use Rattle.nv_subsystem.specs.Reply.{reply_of}
 use Rattle.nv_subsystem.specs.State.{Controller, State, greatest_count}
+use Rattle.nv_subsystem.specs.declared.error_log.LogEntry.{LogEntry}
 use Rattle.nv_subsystem.specs.declared.origin.TheConstants.{SERIALS}
 
 -- one more, up to the greatest count
@@ -24,13 +25,23 @@ changed_at (x ∷ xs) (suc n) f = x ∷ changed_at xs n f
 abbrev pub with_controller : State → ℕ → (Controller → Controller) → State
 with_controller s c f = record s { controllers = changed_at s.controllers c f }
 
+-- the entry of a refusal in the error log
+abbrev pub log_entry : ℕ → ℕ → ℕ → Refusal → LogEntry
+log_entry count cid nsid r = record {
+  count = count;
+  cid = cid;
+  status = r.status;
+  nsid = nsid;
+  specific = r.specific;
+}
+
 -- a controller with one refusal more: the newest entry stands first, and ELPE + 1 are kept
 abbrev pub with_refusal : ℕ → ℕ → Refusal → Controller → Controller
 with_refusal nsid cid r x =
     let refusals = next_count x.refusals in
     record x {
       refusals = refusals;
-      log = take (x.identity.numbers.elpe + 1) (record { count = refusals; cid = cid; status = r.status; nsid = nsid; specific = r.specific } ∷ x.log);
+      log = take (x.identity.numbers.elpe + 1) (log_entry refusals cid nsid r ∷ x.log);
     }
 
 -- the state after a refusal of controller c
@@ -54,8 +65,14 @@ pub record Step : Type 0 where
   pub state : State
 
 abbrev pub step_by : Option Refusal → State → ℕ → Command → ℕ → Step
-step_by None s c k cid = record { answer = Ok (reply_of s c k); state = with_command (effect_of s c k) c }
-step_by (Some r) s c k cid = record { answer = Err r.status; state = with_command (refused s c (namespace_of k) cid r) c }
+step_by None s c k cid = record {
+  answer = Ok (reply_of s c k);
+  state = with_command (effect_of s c k) c;
+}
+step_by (Some r) s c k cid = record {
+  answer = Err r.status;
+  state = with_command (refused s c (namespace_of k) cid r) c;
+}
 
 -- a command of controller c with this command identifier
 abbrev pub step : State → ℕ → Command → ℕ → Step
