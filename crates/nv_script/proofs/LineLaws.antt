@@ -4,7 +4,8 @@ use Rattle.std.specs.Prelude.{IfOk}
 use Rattle.std.specs.Io.KnownBytes.{Appends}
 use Rattle.std.proofs.lemmas.List.{take_all}
 use Rattle.nv_subsystem.specs.State.{State}
-use Rattle.nv_script.specs.Ends.{Holds, IsFailureOf, Left, LineLeaves, CutIn, Printed, left_at, state_amid}
+use Rattle.nv_script.specs.Cuts.{CutIn, Holds, Left, left_at, state_amid}
+use Rattle.nv_script.specs.Feeding.{IsFailureOf, LineLeaves, Printed}
 use Rattle.nv_script.specs.Faults.{IsUnlessMemory}
 use Rattle.nv_script.specs.Outcomes.{carried_out, commands_of}
 use Rattle.nv_script.specs.Reading.{reading}

@@ -5,7 +5,7 @@ use Rattle.std.proofs.lemmas.Grind.{fold-append}
 use Rattle.std.proofs.lemmas.Bool.Decides.{nat_tests}
 use Rattle.std.specs.Prelude.{Option, Some, None, nat_le}
 use Rattle.nv_subsystem.specs.State.{State}
-use Rattle.nv_script.specs.Ends.{joined_lines}
+use Rattle.nv_script.specs.Cuts.{joined_lines}
 use Rattle.nv_script.specs.Results.{after, start, whole}
 use Rattle.nv_script.specs.ScriptLines.{Pieces, as_line, held, held_more, pieces, script_lines}
 use Rattle.nv_script.proofs.PieceSteps.{pieces-append, with-newline, with-other, with_byte}

@@ -14,4 +14,6 @@ pub mod Outcomes
 pub mod Texts
 pub mod ScriptLines
 pub mod Results
+pub mod Cuts
 pub mod Ends
+pub mod Feeding

@@ -3,7 +3,8 @@
 ghost use Rattle.std.specs.Prelude.{◌≡◌, ◌+◌, ◌<◌, ◌^◌, ℕ, List, Option, false, not, IfOk, length};
 ghost use Rattle.std.specs.Option.{option_copied};
 ghost use Rattle.nv_script.specs.Asking.{IsReady};
-ghost use Rattle.nv_script.specs.Ends.{IsFailureOf, LineLeaves, Printed, Stands, left_at};
+ghost use Rattle.nv_script.specs.Cuts.{left_at};
+ghost use Rattle.nv_script.specs.Feeding.{IsFailureOf, LineLeaves, Printed, Stands};
 ghost use Rattle.nv_script.specs.Faults.{IsUnlessMemory};
 ghost use Rattle.nv_script.specs.Outcomes.{Answers, carried_out, commands_of};
 ghost use Rattle.nv_script.specs.Reading.{IsKnown, reading};
@@ -34,9 +35,9 @@ pub struct Position {
 /// Writes a text, in as many writes as it takes. After a failing write the sink has taken a beginning of
 /// it.
 fn write_all<S: Sink>(sink: &mut S, text: &[u8]) -> bool
-    requires { S.has_failed sink.old ≡ false }
-    ensures text { WritesAll result (S.taken sink.old) (S.taken sink.new) text.now }
-    ensures failure { S.has_failed sink.new ≡ not result }
+    requires { (S.state sink.old).has_failed ≡ false }
+    ensures text { WritesAll result (S.state sink.old).taken (S.state sink.new).taken text.now }
+    ensures failure { (S.state sink.new).has_failed ≡ not result }
 {
     let mut rest = text;
     while !rest.is_empty() {
@@ -54,8 +55,8 @@ fn print<S: Sink>(
     text: Result<String, AllocError>,
     fault: RunEnd,
 ) -> Result<(), RunEnd>
-    requires { S.has_failed sink.old ≡ false }
-    ensures { Printed result fault text (S.taken sink.old) (S.taken sink.new) (S.has_failed sink.new) }
+    requires { (S.state sink.old).has_failed ≡ false }
+    ensures { Printed result fault text (S.state sink.old).taken (S.state sink.new).taken (S.state sink.new).has_failed }
 {
     match text {
         Err(_) => Err(RunEnd::Memory),
@@ -127,15 +128,15 @@ pub fn execute_line<D: Direct, O: Sink, M: Sink>(
     at: &mut Position,
     line: Option<&[u8]>,
 ) -> Result<(), RunEnd>
-    requires out_ready { O.has_failed out.old ≡ false }
-    requires messages_ready { M.has_failed messages.old ≡ false }
+    requires out_ready { (O.state out.old).has_failed ≡ false }
+    requires messages_ready { (M.state messages.old).has_failed ≡ false }
     requires ready { IsReady (D.state direct.old) serials.old }
     requires number { at.old.number + 1 < 2 ^ 64 }
     // Where the run stood after p, it then stands after p and this line, or is cut short in it.
     ensures left { (text : List ℕ) (p : Progress) (o m : Option (List ℕ)) → option_copied line.entry ≡ held text
-        → Stands p (left_at o (O.taken out.old) m (M.taken messages.old) (D.state direct.old)) serials.old at.old
-        → LineLeaves result p text (left_at o (O.taken out.new) m (M.taken messages.new) (D.state direct.new)) serials.new at.new }
-    ensures failure { IsFailureOf result (O.has_failed out.new) (M.has_failed messages.new) }
+        → Stands p (left_at o (O.state out.old).taken m (M.state messages.old).taken (D.state direct.old)) serials.old at.old
+        → LineLeaves result p text (left_at o (O.state out.new).taken m (M.state messages.new).taken (D.state direct.new)) serials.new at.new }
+    ensures failure { IsFailureOf result (O.state out.new).has_failed (M.state messages.new).has_failed }
     ensures ready { IsReady (D.state direct.new) serials.new }
     ensures number { at.new.number ≡ at.old.number + 1 }
 {

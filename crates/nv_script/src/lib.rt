@@ -23,6 +23,6 @@ pub use faults::LineFault;
 pub use options::OptionName;
 pub use reading::{Line, read_line};
 pub use requests::Request;
-pub use running::run;
+pub use running::{READ_LIMIT, run};
 pub use serving::{Direct, Straight};
-pub use streams::{OverRead, OverWrite, Sink, Source};
+pub use streams::{OverRead, OverWrite, READ_SIZE, Sink, Source};

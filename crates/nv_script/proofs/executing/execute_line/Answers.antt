@@ -1,5 +1,5 @@
 use Rattle.std.proofs.Common.{◌∙◌, ◌+◌, sym, ap, refl, length, [], Some, Ok, Err}
-use Rattle.nv_script.specs.Ends.{left_at}
+use Rattle.nv_script.specs.Cuts.{left_at}
 use Rattle.nv_script.specs.Faults.{fault_text}
 use Rattle.nv_script.specs.Outcomes.{carried_out, commands_of}
 use Rattle.nv_script.specs.Results.{LineResult, told_by}
@@ -23,9 +23,9 @@ returns-in-Ok-perform-clause-left g c text p o m is stands =
     let lr : LineResult = record { output = text_of r come.replies; message = []; status = Some 0; state = come.state; serials = come.serials } in
     let same = result_asked p text r s serials n here stands.holds.reached stands.next number ∙ ap (λ x. told_by x (n + 1) r come) answer.0 in
     let place = ap (λ x. let at : Position = record { number = x + 1; status = 0 } in at) number in
-    output_leaves p text lr (length (commands_of p.state r)) (left_at o (g.O.Sink.taken c.args.out.now) m (g.M.Sink.taken c.args.messages.now) s) (g.D.Direct.state c.perform.new.direct) c.perform.new.serials _
+    output_leaves p text lr (length (commands_of p.state r)) (left_at o (g.O.Sink.state c.args.out.now).taken m (g.M.Sink.state c.args.messages.now).taken s) (g.D.Direct.state c.perform.new.direct) c.perform.new.serials _
     same stands.holds c.perform.ensures.state c.perform.ensures.serials place (amid-all p text r s serials here stands.holds.reached stands.next)
-    c.print-in-Ok-perform.result c.in-Ok-perform.text (g.O.Sink.taken c.print-in-Ok-perform.new.sink) _ refl answer.1 c.print-in-Ok-perform.ensures
+    c.print-in-Ok-perform.result c.in-Ok-perform.text (g.O.Sink.state c.print-in-Ok-perform.new.sink).taken _ refl answer.1 c.print-in-Ok-perform.ensures
 
 pub returns-in-Err-perform-clause-left : goal.returns-in-Err-perform-clause-left
 returns-in-Err-perform-clause-left g c text p o m is stands =
@@ -41,9 +41,9 @@ returns-in-Err-perform-clause-left g c text p o m is stands =
     let lr : LineResult = record { output = []; message = message_of (n + 1) (refusal_text status); status = Some 2; state = come.state; serials = come.serials } in
     let same = result_asked p text r s serials n here stands.holds.reached stands.next number ∙ ap (λ x. told_by x (n + 1) r come) c.in-Err-perform.ensures.answer in
     let place = ap (λ x. let at : Position = record { number = x + 1; status = 2 } in at) number in
-    message_leaves p text lr (length (commands_of p.state r)) (left_at o (g.O.Sink.taken c.args.out.now) m (g.M.Sink.taken c.args.messages.now) s) (g.D.Direct.state c.perform.new.direct) c.perform.new.serials _
+    message_leaves p text lr (length (commands_of p.state r)) (left_at o (g.O.Sink.state c.args.out.now).taken m (g.M.Sink.state c.args.messages.now).taken s) (g.D.Direct.state c.perform.new.direct) c.perform.new.serials _
     same stands.holds c.perform.ensures.state c.perform.ensures.serials place (amid-all p text r s serials here stands.holds.reached stands.next)
-    c.print-in-Err-perform.result c.refusal_message-text.result (g.M.Sink.taken c.print-in-Err-perform.new.sink) _ refl c.refusal_message-text.ensures c.print-in-Err-perform.ensures
+    c.print-in-Err-perform.result c.refusal_message-text.result (g.M.Sink.state c.print-in-Err-perform.new.sink).taken _ refl c.refusal_message-text.ensures c.print-in-Err-perform.ensures
 
 pub returns-in-Memory-clause-left : goal.returns-in-Memory-clause-left
 returns-in-Memory-clause-left g c text p o m is stands = (
@@ -63,6 +63,6 @@ returns-in_default-clause-left g c text p o m is stands =
     let lr : LineResult = record { output = []; message = message_of (n + 1) (fault_text f); status = Some 1; state = s; serials = serials } in
     let same = result_fault p text f s serials n here stands.holds.reached stands.next number in
     let place = ap (λ x. let at : Position = record { number = x + 1; status = 1 } in at) number in
-    message_leaves p text lr 0 (left_at o (g.O.Sink.taken c.args.out.now) m (g.M.Sink.taken c.args.messages.now) s) s serials _
+    message_leaves p text lr 0 (left_at o (g.O.Sink.state c.args.out.now).taken m (g.M.Sink.state c.args.messages.now).taken s) s serials _
     same stands.holds refl refl place (stands.holds.reached ∙ sym (amid-zero p.state p.serials _))
-    c.print.result c.fault_message-text.result (g.M.Sink.taken c.print.new.sink) _ refl c.fault_message-text.ensures c.print.ensures
+    c.print.result c.fault_message-text.result (g.M.Sink.state c.print.new.sink).taken _ refl c.fault_message-text.ensures c.print.ensures

@@ -1,7 +1,8 @@
 use Rattle.std.proofs.Common.{◌∙◌, ◌++◌, ap, arith, get_or, subst, sym, take, List, ℕ, Ok}
 use Rattle.std.proofs.lemmas.Result.{err_from_is_err_and}
 use Rattle.std.proofs.lemmas.List.{take_all}
-use Rattle.nv_script.specs.Ends.{PieceLeaves, Stands, left_at}
+use Rattle.nv_script.specs.Cuts.{left_at}
+use Rattle.nv_script.specs.Feeding.{PieceLeaves, Stands}
 use Rattle.nv_script.specs.Results.{Progress, whole}
 use Rattle.nv_script.specs.ScriptLines.{Pieces, held, held_more, pieces}
 use Rattle.nv_script.proofs.PieceLaws.{held-more, pieces-newline, pieces-other, taken-more, whole-more}
@@ -35,7 +36,7 @@ loop-byte-preserved g c =
                 let done = w.in_ok-execute_line.ensures.left (pieces xs).last (whole s (pieces xs).ended) o m (w.held.ensures ∙ fed.0) fed.1 in
                 let more = ap pieces (taken-more bytes piece i c.loop-byte-test.true) ∙ pieces-newline xs (get_or piece i 0) w.if-byte-eq10.true in (
                   w.clear.ensures ∙ sym (ap (λ (x : Pieces). held x.last) more),
-                  subst (λ (q : Progress). Stands q (left_at o (g.O.Sink.taken w.execute_line.new.out) m (g.M.Sink.taken w.execute_line.new.messages) (g.D.Direct.state w.execute_line.new.direct)) w.execute_line.new.serials w.execute_line.new.at)
+                  subst (λ (q : Progress). Stands q (left_at o (g.O.Sink.state w.execute_line.new.out).taken m (g.M.Sink.state w.execute_line.new.messages).taken (g.D.Direct.state w.execute_line.new.direct)) w.execute_line.new.serials w.execute_line.new.at)
                       (sym (ap (λ (x : Pieces). whole s x.ended) more ∙ whole-more s (pieces xs).ended (pieces xs).last)) done,
                 );
           })
@@ -50,7 +51,7 @@ loop-byte-preserved g c =
                 let fed = inv.fed s bytes o m is stands in
                 let more = ap pieces (taken-more bytes piece i c.loop-byte-test.true) ∙ pieces-other xs (get_or piece i 0) w.if-byte-eq10.false in (
                   w.push.ensures ∙ ap (λ x. held_more x (get_or piece i 0)) fed.0 ∙ held-more (pieces xs).last (get_or piece i 0) ∙ sym (ap (λ (x : Pieces). held x.last) more),
-                  subst (λ (q : Progress). Stands q (left_at o (g.O.Sink.taken c.loop-byte.out) m (g.M.Sink.taken c.loop-byte.messages) (g.D.Direct.state c.loop-byte.direct)) c.loop-byte.serials c.loop-byte.at)
+                  subst (λ (q : Progress). Stands q (left_at o (g.O.Sink.state c.loop-byte.out).taken m (g.M.Sink.state c.loop-byte.messages).taken (g.D.Direct.state c.loop-byte.direct)) c.loop-byte.serials c.loop-byte.at)
                       (sym (ap (λ (x : Pieces). whole s x.ended) more)) fed.1,
                 );
           })
@@ -58,5 +59,5 @@ loop-byte-preserved g c =
 
 pub returns-clause-left : goal.returns-clause-left
 returns-clause-left g c s bytes o m is stands =
-    subst (λ (xs : List ℕ). PieceLeaves {A = Unit {0}} (Ok tt) s bytes xs c.loop-byte.line (left_at o (g.O.Sink.taken c.loop-byte.out) m (g.M.Sink.taken c.loop-byte.messages) (g.D.Direct.state c.loop-byte.direct)) c.loop-byte.serials c.loop-byte.at)
+    subst (λ (xs : List ℕ). PieceLeaves {A = Unit {0}} (Ok tt) s bytes xs c.loop-byte.line (left_at o (g.O.Sink.state c.loop-byte.out).taken m (g.M.Sink.state c.loop-byte.messages).taken (g.D.Direct.state c.loop-byte.direct)) c.loop-byte.serials c.loop-byte.at)
     (take_all c.loop-byte.byte-index c.args.piece.now c.loop-byte-test.false) (c.loop-byte.invariant.fed s bytes o m is stands)
