@@ -1,6 +1,8 @@
 //! Readers and writers of the standard library as the streams of a run: each call of a stream is one call
 //! of what it stands over.
 
+ghost use Rattle.std.specs.Prelude.{◌≤◌, length};
+
 use nv_script::{OverRead, OverWrite, RunEnd, Straight, run};
 use nv_subsystem::{DEMO, Subsystem};
 use std::cmp;
@@ -21,24 +23,21 @@ enum Turn<'a> {
 #[derive(Drop)]
 struct TurnReader<'a> {
     turns: &'a [Turn<'a>],
-    calls: u64,
+    calls: usize,
 }
 
 impl<'a> Read for TurnReader<'a> {
     fn read(&mut self, buf: &mut [u8]) -> io::Result<usize> {
+        let turn = self.turns.get(self.calls).copied();
         self.calls = self.calls.saturating_add(1);
-        let Some((turn, rest)) = self.turns.split_first() else {
-            return Ok(0);
-        };
-        self.turns = rest;
-        match *turn {
-            Turn::Gives(bytes) => {
+        match turn {
+            Some(Turn::Gives(bytes)) => {
                 let count = cmp::min(bytes.len(), buf.len());
                 buf[..count].copy_from_slice(&bytes[..count]);
                 Ok(count)
             }
-            Turn::Takes(_) => Ok(0),
-            Turn::Fails => Err(io::Error::from(ErrorKind::Interrupted)),
+            Some(Turn::Fails) => Err(io::Error::from(ErrorKind::Interrupted)),
+            Some(Turn::Takes(_)) | None => Ok(0),
         }
     }
 }
@@ -49,7 +48,8 @@ struct TurnWriter<'a> {
     turns: &'a [Turn<'a>],
     bytes: [u8; 64],
     len: usize,
-    calls: u64,
+    calls: usize,
+    ghost room: { len ≤ 64 },
 }
 
 impl<'a> TurnWriter<'a> {
@@ -62,30 +62,26 @@ impl<'a> TurnWriter<'a> {
         }
     }
 
-    fn take(&mut self, bytes: &[u8], most: usize) -> usize {
-        let mut count = 0;
-        for byte in bytes {
-            if count < most && self.len < 64 {
-                self.bytes[self.len] = *byte;
-                self.len += 1;
-                count += 1;
-            }
-        }
+    /// Takes so many bytes at most, and up to 64 in all.
+    fn take(&mut self, bytes: &[u8], most: usize) -> usize
+        ensures { result ≤ length bytes.now }
+    {
+        let count = cmp::min(cmp::min(bytes.len(), most), 64 - self.len);
+        self.bytes[self.len..self.len + count].copy_from_slice(&bytes[..count]);
+        self.len += count;
         count
     }
 }
 
 impl<'a> Write for TurnWriter<'a> {
     fn write(&mut self, buf: &[u8]) -> io::Result<usize> {
+        let turn = self.turns.get(self.calls).copied();
         self.calls = self.calls.saturating_add(1);
-        let Some((turn, rest)) = self.turns.split_first() else {
-            return Ok(self.take(buf, 64));
-        };
-        self.turns = rest;
-        match *turn {
-            Turn::Gives(_) => Ok(0),
-            Turn::Takes(most) => Ok(self.take(buf, most)),
-            Turn::Fails => Err(io::Error::from(ErrorKind::Interrupted)),
+        match turn {
+            Some(Turn::Takes(most)) => Ok(self.take(buf, most)),
+            Some(Turn::Fails) => Err(io::Error::from(ErrorKind::Interrupted)),
+            Some(Turn::Gives(_)) => Ok(0),
+            None => Ok(self.take(buf, 64)),
         }
     }
 

@@ -42,14 +42,14 @@ impl<'a> Source for PieceSource<'a> {
     } };
 
     fn read(&mut self, buf: &mut [u8]) -> Option<usize> {
+        let piece = self.pieces.get(self.calls as usize).copied();
         self.calls += 1;
-        let Some((piece, rest)) = self.pieces.split_first() else {
+        let Some(piece) = piece else {
             self.failed = true;
             return None;
         };
         let count = cmp::min(piece.len(), buf.len());
         buf[..count].copy_from_slice(&piece[..count]);
-        self.pieces = rest;
         self.ended = count == 0;
         self.given += count as u64;
         Some(count)

@@ -7,15 +7,17 @@ use Rattle.std.proofs.lemmas.List.Elements.{All-replicate}
 use Rattle.nv_subsystem.specs.State.{State}
 use Rattle.nv_subsystem.specs.WellFormed.{IsWellFormed}
 use Rattle.nv_script.specs.Asking.{IsReady}
-use Rattle.nv_script.specs.Cuts.{CutShort, Holds, HoldsWhole, Left, joined_lines}
+use Rattle.nv_script.specs.Cuts.{IsCutShort, Holds, HoldsWhole, Left, joined_lines}
 use Rattle.nv_script.specs.Ends.{Headline, IsEndOf, Leaves, RunState, RunsWithin, WasRead, left_by}
 use Rattle.nv_script.specs.Feeding.{IsFailureOf, LastLeaves, PieceLeaves, Stands}
 use Rattle.nv_script.specs.Results.{Progress, whole}
 use Rattle.nv_script.specs.ScriptLines.{as_line, pieces, script_lines}
+use Rattle.nv_script.specs.Session.{serials_of}
 use Rattle.nv_script.specs.Streams.{SourceState}
 use Rattle.nv_script.specs.declared.ends.RunEnd.{RunEnd}
 use Rattle.nv_script.specs.declared.ends.RunEnd.TheVariants.{Status, Read, OutWrite, MessageWrite, Memory}
-use Rattle.nv_script.specs.declared.executing.Position.{Position}
+use Rattle.nv_script.specs.declared.session.Session.{Session}
+use Rattle.nv_script.specs.declared.streams.TheConstants.{READ_SIZE}
 use Rattle.nv_script.proofs.PieceLaws.{as_line-some, length-joined, length-pieces, piece-among}
 use Rattle.nv_script.proofs.Taking.{Appends-same, Consumes-join, Consumes-nothing, Consumes-same, length-taken}
 
@@ -28,14 +30,10 @@ pub no_last : (bytes : List ℕ) → as_line (pieces bytes).last ≡ [] → scri
 no_last bytes e = ap (λ x. (pieces bytes).ended ++ x) e ∙ append-nil (pieces bytes).ended
 
 -- a run that stands after all lines
-pub ends_whole : (s : State) (bytes : List ℕ) (q : Progress) (left : Left) (serials : List ℕ) (at : Position) → whole s (script_lines bytes) ≡ q → Stands q left serials at
-    → Leaves (Status at.status) s bytes left
-ends_whole s bytes q left serials at e h =
-    (ap (λ (x : Position). x.status) h.place ∙ ap (λ (x : Progress). x.status) (sym e), subst (λ (x : Progress). Holds left x.output x.messages x.state) (sym e) h.holds)
-
--- before the first line the serials are 0
-pub serials_first : (s : State) (n : ℕ) → IsWellFormed s → n ≡ length s.controllers → take {A = ℕ} n (replicate 16 0) ≡ replicate (length s.controllers) 0
-serials_first s n well_formed e = take-replicate n 16 0 (omega (arith, well_formed.controller_count.1, e)) ∙ ap (λ k. replicate k 0) e
+pub ends_whole : (s : State) (bytes : List ℕ) (q : Progress) (left : Left) (session : Session) → whole s (script_lines bytes) ≡ q → Stands q left session
+    → Leaves (Status session.status) s bytes left
+ends_whole s bytes q left session e h =
+    (h.status ∙ ap (λ (x : Progress). x.status) (sym e), subst (λ (x : Progress). Holds left x.output x.messages x.state) (sym e) h.holds)
 
 pub ready_first : (s : State) (serials : List ℕ) → IsWellFormed s → serials ≡ replicate (length s.controllers) 0 → IsReady s serials
 ready_first s serials well_formed e = subst (IsReady s) (sym e) (record {
@@ -48,16 +46,17 @@ ready_first s serials well_formed e = subst (IsReady s) (sym e) (record {
 pub read_first : (script : SourceState) → script.given ≡ 0 → WasRead script script []
 read_first script e = record { first = Consumes-same script.to_come; count = sym e }
 
-pub stands_first : (s : State) (left : Left) (serials : List ℕ) → left.out ≡ left.out_before → left.messages ≡ left.messages_before → left.state ≡ s → serials ≡ replicate (length s.controllers) 0
-    → Stands (whole s (pieces []).ended) left serials (record { number = 0; status = 0 })
-stands_first s left serials eo em es er = record {
+pub stands_first : (s : State) (left : Left) (session : Session) → left.out ≡ left.out_before → left.messages ≡ left.messages_before → left.state ≡ s → serials_of session ≡ replicate (length s.controllers) 0 → session.number ≡ 0 → session.status ≡ 0
+    → Stands (whole s (pieces []).ended) left session
+stands_first s left session eo em es er en et = record {
   holds = record {
     took_output = subst (λ x. Appends left.out_before x []) (sym eo) (Appends-same left.out_before);
     took_messages = subst (λ x. Appends left.messages_before x []) (sym em) (Appends-same left.messages_before);
     reached = es;
   };
   next = er;
-  place = refl;
+  number = en;
+  status = et;
 }
 
 -- what is told and was read to its end is what was read
@@ -73,7 +72,7 @@ headline reads end old new h status e =
     read_whole old.script.to_come new.script.to_come h.bytes (λ script. Leaves (Status status) old.subsystem script (left_by old new)) h.was_read.first ended.4 left
 
 -- cut short: what is left
-pub cut_leaves : (end : RunEnd) (s : State) (bytes : List ℕ) (left : Left) → CutShort end s bytes left → Leaves end s bytes left
+pub cut_leaves : (end : RunEnd) (s : State) (bytes : List ℕ) (left : Left) → IsCutShort end s bytes left → Leaves end s bytes left
 cut_leaves (Status status) s bytes left h = absurd h.beginning
 cut_leaves Read s bytes left h = absurd h.beginning
 cut_leaves OutWrite s bytes left h = h
@@ -88,7 +87,7 @@ cut_ends MessageWrite reads now h = h
 cut_ends Memory reads now h = h
 
 -- in the last piece
-pub last_cut : (end : RunEnd) (s : State) (bytes : List ℕ) (left : Left) → LastLeaves (Err end) s bytes left → CutShort end s bytes left
+pub last_cut : (end : RunEnd) (s : State) (bytes : List ℕ) (left : Left) → LastLeaves (Err end) s bytes left → IsCutShort end s bytes left
 last_cut end s bytes left h =
     let ended = (pieces bytes).ended in
     let last = (pieces bytes).last in
@@ -102,9 +101,9 @@ last_cut end s bytes left h =
     }
 
 -- in a line of a further piece
-pub piece_cut : (end : RunEnd) (s : State) (bytes piece : List ℕ) (line : Option (List ℕ)) (left : Left) (serials : List ℕ) (at : Position) → length piece ≤ 4096
-    → PieceLeaves {A = Unit {0}} (Err end) s bytes piece line left serials at → CutShort end s (bytes ++ piece) left
-piece_cut end s bytes piece line left serials at small h =
+pub piece_cut : (end : RunEnd) (s : State) (bytes piece : List ℕ) (line : Option (List ℕ)) (left : Left) (session : Session) → length piece ≤ READ_SIZE
+    → PieceLeaves {A = Unit {0}} (Err end) s bytes piece line left session → IsCutShort end s (bytes ++ piece) left
+piece_cut end s bytes piece line left session small h =
     let i = h.0 in
     let xs = bytes ++ take i piece in
     let among = piece-among bytes piece i h.1 h.2 in

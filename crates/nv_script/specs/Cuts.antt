@@ -64,12 +64,12 @@ IsMemoryBeginning p line left = (k : ℕ)
     × Holds left p.output p.messages (state_amid p.state p.serials (said_at p line) k)
 
 -- how a run is cut short in a line after p
-abbrev pub CutIn : RunEnd → Progress → List ℕ → Left → Type 0
-CutIn OutWrite p line left = IsOutputBeginning p line left
-CutIn MessageWrite p line left = IsMessageBeginning p line left
-CutIn Memory p line left = IsMemoryBeginning p line left
-CutIn (Status s) p line left = ⊥
-CutIn Read p line left = ⊥
+abbrev pub IsCutIn : RunEnd → Progress → List ℕ → Left → Type 0
+IsCutIn OutWrite p line left = IsOutputBeginning p line left
+IsCutIn MessageWrite p line left = IsMessageBeginning p line left
+IsCutIn Memory p line left = IsMemoryBeginning p line left
+IsCutIn (Status s) p line left = ⊥
+IsCutIn Read p line left = ⊥
 
 -- the bytes of these lines, with the newlines that ended them
 abbrev pub joined_lines : List (List ℕ) → List ℕ
@@ -77,10 +77,10 @@ joined_lines lines = flat_map (λ line. line ++ 10 ∷ []) lines
 
 -- a run that read these bytes was cut short in one of their lines, and had read at most 4,095 bytes past
 -- that line's newline
-pub record CutShort (end : RunEnd) (s : State) (bytes : List ℕ) (left : Left) : Type 0 where
+pub record IsCutShort (end : RunEnd) (s : State) (bytes : List ℕ) (left : Left) : Type 0 where
   pub before : List (List ℕ)
   pub line : List ℕ
   pub later : List (List ℕ)
   pub lines : script_lines bytes ≡ before ++ line ∷ later
-  pub beginning : CutIn end (whole s before) line left
+  pub beginning : IsCutIn end (whole s before) line left
   pub ahead : length bytes < length (joined_lines (before ++ line ∷ [])) + READ_SIZE

@@ -2,7 +2,7 @@
 use Rattle.std.specs.Prelude.{◌≡◌, ℕ, ◌≤◌, ◌==◌, ◌||◌, Bool, true, false, List, length, IfSome}
 use Rattle.std.specs.Io.KnownBytes.{Consumes, IsAtEnd}
 use Rattle.nv_subsystem.specs.State.{State}
-use Rattle.nv_script.specs.Cuts.{CutShort, HoldsWhole, Left, left_at}
+use Rattle.nv_script.specs.Cuts.{IsCutShort, HoldsWhole, Left, left_at}
 use Rattle.nv_script.specs.Results.{whole}
 use Rattle.nv_script.specs.ScriptLines.{pieces, script_lines}
 use Rattle.nv_script.specs.Streams.{SinkState, SourceState}
@@ -33,9 +33,9 @@ pub record WasRead (old new : SourceState) (bytes : List ℕ) : Type 0 where
 abbrev pub Leaves : RunEnd → State → List ℕ → Left → Type 0
 Leaves (Status status) s bytes left = (status ≡ (whole s (script_lines bytes)).status) × HoldsWhole s (script_lines bytes) left
 Leaves Read s bytes left = HoldsWhole s (pieces bytes).ended left
-Leaves OutWrite s bytes left = CutShort OutWrite s bytes left
-Leaves MessageWrite s bytes left = CutShort MessageWrite s bytes left
-Leaves Memory s bytes left = CutShort Memory s bytes left
+Leaves OutWrite s bytes left = IsCutShort OutWrite s bytes left
+Leaves MessageWrite s bytes left = IsCutShort MessageWrite s bytes left
+Leaves Memory s bytes left = IsCutShort Memory s bytes left
 
 -- the source has failed, or was asked as often as it may be
 abbrev pub has_stopped : ℕ → SourceState → Bool

@@ -13,6 +13,7 @@ pub mod Asking
 pub mod Outcomes
 pub mod Texts
 pub mod ScriptLines
+pub mod Session
 pub mod Results
 pub mod Cuts
 pub mod Ends

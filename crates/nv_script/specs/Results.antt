@@ -6,7 +6,6 @@ use Rattle.nv_script.specs.Faults.{fault_text}
 use Rattle.nv_script.specs.Outcomes.{Outcome, carried_out, commands_of}
 use Rattle.nv_script.specs.Reading.{reading}
 use Rattle.nv_script.specs.Texts.{message_of, refusal_text, text_of}
-use Rattle.nv_script.specs.declared.executing.Position.{Position}
 use Rattle.nv_script.specs.declared.faults.LineFault.{LineFault}
 use Rattle.nv_script.specs.declared.reading.Line.{Line}
 use Rattle.nv_script.specs.declared.reading.Line.TheVariants.{Skipped, Asked}
@@ -21,18 +20,42 @@ pub record LineResult : Type 0 where
   pub serials : List ℕ
 
 -- a request prints its text, or the message of its refusal
-abbrev pub told_by : Option Status → ℕ → Request → Outcome → LineResult
-told_by None number r o = record { output = text_of r o.replies; message = []; status = Some 0; state = o.state; serials = o.serials }
-told_by (Some status) number r o = record { output = []; message = message_of number (refusal_text status); status = Some 2; state = o.state; serials = o.serials }
+abbrev pub answer_result : Option Status → ℕ → Request → Outcome → LineResult
+answer_result None number r o = record {
+  output = text_of r o.replies;
+  message = [];
+  status = Some 0;
+  state = o.state;
+  serials = o.serials;
+}
+answer_result (Some status) number r o = record {
+  output = [];
+  message = message_of number (refusal_text status);
+  status = Some 2;
+  state = o.state;
+  serials = o.serials;
+}
 
-abbrev pub told : ℕ → Request → Outcome → LineResult
-told number r o = told_by o.refusal number r o
+abbrev pub request_result : ℕ → Request → Outcome → LineResult
+request_result number r o = answer_result o.refusal number r o
+
+-- a line that sends no command
+abbrev pub quiet_result : State → List ℕ → List ℕ → Option ℕ → LineResult
+quiet_result s serials message status = record {
+  output = [];
+  message = message;
+  status = status;
+  state = s;
+  serials = serials;
+}
 
 -- the line of this number
 abbrev pub line_result : State → List ℕ → ℕ → Result Line LineFault → LineResult
-line_result s serials number (Ok Skipped) = record { output = []; message = []; status = None; state = s; serials = serials }
-line_result s serials number (Ok (Asked r)) = told number r (carried_out s serials (commands_of s r))
-line_result s serials number (Err fault) = record { output = []; message = message_of number (fault_text fault); status = Some 1; state = s; serials = serials }
+line_result s serials number (Ok Skipped) = quiet_result s serials [] None
+line_result s serials number (Ok (Asked r)) =
+    request_result number r (carried_out s serials (commands_of s r))
+line_result s serials number (Err fault) =
+    quiet_result s serials (message_of number (fault_text fault)) (Some 1)
 
 -- where a script stands between two lines: what was printed, the status of the last line that has one, the
 -- subsystem, the next serial of each controller, and how many lines there were
@@ -52,8 +75,8 @@ said_at p line = reading line (length p.state.controllers)
 abbrev pub result_at : Progress → List ℕ → LineResult
 result_at p line = line_result p.state p.serials (p.number + 1) (said_at p line)
 
-abbrev pub advanced : Progress → LineResult → Progress
-advanced p r = record {
+abbrev pub progress_with : Progress → LineResult → Progress
+progress_with p r = record {
   output = p.output ++ r.output;
   messages = p.messages ++ r.message;
   status = unwrap_or r.status p.status;
@@ -63,16 +86,19 @@ advanced p r = record {
 }
 
 abbrev pub after : Progress → List ℕ → Progress
-after p line = advanced p (result_at p line)
+after p line = progress_with p (result_at p line)
 
 -- before the first line: serials are 0
 abbrev pub start : State → Progress
-start s = record { output = []; messages = []; status = 0; state = s; serials = replicate (length s.controllers) 0; number = 0 }
+start s = record {
+  output = [];
+  messages = [];
+  status = 0;
+  state = s;
+  serials = replicate (length s.controllers) 0;
+  number = 0;
+}
 
 -- a whole script, from this state on
 abbrev pub whole : State → List (List ℕ) → Progress
 whole s lines = fold after (start s) lines
-
--- the part of it that the run keeps beside the serials
-abbrev pub position : Progress → Position
-position p = record { number = p.number; status = p.status }

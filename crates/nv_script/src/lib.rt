@@ -14,6 +14,7 @@ mod reading;
 mod requests;
 mod running;
 mod serving;
+mod session;
 mod streams;
 mod texts;
 mod words;

@@ -3,18 +3,19 @@
 ghost use Rattle.std.specs.Prelude.{◌≡◌, ◌≢◌, ◌↔◌, ◌+◌, ◌<◌, ◌≤◌, ◌^◌, List, Option, ℕ, false, true, length, OnOk};
 ghost use Rattle.nv_subsystem.specs.State.{State};
 ghost use Rattle.nv_subsystem.specs.WellFormed.{IsWellFormed};
-ghost use Rattle.nv_script.specs.Asking.{IsReady};
 ghost use Rattle.nv_script.specs.Cuts.{left_at};
 ghost use Rattle.nv_script.specs.Ends.{Headline, RunsWithin, has_stopped, run_state};
 ghost use Rattle.nv_script.specs.Feeding.{IsFailureOf, LastLeaves, PieceLeaves, Stands};
 ghost use Rattle.nv_script.specs.Results.{whole};
-ghost use Rattle.nv_script.specs.ScriptLines.{held, pieces};
+ghost use Rattle.nv_script.specs.ScriptLines.{buffer_of, pieces};
+ghost use Rattle.nv_script.specs.Session.{IsSessionOf};
 ghost use Rattle.nv_script.specs.Streams.{IsFresh};
 
 use crate::ends::RunEnd;
-use crate::executing::{Position, execute_line};
+use crate::executing::execute_line;
 use crate::line_buffer::LineBuffer;
 use crate::serving::Direct;
+use crate::session::Session;
 use crate::streams::{READ_SIZE, Sink, Source};
 use std::alloc::Global;
 
@@ -22,27 +23,26 @@ use std::alloc::Global;
 fn feed<D: Direct, O: Sink, M: Sink>(
     alloc: Global,
     direct: &mut D,
-    serials: &mut [u16],
+    session: &mut Session,
     out: &mut O,
     messages: &mut M,
-    at: &mut Position,
     line: &mut LineBuffer,
     piece: &[u8],
 ) -> Result<(), RunEnd>
     requires out_ready { (O.state out.old).has_failed ≡ false }
     requires messages_ready { (M.state messages.old).has_failed ≡ false }
-    requires ready { IsReady (D.state direct.old) serials.old }
-    requires number { at.old.number + length piece.now < 2 ^ 64 }
-    ensures left { (s : State) (bytes : List ℕ) (o m : Option (List ℕ)) → line.old ≡ held (pieces bytes).last
-        → Stands (whole s (pieces bytes).ended) (left_at o (O.state out.old).taken m (M.state messages.old).taken (D.state direct.old)) serials.old at.old
-        → PieceLeaves result s bytes piece.now line.new (left_at o (O.state out.new).taken m (M.state messages.new).taken (D.state direct.new)) serials.new at.new }
+    requires ready { IsSessionOf (D.state direct.old) session.old }
+    requires number { session.old.number + length piece.now < 2 ^ 64 }
+    ensures left { (s : State) (bytes : List ℕ) (o m : Option (List ℕ)) → line.old ≡ buffer_of (pieces bytes).last
+        → Stands (whole s (pieces bytes).ended) (left_at o (O.state out.old).taken m (M.state messages.old).taken (D.state direct.old)) session.old
+        → PieceLeaves result s bytes piece.now line.new (left_at o (O.state out.new).taken m (M.state messages.new).taken (D.state direct.new)) session.new }
     ensures failure { IsFailureOf result (O.state out.new).has_failed (M.state messages.new).has_failed }
-    ensures ready { IsReady (D.state direct.new) serials.new }
-    ensures number { OnOk result (at.new.number ≤ at.old.number + length piece.now) }
+    ensures ready { IsSessionOf (D.state direct.new) session.new }
+    ensures number { OnOk result (session.new.number ≤ session.old.number + length piece.now) }
 {
     for byte in piece {
         if *byte == b'\n' {
-            execute_line(alloc, direct, serials, out, messages, at, line.held())?;
+            execute_line(alloc, direct, session, out, messages, line.line())?;
             line.clear();
         } else {
             line.push(*byte);
@@ -55,25 +55,24 @@ fn feed<D: Direct, O: Sink, M: Sink>(
 fn finish<D: Direct, O: Sink, M: Sink>(
     alloc: Global,
     direct: &mut D,
-    serials: &mut [u16],
+    session: &mut Session,
     out: &mut O,
     messages: &mut M,
-    at: &mut Position,
     line: &LineBuffer,
 ) -> Result<u8, RunEnd>
     requires out_ready { (O.state out.old).has_failed ≡ false }
     requires messages_ready { (M.state messages.old).has_failed ≡ false }
-    requires ready { IsReady (D.state direct.old) serials.old }
-    requires number { at.old.number + 1 < 2 ^ 64 }
-    ensures left { (s : State) (bytes : List ℕ) (o m : Option (List ℕ)) → line.now ≡ held (pieces bytes).last
-        → Stands (whole s (pieces bytes).ended) (left_at o (O.state out.old).taken m (M.state messages.old).taken (D.state direct.old)) serials.old at.old
+    requires ready { IsSessionOf (D.state direct.old) session.old }
+    requires number { session.old.number + 1 < 2 ^ 64 }
+    ensures left { (s : State) (bytes : List ℕ) (o m : Option (List ℕ)) → line.now ≡ buffer_of (pieces bytes).last
+        → Stands (whole s (pieces bytes).ended) (left_at o (O.state out.old).taken m (M.state messages.old).taken (D.state direct.old)) session.old
         → LastLeaves result s bytes (left_at o (O.state out.new).taken m (M.state messages.new).taken (D.state direct.new)) }
     ensures failure { IsFailureOf result (O.state out.new).has_failed (M.state messages.new).has_failed }
 {
     if !line.is_empty() {
-        execute_line(alloc, direct, serials, out, messages, at, line.held())?;
+        execute_line(alloc, direct, session, out, messages, line.line())?;
     }
-    Ok(at.status)
+    Ok(session.status)
 }
 
 /// Runs a script with at most this many reads: each line is executed as soon as its newline is read.
@@ -94,13 +93,7 @@ fn run_within<D: Direct, R: Source, O: Sink, M: Sink>(
         (run_state (D.state direct.old) (R.state script.old) (O.state out.old) (M.state messages.old))
         (run_state (D.state direct.new) (R.state script.new) (O.state out.new) (M.state messages.new)) }
 {
-    let mut serials = [0u16; 16];
-    let controllers = direct.controllers() as usize;
-    let serials = &mut serials[..controllers];
-    let mut at = Position {
-        number: 0,
-        status: 0,
-    };
+    let mut session = Session::new(direct.controllers());
     let mut line = LineBuffer::new();
     let mut piece = [0u8; READ_SIZE];
     for call in 0..reads {
@@ -111,15 +104,13 @@ fn run_within<D: Direct, R: Source, O: Sink, M: Sink>(
             if call + 1 == reads {
                 return RunEnd::Read;
             }
-            return match finish(alloc, direct, serials, out, messages, &mut at, &line) {
+            return match finish(alloc, direct, &mut session, out, messages, &line) {
                 Ok(status) => RunEnd::Status(status),
                 Err(end) => end,
             };
         }
         let piece = &piece[..count];
-        if let Err(end) = feed(
-            alloc, direct, serials, out, messages, &mut at, &mut line, piece,
-        ) {
+        if let Err(end) = feed(alloc, direct, &mut session, out, messages, &mut line, piece) {
             return end;
         }
     }

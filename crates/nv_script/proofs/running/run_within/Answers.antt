@@ -1,9 +1,10 @@
-use Rattle.std.proofs.Common.{◌∙◌, ◌≤◌, ◌≡◌, ◌++◌, [], arith, length, refl, sym, true, false, take}
+use Rattle.std.proofs.Common.{◌∙◌, ◌≤◌, ◌≡◌, ◌++◌, [], arith, length, refl, sym, true, false, take, ap, replicate, ℕ}
 use Rattle.std.proofs.lemmas.Bool.Decides.{nat_tests}
 use Rattle.std.proofs.lemmas.List.{length-take-le}
 use Rattle.nv_script.specs.Cuts.{left_at}
 use Rattle.nv_script.specs.Ends.{RunsWithin}
-use Rattle.nv_script.proofs.RunLaws.{cut_ends, cut_leaves, last_cut, piece_cut, read_first, read_more, read_none, ready_first, serials_first, stands_first}
+use Rattle.nv_script.specs.declared.streams.TheConstants.{READ_SIZE}
+use Rattle.nv_script.proofs.RunLaws.{cut_ends, cut_leaves, last_cut, piece_cut, read_first, read_more, read_none, ready_first, stands_first}
 use Rattle.nv_script.proofs.running.run_within.Goals as goal
 
 pub returns-in-Ok : goal.returns-in-Ok
@@ -42,8 +43,8 @@ returns-in-Err-feed g c =
     let run = c.loop-call.invariant.run in
     let s = g.D.Direct.state c.args.direct.now in
     let piece = take c.in-Some.count c.read.new.buf in
-    let small : length piece ≤ 4096 = omega (arith, length-take-le c.in-Some.count c.read.new.buf c.in-Some.ensures.bound, c.in-Some.ensures.bound, c.read.auto.buf, c.loop-call.invariant.room) in
-    let cut = piece_cut c.in-Err-feed.end s run.0 piece c.feed.new.line _ c.feed.new.serials c.feed.new.at small (c.in-Err-feed.ensures.left s run.0 _ _ run.2 run.3) in
+    let small : length piece ≤ READ_SIZE = omega (arith, length-take-le c.in-Some.count c.read.new.buf c.in-Some.ensures.bound, c.in-Some.ensures.bound, c.read.auto.buf, c.loop-call.invariant.room) in
+    let cut = piece_cut c.in-Err-feed.end s run.0 piece c.feed.new.line _ c.feed.new.session small (c.in-Err-feed.ensures.left s run.0 _ _ run.2 run.3) in
     record {
       bytes = run.0 ++ piece;
       was_read = read_more _ _ _ run.0 c.read.new.buf c.in-Some.count run.1 c.in-Some.ensures.bytes.0 c.in-Some.ensures.bound c.in-Some.ensures.count;
@@ -79,7 +80,7 @@ loop-call-preserved g c =
 pub loop-call-init : goal.loop-call-init
 loop-call-init g c =
     let s = g.D.Direct.state c.args.direct.now in
-    let serials = serials_first s c.controllers-controllers.result c.requires.well_formed c.controllers-controllers.ensures in
+    let serials = c.new-session.ensures.serials ∙ ap (λ n. replicate n 0) c.controllers.ensures in
     record {
       not_failed = c.requires.fresh_script.not_failed;
       not_ended = c.requires.fresh_script.not_ended;
@@ -89,6 +90,6 @@ loop-call-init g c =
       numbered = omega arith;
       out_ready = c.requires.fresh_out;
       messages_ready = c.requires.fresh_messages;
-      ready = ready_first s _ c.requires.well_formed serials;
-      run = ([], read_first (g.R.Source.state c.args.script.now) c.requires.fresh_script.no_byte, c.new-line.ensures, stands_first s _ _ refl refl refl serials);
+      ready = record { ready = ready_first s _ c.requires.well_formed serials; room = c.new-session.ensures.room };
+      run = ([], read_first (g.R.Source.state c.args.script.now) c.requires.fresh_script.no_byte, c.new-line.ensures, stands_first s _ _ refl refl refl serials c.new-session.ensures.number c.new-session.ensures.status);
     }
