@@ -1,4 +1,4 @@
--- What the streams and the subsystem hold after some lines of a script, and where a line was cut short.
+-- What the streams and the subsystem hold after some lines, and where a line was cut short.
 use Rattle.std.specs.Prelude.{◌≡◌, ℕ, ◌+◌, ◌<◌, List, [], ◌∷◌, ◌++◌, length, take, flat_map, Option, Result, Ok, Err}
 use Rattle.std.specs.Io.KnownBytes.{Appends}
 use Rattle.nv_subsystem.specs.State.{State}
@@ -13,8 +13,8 @@ use Rattle.nv_script.specs.declared.reading.Line.{Line}
 use Rattle.nv_script.specs.declared.reading.Line.TheVariants.{Skipped, Asked}
 use Rattle.nv_script.specs.declared.streams.TheConstants.{READ_SIZE}
 
--- the streams and the subsystem: what each sink had taken before a run and has taken since, where that is
--- told
+-- the streams and the subsystem: what each sink had taken before a run and has taken since, where
+-- that is told
 pub record Left : Type 0 where
   pub out_before : Option (List ℕ)
   pub out : Option (List ℕ)
@@ -22,7 +22,8 @@ pub record Left : Type 0 where
   pub messages : Option (List ℕ)
   pub state : State
 
-abbrev pub left_at : Option (List ℕ) → Option (List ℕ) → Option (List ℕ) → Option (List ℕ) → State → Left
+abbrev pub left_at : Option (List ℕ) → Option (List ℕ) → Option (List ℕ) → Option (List ℕ) → State
+    → Left
 left_at out_before out messages_before messages state = record {
   out_before = out_before;
   out = out;
@@ -39,7 +40,8 @@ pub record Holds (left : Left) (output messages : List ℕ) (state : State) : Ty
 
 -- they are those of all these lines
 abbrev pub HoldsWhole : State → List (List ℕ) → Left → Type 0
-HoldsWhole s lines left = Holds left (whole s lines).output (whole s lines).messages (whole s lines).state
+HoldsWhole s lines left =
+    Holds left (whole s lines).output (whole s lines).messages (whole s lines).state
 
 -- the state after the first k commands of a line
 abbrev pub state_amid : State → List ℕ → Result Line LineFault → ℕ → State
@@ -47,8 +49,8 @@ state_amid s serials (Ok Skipped) k = s
 state_amid s serials (Ok (Asked r)) k = (carried_out s serials (take k (commands_of s r))).state
 state_amid s serials (Err fault) k = s
 
--- The beginnings, at a line after p. The output failed: the texts before the line stand whole, and a
--- beginning of its output; the subsystem is that after the line.
+-- The beginnings, at a line after p. The output failed: the texts before the line stand whole, and
+-- a beginning of its output; the subsystem is that after the line.
 abbrev pub IsOutputBeginning : Progress → List ℕ → Left → Type 0
 IsOutputBeginning p line left = (part : List ℕ) × IsBeginning part (result_at p line).output
     × Holds left (p.output ++ part) p.messages (result_at p line).state
@@ -75,8 +77,8 @@ IsCutIn Read p line left = ⊥
 abbrev pub joined_lines : List (List ℕ) → List ℕ
 joined_lines lines = flat_map (λ line. line ++ 10 ∷ []) lines
 
--- a run that read these bytes was cut short in one of their lines, and had read at most 4,095 bytes past
--- that line's newline
+-- a run that read these bytes was cut short in one of their lines, and had read at most 4,095 bytes
+-- past that line's newline
 pub record IsCutShort (end : RunEnd) (s : State) (bytes : List ℕ) (left : Left) : Type 0 where
   pub before : List (List ℕ)
   pub line : List ℕ

@@ -17,21 +17,25 @@ pub record RunState : Type 0 where
   pub messages : SinkState
 
 abbrev pub run_state : State → SourceState → SinkState → SinkState → RunState
-run_state subsystem script out messages = record { subsystem = subsystem; script = script; out = out; messages = messages }
+run_state subsystem script out messages =
+    record { subsystem = subsystem; script = script; out = out; messages = messages }
 
 -- what a run left, beside what there was before it
 abbrev pub left_by : RunState → RunState → Left
-left_by old new = left_at old.out.taken new.out.taken old.messages.taken new.messages.taken new.subsystem
+left_by old new =
+    left_at old.out.taken new.out.taken old.messages.taken new.messages.taken new.subsystem
 
--- the bytes that a run read: the first of those to come, where they are told, and as many as were given
+-- the bytes that a run read: the first of those to come, where they are told, and as many as were
+-- given
 pub record WasRead (old new : SourceState) (bytes : List ℕ) : Type 0 where
   pub first : Consumes old.to_come new.to_come bytes
   pub count : length bytes ≡ new.given
 
--- What each end leaves, where a run began at s and read these bytes. A status: all lines, and the status is
--- that of the last line that has one. A read fault: the lines whose newline was read.
+-- What each end leaves, where a run began at s and read these bytes. A status: all lines, and the
+-- status is that of the last line that has one. A read fault: the lines whose newline was read.
 abbrev pub Leaves : RunEnd → State → List ℕ → Left → Type 0
-Leaves (Status status) s bytes left = (status ≡ (whole s (script_lines bytes)).status) × HoldsWhole s (script_lines bytes) left
+Leaves (Status status) s bytes left =
+    (status ≡ (whole s (script_lines bytes)).status) × HoldsWhole s (script_lines bytes) left
 Leaves Read s bytes left = HoldsWhole s (pieces bytes).ended left
 Leaves OutWrite s bytes left = IsCutShort OutWrite s bytes left
 Leaves MessageWrite s bytes left = IsCutShort MessageWrite s bytes left
@@ -41,12 +45,14 @@ Leaves Memory s bytes left = IsCutShort Memory s bytes left
 abbrev pub has_stopped : ℕ → SourceState → Bool
 has_stopped reads script = script.has_failed || script.calls == reads
 
--- Which end it is: a write's exactly where that sink has failed; Read exactly where no write failed, no memory
--- was refused and the source has stopped; a status only where the source has ended
+-- Which end it is: a write's exactly where that sink has failed; Read exactly where no write failed,
+-- no memory was refused and the source has stopped; a status only where the source has ended
 abbrev pub IsEndOf : RunEnd → ℕ → RunState → Type 0
-IsEndOf (Status status) reads now = (has_stopped reads now.script ≡ false) × (now.out.has_failed ≡ false) × (now.messages.has_failed ≡ false)
+IsEndOf (Status status) reads now = (has_stopped reads now.script ≡ false)
+    × (now.out.has_failed ≡ false) × (now.messages.has_failed ≡ false)
     × (now.script.has_ended ≡ true) × IsAtEnd now.script.to_come
-IsEndOf Read reads now = (has_stopped reads now.script ≡ true) × (now.out.has_failed ≡ false) × (now.messages.has_failed ≡ false)
+IsEndOf Read reads now = (has_stopped reads now.script ≡ true)
+    × (now.out.has_failed ≡ false) × (now.messages.has_failed ≡ false)
 IsEndOf OutWrite reads now = (now.out.has_failed ≡ true) × (now.messages.has_failed ≡ false)
 IsEndOf MessageWrite reads now = (now.out.has_failed ≡ false) × (now.messages.has_failed ≡ true)
 IsEndOf Memory reads now = (now.out.has_failed ≡ false) × (now.messages.has_failed ≡ false)
@@ -59,7 +65,9 @@ pub record RunsWithin (reads : ℕ) (end : RunEnd) (old new : RunState) : Type 0
   pub end_of : IsEndOf end reads new
   pub calls : new.script.calls ≤ reads
 
--- the headline: a script that is told and was read to its end leaves what the fold over its lines says
+-- the headline: a script that is told and was read to its end leaves what the fold over its lines
+-- says
 abbrev pub Headline : RunEnd → RunState → RunState → Type 0
 Headline end old new = (status : ℕ) → end ≡ Status status
-    → IfSome old.script.to_come (λ script. Leaves (Status status) old.subsystem script (left_by old new))
+    → IfSome old.script.to_come
+    (λ script. Leaves (Status status) old.subsystem script (left_by old new))

@@ -22,9 +22,13 @@ pub record Stands (p : Progress) (left : Left) (session : Session) : Type 0 wher
 
 -- a text that memory sufficed for was written whole, or a beginning of it up to the sink's fault;
 -- nothing is written of one that was refused
-abbrev pub PrintLeaves : {A E Z : Type 0} → Result A RunEnd → RunEnd → Result (String Z) E → Option (List ℕ) → Option (List ℕ) → Bool → Type 0
-PrintLeaves (Ok done) fault (Ok text) old new failed = Appends old new (string_bytes text) × (failed ≡ false)
-PrintLeaves (Err end) fault (Ok text) old new failed = (end ≡ fault) × ((part : List ℕ) × IsBeginning part (string_bytes text) × Appends old new part) × (failed ≡ true)
+abbrev pub PrintLeaves : {A E Z : Type 0} → Result A RunEnd → RunEnd → Result (String Z) E
+    → Option (List ℕ) → Option (List ℕ) → Bool → Type 0
+PrintLeaves (Ok done) fault (Ok text) old new failed =
+    Appends old new (string_bytes text) × (failed ≡ false)
+PrintLeaves (Err end) fault (Ok text) old new failed = (end ≡ fault)
+    × ((part : List ℕ) × IsBeginning part (string_bytes text) × Appends old new part)
+    × (failed ≡ true)
 PrintLeaves (Err end) fault (Err e) old new failed = (end ≡ Memory) × (new ≡ old) × (failed ≡ false)
 PrintLeaves (Ok done) fault (Err e) old new failed = ⊥
 
@@ -42,18 +46,20 @@ IsFailureOf (Err Memory) out messages = (out ≡ false) × (messages ≡ false)
 IsFailureOf (Err (Status s)) out messages = ⊥
 IsFailureOf (Err Read) out messages = ⊥
 
--- what a further piece of a script leaves, after some bytes: its ended lines are done and its last piece is
--- in the buffer, or the run was cut short in the line that the newline at an index ended
-abbrev pub PieceLeaves : {A : Type 0} → Result A RunEnd → State → List ℕ → List ℕ → Option (List ℕ) → Left → Session → Type 0
+-- what a further piece of a script leaves, after some bytes: its ended lines are done and its last
+-- piece is in the buffer, or the run was cut short in the line that the newline at an index ended
+abbrev pub PieceLeaves : {A : Type 0} → Result A RunEnd → State → List ℕ → List ℕ → Option (List ℕ)
+    → Left → Session → Type 0
 PieceLeaves (Ok done) s bytes piece line left session =
     let p = pieces (bytes ++ piece) in
     (line ≡ buffer_of p.last) × Stands (whole s p.ended) left session
 PieceLeaves (Err end) s bytes piece line left session =
     (i : ℕ) × (i < length piece) × (slice_index piece i ≡ 10)
-    × IsCutIn end (whole s (pieces (bytes ++ take i piece)).ended) (pieces (bytes ++ take i piece)).last left
+    × (let p = pieces (bytes ++ take i piece) in IsCutIn end (whole s p.ended) p.last left)
 
 -- what the last piece of a script leaves, done with this status or cut short
 abbrev pub LastLeaves : Result ℕ RunEnd → State → List ℕ → Left → Type 0
 LastLeaves (Ok status) s bytes left = Leaves (Status status) s bytes left
 LastLeaves (Err end) s bytes left =
-    (script_lines bytes ≡ (pieces bytes).ended ++ (pieces bytes).last ∷ []) × IsCutIn end (whole s (pieces bytes).ended) (pieces bytes).last left
+    let p = pieces bytes in
+    (script_lines bytes ≡ p.ended ++ p.last ∷ []) × IsCutIn end (whole s p.ended) p.last left

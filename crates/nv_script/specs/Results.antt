@@ -11,7 +11,8 @@ use Rattle.nv_script.specs.declared.reading.Line.{Line}
 use Rattle.nv_script.specs.declared.reading.Line.TheVariants.{Skipped, Asked}
 use Rattle.nv_script.specs.declared.requests.Request.{Request}
 
--- what a line prints, on one of the two streams at most; its status, if it has one; and what it leaves
+-- what a line prints, on one of the two streams at most; its status, if it has one; and what it
+-- leaves
 pub record LineResult : Type 0 where
   pub output : List ℕ
   pub message : List ℕ
@@ -57,8 +58,8 @@ line_result s serials number (Ok (Asked r)) =
 line_result s serials number (Err fault) =
     quiet_result s serials (message_of number (fault_text fault)) (Some 1)
 
--- where a script stands between two lines: what was printed, the status of the last line that has one, the
--- subsystem, the next serial of each controller, and how many lines there were
+-- where a script stands between two lines: what was printed, the status of the last line that has
+-- one, the subsystem, the next serial of each controller, and how many lines there were
 pub record Progress : Type 0 where
   pub output : List ℕ
   pub messages : List ℕ

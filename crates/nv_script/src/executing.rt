@@ -26,8 +26,8 @@ use crate::texts::{fault_message, list_text, namespace_text, refusal_message};
 use nv_layout::Status;
 use std::alloc::{AllocError, Global};
 
-/// Writes a text, in as many writes as it takes. After a failing write the sink has taken a beginning of
-/// it.
+/// Writes a text, in as many writes as it takes. After a failing write the sink has taken a
+/// beginning of it.
 fn write_all<S: Sink>(sink: &mut S, text: &[u8]) -> bool
     requires { (S.state sink.old).has_failed ≡ false }
     ensures text { WritesAll result (S.state sink.old).taken (S.state sink.new).taken text.now }
@@ -43,14 +43,15 @@ fn write_all<S: Sink>(sink: &mut S, text: &[u8]) -> bool
     true
 }
 
-/// Writes a line's text, made before its first byte goes out. `fault` is the end where the sink fails.
+/// Writes a line's text, made before its first byte goes out. `fault` is the end if the sink fails.
 fn print<S: Sink>(
     sink: &mut S,
     text: Result<String, AllocError>,
     fault: RunEnd,
 ) -> Result<(), RunEnd>
     requires { (S.state sink.old).has_failed ≡ false }
-    ensures { PrintLeaves result fault text (S.state sink.old).taken (S.state sink.new).taken (S.state sink.new).has_failed }
+    ensures { PrintLeaves result fault text (S.state sink.old).taken (S.state sink.new).taken
+        (S.state sink.new).has_failed }
 {
     match text {
         Err(_) => Err(RunEnd::Memory),
@@ -103,7 +104,8 @@ fn perform<D: Direct>(
 
 /// What a line says, as far as there was room for it.
 fn read_buffer(alloc: Global, line: Option<&[u8]>, controllers: u16) -> Result<Line, LineFault>
-    ensures said { (text : List ℕ) → option_copied line.entry ≡ buffer_of text → IsUnlessMemory (reading text controllers) result }
+    ensures said { (text : List ℕ) → option_copied line.entry ≡ buffer_of text
+        → IsUnlessMemory (reading text controllers) result }
     ensures known { IfOk result (IsKnown controllers) }
 {
     match line {
@@ -126,10 +128,16 @@ pub fn execute_line<D: Direct, O: Sink, M: Sink>(
     requires ready { IsSessionOf (D.state direct.old) session.old }
     requires number { session.old.number + 1 < 2 ^ 64 }
     // Where the run stood after p, it then stands after p and this line, or is cut short in it.
-    ensures left { (text : List ℕ) (p : Progress) (o m : Option (List ℕ)) → option_copied line.entry ≡ buffer_of text
-        → Stands p (left_at o (O.state out.old).taken m (M.state messages.old).taken (D.state direct.old)) session.old
-        → LineLeaves result p text (left_at o (O.state out.new).taken m (M.state messages.new).taken (D.state direct.new)) session.new }
-    ensures failure { IsFailureOf result (O.state out.new).has_failed (M.state messages.new).has_failed }
+    ensures left { (text : List ℕ) (p : Progress) (o m : Option (List ℕ))
+        → option_copied line.entry ≡ buffer_of text
+        → Stands p
+        (left_at o (O.state out.old).taken m (M.state messages.old).taken (D.state direct.old))
+        session.old
+        → LineLeaves result p text
+        (left_at o (O.state out.new).taken m (M.state messages.new).taken (D.state direct.new))
+        session.new }
+    ensures failure { IsFailureOf result
+        (O.state out.new).has_failed (M.state messages.new).has_failed }
     ensures ready { IsSessionOf (D.state direct.new) session.new }
     ensures number { session.new.number ≡ session.old.number + 1 }
 {

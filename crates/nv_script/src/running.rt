@@ -33,10 +33,16 @@ fn feed<D: Direct, O: Sink, M: Sink>(
     requires messages_ready { (M.state messages.old).has_failed ≡ false }
     requires ready { IsSessionOf (D.state direct.old) session.old }
     requires number { session.old.number + length piece.now < 2 ^ 64 }
-    ensures left { (s : State) (bytes : List ℕ) (o m : Option (List ℕ)) → line.old ≡ buffer_of (pieces bytes).last
-        → Stands (whole s (pieces bytes).ended) (left_at o (O.state out.old).taken m (M.state messages.old).taken (D.state direct.old)) session.old
-        → PieceLeaves result s bytes piece.now line.new (left_at o (O.state out.new).taken m (M.state messages.new).taken (D.state direct.new)) session.new }
-    ensures failure { IsFailureOf result (O.state out.new).has_failed (M.state messages.new).has_failed }
+    ensures left { (s : State) (bytes : List ℕ) (o m : Option (List ℕ))
+        → line.old ≡ buffer_of (pieces bytes).last
+        → Stands (whole s (pieces bytes).ended)
+        (left_at o (O.state out.old).taken m (M.state messages.old).taken (D.state direct.old))
+        session.old
+        → PieceLeaves result s bytes piece.now line.new
+        (left_at o (O.state out.new).taken m (M.state messages.new).taken (D.state direct.new))
+        session.new }
+    ensures failure { IsFailureOf result
+        (O.state out.new).has_failed (M.state messages.new).has_failed }
     ensures ready { IsSessionOf (D.state direct.new) session.new }
     ensures number { OnOk result (session.new.number ≤ session.old.number + length piece.now) }
 {
@@ -64,10 +70,15 @@ fn finish<D: Direct, O: Sink, M: Sink>(
     requires messages_ready { (M.state messages.old).has_failed ≡ false }
     requires ready { IsSessionOf (D.state direct.old) session.old }
     requires number { session.old.number + 1 < 2 ^ 64 }
-    ensures left { (s : State) (bytes : List ℕ) (o m : Option (List ℕ)) → line.now ≡ buffer_of (pieces bytes).last
-        → Stands (whole s (pieces bytes).ended) (left_at o (O.state out.old).taken m (M.state messages.old).taken (D.state direct.old)) session.old
-        → LastLeaves result s bytes (left_at o (O.state out.new).taken m (M.state messages.new).taken (D.state direct.new)) }
-    ensures failure { IsFailureOf result (O.state out.new).has_failed (M.state messages.new).has_failed }
+    ensures left { (s : State) (bytes : List ℕ) (o m : Option (List ℕ))
+        → line.now ≡ buffer_of (pieces bytes).last
+        → Stands (whole s (pieces bytes).ended)
+        (left_at o (O.state out.old).taken m (M.state messages.old).taken (D.state direct.old))
+        session.old
+        → LastLeaves result s bytes
+        (left_at o (O.state out.new).taken m (M.state messages.new).taken (D.state direct.new)) }
+    ensures failure { IsFailureOf result
+        (O.state out.new).has_failed (M.state messages.new).has_failed }
 {
     if !line.is_empty() {
         execute_line(alloc, direct, session, out, messages, line.line())?;
@@ -75,7 +86,7 @@ fn finish<D: Direct, O: Sink, M: Sink>(
     Ok(session.status)
 }
 
-/// Runs a script with at most this many reads: each line is executed as soon as its newline is read.
+/// Runs a script with at most this many reads: each line is executed once its newline is read.
 fn run_within<D: Direct, R: Source, O: Sink, M: Sink>(
     alloc: Global,
     direct: &mut D,
@@ -90,8 +101,10 @@ fn run_within<D: Direct, R: Source, O: Sink, M: Sink>(
     requires fresh_messages { (M.state messages.old).has_failed ≡ false }
     requires some_read { 0 < reads }
     ensures { RunsWithin reads result
-        (run_state (D.state direct.old) (R.state script.old) (O.state out.old) (M.state messages.old))
-        (run_state (D.state direct.new) (R.state script.new) (O.state out.new) (M.state messages.new)) }
+        (run_state (D.state direct.old) (R.state script.old) (O.state out.old)
+        (M.state messages.old))
+        (run_state (D.state direct.new) (R.state script.new) (O.state out.new)
+        (M.state messages.new)) }
 {
     let mut session = Session::new(direct.controllers());
     let mut line = LineBuffer::new();
@@ -120,9 +133,9 @@ fn run_within<D: Direct, R: Source, O: Sink, M: Sink>(
 /// The most reads of one run.
 pub const READ_LIMIT: u32 = u32::MAX;
 
-/// Runs a script on a subsystem: its lines in order, each executed as soon as its newline is read, with the
-/// texts of what they ask on `out` and the messages of faults and refusals on `messages`. At most
-/// 4,294,967,295 reads are made.
+/// Runs a script on a subsystem: its lines in order, each executed as soon as its newline is read,
+/// with the texts of what they ask on `out` and the messages of faults and refusals on `messages`.
+/// At most 4,294,967,295 reads are made, and none after one that gave no byte or failed.
 pub fn run<D: Direct, R: Source, O: Sink, M: Sink>(
     alloc: Global,
     direct: &mut D,
@@ -136,17 +149,23 @@ pub fn run<D: Direct, R: Source, O: Sink, M: Sink>(
     requires fresh_messages { (M.state messages.old).has_failed ≡ false }
     // A script that is told and was read to its end: the fold over its lines.
     ensures headline { Headline result
-        (run_state (D.state direct.old) (R.state script.old) (O.state out.old) (M.state messages.old))
-        (run_state (D.state direct.new) (R.state script.new) (O.state out.new) (M.state messages.new)) }
+        (run_state (D.state direct.old) (R.state script.old) (O.state out.old)
+        (M.state messages.old))
+        (run_state (D.state direct.new) (R.state script.new) (O.state out.new)
+        (M.state messages.new)) }
     // Each end: when it comes, what it leaves, and how many reads there were.
     ensures ends { RunsWithin READ_LIMIT result
-        (run_state (D.state direct.old) (R.state script.old) (O.state out.old) (M.state messages.old))
-        (run_state (D.state direct.new) (R.state script.new) (O.state out.new) (M.state messages.new)) }
+        (run_state (D.state direct.old) (R.state script.old) (O.state out.old)
+        (M.state messages.old))
+        (run_state (D.state direct.new) (R.state script.new) (O.state out.new)
+        (M.state messages.new)) }
     // When each fault comes.
     ensures out_write { (result ≡ RunEnd.OutWrite) ↔ ((O.state out.new).has_failed ≡ true) }
-    ensures message_write { (result ≡ RunEnd.MessageWrite) ↔ ((M.state messages.new).has_failed ≡ true) }
+    ensures message_write { (result ≡ RunEnd.MessageWrite)
+        ↔ ((M.state messages.new).has_failed ≡ true) }
     ensures read_fault { (result ≡ RunEnd.Read)
-        ↔ ((has_stopped READ_LIMIT (R.state script.new) ≡ true) × ((O.state out.new).has_failed ≡ false)
+        ↔ ((has_stopped READ_LIMIT (R.state script.new) ≡ true)
+        × ((O.state out.new).has_failed ≡ false)
         × ((M.state messages.new).has_failed ≡ false) × (result ≢ RunEnd.Memory)) }
 {
     run_within(alloc, direct, script, out, messages, READ_LIMIT)

@@ -35,8 +35,8 @@ pub trait Sink {
     // What it took, and what became of it.
     ghost state: { Self → SinkState };
 
-    /// The number of bytes taken, from the first on: 0 is a failure. `None` is an error. At least one
-    /// byte is offered, and no write follows a failure or an error.
+    /// The number of bytes taken, from the first on: 0 is a failure. `None` is an error. At least
+    /// one byte is offered, and no write follows a failure or an error.
     fn write(&mut self, bytes: &[u8]) -> Option<usize>
         requires some { 0 < length bytes.now }
         requires not_failed { (state self.old).has_failed ≡ false }
@@ -45,7 +45,7 @@ pub trait Sink {
         ensures failure { (state self.new).has_failed ≡ is_failure result };
 }
 
-/// A source over any reader of std. An error of the reader is its error: the read isn't tried again.
+/// A source over any reader of std. An error of the reader is its error, and isn't tried again.
 #[derive(Drop)]
 pub struct OverRead<R> {
     reader: R,
@@ -95,7 +95,7 @@ impl<R: Read> Source for OverRead<R> {
     }
 }
 
-/// A sink over any writer of std. An error of the writer is its error: the write isn't tried again.
+/// A sink over any writer of std. An error of the writer is its error, and isn't tried again.
 #[derive(Drop)]
 pub struct OverWrite<W> {
     writer: W,
