@@ -1,13 +1,13 @@
 -- How the pieces of a run make the whole run.
-use Rattle.std.proofs.Common.{◌≡◌, ◌∙◌, ℕ, ◌+◌, ◌<◌, ◌≤◌, List, [], ◌∷◌, ◌++◌, length, take, sym, ap, subst, refl, append-nil, arith, Option, None, Some, Err}
+use Rattle.std.proofs.Common.{◌≡◌, ◌∙◌, ℕ, ◌+◌, ◌<◌, ◌≤◌, List, [], ◌∷◌, ◌++◌, length, take, sym, ap, subst, append-nil, arith, Option, None, Some, Err}
 use Rattle.std.specs.Prelude.{IfSome, replicate}
 use Rattle.std.specs.Io.KnownBytes.{Appends, Consumes, IsAtEnd, Keeps}
-use Rattle.std.proofs.lemmas.List.{length-append, length-replicate, length-take-le, take-replicate}
+use Rattle.std.proofs.lemmas.List.{length-append, length-replicate, length-take-le}
 use Rattle.std.proofs.lemmas.List.Elements.{All-replicate}
 use Rattle.nv_subsystem.specs.State.{State}
 use Rattle.nv_subsystem.specs.WellFormed.{IsWellFormed}
 use Rattle.nv_script.specs.Asking.{IsReady}
-use Rattle.nv_script.specs.Cuts.{IsCutShort, Holds, HoldsWhole, Left, joined_lines}
+use Rattle.nv_script.specs.Cuts.{IsCutShort, Holds, Left}
 use Rattle.nv_script.specs.Ends.{Headline, IsEndOf, Leaves, RunState, RunsWithin, WasRead, left_by}
 use Rattle.nv_script.specs.Feeding.{IsFailureOf, LastLeaves, PieceLeaves, Stands}
 use Rattle.nv_script.specs.Results.{Progress, whole}

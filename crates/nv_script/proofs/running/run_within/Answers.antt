@@ -1,8 +1,6 @@
-use Rattle.std.proofs.Common.{◌∙◌, ◌≤◌, ◌≡◌, ◌++◌, [], arith, length, refl, sym, true, false, take, ap, replicate, ℕ}
+use Rattle.std.proofs.Common.{◌∙◌, ◌≤◌, ◌++◌, [], arith, length, refl, true, false, take, ap, replicate}
 use Rattle.std.proofs.lemmas.Bool.Decides.{nat_tests}
 use Rattle.std.proofs.lemmas.List.{length-take-le}
-use Rattle.nv_script.specs.Cuts.{left_at}
-use Rattle.nv_script.specs.Ends.{RunsWithin}
 use Rattle.nv_script.specs.declared.streams.TheConstants.{READ_SIZE}
 use Rattle.nv_script.proofs.RunLaws.{cut_ends, cut_leaves, last_cut, piece_cut, read_first, read_more, read_none, ready_first, stands_first}
 use Rattle.nv_script.proofs.running.run_within.Goals as goal
