@@ -14,6 +14,8 @@ mod largest;
 #[cfg(test)]
 mod lines;
 #[cfg(test)]
+mod over_streams;
+#[cfg(test)]
 mod scripts;
 #[cfg(test)]
 mod streams;

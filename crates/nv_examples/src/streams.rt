@@ -1,73 +1,93 @@
-//! Streams that fail.
+//! Streams that end and fail.
 
 ghost use Rattle.std.specs.Prelude.{◌≡◌, None, false};
+ghost use Rattle.nv_script.specs.Streams.{IsFresh};
 
 use nv_script::{OverRead, OverWrite, RunEnd, Sink, Source, Straight, run};
 use nv_subsystem::{DEMO, Subsystem};
 use std::cmp;
 use std::test::Fail;
 
-/// A source that gives its bytes and then fails.
+/// A source that gives one piece a read, and fails after the last. An empty piece is an end.
 #[derive(Drop)]
-struct CutSource<'a> {
-    bytes: &'a [u8],
+struct PieceSource<'a> {
+    pieces: &'a [&'a [u8]],
     failed: bool,
+    ended: bool,
     calls: u64,
     given: u64,
 }
 
-impl<'a> Source for CutSource<'a> {
-    ghost to_come = { λ _. None };
+impl<'a> PieceSource<'a> {
+    fn new(pieces: &'a [&'a [u8]]) -> PieceSource<'a>
+        ensures { IsFresh (⟦<PieceSource<'a> as Source>⟧.state result) }
+    {
+        PieceSource {
+            pieces,
+            failed: false,
+            ended: false,
+            calls: 0,
+            given: 0,
+        }
+    }
+}
 
-    ghost has_failed = { λ s. s.failed };
-
-    ghost calls = { λ s. s.calls };
-
-    ghost given = { λ s. s.given };
+impl<'a> Source for PieceSource<'a> {
+    ghost state = { λ s. record {
+      to_come = None;
+      has_failed = s.failed;
+      has_ended = s.ended;
+      calls = s.calls;
+      given = s.given;
+    } };
 
     fn read(&mut self, buf: &mut [u8]) -> Option<usize> {
+        let piece = self.pieces.get(self.calls as usize).copied();
         self.calls += 1;
-        if self.bytes.is_empty() {
+        let Some(piece) = piece else {
             self.failed = true;
             return None;
-        }
-        let count = cmp::min(self.bytes.len(), buf.len());
-        buf[..count].copy_from_slice(&self.bytes[..count]);
-        self.bytes = &self.bytes[count..];
+        };
+        let count = cmp::min(piece.len(), buf.len());
+        buf[..count].copy_from_slice(&piece[..count]);
+        self.ended = count == 0;
         self.given += count as u64;
         Some(count)
     }
 }
 
-/// A sink that takes seven bytes, one a call, and then fails.
+/// A sink that takes seven bytes, one a write. Then it fails: it takes none, or answers an error.
 #[derive(Drop)]
 struct CutSink {
     bytes: [u8; 7],
     len: usize,
+    takes_none: bool,
     failed: bool,
+    calls: u64,
 }
 
 impl CutSink {
-    fn new() -> CutSink
-        ensures { ⟦<CutSink as Sink>⟧.has_failed result ≡ false }
+    fn new(takes_none: bool) -> CutSink
+        ensures { (⟦<CutSink as Sink>⟧.state result).has_failed ≡ false }
     {
         CutSink {
             bytes: [0; 7],
             len: 0,
+            takes_none,
             failed: false,
+            calls: 0,
         }
     }
 }
 
 impl Sink for CutSink {
-    ghost taken = { λ _. None };
-
-    ghost has_failed = { λ s. s.failed };
+    ghost state = { λ s. record { taken = None; has_failed = s.failed } };
 
     fn write(&mut self, bytes: &[u8]) -> Option<usize> {
-        if bytes.is_empty() || self.len >= 7 {
+        self.calls = self.calls.saturating_add(1);
+        if self.len >= 7 {
             self.failed = true;
-            return None;
+            return if self.takes_none { Some(0) } else { None };
         }
         self.bytes[self.len] = bytes[0];
         self.len += 1;
@@ -80,17 +100,31 @@ fn runs_only_the_lines_before_a_failing_read(rt: HostRuntime) -> Result<(), Fail
     let alloc = rt.alloc();
     let subsystem = Subsystem::from_toml(alloc, DEMO.as_bytes())?;
     let mut direct = Straight::new(subsystem);
-    let mut script = CutSource {
-        bytes: b"list-ns /dev/nvme0\nlist-",
-        failed: false,
-        calls: 0,
-        given: 0,
-    };
+    let pieces: [&[u8]; 2] = [b"list-ns /dev/nvme0\nlist-", b"ns /dev/nvme0"];
+    let mut script = PieceSource::new(&pieces);
     let mut out = OverWrite::new(Vec::new(alloc));
     let mut messages = OverWrite::new(Vec::new(alloc));
     let end = run(alloc, &mut direct, &mut script, &mut out, &mut messages);
     assert!(rt; end == RunEnd::Read);
+    assert!(rt; script.calls == 3);
     assert!(rt; out.into_inner().as_slice() == "[   0]:0x1\n[   1]:0x3\n".as_bytes());
+    assert!(rt; messages.into_inner().is_empty());
+    Ok(())
+}
+
+#[test]
+fn reads_no_more_after_the_end(rt: HostRuntime) -> Result<(), Fail> {
+    let alloc = rt.alloc();
+    let subsystem = Subsystem::from_toml(alloc, DEMO.as_bytes())?;
+    let mut direct = Straight::new(subsystem);
+    let pieces: [&[u8]; 4] = [b"list-ns /dev/nvme0 ", b"-n 3", b"", b"\nbogus\n"];
+    let mut script = PieceSource::new(&pieces);
+    let mut out = OverWrite::new(Vec::new(alloc));
+    let mut messages = OverWrite::new(Vec::new(alloc));
+    let end = run(alloc, &mut direct, &mut script, &mut out, &mut messages);
+    assert!(rt; end == RunEnd::Status(0));
+    assert!(rt; script.calls == 3);
+    assert!(rt; out.into_inner().as_slice() == "[   0]:0x3\n".as_bytes());
     assert!(rt; messages.into_inner().is_empty());
     Ok(())
 }
@@ -98,31 +132,37 @@ fn runs_only_the_lines_before_a_failing_read(rt: HostRuntime) -> Result<(), Fail
 #[test]
 fn leaves_a_beginning_of_the_output(rt: HostRuntime) -> Result<(), Fail> {
     let alloc = rt.alloc();
-    let subsystem = Subsystem::from_toml(alloc, DEMO.as_bytes())?;
-    let mut direct = Straight::new(subsystem);
-    let mut script = OverRead::new(b"list-ns /dev/nvme0\nbogus\n".as_slice());
-    let mut out = CutSink::new();
-    let mut messages = OverWrite::new(Vec::new(alloc));
-    let end = run(alloc, &mut direct, &mut script, &mut out, &mut messages);
-    assert!(rt; end == RunEnd::OutWrite);
-    assert!(rt; out.bytes.as_slice() == "[   0]:".as_bytes());
-    assert!(rt; messages.into_inner().is_empty());
+    for takes_none in [false, true] {
+        let subsystem = Subsystem::from_toml(alloc, DEMO.as_bytes())?;
+        let mut direct = Straight::new(subsystem);
+        let mut script = OverRead::new(b"list-ns /dev/nvme0\nbogus\n".as_slice());
+        let mut out = CutSink::new(takes_none);
+        let mut messages = OverWrite::new(Vec::new(alloc));
+        let end = run(alloc, &mut direct, &mut script, &mut out, &mut messages);
+        assert!(rt; end == RunEnd::OutWrite);
+        assert!(rt; out.calls == 8);
+        assert!(rt; out.bytes.as_slice() == "[   0]:".as_bytes());
+        assert!(rt; messages.into_inner().is_empty());
+    }
     Ok(())
 }
 
 #[test]
 fn leaves_a_beginning_of_the_messages(rt: HostRuntime) -> Result<(), Fail> {
     let alloc = rt.alloc();
-    let subsystem = Subsystem::from_toml(alloc, DEMO.as_bytes())?;
-    let mut direct = Straight::new(subsystem);
-    let mut script = OverRead::new(
-        b"list-ns /dev/nvme0 -n 3\nbogus\nlist-ns /dev/nvme0\n".as_slice(),
-    );
-    let mut out = OverWrite::new(Vec::new(alloc));
-    let mut messages = CutSink::new();
-    let end = run(alloc, &mut direct, &mut script, &mut out, &mut messages);
-    assert!(rt; end == RunEnd::MessageWrite);
-    assert!(rt; messages.bytes.as_slice() == "line 2:".as_bytes());
-    assert!(rt; out.into_inner().as_slice() == "[   0]:0x3\n".as_bytes());
+    for takes_none in [false, true] {
+        let subsystem = Subsystem::from_toml(alloc, DEMO.as_bytes())?;
+        let mut direct = Straight::new(subsystem);
+        let mut script = OverRead::new(
+            b"list-ns /dev/nvme0 -n 3\nbogus\nlist-ns /dev/nvme0\n".as_slice(),
+        );
+        let mut out = OverWrite::new(Vec::new(alloc));
+        let mut messages = CutSink::new(takes_none);
+        let end = run(alloc, &mut direct, &mut script, &mut out, &mut messages);
+        assert!(rt; end == RunEnd::MessageWrite);
+        assert!(rt; messages.calls == 8);
+        assert!(rt; messages.bytes.as_slice() == "line 2:".as_bytes());
+        assert!(rt; out.into_inner().as_slice() == "[   0]:0x3\n".as_bytes());
+    }
     Ok(())
 }

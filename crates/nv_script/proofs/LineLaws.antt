@@ -1,17 +1,19 @@
 -- What one line leaves, by how its text was printed.
 use Rattle.std.proofs.Common.{◌≡◌, ◌∙◌, ℕ, ◌+◌, List, [], ◌++◌, length, sym, ap, subst, refl, inl, inr, append-nil, arith, Bool, false, String, string_bytes, Option, Result, Ok, Err}
-use Rattle.std.specs.Prelude.{IfOk}
+use Rattle.std.specs.Prelude.{IfOk, unwrap_or}
 use Rattle.std.specs.Io.KnownBytes.{Appends}
 use Rattle.std.proofs.lemmas.List.{take_all}
 use Rattle.nv_subsystem.specs.State.{State}
-use Rattle.nv_script.specs.Ends.{Holds, IsFailureOf, Left, LineLeaves, CutIn, Printed, left_at, state_amid}
+use Rattle.nv_script.specs.Cuts.{IsCutIn, Holds, Left, left_at, state_amid}
+use Rattle.nv_script.specs.Feeding.{IsFailureOf, LineLeaves, PrintLeaves}
 use Rattle.nv_line.specs.LineFault.{IsUnlessMemory}
 use Rattle.nv_script.specs.Outcomes.{carried_out, commands_of}
 use Rattle.nv_line.specs.Line.{reading}
-use Rattle.nv_script.specs.Results.{LineResult, Progress, advanced, line_result, position, result_at, said_at, told}
+use Rattle.nv_script.specs.Results.{LineResult, Progress, line_result, request_result, result_at, said_at}
+use Rattle.nv_script.specs.Session.{serials_of}
 use Rattle.nv_script.specs.declared.ends.RunEnd.{RunEnd}
 use Rattle.nv_script.specs.declared.ends.RunEnd.TheVariants.{OutWrite, MessageWrite}
-use Rattle.nv_script.specs.declared.executing.Position.{Position}
+use Rattle.nv_script.specs.declared.session.Session.{Session}
 use Rattle.nv_line.specs.declared.fault.LineFault.{LineFault}
 use Rattle.nv_line.specs.declared.fault.LineFault.TheVariants as fault
 use Rattle.nv_line.specs.declared.line.Line.{Line}
@@ -26,11 +28,11 @@ took_none a b x y e h = Appends-at a b x (x ++ y) (sym (ap (λ t. x ++ t) e ∙ 
 took_same : (a b c : Option (List ℕ)) (x : List ℕ) → c ≡ b → Appends a b x → Appends a c x
 took_same a b c x e h = subst (λ t. Appends a t x) (sym e) h
 
-module _ {A E Z : Type 0} (p : Progress) (text : List ℕ) (lr : LineResult) (k : ℕ) (old : Left) (new : State) (serials : List ℕ) (at : Position)
-    (same : result_at p text ≡ lr) (held : Holds old p.output p.messages p.state) (reached : new ≡ lr.state) (next : serials ≡ lr.serials)
-    (place : at ≡ position (advanced p lr)) (all : lr.state ≡ state_amid p.state p.serials (said_at p text) k) where
-  pub message_leaves : (r : Result A RunEnd) (t : Result (String Z) E) (messages : Option (List ℕ)) (failed : Bool) → lr.output ≡ [] → IfOk t (λ t. string_bytes t ≡ lr.message) → Printed r MessageWrite t old.messages messages failed
-      → LineLeaves r p text (left_at old.out_before old.out old.messages_before messages new) serials at
+module _ {A E Z : Type 0} (p : Progress) (text : List ℕ) (lr : LineResult) (k : ℕ) (old : Left) (new : State) (session : Session)
+    (same : result_at p text ≡ lr) (held : Holds old p.output p.messages p.state) (reached : new ≡ lr.state) (next : serials_of session ≡ lr.serials)
+    (number : session.number ≡ p.number + 1) (status : session.status ≡ unwrap_or lr.status p.status) (all : lr.state ≡ state_amid p.state p.serials (said_at p text) k) where
+  pub message_leaves : (r : Result A RunEnd) (t : Result (String Z) E) (messages : Option (List ℕ)) (failed : Bool) → lr.output ≡ [] → IfOk t (λ t. string_bytes t ≡ lr.message) → PrintLeaves r MessageWrite t old.messages messages failed
+      → LineLeaves r p text (left_at old.out_before old.out old.messages_before messages new) session
   message_leaves (Ok done) (Ok t) messages failed none is h = record {
     holds = record {
       took_output = took_none old.out_before old.out p.output _ (ap (λ (x : LineResult). x.output) same ∙ none) held.took_output;
@@ -38,11 +40,12 @@ module _ {A E Z : Type 0} (p : Progress) (text : List ℕ) (lr : LineResult) (k 
       reached = reached ∙ sym (ap (λ (x : LineResult). x.state) same);
     };
     next = next ∙ sym (ap (λ (x : LineResult). x.serials) same);
-    place = place ∙ ap (λ (x : LineResult). position (advanced p x)) (sym same);
+    number = number;
+    status = status ∙ ap (λ (x : LineResult). unwrap_or x.status p.status) (sym same);
   }
   message_leaves (Ok done) (Err e) messages failed none is h = absurd h
   message_leaves (Err end) (Ok t) messages failed none is h =
-      subst (λ x. CutIn x p text (left_at old.out_before old.out old.messages_before messages new)) (sym h.0) (
+      subst (λ x. IsCutIn x p text (left_at old.out_before old.out old.messages_before messages new)) (sym h.0) (
         h.1.0,
         (h.1.1.0, ap (λ (x : LineResult). x.message) same ∙ sym is ∙ h.1.1.1),
         record {
@@ -52,13 +55,13 @@ module _ {A E Z : Type 0} (p : Progress) (text : List ℕ) (lr : LineResult) (k 
         },
       )
   message_leaves (Err end) (Err e) messages failed none is h =
-      subst (λ x. CutIn x p text (left_at old.out_before old.out old.messages_before messages new)) (sym h.0) (
+      subst (λ x. IsCutIn x p text (left_at old.out_before old.out old.messages_before messages new)) (sym h.0) (
         k,
         record { took_output = held.took_output; took_messages = took_same old.messages_before old.messages messages p.messages h.1 held.took_messages; reached = reached ∙ all },
       )
 
-  pub output_leaves : (r : Result A RunEnd) (t : Result (String Z) E) (out : Option (List ℕ)) (failed : Bool) → lr.message ≡ [] → IfOk t (λ t. string_bytes t ≡ lr.output) → Printed r OutWrite t old.out out failed
-      → LineLeaves r p text (left_at old.out_before out old.messages_before old.messages new) serials at
+  pub output_leaves : (r : Result A RunEnd) (t : Result (String Z) E) (out : Option (List ℕ)) (failed : Bool) → lr.message ≡ [] → IfOk t (λ t. string_bytes t ≡ lr.output) → PrintLeaves r OutWrite t old.out out failed
+      → LineLeaves r p text (left_at old.out_before out old.messages_before old.messages new) session
   output_leaves (Ok done) (Ok t) out failed none is h = record {
     holds = record {
       took_output = Appends-join old.out_before old.out out p.output _ held.took_output (Appends-at old.out out _ _ (is ∙ sym (ap (λ (x : LineResult). x.output) same)) h.0);
@@ -66,11 +69,12 @@ module _ {A E Z : Type 0} (p : Progress) (text : List ℕ) (lr : LineResult) (k 
       reached = reached ∙ sym (ap (λ (x : LineResult). x.state) same);
     };
     next = next ∙ sym (ap (λ (x : LineResult). x.serials) same);
-    place = place ∙ ap (λ (x : LineResult). position (advanced p x)) (sym same);
+    number = number;
+    status = status ∙ ap (λ (x : LineResult). unwrap_or x.status p.status) (sym same);
   }
   output_leaves (Ok done) (Err e) out failed none is h = absurd h
   output_leaves (Err end) (Ok t) out failed none is h =
-      subst (λ x. CutIn x p text (left_at old.out_before out old.messages_before old.messages new)) (sym h.0) (
+      subst (λ x. IsCutIn x p text (left_at old.out_before out old.messages_before old.messages new)) (sym h.0) (
         h.1.0,
         (h.1.1.0, ap (λ (x : LineResult). x.output) same ∙ sym is ∙ h.1.1.1),
         record {
@@ -80,7 +84,7 @@ module _ {A E Z : Type 0} (p : Progress) (text : List ℕ) (lr : LineResult) (k 
         },
       )
   output_leaves (Err end) (Err e) out failed none is h =
-      subst (λ x. CutIn x p text (left_at old.out_before out old.messages_before old.messages new)) (sym h.0) (
+      subst (λ x. IsCutIn x p text (left_at old.out_before out old.messages_before old.messages new)) (sym h.0) (
         k,
         record { took_output = took_same old.out_before old.out out p.output h.1 held.took_output; took_messages = held.took_messages; reached = reached ∙ all },
       )
@@ -103,12 +107,12 @@ pub said_here : (p : Progress) (text : List ℕ) (s : State) (controllers : ℕ)
 said_here p text s controllers said es ec e = ap (λ (x : State). reading text (length x.controllers)) (sym es) ∙ ap (reading text) (sym ec) ∙ e
 
 pub result_asked : (p : Progress) (text : List ℕ) (r : Request) (s : State) (serials : List ℕ) (n : ℕ) → said_at p text ≡ Ok (line.Request r) → s ≡ p.state → serials ≡ p.serials → n ≡ p.number
-    → result_at p text ≡ told (n + 1) r (carried_out s serials (commands_of s r))
+    → result_at p text ≡ request_result (n + 1) r (carried_out s serials (commands_of s r))
 result_asked p text r s serials n e es er en =
     ap (λ (x : Said). line_result p.state p.serials (p.number + 1) x) e
-    ∙ ap (λ (x : State). told (p.number + 1) r (carried_out x p.serials (commands_of x r))) (sym es)
-    ∙ ap (λ (x : List ℕ). told (p.number + 1) r (carried_out s x (commands_of s r))) (sym er)
-    ∙ ap (λ (x : ℕ). told (x + 1) r (carried_out s serials (commands_of s r))) (sym en)
+    ∙ ap (λ (x : State). request_result (p.number + 1) r (carried_out x p.serials (commands_of x r))) (sym es)
+    ∙ ap (λ (x : List ℕ). request_result (p.number + 1) r (carried_out s x (commands_of s r))) (sym er)
+    ∙ ap (λ (x : ℕ). request_result (x + 1) r (carried_out s serials (commands_of s r))) (sym en)
 
 pub result_fault : (p : Progress) (text : List ℕ) (f : LineFault) (s : State) (serials : List ℕ) (n : ℕ) → said_at p text ≡ Err f → s ≡ p.state → serials ≡ p.serials → n ≡ p.number
     → result_at p text ≡ line_result s serials (n + 1) (Err f)
@@ -133,13 +137,13 @@ amid-all p text r s serials e es er =
 
 -- ---- which sink failed
 
-pub out_failure : {A E Z : Type 0} (r : Result A RunEnd) (t : Result (String Z) E) (old new : Option (List ℕ)) (out messages : Bool) → messages ≡ false → Printed r OutWrite t old new out → IsFailureOf r out messages
+pub out_failure : {A E Z : Type 0} (r : Result A RunEnd) (t : Result (String Z) E) (old new : Option (List ℕ)) (out messages : Bool) → messages ≡ false → PrintLeaves r OutWrite t old new out → IsFailureOf r out messages
 out_failure (Ok done) (Ok text) old new out messages m h = (h.1, m)
 out_failure (Ok done) (Err e) old new out messages m h = absurd h
 out_failure {A = A} (Err end) (Ok text) old new out messages m h = subst (λ x. IsFailureOf {A = A} (Err x) out messages) (sym h.0) (h.2, m)
 out_failure {A = A} (Err end) (Err e) old new out messages m h = subst (λ x. IsFailureOf {A = A} (Err x) out messages) (sym h.0) (h.2, m)
 
-pub message_failure : {A E Z : Type 0} (r : Result A RunEnd) (t : Result (String Z) E) (old new : Option (List ℕ)) (out messages : Bool) → out ≡ false → Printed r MessageWrite t old new messages → IsFailureOf r out messages
+pub message_failure : {A E Z : Type 0} (r : Result A RunEnd) (t : Result (String Z) E) (old new : Option (List ℕ)) (out messages : Bool) → out ≡ false → PrintLeaves r MessageWrite t old new messages → IsFailureOf r out messages
 message_failure (Ok done) (Ok text) old new out messages m h = (m, h.1)
 message_failure (Ok done) (Err e) old new out messages m h = absurd h
 message_failure {A = A} (Err end) (Ok text) old new out messages m h = subst (λ x. IsFailureOf {A = A} (Err x) out messages) (sym h.0) (m, h.2)

@@ -5,9 +5,9 @@ use Rattle.std.proofs.lemmas.Grind.{fold-append}
 use Rattle.std.proofs.lemmas.Bool.Decides.{nat_tests}
 use Rattle.std.specs.Prelude.{Option, Some, None, nat_le}
 use Rattle.nv_subsystem.specs.State.{State}
-use Rattle.nv_script.specs.Ends.{joined_lines}
+use Rattle.nv_script.specs.Cuts.{joined_lines}
 use Rattle.nv_script.specs.Results.{after, start, whole}
-use Rattle.nv_script.specs.ScriptLines.{Pieces, as_line, held, held_more, pieces, script_lines}
+use Rattle.nv_script.specs.ScriptLines.{Pieces, as_line, buffer_of, buffer_with, pieces, script_lines}
 use Rattle.nv_script.proofs.PieceSteps.{pieces-append, with-newline, with-other, with_byte}
 
 -- a piece of which one byte more was read
@@ -67,23 +67,23 @@ as_line-some [] h = absurd (omega arith)
 as_line-some (b ∷ bs) h = refl
 
 -- what is held of a line, one byte on
-pub held-more : (line : List ℕ) (b : ℕ) → held_more (held line) b ≡ held (line ++ b ∷ [])
-held-more line b = at_test (nat_le (length line) 4095) refl
+pub buffer_with-buffer_of : (line : List ℕ) (b : ℕ) → buffer_with (buffer_of line) b ≡ buffer_of (line ++ b ∷ [])
+buffer_with-buffer_of line b = at_test (nat_le (length line) 4095) refl
   where
     too_long : (t : Bool) → nat_le (length line) 4095 ≡ false → nat_le (length (line ++ b ∷ [])) 4095 ≡ t → t ≡ false
     too_long t e f = grind (arith, nat_tests, length-append line (b ∷ []))
 
-    at_test : (t : Bool) → nat_le (length line) 4095 ≡ t → held_more (cond t (Some line) None) b ≡ held (line ++ b ∷ [])
+    at_test : (t : Bool) → nat_le (length line) 4095 ≡ t → buffer_with (cond t (Some line) None) b ≡ buffer_of (line ++ b ∷ [])
     at_test true e = refl
     at_test false e = ap (λ x. cond x (Some (line ++ b ∷ [])) None) (sym (too_long (nat_le (length (line ++ b ∷ [])) 4095) e refl))
 
-pub held-some : (line : List ℕ) → (held line ≡ Some [] → ⊥) → 0 < length line
-held-some [] h = absurd (h refl)
-held-some (b ∷ bs) h = omega arith
+pub buffer_of-some : (line : List ℕ) → (buffer_of line ≡ Some [] → ⊥) → 0 < length line
+buffer_of-some [] h = absurd (h refl)
+buffer_of-some (b ∷ bs) h = omega arith
 
-pub held-none : (line : List ℕ) → held line ≡ Some [] → as_line line ≡ []
-held-none [] e = refl
-held-none (b ∷ bs) e = at_test (nat_le (length (b ∷ bs)) 4095) e
+pub buffer_of-empty : (line : List ℕ) → buffer_of line ≡ Some [] → as_line line ≡ []
+buffer_of-empty [] e = refl
+buffer_of-empty (b ∷ bs) e = at_test (nat_le (length (b ∷ bs)) 4095) e
   where
     at_test : (t : Bool) → ◌≡◌ {A = Option (List ℕ)} (cond t (Some (b ∷ bs)) None) (Some []) → as_line (b ∷ bs) ≡ []
     at_test true e = cc

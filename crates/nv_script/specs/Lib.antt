@@ -6,5 +6,8 @@ pub mod Asking
 pub mod Outcomes
 pub mod Texts
 pub mod ScriptLines
+pub mod Session
 pub mod Results
+pub mod Cuts
 pub mod Ends
+pub mod Feeding

@@ -6,13 +6,13 @@ use Rattle.nv_line.specs.LineFault.{fault_text}
 use Rattle.nv_script.specs.Outcomes.{Outcome, carried_out, commands_of}
 use Rattle.nv_line.specs.Line.{reading}
 use Rattle.nv_script.specs.Texts.{message_of, refusal_text, text_of}
-use Rattle.nv_script.specs.declared.executing.Position.{Position}
 use Rattle.nv_line.specs.declared.fault.LineFault.{LineFault}
 use Rattle.nv_line.specs.declared.line.Line.{Line}
 use Rattle.nv_line.specs.declared.line.Line.TheVariants as line
 use Rattle.nv_line.specs.declared.request.Request.{Request}
 
--- what a line prints, on one of the two streams at most; its status, if it has one; and what it leaves
+-- what a line prints, on one of the two streams at most; its status, if it has one; and what it
+-- leaves
 pub record LineResult : Type 0 where
   pub output : List ℕ
   pub message : List ℕ
@@ -21,21 +21,45 @@ pub record LineResult : Type 0 where
   pub serials : List ℕ
 
 -- a request prints its text, or the message of its refusal
-abbrev pub told_by : Option Status → ℕ → Request → Outcome → LineResult
-told_by None number r o = record { output = text_of r.ask o.replies; message = []; status = Some 0; state = o.state; serials = o.serials }
-told_by (Some status) number r o = record { output = []; message = message_of number (refusal_text status); status = Some 2; state = o.state; serials = o.serials }
+abbrev pub answer_result : Option Status → ℕ → Request → Outcome → LineResult
+answer_result None number r o = record {
+  output = text_of r.ask o.replies;
+  message = [];
+  status = Some 0;
+  state = o.state;
+  serials = o.serials;
+}
+answer_result (Some status) number r o = record {
+  output = [];
+  message = message_of number (refusal_text status);
+  status = Some 2;
+  state = o.state;
+  serials = o.serials;
+}
 
-abbrev pub told : ℕ → Request → Outcome → LineResult
-told number r o = told_by o.refusal number r o
+abbrev pub request_result : ℕ → Request → Outcome → LineResult
+request_result number r o = answer_result o.refusal number r o
+
+-- a line that sends no command
+abbrev pub quiet_result : State → List ℕ → List ℕ → Option ℕ → LineResult
+quiet_result s serials message status = record {
+  output = [];
+  message = message;
+  status = status;
+  state = s;
+  serials = serials;
+}
 
 -- the line of this number
 abbrev pub line_result : State → List ℕ → ℕ → Result Line LineFault → LineResult
-line_result s serials number (Ok line.Skipped) = record { output = []; message = []; status = None; state = s; serials = serials }
-line_result s serials number (Ok (line.Request r)) = told number r (carried_out s serials (commands_of s r))
-line_result s serials number (Err fault) = record { output = []; message = message_of number (fault_text fault); status = Some 1; state = s; serials = serials }
+line_result s serials number (Ok line.Skipped) = quiet_result s serials [] None
+line_result s serials number (Ok (line.Request r)) =
+    request_result number r (carried_out s serials (commands_of s r))
+line_result s serials number (Err fault) =
+    quiet_result s serials (message_of number (fault_text fault)) (Some 1)
 
--- where a script stands between two lines: what was printed, the status of the last line that has one, the
--- subsystem, the next serial of each controller, and how many lines there were
+-- where a script stands between two lines: what was printed, the status of the last line that has
+-- one, the subsystem, the next serial of each controller, and how many lines there were
 pub record Progress : Type 0 where
   pub output : List ℕ
   pub messages : List ℕ
@@ -52,8 +76,8 @@ said_at p line = reading line (length p.state.controllers)
 abbrev pub result_at : Progress → List ℕ → LineResult
 result_at p line = line_result p.state p.serials (p.number + 1) (said_at p line)
 
-abbrev pub advanced : Progress → LineResult → Progress
-advanced p r = record {
+abbrev pub progress_with : Progress → LineResult → Progress
+progress_with p r = record {
   output = p.output ++ r.output;
   messages = p.messages ++ r.message;
   status = unwrap_or r.status p.status;
@@ -63,16 +87,19 @@ advanced p r = record {
 }
 
 abbrev pub after : Progress → List ℕ → Progress
-after p line = advanced p (result_at p line)
+after p line = progress_with p (result_at p line)
 
 -- before the first line: serials are 0
 abbrev pub start : State → Progress
-start s = record { output = []; messages = []; status = 0; state = s; serials = replicate (length s.controllers) 0; number = 0 }
+start s = record {
+  output = [];
+  messages = [];
+  status = 0;
+  state = s;
+  serials = replicate (length s.controllers) 0;
+  number = 0;
+}
 
 -- a whole script, from this state on
 abbrev pub whole : State → List (List ℕ) → Progress
 whole s lines = fold after (start s) lines
-
--- the part of it that the run keeps beside the serials
-abbrev pub position : Progress → Position
-position p = record { number = p.number; status = p.status }

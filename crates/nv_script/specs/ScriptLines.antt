@@ -2,6 +2,7 @@
 use Rattle.std.specs.Prelude.{ℕ, List, [], ◌∷◌, ◌++◌, length, nat_le, if◌then◌else◌, Option, None, Some}
 use Rattle.std.specs.Char.{is_newline}
 use Rattle.std.specs.List.{slice_split}
+use Rattle.nv_line.specs.declared.line.TheConstants.{LINE_LIMIT}
 
 -- bytes cut at their newlines: the lines that a newline ended, and what follows the last newline
 pub record Pieces : Type 0 where
@@ -28,10 +29,11 @@ as_line (b ∷ bs) = (b ∷ bs) ∷ []
 abbrev pub script_lines : List ℕ → List (List ℕ)
 script_lines bytes = (pieces bytes).ended ++ as_line (pieces bytes).last
 
--- what can be held of a line: all of it, up to 4,095 bytes
-abbrev pub held : List ℕ → Option (List ℕ)
-held line = if nat_le (length line) 4095 then Some line else None
+-- a line as a buffer has it: all of it, or none where it is above 4,095 bytes
+abbrev pub buffer_of : List ℕ → Option (List ℕ)
+buffer_of line = if nat_le (length line) LINE_LIMIT then Some line else None
 
-abbrev pub held_more : Option (List ℕ) → ℕ → Option (List ℕ)
-held_more None b = None
-held_more (Some line) b = held (line ++ b ∷ [])
+-- the same with one byte more
+abbrev pub buffer_with : Option (List ℕ) → ℕ → Option (List ℕ)
+buffer_with None b = None
+buffer_with (Some line) b = buffer_of (line ++ b ∷ [])

@@ -3,37 +3,32 @@
 ghost use Rattle.std.specs.Prelude.{◌≡◌, ◌+◌, ◌<◌, ◌^◌, ℕ, List, Option, false, not, IfOk, length};
 ghost use Rattle.std.specs.Option.{option_copied};
 ghost use Rattle.nv_script.specs.Asking.{IsReady};
-ghost use Rattle.nv_script.specs.Ends.{IsFailureOf, LineLeaves, Printed, Stands, left_at};
+ghost use Rattle.nv_script.specs.Cuts.{left_at};
+ghost use Rattle.nv_script.specs.Feeding.{IsFailureOf, LineLeaves, PrintLeaves, Stands};
 ghost use Rattle.nv_line.specs.LineFault.{IsUnlessMemory};
 ghost use Rattle.nv_script.specs.Outcomes.{Answers, carried_out, commands_of};
 ghost use Rattle.nv_line.specs.Line.{IsKnown, reading};
 ghost use Rattle.nv_script.specs.Results.{Progress};
-ghost use Rattle.nv_script.specs.ScriptLines.{held};
+ghost use Rattle.nv_script.specs.ScriptLines.{buffer_of};
+ghost use Rattle.nv_script.specs.Session.{IsSessionOf};
 ghost use Rattle.nv_script.specs.Streams.{WritesAll};
 
 use crate::asking::{ask_list, ask_namespace};
 use crate::ends::RunEnd;
 use crate::serving::Direct;
+use crate::session::Session;
 use crate::streams::Sink;
 use crate::texts::{fault_message, list_text, namespace_text, refusal_message};
 use nv_layout::Status;
 use nv_line::{Ask, Line, LineFault, Request, read_line};
 use std::alloc::{AllocError, Global};
 
-/// Where a run stands between two lines: how many lines there were, and the status of the last one that
-/// has one.
-#[derive(Clone, Copy, Debug, PartialEq, Eq)]
-pub struct Position {
-    pub number: u64,
-    pub status: u8,
-}
-
-/// Writes a text, in as many writes as it takes. After a failing write the sink has taken a beginning of
-/// it.
+/// Writes a text, in as many writes as it takes. After a failing write the sink has taken a
+/// beginning of it.
 fn write_all<S: Sink>(sink: &mut S, text: &[u8]) -> bool
-    requires { S.has_failed sink.old ≡ false }
-    ensures text { WritesAll result (S.taken sink.old) (S.taken sink.new) text.now }
-    ensures failure { S.has_failed sink.new ≡ not result }
+    requires { (S.state sink.old).has_failed ≡ false }
+    ensures text { WritesAll result (S.state sink.old).taken (S.state sink.new).taken text.now }
+    ensures failure { (S.state sink.new).has_failed ≡ not result }
 {
     let mut rest = text;
     while !rest.is_empty() {
@@ -45,14 +40,15 @@ fn write_all<S: Sink>(sink: &mut S, text: &[u8]) -> bool
     true
 }
 
-/// Writes a line's text, made before its first byte goes out. `fault` is the end where the sink fails.
+/// Writes a line's text, made before its first byte goes out. `fault` is the end if the sink fails.
 fn print<S: Sink>(
     sink: &mut S,
     text: Result<String, AllocError>,
     fault: RunEnd,
 ) -> Result<(), RunEnd>
-    requires { S.has_failed sink.old ≡ false }
-    ensures { Printed result fault text (S.taken sink.old) (S.taken sink.new) (S.has_failed sink.new) }
+    requires { (S.state sink.old).has_failed ≡ false }
+    ensures { PrintLeaves result fault text (S.state sink.old).taken (S.state sink.new).taken
+        (S.state sink.new).has_failed }
 {
     match text {
         Err(_) => Err(RunEnd::Memory),
@@ -96,9 +92,10 @@ fn perform<D: Direct>(
     }
 }
 
-/// What a line says, as far as it could be held.
-fn read_held(alloc: Global, line: Option<&[u8]>, controllers: u16) -> Result<Line, LineFault>
-    ensures said { (text : List ℕ) → option_copied line.entry ≡ held text → IsUnlessMemory (reading text controllers) result }
+/// What a line says, as far as there was room for it.
+fn read_buffer(alloc: Global, line: Option<&[u8]>, controllers: u16) -> Result<Line, LineFault>
+    ensures said { (text : List ℕ) → option_copied line.entry ≡ buffer_of text
+        → IsUnlessMemory (reading text controllers) result }
     ensures known { IfOk result (IsKnown controllers) }
 {
     match line {
@@ -111,46 +108,56 @@ fn read_held(alloc: Global, line: Option<&[u8]>, controllers: u16) -> Result<Lin
 pub fn execute_line<D: Direct, O: Sink, M: Sink>(
     alloc: Global,
     direct: &mut D,
-    serials: &mut [u16],
+    session: &mut Session,
     out: &mut O,
     messages: &mut M,
-    at: &mut Position,
     line: Option<&[u8]>,
 ) -> Result<(), RunEnd>
-    requires out_ready { O.has_failed out.old ≡ false }
-    requires messages_ready { M.has_failed messages.old ≡ false }
-    requires ready { IsReady (D.state direct.old) serials.old }
-    requires number { at.old.number + 1 < 2 ^ 64 }
+    requires out_ready { (O.state out.old).has_failed ≡ false }
+    requires messages_ready { (M.state messages.old).has_failed ≡ false }
+    requires ready { IsSessionOf (D.state direct.old) session.old }
+    requires number { session.old.number + 1 < 2 ^ 64 }
     // Where the run stood after p, it then stands after p and this line, or is cut short in it.
-    ensures left { (text : List ℕ) (p : Progress) (o m : Option (List ℕ)) → option_copied line.entry ≡ held text
-        → Stands p (left_at o (O.taken out.old) m (M.taken messages.old) (D.state direct.old)) serials.old at.old
-        → LineLeaves result p text (left_at o (O.taken out.new) m (M.taken messages.new) (D.state direct.new)) serials.new at.new }
-    ensures failure { IsFailureOf result (O.has_failed out.new) (M.has_failed messages.new) }
-    ensures ready { IsReady (D.state direct.new) serials.new }
-    ensures number { at.new.number ≡ at.old.number + 1 }
+    ensures left { (text : List ℕ) (p : Progress) (o m : Option (List ℕ))
+        → option_copied line.entry ≡ buffer_of text
+        → Stands p
+        (left_at o (O.state out.old).taken m (M.state messages.old).taken (D.state direct.old))
+        session.old
+        → LineLeaves result p text
+        (left_at o (O.state out.new).taken m (M.state messages.new).taken (D.state direct.new))
+        session.new }
+    ensures failure { IsFailureOf result
+        (O.state out.new).has_failed (M.state messages.new).has_failed }
+    ensures ready { IsSessionOf (D.state direct.new) session.new }
+    ensures number { session.new.number ≡ session.old.number + 1 }
 {
-    at.number += 1;
-    let said = match read_held(alloc, line, direct.controllers()) {
+    session.number += 1;
+    let said = match read_buffer(alloc, line, direct.controllers()) {
         Ok(said) => said,
         Err(fault) => match fault {
             LineFault::Memory => return Err(RunEnd::Memory),
             fault => {
-                at.status = 1;
-                let text = fault_message(alloc, at.number, fault);
+                session.status = 1;
+                let text = fault_message(alloc, session.number, fault);
                 return print(messages, text, RunEnd::MessageWrite);
             }
         },
     };
     match said {
         Line::Skipped => Ok(()),
-        Line::Request(request) => match perform(alloc, direct, serials, request) {
+        Line::Request(request) => match perform(
+            alloc,
+            direct,
+            &mut session.serials[..session.controllers],
+            request,
+        ) {
             Ok(text) => {
-                at.status = 0;
+                session.status = 0;
                 print(out, text, RunEnd::OutWrite)
             }
             Err(status) => {
-                at.status = 2;
-                let text = refusal_message(alloc, at.number, status);
+                session.status = 2;
+                let text = refusal_message(alloc, session.number, status);
                 print(messages, text, RunEnd::MessageWrite)
             }
         },

@@ -7,11 +7,12 @@ mod executing;
 mod line_buffer;
 mod running;
 mod serving;
+mod session;
 mod streams;
 mod texts;
 
 pub use ends::RunEnd;
 pub use nv_line::{Ask, LINE_LIMIT, Line, LineFault, OptionName, Request, read_line};
-pub use running::run;
+pub use running::{READ_LIMIT, run};
 pub use serving::{Direct, Straight};
-pub use streams::{OverRead, OverWrite, Sink, Source};
+pub use streams::{OverRead, OverWrite, READ_SIZE, Sink, Source};

@@ -1,15 +1,17 @@
-//! One line of a script, as far as it can be held.
+//! One line of a script, as far as there is room for it.
 
 ghost use Rattle.std.specs.Prelude.{◌≡◌, ◌≤◌, [], List, ℕ, Option, Some, None, if◌then◌else◌, take, IsTrue, ◌↔◌};
 ghost use Rattle.std.specs.Option.{option_copied};
-ghost use Rattle.nv_script.specs.ScriptLines.{held_more};
+ghost use Rattle.nv_script.specs.ScriptLines.{buffer_with};
+ghost use Rattle.nv_line.specs.declared.line.TheConstants.{LINE_LIMIT};
 
+use nv_line::LINE_LIMIT;
 use std::marker::Model;
 
 /// A line, or that it has more than 4,095 bytes.
 #[derive(Drop)]
 pub struct LineBuffer {
-    bytes: [u8; 4095],
+    bytes: [u8; LINE_LIMIT],
     len: usize,
     is_too_long: bool,
 }
@@ -19,7 +21,7 @@ impl Model for LineBuffer {
 
     ghost view = { λ a. if a.is_too_long then None else Some (take a.len a.bytes) };
 
-    ghost invariant = { λ a. a.len ≤ 4095 };
+    ghost invariant = { λ a. a.len ≤ LINE_LIMIT };
 }
 
 impl LineBuffer {
@@ -27,16 +29,16 @@ impl LineBuffer {
         ensures { result ≡ Some [] }
     {
         LineBuffer {
-            bytes: [0; 4095],
+            bytes: [0; LINE_LIMIT],
             len: 0,
             is_too_long: false,
         }
     }
 
     pub fn push(&mut self, byte: u8)
-        ensures { self.new ≡ held_more self.old byte }
+        ensures { self.new ≡ buffer_with self.old byte }
     {
-        if self.len < 4095 {
+        if self.len < LINE_LIMIT {
             self.bytes[self.len] = byte;
             self.len += 1;
         } else {
@@ -52,7 +54,7 @@ impl LineBuffer {
     }
 
     /// The line; `None` where it is too long.
-    pub fn held(&self) -> Option<&[u8]>
+    pub fn line(&self) -> Option<&[u8]>
         ensures { option_copied result ≡ self.now }
     {
         if self.is_too_long {

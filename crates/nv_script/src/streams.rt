@@ -1,68 +1,69 @@
 //! Where a script comes from, and where its texts go.
 
-ghost use Rattle.std.specs.Prelude.{◌≡◌, ℕ, ◌+◌, ◌^◌, ◌<◌, ◌≤◌, ◌||◌, Bool, List, Option, length, is_none, IfSome, unwrap_or, false};
-ghost use Rattle.nv_script.specs.Streams.{Gives, Takes, write_fails};
+ghost use Rattle.std.specs.Prelude.{◌≡◌, ◌+◌, ◌^◌, ◌<◌, ◌≤◌, length, is_none, IfSome, unwrap_or, false};
+ghost use Rattle.nv_script.specs.Streams.{Gives, IsFresh, SinkState, SourceState, Takes, is_end, is_failure};
 
 use std::io::{Read, Write};
 
+/// The most bytes that one read is asked for.
+pub const READ_SIZE: usize = 4096;
+
 /// Gives bytes in pieces. An error gives none.
 pub trait Source {
-    // The bytes to come, where they are told.
-    ghost to_come: { Self → Option (List ℕ) };
+    // What it gives, and what became of it.
+    ghost state: { Self → SourceState };
 
-    // Whether a call has answered an error.
-    ghost has_failed: { Self → Bool };
-
-    // How many calls were made, and how many bytes were given.
-    ghost calls: { Self → ℕ };
-
-    ghost given: { Self → ℕ };
-
-    /// The number of bytes given: 0 into at least one byte is the end. `None` is an error.
+    /// The number of bytes given, from the buffer's front on: 0 is the end. `None` is an error. The
+    /// buffer has 1 to 4,096 bytes, and no read follows an end or an error.
     fn read(&mut self, buf: &mut [u8]) -> Option<usize>
-        requires room_for_call { calls self.old + 1 < 2 ^ 64 }
-        requires room_for_bytes { given self.old + length buf.old < 2 ^ 64 }
+        requires some { 0 < length buf.old }
+        requires most { length buf.old ≤ READ_SIZE }
+        requires not_failed { (state self.old).has_failed ≡ false }
+        requires not_ended { (state self.old).has_ended ≡ false }
+        requires room_for_call { (state self.old).calls + 1 < 2 ^ 64 }
+        requires room_for_bytes { (state self.old).given + length buf.old < 2 ^ 64 }
         ensures bound { IfSome result (λ n. n ≤ length buf.new) }
-        ensures bytes { Gives (to_come self.old) (to_come self.new) result buf.new }
-        ensures failure { has_failed self.new ≡ (has_failed self.old || is_none result) }
-        ensures call { calls self.new ≡ calls self.old + 1 }
-        ensures count { given self.new ≡ given self.old + unwrap_or result 0 };
+        ensures bytes { Gives (state self.old).to_come (state self.new).to_come result buf.new }
+        ensures failure { (state self.new).has_failed ≡ is_none result }
+        ensures end { (state self.new).has_ended ≡ is_end result }
+        ensures call { (state self.new).calls ≡ (state self.old).calls + 1 }
+        ensures count { (state self.new).given ≡ (state self.old).given + unwrap_or result 0 };
 }
 
 /// Takes bytes in pieces. An error takes none.
 pub trait Sink {
-    // The bytes taken, where they are told.
-    ghost taken: { Self → Option (List ℕ) };
+    // What it took, and what became of it.
+    ghost state: { Self → SinkState };
 
-    // Whether a call has answered an error, or 0 for at least one byte.
-    ghost has_failed: { Self → Bool };
-
-    /// The number of bytes taken, from the first on. `None` is an error.
+    /// The number of bytes taken, from the first on: 0 is a failure. `None` is an error. At least
+    /// one byte is offered, and no write follows a failure or an error.
     fn write(&mut self, bytes: &[u8]) -> Option<usize>
+        requires some { 0 < length bytes.now }
+        requires not_failed { (state self.old).has_failed ≡ false }
         ensures bound { IfSome result (λ n. n ≤ length bytes.now) }
-        ensures bytes { Takes (taken self.old) (taken self.new) result bytes.now }
-        ensures failure { has_failed self.new ≡ (has_failed self.old || write_fails result bytes.now) };
+        ensures bytes { Takes (state self.old).taken (state self.new).taken result bytes.now }
+        ensures failure { (state self.new).has_failed ≡ is_failure result };
 }
 
-/// A source over any reader of std.
+/// A source over any reader of std. An error of the reader is its error, and isn't tried again.
 #[derive(Drop)]
 pub struct OverRead<R> {
     reader: R,
     failed: bool,
+    ended: bool,
     calls: u64,
     given: u64,
 }
 
 impl<R: Read> OverRead<R> {
     pub fn new(reader: R) -> OverRead<R>
-        ensures to_come { ⟦<OverRead<R> as Source>⟧.to_come result ≡ R.remaining reader }
-        ensures fresh { ⟦<OverRead<R> as Source>⟧.has_failed result ≡ false }
-        ensures no_call { ⟦<OverRead<R> as Source>⟧.calls result ≡ 0 }
-        ensures no_byte { ⟦<OverRead<R> as Source>⟧.given result ≡ 0 }
+        ensures to_come { (⟦<OverRead<R> as Source>⟧.state result).to_come ≡ R.remaining reader }
+        ensures fresh { IsFresh (⟦<OverRead<R> as Source>⟧.state result) }
     {
         OverRead {
             reader,
             failed: false,
+            ended: false,
             calls: 0,
             given: 0,
         }
@@ -70,18 +71,19 @@ impl<R: Read> OverRead<R> {
 }
 
 impl<R: Read> Source for OverRead<R> {
-    ghost to_come = { λ s. R.remaining s.reader };
-
-    ghost has_failed = { λ s. s.failed };
-
-    ghost calls = { λ s. s.calls };
-
-    ghost given = { λ s. s.given };
+    ghost state = { λ s. record {
+      to_come = R.remaining s.reader;
+      has_failed = s.failed;
+      has_ended = s.ended;
+      calls = s.calls;
+      given = s.given;
+    } };
 
     fn read(&mut self, buf: &mut [u8]) -> Option<usize> {
         self.calls += 1;
         match self.reader.read(buf) {
             Ok(n) => {
+                self.ended = n == 0;
                 self.given += n as u64;
                 Some(n)
             }
@@ -93,7 +95,7 @@ impl<R: Read> Source for OverRead<R> {
     }
 }
 
-/// A sink over any writer of std.
+/// A sink over any writer of std. An error of the writer is its error, and isn't tried again.
 #[derive(Drop)]
 pub struct OverWrite<W> {
     writer: W,
@@ -102,8 +104,8 @@ pub struct OverWrite<W> {
 
 impl<W: Write> OverWrite<W> {
     pub fn new(writer: W) -> OverWrite<W>
-        ensures taken { ⟦<OverWrite<W> as Sink>⟧.taken result ≡ W.contents writer }
-        ensures fresh { ⟦<OverWrite<W> as Sink>⟧.has_failed result ≡ false }
+        ensures taken { (⟦<OverWrite<W> as Sink>⟧.state result).taken ≡ W.contents writer }
+        ensures fresh { (⟦<OverWrite<W> as Sink>⟧.state result).has_failed ≡ false }
     {
         OverWrite {
             writer,
@@ -113,7 +115,7 @@ impl<W: Write> OverWrite<W> {
 
     /// The writer, with what it took.
     pub fn into_inner(self) -> W
-        ensures { W.contents result ≡ ⟦<OverWrite<W> as Sink>⟧.taken self }
+        ensures { W.contents result ≡ (⟦<OverWrite<W> as Sink>⟧.state self).taken }
     {
         let OverWrite { writer, failed: _ } = self;
         writer
@@ -121,16 +123,12 @@ impl<W: Write> OverWrite<W> {
 }
 
 impl<W: Write> Sink for OverWrite<W> {
-    ghost taken = { λ s. W.contents s.writer };
-
-    ghost has_failed = { λ s. s.failed };
+    ghost state = { λ s. record { taken = W.contents s.writer; has_failed = s.failed } };
 
     fn write(&mut self, bytes: &[u8]) -> Option<usize> {
         match self.writer.write(bytes) {
             Ok(n) => {
-                if n == 0 && !bytes.is_empty() {
-                    self.failed = true;
-                }
+                self.failed = n == 0;
                 Some(n)
             }
             Err(_) => {

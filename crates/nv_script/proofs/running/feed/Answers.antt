@@ -1,10 +1,11 @@
 use Rattle.std.proofs.Common.{◌∙◌, ◌++◌, ap, arith, get_or, subst, sym, take, List, ℕ, Ok}
 use Rattle.std.proofs.lemmas.Result.{err_from_is_err_and}
 use Rattle.std.proofs.lemmas.List.{take_all}
-use Rattle.nv_script.specs.Ends.{PieceLeaves, Stands, left_at}
+use Rattle.nv_script.specs.Cuts.{left_at}
+use Rattle.nv_script.specs.Feeding.{PieceLeaves, Stands}
 use Rattle.nv_script.specs.Results.{Progress, whole}
-use Rattle.nv_script.specs.ScriptLines.{Pieces, held, held_more, pieces}
-use Rattle.nv_script.proofs.PieceLaws.{held-more, pieces-newline, pieces-other, taken-more, whole-more}
+use Rattle.nv_script.specs.ScriptLines.{Pieces, buffer_of, buffer_with, pieces}
+use Rattle.nv_script.proofs.PieceLaws.{buffer_with-buffer_of, pieces-newline, pieces-other, taken-more, whole-more}
 use Rattle.nv_script.proofs.running.feed.Goals as goal
 use Rattle.nv_script.proofs.running.feed.Goals.{then-byte-eq10+in_ok-execute_line, else-byte-eq10}
 
@@ -14,7 +15,7 @@ returns-in_err-execute_line-clause-left g c s bytes o m is stands =
     let i = c.loop-byte.byte-index in
     let before = pieces (bytes ++ take i c.args.piece.now) in
     let fed = c.loop-byte.invariant.fed s bytes o m is stands in
-    let cut = c.in_err-execute_line.ensures.left before.last (whole s before.ended) o m (c.held.ensures ∙ fed.0) fed.1 in
+    let cut = c.in_err-execute_line.ensures.left before.last (whole s before.ended) o m (c.line.ensures ∙ fed.0) fed.1 in
     rw (e.1, e.2) (i, c.loop-byte-test.true, c.if-byte-eq10.true, cut)
 
 pub loop-byte-preserved : goal.loop-byte-preserved
@@ -24,7 +25,7 @@ loop-byte-preserved g c =
     let i = c.loop-byte.byte-index in
     elim c.if-byte-eq10.branch [
       | then-byte-eq10+in_ok-execute_line w ↦
-          rw (w.at-is, w.line-is, w.out-is, w.messages-is, w.direct-is, w.serials-is) (record {
+          rw (w.session-is, w.line-is, w.out-is, w.messages-is, w.direct-is) (record {
             numbered = omega (arith, w.execute_line.ensures.number, inv.numbered);
             out_ready = w.in_ok-execute_line.ensures.failure.0;
             messages_ready = w.in_ok-execute_line.ensures.failure.1;
@@ -32,15 +33,15 @@ loop-byte-preserved g c =
             fed = λ s bytes o m is stands.
                 let xs = bytes ++ take i piece in
                 let fed = inv.fed s bytes o m is stands in
-                let done = w.in_ok-execute_line.ensures.left (pieces xs).last (whole s (pieces xs).ended) o m (w.held.ensures ∙ fed.0) fed.1 in
+                let done = w.in_ok-execute_line.ensures.left (pieces xs).last (whole s (pieces xs).ended) o m (w.line.ensures ∙ fed.0) fed.1 in
                 let more = ap pieces (taken-more bytes piece i c.loop-byte-test.true) ∙ pieces-newline xs (get_or piece i 0) w.if-byte-eq10.true in (
-                  w.clear.ensures ∙ sym (ap (λ (x : Pieces). held x.last) more),
-                  subst (λ (q : Progress). Stands q (left_at o (g.O.Sink.taken w.execute_line.new.out) m (g.M.Sink.taken w.execute_line.new.messages) (g.D.Direct.state w.execute_line.new.direct)) w.execute_line.new.serials w.execute_line.new.at)
+                  w.clear.ensures ∙ sym (ap (λ (x : Pieces). buffer_of x.last) more),
+                  subst (λ (q : Progress). Stands q (left_at o (g.O.Sink.state w.execute_line.new.out).taken m (g.M.Sink.state w.execute_line.new.messages).taken (g.D.Direct.state w.execute_line.new.direct)) w.execute_line.new.session)
                       (sym (ap (λ (x : Pieces). whole s x.ended) more ∙ whole-more s (pieces xs).ended (pieces xs).last)) done,
                 );
           })
       | else-byte-eq10 w ↦
-          rw (w.at-is, w.line-is, w.out-is, w.messages-is, w.direct-is, w.serials-is) (record {
+          rw (w.session-is, w.line-is, w.out-is, w.messages-is, w.direct-is) (record {
             numbered = omega (arith, inv.numbered);
             out_ready = inv.out_ready;
             messages_ready = inv.messages_ready;
@@ -49,8 +50,8 @@ loop-byte-preserved g c =
                 let xs = bytes ++ take i piece in
                 let fed = inv.fed s bytes o m is stands in
                 let more = ap pieces (taken-more bytes piece i c.loop-byte-test.true) ∙ pieces-other xs (get_or piece i 0) w.if-byte-eq10.false in (
-                  w.push.ensures ∙ ap (λ x. held_more x (get_or piece i 0)) fed.0 ∙ held-more (pieces xs).last (get_or piece i 0) ∙ sym (ap (λ (x : Pieces). held x.last) more),
-                  subst (λ (q : Progress). Stands q (left_at o (g.O.Sink.taken c.loop-byte.out) m (g.M.Sink.taken c.loop-byte.messages) (g.D.Direct.state c.loop-byte.direct)) c.loop-byte.serials c.loop-byte.at)
+                  w.push.ensures ∙ ap (λ x. buffer_with x (get_or piece i 0)) fed.0 ∙ buffer_with-buffer_of (pieces xs).last (get_or piece i 0) ∙ sym (ap (λ (x : Pieces). buffer_of x.last) more),
+                  subst (λ (q : Progress). Stands q (left_at o (g.O.Sink.state c.loop-byte.out).taken m (g.M.Sink.state c.loop-byte.messages).taken (g.D.Direct.state c.loop-byte.direct)) c.loop-byte.session)
                       (sym (ap (λ (x : Pieces). whole s x.ended) more)) fed.1,
                 );
           })
@@ -58,5 +59,5 @@ loop-byte-preserved g c =
 
 pub returns-clause-left : goal.returns-clause-left
 returns-clause-left g c s bytes o m is stands =
-    subst (λ (xs : List ℕ). PieceLeaves {A = Unit {0}} (Ok tt) s bytes xs c.loop-byte.line (left_at o (g.O.Sink.taken c.loop-byte.out) m (g.M.Sink.taken c.loop-byte.messages) (g.D.Direct.state c.loop-byte.direct)) c.loop-byte.serials c.loop-byte.at)
+    subst (λ (xs : List ℕ). PieceLeaves {A = Unit {0}} (Ok tt) s bytes xs c.loop-byte.line (left_at o (g.O.Sink.state c.loop-byte.out).taken m (g.M.Sink.state c.loop-byte.messages).taken (g.D.Direct.state c.loop-byte.direct)) c.loop-byte.session)
     (take_all c.loop-byte.byte-index c.args.piece.now c.loop-byte-test.false) (c.loop-byte.invariant.fed s bytes o m is stands)

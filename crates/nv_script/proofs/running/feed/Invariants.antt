@@ -1,18 +1,19 @@
 use Rattle.std.proofs.Common.{◌≡◌, ◌≤◌, ◌+◌, false, List, ℕ, Option, Ok, take}
 use Rattle.nv_subsystem.specs.State.{State}
-use Rattle.nv_script.specs.Asking.{IsReady}
-use Rattle.nv_script.specs.Ends.{PieceLeaves, Stands, left_at}
+use Rattle.nv_script.specs.Cuts.{left_at}
+use Rattle.nv_script.specs.Feeding.{PieceLeaves, Stands}
 use Rattle.nv_script.specs.Results.{whole}
-use Rattle.nv_script.specs.ScriptLines.{held, pieces}
+use Rattle.nv_script.specs.ScriptLines.{buffer_of, pieces}
+use Rattle.nv_script.specs.Session.{IsSessionOf}
 use Rattle.nv_script.proofs.running.feed.Given as goal
 
 abbrev pub invariant-loop-byte : goal.invariant-loop-byte
 invariant-loop-byte g l = record {
-  numbered : l.at.number ≤ l.initial.at.number + l.byte-index;
-  out_ready : g.O.Sink.has_failed l.out ≡ false;
-  messages_ready : g.M.Sink.has_failed l.messages ≡ false;
-  ready : IsReady (g.D.Direct.state l.direct) l.serials;
-  fed : (s : State) (bytes : List ℕ) (o m : Option (List ℕ)) → l.initial.line ≡ held (pieces bytes).last
-      → Stands (whole s (pieces bytes).ended) (left_at o (g.O.Sink.taken l.initial.out) m (g.M.Sink.taken l.initial.messages) (g.D.Direct.state l.initial.direct)) l.initial.serials l.initial.at
-      → PieceLeaves {A = Unit {0}} (Ok tt) s bytes (take l.byte-index l.piece) l.line (left_at o (g.O.Sink.taken l.out) m (g.M.Sink.taken l.messages) (g.D.Direct.state l.direct)) l.serials l.at;
+  numbered : l.session.number ≤ l.initial.session.number + l.byte-index;
+  out_ready : (g.O.Sink.state l.out).has_failed ≡ false;
+  messages_ready : (g.M.Sink.state l.messages).has_failed ≡ false;
+  ready : IsSessionOf (g.D.Direct.state l.direct) l.session;
+  fed : (s : State) (bytes : List ℕ) (o m : Option (List ℕ)) → l.initial.line ≡ buffer_of (pieces bytes).last
+      → Stands (whole s (pieces bytes).ended) (left_at o (g.O.Sink.state l.initial.out).taken m (g.M.Sink.state l.initial.messages).taken (g.D.Direct.state l.initial.direct)) l.initial.session
+      → PieceLeaves {A = Unit {0}} (Ok tt) s bytes (take l.byte-index l.piece) l.line (left_at o (g.O.Sink.state l.out).taken m (g.M.Sink.state l.messages).taken (g.D.Direct.state l.direct)) l.session;
 }

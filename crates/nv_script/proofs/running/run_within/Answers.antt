@@ -1,62 +1,55 @@
-use Rattle.std.proofs.Common.{◌∙◌, ◌≤◌, ◌<◌, ◌++◌, ◌||◌, [], ap, arith, false, length, refl, take}
+use Rattle.std.proofs.Common.{◌∙◌, ◌≤◌, ◌++◌, [], arith, length, refl, true, false, take, ap, replicate}
+use Rattle.std.proofs.lemmas.Bool.Decides.{nat_tests}
 use Rattle.std.proofs.lemmas.List.{length-take-le}
-use Rattle.nv_script.specs.Ends.{Leaves, left_at}
-use Rattle.nv_script.specs.declared.ends.RunEnd.TheVariants.{Status}
-use Rattle.nv_script.proofs.RunLaws.{cut_ahead, cut_leaves, last_cut, piece_cut, read_first, read_more, read_none, read_whole, ready_first, serials_first, stands_first}
+use Rattle.nv_script.specs.declared.streams.TheConstants.{READ_SIZE}
+use Rattle.nv_script.proofs.RunLaws.{cut_ends, cut_leaves, last_cut, piece_cut, read_first, read_more, read_none, ready_first, stands_first}
 use Rattle.nv_script.proofs.running.run_within.Goals as goal
 
-pub returns-in-Ok-clause-left : goal.returns-in-Ok-clause-left
-returns-in-Ok-clause-left g c =
+pub returns-in-Ok : goal.returns-in-Ok
+returns-in-Ok g c =
     let run = c.loop-call.invariant.run in
-    let read = read_none _ _ _ _ _ run.0 c.read.new.buf c.in-Some.count run.1 c.in-Some.ensures.bytes.0 c.if-count-eq0.true c.in-Some.ensures.count in
-    let done = c.in-Ok.ensures.left (g.D.Direct.state c.args.direct.now) run.0 _ _ run.2 run.3 in
-    (run.0, read, done)
+    let read = read_none _ _ _ run.0 c.read.new.buf c.in-Some.count run.1 c.in-Some.ensures.bytes.0 c.if-count-eq0.true c.in-Some.ensures.count in
+    record {
+      bytes = run.0;
+      was_read = read;
+      left = c.in-Ok.ensures.left (g.D.Direct.state c.args.direct.now) run.0 _ _ run.2 run.3;
+      end_of = (
+        grind (arith, nat_tests, c.in-Some.ensures.failure, c.in-Some.ensures.call, c.loop-call.invariant.calls, c.if-call-reads.false),
+        c.in-Ok.ensures.failure.0,
+        c.in-Ok.ensures.failure.1,
+        grind (arith, nat_tests, c.in-Some.ensures.end, c.if-count-eq0.true),
+        c.in-Some.ensures.bytes.1 c.if-count-eq0.true,
+      );
+      calls = omega (arith, c.in-Some.ensures.call, c.loop-call.invariant.calls, c.loop-call-test.true);
+    }
 
-pub returns-in-Ok-clause-headline : goal.returns-in-Ok-clause-headline
-returns-in-Ok-clause-headline g c =
-    let run = c.loop-call.invariant.run in
-    let read = read_none _ _ _ _ _ run.0 c.read.new.buf c.in-Some.count run.1 c.in-Some.ensures.bytes.0 c.if-count-eq0.true c.in-Some.ensures.count in
-    let left = left_at (g.O.Sink.taken c.args.out.now) (g.O.Sink.taken c.finish.new.out) (g.M.Sink.taken c.args.messages.now) (g.M.Sink.taken c.finish.new.messages) (g.D.Direct.state c.finish.new.direct) in
-    let done = c.in-Ok.ensures.left (g.D.Direct.state c.args.direct.now) run.0 _ _ run.2 run.3 in
-    let room : 0 < length c.read.new.buf = omega (arith, c.read.auto.buf, c.loop-call.invariant.room) in
-    read_whole (g.R.Source.to_come c.args.script.now) (g.R.Source.to_come c.read.new.self) run.0 (λ script. Leaves (Status c.in-Ok.status) (g.D.Direct.state c.args.direct.now) script left)
-    read.told (c.in-Some.ensures.bytes.1 c.if-count-eq0.true room) done
-
-pub returns-in-Err-clause-left : goal.returns-in-Err-clause-left
-returns-in-Err-clause-left g c =
-    let run = c.loop-call.invariant.run in
-    let s = g.D.Direct.state c.args.direct.now in
-    let read = read_none _ _ _ _ _ run.0 c.read.new.buf c.in-Some.count run.1 c.in-Some.ensures.bytes.0 c.if-count-eq0.true c.in-Some.ensures.count in
-    let cut = last_cut c.in-Err.end s run.0 _ (c.in-Err.ensures.left s run.0 _ _ run.2 run.3) in
-    (run.0, read, cut_leaves c.in-Err.end s run.0 _ cut)
-
-pub returns-in-Err-clause-ahead : goal.returns-in-Err-clause-ahead
-returns-in-Err-clause-ahead g c =
+pub returns-in-Err : goal.returns-in-Err
+returns-in-Err g c =
     let run = c.loop-call.invariant.run in
     let s = g.D.Direct.state c.args.direct.now in
-    let read = read_none _ _ _ _ _ run.0 c.read.new.buf c.in-Some.count run.1 c.in-Some.ensures.bytes.0 c.if-count-eq0.true c.in-Some.ensures.count in
-    let cut = last_cut c.in-Err.end s run.0 _ (c.in-Err.ensures.left s run.0 _ _ run.2 run.3) in
-    (run.0, read, cut_ahead c.in-Err.end s run.0 _ cut)
+    let read = read_none _ _ _ run.0 c.read.new.buf c.in-Some.count run.1 c.in-Some.ensures.bytes.0 c.if-count-eq0.true c.in-Some.ensures.count in
+    record {
+      bytes = run.0;
+      was_read = read;
+      left = cut_leaves c.in-Err.end s run.0 _ (last_cut c.in-Err.end s run.0 _ (c.in-Err.ensures.left s run.0 _ _ run.2 run.3));
+      end_of = cut_ends c.in-Err.end c.args.reads _ c.in-Err.ensures.failure;
+      calls = omega (arith, c.in-Some.ensures.call, c.loop-call.invariant.calls, c.loop-call-test.true);
+    }
 
-pub returns-in-Err-feed-clause-left : goal.returns-in-Err-feed-clause-left
-returns-in-Err-feed-clause-left g c =
+pub returns-in-Err-feed : goal.returns-in-Err-feed
+returns-in-Err-feed g c =
     let run = c.loop-call.invariant.run in
     let s = g.D.Direct.state c.args.direct.now in
     let piece = take c.in-Some.count c.read.new.buf in
-    let read = read_more _ _ _ _ _ run.0 c.read.new.buf c.in-Some.count run.1 c.in-Some.ensures.bytes.0 c.in-Some.ensures.bound c.in-Some.ensures.count in
-    let small : length piece ≤ 4096 = omega (arith, length-take-le c.in-Some.count c.read.new.buf c.in-Some.ensures.bound, c.in-Some.ensures.bound, c.read.auto.buf, c.loop-call.invariant.room) in
-    let cut = piece_cut c.in-Err-feed.end s run.0 piece c.feed.new.line _ c.feed.new.serials c.feed.new.at small (c.in-Err-feed.ensures.left s run.0 _ _ run.2 run.3) in
-    (run.0 ++ piece, read, cut_leaves c.in-Err-feed.end s (run.0 ++ piece) _ cut)
-
-pub returns-in-Err-feed-clause-ahead : goal.returns-in-Err-feed-clause-ahead
-returns-in-Err-feed-clause-ahead g c =
-    let run = c.loop-call.invariant.run in
-    let s = g.D.Direct.state c.args.direct.now in
-    let piece = take c.in-Some.count c.read.new.buf in
-    let read = read_more _ _ _ _ _ run.0 c.read.new.buf c.in-Some.count run.1 c.in-Some.ensures.bytes.0 c.in-Some.ensures.bound c.in-Some.ensures.count in
-    let small : length piece ≤ 4096 = omega (arith, length-take-le c.in-Some.count c.read.new.buf c.in-Some.ensures.bound, c.in-Some.ensures.bound, c.read.auto.buf, c.loop-call.invariant.room) in
-    let cut = piece_cut c.in-Err-feed.end s run.0 piece c.feed.new.line _ c.feed.new.serials c.feed.new.at small (c.in-Err-feed.ensures.left s run.0 _ _ run.2 run.3) in
-    (run.0 ++ piece, read, cut_ahead c.in-Err-feed.end s (run.0 ++ piece) _ cut)
+    let small : length piece ≤ READ_SIZE = omega (arith, length-take-le c.in-Some.count c.read.new.buf c.in-Some.ensures.bound, c.in-Some.ensures.bound, c.read.auto.buf, c.loop-call.invariant.room) in
+    let cut = piece_cut c.in-Err-feed.end s run.0 piece c.feed.new.line _ c.feed.new.session small (c.in-Err-feed.ensures.left s run.0 _ _ run.2 run.3) in
+    record {
+      bytes = run.0 ++ piece;
+      was_read = read_more _ _ _ run.0 c.read.new.buf c.in-Some.count run.1 c.in-Some.ensures.bytes.0 c.in-Some.ensures.bound c.in-Some.ensures.count;
+      left = cut_leaves c.in-Err-feed.end s (run.0 ++ piece) _ cut;
+      end_of = cut_ends c.in-Err-feed.end c.args.reads _ c.in-Err-feed.ensures.failure;
+      calls = omega (arith, c.in-Some.ensures.call, c.loop-call.invariant.calls, c.loop-call-test.true);
+    }
 
 pub loop-call-preserved : goal.loop-call-preserved
 loop-call-preserved g c =
@@ -65,7 +58,8 @@ loop-call-preserved g c =
     let piece = take c.in-Some.count c.read.new.buf in
     let fed = c.in_default-feed.ensures.left (g.D.Direct.state c.args.direct.now) run.0 _ _ run.2 run.3 in
     record {
-      going = c.in-Some.ensures.failure ∙ ap (λ x. x || false) inv.going;
+      not_failed = c.in-Some.ensures.failure;
+      not_ended = grind (arith, nat_tests, c.in-Some.ensures.end, c.if-count-eq0.false);
       calls = omega (arith, c.in-Some.ensures.call, inv.calls);
       few = omega (arith, c.in-Some.ensures.count, c.in-Some.ensures.bound, c.read.auto.buf, inv.room, inv.few);
       room = c.read.auto.buf ∙ inv.room;
@@ -75,7 +69,7 @@ loop-call-preserved g c =
       ready = c.feed.ensures.ready;
       run = (
         run.0 ++ piece,
-        read_more _ _ _ _ _ run.0 c.read.new.buf c.in-Some.count run.1 c.in-Some.ensures.bytes.0 c.in-Some.ensures.bound c.in-Some.ensures.count,
+        read_more _ _ _ run.0 c.read.new.buf c.in-Some.count run.1 c.in-Some.ensures.bytes.0 c.in-Some.ensures.bound c.in-Some.ensures.count,
         fed.0,
         fed.1,
       );
@@ -84,20 +78,16 @@ loop-call-preserved g c =
 pub loop-call-init : goal.loop-call-init
 loop-call-init g c =
     let s = g.D.Direct.state c.args.direct.now in
-    let serials = serials_first s c.controllers-controllers.result c.requires.well_formed c.controllers-controllers.ensures in
+    let serials = c.new-session.ensures.serials ∙ ap (λ n. replicate n 0) c.controllers.ensures in
     record {
-      going = c.requires.fresh_script;
-      calls = c.requires.no_call;
-      few = omega (arith, c.requires.no_byte);
+      not_failed = c.requires.fresh_script.not_failed;
+      not_ended = c.requires.fresh_script.not_ended;
+      calls = c.requires.fresh_script.no_call;
+      few = omega (arith, c.requires.fresh_script.no_byte);
       room = refl;
       numbered = omega arith;
       out_ready = c.requires.fresh_out;
       messages_ready = c.requires.fresh_messages;
-      ready = ready_first s _ c.requires.well_formed serials;
-      run = (
-        [],
-        read_first (g.R.Source.to_come c.args.script.now) (g.R.Source.given c.args.script.now) c.requires.no_byte,
-        c.new-line.ensures,
-        stands_first s _ _ refl refl refl serials,
-      );
+      ready = record { ready = ready_first s _ c.requires.well_formed serials; room = c.new-session.ensures.room };
+      run = ([], read_first (g.R.Source.state c.args.script.now) c.requires.fresh_script.no_byte, c.new-line.ensures, stands_first s _ _ refl refl refl serials c.new-session.ensures.number c.new-session.ensures.status);
     }

@@ -1,22 +1,26 @@
 use Rattle.std.proofs.Common.{◌≡◌, ◌≤◌, ◌*◌, false, length, List, ℕ}
-use Rattle.nv_script.specs.Asking.{IsReady}
-use Rattle.nv_script.specs.Ends.{Stands, WasRead, left_at}
+use Rattle.nv_script.specs.Cuts.{left_at}
+use Rattle.nv_script.specs.Ends.{WasRead}
+use Rattle.nv_script.specs.Feeding.{Stands}
 use Rattle.nv_script.specs.Results.{whole}
-use Rattle.nv_script.specs.ScriptLines.{held, pieces}
+use Rattle.nv_script.specs.ScriptLines.{buffer_of, pieces}
+use Rattle.nv_script.specs.Session.{IsSessionOf}
+use Rattle.nv_script.specs.declared.streams.TheConstants.{READ_SIZE}
 use Rattle.nv_script.proofs.running.run_within.Given as goal
 
 abbrev pub invariant-loop-call : goal.invariant-loop-call
 invariant-loop-call g l = record {
-  going : g.R.Source.has_failed l.script ≡ false;
-  calls : g.R.Source.calls l.script ≡ l.call;
-  few : g.R.Source.given l.script ≤ 4096 * l.call;
-  room : length l.piece ≡ 4096;
-  numbered : l.at.number ≤ g.R.Source.given l.script;
-  out_ready : g.O.Sink.has_failed l.out ≡ false;
-  messages_ready : g.M.Sink.has_failed l.messages ≡ false;
-  ready : IsReady (g.D.Direct.state l.direct) l.serials;
+  not_failed : (g.R.Source.state l.script).has_failed ≡ false;
+  not_ended : (g.R.Source.state l.script).has_ended ≡ false;
+  calls : (g.R.Source.state l.script).calls ≡ l.call;
+  few : (g.R.Source.state l.script).given ≤ READ_SIZE * l.call;
+  room : length l.piece ≡ READ_SIZE;
+  numbered : l.session.number ≤ (g.R.Source.state l.script).given;
+  out_ready : (g.O.Sink.state l.out).has_failed ≡ false;
+  messages_ready : (g.M.Sink.state l.messages).has_failed ≡ false;
+  ready : IsSessionOf (g.D.Direct.state l.direct) l.session;
   run : (bytes : List ℕ)
-      × WasRead (g.R.Source.to_come l.initial.script) (g.R.Source.to_come l.script) (g.R.Source.given l.script) bytes
-      × (l.line ≡ held (pieces bytes).last)
-      × Stands (whole (g.D.Direct.state l.initial.direct) (pieces bytes).ended) (left_at (g.O.Sink.taken l.initial.out) (g.O.Sink.taken l.out) (g.M.Sink.taken l.initial.messages) (g.M.Sink.taken l.messages) (g.D.Direct.state l.direct)) l.serials l.at;
+      × WasRead (g.R.Source.state l.initial.script) (g.R.Source.state l.script) bytes
+      × (l.line ≡ buffer_of (pieces bytes).last)
+      × Stands (whole (g.D.Direct.state l.initial.direct) (pieces bytes).ended) (left_at (g.O.Sink.state l.initial.out).taken (g.O.Sink.state l.out).taken (g.M.Sink.state l.initial.messages).taken (g.M.Sink.state l.messages).taken (g.D.Direct.state l.direct)) l.session;
 }

@@ -1,0 +1,88 @@
+-- What the streams and the subsystem hold after some lines, and where a line was cut short.
+use Rattle.std.specs.Prelude.{◌≡◌, ℕ, ◌+◌, ◌<◌, List, [], ◌∷◌, ◌++◌, length, take, flat_map, Option, Result, Ok, Err}
+use Rattle.std.specs.Io.KnownBytes.{Appends}
+use Rattle.nv_subsystem.specs.State.{State}
+use Rattle.nv_script.specs.Outcomes.{carried_out, commands_of}
+use Rattle.nv_script.specs.Results.{Progress, result_at, said_at, whole}
+use Rattle.nv_script.specs.ScriptLines.{script_lines}
+use Rattle.nv_script.specs.Streams.{IsBeginning}
+use Rattle.nv_script.specs.declared.ends.RunEnd.{RunEnd}
+use Rattle.nv_script.specs.declared.ends.RunEnd.TheVariants.{Status, Read, OutWrite, MessageWrite, Memory}
+use Rattle.nv_line.specs.declared.fault.LineFault.{LineFault}
+use Rattle.nv_line.specs.declared.line.Line.{Line}
+use Rattle.nv_line.specs.declared.line.Line.TheVariants as line
+use Rattle.nv_script.specs.declared.streams.TheConstants.{READ_SIZE}
+
+-- the streams and the subsystem: what each sink had taken before a run and has taken since, where
+-- that is told
+pub record Left : Type 0 where
+  pub out_before : Option (List ℕ)
+  pub out : Option (List ℕ)
+  pub messages_before : Option (List ℕ)
+  pub messages : Option (List ℕ)
+  pub state : State
+
+abbrev pub left_at : Option (List ℕ) → Option (List ℕ) → Option (List ℕ) → Option (List ℕ) → State
+    → Left
+left_at out_before out messages_before messages state = record {
+  out_before = out_before;
+  out = out;
+  messages_before = messages_before;
+  messages = messages;
+  state = state;
+}
+
+-- the streams took these texts, and the subsystem is this
+pub record Holds (left : Left) (output messages : List ℕ) (state : State) : Type 0 where
+  pub took_output : Appends left.out_before left.out output
+  pub took_messages : Appends left.messages_before left.messages messages
+  pub reached : left.state ≡ state
+
+-- they are those of all these lines
+abbrev pub HoldsWhole : State → List (List ℕ) → Left → Type 0
+HoldsWhole s lines left =
+    Holds left (whole s lines).output (whole s lines).messages (whole s lines).state
+
+-- the state after the first k commands of a line
+abbrev pub state_amid : State → List ℕ → Result Line LineFault → ℕ → State
+state_amid s serials (Ok line.Skipped) k = s
+state_amid s serials (Ok (line.Request r)) k = (carried_out s serials (take k (commands_of s r))).state
+state_amid s serials (Err fault) k = s
+
+-- The beginnings, at a line after p. The output failed: the texts before the line stand whole, and
+-- a beginning of its output; the subsystem is that after the line.
+abbrev pub IsOutputBeginning : Progress → List ℕ → Left → Type 0
+IsOutputBeginning p line left = (part : List ℕ) × IsBeginning part (result_at p line).output
+    × Holds left (p.output ++ part) p.messages (result_at p line).state
+
+-- the same, where the messages failed
+abbrev pub IsMessageBeginning : Progress → List ℕ → Left → Type 0
+IsMessageBeginning p line left = (part : List ℕ) × IsBeginning part (result_at p line).message
+    × Holds left p.output (p.messages ++ part) (result_at p line).state
+
+-- memory was refused: nothing of the line stands, and some of its commands were executed
+abbrev pub IsMemoryBeginning : Progress → List ℕ → Left → Type 0
+IsMemoryBeginning p line left = (k : ℕ)
+    × Holds left p.output p.messages (state_amid p.state p.serials (said_at p line) k)
+
+-- how a run is cut short in a line after p
+abbrev pub IsCutIn : RunEnd → Progress → List ℕ → Left → Type 0
+IsCutIn OutWrite p line left = IsOutputBeginning p line left
+IsCutIn MessageWrite p line left = IsMessageBeginning p line left
+IsCutIn Memory p line left = IsMemoryBeginning p line left
+IsCutIn (Status s) p line left = ⊥
+IsCutIn Read p line left = ⊥
+
+-- the bytes of these lines, with the newlines that ended them
+abbrev pub joined_lines : List (List ℕ) → List ℕ
+joined_lines lines = flat_map (λ line. line ++ 10 ∷ []) lines
+
+-- a run that read these bytes was cut short in one of their lines, and had read at most 4,095 bytes
+-- past that line's newline
+pub record IsCutShort (end : RunEnd) (s : State) (bytes : List ℕ) (left : Left) : Type 0 where
+  pub before : List (List ℕ)
+  pub line : List ℕ
+  pub later : List (List ℕ)
+  pub lines : script_lines bytes ≡ before ++ line ∷ later
+  pub beginning : IsCutIn end (whole s before) line left
+  pub ahead : length bytes < length (joined_lines (before ++ line ∷ [])) + READ_SIZE
