@@ -1,8 +1,9 @@
 -- A single entry's fault.
-use Rattle.std.proofs.Common.{◌≡◌, ◌≢◌, ◌∙◌, ℕ, ◌+◌, ◌-◌, ◌*◌, ◌/◌, ◌%◌, ◌<◌, ◌≤◌, None, Some, arith, inl, inr, sym}
-use Rattle.std.proofs.Math.Nat.{mul-le-mul_right}
+use Rattle.std.proofs.Common.{◌≡◌, ◌≢◌, ◌∙◌, ℕ, ◌+◌, ◌-◌, ◌*◌, ◌/◌, ◌%◌, ◌<◌, ◌≤◌, List, None, Some, ap, arith, inl, inr, length, sym}
+use Rattle.std.proofs.Math.Nat.{mul-add-mod_self_left, mul-le-mul_right, mul-mod_left}
 use Rattle.std.proofs.lemmas.Bool.{cases_eq, cases_lt, eq-eqb, le-leb, lt-leb, ne_eqb}
-use Rattle.std.proofs.lemmas.Nat.{div_below, div-add-mod'}
+use Rattle.std.proofs.lemmas.Nat.{div_below, div-add-mod', mod-mul-add}
+use Rattle.nv_host.specs.Pages.{HasPage}
 use Rattle.nv_prp.specs.Transfer.{entry_fault}
 use Rattle.nv_prp.specs.declared.error.PrpError.TheVariants.{Offset, Outside}
 
@@ -49,3 +50,23 @@ from_no_fault page_size size alignment entry none =
       ]
       | inr odd ↦ absurd (let e = sym none ∙ fault_offset page_size size alignment entry odd in cc)
     ]
+
+-- ---- entries that are addresses in a page of the memory
+
+-- where a page is whole multiples of k, an address is one where its place in the page is
+pub multiple_stays : (page size x k : ℕ) → size ≡ k * (size / k) → (page * size + x) % k ≡ x % k
+multiple_stays page size x k whole =
+    let q = size / k in
+    let turned : page * (k * q) ≡ k * (page * q) = grind arith in
+    ap (λ n. (n + x) % k) (ap (λ p. page * p) whole ∙ turned) ∙ mul-add-mod_self_left k (page * q) x
+
+pub no_fault_at : (bytes : List ℕ) (page size x alignment : ℕ) → x < size → HasPage bytes size page
+    → (page * size + x) % alignment ≡ 0 → entry_fault size (length bytes) alignment (page * size + x) ≡ None
+no_fault_at bytes page size x alignment below has even =
+    let rest : (page * size + x) % size ≡ x = mod-mul-add page size x below in
+    fault_none size (length bytes) alignment (page * size + x) even (omega (arith, rest))
+
+pub no_fault_of_page : (bytes : List ℕ) (page size : ℕ) → 0 < size → HasPage bytes size page → entry_fault size (length bytes) size (page * size) ≡ None
+no_fault_of_page bytes page size some has =
+    let rest : (page * size) % size ≡ 0 = mul-mod_left page size in
+    fault_none size (length bytes) size (page * size) rest (omega (arith, rest))

@@ -1,38 +1,84 @@
 -- Which fault is the first.
-use Rattle.std.proofs.Common.{◌≡◌, ◌∙◌, ℕ, zero, suc, ◌+◌, ◌-◌, ◌<◌, None, Some, ap, arith, refl}
+use Rattle.std.proofs.Common.{◌≡◌, ◌∙◌, ℕ, zero, suc, ◌+◌, ◌-◌, ◌<◌, ◌≤◌, None, Option, Some, ap, arith, inl, inr, length, refl}
+use Rattle.std.proofs.lemmas.Bool.{cases_lt, eq-eqb, le-ltb, lt-ltb, ne_eqb}
 use Rattle.std.specs.Option.{option_or}
-use Rattle.nv_prp.specs.Transfer.{IsLegal, Transfer, first_fault, first_qword_fault, prp1_fault, prp2_fault, qword_fault, qwords}
+use Rattle.nv_prp.specs.Transfer.{IsLegal, Transfer, data_pages, entry_fault, fault_after_prp1, first_fault, first_qword_fault, list_qwords, prp1_fault, prp2_fault, qword_fault, qwords, room}
 use Rattle.nv_prp.specs.declared.error.PrpError.{PrpError}
+
+or_none : (a b : Option PrpError) → option_or a b ≡ None → (a ≡ None) × (b ≡ None)
+or_none None b h = (refl, h)
+or_none (Some e) b h = absurd (cc)
+
+or_with_none : (a : Option PrpError) → option_or a None ≡ a
+or_with_none None = refl
+or_with_none (Some e) = refl
+
+-- ---- a list's Qwords
+
+-- each of the first Qwords is without a fault
+pub each_none : (t : Transfer) (n : ℕ) → first_qword_fault t n ≡ None → (k : ℕ) → k < n → qword_fault t k ≡ None
+each_none t zero none k below = absurd (omega arith)
+each_none t (suc n) none k below =
+    let parts = or_none (first_qword_fault t n) (qword_fault t n) none in
+    elim (cases_lt k n) [
+      | inl before ↦ each_none t n parts.0 k before
+      | inr last ↦ let is : k ≡ n = omega arith in ap (λ i. qword_fault t i) is ∙ parts.1
+    ]
+
+no_qword_fault : (t : Transfer) (n : ℕ) → ((k : ℕ) → k < n → qword_fault t k ≡ None) → first_qword_fault t n ≡ None
+no_qword_fault t zero none = refl
+no_qword_fault t (suc n) none =
+    ap (λ o. option_or o (qword_fault t n)) (no_qword_fault t n (λ k h. none k (omega arith))) ∙ none n (omega arith)
+
+pub next_fault : (t : Transfer) (n m : ℕ) → m ≡ n + 1 → first_qword_fault t n ≡ None → first_qword_fault t m ≡ qword_fault t n
+next_fault t n m e none =
+    let is : m ≡ suc n = omega arith in
+    ap (λ k. first_qword_fault t k) is ∙ ap (λ o. option_or o (qword_fault t n)) none
+
+-- a fault stays the first one
+pub fault_stays : (t : Transfer) (e : PrpError) (m n : ℕ) → m ≤ n → first_qword_fault t m ≡ Some e → first_qword_fault t n ≡ Some e
+fault_stays t e m zero le h = let is : 0 ≡ m = omega arith in ap (λ k. first_qword_fault t k) is ∙ h
+fault_stays t e m (suc n) le h =
+    elim (cases_lt n m) [
+      | inl all ↦ let is : suc n ≡ m = omega arith in ap (λ k. first_qword_fault t k) is ∙ h
+      | inr more ↦ ap (λ o. option_or o (qword_fault t n)) (fault_stays t e m n more h)
+    ]
+
+-- ---- a transfer
+
+pub legal_from_none : (t : Transfer) → first_fault t ≡ None → IsLegal t
+unfolding first_fault
+legal_from_none t none =
+    let first = or_none (prp1_fault t) (fault_after_prp1 t) none in
+    let rest = or_none (prp2_fault t) (first_qword_fault t (qwords t)) first.1 in
+    record { prp1 = first.0; prp2 = rest.0; list = each_none t (qwords t) rest.1 }
+
+pub none_from_legal : (t : Transfer) → IsLegal t → first_fault t ≡ None
+unfolding first_fault
+none_from_legal t legal = rw (legal.prp1, legal.prp2) (no_qword_fault t (qwords t) legal.list)
 
 pub fault_at_prp1 : (t : Transfer) (e : PrpError) → prp1_fault t ≡ Some e → first_fault t ≡ Some e
 unfolding first_fault
 fault_at_prp1 t e h = rw h
 
-pub fault_at_prp2 : (t : Transfer) (e : PrpError) → prp1_fault t ≡ None → prp2_fault t ≡ Some e → first_fault t ≡ Some e
+pub fault_past_prp1 : (t : Transfer) → prp1_fault t ≡ None → first_fault t ≡ fault_after_prp1 t
 unfolding first_fault
-fault_at_prp2 t e h k = rw (h, k)
+fault_past_prp1 t h = rw h
 
--- no fault among the first Qwords
-pub no_qword_fault : (t : Transfer) (n : ℕ) → ((k : ℕ) → k < n → qword_fault t k ≡ None) → first_qword_fault t n ≡ None
-no_qword_fault t zero none = refl
-no_qword_fault t (suc n) none =
-    ap (λ o. option_or o (qword_fault t n)) (no_qword_fault t n (λ k h. none k (omega arith))) ∙ none n (omega arith)
+-- of one data page, of two, and of more
 
--- a fault stays the first one
-fault_stays : (t : Transfer) (e : PrpError) (m n : ℕ) → first_qword_fault t m ≡ Some e → first_qword_fault t (n + m) ≡ Some e
-fault_stays t e m zero h = let is : 0 + m ≡ m = omega arith in ap (λ k. first_qword_fault t k) is ∙ h
-fault_stays t e m (suc n) h =
-    let is : suc n + m ≡ suc (n + m) = omega arith in
-    ap (λ k. first_qword_fault t k) is ∙ ap (λ o. option_or o (qword_fault t (n + m))) (fault_stays t e m n h)
+pub fault_of_one : (t : Transfer) → data_pages t ≡ 1 → fault_after_prp1 t ≡ None
+unfolding prp2_fault qwords
+fault_of_one t one = rw (le-ltb 2 (data_pages t) (omega arith), ne_eqb (data_pages t) 2 (λ two. omega arith))
 
-pub fault_at_qword : (t : Transfer) (e : PrpError) (n : ℕ) → prp1_fault t ≡ None → prp2_fault t ≡ None
-    → ((k : ℕ) → k < n → qword_fault t k ≡ None) → n < qwords t → qword_fault t n ≡ Some e → first_fault t ≡ Some e
-unfolding first_fault
-fault_at_qword t e n first second none below here =
-    let at : first_qword_fault t (suc n) ≡ Some e = ap (λ o. option_or o (qword_fault t n)) (no_qword_fault t n none) ∙ here in
-    let is : qwords t ≡ (qwords t - suc n) + suc n = omega arith in
-    rw (first, second) (ap (λ k. first_qword_fault t k) is ∙ fault_stays t e (suc n) (qwords t - suc n) at)
+pub fault_of_two : (t : Transfer) → data_pages t ≡ 2 → fault_after_prp1 t ≡ entry_fault t.page_size (length t.bytes) t.page_size t.prp2
+unfolding prp2_fault qwords
+fault_of_two t two = rw (le-ltb 2 (data_pages t) (omega arith), eq-eqb (data_pages t) 2 two) (or_with_none _)
 
-pub legal_has_no_fault : (t : Transfer) → IsLegal t → first_fault t ≡ None
-unfolding first_fault
-legal_has_no_fault t legal = rw (legal.prp1, legal.prp2) (no_qword_fault t (qwords t) legal.list)
+pub fault_of_list : (t : Transfer) → 2 < data_pages t → fault_after_prp1 t
+    ≡ option_or (entry_fault t.page_size (length t.bytes) 8 t.prp2) (first_qword_fault t (list_qwords (room t) (data_pages t)))
+unfolding prp2_fault qwords
+fault_of_list t many = rw (lt-ltb 2 (data_pages t) many)
+
+pub fault_at_prp2 : (t : Transfer) (e : PrpError) → 2 < data_pages t → entry_fault t.page_size (length t.bytes) 8 t.prp2 ≡ Some e → fault_after_prp1 t ≡ Some e
+fault_at_prp2 t e many h = fault_of_list t many ∙ ap (λ o. option_or o (first_qword_fault t (list_qwords (room t) (data_pages t)))) h

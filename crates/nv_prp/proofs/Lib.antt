@@ -1,10 +1,8 @@
 pub mod EntryLaws
 pub mod PageLaws
+pub mod CopyLaws
 pub mod FaultLaws
 pub mod ListLaws
-pub mod PlaceLaws
+pub mod WriteLaws
 pub mod SpanLaws
-pub mod CopyLaws
-pub mod BuildLaws
 pub mod BuiltLaws
-pub mod WrittenLaws

@@ -1,106 +1,100 @@
 -- The Qwords of a list, by their numbers.
-use Rattle.std.proofs.Common.{◌≡◌, ◌≢◌, ◌∙◌, ℕ, zero, suc, ◌+◌, ◌-◌, ◌*◌, ◌/◌, ◌%◌, ◌<◌, ◌≤◌, ◌&&◌, true, false, None, Option, ap, arith, if◌then◌else◌, inl, inr, length, nat_le, refl, sym}
-use Rattle.std.proofs.lemmas.Bool.{cases_lt, eq-eqb, ne_eqb, le-leb, le-ltb, lt-leb, lt-ltb}
+use Rattle.std.proofs.Common.{◌≡◌, ◌∙◌, ◌⊎◌, ℕ, zero, suc, ◌+◌, ◌-◌, ◌*◌, ◌/◌, ◌%◌, ◌<◌, ◌≤◌, ◌^◌, ◌&&◌, Bool, true, false, None, ap, arith, if◌then◌else◌, inl, inr, length, nat_lt, refl, sym}
+use Rattle.std.specs.Option.{option_or}
+use Rattle.std.proofs.lemmas.Bool.{cases_lt, le-leb, le-ltb, lt-leb, lt-ltb}
 use Rattle.std.proofs.lemmas.Nat.{div-add-mod'}
+use Rattle.nv_host.specs.Pages.{IsPageSize}
 use Rattle.nv_host.specs.PageLaws.{page_size_bounds, page_size_in_qwords}
-use Rattle.nv_prp.specs.Transfer.{HasList, Transfer, data_pages, is_chained, list_qwords, naming_qword, page_base, prp2_fault, qword, qword_fault, qword_place, qwords, room, second_page, entry_fault}
-use Rattle.nv_prp.specs.declared.error.PrpError.{PrpError}
+use Rattle.nv_prp.specs.Transfer.{HasList, IsRun, Transfer, data_pages, entry_fault, fault_after_prp1, first_qword_fault, list_qwords, naming_number, naming_qword, page_base, qword, qword_fault, qword_place, room, second_page}
+use Rattle.nv_prp.specs.declared.run.Run.{Run}
 use Rattle.nv_prp.proofs.EntryLaws.{from_no_fault}
-use Rattle.nv_prp.proofs.PageLaws.{at_most_257}
+use Rattle.nv_prp.proofs.FaultLaws.{fault_of_list, next_fault}
+
+-- ---- which Qword names which data page, in a list whose first page has this room
+
+pub naming_in_first : (space pages n : ℕ) → (n + 1 < space) ⊎ (pages ≤ space + 1) → naming_number space pages (n + 1) ≡ n
+naming_in_first space pages n (inl near) = rw (lt-leb space (n + 1) near) (not_both (nat_lt space (pages - 1)) n)
+  where
+    not_both : (b : Bool) (n : ℕ) → (if b && false then n + 1 else n + 1 - 1) ≡ n
+    not_both true n = omega arith
+    not_both false n = omega arith
+naming_in_first space pages n (inr single) = rw (le-ltb space (pages - 1) (omega arith)) (omega arith)
+
+pub naming_in_second : (space pages n : ℕ) → space + 1 < pages → space ≤ n → naming_number space pages n ≡ n
+naming_in_second space pages n chained far = rw (lt-ltb space (pages - 1) (omega arith), le-leb space n far)
+
+pub place_in_first : (t : Transfer) (n : ℕ) → n < room t → qword_place t n ≡ t.prp2 + 8 * n
+unfolding qword_place
+place_in_first t n near = rw (lt-ltb n (room t) near)
+
+place_in_second : (t : Transfer) (n : ℕ) → room t ≤ n → qword_place t n ≡ second_page t + 8 * (n - room t)
+unfolding qword_place
+place_in_second t n far = rw (le-ltb n (room t) far)
 
 -- ---- how many Qwords there are up to the page's end
 
-qwords_stay : (x q : ℕ) → x % 8 ≡ 0 → 0 < q → (x % (8 * q)) % 8 ≡ 0
-qwords_stay x q even some =
-    let k = x / (8 * q) in
-    let split : k * (8 * q) + x % (8 * q) ≡ x = div-add-mod' x (8 * q) in
-    let turned : k * (8 * q) ≡ 8 * (k * q) = grind arith in
+-- an address and its place in a page are multiples of 8 at the same time
+qwords_stay : (x size : ℕ) → IsPageSize size → x % 8 ≡ 0 → (x % size) % 8 ≡ 0
+qwords_stay x size is even =
+    let q = size / 8 in
+    let whole : size ≡ 8 * q = page_size_in_qwords size is in
+    let bounds = page_size_bounds size is in
+    let split : x / size * size + x % size ≡ x = div-add-mod' x size in
+    let turned : x / size * (8 * q) ≡ 8 * (x / size * q) = grind arith in
+    let same : x / size * size ≡ x / size * (8 * q) = ap (λ p. x / size * p) whole in
     omega arith
 
-pub room_is : (t : Transfer) → HasList t → (8 * room t + t.prp2 % t.page_size ≡ t.page_size) × (0 < room t)
-room_is t list =
-    let q = t.page_size / 8 in
-    let is : t.page_size ≡ 8 * q = page_size_in_qwords t.page_size list.size in
-    let bounds = page_size_bounds t.page_size list.size in
-    let even = (from_no_fault t.page_size (length t.bytes) 8 t.prp2 list.address).0 in
-    let stays : (t.prp2 % (8 * q)) % 8 ≡ 0 = qwords_stay t.prp2 q even (omega (arith, bounds)) in
-    let rest : (t.prp2 % t.page_size) % 8 ≡ 0 = ap (λ p. (t.prp2 % p) % 8) is ∙ stays in
-    let below : t.prp2 % t.page_size < t.page_size = omega (arith, bounds) in
+pub whole_room : (x size space : ℕ) → IsPageSize size → x % 8 ≡ 0 → space ≡ (size - x % size) / 8 → (0 < space) × (x + 8 * space ≡ x - x % size + size)
+whole_room x size space is even e =
+    let whole = page_size_in_qwords size is in
+    let bounds = page_size_bounds size is in
+    let stays = qwords_stay x size is even in
+    let below : x % size < size = omega (arith, bounds) in
     (omega arith, omega arith)
 
--- ---- the places of Qwords
+-- ---- the runs of a list
 
-pub place_near : (t : Transfer) (n : ℕ) → n < room t → qword_place t n ≡ t.prp2 + 8 * n
-unfolding qword_place
-place_near t n near = rw (lt-ltb n (room t) near)
+pub first_run : (t : Transfer) (space end : ℕ) → HasList t space → end ≤ space → end + 1 ≤ data_pages t → (end < space) ⊎ (data_pages t ≤ space + 1)
+    → IsRun t record { at = t.prp2; first = 0; end = end; ahead = 1 }
+unfolding naming_qword
+first_run t space end list near below single =
+    record {
+      many = list.many;
+      some = omega (arith, page_size_bounds t.page_size list.size);
+      later = omega arith;
+      order = omega arith;
+      below = below;
+      few = omega (arith, list.few);
+      inside = omega (arith, list.inside);
+      fits = list.fits;
+      place = λ n _ k. place_in_first t n (omega (arith, list.is_room)) ∙ omega arith;
+      named = λ n _ k. naming_in_first (room t) (data_pages t) n
+          (elim single [ inl more ↦ inl (omega (arith, list.is_room)) | inr one ↦ inr (omega (arith, list.is_room)) ]);
+    }
 
-pub place_far : (t : Transfer) (n : ℕ) → room t ≤ n → qword_place t n ≡ second_page t + 8 * (n - room t)
-unfolding qword_place
-place_far t n far = rw (le-ltb n (room t) far)
-
-pub qwords_of_list : (t : Transfer) → 2 < data_pages t → qwords t ≡ list_qwords (room t) (data_pages t)
-unfolding qwords
-qwords_of_list t many = rw (lt-ltb 2 (data_pages t) many)
-
-pub qwords_chained : (t : Transfer) → 2 < data_pages t → room t < data_pages t - 1 → qwords t ≡ data_pages t
-qwords_chained t many chained = qwords_of_list t many ∙ rw (lt-ltb (room t) (data_pages t - 1) chained)
-
-pub qwords_single : (t : Transfer) → 2 < data_pages t → data_pages t - 1 ≤ room t → qwords t ≡ data_pages t - 1
-qwords_single t many single = qwords_of_list t many ∙ rw (le-ltb (room t) (data_pages t - 1) single)
-
--- the second list page is a page of the memory
-second_page_inside : (t : Transfer) → HasList t → qword_fault t (room t - 1) ≡ None
-    → (second_page t % t.page_size ≡ 0) × (second_page t + t.page_size ≤ length t.bytes)
-unfolding qword_fault
-second_page_inside t list none =
-    let some = (room_is t list).1 in
-    let place : qword_place t (room t - 1) ≡ t.prp2 + 8 * (room t - 1) = place_near t (room t - 1) (omega arith) in
-    let is : qword t.bytes (qword_place t (room t - 1)) ≡ second_page t = ap (λ a. qword t.bytes a) place in
-    let facts = from_no_fault t.page_size (length t.bytes) t.page_size (second_page t)
-    (ap (λ e. entry_fault t.page_size (length t.bytes) t.page_size e) (sym is) ∙ none) in
-    (facts.0, omega (arith, facts.0, facts.1))
-
--- each Qword that is used lies in the memory, where those before it have no fault
-pub qword_inside : (t : Transfer) (n : ℕ) → HasList t → n < qwords t → ((k : ℕ) → k < n → qword_fault t k ≡ None)
-    → qword_place t n + 8 ≤ length t.bytes
-qword_inside t n list used none =
-    let facts = room_is t list in
+pub second_run : (t : Transfer) (space second end : ℕ) → HasList t space → space + 1 < data_pages t → second ≡ second_page t → end ≡ data_pages t
+    → entry_fault t.page_size (length t.bytes) t.page_size second ≡ None → IsRun t record { at = second; first = space; end = end; ahead = 0 }
+unfolding naming_qword
+second_run t space second end list chained is all none =
     let bounds = page_size_bounds t.page_size list.size in
-    let first = from_no_fault t.page_size (length t.bytes) 8 t.prp2 list.address in
-    elim (cases_lt n (room t)) [
-      | inl near ↦ let place = place_near t n near in omega (arith, place, facts.0, first.1)
-      | inr far ↦
-          let place = place_far t n far in
-          let second = second_page_inside t list (none (room t - 1) (omega (arith, facts.1))) in
-          let few = at_most_257 t list.size list.limit in
-          let all : qwords t ≤ data_pages t = at_most_all t list in
-          omega (arith, place, second.1, few, all, bounds.0)
-    ]
-  where
-    at_most_all : (t : Transfer) → HasList t → qwords t ≤ data_pages t
-    at_most_all t list =
-        elim (cases_lt (room t) (data_pages t - 1)) [
-          | inl chained ↦ omega (arith, qwords_chained t list.many chained)
-          | inr single ↦ omega (arith, qwords_single t list.many single)
-        ]
+    let page = from_no_fault t.page_size (length t.bytes) t.page_size second none in
+    record {
+      many = list.many;
+      some = omega (arith, bounds);
+      later = omega (arith, list.some);
+      order = omega arith;
+      below = omega arith;
+      few = omega (arith, list.few);
+      inside = omega (arith, page.0, page.1, list.few, bounds.0);
+      fits = list.fits;
+      place = λ n far _. place_in_second t n (omega (arith, list.is_room)) ∙ omega (arith, is, list.is_room);
+      named = λ n far _.
+          let same : n + 0 ≡ n = omega arith in
+          ap (λ k. naming_number (room t) (data_pages t) k) same
+          ∙ naming_in_second (room t) (data_pages t) n (omega (arith, list.is_room)) (omega (arith, list.is_room));
+    }
 
--- ---- which Qword holds which data page's address
-
-pub naming_near : (t : Transfer) (j : ℕ) → j < room t → naming_qword t j ≡ j - 1
-unfolding naming_qword
-naming_near t j near = rw (lt-leb (room t) j near) (not_both (is_chained t) j)
-  where
-    not_both : (b : _) (j : ℕ) → (if b && false then j else j - 1) ≡ j - 1
-    not_both true j = refl
-    not_both false j = refl
-
-pub naming_single : (t : Transfer) (j : ℕ) → data_pages t - 1 ≤ room t → naming_qword t j ≡ j - 1
-unfolding naming_qword
-naming_single t j single = rw (le-ltb (room t) (data_pages t - 1) single)
-
-pub naming_far : (t : Transfer) (j : ℕ) → room t < data_pages t - 1 → room t ≤ j → naming_qword t j ≡ j
-unfolding naming_qword
-naming_far t j chained far = rw (lt-ltb (room t) (data_pages t - 1) chained, le-leb (room t) j far)
+-- ---- from one Qword of a run to the next
 
 pub base_by_list : (t : Transfer) (j : ℕ) → 2 < data_pages t → 0 < j
     → page_base t j ≡ qword t.bytes (qword_place t (naming_qword t j))
@@ -108,175 +102,43 @@ unfolding page_base
 base_by_list t zero many later = absurd (omega arith)
 base_by_list t (suc j) many later = rw (lt-ltb 2 (data_pages t) many)
 
--- how many data pages are known before Qword n
-unfoldable pub known_pages : Transfer → ℕ → ℕ
-known_pages t n = if is_chained t && nat_le (room t) n then n else n + 1
+-- Qword n has the next fault and names the next data page
+pub record Step (t : Transfer) (run : Run) (n : ℕ) (entry : ℕ) : Type 0 where
+  pub fault : first_qword_fault t (n + 1) ≡ entry_fault t.page_size (length t.bytes) t.page_size entry
+  pub base : page_base t (n + run.ahead) ≡ entry
 
-pub known_near : (t : Transfer) (n : ℕ) → n < room t → known_pages t n ≡ n + 1
-unfolding known_pages
-known_near t n near = rw (lt-leb (room t) n near) (not_both (is_chained t) n)
-  where
-    not_both : (b : _) (n : ℕ) → (if b && false then n else n + 1) ≡ n + 1
-    not_both true n = refl
-    not_both false n = refl
+pub step : (t : Transfer) (run : Run) (n addr : ℕ) → IsRun t run → run.first ≤ n → n < run.end → addr ≡ run.at + 8 * (n - run.first)
+    → first_qword_fault t n ≡ None → Step t run n (qword t.bytes addr)
+unfolding qword_fault
+step t run n addr is low below here none =
+    let place = ap (λ a. qword t.bytes a) (is.place n low below ∙ sym here) in
+    record {
+      fault = next_fault t n (n + 1) refl none ∙ ap (λ e. entry_fault t.page_size (length t.bytes) t.page_size e) place;
+      base = base_by_list t (n + run.ahead) is.many (omega (arith, is.later)) ∙ ap (λ k. qword t.bytes (qword_place t k)) (is.named n low below) ∙ place;
+    }
 
-pub known_single : (t : Transfer) (n : ℕ) → data_pages t - 1 ≤ room t → known_pages t n ≡ n + 1
-unfolding known_pages
-known_single t n single = rw (le-ltb (room t) (data_pages t - 1) single)
-
-pub known_far : (t : Transfer) (n : ℕ) → room t < data_pages t - 1 → room t ≤ n → known_pages t n ≡ n
-unfolding known_pages
-known_far t n chained far = rw (lt-ltb (room t) (data_pages t - 1) chained, le-leb (room t) n far)
-
--- ---- from one Qword to the next
-
-pub at_start : (t : Transfer) → HasList t → (qword_place t 0 ≡ t.prp2) × (known_pages t 0 ≡ 1)
-at_start t list =
-    let some = (room_is t list).1 in
-    (place_near t 0 some ∙ omega arith, known_near t 0 some)
-
-pub at_end : (t : Transfer) → HasList t → known_pages t (qwords t) ≡ data_pages t
-at_end t list =
-    elim (cases_lt (room t) (data_pages t - 1)) [
-      | inl chained ↦
-          let all = qwords_chained t list.many chained in
-          known_far t (qwords t) chained (omega arith) ∙ all
-      | inr single ↦
-          let all = qwords_single t list.many single in
-          known_single t (qwords t) single ∙ omega (arith, list.many)
-    ]
-
--- Qword n leads to the second list page
-pub at_chain : (t : Transfer) (n : ℕ) → HasList t → n + 1 ≡ room t → room t < data_pages t - 1
-    → (known_pages t (n + 1) ≡ known_pages t n) × (qword_place t (n + 1) ≡ qword t.bytes (qword_place t n))
-at_chain t n list last chained =
-    let here : qword_place t n ≡ t.prp2 + 8 * (room t - 1) = place_near t n (omega arith) ∙ omega arith in (
-      known_far t (n + 1) chained (omega arith) ∙ sym (known_near t n (omega arith)),
-      place_far t (n + 1) (omega arith) ∙ (omega arith) ∙ sym (ap (λ a. qword t.bytes a) here),
+-- the last Qword of the first list page has the next fault and holds the second one's address
+pub chain : (t : Transfer) (space addr : ℕ) → HasList t space → addr ≡ t.prp2 + 8 * (space - 1) → first_qword_fault t (space - 1) ≡ None
+    → (first_qword_fault t space ≡ entry_fault t.page_size (length t.bytes) t.page_size (qword t.bytes addr)) × (qword t.bytes addr ≡ second_page t)
+unfolding qword_fault
+chain t space addr list here none =
+    let same : t.prp2 + 8 * (space - 1) ≡ t.prp2 + 8 * (room t - 1) = ap (λ n. t.prp2 + 8 * (n - 1)) list.is_room in
+    let place = place_in_first t (space - 1) (omega (arith, list.is_room, list.some)) ∙ sym here in (
+      next_fault t (space - 1) space (omega (arith, list.some)) none
+          ∙ ap (λ a. entry_fault t.page_size (length t.bytes) t.page_size (qword t.bytes a)) place,
+      ap (λ a. qword t.bytes a) (here ∙ same),
     )
 
--- Qword n is the address of a data page
-pub record NamesPage (t : Transfer) (n : ℕ) : Type 0 where
-  pub later : 0 < known_pages t n
-  pub below : known_pages t n < data_pages t
-  pub base : page_base t (known_pages t n) ≡ qword t.bytes (qword_place t n)
-  pub next_page : known_pages t (n + 1) ≡ known_pages t n + 1
-  pub next_place : n + 1 < qwords t → qword_place t (n + 1) ≡ qword_place t n + 8
+-- ---- the fault of a list
 
-at_page : (t : Transfer) (n : ℕ) → HasList t → n < qwords t → (n + 1 ≡ room t → room t < data_pages t - 1 → ⊥) → NamesPage t n
-at_page t n list used other =
-    elim (cases_lt (room t) (data_pages t - 1)) [
-      | inl chained ↦ elim (cases_lt n (room t)) [
-        | inl near ↦
-            let apart : n + 1 ≢ room t = λ e. other e chained in
-            let known = known_near t n near in
-            let known_next = known_near t (n + 1) (omega arith) in
-            let naming : naming_qword t (known_pages t n) ≡ n =
-            ap (λ j. naming_qword t j) known ∙ naming_near t (n + 1) (omega arith) ∙ omega arith in
-            record {
-              later = omega arith;
-              below = omega arith;
-              base = base_by_list t (known_pages t n) list.many (omega arith) ∙ ap (λ k. qword t.bytes (qword_place t k)) naming;
-              next_page = omega arith;
-              next_place = λ _. place_near t (n + 1) (omega arith) ∙ omega (arith, place_near t n near);
-            }
-        | inr far ↦
-            let known = known_far t n chained far in
-            let known_next = known_far t (n + 1) chained (omega arith) in
-            let some = (room_is t list).1 in
-            let all = qwords_chained t list.many chained in
-            let naming : naming_qword t (known_pages t n) ≡ n =
-            ap (λ j. naming_qword t j) known ∙ naming_far t n chained far in
-            record {
-              later = omega arith;
-              below = omega arith;
-              base = base_by_list t (known_pages t n) list.many (omega arith) ∙ ap (λ k. qword t.bytes (qword_place t k)) naming;
-              next_page = omega arith;
-              next_place = λ _. place_far t (n + 1) (omega arith) ∙ omega (arith, place_far t n far);
-            }
-      ]
-      | inr single ↦
-          let known = known_single t n single in
-          let known_next = known_single t (n + 1) single in
-          let all = qwords_single t list.many single in
-          let naming : naming_qword t (known_pages t n) ≡ n =
-          ap (λ j. naming_qword t j) known ∙ naming_single t (n + 1) single ∙ omega arith in
-          record {
-            later = omega arith;
-            below = omega arith;
-            base = base_by_list t (known_pages t n) list.many (omega arith) ∙ ap (λ k. qword t.bytes (qword_place t k)) naming;
-            next_page = omega arith;
-            next_place = λ more. place_near t (n + 1) (omega arith) ∙ omega (arith, place_near t n (omega arith));
-          }
-    ]
+fault_of_qwords : (t : Transfer) (space : ℕ) → HasList t space → fault_after_prp1 t ≡ first_qword_fault t (list_qwords (room t) (data_pages t))
+fault_of_qwords t space list = fault_of_list t list.many ∙ ap (λ o. option_or o (first_qword_fault t (list_qwords (room t) (data_pages t)))) list.address
 
--- ---- PRP2
+pub fault_in_one : (t : Transfer) (space n : ℕ) → HasList t space → data_pages t ≤ space + 1 → n + 1 ≡ data_pages t → fault_after_prp1 t ≡ first_qword_fault t n
+fault_in_one t space n list single e =
+    let all : data_pages t - 1 ≡ n = omega arith in
+    fault_of_qwords t space list ∙ rw (le-ltb (room t) (data_pages t - 1) (omega (arith, list.is_room))) (ap (λ k. first_qword_fault t k) all)
 
-pub prp2_of_list : (t : Transfer) → 2 < data_pages t → prp2_fault t ≡ entry_fault t.page_size (length t.bytes) 8 t.prp2
-unfolding prp2_fault
-prp2_of_list t many = rw (lt-ltb 2 (data_pages t) many)
-
-pub prp2_of_two : (t : Transfer) → data_pages t ≡ 2 → prp2_fault t ≡ entry_fault t.page_size (length t.bytes) t.page_size t.prp2
-unfolding prp2_fault
-prp2_of_two t two = rw (le-ltb 2 (data_pages t) (omega arith), eq-eqb (data_pages t) 2 two)
-
-pub prp2_of_one : (t : Transfer) → data_pages t ≡ 1 → prp2_fault t ≡ None
-unfolding prp2_fault
-prp2_of_one t one = rw (le-ltb 2 (data_pages t) (omega arith), ne_eqb (data_pages t) 2 (λ two. omega arith))
-
-pub no_qwords : (t : Transfer) → data_pages t ≤ 2 → qwords t ≡ 0
-unfolding qwords
-no_qwords t few = rw (le-ltb 2 (data_pages t) few)
-
--- data page 1 of two
-pub base_of_second : (t : Transfer) → data_pages t ≡ 2 → page_base t 1 ≡ t.prp2
-unfolding page_base
-base_of_second t two = rw (le-ltb 2 (data_pages t) (omega arith))
-
--- ---- what the code computes
-
-pub qwords_are : (t : Transfer) (space pages all : ℕ) → 2 < data_pages t → space ≡ room t → pages ≡ data_pages t
-    → all ≡ list_qwords space pages → all ≡ qwords t
-qwords_are t space pages all many e f h = h ∙ (λ i. list_qwords (e i) (f i)) ∙ sym (qwords_of_list t many)
-
-pub chained_here : (t : Transfer) (n page space pages : ℕ) → page ≡ known_pages t n → space ≡ room t → pages ≡ data_pages t
-    → (n + 1 ≡ space) × (page + 1 < pages) → (n + 1 ≡ room t) × (room t < data_pages t - 1)
-chained_here t n page space pages e f h leads =
-    let last : n + 1 ≡ room t = leads.0 ∙ f in
-    (last, omega (arith, leads.1, known_near t n (omega arith)))
-
-not_chained_here : (t : Transfer) (n page space pages : ℕ) → page ≡ known_pages t n → space ≡ room t → pages ≡ data_pages t
-    → ((n + 1 ≡ space) × (page + 1 < pages) → ⊥) → n + 1 ≡ room t → room t < data_pages t - 1 → ⊥
-not_chained_here t n page space pages e f h not last chained =
-    not (last ∙ sym f, omega (arith, known_near t n (omega arith)))
-
-pub names_here : (t : Transfer) (n page space pages : ℕ) → HasList t → n < qwords t → page ≡ known_pages t n → space ≡ room t → pages ≡ data_pages t
-    → ((n + 1 ≡ space) × (page + 1 < pages) → ⊥) → NamesPage t n
-names_here t n page space pages list used e f h not = at_page t n list used (not_chained_here t n page space pages e f h not)
-
--- no more Qwords than data pages
-pub few_qwords : (t : Transfer) → HasList t → qwords t ≤ 257
-few_qwords t list =
-    let few = at_most_257 t list.size list.limit in
-    elim (cases_lt (room t) (data_pages t - 1)) [
-      | inl chained ↦ omega (arith, qwords_chained t list.many chained)
-      | inr single ↦ omega (arith, qwords_single t list.many single)
-    ]
-
-pub few_known : (t : Transfer) (n : ℕ) → HasList t → n < qwords t → known_pages t n < 1000
-few_known t n list used =
-    let few = few_qwords t list in
-    elim (cases_lt (room t) (data_pages t - 1)) [
-      | inl chained ↦ elim (cases_lt n (room t)) [
-        | inl near ↦ omega (arith, known_near t n near)
-        | inr far ↦ omega (arith, known_far t n chained far)
-      ]
-      | inr single ↦ omega (arith, known_single t n single)
-    ]
-
-pub qword_fault_is : (t : Transfer) (n size at entry : ℕ) (fault : Option PrpError) → size ≡ t.page_size → at ≡ qword_place t n
-    → entry ≡ qword t.bytes at → entry_fault t.page_size (length t.bytes) size entry ≡ fault → qword_fault t n ≡ fault
-unfolding qword_fault
-qword_fault_is t n size at entry fault e f h k =
-    let is : entry ≡ qword t.bytes (qword_place t n) = h ∙ ap (λ a. qword t.bytes a) f in
-    sym (λ i. entry_fault t.page_size (length t.bytes) (e i) (is i)) ∙ k
+pub fault_in_two : (t : Transfer) (space n : ℕ) → HasList t space → space + 1 < data_pages t → n ≡ data_pages t → fault_after_prp1 t ≡ first_qword_fault t n
+fault_in_two t space n list chained e =
+    fault_of_qwords t space list ∙ rw (lt-ltb (room t) (data_pages t - 1) (omega (arith, list.is_room))) (ap (λ k. first_qword_fault t k) (sym e))

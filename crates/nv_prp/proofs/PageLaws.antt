@@ -1,13 +1,15 @@
 -- Data pages by their numbers.
-use Rattle.std.proofs.Common.{◌≡◌, ◌∙◌, ℕ, zero, suc, ◌+◌, ◌-◌, ◌*◌, ◌/◌, ◌%◌, ◌<◌, ◌≤◌, ap, arith, inl, inr, min, refl}
+use Rattle.std.proofs.Common.{◌≡◌, ◌∙◌, ℕ, zero, suc, ◌+◌, ◌-◌, ◌*◌, ◌/◌, ◌%◌, ◌<◌, ◌≤◌, List, ◌++◌, ◌∷◌, [], append-nil, ap, arith, inl, inr, refl, sym}
 use Rattle.std.proofs.Math.Nat.{mul-le-mul_right}
-use Rattle.std.proofs.lemmas.Bool.{cases_lt}
-use Rattle.std.proofs.lemmas.Grind.{div_ceil_times}
+use Rattle.std.proofs.lemmas.Bool.{cases_lt, le-ltb}
+use Rattle.std.proofs.lemmas.Grind.{div_ceil_times, flat_map-append}
 use Rattle.std.proofs.lemmas.Nat.{div-mul-add, mod-mul-add}
 use Rattle.nv_host.specs.Pages.{IsPageSize}
 use Rattle.nv_host.specs.PageLaws.{page_size_bounds}
-use Rattle.nv_prp.specs.Transfer.{Transfer, data_pages, offset, page_base, place_of, span_of}
+use Rattle.nv_prp.specs.Place.{places, span_places, table}
+use Rattle.nv_prp.specs.PlaceLaws.{table-append, table-more, table-same}
 use Rattle.nv_prp.specs.declared.spans.Span.{Span}
+use Rattle.nv_prp.specs.Transfer.{Transfer, data_pages, first_byte, offset, page_base, place_of, span_of, spans_of, transfer_places}
 
 -- the last data page holds a byte, and no byte lies behind it
 pub pages_span : (t : Transfer) → 0 < t.page_size
@@ -15,7 +17,7 @@ pub pages_span : (t : Transfer) → 0 < t.page_size
 pages_span t some = div_ceil_times (offset t + t.len) t.page_size some
 
 -- page j of them begins in the transfer
-pub page_begins : (t : Transfer) (j : ℕ) → 0 < t.page_size → j < data_pages t → j * t.page_size < offset t + t.len
+page_begins : (t : Transfer) (j : ℕ) → 0 < t.page_size → j < data_pages t → j * t.page_size < offset t + t.len
 page_begins t j some below =
     let span = pages_span t some in
     let next : (j + 1) * t.page_size ≤ data_pages t * t.page_size = mul-le-mul_right t.page_size (omega arith) in
@@ -24,15 +26,12 @@ page_begins t j some below =
 pub at_least_one : (t : Transfer) → 0 < t.page_size → 0 < t.len → 0 < data_pages t
 at_least_one t some bytes =
     let span = pages_span t some in
-    let P : ℕ → Type 0 = λ n. offset t + t.len ≤ n * t.page_size in
-    pages_of_bytes (data_pages t) t.page_size (offset t + t.len) (omega arith) span.0
-  where
-    pages_of_bytes : (n size bytes : ℕ) → 0 < bytes → bytes ≤ n * size → 0 < n
-    pages_of_bytes zero size bytes h k = absurd (omega arith)
-    pages_of_bytes (suc n) size bytes h k = omega arith
-
-pub offset_below : (t : Transfer) → 0 < t.page_size → offset t < t.page_size
-offset_below t some = omega arith
+    elim (cases_lt 0 (data_pages t)) [
+      | inl above ↦ above
+      | inr none ↦
+          let least : data_pages t * t.page_size ≤ 0 * t.page_size = mul-le-mul_right t.page_size none in
+          absurd (omega (arith, span.0))
+    ]
 
 pub at_most_257 : (t : Transfer) → IsPageSize t.page_size → t.len ≤ 1048576 → data_pages t ≤ 257
 at_most_257 t size limit =
@@ -41,12 +40,13 @@ at_most_257 t size limit =
     elim (cases_lt 257 (data_pages t)) [
       | inl many ↦
           let whole : 258 * t.page_size ≤ data_pages t * t.page_size = mul-le-mul_right t.page_size (omega arith) in
-          absurd (omega (arith, span.1, bounds.0, whole, offset_below t (omega (arith, bounds))))
+          let low : offset t < t.page_size = omega (arith, bounds) in
+          absurd (omega (arith, span.1, bounds.0))
       | inr few ↦ few
     ]
 
 -- the place of a byte of page j
-pub place_in_page : (t : Transfer) (j x : ℕ) → j * t.page_size ≤ offset t + x → offset t + x < j * t.page_size + t.page_size
+place_in_page : (t : Transfer) (j x : ℕ) → j * t.page_size ≤ offset t + x → offset t + x < j * t.page_size + t.page_size
     → place_of t x ≡ page_base t j + (offset t + x - j * t.page_size)
 unfolding place_of
 place_in_page t j x low high =
@@ -56,37 +56,84 @@ place_in_page t j x low high =
     ∙ ap (λ n. page_base t n + (j * t.page_size + rest) % t.page_size) (div-mul-add j t.page_size rest (omega arith))
     ∙ ap (λ n. page_base t j + n) (mod-mul-add j t.page_size rest (omega arith))
 
--- the spans
-span_from : (a b n m : ℕ) → a ≡ b → n ≡ m → (let s : Span = record { address = a; len = n } in s) ≡ record { address = b; len = m }
-span_from a b n m p q = λ i. record { address = p i; len = q i }
+next_page : (j size : ℕ) → (j + 1) * size ≡ j * size + size
+next_page j size = grind arith
+
+pub first_bytes_rise : (t : Transfer) (j : ℕ) → first_byte t j ≤ first_byte t (j + 1)
+first_bytes_rise t j = omega (arith, next_page j t.page_size)
+
+-- a byte of page j lies as far from the page's first byte as in the transfer
+place_after_first : (t : Transfer) (j k : ℕ) → 0 < t.page_size → j < data_pages t → k < first_byte t (j + 1) - first_byte t j
+    → place_of t (first_byte t j + k) ≡ place_of t (first_byte t j) + k
+place_after_first t j k some below h =
+    let begins = page_begins t j some below in
+    let low : offset t < t.page_size = omega arith in
+    let next = next_page j t.page_size in
+    let here = place_in_page t j (first_byte t j + k) (omega arith) (omega arith) in
+    let first = place_in_page t j (first_byte t j) (omega arith) (omega arith) in
+    omega (arith, here, first)
+
+-- data page 1 of two
+pub base_of_two : (t : Transfer) → data_pages t ≡ 2 → page_base t 1 ≡ t.prp2
+unfolding page_base
+base_of_two t two = rw (le-ltb 2 (data_pages t) (omega arith))
+
+-- ---- spans
+
+span_with : (t : Transfer) (j address : ℕ) → place_of t (first_byte t j) ≡ address
+    → span_of t j ≡ record { address = address; len = first_byte t (j + 1) - first_byte t j }
+unfolding span_of
+span_with t j address e = λ i. record { address = e i; len = first_byte t (j + 1) - first_byte t j }
 
 pub first_span : (t : Transfer) → 0 < t.page_size → 0 < t.len
-    → span_of t 0 ≡ record { address = t.prp1; len = min (t.page_size - offset t) t.len }
-unfolding span_of page_base
+    → span_of t 0 ≡ record { address = t.prp1; len = first_byte t 1 - first_byte t 0 }
+unfolding page_base
 first_span t some bytes =
-    let below : offset t < t.page_size = omega arith in
-    let none : min t.len (0 * t.page_size - offset t) ≡ 0 = omega arith in
-    let start : 0 * t.page_size ≤ offset t + 0 = omega arith in
-    let place : place_of t 0 ≡ t.prp1 - offset t + (offset t + 0 - 0 * t.page_size) = place_in_page t 0 0 start (omega arith) in
-    let low : offset t ≤ t.prp1 = omega arith in
-    span_from (place_of t (min t.len (0 * t.page_size - offset t))) t.prp1 _ _
-    (ap (λ x. place_of t x) none ∙ place ∙ omega arith) (omega arith)
+    let low : offset t < t.page_size = omega arith in
+    let start = place_in_page t 0 (first_byte t 0) (omega arith) (omega arith) in
+    span_with t 0 t.prp1 (start ∙ omega arith)
 
-pub later_span : (t : Transfer) (j : ℕ) → 0 < t.page_size → 0 < j → j < data_pages t
-    → span_of t j ≡ record { address = page_base t j; len = min t.page_size (t.len - (j * t.page_size - offset t)) }
-unfolding span_of
-later_span t j some later below =
-    let below_size : offset t < t.page_size = omega arith in
+pub later_span : (t : Transfer) (j base : ℕ) → 0 < t.page_size → 0 < j → j < data_pages t → page_base t j ≡ base
+    → span_of t j ≡ record { address = base; len = first_byte t (j + 1) - first_byte t j }
+later_span t j base some later below is =
+    let low : offset t < t.page_size = omega arith in
     let begins = page_begins t j some below in
     let one : 1 * t.page_size ≤ j * t.page_size = mul-le-mul_right t.page_size (omega arith) in
-    let first : min t.len (j * t.page_size - offset t) ≡ j * t.page_size - offset t = omega arith in
-    let place : place_of t (j * t.page_size - offset t)
-    ≡ page_base t j + (offset t + (j * t.page_size - offset t) - j * t.page_size) = place_in_page t j _ (omega arith) (omega arith) in
-    span_from (place_of t (min t.len (j * t.page_size - offset t))) (page_base t j) _ _
-    (ap (λ x. place_of t x) first ∙ place ∙ omega arith) (omega arith)
+    let start = place_in_page t j (first_byte t j) (omega arith) (omega arith) in
+    span_with t j base (start ∙ omega (arith, is))
 
-pub span_with_base : (t : Transfer) (j base : ℕ) → 0 < t.page_size → 0 < j → j < data_pages t → page_base t j ≡ base
-    → span_of t j ≡ record { address = base; len = min t.page_size (t.len - (j * t.page_size - offset t)) }
-span_with_base t j base some later below e =
-    later_span t j some later below
-    ∙ span_from (page_base t j) base _ (min t.page_size (t.len - (j * t.page_size - offset t))) e refl
+-- one more span
+pub first_spans : (t : Transfer) (old new : List Span) (s : Span) → 0 < t.page_size → 0 < t.len → old ≡ []
+    → s ≡ record { address = t.prp1; len = first_byte t 1 - first_byte t 0 } → new ≡ old ++ s ∷ [] → new ≡ table 1 (span_of t)
+first_spans t old new s some bytes none is more = more ∙ (λ i. none i ++ (is ∙ sym (first_span t some bytes)) i ∷ [])
+
+pub more_spans : (t : Transfer) (j base : ℕ) (old new : List Span) (s : Span) → 0 < t.page_size → 0 < j → j < data_pages t → page_base t j ≡ base
+    → old ≡ table j (span_of t) → s ≡ record { address = base; len = first_byte t (j + 1) - first_byte t j } → new ≡ old ++ s ∷ []
+    → new ≡ table (j + 1) (span_of t)
+more_spans t j base old new s some later below at before is more =
+    more ∙ (λ i. before i ++ (is ∙ sym (later_span t j base some later below at)) i ∷ []) ∙ sym (table-more j (j + 1) (span_of t) refl)
+
+places_of_span : (t : Transfer) (j : ℕ) → 0 < t.page_size → j < data_pages t
+    → span_places (span_of t j) ≡ table (first_byte t (j + 1) - first_byte t j) (λ k. place_of t (first_byte t j + k))
+unfolding span_places span_of
+places_of_span t j some below =
+    table-same (first_byte t (j + 1) - first_byte t j) _ _ (λ k h. sym (place_after_first t j k some below h))
+
+places_of_pages : (t : Transfer) (j : ℕ) → 0 < t.page_size → j ≤ data_pages t
+    → places (table j (span_of t)) ≡ table (first_byte t j) (place_of t)
+unfolding places
+places_of_pages t zero some below =
+    let none : 0 ≡ first_byte t 0 = omega arith in ap (λ n. table n (place_of t)) none
+places_of_pages t (suc j) some below =
+    let parts : first_byte t j + (first_byte t (j + 1) - first_byte t j) ≡ first_byte t (suc j) = omega (arith, first_bytes_rise t j) in
+    flat_map-append span_places (table j (span_of t)) (span_of t j ∷ [])
+    ∙ (λ i. places_of_pages t j some (omega arith) i ++ append-nil (span_places (span_of t j)) i)
+    ∙ ap (λ l. table (first_byte t j) (place_of t) ++ l) (places_of_span t j some (omega arith))
+    ∙ sym (table-append (first_byte t j) (first_byte t (j + 1) - first_byte t j) (place_of t))
+    ∙ ap (λ n. table n (place_of t)) parts
+
+pub places_of_spans : (t : Transfer) → 0 < t.page_size → places (spans_of t) ≡ transfer_places t
+unfolding spans_of transfer_places
+places_of_spans t some =
+    let all : first_byte t (data_pages t) ≡ t.len = omega (arith, pages_span t some) in
+    places_of_pages t (data_pages t) some (omega arith) ∙ ap (λ n. table n (place_of t)) all

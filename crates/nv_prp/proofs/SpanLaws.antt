@@ -1,90 +1,52 @@
--- The spans of a transfer.
-use Rattle.std.proofs.Common.{◌≡◌, ◌∙◌, ℕ, zero, suc, ◌+◌, ◌-◌, ◌*◌, ◌%◌, ◌<◌, ◌≤◌, ◌++◌, ap, arith, inl, inr, length, subst, sym}
-use Rattle.std.proofs.lemmas.Bool.{cases_lt}
-use Rattle.nv_prp.specs.Places.{LieIn, places, span_places, table}
-use Rattle.nv_prp.specs.Transfer.{IsLegal, Transfer, data_pages, first_byte, naming_qword, offset, page_base, place_of, qword, qword_fault, qword_place, qwords, room, span_of, spans_of, transfer_places}
+-- The spans of a legal transfer.
+use Rattle.std.proofs.Common.{◌≡◌, ◌∙◌, ℕ, ◌+◌, ◌-◌, ◌*◌, ◌%◌, ◌<◌, ◌≤◌, ap, arith, inl, inr, length, refl, subst, sym}
+use Rattle.std.proofs.lemmas.Bool.{cases_lt, eq-eqb, le-ltb, lt-ltb}
+use Rattle.nv_prp.specs.Place.{LieIn}
+use Rattle.nv_prp.specs.PlaceLaws.{All-table}
+use Rattle.nv_prp.specs.Transfer.{IsLegal, Transfer, data_pages, list_qwords, naming_number, naming_qword, page_base, prp2_fault, qword, qword_fault, qword_place, qwords, room, span_of, spans_of}
 use Rattle.nv_prp.proofs.EntryLaws.{from_no_fault}
-use Rattle.nv_prp.proofs.ListLaws.{base_by_list, base_of_second, naming_far, naming_near, naming_single, prp2_of_two, qwords_chained, qwords_single}
-use Rattle.nv_prp.proofs.PageLaws.{first_span, later_span, page_begins, pages_span, place_in_page}
-use Rattle.nv_prp.proofs.PlaceLaws.{All-table, places_nil, places_push, table-append, table-same}
+use Rattle.nv_prp.proofs.ListLaws.{base_by_list, naming_in_first, naming_in_second}
+use Rattle.nv_prp.proofs.PageLaws.{base_of_two, first_span, later_span}
 
--- ---- their places
-
--- a byte of page j lies as far from the page's first byte as in the transfer
-place_after_first : (t : Transfer) (j k : ℕ) → 0 < t.page_size → j < data_pages t → k < first_byte t (j + 1) - first_byte t j
-    → place_of t (first_byte t j + k) ≡ place_of t (first_byte t j) + k
-place_after_first t j k some below h =
-    let begins = page_begins t j some below in
-    let low : offset t < t.page_size = omega arith in
-    let next : (j + 1) * t.page_size ≡ j * t.page_size + t.page_size = grind arith in
-    let here = place_in_page t j (first_byte t j + k) (omega arith) (omega arith) in
-    let first = place_in_page t j (first_byte t j) (omega arith) (omega arith) in
-    omega (arith, here, first)
-
-span_of_page : (t : Transfer) (j : ℕ) → 0 < t.page_size → j < data_pages t
-    → span_places (span_of t j) ≡ table (first_byte t (j + 1) - first_byte t j) (λ k. place_of t (first_byte t j + k))
-unfolding span_places span_of
-span_of_page t j some below =
-    table-same (first_byte t (j + 1) - first_byte t j) _ _ (λ k h. sym (place_after_first t j k some below h))
-
-first_bytes_rise : (t : Transfer) (j : ℕ) → first_byte t j ≤ first_byte t (j + 1)
-first_bytes_rise t j =
-    let next : (j + 1) * t.page_size ≡ j * t.page_size + t.page_size = grind arith in
-    omega arith
-
-places_of_pages : (t : Transfer) (j : ℕ) → 0 < t.page_size → j ≤ data_pages t
-    → places (table j (span_of t)) ≡ table (first_byte t j) (place_of t)
-places_of_pages t zero some below =
-    let none : first_byte t 0 ≡ 0 = omega arith in
-    places_nil ∙ sym (ap (λ n. table n (place_of t)) none)
-places_of_pages t (suc j) some below =
-    let rise = first_bytes_rise t j in
-    let one : suc j ≡ j + 1 = omega arith in
-    let parts : first_byte t (j + 1) ≡ first_byte t j + (first_byte t (j + 1) - first_byte t j) = omega arith in
-    places_push (table j (span_of t)) (span_of t j)
-    ∙ (λ i. places_of_pages t j some (omega arith) i ++ span_of_page t j some (omega arith) i)
-    ∙ sym (table-append (first_byte t j) (first_byte t (j + 1) - first_byte t j) (place_of t))
-    ∙ sym (ap (λ n. table n (place_of t)) parts)
-    ∙ sym (ap (λ k. table (first_byte t k) (place_of t)) one)
-
-pub places_of_spans : (t : Transfer) → 0 < t.page_size → places (spans_of t) ≡ transfer_places t
-unfolding spans_of transfer_places
-places_of_spans t some =
-    let span = pages_span t some in
-    let all : first_byte t (data_pages t) ≡ t.len = omega arith in
-    places_of_pages t (data_pages t) some (omega arith) ∙ ap (λ n. table n (place_of t)) all
-
--- ---- where they lie
-
--- a data page's Qword is one that is used
-naming_used : (t : Transfer) (j : ℕ) → 2 < data_pages t → 0 < j → j < data_pages t → naming_qword t j < qwords t
-naming_used t j many later below =
-    elim (cases_lt (room t) (data_pages t - 1)) [
+-- each data page but the first is named by a Qword that is used
+pub naming_used : (space pages j : ℕ) → 2 < pages → 0 < j → j < pages → naming_number space pages j < list_qwords space pages
+naming_used space pages j many later below =
+    let next : j - 1 + 1 ≡ j = omega arith in
+    elim (cases_lt space (pages - 1)) [
       | inl chained ↦
-          let all = qwords_chained t many chained in
-          elim (cases_lt j (room t)) [
-            | inl near ↦ omega (arith, naming_near t j near)
-            | inr far ↦ omega (arith, naming_far t j chained far)
+          let all : list_qwords space pages ≡ pages = rw (lt-ltb space (pages - 1) chained) in
+          elim (cases_lt j space) [
+            | inl near ↦
+                let is : naming_number space pages j ≡ j - 1 = ap (λ k. naming_number space pages k) (sym next) ∙ naming_in_first space pages (j - 1) (inl (omega arith)) in
+                omega (arith, is, all)
+            | inr far ↦
+                let is : naming_number space pages j ≡ j = naming_in_second space pages j (omega arith) far in
+                omega (arith, is, all)
           ]
-      | inr single ↦ omega (arith, qwords_single t many single, naming_single t j single)
+      | inr single ↦
+          let all : list_qwords space pages ≡ pages - 1 = rw (le-ltb space (pages - 1) single) in
+          let is : naming_number space pages j ≡ j - 1 = ap (λ k. naming_number space pages k) (sym next) ∙ naming_in_first space pages (j - 1) (inr (omega arith)) in
+          omega (arith, is, all)
     ]
 
--- each data page but the first is a page of the memory
-pub later_base : (t : Transfer) (j : ℕ) → IsLegal t → 0 < j → j < data_pages t
+-- and is a page of the memory
+later_base : (t : Transfer) (j : ℕ) → IsLegal t → 0 < j → j < data_pages t
     → (page_base t j % t.page_size ≡ 0) × (page_base t j + t.page_size ≤ length t.bytes)
-unfolding qword_fault
+unfolding qword_fault prp2_fault qwords naming_qword
 later_base t j legal later below =
     elim (cases_lt 2 (data_pages t)) [
       | inl many ↦
           let base = base_by_list t j many later in
+          let all : qwords t ≡ list_qwords (room t) (data_pages t) = rw (lt-ltb 2 (data_pages t) many) in
           let facts = from_no_fault t.page_size (length t.bytes) t.page_size (qword t.bytes (qword_place t (naming_qword t j)))
-          (legal.list (naming_qword t j) (naming_used t j many later below)) in
+          (legal.list (naming_qword t j) (subst (λ n. naming_qword t j < n) (sym all) (naming_used (room t) (data_pages t) j many later below))) in
           (ap (λ n. n % t.page_size) base ∙ facts.0, omega (arith, facts.0, facts.1, base))
       | inr few ↦
           let two : data_pages t ≡ 2 = omega arith in
           let one : j ≡ 1 = omega arith in
-          let base : page_base t j ≡ t.prp2 = ap (λ n. page_base t n) one ∙ base_of_second t two in
-          let facts = from_no_fault t.page_size (length t.bytes) t.page_size t.prp2 (sym (prp2_of_two t two) ∙ legal.prp2) in
+          let base : page_base t j ≡ t.prp2 = ap (λ n. page_base t n) one ∙ base_of_two t two in
+          let facts = from_no_fault t.page_size (length t.bytes) t.page_size t.prp2
+          (rw (le-ltb 2 (data_pages t) few, eq-eqb (data_pages t) 2 two) at legal.prp2) in
           (ap (λ n. n % t.page_size) base ∙ facts.0, omega (arith, facts.0, facts.1, base))
     ]
 
@@ -94,9 +56,9 @@ spans_lie_in t legal some bytes =
     All-table (λ s. s.address + s.len ≤ length t.bytes) (data_pages t) (span_of t)
     (λ j below. elim (cases_lt 0 j) [
       | inl later ↦
-          let span = later_span t j some later below in
           let base = later_base t j legal later below in
-          subst (λ s. s.address + s.len ≤ length t.bytes) (sym span) (omega (arith, base.1))
+          let next : (j + 1) * t.page_size ≡ j * t.page_size + t.page_size = grind arith in
+          subst (λ s. s.address + s.len ≤ length t.bytes) (sym (later_span t j (page_base t j) some later below refl)) (omega (arith, base.1))
       | inr first ↦
           let is : 0 ≡ j = omega arith in
           let span = sym (ap (λ n. span_of t n) is) ∙ first_span t some bytes in

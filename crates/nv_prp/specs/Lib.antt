@@ -1,3 +1,5 @@
-pub mod Places
+pub mod Place
+pub mod PlaceLaws
 pub mod Transfer
-pub mod Buffers
+pub mod Buffer
+pub mod BufferLaws

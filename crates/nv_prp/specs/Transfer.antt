@@ -1,13 +1,15 @@
 -- A transfer between a memory and a controller, described by two PRP entries: which byte lies where.
-use Rattle.std.specs.Prelude.{◌≡◌, ℕ, zero, suc, ◌==◌, ◌+◌, ◌-◌, ◌*◌, ◌/◌, ◌%◌, ◌&&◌, ◌<◌, ◌≤◌, Bool, List, None, Option, Some, if◌then◌else◌, length, min, nat_le, nat_lt}
+use Rattle.std.specs.Prelude.{◌≡◌, ℕ, zero, suc, ◌==◌, ◌+◌, ◌-◌, ◌*◌, ◌/◌, ◌%◌, ◌&&◌, ◌<◌, ◌≤◌, ◌^◌, List, MatchResult, None, Option, Result, Some, if◌then◌else◌, length, min, nat_le, nat_lt}
 use Rattle.std.specs.Int.{div_ceil, from_le_bytes, w64}
 use Rattle.std.specs.Option.{option_or}
 use Rattle.nv_host.specs.Bytes.{bytes_at}
 use Rattle.nv_host.specs.Pages.{IsPageSize}
-use Rattle.nv_prp.specs.Places.{table}
+use Rattle.nv_prp.specs.Place.{table}
 use Rattle.nv_prp.specs.declared.error.PrpError.{PrpError}
 use Rattle.nv_prp.specs.declared.error.PrpError.TheVariants.{Offset, Outside}
+use Rattle.nv_prp.specs.declared.pointer.DataPointer.{DataPointer}
 use Rattle.nv_prp.specs.declared.spans.Span.{Span}
+use Rattle.nv_prp.specs.declared.run.Run.{Run}
 
 pub record Transfer : Type 0 where
   pub page_size : ℕ
@@ -19,6 +21,9 @@ pub record Transfer : Type 0 where
 abbrev pub transfer : ℕ → List ℕ → ℕ → ℕ → ℕ → Transfer
 transfer page_size bytes prp1 prp2 len =
     record { page_size = page_size; bytes = bytes; prp1 = prp1; prp2 = prp2; len = len }
+
+abbrev pub transfer_of : ℕ → List ℕ → DataPointer → Transfer
+transfer_of page_size bytes pointer = transfer page_size bytes pointer.prp1 pointer.prp2 pointer.len
 
 -- where the first byte lies in its page
 abbrev pub offset : Transfer → ℕ
@@ -39,6 +44,11 @@ qword bytes addr = from_le_bytes w64 (bytes_at bytes addr 8)
 abbrev pub list_qwords : ℕ → ℕ → ℕ
 list_qwords room pages = if nat_lt room (pages - 1) then pages else pages - 1
 
+-- the Qword of a list that holds data page j's address, j from 1 on: in a list of two pages the last Qword of the
+-- first one holds the second one's address, and those after it are one number ahead
+abbrev pub naming_number : ℕ → ℕ → ℕ → ℕ
+naming_number room pages j = if nat_lt room (pages - 1) && nat_le room j then j else j - 1
+
 -- the place of Qword n of a list that goes on in a second page where the first one's room ends
 abbrev pub list_place : ℕ → ℕ → ℕ → ℕ → ℕ
 list_place room first second n = if nat_lt n room then first + 8 * n else second + 8 * (n - room)
@@ -47,11 +57,7 @@ list_place room first second n = if nat_lt n room then first + 8 * n else second
 abbrev pub room : Transfer → ℕ
 room t = (t.page_size - t.prp2 % t.page_size) / 8
 
--- the list goes on in a second page, since the first one has no room for all data pages but the first
-abbrev pub is_chained : Transfer → Bool
-is_chained t = nat_lt (room t) (data_pages t - 1)
-
--- then the last Qword of the first list page is the second one's address
+-- in a list of two pages the last Qword of the first one is the second one's address
 abbrev pub second_page : Transfer → ℕ
 second_page t = qword t.bytes (t.prp2 + 8 * (room t - 1))
 
@@ -65,7 +71,7 @@ qwords t = if nat_lt 2 (data_pages t) then list_qwords (room t) (data_pages t) e
 
 -- the Qword of the list that holds data page j's address, j from 1 on
 unfoldable pub naming_qword : Transfer → ℕ → ℕ
-naming_qword t j = if is_chained t && nat_le (room t) j then j else j - 1
+naming_qword t j = naming_number (room t) (data_pages t) j
 
 -- ---- which byte lies where
 
@@ -127,19 +133,47 @@ pub record IsLegal (t : Transfer) : Type 0 where
   pub prp2 : prp2_fault t ≡ None
   pub list : (n : ℕ) → n < qwords t → qword_fault t n ≡ None
 
--- a transfer of more than two data pages, legal as far as PRP2
-pub record HasList (t : Transfer) : Type 0 where
-  pub size : IsPageSize t.page_size
-  pub limit : t.len ≤ 1048576
-  pub many : 2 < data_pages t
-  pub prp1 : prp1_fault t ≡ None
-  pub address : entry_fault t.page_size (length t.bytes) 8 t.prp2 ≡ None
+-- the result is the fault, if there is one
+abbrev pub HasFault : {X : Type 0} → Result X PrpError → Option PrpError → Type 0
+HasFault result fault = MatchResult result (λ _. fault ≡ None) (λ e. fault ≡ Some e)
 
 -- the fault at the first of the n Qwords that has one
 abbrev pub first_qword_fault : Transfer → ℕ → Option PrpError
 first_qword_fault t zero = None
 first_qword_fault t (suc n) = option_or (first_qword_fault t n) (qword_fault t n)
 
+-- the fault at the first place from PRP2 on
+abbrev pub fault_after_prp1 : Transfer → Option PrpError
+fault_after_prp1 t = option_or (prp2_fault t) (first_qword_fault t (qwords t))
+
 -- the fault at the first place, in the order PRP1, PRP2, then the Qwords in the order of use
 unfoldable pub first_fault : Transfer → Option PrpError
-first_fault t = option_or (prp1_fault t) (option_or (prp2_fault t) (first_qword_fault t (qwords t)))
+first_fault t = option_or (prp1_fault t) (fault_after_prp1 t)
+
+-- ---- the list of more than two data pages
+
+-- the list's address has no fault, and there are so many Qwords from it to the end of its page
+pub record HasList (t : Transfer) (space : ℕ) : Type 0 where
+  pub many : 2 < data_pages t
+  pub few : data_pages t ≤ 257
+  pub size : IsPageSize t.page_size
+  pub is_room : space ≡ room t
+  pub some : 0 < space
+  pub address : entry_fault t.page_size (length t.bytes) 8 t.prp2 ≡ None
+  pub inside : t.prp2 + 8 * space ≤ length t.bytes
+  pub fits : length t.bytes < 2 ^ 64
+
+-- ---- a run: Qwords of the list that follow one another in one page
+
+-- Qword n of the run holds the address of data page n + ahead
+pub record IsRun (t : Transfer) (run : Run) : Type 0 where
+  pub many : 2 < data_pages t
+  pub some : 0 < t.page_size
+  pub later : 0 < run.first + run.ahead
+  pub order : run.first ≤ run.end
+  pub below : run.end + run.ahead ≤ data_pages t
+  pub few : run.end + run.ahead ≤ 257
+  pub inside : run.at + 8 * (run.end - run.first) ≤ length t.bytes
+  pub fits : length t.bytes < 2 ^ 64
+  pub place : (n : ℕ) → run.first ≤ n → n < run.end → qword_place t n ≡ run.at + 8 * (n - run.first)
+  pub named : (n : ℕ) → run.first ≤ n → n < run.end → naming_qword t (n + run.ahead) ≡ n

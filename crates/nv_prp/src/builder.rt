@@ -1,123 +1,118 @@
 //! Transfers built for a buffer in pages.
 
-ghost use Rattle.std.specs.Prelude.{◌≡◌, ◌≢◌, ℕ, ◌+◌, ◌*◌, ◌<◌, ◌≤◌, ◌^◌, ◌∷◌, length};
-ghost use Rattle.nv_host.specs.Pages.{IsPageSize};
-ghost use Rattle.nv_prp.specs.Buffers.{IsBuffer, IsListPlace, KeepsOutside, buffer_place, named_page, new_list, new_page, new_place, new_qwords};
-ghost use Rattle.nv_prp.specs.Places.{AreDistinct};
-ghost use Rattle.nv_prp.specs.Transfer.{IsLegal, data_pages as pages_of, list_place, list_qwords, place_of, qword, transfer};
+ghost use Rattle.std.specs.Prelude.{◌≡◌, ◌≢◌, ℕ, ◌+◌, ◌-◌, ◌*◌, ◌/◌, ◌%◌, ◌<◌, ◌≤◌, ◌^◌, ◌∷◌, length};
+ghost use Rattle.nv_prp.specs.Buffer.{IsBuffer, IsListPlace, KeepsOutside, NamesPages, buffer_place};
+ghost use Rattle.nv_prp.specs.Place.{AreDistinct};
+ghost use Rattle.nv_prp.specs.Transfer.{IsLegal, data_pages as pages_of, place_of, transfer};
 
 use crate::entry::store_qword;
-use crate::walker::{data_pages, qwords_of};
+use crate::pointer::{DataPointer, qwords_in_page};
+use crate::run::{page_address, write_run};
 use nv_host::{HostMemory, PageNo};
 
-/// A buffer in pages of the memory, and where it begins in the first one of them.
+/// A buffer in pages of the memory.
 #[derive(Clone, Copy, Debug)]
 pub struct Buffer<'a> {
+    /// The numbers of its pages, in the order of its bytes.
     pub pages: &'a [PageNo],
+    /// Where the buffer begins in the first page, in bytes: a multiple of 4 below the page size.
     pub offset: u32,
 }
 
-/// Where a list may lie: in two pages of the memory, from an offset in the first one on.
+/// Where a list may lie: in two pages of the memory.
 #[derive(Clone, Copy, Debug, PartialEq, Eq)]
 pub struct ListPlace {
+    /// The number of the page in which the list begins.
     pub first: PageNo,
+    /// The number of the page in which it goes on, from its first byte, where the first one ends.
     pub second: PageNo,
+    /// Where the list begins in the first page, in bytes: a multiple of 8 below the page size.
     pub offset: u32,
 }
 
-/// The PRP entries of a transfer to or from the first bytes of a buffer. Where there are more than
-/// two data pages, their list is written. Section "Physical Region Page Entry and List".
+/// The PRP entries, PRP1 and PRP2, of a transfer to or from the first `len` bytes of a buffer, from
+/// 1 to 1,048,576 of them. Section "Physical Region Page Entry and List".
+///
+/// PRP2 is 0 for one data page, the second page's address for two, and the list's address for more.
+/// Then the list is written, and bytes outside its two pages stay.
+///
+/// All pages lie in the memory, those of the list too, whether a list is written or not; no two of
+/// them are one. The offsets are multiples of 4 (the buffer) and 8 (the list) below the page size,
+/// and the pages hold `len` bytes from the buffer's offset on.
 pub fn build<M: HostMemory>(mem: &mut M, buffer: &Buffer, list: &ListPlace, len: u32) -> (u64, u64)
     requires some { 0 < len }
     requires limit { len ≤ 1048576 }
-    requires buffer { IsBuffer (M.bytes mem.old) (M.page_len mem.old) buffer.now.pages.now buffer.now.offset len }
-    requires list { IsListPlace (M.bytes mem.old) (M.page_len mem.old) list.now.first list.now.second list.now.offset }
+    requires buffer { IsBuffer (M.bytes mem.old)
+        (M.page_len mem.old) buffer.now.pages.now buffer.now.offset len }
+    requires list { IsListPlace (M.bytes mem.old)
+        (M.page_len mem.old) list.now.first list.now.second list.now.offset }
     requires distinct { AreDistinct (list.now.first ∷ list.now.second ∷ buffer.now.pages.now) }
-    ensures legal { IsLegal (transfer (M.page_len mem.new) (M.bytes mem.new) result.0 result.1 len) }
-    ensures places { let t = transfer (M.page_len mem.new) (M.bytes mem.new) result.0 result.1 len in
-        (i : ℕ) → i < len → place_of t i ≡ buffer_place (M.page_len mem.new) buffer.now.pages.now buffer.now.offset i }
+    ensures legal { IsLegal (transfer (M.page_len mem.new)
+        (M.bytes mem.new) result.0 result.1 len) }
+    ensures places { let t = transfer (M.page_len mem.new)
+        (M.bytes mem.new) result.0 result.1 len in
+        (i : ℕ) → i < len → place_of t i ≡ buffer_place
+        (M.page_len mem.new) buffer.now.pages.now buffer.now.offset i }
     // of one data page PRP2 has no meaning
-    ensures no_prp2 { let t = transfer (M.page_len mem.new) (M.bytes mem.new) result.0 result.1 len in
+    ensures no_prp2 { let t = transfer (M.page_len mem.new)
+        (M.bytes mem.new) result.0 result.1 len in
         pages_of t ≡ 1 → result.1 ≡ 0 }
     ensures list { let t = transfer (M.page_len mem.new) (M.bytes mem.new) result.0 result.1 len in
         2 < pages_of t → result.1 ≡ list.now.first * M.page_len mem.new + list.now.offset }
-    ensures others { KeepsOutside (M.page_len mem.old) list.now.first list.now.second (M.bytes mem.old) (M.bytes mem.new) }
+    ensures others { KeepsOutside (M.page_len mem.old) list.now.first list.now.second
+        (M.bytes mem.old) (M.bytes mem.new) }
     ensures len { length (M.bytes mem.new) ≡ length (M.bytes mem.old) }
     ensures page { M.page_len mem.new ≡ M.page_len mem.old }
 {
     let prp1 = page_address(mem, buffer.pages[0]) + u64::from(buffer.offset);
-    let count = data_pages(mem, prp1, len);
-    match count {
+    let pointer = DataPointer { prp1, prp2: 0, len };
+    match pointer.data_pages(mem) {
         1 => (prp1, 0),
         2 => (prp1, page_address(mem, buffer.pages[1])),
-        _ => {
-            write_list(mem, buffer.pages, list, count);
-            (prp1, page_address(mem, list.first) + u64::from(list.offset))
-        }
+        count => (prp1, write_list(mem, buffer.pages, list, count as usize)),
     }
 }
 
 /// Writes the addresses of a buffer's data pages but the first, and that of the second list page
-/// where there is one.
-fn write_list<M: HostMemory>(mem: &mut M, pages: &[PageNo], list: &ListPlace, count: u32)
+/// where there is one. The result is the list's address.
+fn write_list<M: HostMemory>(mem: &mut M, pages: &[PageNo], list: &ListPlace, count: usize) -> u64
     requires few { count ≤ 257 }
     requires many { 2 < count }
     requires enough { count ≤ length pages.now }
-    requires size { IsPageSize (M.page_len mem.old) }
-    requires list { IsListPlace (M.bytes mem.old) (M.page_len mem.old) list.now.first list.now.second list.now.offset }
+    requires list { IsListPlace (M.bytes mem.old)
+        (M.page_len mem.old) list.now.first list.now.second list.now.offset }
     requires apart { list.now.first ≢ list.now.second }
-    ensures written { let l = new_list (M.page_len mem.old) list.now.first list.now.second list.now.offset pages.now count in
-        (n : ℕ) → n < new_qwords l → qword (M.bytes mem.new) (new_place l n) ≡ new_page l n * M.page_len mem.old }
-    ensures others { KeepsOutside (M.page_len mem.old) list.now.first list.now.second (M.bytes mem.old) (M.bytes mem.new) }
+    ensures value { result ≡ list.now.first * M.page_len mem.old + list.now.offset }
+    ensures names { let room = (M.page_len mem.old - result % M.page_len mem.old) / 8 in
+        NamesPages (M.bytes mem.new) (M.page_len mem.old) room result
+        (list.now.second * M.page_len mem.old) pages.now count }
+    ensures others { KeepsOutside (M.page_len mem.old) list.now.first list.now.second
+        (M.bytes mem.old) (M.bytes mem.new) }
     ensures len { length (M.bytes mem.new) ≡ length (M.bytes mem.old) }
     ensures page { M.page_len mem.new ≡ M.page_len mem.old }
 {
-    let page_size = mem.page_size();
-    let room = (page_size - list.offset) / 8;
-    let qwords = qwords_of(count, room);
-    for number in 0..qwords {
-        let at = qword_address(mem, list, room, number);
-        let page = named_page(pages, list.second, room, count, number);
-        let address = page_address(mem, page);
-        store_qword(mem, at, address);
-    }
-}
-
-/// The address of a page.
-fn page_address<M: HostMemory>(mem: &M, page: PageNo) -> u64
-    ensures value { result ≡ page * M.page_len mem.now }
-    ensures small { result ≤ 2 ^ 48 }
-    ensures size { IsPageSize (M.page_len mem.now) }
-{
-    u64::from(page) * u64::from(mem.page_size())
-}
-
-/// The address of a Qword of a list.
-fn qword_address<M: HostMemory>(mem: &M, list: &ListPlace, room: u32, number: u32) -> u64
-    requires { number < 1000 }
-    ensures { result ≡ list_place room (list.now.first * M.page_len mem.now + list.now.offset) (list.now.second * M.page_len mem.now) number }
-{
-    if number < room {
-        page_address(mem, list.first) + u64::from(list.offset) + 8 * u64::from(number)
+    let at = list_address(mem, list);
+    let room = qwords_in_page(mem, at) as usize;
+    if count <= room + 1 {
+        write_run(mem, at, &pages[1..count]);
     } else {
-        page_address(mem, list.second) + 8 * u64::from(number - room)
+        let second = page_address(mem, list.second);
+        write_run(mem, at, &pages[1..room]);
+        store_qword(mem, at + 8 * (room - 1) as u64, second);
+        write_run(mem, second, &pages[room..count]);
     }
+    at
 }
 
-/// The page whose address a Qword of a list holds.
-fn named_page(pages: &[PageNo], second: PageNo, room: u32, count: u32, number: u32) -> PageNo
-    requires few { number < 1000 }
-    requires enough { count ≤ length pages.now }
-    requires some { 0 < count }
-    requires used { number < list_qwords room count }
-    ensures { result ≡ named_page room count pages.now second number }
+/// The address of a list's first Qword.
+fn list_address<M: HostMemory>(mem: &M, list: &ListPlace) -> u64
+    requires { IsListPlace (M.bytes mem.now) (M.page_len mem.now) list.now.first list.now.second
+        list.now.offset }
+    ensures value { result ≡ list.now.first * M.page_len mem.now + list.now.offset }
+    ensures rest { result % M.page_len mem.now ≡ list.now.offset }
+    ensures aligned { result % 8 ≡ 0 }
+    ensures small { result ≤ 2 ^ 49 }
+    ensures size { 4096 ≤ M.page_len mem.now }
 {
-    let chained = room < count - 1;
-    if chained && number + 1 == room {
-        second
-    } else if chained && number >= room {
-        pages[number as usize]
-    } else {
-        pages[number as usize + 1]
-    }
+    page_address(mem, list.first) + u64::from(list.offset)
 }

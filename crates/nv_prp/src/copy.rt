@@ -1,12 +1,16 @@
-//! Bytes copied between a transfer's spans and a slice, in the order of the transfer.
+//! Bytes copied between a transfer's spans and a slice, in the order of the transfer. As in the
+//! commands, "out" and "in" are meant from the controller's side.
 
 ghost use Rattle.std.specs.Prelude.{◌≡◌, length};
-ghost use Rattle.nv_prp.specs.Places.{LieIn, places, read_at, written_at};
+ghost use Rattle.nv_prp.specs.Place.{LieIn, places, read_at, written_at};
 
 use crate::Spans;
 use nv_host::{HostMemory, load_inside, store_inside};
 
-/// Writes the bytes to the memory's spans. Of two bytes for one place the later one stays.
+/// Data from the controller to the host: writes the source's bytes to the memory's spans. Of two
+/// bytes for one place the later one stays.
+///
+/// The spans lie in the memory, and have as many bytes as the source.
 pub fn copy_out<M: HostMemory>(mem: &mut M, spans: &Spans, source: &[u8])
     requires inside { LieIn (length (M.bytes mem.old)) spans.now }
     requires len { length (places spans.now) ≡ length source.now }
@@ -22,7 +26,9 @@ pub fn copy_out<M: HostMemory>(mem: &mut M, spans: &Spans, source: &[u8])
     }
 }
 
-/// Reads the bytes of the memory's spans.
+/// Data from the host to the controller: reads the bytes of the memory's spans into `out`.
+///
+/// The spans lie in the memory, and have as many bytes as `out`.
 pub fn copy_in<M: HostMemory>(mem: &M, spans: &Spans, out: &mut [u8])
     requires inside { LieIn (length (M.bytes mem.now)) spans.now }
     requires len { length (places spans.now) ≡ length out.old }

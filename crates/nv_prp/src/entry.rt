@@ -1,9 +1,9 @@
 //! Single entries of a transfer.
 
-ghost use Rattle.std.specs.Prelude.{◌≡◌, ℕ, ◌+◌, ◌*◌, ◌<◌, ◌≤◌, ◌^◌, MatchResult, length};
-ghost use Rattle.nv_host.specs.Bytes.{with_bytes};
-ghost use Rattle.nv_prp.specs.Transfer.{entry_fault, qword};
-ghost use Rattle.std.specs.Int.{to_le_bytes, w64};
+ghost use Rattle.std.specs.Prelude.{◌≡◌, ℕ, ◌+◌, ◌*◌, ◌<◌, ◌≤◌, ◌^◌, IfOk, OnOk, length};
+ghost use Rattle.nv_host.specs.Pages.{IsPageSize};
+ghost use Rattle.nv_prp.specs.Buffer.{ChangesOnly};
+ghost use Rattle.nv_prp.specs.Transfer.{HasFault, entry_fault, qword};
 
 use crate::PrpError;
 use nv_host::{HostMemory, load_inside, size_of_memory, store_inside};
@@ -11,10 +11,11 @@ use nv_host::{HostMemory, load_inside, size_of_memory, store_inside};
 /// Whether an entry is a multiple of its alignment and its page lies in the memory.
 pub fn check<M: HostMemory>(mem: &M, alignment: u32, entry: u64) -> Result<(), PrpError>
     requires { 0 < alignment }
-    ensures { MatchResult result
-        (λ _. (entry_fault (M.page_len mem.now) (length (M.bytes mem.now)) alignment entry ≡ None)
-        × (length (M.bytes mem.now) < 2 ^ 64))
-        (λ e. entry_fault (M.page_len mem.now) (length (M.bytes mem.now)) alignment entry ≡ Some e) }
+    ensures fault { let fault = entry_fault (M.page_len mem.now) (length
+        (M.bytes mem.now)) alignment entry in
+        HasFault result fault }
+    ensures fits { OnOk result (length (M.bytes mem.now) < 2 ^ 64) }
+    ensures size { OnOk result (IsPageSize (M.page_len mem.now)) }
 {
     if entry % u64::from(alignment) != 0 {
         return Err(PrpError::Offset);
@@ -25,9 +26,33 @@ pub fn check<M: HostMemory>(mem: &M, alignment: u32, entry: u64) -> Result<(), P
     Ok(())
 }
 
+/// Whether an entry is the address of a page of the memory.
+#[tactic(auto, using(nv_host::specs::PageLaws::page_size_bounds))]
+pub fn check_page<M: HostMemory>(mem: &M, entry: u64) -> Result<(), PrpError>
+    ensures { let fault = entry_fault (M.page_len mem.now) (length (M.bytes mem.now))
+        (M.page_len mem.now) entry in
+        HasFault result fault }
+{
+    check(mem, mem.page_size(), entry)
+}
+
+/// The page's address that the Qword at an address of the memory holds.
+pub fn load_page_address<M: HostMemory>(mem: &M, addr: u64) -> Result<u64, PrpError>
+    requires { addr + 8 ≤ length (M.bytes mem.now) }
+    ensures value { IfOk result (λ entry. entry ≡ qword (M.bytes mem.now) addr) }
+    ensures fault { let entry = qword (M.bytes mem.now) addr in
+        let fault = entry_fault (M.page_len mem.now) (length (M.bytes mem.now))
+        (M.page_len mem.now) entry in
+        HasFault result fault }
+{
+    let entry = load_qword(mem, addr);
+    check_page(mem, entry)?;
+    Ok(entry)
+}
+
 /// The Qword at an address.
 #[tactic(auto, unfolding(crate::specs::Transfer::qword))]
-pub fn load_qword<M: HostMemory>(mem: &M, addr: u64) -> u64
+fn load_qword<M: HostMemory>(mem: &M, addr: u64) -> u64
     requires { addr + 8 ≤ length (M.bytes mem.now) }
     ensures { result ≡ qword (M.bytes mem.now) addr }
 {
@@ -39,7 +64,8 @@ pub fn load_qword<M: HostMemory>(mem: &M, addr: u64) -> u64
 /// Writes a Qword to an address.
 pub fn store_qword<M: HostMemory>(mem: &mut M, addr: u64, value: u64)
     requires { addr + 8 ≤ length (M.bytes mem.old) }
-    ensures bytes { M.bytes mem.new ≡ with_bytes (M.bytes mem.old) addr (to_le_bytes w64 value) }
+    ensures value { qword (M.bytes mem.new) addr ≡ value }
+    ensures others { ChangesOnly addr 8 (M.bytes mem.old) (M.bytes mem.new) }
     ensures len { length (M.bytes mem.new) ≡ length (M.bytes mem.old) }
     ensures page { M.page_len mem.new ≡ M.page_len mem.old }
 {

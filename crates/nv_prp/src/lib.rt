@@ -1,4 +1,23 @@
-//! Physical region page entries and lists: built for a buffer in pages, and walked over any memory.
+//! Physical region page (PRP) entries and lists: built for a buffer in pages, and walked over any
+//! memory.
+//!
+//! The host calls [`build`] for the pages of a buffer and puts the two entries that it answers into
+//! a command. The controller calls [`walk`] with these entries and finds the spans of memory that
+//! they describe; with [`copy_out`] it writes data to the host's memory, and with [`copy_in`] it
+//! reads data from there.
+//!
+//! ```text
+//! let buffer = Buffer { pages: &[5, 9, 3], offset: 4 };
+//! let list = ListPlace { first: 7, second: 8, offset: 0 };
+//! let (prp1, prp2) = build(&mut memory, &buffer, &list, 10_000);
+//!
+//! let mut spans = Spans::new();
+//! walk(&memory, prp1, prp2, 10_000, &mut spans)?;
+//! copy_out(&mut memory, &spans, &data);
+//! ```
+//!
+//! What these calls do together is said by laws: [`build_then_walk`], [`copy_out_then_in`] and
+//! [`written_one_by_one`], functions that do nothing, and whose contracts are the laws.
 //!
 //! Sections are named as in the NVM Express Base Specification, revision 1.4.
 #![tactic(auto)]
@@ -7,7 +26,9 @@ mod builder;
 mod copy;
 mod entry;
 mod error;
-mod laws;
+mod law;
+mod pointer;
+mod run;
 mod spans;
 #[cfg(test)]
 mod tests;
@@ -16,6 +37,6 @@ mod walker;
 pub use builder::{Buffer, ListPlace, build};
 pub use copy::{copy_in, copy_out};
 pub use error::PrpError;
-pub use laws::{build_then_walk, copy_out_then_in, written_one_by_one};
+pub use law::{build_then_walk, copy_out_then_in, written_one_by_one};
 pub use spans::{Span, Spans};
 pub use walker::walk;

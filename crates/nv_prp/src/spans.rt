@@ -1,14 +1,17 @@
 //! The spans of memory that a transfer covers, in order.
 
-ghost use Rattle.std.specs.Prelude.{◌≡◌, ◌≤◌, ◌<◌, ◌++◌, ◌∷◌, [], length, take};
+ghost use Rattle.std.specs.Prelude.{◌≡◌, ◌≤◌, ◌<◌, ◌++◌, ◌∷◌, ◌↔◌, [], IsTrue, length, take};
 ghost use Rattle.nv_prp.specs.declared.spans.Span.{Span};
 
+use std::fmt;
 use std::marker::Model;
 
 /// Bytes of the memory that follow one another, all in one page.
 #[derive(Clone, Copy, Debug, PartialEq, Eq)]
 pub struct Span {
+    /// Where the first one lies: its address in the memory, in bytes.
     pub address: u64,
+    /// How many bytes there are.
     pub len: u32,
 }
 
@@ -49,6 +52,20 @@ impl Spans {
         &self.spans[..self.count]
     }
 
+    /// How many spans there are.
+    pub fn len(&self) -> usize
+        ensures { result ≡ length self.now }
+    {
+        self.as_slice().len()
+    }
+
+    /// Whether there are no spans.
+    pub fn is_empty(&self) -> bool
+        ensures { IsTrue result ↔ (self.now ≡ []) }
+    {
+        self.as_slice().is_empty()
+    }
+
     pub(crate) fn clear(&mut self)
         ensures { self.new ≡ [] }
     {
@@ -61,5 +78,11 @@ impl Spans {
     {
         self.spans[self.count] = span;
         self.count += 1;
+    }
+}
+
+impl fmt::Debug for Spans {
+    fn fmt<W: fmt::Write>(&self, f: &mut fmt::Formatter<W>) -> fmt::Result {
+        f.debug_list().entries(self.as_slice()).finish()
     }
 }

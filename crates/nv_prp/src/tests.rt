@@ -275,3 +275,60 @@ fn buffer_with_a_list_to_the_end_of_its_page(rt: HostRuntime) {
     assert_eq!(rt; qword(&mem, 0x7ff0), 0x9000);
     assert_eq!(rt; qword(&mem, 0x7ff8), 0x3000);
 }
+
+#[test]
+#[tactic(auto, unfolding(nv_host::specs::Pages::IsPageSize))]
+fn example_of_the_crate_page(rt: HostRuntime) {
+    let Ok(mut memory) = FlatMemory::new(rt.alloc(), 4096, 16) else {
+        assert!(rt; false, "out of memory");
+        return;
+    };
+    let buffer = Buffer {
+        pages: &[5, 9, 3],
+        offset: 4,
+    };
+    let list = ListPlace {
+        first: 7,
+        second: 8,
+        offset: 0,
+    };
+    let (prp1, prp2) = build(&mut memory, &buffer, &list, 10_000);
+    assert_eq!(rt; (prp1, prp2), (0x5004, 0x7000));
+    let mut spans = Spans::new();
+    assert!(rt; spans.is_empty());
+    let Ok(()) = walk(&memory, prp1, prp2, 10_000, &mut spans) else {
+        assert!(rt; false, "a legal transfer");
+        return;
+    };
+    assert_eq!(rt; spans.len(), 3);
+    let Ok(data) = vec![in rt.alloc(); 7u8; 10_000] else {
+        assert!(rt; false, "out of memory");
+        return;
+    };
+    copy_out(&mut memory, &spans, &data);
+    let mut end = [0; 4];
+    assert_eq!(rt; memory.load(0x3712, &mut end), Ok(()));
+    assert_eq!(rt; end, [7, 7, 0, 0]);
+}
+
+#[test]
+#[tactic(auto, unfolding(nv_host::specs::Pages::IsPageSize))]
+fn spans_and_errors_are_printed(rt: HostRuntime) {
+    let Ok(mem) = FlatMemory::new(rt.alloc(), 4096, 16) else {
+        assert!(rt; false, "out of memory");
+        return;
+    };
+    let mut spans = Spans::new();
+    assert_eq!(rt; walk(&mem, 0x1004, 0, 4, &mut spans), Ok(()));
+    let Ok(shown) = format!(in rt.alloc(); "{spans:?}") else {
+        assert!(rt; false, "out of memory");
+        return;
+    };
+    assert_eq!(rt; shown.as_str(), "[Span { address: 4100, len: 4 }]");
+    let (offset, outside) = (PrpError::Offset, PrpError::Outside);
+    let Ok(shown) = format!(in rt.alloc(); "{offset}, {outside}") else {
+        assert!(rt; false, "out of memory");
+        return;
+    };
+    assert_eq!(rt; shown.as_str(), "PRP offset invalid, outside the memory");
+}

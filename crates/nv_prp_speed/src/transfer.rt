@@ -2,12 +2,12 @@
 
 ghost use Rattle.std.specs.Prelude.{◌≡◌, ◌+◌, ◌<◌, ◌^◌, ◌∷◌, IfOk, length};
 ghost use Rattle.nv_host.specs.Pages.{IsPageSize};
-ghost use Rattle.nv_prp.specs.Buffers.{IsBuffer, IsListPlace};
-ghost use Rattle.nv_prp.specs.Places.{AreDistinct, LieIn, places, table};
+ghost use Rattle.nv_prp.specs.Buffer.{IsBuffer, IsListPlace};
+ghost use Rattle.nv_prp.specs.Place.{AreDistinct, LieIn, places, table};
 
 use crate::times::{LENGTH, ROUNDS, Times};
 use nv_host::{FlatMemory, HostMemory, PageNo};
-use nv_prp::{Buffer, ListPlace, Spans, build, build_then_walk, copy_in, copy_out, walk};
+use nv_prp::{Buffer, ListPlace, Spans, build, copy_in, copy_out, walk};
 use std::alloc::{AllocError, Global};
 use std::io::{self, ErrorKind};
 use std::time::{Duration, Instant};
@@ -72,7 +72,9 @@ fn measure_calls<M: HostMemory>(
     let (prp1, prp2) = build(mem, buffer, list, LENGTH);
     let walk_time = time_walks(rt, mem, prp1, prp2)?;
     let mut spans = Spans::new();
-    build_then_walk(mem, buffer, list, LENGTH, &mut spans);
+    let Ok(()) = walk(mem, prp1, prp2, LENGTH, &mut spans) else {
+        return Err(io::Error::from(ErrorKind::InvalidData));
+    };
     let copy_out_time = time_copies_out(rt, mem, &spans, &source)?;
     let copy_in_time = time_copies_in(rt, mem, &spans, &mut read)?;
     let times = Times {

@@ -1,10 +1,11 @@
-use Rattle.std.proofs.Common.{◌≡◌, length, take}
-use Rattle.nv_prp.specs.Places.{places, read_at}
+use Rattle.std.proofs.Common.{◌≡◌, ◌+◌, ◌++◌, drop, length, take}
+use Rattle.nv_prp.specs.Place.{places, read_at}
 use Rattle.nv_prp.proofs.copy.copy_in.Given as goal
 
--- the bytes of the spans so far are read
+-- what is read so far, and then the bytes of the spans that are left, are the bytes of all spans
 abbrev pub invariant-loop-span : goal.invariant-loop-span
 invariant-loop-span g l = record {
-  at : l.at ≡ length (places (take l.span-index l.spans));
-  read : take l.at l.out ≡ read_at (g.M.HostMemory.bytes l.mem) (places (take l.span-index l.spans));
+  left : l.at + length (places (drop l.span-index l.spans)) ≡ length l.out;
+  read : take l.at l.out ++ read_at (g.M.HostMemory.bytes l.mem) (places (drop l.span-index l.spans))
+      ≡ read_at (g.M.HostMemory.bytes l.mem) (places l.spans);
 }

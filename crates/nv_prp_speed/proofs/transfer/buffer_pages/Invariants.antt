@@ -1,5 +1,5 @@
 use Rattle.std.proofs.Common.{◌≡◌, ◌+◌}
-use Rattle.nv_prp.specs.Places.{table}
+use Rattle.nv_prp.specs.Place.{table}
 use Rattle.nv_prp_speed.proofs.transfer.buffer_pages.Given as goal
 
 abbrev pub invariant-loop-index : goal.invariant-loop-index

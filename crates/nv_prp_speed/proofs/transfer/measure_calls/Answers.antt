@@ -1,10 +1,5 @@
-use Rattle.std.proofs.Common.{◌∙◌}
 use Rattle.nv_prp_speed.proofs.BufferLaws.{buffer_stays}
 use Rattle.nv_prp_speed.proofs.transfer.measure_calls.Goals as goal
 
 pub build-prp1-requires-clause-buffer : goal.build-prp1-requires-clause-buffer
 build-prp1-requires-clause-buffer g c = buffer_stays c.time_builds.ensures.len c.time_builds.ensures.page c.requires.buffer
-
-pub build_then_walk-requires-clause-buffer : goal.build_then_walk-requires-clause-buffer
-build_then_walk-requires-clause-buffer g c =
-    buffer_stays (c.build-prp1.ensures.len ∙ c.time_builds.ensures.len) (c.build-prp1.ensures.page ∙ c.time_builds.ensures.page) c.requires.buffer

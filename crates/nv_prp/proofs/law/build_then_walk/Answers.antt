@@ -1,0 +1,5 @@
+use Rattle.nv_prp.specs.BufferLaws.{built_is_walked}
+use Rattle.nv_prp.proofs.law.build_then_walk.Goals as goal
+
+pub returns : goal.returns
+returns c = built_is_walked

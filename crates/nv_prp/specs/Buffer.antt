@@ -1,0 +1,66 @@
+-- A buffer in pages, and the list that names them.
+use Rattle.std.specs.Prelude.{◌≡◌, ℕ, ◌+◌, ◌-◌, ◌*◌, ◌/◌, ◌%◌, ◌<◌, ◌≤◌, ◌⊎◌, All, List, length, slice_index}
+use Rattle.nv_host.specs.Bytes.{bytes_at}
+use Rattle.nv_host.specs.Pages.{HasPage}
+use Rattle.nv_prp.specs.Place.{AreDistinct, table}
+use Rattle.nv_prp.specs.Transfer.{Transfer, list_place, naming_number, place_of, qword, transfer_places}
+
+-- the place of byte i of a buffer: its pages by their numbers, and where it begins in the first one
+unfoldable pub buffer_place : ℕ → List ℕ → ℕ → ℕ → ℕ
+buffer_place page_size pages offset i =
+    let at = offset + i in
+    slice_index pages (at / page_size) * page_size + at % page_size
+
+-- the places of all its bytes, in order
+unfoldable pub buffer_places : ℕ → List ℕ → ℕ → ℕ → List ℕ
+buffer_places page_size pages offset len = table len (buffer_place page_size pages offset)
+
+-- the pages lie in the memory and hold this many bytes from the offset on
+pub record IsBuffer (bytes : List ℕ) (page_size : ℕ) (pages : List ℕ) (offset len : ℕ) : Type 0 where
+  pub below : offset < page_size
+  pub aligned : offset % 4 ≡ 0
+  pub enough : offset + len ≤ length pages * page_size
+  pub inside : All (λ page. HasPage bytes page_size page) pages
+
+-- a list may lie in the memory's two pages, from the offset in the first one on
+pub record IsListPlace (bytes : List ℕ) (page_size first second offset : ℕ) : Type 0 where
+  pub below : offset < page_size
+  pub aligned : offset % 8 ≡ 0
+  pub has_first : HasPage bytes page_size first
+  pub has_second : HasPage bytes page_size second
+
+-- ---- what a list changes
+
+-- the k bytes from `from` on share none with the n bytes from an address on
+abbrev pub IsApart : ℕ → ℕ → ℕ → ℕ → Type 0
+IsApart addr n from k = (from + k ≤ addr) ⊎ (addr + n ≤ from)
+
+-- these n bytes share none with a page
+abbrev pub IsOutside : ℕ → ℕ → ℕ → ℕ → Type 0
+IsOutside page_size page from n = IsApart (page * page_size) page_size from n
+
+-- only bytes of two pages are other ones
+abbrev pub KeepsOutside : ℕ → ℕ → ℕ → List ℕ → List ℕ → Type 0
+KeepsOutside page_size first second old new = (from n : ℕ) → IsOutside page_size first from n → IsOutside page_size second from n
+    → bytes_at new from n ≡ bytes_at old from n
+
+-- only the n bytes from an address on are other ones
+abbrev pub ChangesOnly : ℕ → ℕ → List ℕ → List ℕ → Type 0
+ChangesOnly addr n old new = (from k : ℕ) → IsApart addr n from k → bytes_at new from k ≡ bytes_at old from k
+
+-- ---- what a list says
+
+-- a list that begins at `first` and goes on at `second` names the first pages of a buffer, but for page 0
+pub record NamesPages (bytes : List ℕ) (page_size room first second : ℕ) (pages : List ℕ) (count : ℕ) : Type 0 where
+  pub chain : room < count - 1 → qword bytes (first + 8 * (room - 1)) ≡ second
+  pub each : (j : ℕ) → 0 < j → j < count
+      → qword bytes (list_place room first second (naming_number room count j)) ≡ slice_index pages j * page_size
+
+-- ---- laws
+
+-- where the clauses of a buffer's entries hold, the places of their transfer are the buffer's, and distinct where
+-- its pages are
+abbrev pub BuiltIsWalked : Type 0
+BuiltIsWalked = (t : Transfer) (pages : List ℕ) (offset : ℕ) → IsBuffer t.bytes t.page_size pages offset t.len
+    → ((i : ℕ) → i < t.len → place_of t i ≡ buffer_place t.page_size pages offset i)
+    → (transfer_places t ≡ buffer_places t.page_size pages offset t.len) × (AreDistinct pages → AreDistinct (transfer_places t))

@@ -1,0 +1,77 @@
+//! The data pointer of a command, and the pages in which its bytes lie.
+
+ghost use Rattle.std.specs.Prelude.{◌≡◌, ◌+◌, ◌-◌, ◌%◌, ◌*◌, ◌/◌, ◌<◌, ◌≤◌, length, min};
+ghost use Rattle.std.specs.Int.{div_ceil};
+ghost use Rattle.nv_prp.specs.Transfer.{first_byte, transfer_of};
+
+use crate::Span;
+use nv_host::HostMemory;
+use std::cmp::min;
+
+/// The two PRP entries of a command, and the length of its transfer in bytes. Section "Data
+/// Pointer".
+#[derive(Clone, Copy, Debug, PartialEq, Eq)]
+pub struct DataPointer {
+    pub prp1: u64,
+    pub prp2: u64,
+    pub len: u32,
+}
+
+/// Where an address lies in its page.
+#[tactic(auto, using(nv_host::specs::PageLaws::page_size_bounds))]
+pub fn offset_in_page<M: HostMemory>(mem: &M, addr: u64) -> u32
+    ensures value { result ≡ addr % M.page_len mem.now }
+    ensures inside { result < M.page_len mem.now }
+{
+    (addr % u64::from(mem.page_size())) as u32
+}
+
+/// How many Qwords there are from an address, a multiple of 8, to the end of its page.
+#[tactic(auto, using(nv_host::specs::PageLaws::page_size_bounds))]
+pub fn qwords_in_page<M: HostMemory>(mem: &M, addr: u64) -> u32
+    requires { addr % 8 ≡ 0 }
+    ensures value { result ≡ (M.page_len mem.now - addr % M.page_len mem.now) / 8 }
+    ensures some { 0 < result }
+    ensures whole { addr + 8 * result ≡ addr - addr % M.page_len mem.now + M.page_len mem.now }
+{
+    (mem.page_size() - offset_in_page(mem, addr)) / 8
+}
+
+impl DataPointer {
+    /// In how many pages the bytes lie.
+    #[tactic(auto, using(nv_host::specs::PageLaws::page_size_bounds))]
+    pub fn data_pages<M: HostMemory>(self, mem: &M) -> u32
+        requires { self.len ≤ 1048576 }
+        ensures { result ≡ div_ceil (self.prp1 % M.page_len mem.now + self.len)
+            (M.page_len mem.now) }
+    {
+        let page_size = mem.page_size();
+        (offset_in_page(mem, self.prp1) + self.len).div_ceil(page_size)
+    }
+
+    /// The number of a data page's first byte, or of all bytes where there is no such page.
+    fn first_byte<M: HostMemory>(self, mem: &M, page: u32) -> u32
+        requires { page ≤ 257 }
+        ensures { result ≡ first_byte (transfer_of (M.page_len mem.now)
+            (M.bytes mem.now) self) page }
+    {
+        let begin = (page * mem.page_size()).saturating_sub(offset_in_page(mem, self.prp1));
+        min(self.len, begin)
+    }
+
+    /// The bytes of a data page, the first of which lies at this address.
+    #[tactic(auto, using(crate::proofs::PageLaws::first_bytes_rise))]
+    pub fn span<M: HostMemory>(self, mem: &M, page: u32, address: u64) -> Span
+        requires { page < 257 }
+        ensures { let t = transfer_of (M.page_len mem.now) (M.bytes mem.now) self in
+            result ≡ record {
+              address = address;
+              len = first_byte t (page + 1) - first_byte t page;
+            } }
+    {
+        Span {
+            address,
+            len: self.first_byte(mem, page + 1) - self.first_byte(mem, page),
+        }
+    }
+}
