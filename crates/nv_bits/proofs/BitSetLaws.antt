@@ -8,7 +8,7 @@ use Rattle.std.specs.FinMap.{get, get-empty, len-empty, len-insert, len-remove}
 use Rattle.std.specs.Cmp.{nat_cmp_total}
 use Rattle.std.specs.Ordering.{nat_cmp}
 use Rattle.nv_bits.specs.Numbers.{IsLowest, IsNext, IsOf, NumberSet, all_of, as_member, by_place, insert}
-use Rattle.nv_bits.specs.NumberLaws.{by_place_is, get_at, get_of_insert, get_of_remove, get_outside, len-all_of, len_within}
+use Rattle.nv_bits.specs.NumberLaws.{by_place-insert, by_place-remove, by_place_is, get_at, get_outside, len-all_of, len_within}
 use Rattle.nv_bits.specs.Words.{ChangesBit, IsLeastFrom, bit_of}
 use Rattle.nv_bits.specs.BitSet.{AreBits, members_of}
 use Rattle.nv_bits.proofs.WordLaws.{bit_of-ones, bit_of-past_ones, bit_of-zeros, first_ones, none_of_zero}
@@ -29,34 +29,22 @@ pub not_member : (first count : ℕ) (words : List ℕ) (q : ℕ)
 not_member first count words q clear =
     false_from_ne_true (map.contains_key (members_of first count words) q) (λ member.
     let out : IsOf first count q → ⊥ = λ is.
-        let e : q ≡ first + (q - first) = omega arith in
-        true≢false (sym (rw e at member) ∙ contains_at first count words (q - first) (omega arith) ∙ clear is.0 is.1) in
+    let e : q ≡ first + (q - first) = omega arith in
+    true≢false (sym (rw e at member) ∙ contains_at first count words (q - first) (omega arith) ∙ clear is.0 is.1) in
     true≢false (sym member ∙ ap is_some (get_outside _ first count q out)))
 
+as_member-change : (b c d : Bool) → as_member (cond b c d) ≡ cond b (as_member c) (as_member d)
+as_member-change true c d = refl
+as_member-change false c d = refl
+
 module _ (first count : ℕ) (old new : List ℕ) (k : ℕ) (here : k < count) where
-  same_place : (b : Bool) → ChangesBit old new k b → (j : ℕ) → as_member (bit_of new j) ≡ cond (first + j == first + k) (as_member b) (as_member (bit_of old j))
-  same_place b change j =
-      elim (cases_eq j k) [
-        | inl e ↦ rw (change j, e, eq-eqb k k refl, eq-eqb (first + k) (first + k) refl) refl
-        | inr ne ↦
-          let other : first + j ≢ first + k = omega arith in
-          rw (change j, ne_eqb j k ne, ne_eqb (first + j) (first + k) other) refl
-      ]
-
-  elsewhere : (q : ℕ) → (IsOf first count q → ⊥) → q ≢ first + k
-  elsewhere q out e = out (omega arith, omega arith)
-
   pub members-insert : ChangesBit old new k true → members_of first count new ≡ insert (members_of first count old) (first + k)
   members-insert change =
-      by_place_is _ first count _
-      (λ j h. get_of_insert _ (first + k) tt (first + j) ∙ ap (cond (first + j == first + k) (Some tt)) (get_at _ first count j h) ∙ sym (same_place true change j))
-      (λ q out. get_of_insert _ (first + k) tt q ∙ rw (ne_eqb q (first + k) (elsewhere q out)) (get_outside _ first count q out))
+      by_place-insert _ _ first count k here tt (λ j. ap as_member (change j) ∙ as_member-change (j == k) true (bit_of old j))
 
   pub members-remove : ChangesBit old new k false → members_of first count new ≡ map.remove (members_of first count old) (first + k)
   members-remove change =
-      by_place_is _ first count _
-      (λ j h. get_of_remove _ (first + k) (first + j) ∙ ap (cond (first + j == first + k) None) (get_at _ first count j h) ∙ sym (same_place false change j))
-      (λ q out. get_of_remove _ (first + k) q ∙ rw (ne_eqb q (first + k) (elsewhere q out)) (get_outside _ first count q out))
+      by_place-remove _ _ first count k here (λ j. ap as_member (change j) ∙ as_member-change (j == k) false (bit_of old j))
 
 -- no bit is set
 pub members-empty : (first count : ℕ) (words : List ℕ) → ((k : ℕ) → k < count → bit_of words k ≡ false) → members_of first count words ≡ map.empty
@@ -167,10 +155,10 @@ module _ (first count len lowest_word : ℕ) (words : List ℕ) (are : AreBits f
         elim (cases_lt i lowest_word) [
           | inr from ↦ zeros i from h
           | inl below ↦
-            elim (cases_eq i (k / 64)) [
-              | inl same ↦ absurd (true≢false (sym bit ∙ none_of_zero words k (rw same at (are.none_below i below))))
-              | inr ne ↦ get_or-set_other words (k / 64) i w 0 ne ∙ are.none_below i below
-            ]
+              elim (cases_eq i (k / 64)) [
+                | inl same ↦ absurd (true≢false (sym bit ∙ none_of_zero words k (rw same at (are.none_below i below))))
+                | inr ne ↦ get_or-set_other words (k / 64) i w 0 ne ∙ are.none_below i below
+              ]
         ];
   }
 

@@ -8,10 +8,6 @@ use Rattle.std.proofs.lemmas.List.{get_or-replicate, get_or_past, length-replica
 use Rattle.std.specs.Int.{bit_at, bit_not, trailing_zeros}
 use Rattle.nv_bits.specs.Words.{ChangesBit, IsLeastFrom, bit_of}
 
-
-
-
-
 -- a word is written in which one bit is another
 changed : (words : List ℕ) (k w b : ℕ) → k / 64 < length words → bit_at w (k % 64) ≡ b
     → ((i : ℕ) → i < 64 → i ≢ k % 64 → bit_at w i ≡ bit_at (get_or words (k / 64) 0) i)
@@ -20,17 +16,17 @@ unfolding bit_of
 changed words k w b h here others j =
     elim (cases_eq (j / 64) (k / 64)) [
       | inl word ↦
-        elim (cases_eq (j % 64) (k % 64)) [
-          | inl place ↦
-            let same : j ≡ k = omega arith in
-            rw (eq-eqb j k same, word, place, get_or-set_same words (k / 64) w 0 h, here) refl
-          | inr ne ↦
-            let other : j ≢ k = omega arith in
-            rw (ne_eqb j k other, word, get_or-set_same words (k / 64) w 0 h, others (j % 64) (omega arith) ne) refl
-        ]
+          elim (cases_eq (j % 64) (k % 64)) [
+            | inl place ↦
+                let same : j ≡ k = omega arith in
+                rw (eq-eqb j k same, word, place, get_or-set_same words (k / 64) w 0 h, here) refl
+            | inr ne ↦
+                let other : j ≢ k = omega arith in
+                rw (ne_eqb j k other, word, get_or-set_same words (k / 64) w 0 h, others (j % 64) (omega arith) ne) refl
+          ]
       | inr ne ↦
-        let other : j ≢ k = omega arith in
-        rw (ne_eqb j k other, get_or-set_other words (k / 64) (j / 64) w 0 ne) refl
+          let other : j ≢ k = omega arith in
+          rw (ne_eqb j k other, get_or-set_other words (k / 64) (j / 64) w 0 ne) refl
     ]
 
 pub bit_of-or : (words : List ℕ) (k : ℕ) → k / 64 < length words
@@ -76,17 +72,19 @@ least_in_word words i s small fits some =
     let t = trailing_zeros w64 rest in
     let lowest = bit_at-trailing_zeros w64 rest some (omega (arith, div-le_self (get_or words i 0) (2 ^ s))) in
     let inside : s + t < 64 =
-        elim (cases_lt (s + t) 64) [
-          | inl h ↦ h
-          | inr h ↦ absurd (omega (arith, bit_at-shr (get_or words i 0) s t, bit_at_above (get_or words i 0) 64 (s + t) fits h, lowest.1))
-        ] in
-    (inside, record {
-      from = omega arith;
-      passes = bit_of-shr words i s t inside ∙ rw lowest.1 refl;
-      before = λ q a b.
-          let is : q ≡ 64 * i + (s + (q - (64 * i + s))) = omega arith in
-          rw is (bit_of-shr words i s (q - (64 * i + s)) (omega arith) ∙ rw (lowest.2 (q - (64 * i + s)) (omega arith)) refl);
-    })
+    elim (cases_lt (s + t) 64) [
+      | inl h ↦ h
+      | inr h ↦ absurd (omega (arith, bit_at-shr (get_or words i 0) s t, bit_at_above (get_or words i 0) 64 (s + t) fits h, lowest.1))
+    ] in (
+      inside,
+      record {
+        from = omega arith;
+        passes = bit_of-shr words i s t inside ∙ rw lowest.1 refl;
+        before = λ q a b.
+            let is : q ≡ 64 * i + (s + (q - (64 * i + s))) = omega arith in
+            rw is (bit_of-shr words i s (q - (64 * i + s)) (omega arith) ∙ rw (lowest.2 (q - (64 * i + s)) (omega arith)) refl);
+      },
+    )
 
 -- the same at the bit from which the search goes
 pub first_found : (words : List ℕ) (at : ℕ) → get_or words (at / 64) 0 < 2 ^ 64 → 0 < get_or words (at / 64) 0 / 2 ^ (at % 64)
@@ -130,16 +128,18 @@ later_found words at i before fits some here between =
     let found = first_found words (64 * i) in
     let word : 64 * i / 64 ≡ i = omega arith in
     let place : 64 * i % 64 ≡ 0 = omega arith in
-    let least = (rw (word, place, pow-zero 2, div-one (get_or words i 0)) at found) fits some in
-    (least.0, record {
-      from = omega arith;
-      passes = least.1.passes;
-      before = λ q a b.
-          elim (cases_lt q (64 * i)) [
-            | inl h ↦ none_before words at i here between q a h
-            | inr h ↦ least.1.before q h b
-          ];
-    })
+    let least = (rw (word, place, pow-zero 2, div-one (get_or words i 0)) at found) fits some in (
+      least.0,
+      record {
+        from = omega arith;
+        passes = least.1.passes;
+        before = λ q a b.
+            elim (cases_lt q (64 * i)) [
+              | inl h ↦ none_before words at i here between q a h
+              | inr h ↦ least.1.before q h b
+            ];
+      },
+    )
 
 -- words of zeros
 pub bit_of-zeros : (n k : ℕ) → bit_of (replicate n 0) k ≡ false
@@ -163,9 +163,11 @@ module _ (count : ℕ) where
       elim (cases_eq (k / 64) (count / 64)) [
         | inl e ↦ rw (e, last_word, bit_at_ones (count % 64) (k % 64) (omega arith)) refl
         | inr ne ↦
-          rw (get_or-set_other (replicate (count / 64 + 1) (2 ^ 64 - 1)) (count / 64) (k / 64) (2 ^ (count % 64) - 1) 0 ne,
-          get_or-replicate (count / 64 + 1) (k / 64) (2 ^ 64 - 1) 0 (omega arith),
-          bit_at_ones 64 (k % 64) (omega arith)) refl
+            rw (
+              get_or-set_other (replicate (count / 64 + 1) (2 ^ 64 - 1)) (count / 64) (k / 64) (2 ^ (count % 64) - 1) 0 ne,
+              get_or-replicate (count / 64 + 1) (k / 64) (2 ^ 64 - 1) 0 (omega arith),
+              bit_at_ones 64 (k % 64) (omega arith),
+            ) refl
       ]
 
   pub bit_of-past_ones : (k : ℕ) → count ≤ k → bit_of (first_ones count) k ≡ false

@@ -52,8 +52,8 @@ module _ {A : Type 0} where
       ∙ elim (cases_eq k count) [
         | inl e ↦ rw (e, eq-eqb (first + count) (first + count) refl) refl
         | inr ne ↦
-          let other : first + k ≢ first + count = omega arith in
-          rw (ne_eqb (first + k) (first + count) other) (get_at at first count k (omega arith))
+            let other : first + k ≢ first + count = omega arith in
+            rw (ne_eqb (first + k) (first + count) other) (get_at at first count k (omega arith))
       ]
 
   -- a map that has the same at each place, and nothing elsewhere
@@ -62,18 +62,54 @@ module _ {A : Type 0} where
   by_place_is at first count m inside outside =
       same_numbers _ m (λ q. elim (cases_lt q first) [
         | inl below ↦
-          let out : IsOf first count q → ⊥ = λ is. omega arith in
-          get_outside at first count q out ∙ sym (outside q out)
+            let out : IsOf first count q → ⊥ = λ is. omega arith in
+            get_outside at first count q out ∙ sym (outside q out)
         | inr from ↦
-          elim (cases_lt q (first + count)) [
-            | inr past ↦
-              let out : IsOf first count q → ⊥ = λ is. omega arith in
-              get_outside at first count q out ∙ sym (outside q out)
-            | inl within ↦
-              let e : q ≡ first + (q - first) = omega arith in
-              rw e (get_at at first count (q - first) (omega arith) ∙ sym (inside (q - first) (omega arith)))
-          ]
+            elim (cases_lt q (first + count)) [
+              | inr past ↦
+                  let out : IsOf first count q → ⊥ = λ is. omega arith in
+                  get_outside at first count q out ∙ sym (outside q out)
+              | inl within ↦
+                  let e : q ≡ first + (q - first) = omega arith in
+                  rw e (get_at at first count (q - first) (omega arith) ∙ sym (inside (q - first) (omega arith)))
+            ]
       ])
+
+  -- one place of a map by places gets a value, or none
+  module _ (old new : ℕ → Option A) (first count k : ℕ) (here : k < count) where
+    abbrev Changes : Option A → Type 0
+    Changes o = (j : ℕ) → new j ≡ cond (j == k) o (old j)
+
+    here_and_there : (o : Option A) (j : ℕ) → cond (first + j == first + k) o (old j) ≡ cond (j == k) o (old j)
+    here_and_there o j =
+        elim (cases_eq j k) [
+          | inl e ↦ rw (e, eq-eqb k k refl, eq-eqb (first + k) (first + k) refl) refl
+          | inr ne ↦
+              let other : first + j ≢ first + k = omega arith in
+              rw (ne_eqb j k ne, ne_eqb (first + j) (first + k) other) refl
+        ]
+
+    changed : (o : Option A) (m : NumberMap A) → ((q : ℕ) → get m q ≡ cond (q == first + k) o (get (by_place old first count) q))
+        → Changes o → by_place new first count ≡ m
+    changed o m is change =
+        by_place_is new first count m
+        (λ j h. is (first + j) ∙ ap (cond (first + j == first + k) o) (get_at old first count j h) ∙ here_and_there o j ∙ sym (change j))
+        (λ q out.
+        let other : q ≢ first + k = λ e. out (omega arith, omega arith) in
+        is q ∙ rw (ne_eqb q (first + k) other) (get_outside old first count q out))
+
+    pub by_place-insert : (x : A) → Changes (Some x) → by_place new first count ≡ map.insert (by_place old first count) (first + k) x
+    by_place-insert x = changed (Some x) _ (get_of_insert (by_place old first count) (first + k) x)
+
+    pub by_place-remove : Changes None → by_place new first count ≡ map.remove (by_place old first count) (first + k)
+    by_place-remove = changed None _ (get_of_remove (by_place old first count) (first + k))
+
+  -- which numbers a map has after a change
+  pub contains-insert : (m : NumberMap A) (k : ℕ) (x : A) (q : ℕ) → map.contains_key (map.insert m k x) q ≡ cond (q == k) true (map.contains_key m q)
+  contains-insert m k x q = ap is_some (get_of_insert m k x q) ∙ elim (q == k) as (λ b. is_some (cond b (Some x) (get m q)) ≡ cond b true (is_some (get m q))) [ true ↦ refl | false ↦ refl ]
+
+  pub contains-remove : (m : NumberMap A) (k q : ℕ) → map.contains_key (map.remove m k) q ≡ cond (q == k) false (map.contains_key m q)
+  contains-remove m k q = ap is_some (get_of_remove m k q) ∙ elim (q == k) as (λ b. is_some (cond b None (get m q)) ≡ cond b false (is_some (get m q))) [ true ↦ refl | false ↦ refl ]
 
   -- a map by places has no more numbers than there are
   pub len_within : (at : ℕ → Option A) (first count : ℕ) → map.len (by_place at first count) ≤ count
@@ -81,11 +117,11 @@ module _ {A : Type 0} where
   len_within at first zero = omega (arith, len-empty nat_cmp A)
   len_within at first (suc count) = one_more (by_place at first count) (first + count) count (at count) (len_within at first count)
     where
-    one_more : (m : NumberMap A) (k n : ℕ) (o : Option A) → map.len m ≤ n → map.len (with_value m k o) ≤ suc n
-    one_more m k n None h = omega arith
-    one_more m k n (Some x) h =
-        let P : ℕ → Type 0 = λ l. l ≤ suc n in
-        subst P (sym (len-insert nat_cmp_total m k x)) (cond_both (map.contains_key m k) (map.len m) (map.len m + 1) P (λ _. omega arith) (λ _. omega arith))
+      one_more : (m : NumberMap A) (k n : ℕ) (o : Option A) → map.len m ≤ n → map.len (with_value m k o) ≤ suc n
+      one_more m k n None h = omega arith
+      one_more m k n (Some x) h =
+          let P : ℕ → Type 0 = λ l. l ≤ suc n in
+          subst P (sym (len-insert nat_cmp_total m k x)) (cond_both (map.contains_key m k) (map.len m) (map.len m + 1) P (λ _. omega arith) (λ _. omega arith))
 
   -- a map that has a number isn't empty
   pub has_one : (m : NumberMap A) (k : ℕ) → map.contains_key m k ≡ true → 0 < map.len m
@@ -93,8 +129,8 @@ module _ {A : Type 0} where
       elim (cases_lt 0 (map.len m)) [
         | inl h ↦ h
         | inr h ↦
-          let none : m ≡ map.empty = map.empty_of_len m (omega arith) in
-          absurd (true≢false (sym member ∙ ap (λ e. map.contains_key e k) none ∙ ap is_some (get-empty nat_cmp k)))
+            let none : m ≡ map.empty = map.empty_of_len m (omega arith) in
+            absurd (true≢false (sym member ∙ ap (λ e. map.contains_key e k) none ∙ ap is_some (get-empty nat_cmp k)))
       ]
 
   -- what has no place is taken out of nothing
@@ -105,9 +141,9 @@ module _ {A : Type 0} where
         | inr ne ↦ rw (ne_eqb q k ne) refl
       ])
     where
-    none_of : (o : Option A) → is_some o ≡ false → o ≡ None
-    none_of None e = refl
-    none_of (Some x) e = absurd (true≢false e)
+      none_of : (o : Option A) → is_some o ≡ false → o ≡ None
+      none_of None e = refl
+      none_of (Some x) e = absurd (true≢false e)
 
 -- how many numbers a range has
 pub len-all_of : (first count : ℕ) → map.len (all_of first count) ≡ count
@@ -129,9 +165,9 @@ less x y h =
       | inr g ↦ absurd (not_less (x == y) (rw (le-ltb x y g) at h))
     ]
   where
-  not_less : (b : Bool) → T (is_lt (cond b Equal Greater)) → ⊥
-  not_less true h = h
-  not_less false h = h
+    not_less : (b : Bool) → T (is_lt (cond b Equal Greater)) → ⊥
+    not_less true h = h
+    not_less false h = h
 
 left : (a b : Bool) → T (a && b) → T a
 left true b h = tt
@@ -185,25 +221,25 @@ module _ {A : Type 0} where
       let below : T (below_all nat_cmp e.0 es) = left _ _ sorted in
       elim (cases_lt n e.0) [
         | inr past ↦
-          let other : k ≢ e.0 = omega arith in
-          rw (le-ltb n e.0 past, le-ltb k e.0 (omega arith))
-              (next_listed n k es (right (below_all nat_cmp e.0 es) _ sorted) after (sym (has_other e es k other) ∙ member)
-              (λ q a b. let ne : q ≢ e.0 = omega arith in sym (has_other e es q ne) ∙ least q a b))
+            let other : k ≢ e.0 = omega arith in
+            rw (le-ltb n e.0 past, le-ltb k e.0 (omega arith))
+            (next_listed n k es (right (below_all nat_cmp e.0 es) _ sorted) after (sym (has_other e es k other) ∙ member)
+            (λ q a b. let ne : q ≢ e.0 = omega arith in sym (has_other e es q ne) ∙ least q a b))
         | inl l ↦
-          elim (cases_order e.0 k) [
-            | inl same ↦
-              rw (lt-ltb n e.0 l, le-ltb k e.0 (omega arith))
+            elim (cases_order e.0 k) [
+              | inl same ↦
+                  rw (lt-ltb n e.0 l, le-ltb k e.0 (omega arith))
                   (ap (λ t. e.0 ∷ t) (all_listed n e.0 es (omega arith) below)
                   ∙ rw same (ap (λ t. k ∷ t) (sym (all_listed k e.0 es (omega arith) below))))
-            | inr differ ↦
-              elim differ [
-                | inl before ↦ absurd (true≢false (sym (has_first e es) ∙ least e.0 l before))
-                | inr behind ↦
-                  let ne : k ≢ e.0 = omega arith in
-                  let more : e.0 < k = above_first e.0 k es below (sym (has_other e es k ne) ∙ member) in
-                  absurd (omega arith)
-              ]
-          ]
+              | inr differ ↦
+                  elim differ [
+                    | inl before ↦ absurd (true≢false (sym (has_first e es) ∙ least e.0 l before))
+                    | inr behind ↦
+                        let ne : k ≢ e.0 = omega arith in
+                        let more : e.0 < k = above_first e.0 k es below (sym (has_other e es k ne) ∙ member) in
+                        absurd (omega arith)
+                  ]
+            ]
       ]
 
   pub above_none : (m : NumberMap A) (n : ℕ) → ((q : ℕ) → n < q → map.contains_key m q ≡ false) → above n (map.keys m) ≡ []

@@ -27,7 +27,11 @@ impl Model for BitSet {
 
     ghost coded = { range_set_code };
 
-    ghost view = { λ s. record { first = s.first; count = s.count; members = members_of s.first s.count s.words.items } };
+    ghost view = { λ s. record {
+      first = s.first;
+      count = s.count;
+      members = members_of s.first s.count s.words.items;
+    } };
 
     ghost invariant = { λ s. AreBits s.first s.count s.len s.lowest_word s.words.items };
 }
@@ -36,7 +40,8 @@ impl BitSet {
     /// The empty set, with room for the `count` numbers from `first` on.
     pub fn new(alloc: Global, first: u32, count: u32) -> Result<BitSet, AllocError>
         requires { first + count ≤ 2 ^ 32 }
-        ensures { IfOk result (λ s. s ≡ record { first = first; count = count; members = map.empty }) }
+        ensures { IfOk result (λ s. s
+            ≡ record { first = first; count = count; members = map.empty }) }
     {
         let words = repeated(alloc, 0, count as usize / 64 + 1)?;
         Ok(BitSet {
@@ -51,7 +56,8 @@ impl BitSet {
     /// The set of the `count` numbers from `first` on.
     pub fn full(alloc: Global, first: u32, count: u32) -> Result<BitSet, AllocError>
         requires { first + count ≤ 2 ^ 32 }
-        ensures { IfOk result (λ s. s ≡ record { first = first; count = count; members = all_of first count }) }
+        ensures { IfOk result (λ s. s
+            ≡ record { first = first; count = count; members = all_of first count }) }
     {
         let mut words = repeated(alloc, u64::MAX, count as usize / 64 + 1)?;
         words[count as usize / 64] = (1 << (count % 64)) - 1;
@@ -137,7 +143,9 @@ impl BitSet {
 
     /// The lowest number of the set.
     pub fn lowest(&self) -> Option<u32>
-        ensures lowest { MatchOption result (self.now.members ≡ map.empty) (IsLowest self.now.members) }
+        ensures lowest { MatchOption result
+            (self.now.members ≡ map.empty)
+            (IsLowest self.now.members) }
         ensures in_range { IfSome result (IsOf self.now.first self.now.count) }
     {
         let k = least_from(&self.words, 64 * self.lowest_word)?;

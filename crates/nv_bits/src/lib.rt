@@ -1,7 +1,24 @@
-//! Sets and maps of small numbers, with a place for each number of a range.
+//! Sets and maps of small numbers, with a place for each number of a range. Room is made once, when
+//! they are made: no later call takes memory.
+//!
+//! ```
+//! // identifiers from 1 to 1024
+//! let mut names = Slots::new(alloc, 1, 1024)?;
+//! if let Some(id) = names.lowest_free() {
+//!     names.insert(id, 'a');
+//! }
+//! let mut after = 0;
+//! while let Some(id) = names.next_above(after) {
+//!     after = id;
+//! }
+//! ```
 #![tactic(auto)]
 
 mod bit_set;
+mod slots;
+#[cfg(test)]
+mod tests;
 mod words;
 
 pub use bit_set::BitSet;
+pub use slots::Slots;

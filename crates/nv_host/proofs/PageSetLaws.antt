@@ -1,13 +1,13 @@
 -- Sets of page numbers as sets of numbers.
 use Rattle.std.proofs.Common.{◌≡◌, ◌∙◌, ℕ, zero, suc, ◌+◌, ◌<◌, ◌==◌, ◌||◌, ◌&&◌, Bool, true, false, not, cond, ap, refl, sym, IfSome, MatchOption, None, Option, Some, is_some, length}
-use Rattle.std.specs.Cmp.{nat_cmp_total, unsigned_tied}
+use Rattle.std.specs.Cmp.{nat_cmp_total}
 use Rattle.std.specs.Ordering.{nat_cmp}
 use Rattle.std.specs.FinMap as map
 use Rattle.std.specs.FinSet as set
 use Rattle.nv_bits.specs.BitSet.{RangeSet}
 use Rattle.nv_bits.specs.NumberLaws.{get_of_insert, get_of_remove}
 use Rattle.nv_bits.specs.Numbers.{IsLowest, NumberSet, all_of, by_place, insert}
-use Rattle.nv_host.specs.PageSets.{Pages, as_set, consecutive, pages_of}
+use Rattle.nv_host.specs.PageSets.{Pages, as_set, consecutive, contains_of_insert, contains_of_remove, pages_of}
 
 abbrev member : set.FinSet nat_cmp → ℕ → Bool
 member s q = set.contains s q
@@ -30,15 +30,13 @@ without false x = refl
 pub as_set-insert : (s : NumberSet) (k : ℕ) → as_set (insert s k) ≡ set.insert (as_set s) k
 as_set-insert s k =
     as_set_is (insert s k) _ (λ q. ap is_some (get_of_insert s k tt q) ∙ with_one (q == k) (map.get s q)
-    ∙ sym (set.contains-insert nat_cmp_total (as_set s) k q
-    ∙ ap (λ b. b || member (as_set s) q) (unsigned_tied q k)
+    ∙ sym (contains_of_insert (as_set s) k q
     ∙ ap (λ b. (q == k) || b) (contains-as_set s q)))
 
 pub as_set-remove : (s : NumberSet) (k : ℕ) → as_set (map.remove s k) ≡ set.remove (as_set s) k
 as_set-remove s k =
     as_set_is (map.remove s k) _ (λ q. ap is_some (get_of_remove s k q) ∙ without (q == k) (map.get s q)
-    ∙ sym (set.contains-remove nat_cmp_total (as_set s) k q
-    ∙ ap (λ b. not b && member (as_set s) q) (unsigned_tied q k)
+    ∙ sym (contains_of_remove (as_set s) k q
     ∙ ap (λ b. not (q == k) && b) (contains-as_set s q)))
 
 as_set-empty : as_set map.empty ≡ set.empty

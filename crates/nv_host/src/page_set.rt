@@ -29,11 +29,12 @@ impl Model for PageSet {
 }
 
 impl PageSet {
-    /// The set of the `count` page numbers from `first` on. There may be none; the number behind the
-    /// last one is less than 2^32. The set has a bit for each page: 8 KiB for 65,536 pages.
+    /// The set of the `count` page numbers from `first` on, of which there may be none. The number
+    /// behind the last one is less than 2^32. The set has a bit for each page.
     pub fn new(alloc: Global, first: PageNo, count: u32) -> Result<PageSet, Memory>
         requires { first + count < 2 ^ 32 }
-        ensures { IfOk result (λ s. s ≡ record { first = first; count = count; members = set.from_list (consecutive first count) }) }
+        ensures { IfOk result (λ s. s
+            ≡ record { first = first; count = count; members = set.from_list (consecutive first count) }) }
     {
         match BitSet::full(alloc, first, count) {
             Ok(free) => Ok(PageSet { free }),

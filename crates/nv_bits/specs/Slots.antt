@@ -1,0 +1,38 @@
+-- What the numbers of a range have, and the slots that stand for it.
+use Rattle.std.specs.Prelude.{◌≡◌, ℕ, ◌<◌, false, true, not, List, Option, None, length, refl, slice_index_or}
+use Rattle.std.specs.Coded.{Coded, code_by, coded×, coded_ℕ}
+use Rattle.std.specs.FinMap as map
+use Rattle.nv_bits.specs.BitSet.{RangeSet}
+use Rattle.nv_bits.specs.Numbers.{IsOf, NumberMap, by_place}
+
+-- what some of the `count` numbers from `first` on have
+pub record RangeMap (A : Type 0) : Type 0 where
+  pub first : ℕ
+  pub count : ℕ
+  pub values : NumberMap A
+
+-- such a map is stored as its fields
+abbrev pub range_map_code : {A : Type 0} → Coded A → Coded (RangeMap A)
+range_map_code {A} a =
+    code_by (ℕ × (ℕ × NumberMap A)) (coded× coded_ℕ (coded× coded_ℕ (map.code coded_ℕ a)))
+    (λ m. (m.first, (m.count, m.values)))
+    (λ p. record { first = p.0; count = p.1.0; values = p.1.1 }) (λ _. refl)
+
+-- slot k is that of number first + k
+abbrev pub values_of : {A : Type 0} → ℕ → ℕ → List (Option A) → NumberMap A
+values_of first count slots = by_place (λ k. slice_index_or slots k None) first count
+
+-- n is the lowest number of the range that has no value
+pub record IsLowestFree {A : Type 0} (m : RangeMap A) (n : ℕ) : Type 0 where
+  pub in_range : IsOf m.first m.count n
+  pub no_value : map.contains_key m.values n ≡ false
+  pub least : (q : ℕ) → IsOf m.first m.count q → q < n → map.contains_key m.values q ≡ true
+
+-- the occupied numbers are those that have a value, and the free ones the others of the range
+pub record AreSlots {A : Type 0} (occupied free : RangeSet) (values : NumberMap A) : Type 0 where
+  pub same_first : free.first ≡ occupied.first
+  pub same_count : free.count ≡ occupied.count
+  pub len_is : map.len occupied.members ≡ map.len values
+  pub occupied_is : (q : ℕ) → map.contains_key occupied.members q ≡ map.contains_key values q
+  pub free_is : (q : ℕ) → IsOf occupied.first occupied.count q
+      → map.contains_key free.members q ≡ not (map.contains_key values q)
