@@ -1,7 +1,7 @@
 //! Lines that are read or refused.
 
 use crate::harness::run_script;
-use nv_script::{Line, Request, RunEnd, read_line};
+use nv_script::{Ask, Line, LineFault, OptionName, Request, RunEnd, read_line};
 use nv_subsystem::DEMO;
 use std::test::Fail;
 
@@ -15,6 +15,8 @@ fn says_what_is_wrong_with_a_line(rt: HostRuntime) -> Result<(), Fail> {
         ("list-ns\n", "line 1: usage error\n"),
         ("id-ns /dev/nvme0\n", "line 1: usage error\n"),
         ("list-ns /dev/nvme0 -n 1 -n 1\n", "line 1: usage error\n"),
+        ("\r\n", "line 1: usage error\n"),
+        ("list-ns /dev/nvme0\r\n", "line 1: no such device\n"),
         ("list-ns /dev/nvme2\n", "line 1: no such device\n"),
         ("list-ns /dev/nvme00\n", "line 1: no such device\n"),
         ("list-ns /dev/nvme0n0\n", "line 1: no such device\n"),
@@ -67,15 +69,126 @@ fn holds_lines_of_4095_bytes(rt: HostRuntime) -> Result<(), Fail> {
     Ok(())
 }
 
+/// What a line says to a subsystem with two controllers, if it asks one of them something.
+fn asks(controller: u16, ask: Ask) -> Result<Line, LineFault> {
+    Ok(Line::Request(Request { controller, ask }))
+}
+
+fn lists(first: u32, all: bool) -> Result<Line, LineFault> {
+    asks(0, Ask::ListNs { first, all })
+}
+
+fn identifies(nsid: u32, force: bool) -> Result<Line, LineFault> {
+    asks(0, Ask::IdNs { nsid, force })
+}
+
 #[test]
 fn reads_what_a_line_asks(rt: HostRuntime) {
-    let line = "nvme list-ns /dev/nvme1n2 -a --namespace-id=0x3";
-    let said = read_line(rt.alloc(), line.as_bytes(), 2);
-    let want = Request::ListNs {
-        controller: 1,
-        first: 3,
-        all: true,
-    };
-    assert!(rt; said == Ok(Line::Asked(want)));
-    assert!(rt; read_line(rt.alloc(), " # c".as_bytes(), 2) == Ok(Line::Skipped));
+    for (line, want) in [
+        (" # c", Ok(Line::Skipped)),
+        (" \t", Ok(Line::Skipped)),
+        (
+            "nvme list-ns /dev/nvme1n2 -a --namespace-id=0x3",
+            asks(
+                1,
+                Ask::ListNs {
+                    first: 3,
+                    all: true,
+                },
+            ),
+        ),
+        ("list-ns /dev/nvme0", lists(1, false)),
+        ("list-ns /dev/nvme0n3", lists(1, false)),
+        ("list-ns -an3 /dev/nvme0", lists(3, true)),
+        ("list-ns /dev/nvme0 -n3", lists(3, false)),
+        ("list-ns /dev/nvme0 -n=3 --all", lists(3, true)),
+        ("list-ns -- /dev/nvme0", lists(1, false)),
+        ("list-ns /dev/nvme0 --", lists(1, false)),
+        ("list-ns /dev/nvme0 -n 010", lists(8, false)),
+        ("list-ns /dev/nvme0 -n 0010", lists(8, false)),
+        (
+            "list-ns /dev/nvme0 -n 0xfFfFfFfF",
+            lists(4_294_967_295, false),
+        ),
+        ("id-ns /dev/nvme0n3", identifies(3, false)),
+        (
+            "id-ns /dev/nvme0n4294967295",
+            identifies(4_294_967_295, false),
+        ),
+        ("id-ns /dev/nvme0n3 -n 2 -f", identifies(2, true)),
+        ("id-ns --force /dev/nvme0 -n 0", identifies(0, true)),
+        ("id-ns /dev/nvme0 -n 00", identifies(0, false)),
+        (
+            "id-ns /dev/nvme0 -n 4294967295",
+            identifies(4_294_967_295, false),
+        ),
+    ] {
+        assert!(rt; read_line(rt.alloc(), line.as_bytes(), 2) == want);
+    }
+}
+
+#[test]
+fn refuses_words_that_no_command_takes(rt: HostRuntime) {
+    for line in [
+        "nvme nvme list-ns /dev/nvme0",
+        "list-ns --",
+        "list-ns -V",
+        "list-ns /dev/nvme0 -V",
+        "list-ns /dev/nvme0 /dev/nvme0",
+        "list-ns /dev/nvme0 -f",
+        "id-ns /dev/nvme0n1 -a",
+        "list-ns /dev/nvme0 -n",
+        "list-ns /dev/nvme0 -n -1",
+        "list-ns /dev/nvme0 -a -a",
+        "list-ns /dev/nvme0 -aa",
+        "list-ns /dev/nvme0 -a=1",
+        "list-ns /dev/nvme0 --all=",
+        "list-ns /dev/nvme9 -n 1 -n 1",
+    ] {
+        let said = read_line(rt.alloc(), line.as_bytes(), 2);
+        assert!(rt; said == Err(LineFault::Usage));
+    }
+}
+
+#[test]
+fn refuses_devices_before_numbers(rt: HostRuntime) {
+    for line in [
+        "list-ns -",
+        "list-ns nvme0",
+        "list-ns /dev/nvme",
+        "list-ns /dev/nvme0n",
+        "list-ns /dev/nvme0n01",
+        "list-ns /dev/nvme0n4294967296",
+        "list-ns /dev/nvme0n1p1",
+        "list-ns /dev/nvme0x1",
+        "list-ns /dev/nvme+0",
+        "id-ns /dev/nvme9",
+        "id-ns /dev/nvme9 -n x",
+    ] {
+        let said = read_line(rt.alloc(), line.as_bytes(), 2);
+        assert!(rt; said == Err(LineFault::Device));
+    }
+}
+
+#[test]
+fn refuses_numbers_outside_their_range(rt: HostRuntime) {
+    for line in [
+        "list-ns /dev/nvme0 -n 0",
+        "list-ns /dev/nvme0 -n 00",
+        "list-ns /dev/nvme0 -n 4294967296",
+        "id-ns /dev/nvme0 -n 4294967296",
+        "id-ns /dev/nvme0 -n 0x10000000000000000",
+        "id-ns /dev/nvme0n1 -n=",
+        "id-ns /dev/nvme0n1 --namespace-id=",
+        "id-ns /dev/nvme0 -n=-1",
+        "id-ns /dev/nvme0 -n-1",
+        "id-ns /dev/nvme0 --namespace-id=-1",
+        "id-ns /dev/nvme0 -n +1",
+        "id-ns /dev/nvme0 -n -",
+        "id-ns /dev/nvme0 -n 0x",
+        "id-ns /dev/nvme0 -n 1k",
+    ] {
+        let said = read_line(rt.alloc(), line.as_bytes(), 2);
+        assert!(rt; said == Err(LineFault::Number(OptionName::NamespaceId)));
+    }
 }

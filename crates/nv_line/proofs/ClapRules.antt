@@ -1,30 +1,25 @@
 -- What clap's contract says of each command.
 use Rattle.std.proofs.Common.{◌≡◌, ◌⊎◌, ◌∙◌, ap, refl, sym, inl, inr, rules, true, false, List, [], ◌∷◌, Ok, Err}
-use Rattle.clap.proofs.OnLiterals.{clap_on_literals}
-use Rattle.std.proofs.Common.{codes}
+use Rattle.clap.proofs.WalkLemmas.{both}
 use Rattle.clap.specs.Walk.{is_empty}
 use Rattle.clap.specs.Words.{App, IsAmong, Kinds, Row, Text, fault_of, is_simple, is_simple_and_free, matches_of}
 use Rattle.clap.specs.declared.error.kind.ErrorKind.{ErrorKind}
 use Rattle.clap.specs.declared.error.kind.ErrorKind.TheVariants as kind
 use Rattle.nv_line.specs.LineFault.{IsUnlessMemory}
-use Rattle.nv_line.specs.OptionTable.{app_for, found_in, is_taken, rows_of_words}
+use Rattle.nv_line.specs.ClapRule.{app_for, clap_rows, is_taken, rows_of_words}
 use Rattle.nv_line.specs.declared.fault.LineFault.TheVariants as fault
-use Rattle.nv_line.specs.declared.option.Verb.{Verb}
-use Rattle.nv_line.specs.declared.option.Verb.TheVariants.{ListNs, IdNs}
+use Rattle.nv_line.specs.declared.verb.Verb.{Verb}
+use Rattle.nv_line.specs.declared.verb.Verb.TheVariants.{ListNs, IdNs}
 
-pub each_is_simple : (v : Verb) → is_simple_and_free (app_for v) ≡ true
+each_is_simple : (v : Verb) → is_simple_and_free (app_for v) ≡ true
 each_is_simple ListNs = refl
 each_is_simple IdNs = refl
-
-each_has_matches : (v : Verb) → is_simple (app_for v) ≡ true
-each_has_matches ListNs = refl
-each_has_matches IdNs = refl
 
 pub simple_as : (v : Verb) (a : App) → a ≡ app_for v → is_simple_and_free a ≡ true
 simple_as v a e = ap is_simple_and_free e ∙ each_is_simple v
 
 pub matches_as : (v : Verb) (a : App) → a ≡ app_for v → is_simple a ≡ true
-matches_as v a e = ap is_simple e ∙ each_has_matches v
+matches_as v a e = (both _ _ (simple_as v a e)).0
 
 none_taken : (ks : Kinds) → ks ≡ [] → is_empty ks ≡ true
 none_taken ks e = ap (λ (x : Kinds). is_empty x) e
@@ -33,17 +28,17 @@ among_taken : (k : ErrorKind) (ks : Kinds) → IsAmong k ks → is_empty ks ≡ 
 among_taken k [] h = absurd h
 among_taken k (x ∷ xs) h = search rules
 
-taken_rows : (v : Verb) (ws : List Text) → is_taken v ws ≡ true → rows_of_words v ws ≡ Ok (found_in v ws)
+taken_rows : (v : Verb) (ws : List Text) → is_taken v ws ≡ true → rows_of_words v ws ≡ Ok (clap_rows v ws)
 taken_rows v ws h = rw h refl
 
 refused_rows : (v : Verb) (ws : List Text) → is_taken v ws ≡ false → rows_of_words v ws ≡ Err fault.Usage
 refused_rows v ws h = rw h refl
 
 pub taken : (v : Verb) (ws : List Text) (a : App) (rows : List Row) → a ≡ app_for v → fault_of a ws ≡ [] → rows ≡ matches_of a ws → IsUnlessMemory (rows_of_words v ws) (Ok rows)
-unfolding is_taken found_in
+unfolding is_taken clap_rows
 taken v ws a rows e f r =
     let test : is_taken v ws ≡ true = none_taken _ (ap (λ (x : App). fault_of x ws) (sym e) ∙ f) in
-    let found : rows ≡ found_in v ws = r ∙ ap (λ (x : App). matches_of x ws) e in
+    let found : rows ≡ clap_rows v ws = r ∙ ap (λ (x : App). matches_of x ws) e in
     inr (ap Ok found ∙ sym (taken_rows v ws test))
 
 pub refused : (v : Verb) (ws : List Text) (a : App) (k : ErrorKind) → a ≡ app_for v → (k ≡ kind.OutOfMemory) ⊎ IsAmong k (fault_of a ws) → (k ≡ kind.OutOfMemory → ⊥) → IsUnlessMemory {T = List Row} (rows_of_words v ws) (Err fault.Usage)
@@ -52,18 +47,3 @@ refused v ws a k e (inl m) n = absurd (n m)
 refused v ws a k e (inr among) n =
     let test : is_taken v ws ≡ false = ap (λ (x : App). is_empty (fault_of x ws)) (sym e) ∙ among_taken k _ among in
     inr (sym (refused_rows v ws test))
-
-use_words : (List Text) → List Text
-use_words ws = ws
-
-refuses_help : is_taken ListNs (codes "list-ns" ∷ codes "--help" ∷ []) ≡ false
-unfolding is_taken clap_on_literals
-refuses_help = refl
-
-takes_joined : is_taken ListNs (codes "list-ns" ∷ codes "-an3" ∷ codes "x" ∷ []) ≡ true
-unfolding is_taken clap_on_literals
-takes_joined = refl
-
-refuses_twice : is_taken ListNs (codes "list-ns" ∷ codes "-n" ∷ codes "1" ∷ codes "-n" ∷ codes "1" ∷ codes "x" ∷ []) ≡ false
-unfolding is_taken clap_on_literals
-refuses_twice = refl

@@ -1,5 +1,5 @@
 -- The digits of a number.
-use Rattle.std.proofs.Common.{◌≡◌, ◌≢◌, ◌∙◌, ◌&&◌, ◌^◌, ◌<◌, ◌≤◌, ℕ, ap, refl, sym, inl, inr, arith, rules, not, nat_lt, get_or, Bool, true, false, if◌then◌else◌, List, [], ◌∷◌, Result, Ok, Err, Option, Some, None, option_and_then}
+use Rattle.std.proofs.Common.{◌≡◌, ◌≢◌, ◌∙◌, ◌&&◌, ◌^◌, ◌<◌, ◌≤◌, ℕ, ap, refl, sym, inl, inr, arith, rules, not, nat_lt, get_or, Bool, true, false, if◌then◌else◌, List, [], ◌∷◌, Result, Ok, Err, Some, None, option_and_then}
 use Rattle.std.specs.List.{list_all}
 use Rattle.std.specs.Char.{digit_value}
 use Rattle.std.specs.Result.{result_ok}
@@ -65,7 +65,3 @@ unfolding digits_of
 plus_is_none base [] h e = refl
 plus_is_none base (d ∷ ds) h e = no_numeral (is_numeral base (d ∷ ds)) (digits_value base (d ∷ ds)) (λ b.
     let low = (numeral_out base (d ∷ ds) b).1.0 in let at : digit_value 43 < base = rw e at low in absurd (omega arith))
-
-pub narrowed : (least most : ℕ) (x : Option ℕ) → most ≤ most_of_64 → option_and_then (within least most) (option_and_then (within 0 most_of_64) x) ≡ option_and_then (within least most) x
-narrowed least most None h = refl
-narrowed least most (Some n) h = grind arith

@@ -5,15 +5,16 @@ use Rattle.std.specs.Str.{bytes_eq}
 use Rattle.clap.specs.Words.{Text}
 use Rattle.nv_line.specs.Number.{plain_number, within}
 use Rattle.nv_line.specs.declared.device.Device.{Device}
+use Rattle.nv_line.specs.declared.device.TheConstants.{NSID_LIMIT}
 
 -- X, the place of a controller in the subsystem's file
-abbrev pub controller_of : ℕ → Text → Option ℕ
-controller_of controllers text =
+abbrev pub controller_index : ℕ → Text → Option ℕ
+controller_index controllers text =
     option_and_then (λ x. if nat_lt x controllers then Some x else None) (plain_number text)
 
 -- Y, an NSID
 abbrev pub nsid_of : Text → Option ℕ
-nsid_of text = option_and_then (within 1 4294967295) (plain_number text)
+nsid_of text = option_and_then (within 1 NSID_LIMIT) (plain_number text)
 
 -- the letter n
 abbrev pub is_n : ℕ → Bool
@@ -23,9 +24,10 @@ is_n b = b == 110
 abbrev pub address_of : ℕ → Text → Option Device
 address_of controllers text =
     if nat_lt (position_or_len is_n text) (length text)
-    then option_and_then (λ x. option_map (λ y. record { controller = x; nsid = Some y }) (nsid_of (after_first is_n text)))
-    (controller_of controllers (before_first is_n text))
-    else option_map (λ x. record { controller = x; nsid = None }) (controller_of controllers text)
+    then option_and_then
+    (λ x. option_map (λ y. record { controller = x; nsid = Some y }) (nsid_of (after_first is_n text)))
+    (controller_index controllers (before_first is_n text))
+    else option_map (λ x. record { controller = x; nsid = None }) (controller_index controllers text)
 
 -- what follows a prefix
 unfoldable pub strip : Text → Text → Option Text

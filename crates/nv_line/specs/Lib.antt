@@ -3,6 +3,10 @@ pub mod Number
 pub mod Device
 pub mod OptionName
 pub mod LineFault
-pub mod OptionTable
+pub mod NumberOption
+pub mod Verb
+pub mod ClapRule
+pub mod OptionValue
+pub mod Identify
 pub mod Request
 pub mod Line

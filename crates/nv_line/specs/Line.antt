@@ -2,22 +2,25 @@
 use Rattle.std.specs.Prelude.{ℕ, ◌<◌, not, nat_lt, length, if◌then◌else◌, Result, Ok, Err}
 use Rattle.std.specs.Str.{is_utf8}
 use Rattle.clap.specs.Words.{Text}
-use Rattle.nv_line.specs.LineFault.{and_then}
-use Rattle.nv_line.specs.Request.{command_line_of, controller_of}
+use Rattle.nv_line.specs.LineFault.{◌>>=◌}
+use Rattle.nv_line.specs.Request.{request_of}
 use Rattle.nv_line.specs.Word.{is_skipped, without_nvme, words_of}
 use Rattle.nv_line.specs.declared.fault.LineFault.{LineFault}
 use Rattle.nv_line.specs.declared.fault.LineFault.TheVariants.{NotText, TooLong}
 use Rattle.nv_line.specs.declared.line.Line.{Line}
-use Rattle.nv_line.specs.declared.line.Line.TheVariants.{Skipped, Asked}
+use Rattle.nv_line.specs.declared.line.Line.TheVariants as line
+use Rattle.nv_line.specs.declared.line.TheConstants.{LINE_LIMIT}
 
 abbrev pub reading : Text → ℕ → Result Line LineFault
-reading line controllers =
-    if nat_lt 4095 (length line) then Err TooLong
-    else (if is_skipped line then Ok Skipped
-    else (if not (is_utf8 line) then Err NotText
-    else and_then (command_line_of controllers (without_nvme (words_of line))) (λ r. Ok (Asked r))))
+reading text controllers =
+    if nat_lt LINE_LIMIT (length text) then Err TooLong
+    else (if is_skipped text then Ok line.Skipped
+    else (if not (is_utf8 text) then Err NotText
+    else (do
+      request ← request_of controllers (without_nvme (words_of text))
+      Ok (line.Request request))))
 
 -- a request is for one of the subsystem's controllers
 abbrev pub IsKnown : ℕ → Line → Type 0
-IsKnown controllers Skipped = Unit {0}
-IsKnown controllers (Asked r) = controller_of r < controllers
+IsKnown controllers line.Skipped = Unit {0}
+IsKnown controllers (line.Request request) = request.controller < controllers

@@ -1,5 +1,5 @@
 -- The faults of a line: their texts, and which of two is answered.
-use Rattle.std.specs.Prelude.{◌≡◌, ◌⊎◌, ◌++◌, ℕ, List, codes, Option, Some, None, Result, Ok, Err}
+use Rattle.std.specs.Prelude.{◌≡◌, ◌⊎◌, ◌++◌, ℕ, List, codes, Result, Ok, Err}
 use Rattle.nv_line.specs.OptionName.{name_of}
 use Rattle.nv_line.specs.declared.fault.LineFault.{LineFault}
 use Rattle.nv_line.specs.declared.fault.LineFault.TheVariants as fault
@@ -16,14 +16,12 @@ fault_text fault.TooLong = codes "line too long"
 abbrev pub IsUnlessMemory : {T : Type 0} → Result T LineFault → Result T LineFault → Type 0
 IsUnlessMemory answer r = (r ≡ Err fault.Memory) ⊎ (r ≡ answer)
 
--- `?`: the first fault is the answer
-abbrev pub and_then : {T U E : Type 0} → Result T E → (T → Result U E) → Result U E
-and_then (Ok x) next = next x
-and_then (Err e) next = Err e
-
-abbrev pub or_fault : {T E : Type 0} → E → Option T → Result T E
-or_fault e None = Err e
-or_fault e (Some x) = Ok x
+-- reading goes on with what was read, or ends at the first fault
+infixl 10 ◌>>=◌
+abbrev pub ◌>>=◌ : {A B : Type 0}
+    → Result A LineFault → (A → Result B LineFault) → Result B LineFault
+(Ok x) >>= f = f x
+(Err e) >>= f = Err e
 
 abbrev pub ok_map : {T U E : Type 0} → (T → U) → Result T E → Result U E
 ok_map f (Ok x) = Ok (f x)

@@ -1,9 +1,12 @@
 //! The paths of devices.
 
 ghost use Rattle.std.specs.Prelude.{◌≡◌, ◌<◌, IfSome};
-ghost use Rattle.nv_line.specs.Device.{address_of, controller_of, device_of};
+ghost use Rattle.nv_line.specs.Device.{address_of, controller_index, device_of};
 
 use crate::number::plain;
+
+/// The greatest NSID.
+pub const NSID_LIMIT: u64 = 0xffff_ffff;
 
 /// A device: a controller by its place in the subsystem's file, counted from 0, and a namespace.
 #[derive(Clone, Copy, Debug, PartialEq, Eq)]
@@ -13,11 +16,11 @@ pub struct Device {
 }
 
 /// The controller X, which is one of the subsystem's.
-fn controller(text: &str, controllers: u16) -> Option<u16>
-    ensures value { result ≡ controller_of controllers text.now }
+fn controller_index(text: &str, controllers: u16) -> Option<u16>
+    ensures value { result ≡ controller_index controllers text.now }
     ensures known { IfSome result (λ x. x < controllers) }
 {
-    let value = plain(text, 0, 65535)? as u16;
+    let value = plain(text, 0, u16::MAX as u64)? as u16;
     if value < controllers {
         Some(value)
     } else {
@@ -32,15 +35,15 @@ fn address(text: &str, controllers: u16) -> Option<Device>
 {
     match text.split_once('n') {
         None => {
-            let controller = controller(text, controllers)?;
+            let controller = controller_index(text, controllers)?;
             Some(Device {
                 controller,
                 nsid: None,
             })
         }
         Some((x, y)) => {
-            let controller = controller(x, controllers)?;
-            let nsid = plain(y, 1, 0xffff_ffff)? as u32;
+            let controller = controller_index(x, controllers)?;
+            let nsid = plain(y, 1, NSID_LIMIT)? as u32;
             Some(Device {
                 controller,
                 nsid: Some(nsid),

@@ -5,11 +5,11 @@ ghost use Rattle.nv_line.specs.declared.fault.LineFault.TheVariants.{Memory};
 
 use crate::option::OptionName;
 use std::alloc::AllocError;
-use std::error::Error;
 use std::fmt;
+use thiserror::Error;
 
 /// What is wrong with a line.
-#[derive(Clone, Copy, Debug, PartialEq, Eq)]
+#[derive(Clone, Copy, Debug, PartialEq, Eq, Error)]
 pub enum LineFault {
     /// It isn't UTF-8.
     NotText,
@@ -24,8 +24,6 @@ pub enum LineFault {
     /// It has more than 4,095 bytes.
     TooLong,
 }
-
-impl Error for LineFault {}
 
 impl fmt::Display for LineFault {
     ghost use Rattle.std.specs.Prelude.{Some};

@@ -1,15 +1,25 @@
 //! What one line of a script says: nothing, a request, or what is wrong with it.
+//!
+//! The command words and their options are one table, in `verb`. What `clap` is told of a command, and how
+//! its options are read, follow from its rows.
+//!
+//! `read_line(alloc, b"list-ns /dev/nvme0 -n 2", 1)` is `Ok(Line::Request(Request { controller: 0, ask }))`
+//! where `ask` is `Ask::ListNs { first: 2, all: false }`; with no controller it is `Err(LineFault::Device)`.
 #![tactic(auto)]
 
+mod clap_rule;
 mod device;
 mod fault;
+mod identify;
 mod line;
 mod number;
 mod option;
+mod option_value;
 mod request;
+mod verb;
 mod word;
 
 pub use fault::LineFault;
-pub use line::{Line, read_line};
+pub use line::{LINE_LIMIT, Line, read_line};
 pub use option::OptionName;
-pub use request::Request;
+pub use request::{Ask, Request};

@@ -1,13 +1,16 @@
 //! What a line says.
 
 ghost use Rattle.std.specs.Prelude.{IfOk};
-ghost use Rattle.nv_line.specs.LineFault.{IsUnlessMemory};
 ghost use Rattle.nv_line.specs.Line.{IsKnown, reading};
+ghost use Rattle.nv_line.specs.LineFault.{IsUnlessMemory};
 
 use crate::fault::LineFault;
-use crate::request::{Request, read_words};
+use crate::request::{Request, read_request};
 use crate::word::{is_skipped_line, split_words, without_program};
 use std::alloc::Global;
+
+/// The most bytes of a line, without its newline.
+pub const LINE_LIMIT: usize = 4095;
 
 /// What a line says: nothing, or a request.
 #[derive(Clone, Copy, Debug, PartialEq, Eq)]
@@ -15,16 +18,16 @@ pub enum Line {
     /// It is blank, or a comment.
     Skipped,
     /// It asks for something.
-    Asked(Request),
+    Request(Request),
 }
 
-/// Reads a line of a script for a subsystem with this many controllers. A fault is the first of: too
-/// long, not text, usage, device, a missing NSID, a bad number.
+/// Reads a line of a script for a subsystem with this many controllers. A fault is the first of: too long,
+/// not text, usage, device, and then, option by option, a missing NSID or a bad number.
 pub fn read_line(alloc: Global, line: &[u8], controllers: u16) -> Result<Line, LineFault>
     ensures exact { IsUnlessMemory (reading line.now controllers) result }
     ensures known { IfOk result (IsKnown controllers) }
 {
-    if line.len() > 4095 {
+    if line.len() > LINE_LIMIT {
         return Err(LineFault::TooLong);
     }
     if is_skipped_line(line) {
@@ -34,8 +37,6 @@ pub fn read_line(alloc: Global, line: &[u8], controllers: u16) -> Result<Line, L
         return Err(LineFault::NotText);
     };
     let words = split_words(alloc, text)?;
-    match read_words(alloc, without_program(words.as_slice()), controllers) {
-        Ok(request) => Ok(Line::Asked(request)),
-        Err(fault) => Err(fault),
-    }
+    let request = read_request(alloc, without_program(words.as_slice()), controllers)?;
+    Ok(Line::Request(request))
 }

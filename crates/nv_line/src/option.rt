@@ -1,18 +1,13 @@
-//! The command words, and their options as tables for `clap`.
+//! The options of the commands: how they are named and written, and what they take.
 
-ghost use Rattle.std.specs.Prelude.{◌≡◌, IfOk, map, option_map, false};
-ghost use Rattle.clap.specs.Words.{app_of, first_of, found_of, rows_of, rule_of};
-ghost use Rattle.nv_line.specs.LineFault.{IsUnlessMemory, ok_map};
+ghost use Rattle.std.specs.Prelude.{◌≡◌, ◌≤◌, IfSome};
+ghost use Rattle.nv_line.specs.NumberOption.{IsSound, fallback_of, is_required};
 ghost use Rattle.nv_line.specs.OptionName.{name_of};
-ghost use Rattle.nv_line.specs.OptionTable.{app_for, flag, option_rule, options_of, rows_of_words, verb_of, word_of};
 
-use crate::fault::LineFault;
-use clap::error::ErrorKind;
-use clap::{Arg, ArgAction, ArgMatches, Command};
-use std::alloc::{AllocError, Global};
+use crate::device::Device;
 use std::fmt;
 
-/// An option of a command word, by its long name.
+/// An option of a command, by its long name.
 #[derive(Clone, Copy, Debug, PartialEq, Eq)]
 pub enum OptionName {
     NamespaceId,
@@ -44,149 +39,50 @@ impl fmt::Display for OptionName {
     }
 }
 
-/// How an option is written.
+/// An option that is written or not, and takes no value.
 #[derive(Clone, Copy)]
-struct OptionRow {
-    name: OptionName,
-    letter: char,
-    is_flag: bool,
-    is_required: bool,
+pub struct FlagOption {
+    pub name: OptionName,
+    pub letter: char,
 }
 
-static LIST_NS: [OptionRow; 2] = [
-    OptionRow {
-        name: OptionName::NamespaceId,
-        letter: 'n',
-        is_flag: false,
-        is_required: false,
-    },
-    OptionRow {
-        name: OptionName::All,
-        letter: 'a',
-        is_flag: true,
-        is_required: false,
-    },
-];
-
-static ID_NS: [OptionRow; 2] = [
-    OptionRow {
-        name: OptionName::NamespaceId,
-        letter: 'n',
-        is_flag: false,
-        is_required: false,
-    },
-    OptionRow {
-        name: OptionName::Force,
-        letter: 'f',
-        is_flag: true,
-        is_required: false,
-    },
-];
-
-/// A command word.
-#[derive(Clone, Copy, PartialEq, Eq)]
-pub enum Verb {
-    ListNs,
-    IdNs,
+/// An option that takes a number from `least` to `most`.
+#[derive(Clone, Copy)]
+pub struct NumberOption {
+    pub name: OptionName,
+    pub letter: char,
+    pub least: u64,
+    pub most: u64,
+    /// Whether the NSID of the device path stands in where the option isn't written.
+    pub takes_path: bool,
+    /// What stands in where nothing else does.
+    pub default: Option<u64>,
 }
 
-impl Verb {
-    /// As a script writes it.
-    fn word<'a>(self) -> &'a str
-        ensures { result.now ≡ word_of self }
+impl NumberOption {
+    /// Whether nothing can stand in, so that `clap` tells where the option is missing.
+    pub fn is_required(&self) -> bool
+        ensures { result ≡ is_required self.now }
     {
-        match self {
-            Verb::ListNs => "list-ns",
-            Verb::IdNs => "id-ns",
-        }
+        !self.takes_path && self.default.is_none()
     }
 
-    /// Its options in order.
-    fn options(self) -> &'static [OptionRow]
-        ensures { result.now ≡ options_of self }
+    /// The number where the option isn't written.
+    pub fn fallback(&self, device: Device) -> Option<u64>
+        requires { IsSound self.now }
+        ensures value { result ≡ fallback_of self.now device }
+        ensures in_range { IfSome result (λ n. (self.now.least ≤ n) × (n ≤ self.now.most)) }
     {
-        match self {
-            Verb::ListNs => LIST_NS.as_slice(),
-            Verb::IdNs => ID_NS.as_slice(),
-        }
-    }
-
-    /// The command word that a word is.
-    pub fn of(word: &str) -> Option<Verb>
-        ensures { result ≡ verb_of word.now }
-    {
-        if word == Verb::ListNs.word() {
-            Some(Verb::ListNs)
-        } else if word == Verb::IdNs.word() {
-            Some(Verb::IdNs)
-        } else {
-            None
+        match device.nsid {
+            Some(nsid) if self.takes_path => Some(u64::from(nsid)),
+            _ => self.default,
         }
     }
 }
 
-/// The argument of an option: a flag takes no value, any other option takes one.
-fn option_arg<'a>(alloc: Global, option: OptionRow) -> Arg<'a>
-    ensures rule { rule_of result ≡ option_rule option }
-    ensures own { result.global ≡ false }
-{
-    let action = if option.is_flag {
-        ArgAction::SetTrue
-    } else {
-        ArgAction::Set
-    };
-    let name = option.name.text();
-    Arg::new(alloc, name)
-        .long(name)
-        .short(option.letter)
-        .action(action)
-        .required(option.is_required)
-}
-
-/// The `clap` command of a command word: a device, and its options.
-fn clap_command<'a>(alloc: Global, verb: Verb) -> Result<Command<'a>, AllocError>
-    ensures { IfOk result (λ c. app_of c ≡ app_for verb) }
-{
-    let device = Arg::new(alloc, "device").required(true);
-    let mut command = Command::new(alloc, verb.word()).arg(device)?;
-    let options = verb.options();
-    for option in options {
-        command = command.arg(option_arg(alloc, *option))?;
-    }
-    Ok(command)
-}
-
-/// What `clap` finds in the words, of which the first is the command word.
-pub fn clap_matches<'a>(
-    alloc: Global,
-    verb: Verb,
-    words: &'a [&'a str],
-) -> Result<ArgMatches<'a>, LineFault>
-    ensures { IsUnlessMemory (rows_of_words verb (map (λ w. w.now) words.entry.now)) (ok_map (λ m. rows_of (found_of m)) result) }
-{
-    let command = clap_command(alloc, verb)?;
-    match command.try_get_matches_from(words) {
-        Ok(matches) => Ok(matches),
-        Err(error) => match error.kind() {
-            ErrorKind::OutOfMemory => Err(LineFault::Memory),
-            _ => Err(LineFault::Usage),
-        },
-    }
-}
-
-/// The text that an option was given.
-pub fn option_text<'a>(matches: &ArgMatches<'a>, id: &str) -> Option<&'a str>
-    ensures { option_map (λ s. s.now) result ≡ first_of id.now (rows_of (found_of matches.now)) }
-{
-    matches.get_str(id)
-}
-
-/// Whether a flag was written.
-pub fn is_set(matches: &ArgMatches<'_>, name: OptionName) -> bool
-    ensures { result ≡ flag name (rows_of (found_of matches.now)) }
-{
-    match option_text(matches, name.text()) {
-        Some(text) => text == "true",
-        None => false,
-    }
+/// An option of a command.
+#[derive(Clone, Copy)]
+pub enum CommandOption {
+    Flag(FlagOption),
+    Number(NumberOption),
 }

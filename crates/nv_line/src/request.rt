@@ -1,50 +1,34 @@
 //! What a command line asks for.
 
-ghost use Rattle.std.specs.Prelude.{◌≡◌, ◌<◌, ◌≤◌, IfOk, IfSome, map};
+ghost use Rattle.std.specs.Prelude.{◌≡◌, ◌<◌, IfOk, map};
 ghost use Rattle.clap.specs.Words.{found_of, rows_of};
 ghost use Rattle.nv_line.specs.LineFault.{IsUnlessMemory};
-ghost use Rattle.nv_line.specs.Request.{command_line_of, controller_of, device_in, number_or, request_of};
+ghost use Rattle.nv_line.specs.Request.{ask_of, device_in, request_of};
 
+use crate::clap_rule::{clap_matches, text_of};
 use crate::device::{Device, read_device};
 use crate::fault::LineFault;
-use crate::number::number;
-use crate::option::{OptionName, Verb, clap_matches, is_set, option_text};
+use crate::identify::{id_ns, list_ns};
+use crate::verb::Verb;
 use clap::ArgMatches;
 use std::alloc::Global;
 
-/// What a line asks for, of the controller at a place of the subsystem's file.
+/// What a controller is asked.
 #[derive(Clone, Copy, Debug, PartialEq, Eq)]
-pub enum Request {
-    /// The NSIDs from `first` on, those attached to the controller or all allocated ones.
-    ListNs {
-        controller: u16,
-        first: u32,
-        all: bool,
-    },
-    /// What a namespace is, also where it is only allocated.
-    IdNs {
-        controller: u16,
-        nsid: u32,
-        force: bool,
-    },
+pub enum Ask {
+    /// The NSIDs from `first` on, those attached to the controller or all allocated ones ("Identify
+    /// command").
+    ListNs { first: u32, all: bool },
+    /// What a namespace is, also where it is only allocated ("Identify command").
+    IdNs { nsid: u32, force: bool },
 }
 
-/// The number of an option, or the default where it isn't written.
-fn number_option(
-    matches: &ArgMatches<'_>,
-    name: OptionName,
-    least: u64,
-    most: u64,
-    default: Option<u64>,
-) -> Result<u64, LineFault>
-    requires { IfSome default (λ d. (least ≤ d) × (d ≤ most)) }
-    ensures fits { IfOk result (λ n. (least ≤ n) × (n ≤ most)) }
-    ensures value { result ≡ number_or name least most default (rows_of (found_of matches.now)) }
-{
-    match option_text(matches, name.text()) {
-        Some(text) => number(text, least, most).ok_or(LineFault::Number(name)),
-        None => default.ok_or(LineFault::Usage),
-    }
+/// What a line asks for.
+#[derive(Clone, Copy, Debug, PartialEq, Eq)]
+pub struct Request {
+    /// The place of the controller in the subsystem's file, counted from 0.
+    pub controller: u16,
+    pub ask: Ask,
 }
 
 /// The device that was named.
@@ -52,62 +36,28 @@ fn chosen_device(matches: &ArgMatches<'_>, controllers: u16) -> Result<Device, L
     ensures value { result ≡ device_in controllers (rows_of (found_of matches.now)) }
     ensures known { IfOk result (λ d. d.controller < controllers) }
 {
-    let text = option_text(matches, "device").unwrap_or("");
+    let text = text_of(matches, "device").unwrap_or("");
     read_device(text, controllers).ok_or(LineFault::Device)
 }
 
-/// The request of a command word at a device.
-fn read_request(matches: &ArgMatches<'_>, verb: Verb, device: Device) -> Result<Request, LineFault>
-    ensures value { result ≡ request_of verb device (rows_of (found_of matches.now)) }
-    ensures own { IfOk result (λ r. controller_of r ≡ device.controller) }
+/// What a command word asks for at a device.
+fn read_ask(matches: &ArgMatches<'_>, verb: Verb, device: Device) -> Result<Ask, LineFault>
+    ensures { result ≡ ask_of verb (rows_of (found_of matches.now)) device }
 {
-    let controller = device.controller;
     match verb {
-        Verb::ListNs => {
-            let first = number_option(
-                matches,
-                OptionName::NamespaceId,
-                1,
-                0xffff_ffff,
-                Some(1),
-            )? as u32;
-            let all = is_set(matches, OptionName::All);
-            Ok(Request::ListNs {
-                controller,
-                first,
-                all,
-            })
-        }
-        Verb::IdNs => {
-            let from_path = match device.nsid {
-                Some(nsid) => Some(nsid as u64),
-                None => None,
-            };
-            let nsid = number_option(
-                matches,
-                OptionName::NamespaceId,
-                0,
-                0xffff_ffff,
-                from_path,
-            )? as u32;
-            let force = is_set(matches, OptionName::Force);
-            Ok(Request::IdNs {
-                controller,
-                nsid,
-                force,
-            })
-        }
+        Verb::ListNs => list_ns(matches, device),
+        Verb::IdNs => id_ns(matches, device),
     }
 }
 
 /// What the words of a command line ask for.
-pub fn read_words<'a>(
+pub fn read_request<'a>(
     alloc: Global,
     words: &'a [&'a str],
     controllers: u16,
 ) -> Result<Request, LineFault>
-    ensures value { IsUnlessMemory (command_line_of controllers (map (λ w. w.now) words.now)) result }
-    ensures known { IfOk result (λ r. controller_of r < controllers) }
+    ensures value { IsUnlessMemory (request_of controllers (map (λ w. w.now) words.now)) result }
+    ensures known { IfOk result (λ r. r.controller < controllers) }
 {
     if words.is_empty() {
         return Err(LineFault::Usage);
@@ -115,5 +65,9 @@ pub fn read_words<'a>(
     let verb = Verb::of(words[0]).ok_or(LineFault::Usage)?;
     let matches = clap_matches(alloc, verb, words)?;
     let device = chosen_device(&matches, controllers)?;
-    read_request(&matches, verb, device)
+    let ask = read_ask(&matches, verb, device)?;
+    Ok(Request {
+        controller: device.controller,
+        ask,
+    })
 }

@@ -1,5 +1,2 @@
-pub mod NumberLaws
-pub mod KeptLaws
-pub mod SlotLaws
+pub mod PlaceLaws
 pub mod RunLaws
-pub mod TagLaws

@@ -1,235 +1,226 @@
 -- Every run over a completion ring is in order.
-use Rattle.std.proofs.Common.{◌≡◌, ◌↔◌, ℕ, ◌+◌, ◌-◌, ◌*◌, ◌<◌, ◌≤◌, inl, inr, Bool, List, [], ◌∷◌, ◌++◌, length, get_or, refl, sym, ap, subst, ◌∙◌, arith, false, append_assoc, length-append}
+use Rattle.std.proofs.Common.{◌≡◌, ◌↔◌, ℕ, ◌+◌, ◌-◌, ◌*◌, ◌<◌, ◌≤◌, inl, inr, Bool, false, true, List, [], ◌∷◌, ◌++◌}
+use Rattle.std.proofs.Common.{length, get_or, refl, sym, ap, subst, ◌∙◌, arith, append_assoc, length-append}
 use Rattle.std.proofs.lemmas.Bool.{cases_lt}
 use Rattle.std.proofs.lemmas.List.{length_push}
 use Rattle.std.proofs.Math.Seq.{get_or-append_seam}
-use Rattle.nv_host.specs.Bytes.{with_bytes}
-use Rattle.nv_host.specs.BytesLaws.{length-with_bytes}
-use Rattle.nv_layout.specs.Cqe.{CqeFits, bytes_of_cqe}
+use Rattle.nv_layout.specs.Cqe.{CqeFits}
 use Rattle.nv_layout.specs.declared.cqe.Cqe.{Cqe}
-use Rattle.nv_layout.proofs.RecordLaws.{length-bytes_of_cqe}
-use Rattle.nv_queue.specs.Numbers.{IsDepth, IsSlotBetween, kept, next, phase_of, reached, slot_of}
-use Rattle.nv_queue.specs.Rings.{CollectNumbers, IsPostFull, PostNumbers}
-use Rattle.nv_queue.specs.Slots.{HoldsPosted, IsAwaitedThere, awaited, completion_at, posted_as, put_as}
-use Rattle.nv_queue.specs.Runs.{EveryRunIsInOrder, Event, Exchange, Happens, IsHeadTaken, IsNew, Poll, Put, Runs, Tell, with_head, with_polled, with_put, with_told}
-use Rattle.nv_queue.proofs.KeptLaws.{above_kept, between_kept, kept_next, kept_zero, phase_kept, reached_kept, slot_kept}
-use Rattle.nv_queue.proofs.SlotLaws.{holds_after, not_posted, posted_tag, slot_within}
+use Rattle.nv_queue.specs.Numbers.{IsDepth, kept_number}
+use Rattle.nv_queue.specs.KeptLaws.{above_kept, between_kept, first_kept, kept_next, kept_zero}
+use Rattle.nv_queue.specs.Rings.{IsPostFull}
+use Rattle.nv_queue.specs.Slots.{HoldsPosted, IsAwaitedThere, awaited_completion, completion_at, put_as, with_completion}
+use Rattle.nv_queue.specs.SlotLaws.{awaited_posted, awaited_stands, holds_one_more, length-with_completion}
+use Rattle.nv_queue.specs.Runs.{EveryRunIsInOrder, Event, Exchange, Happens, IsHeadTaken, IsInOrder, IsNew, Poll, Put, Runs, Tell}
+use Rattle.nv_queue.specs.Runs.{with_head, with_polled, with_put, with_told}
 
--- both sides of the ring at these counts
-abbrev device_at : ℕ → ℕ → ℕ → ℕ → PostNumbers
-device_at base d posted told = record { base = base; depth = d; posted = kept d posted; told = kept d told }
+-- a moment of a run: `rest` was not polled yet, and the device was told of `known`
+record Moment : Type 0 where
+  bytes : List ℕ
+  posted : List Cqe
+  polled : List Cqe
+  rest : List Cqe
+  known : ℕ
+  untold : Bool
 
-abbrev host_at : ℕ → ℕ → ℕ → ℕ → CollectNumbers
-host_at base d polled told = record { base = base; depth = d; collected = kept d polled; told = kept d told }
+abbrev exchange_of : ℕ → ℕ → Moment → Exchange
+exchange_of base d m = record {
+  bytes = m.bytes;
+  device = record {
+    base = base;
+    depth = d;
+    posted = kept_number d (length m.posted);
+    told = kept_number d m.known;
+  };
+  host = record {
+    base = base;
+    depth = d;
+    collected = kept_number d (length m.polled);
+    told = kept_number d m.known;
+    untold = m.untold;
+  };
+  posted = m.posted;
+  polled = m.polled;
+}
 
--- what holds along a run, where `rest` was not polled yet and the device knows that `known` were
-record Keeps (base d : ℕ) (x : Exchange) (known : ℕ) (rest : List Cqe) : Type 0 where
+-- what holds at each
+record Keeps (base d : ℕ) (m : Moment) : Type 0 where
   deep : IsDepth d
-  inside : base + 16 * d ≤ length x.bytes
-  device : x.device ≡ device_at base d (length x.posted) known
-  host : x.host ≡ host_at base d (length x.polled) known
-  holds : HoldsPosted x.bytes base d x.posted
-  prefix : x.polled ++ rest ≡ x.posted
-  told : known ≤ length x.polled
-  few : length x.posted < known + d
+  inside : base + 16 * d ≤ length m.bytes
+  holds : HoldsPosted m.bytes base d m.posted
+  prefix : m.polled ++ m.rest ≡ m.posted
+  told : m.known ≤ length m.polled
+  few : length m.posted < m.known + d
 
-counted : (x : Exchange) (rest : List Cqe) → x.polled ++ rest ≡ x.posted → length x.polled + length rest ≡ length x.posted
-counted x rest e = sym (length-append x.polled rest) ∙ ap length e
+abbrev IsReached : ℕ → ℕ → Exchange → Type 0
+IsReached base d x = (m : Moment) × Keeps base d m × (x ≡ exchange_of base d m)
 
--- ---- put
+counted : (base d : ℕ) (m : Moment) → Keeps base d m → length m.polled + length m.rest ≡ length m.posted
+counted base d m keeps = sym (length-append m.polled m.rest) ∙ ap length keeps.prefix
 
-put_keeps : (base d known : ℕ) (x : Exchange) (rest : List Cqe) (c : Cqe) (at : ℕ) (new : Cqe) (device : PostNumbers) → Keeps base d x known rest → CqeFits c → length x.posted + 1 < known + d
-    → at ≡ base + 16 * slot_of d (length x.posted) → new ≡ posted_as d (length x.posted) c → device ≡ device_at base d (length x.posted + 1) known
-    → Keeps base d (record x { bytes = with_bytes x.bytes at (bytes_of_cqe new); device = device; posted = x.posted ++ new ∷ [] }) known (rest ++ new ∷ [])
-put_keeps base d known x rest c at new device keeps fits room e f g =
-    let n = length x.posted in
+-- ---- each event
+
+after_put : (base d : ℕ) (m : Moment) (c : Cqe) → Keeps base d m → CqeFits c
+    → ¬ IsPostFull (exchange_of base d m).device → IsReached base d (with_put (exchange_of base d m) c)
+after_put base d m c keeps fits free =
+    let x = exchange_of base d m in
+    let n = length m.posted in
     let deep = keeps.deep in
-    let low : slot_of d n < d = slot_within d n (omega arith) in
-    let len = length-bytes_of_cqe new in
-    let same : length (with_bytes x.bytes at (bytes_of_cqe new)) ≡ length x.bytes = length-with_bytes x.bytes at (bytes_of_cqe new) (omega (arith, keeps.inside)) in
-    record {
-      deep = deep;
-      inside = omega (arith, same, keeps.inside);
-      device = g ∙ ap (λ k. device_at base d k known) (sym (length_push x.posted new));
-      host = keeps.host;
-      holds = rw (e, f) (holds_after x.bytes base d n x.posted c (omega arith) keeps.inside fits refl keeps.holds);
-      prefix = sym (append_assoc x.polled rest (new ∷ [])) ∙ ap (λ l. l ++ new ∷ []) keeps.prefix;
-      told = keeps.told;
-      few = omega (arith, length_push x.posted new, room);
-    }
-
-at_slot : (base d n known : ℕ) (v : PostNumbers) → v ≡ device_at base d n known → v.base + 16 * slot_of v.depth v.posted ≡ base + 16 * slot_of d n
-at_slot base d n known v e = ap (λ u. u.base + 16 * slot_of u.depth u.posted) e ∙ ap (λ s. base + 16 * s) (slot_kept d n)
-
-as_put : (base d n known : ℕ) (v : PostNumbers) (c : Cqe) → 0 < d → v ≡ device_at base d n known → put_as v c ≡ posted_as d n c
-as_put base d n known v c p e = ap (λ u. put_as u c) e ∙ (let tag : Bool → Cqe = λ b. record c { phase = b } in ap tag (phase_kept d n p))
-
-one_more : (base d n known : ℕ) (v : PostNumbers) → v ≡ device_at base d n known → record v { posted = next v.depth v.posted } ≡ device_at base d (n + 1) known
-one_more base d n known v e =
-    let step : PostNumbers → PostNumbers = λ u. record u { posted = next u.depth u.posted } in
-    let at : ℕ → PostNumbers = λ k. record { base = base; depth = d; posted = k; told = kept d known } in
-    ap step e ∙ ap at (kept_next d n)
-
-full_at : (base d n known : ℕ) (v : PostNumbers) → 1 < d → v ≡ device_at base d n known → n + 1 ≡ known + d → IsPostFull v
-full_at base d n known v p e full =
-    let P : PostNumbers → Type 0 = IsPostFull in
-    subst P (sym e) (above_kept d n known (d - 1) (omega arith) (omega arith) (omega arith))
-
-after_put : (base d known : ℕ) (x : Exchange) (rest : List Cqe) (c : Cqe) → Keeps base d x known rest → CqeFits c → ¬ IsPostFull x.device
-    → Keeps base d (with_put x c) known (rest ++ put_as x.device c ∷ [])
-after_put base d known x rest c keeps fits free =
-    let n = length x.posted in
-    let deep = keeps.deep in
-    let room : n + 1 < known + d =
-    elim (cases_lt (n + 1) (known + d)) [ inl l ↦ l | inr g ↦ absurd (free (full_at base d n known x.device deep.0 keeps.device (omega (arith, keeps.few)))) ] in
-    put_keeps base d known x rest c _ (put_as x.device c) _ keeps fits room
-    (at_slot base d n known x.device keeps.device) (as_put base d n known x.device c (omega arith) keeps.device) (one_more base d n known x.device keeps.device)
-
--- ---- poll
-
-awaited_is : (base d k known : ℕ) (x : Exchange) → x.host ≡ host_at base d k known → awaited x.bytes x.host ≡ completion_at x.bytes base (slot_of d k)
-awaited_is base d k known x e =
-    ap (λ h. completion_at x.bytes h.base (slot_of h.depth h.collected)) e ∙ ap (completion_at x.bytes base) (slot_kept d k)
-
-due_is : (base d k known : ℕ) (h : CollectNumbers) → 0 < d → h ≡ host_at base d k known → phase_of h.depth h.collected ≡ phase_of d k
-due_is base d k known h p e = ap (λ u. phase_of u.depth u.collected) e ∙ phase_kept d k p
-
--- the awaited completion is there exactly where one is left
-found : (base d known : ℕ) (x : Exchange) (rest : List Cqe) → Keeps base d x known rest → IsAwaitedThere x.bytes x.host ↔ (length x.polled < length x.posted)
-found base d known x rest keeps =
-    let k = length x.polled in let n = length x.posted in
-    let deep = keeps.deep in
-    let count = counted x rest keeps.prefix in
-    let read = ap (λ c. c.phase) (awaited_is base d k known x keeps.host) in
-    let due = due_is base d k known x.host (omega arith) keeps.host in (
-      (λ there. elim (cases_lt k n) [
-        | inl l ↦ l
-        | inr g ↦ absurd (not_posted x.bytes base d x.posted k (omega arith) keeps.holds (omega arith) (sym read ∙ (there ∙ due)))
-      ]),
-      (λ l. read ∙ (posted_tag x.bytes base d x.posted k keeps.holds l (omega (arith, keeps.few, keeps.told)) ∙ sym due)),
+    let new = put_as x.device c in
+    let more = length_push m.posted new in
+    let same = length-with_completion m.bytes x.device c (omega arith) keeps.inside in
+    let room : n + 1 < m.known + d =
+    elim (cases_lt (n + 1) (m.known + d)) [
+      | inl l ↦ l
+      | inr g ↦ absurd (free (above_kept d n m.known (d - 1) (omega arith) (omega (arith, keeps.few)) (omega arith)))
+    ] in
+    let at : ℕ → Exchange = λ k. record (with_put x c) { device = record x.device { posted = k } } in (
+      record m {
+        bytes = with_completion m.bytes x.device c;
+        posted = m.posted ++ new ∷ [];
+        rest = m.rest ++ new ∷ [];
+      },
+      record {
+        deep = deep;
+        inside = omega (arith, same, keeps.inside);
+        holds = holds_one_more m.bytes (with_completion m.bytes x.device c) x.device c deep.0 refl
+            m.posted refl keeps.inside fits keeps.holds;
+        prefix = sym (append_assoc m.polled m.rest (new ∷ [])) ∙ ap (λ l. l ++ new ∷ []) keeps.prefix;
+        told = keeps.told;
+        few = omega (arith, more, room);
+      },
+      ap at (kept_next d n ∙ ap (kept_number d) (sym more)),
     )
 
-more_polled : (base d k known : ℕ) (h : CollectNumbers) → h ≡ host_at base d k known → record h { collected = next h.depth h.collected } ≡ host_at base d (k + 1) known
-more_polled base d k known h e =
-    let step : CollectNumbers → CollectNumbers = λ u. record u { collected = next u.depth u.collected } in
-    let at : ℕ → CollectNumbers = λ j. record { base = base; depth = d; collected = j; told = kept d known } in
-    ap step e ∙ ap at (kept_next d k)
+-- the awaited completion is there exactly where one is left
+found : (base d : ℕ) (m : Moment) → Keeps base d m
+    → IsAwaitedThere m.bytes (exchange_of base d m).host ↔ (length m.polled < length m.posted)
+found base d m keeps =
+    let deep = keeps.deep in
+    let count = counted base d m keeps in
+    awaited_posted m.bytes (exchange_of base d m).host m.posted (length m.polled) deep.0 refl
+    (omega arith) (omega (arith, keeps.few, keeps.told)) keeps.holds
 
-after_poll : (base d known : ℕ) (x : Exchange) (rest : List Cqe) → Keeps base d x known rest → IsAwaitedThere x.bytes x.host → (left : List Cqe) × Keeps base d (with_polled x) known left
-after_poll base d known x [] keeps there =
-    let l = (found base d known x [] keeps).0 there in
-    let count = counted x [] keeps.prefix in
-    absurd (omega arith)
-after_poll base d known x (r ∷ left) keeps there =
-    let k = length x.polled in
-    let l = (found base d known x (r ∷ left) keeps).0 there in
-    let c = awaited x.bytes x.host in
-    let count = counted x (r ∷ left) keeps.prefix in
-    let stands : c ≡ get_or x.posted k r = awaited_is base d k known x keeps.host ∙ keeps.holds.standing k r l (omega (arith, keeps.few, keeps.told)) in
-    let is : c ≡ r = stands ∙ (ap (λ xs. get_or xs k r) (sym keeps.prefix) ∙ get_or-append_seam x.polled r left r) in (
-      left,
+after_poll : (base d : ℕ) (m : Moment) (rest : List Cqe) → m.rest ≡ rest → Keeps base d m
+    → IsAwaitedThere m.bytes (exchange_of base d m).host → IsReached base d (with_polled (exchange_of base d m))
+after_poll base d m [] none keeps there =
+    let l = (found base d m keeps).0 there in
+    let count = counted base d m keeps in
+    absurd (omega (arith, ap length none))
+after_poll base d m (r ∷ left) first keeps there =
+    let x = exchange_of base d m in
+    let k = length m.polled in
+    let l = (found base d m keeps).0 there in
+    let c = awaited_completion m.bytes x.host in
+    let more = length_push m.polled c in
+    let deep = keeps.deep in
+    let prefix : m.polled ++ (r ∷ left) ≡ m.posted = ap (λ rest. m.polled ++ rest) (sym first) ∙ keeps.prefix in
+    let stands : c ≡ get_or m.posted k r =
+    awaited_stands m.bytes x.host m.posted k r deep.0 refl l (omega (arith, keeps.few, keeps.told)) keeps.holds in
+    let is : c ≡ r = stands ∙ (ap (λ xs. get_or xs k r) (sym prefix) ∙ get_or-append_seam m.polled r left r) in
+    let at : ℕ → Exchange = λ j. record (with_polled x) { host = record x.host { collected = j; untold = true } } in (
+      record m { polled = m.polled ++ c ∷ []; rest = left; untold = true },
+      record {
+        deep = deep;
+        inside = keeps.inside;
+        holds = keeps.holds;
+        prefix = append_assoc m.polled (c ∷ []) left ∙ (ap (λ y. m.polled ++ (y ∷ left)) is ∙ prefix);
+        told = omega (arith, more, keeps.told);
+        few = keeps.few;
+      },
+      ap at (kept_next d k ∙ ap (kept_number d) (sym more)),
+    )
+
+head_taken : (base d : ℕ) (m : Moment) → Keeps base d m → IsHeadTaken (exchange_of base d m)
+head_taken base d m keeps =
+    let k = length m.polled in let n = length m.posted in
+    let count = counted base d m keeps in
+    let few = keeps.few in
+    let told = keeps.told in
+    between_kept d m.known (k - m.known) (n - m.known) k n
+    (omega arith) (omega arith) (omega arith) (omega arith)
+
+after_tell : (base d : ℕ) (m : Moment) → Keeps base d m
+    → IsReached base d (with_told (with_head (exchange_of base d m)))
+after_tell base d m keeps =
+    let x = exchange_of base d m in
+    let k = length m.polled in
+    let count = counted base d m keeps in
+    let few = keeps.few in
+    let told = keeps.told in
+    let at : ℕ → Exchange = λ t. record (with_told x) { device = record x.device { told = t } } in (
+      record m { known = k; untold = false },
       record {
         deep = keeps.deep;
         inside = keeps.inside;
-        device = keeps.device;
-        host = more_polled base d k known x.host keeps.host ∙ ap (λ j. host_at base d j known) (sym (length_push x.polled c));
         holds = keeps.holds;
-        prefix = append_assoc x.polled (c ∷ []) left ∙ (ap (λ y. x.polled ++ (y ∷ left)) is ∙ keeps.prefix);
-        told = omega (arith, length_push x.polled c, keeps.told);
-        few = keeps.few;
+        prefix = keeps.prefix;
+        told = omega arith;
+        few = omega arith;
       },
+      ap at (first_kept d k m.known (k - m.known) (omega arith) (omega arith)),
     )
-
--- ---- tell
-
-head_taken : (base d known : ℕ) (x : Exchange) (rest : List Cqe) → Keeps base d x known rest → IsHeadTaken x
-head_taken base d known x rest keeps =
-    let k = length x.polled in let n = length x.posted in
-    let count = counted x rest keeps.prefix in
-    let P : PostNumbers → Type 0 = λ v. IsSlotBetween v.depth v.told v.posted (slot_of x.host.depth x.host.collected) in
-    let Q : CollectNumbers → Type 0 = λ h. IsSlotBetween d (kept d known) (kept d n) (slot_of h.depth h.collected) in
-    subst P (sym keeps.device) (subst Q (sym keeps.host)
-    (between_kept d known (k - known) (n - known) k n (omega arith) (omega (arith, keeps.few, keeps.told)) (omega (arith, keeps.told)) (omega (arith, keeps.told))))
-
-head_reached : (base d k n known : ℕ) (v : PostNumbers) (h : CollectNumbers) → known ≤ k → k < known + d → v ≡ device_at base d n known → h ≡ host_at base d k known
-    → record v { told = reached v.depth v.told (slot_of h.depth h.collected) } ≡ device_at base d n k
-head_reached base d k n known v h l m e f =
-    let step : PostNumbers → PostNumbers = λ u. record u { told = reached u.depth u.told (slot_of h.depth h.collected) } in
-    let at : ℕ → PostNumbers = λ t. record { base = base; depth = d; posted = kept d n; told = t } in
-    ap step e
-    ∙ (ap (λ u. at (reached d (kept d known) (slot_of u.depth u.collected))) f
-    ∙ ap at (reached_kept d k known (k - known) (omega arith) (omega arith)))
-
-after_tell : (base d known : ℕ) (x : Exchange) (rest : List Cqe) → Keeps base d x known rest → Keeps base d (with_told (with_head x)) (length x.polled) rest
-after_tell base d known x rest keeps =
-    let k = length x.polled in
-    let count = counted x rest keeps.prefix in
-    record {
-      deep = keeps.deep;
-      inside = keeps.inside;
-      device = head_reached base d k (length x.posted) known x.device x.host keeps.told (omega (arith, keeps.few)) keeps.device keeps.host;
-      host = let tell : CollectNumbers → CollectNumbers = λ u. record u { told = u.collected } in ap tell keeps.host;
-      holds = keeps.holds;
-      prefix = keeps.prefix;
-      told = omega arith;
-      few = omega (arith, keeps.few, keeps.told);
-    }
 
 -- ---- a run
 
-abbrev KeepsSome : ℕ → ℕ → Exchange → Type 0
-KeepsSome base d x = (known : ℕ) × (rest : List Cqe) × Keeps base d x known rest
+along : (base d : ℕ) (x y : Exchange) → y ≡ x → IsReached base d x → IsReached base d y
+along base d x y e is = (is.0, is.1, e ∙ is.2)
 
-moved : (base d : ℕ) (x y : Exchange) → y ≡ x → KeepsSome base d x → KeepsSome base d y
-moved base d x y e keeps = let P : Exchange → Type 0 = KeepsSome base d in subst P (sym e) keeps
+moment_keeps : (base d : ℕ) (m : Moment) (event : Event) (y : Exchange) → Keeps base d m
+    → Happens event (exchange_of base d m) y → IsReached base d y
+moment_keeps base d m (Put c) y keeps (fits, inl w) = (m, keeps, w.1)
+moment_keeps base d m (Put c) y keeps (fits, inr w) = along base d _ y w.1 (after_put base d m c keeps fits w.0)
+moment_keeps base d m Poll y keeps (inl w) = along base d _ y w.1 (after_poll base d m m.rest refl keeps w.0)
+moment_keeps base d m Poll y keeps (inr w) = (m, keeps, w.1)
+moment_keeps base d m Tell y keeps (inl w) = (m, keeps, w.1)
+moment_keeps base d m Tell y keeps (inr (inl w)) = along base d _ y w.2 (after_tell base d m keeps)
+moment_keeps base d m Tell y keeps (inr (inr w)) = absurd (w.1 (head_taken base d m keeps))
 
-event_keeps : (base d : ℕ) (event : Event) (x y : Exchange) → Happens event x y → KeepsSome base d x → KeepsSome base d y
-event_keeps base d (Put c) x y (fits, inl w) k = moved base d x y w.1 k
-event_keeps base d (Put c) x y (fits, inr w) k =
-    moved base d (with_put x c) y w.1 (k.0, (k.1 ++ put_as x.device c ∷ []), after_put base d k.0 x k.1 c k.2 fits w.0)
-event_keeps base d Poll x y (inl w) k =
-    let after = after_poll base d k.0 x k.1 k.2 w.0 in
-    moved base d (with_polled x) y w.1 (k.0, after.0, after.1)
-event_keeps base d Poll x y (inr w) k = moved base d x y w.1 k
-event_keeps base d Tell x y (inl w) k =
-    moved base d (with_told (with_head x)) y w.1 (length x.polled, k.1, after_tell base d k.0 x k.1 k.2)
-event_keeps base d Tell x y (inr w) k = absurd (w.0 (head_taken base d k.0 x k.1 k.2))
+run_keeps : (base d : ℕ) (events : List Event) (x y : Exchange) → Runs events x y → IsReached base d x
+    → IsReached base d y
+run_keeps base d [] x y e is = along base d x y e is
+run_keeps base d (event ∷ events) x y (z, first, others) is =
+    let P : Exchange → Type 0 = λ u. Happens event u z in
+    run_keeps base d events z y others (moment_keeps base d is.0 event z is.1 (subst P is.2 first))
 
-run_keeps : (base d : ℕ) (events : List Event) (x y : Exchange) → Runs events x y → KeepsSome base d x → KeepsSome base d y
-run_keeps base d [] x y e k = moved base d x y e k
-run_keeps base d (event ∷ events) x y (z, first, others) k = run_keeps base d events z y others (event_keeps base d event x z first k)
-
-new_holds : (base d : ℕ) (bytes : List ℕ) (posted : List Cqe) → posted ≡ [] → ((slot : ℕ) → slot < d → (completion_at bytes base slot).phase ≡ false) → HoldsPosted bytes base d posted
-new_holds base d bytes posted e blank =
-    let none : length posted ≡ 0 = ap length e in
-    record {
-      phases = λ n other l. absurd (omega arith);
-      standing = λ n other l h. absurd (omega arith);
-      blank = λ slot l h. blank slot h;
-    }
-
-new_keeps : (base d : ℕ) (x : Exchange) → IsNew base d x → Keeps base d x 0 []
-new_keeps base d x new =
-    let deep = new.deep in
+new_is_reached : (base d : ℕ) (x : Exchange) → IsNew base d x → IsReached base d x
+new_is_reached base d x new =
     let none : length x.posted ≡ 0 = ap length new.posted in
     let nothing : length x.polled ≡ 0 = ap length new.polled in
-    record {
-      deep = deep;
-      inside = new.inside;
-      device = new.device ∙ rw (none, kept_zero d);
-      host = new.host ∙ rw (nothing, kept_zero d);
-      holds = new_holds base d x.bytes x.posted new.posted new.blank;
-      prefix = cc;
-      told = omega arith;
-      few = omega (arith, none);
-    }
+    let deep = new.deep in
+    let m : Moment = record {
+      bytes = x.bytes;
+      posted = x.posted;
+      polled = x.polled;
+      rest = [];
+      known = 0;
+      untold = false;
+    } in
+    let y = exchange_of base d m in
+    let device : x.device ≡ y.device = new.device ∙ rw (none, kept_zero d) in
+    let host : x.host ≡ y.host = new.host ∙ rw (nothing, kept_zero d) in (
+      m,
+      record {
+        deep = deep;
+        inside = new.inside;
+        holds = record {
+          phases = λ n other l. absurd (omega arith);
+          standing = λ n other l h. absurd (omega arith);
+          blank = λ slot l h. new.blank slot h;
+        };
+        prefix = let e = new.posted in let f = new.polled in cc;
+        told = omega arith;
+        few = omega arith;
+      },
+      λ i. record x { device = device i; host = host i },
+    )
 
 pub every_run : EveryRunIsInOrder
 every_run base d events x y new runs =
-    let k = run_keeps base d events x y runs (0, [], new_keeps base d x new) in
-    let keeps = k.2 in
-    record {
-      prefix = (k.1, keeps.prefix);
-      found = found base d k.0 y k.1 keeps;
+    let (m, keeps, is) = run_keeps base d events x y runs (new_is_reached base d x new) in
+    let P : Exchange → Type 0 = IsInOrder d in
+    subst P (sym is) (record {
+      prefix = (m.rest, keeps.prefix);
+      found = found base d m keeps;
       few = omega (arith, keeps.few, keeps.told);
-    }
+    })

@@ -1,15 +1,15 @@
 -- Submissions and completions have numbers, from 0 since their rings were made. A ring keeps the rest of
 -- a number modulo twice its depth: the number's slot and phase, and how far two numbers less than twice
 -- the depth lie apart, depend on that alone.
-use Rattle.std.specs.Prelude.{ℕ, ◌+◌, ◌-◌, ◌*◌, ◌/◌, ◌%◌, ◌==◌, ◌<◌, ◌≤◌, Bool, if◌then◌else◌, nat_lt, not}
+use Rattle.std.specs.Prelude.{◌≡◌, ℕ, ◌+◌, ◌-◌, ◌*◌, ◌/◌, ◌%◌, ◌==◌, ◌<◌, ◌≤◌, Bool, if◌then◌else◌, nat_lt, not}
 
 -- how many slots a ring can have
 abbrev pub IsDepth : ℕ → Type 0
 IsDepth depth = (1 < depth) × (depth ≤ 4096)
 
--- what a ring keeps of a number
-unfoldable pub kept : ℕ → ℕ → ℕ
-kept depth n = n % (2 * depth)
+-- what a ring keeps of number n
+unfoldable pub kept_number : ℕ → ℕ → ℕ
+kept_number depth n = n % (2 * depth)
 
 -- the slot that number n stands in
 unfoldable pub slot_of : ℕ → ℕ → ℕ
@@ -32,12 +32,23 @@ unfoldable pub ahead : ℕ → ℕ → ℕ → ℕ
 ahead depth n t = (t + 2 * depth - n) % depth
 
 -- that first number
-unfoldable pub reached : ℕ → ℕ → ℕ → ℕ
-reached depth n t = (n + ahead depth n t) % (2 * depth)
+unfoldable pub first_in_slot : ℕ → ℕ → ℕ → ℕ
+first_in_slot depth n t = (n + ahead depth n t) % (2 * depth)
 
 -- slot t is that of a number from `low` up to `high`
 abbrev pub IsSlotBetween : ℕ → ℕ → ℕ → ℕ → Type 0
 IsSlotBetween depth low high t = (t < depth) × (ahead depth low t ≤ above depth high low)
+
+-- the numbers from `low` up to `high` are fewer than the slots
+pub record IsWithinRing (depth low high : ℕ) : Type 0 where
+  pub deep : IsDepth depth
+  pub from : low < 2 * depth
+  pub to : high < 2 * depth
+  pub few : above depth high low < depth
+
+-- they are all but one of the slots
+abbrev pub IsFull : ℕ → ℕ → ℕ → Type 0
+IsFull depth low high = above depth high low ≡ depth - 1
 
 -- the number that a slot in the first or the second pass stands for
 abbrev pub number_of : ℕ → ℕ → Bool → ℕ

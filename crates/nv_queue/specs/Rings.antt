@@ -1,6 +1,6 @@
 -- The four sides of a queue pair's rings: where a ring lies, how many slots it has, and its numbers.
-use Rattle.std.specs.Prelude.{◌≡◌, ℕ, ◌-◌, ◌*◌, ◌<◌}
-use Rattle.nv_queue.specs.Numbers.{IsDepth, above, next, reached}
+use Rattle.std.specs.Prelude.{◌≡◌, ℕ, ◌*◌, ◌<◌, Bool, false, true}
+use Rattle.nv_queue.specs.Numbers.{IsDepth, IsFull, IsWithinRing, first_in_slot, next}
 
 -- the host's side of a submission ring: the number of the next submission, and up to which number the
 -- host knows that submissions were taken
@@ -10,13 +10,14 @@ pub record SubmitNumbers : Type 0 where
   pub submitted : ℕ
   pub known : ℕ
 
--- the host's side of a completion ring: the number of the awaited completion, and up to which number the
--- device was told that completions were collected
+-- the host's side of a completion ring: the number of the awaited completion, up to which number the
+-- device was told that completions were collected, and whether it has more to be told
 pub record CollectNumbers : Type 0 where
   pub base : ℕ
   pub depth : ℕ
   pub collected : ℕ
   pub told : ℕ
+  pub untold : Bool
 
 -- the device's side of a submission ring: the number of the next submission to take, and up to which
 -- number the doorbell told of submissions
@@ -34,38 +35,50 @@ pub record PostNumbers : Type 0 where
   pub posted : ℕ
   pub told : ℕ
 
--- ---- what holds of each ring: fewer numbers than it has slots are outstanding
+-- any of the four: the number that it has come to itself, and up to which one side told the other
+pub record RingNumbers : Type 0 where
+  pub base : ℕ
+  pub depth : ℕ
+  pub own : ℕ
+  pub told : ℕ
 
-pub record IsSubmitRing (ring : SubmitNumbers) : Type 0 where
+-- ---- what holds of each ring
+
+abbrev pub IsSubmitRing : SubmitNumbers → Type 0
+IsSubmitRing ring = IsWithinRing ring.depth ring.known ring.submitted
+
+abbrev pub IsFetchRing : FetchNumbers → Type 0
+IsFetchRing ring = IsWithinRing ring.depth ring.fetched ring.rung
+
+abbrev pub IsPostRing : PostNumbers → Type 0
+IsPostRing ring = IsWithinRing ring.depth ring.told ring.posted
+
+pub record IsRing (ring : RingNumbers) : Type 0 where
   pub deep : IsDepth ring.depth
-  pub submitted : ring.submitted < 2 * ring.depth
-  pub known : ring.known < 2 * ring.depth
-  pub few : above ring.depth ring.submitted ring.known < ring.depth
+  pub own : ring.own < 2 * ring.depth
+  pub told : ring.told < 2 * ring.depth
 
+-- the told place lies behind the own one, or ahead of it
+abbrev pub IsToldBehind : RingNumbers → Type 0
+IsToldBehind ring = IsWithinRing ring.depth ring.told ring.own
+
+abbrev pub IsToldAhead : RingNumbers → Type 0
+IsToldAhead ring = IsWithinRing ring.depth ring.own ring.told
+
+-- a host can collect more than a depth without telling, from a device that doesn't wait for it
 pub record IsCollectRing (ring : CollectNumbers) : Type 0 where
   pub deep : IsDepth ring.depth
   pub collected : ring.collected < 2 * ring.depth
   pub told : ring.told < 2 * ring.depth
+  pub all_told : ring.untold ≡ false → ring.collected ≡ ring.told
 
-pub record IsFetchRing (ring : FetchNumbers) : Type 0 where
-  pub deep : IsDepth ring.depth
-  pub fetched : ring.fetched < 2 * ring.depth
-  pub rung : ring.rung < 2 * ring.depth
-  pub few : above ring.depth ring.rung ring.fetched < ring.depth
-
-pub record IsPostRing (ring : PostNumbers) : Type 0 where
-  pub deep : IsDepth ring.depth
-  pub posted : ring.posted < 2 * ring.depth
-  pub told : ring.told < 2 * ring.depth
-  pub few : above ring.depth ring.posted ring.told < ring.depth
-
--- ---- full rings: all but one of the slots are outstanding
+-- ---- full rings
 
 abbrev pub IsSubmitFull : SubmitNumbers → Type 0
-IsSubmitFull ring = above ring.depth ring.submitted ring.known ≡ ring.depth - 1
+IsSubmitFull ring = IsFull ring.depth ring.known ring.submitted
 
 abbrev pub IsPostFull : PostNumbers → Type 0
-IsPostFull ring = above ring.depth ring.posted ring.told ≡ ring.depth - 1
+IsPostFull ring = IsFull ring.depth ring.told ring.posted
 
 -- ---- a ring after one number more
 
@@ -73,7 +86,7 @@ abbrev pub submitted_one : SubmitNumbers → SubmitNumbers
 submitted_one ring = record ring { submitted = next ring.depth ring.submitted }
 
 abbrev pub collected_one : CollectNumbers → CollectNumbers
-collected_one ring = record ring { collected = next ring.depth ring.collected }
+collected_one ring = record ring { collected = next ring.depth ring.collected; untold = true }
 
 abbrev pub fetched_one : FetchNumbers → FetchNumbers
 fetched_one ring = record ring { fetched = next ring.depth ring.fetched }
@@ -84,10 +97,14 @@ posted_one ring = record ring { posted = next ring.depth ring.posted }
 -- ---- a ring after a slot was told, as the first number in it
 
 abbrev pub known_to : SubmitNumbers → ℕ → SubmitNumbers
-known_to ring head = record ring { known = reached ring.depth ring.known head }
+known_to ring head = record ring { known = first_in_slot ring.depth ring.known head }
 
 abbrev pub rung_to : FetchNumbers → ℕ → FetchNumbers
-rung_to ring tail = record ring { rung = reached ring.depth ring.fetched tail }
+rung_to ring tail = record ring { rung = first_in_slot ring.depth ring.fetched tail }
 
 abbrev pub told_to : PostNumbers → ℕ → PostNumbers
-told_to ring head = record ring { told = reached ring.depth ring.told head }
+told_to ring head = record ring { told = first_in_slot ring.depth ring.told head }
+
+-- all that was collected is told
+abbrev pub told_all : CollectNumbers → CollectNumbers
+told_all ring = record ring { told = ring.collected; untold = false }

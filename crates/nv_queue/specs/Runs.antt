@@ -1,10 +1,10 @@
 -- Runs over one completion ring: what the device posts on it, and the host polls.
-use Rattle.std.specs.Prelude.{◌≡◌, ◌↔◌, ◌⊎◌, ℕ, ◌+◌, ◌*◌, ◌<◌, ◌≤◌, false, List, [], ◌∷◌, ◌++◌, length}
+use Rattle.std.specs.Prelude.{◌≡◌, ◌↔◌, ◌⊎◌, ℕ, ◌+◌, ◌*◌, ◌<◌, ◌≤◌, false, true, List, [], ◌∷◌, ◌++◌, length}
 use Rattle.nv_layout.specs.Cqe.{CqeFits}
 use Rattle.nv_layout.specs.declared.cqe.Cqe.{Cqe}
 use Rattle.nv_queue.specs.Numbers.{IsDepth, IsSlotBetween, slot_of}
-use Rattle.nv_queue.specs.Rings.{CollectNumbers, IsPostFull, PostNumbers, collected_one, posted_one, told_to}
-use Rattle.nv_queue.specs.Slots.{IsAwaitedThere, awaited, completion_at, put_as, with_completion}
+use Rattle.nv_queue.specs.Rings.{CollectNumbers, IsPostFull, PostNumbers, collected_one, posted_one, told_all, told_to}
+use Rattle.nv_queue.specs.Slots.{IsAwaitedThere, awaited_completion, completion_at, put_as, with_completion}
 
 -- the device puts a completion, the host polls, the host tells its head by the doorbell
 pub data Event : Type 0 where
@@ -28,14 +28,14 @@ with_put x completion = record x {
 }
 
 abbrev pub with_polled : Exchange → Exchange
-with_polled x = record x { host = collected_one x.host; polled = x.polled ++ awaited x.bytes x.host ∷ [] }
+with_polled x = record x { host = collected_one x.host; polled = x.polled ++ awaited_completion x.bytes x.host ∷ [] }
 
 -- the slot of the awaited completion is told
 abbrev pub told_slot : Exchange → ℕ
 told_slot x = slot_of x.host.depth x.host.collected
 
 abbrev pub with_told : Exchange → Exchange
-with_told x = record x { host = record x.host { told = x.host.collected } }
+with_told x = record x { host = told_all x.host }
 
 abbrev pub with_head : Exchange → Exchange
 with_head x = record x { device = told_to x.device (told_slot x) }
@@ -51,7 +51,9 @@ Happens (Put completion) x y =
 Happens Poll x y =
     (IsAwaitedThere x.bytes x.host × (y ≡ with_polled x)) ⊎ ((¬ IsAwaitedThere x.bytes x.host) × (y ≡ x))
 Happens Tell x y =
-    (IsHeadTaken x × (y ≡ with_told (with_head x))) ⊎ ((¬ IsHeadTaken x) × (y ≡ with_told x))
+    ((x.host.untold ≡ false) × (y ≡ x))
+    ⊎ (((x.host.untold ≡ true) × IsHeadTaken x × (y ≡ with_told (with_head x)))
+    ⊎ ((x.host.untold ≡ true) × (¬ IsHeadTaken x) × (y ≡ with_told x)))
 
 abbrev pub Runs : List Event → Exchange → Exchange → Type 0
 Runs [] x y = y ≡ x
@@ -63,7 +65,7 @@ pub record IsNew (base depth : ℕ) (x : Exchange) : Type 0 where
   pub inside : base + 16 * depth ≤ length x.bytes
   pub blank : (slot : ℕ) → slot < depth → (completion_at x.bytes base slot).phase ≡ false
   pub device : x.device ≡ record { base = base; depth = depth; posted = 0; told = 0 }
-  pub host : x.host ≡ record { base = base; depth = depth; collected = 0; told = 0 }
+  pub host : x.host ≡ record { base = base; depth = depth; collected = 0; told = 0; untold = false }
   pub posted : x.posted ≡ []
   pub polled : x.polled ≡ []
 

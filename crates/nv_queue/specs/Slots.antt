@@ -6,7 +6,7 @@ use Rattle.nv_layout.specs.Cqe.{CqeFits, bytes_of_cqe, cqe_of_bytes}
 use Rattle.nv_layout.specs.Sqe.{bytes_of_sqe, sqe_of_bytes}
 use Rattle.nv_layout.specs.declared.cqe.Cqe.{Cqe}
 use Rattle.nv_layout.specs.declared.sqe.Sqe.{Sqe}
-use Rattle.nv_queue.specs.Numbers.{above, kept, next, phase_of, slot_of, tag_below}
+use Rattle.nv_queue.specs.Numbers.{above, kept_number, next, phase_of, slot_of, tag_below}
 use Rattle.nv_queue.specs.Rings.{CollectNumbers, FetchNumbers, PostNumbers, SubmitNumbers}
 
 -- a submission has 64 bytes, a completion 16
@@ -31,12 +31,12 @@ abbrev pub next_submission : List ℕ → FetchNumbers → Sqe
 next_submission bytes ring = sqe_of_bytes (bytes_at bytes (submission_place ring.base ring.depth ring.fetched) 64)
 
 -- the completion in the awaited slot
-abbrev pub awaited : List ℕ → CollectNumbers → Cqe
-awaited bytes ring = completion_at bytes ring.base (slot_of ring.depth ring.collected)
+abbrev pub awaited_completion : List ℕ → CollectNumbers → Cqe
+awaited_completion bytes ring = completion_at bytes ring.base (slot_of ring.depth ring.collected)
 
 -- it has the phase tag of its number
 abbrev pub IsAwaitedThere : List ℕ → CollectNumbers → Type 0
-IsAwaitedThere bytes ring = (awaited bytes ring).phase ≡ phase_of ring.depth ring.collected
+IsAwaitedThere bytes ring = (awaited_completion bytes ring).phase ≡ phase_of ring.depth ring.collected
 
 -- a completion as it is posted next
 abbrev pub put_as : PostNumbers → Cqe → Cqe
@@ -63,7 +63,7 @@ pub record HoldsPosted (bytes : List ℕ) (base depth : ℕ) (posted : List Cqe)
 -- where the slots held what was posted, they hold this completion too
 abbrev pub HoldsOneMore : List ℕ → List ℕ → PostNumbers → Cqe → Type 0
 HoldsOneMore old new ring completion =
-    (posted : List Cqe) → ring.posted ≡ kept ring.depth (length posted)
+    (posted : List Cqe) → ring.posted ≡ kept_number ring.depth (length posted)
     → ring.base + 16 * ring.depth ≤ length old → CqeFits completion
     → HoldsPosted old ring.base ring.depth posted
     → HoldsPosted new ring.base ring.depth (posted ++ put_as ring completion ∷ [])
@@ -71,7 +71,7 @@ HoldsOneMore old new ring completion =
 -- where completion k is awaited, it is collected if it was posted, and nothing if it was not
 abbrev pub CollectsPosted : List ℕ → CollectNumbers → Option Cqe → Type 0
 CollectsPosted bytes ring result =
-    (posted : List Cqe) (k : ℕ) → ring.collected ≡ kept ring.depth k
+    (posted : List Cqe) (k : ℕ) → ring.collected ≡ kept_number ring.depth k
     → k ≤ length posted → length posted ≤ k + ring.depth
     → HoldsPosted bytes ring.base ring.depth posted
     → (IsSome result ↔ (k < length posted)) × IfSome result (λ c. c ≡ slice_index_or posted k c)

@@ -5,96 +5,81 @@ ghost use Rattle.nv_queue.specs.Numbers.{IsDepth, slot_of};
 ghost use Rattle.nv_queue.specs.Rings.{IsFetchRing, fetched_one, rung_to};
 ghost use Rattle.nv_queue.specs.Slots.{next_submission, submission_place};
 
-use crate::memory::{address_in, reaches};
-use crate::place::Place;
+use crate::ring::Ring;
 use nv_host::{HostMemory, load_inside};
 use nv_layout::Sqe;
 use std::marker::Model;
 
-/// The device's side of a submission ring. Section "Submission Queue & Completion Queue
-/// Definition".
+/// The device's side of a submission ring, of 2 to 4,096 slots of 64 bytes, in memory or not.
+/// Section "Submission Queue & Completion Queue Definition".
 #[derive(Drop)]
 pub struct Fetch {
-    base: u64,
-    depth: u16,
-    head: Place,
-    tail: Place,
+    ring: Ring,
 }
 
 impl Model for Fetch {
-    ghost use Rattle.std.specs.Prelude.{◌<◌};
-    ghost use Rattle.nv_queue.specs.Rings.{FetchNumbers};
-    ghost use Rattle.nv_queue.specs.Numbers.{IsDepth, above, number_of};
+    ghost use Rattle.nv_queue.specs.Rings.{FetchNumbers, IsToldAhead};
 
     ghost Value = { FetchNumbers };
 
     ghost view = { λ r. record {
-      base = r.base;
-      depth = r.depth;
-      fetched = number_of r.depth r.head.slot r.head.second;
-      rung = number_of r.depth r.tail.slot r.tail.second;
+      base = r.ring.base;
+      depth = r.ring.depth;
+      fetched = r.ring.own;
+      rung = r.ring.told;
     } };
 
-    ghost invariant = { λ r. IsDepth r.depth × (r.head.slot < r.depth) × (r.tail.slot < r.depth)
-        × (above r.depth (number_of r.depth r.tail.slot r.tail.second)
-        (number_of r.depth r.head.slot r.head.second) < r.depth) };
+    ghost invariant = { λ r. IsToldAhead r.ring };
 }
 
 impl Fetch {
-    /// A new ring of `depth` slots, 64 bytes each, from address `base` on. It is empty.
-    #[tactic(auto, using(crate::proofs::NumberLaws::above_zero))]
+    /// A new ring of `depth` slots, 2 to 4,096, from address `base` on. It is empty.
+    #[tactic(auto, using(crate::specs::NumberLaws::within_new))]
     pub fn new(base: u64, depth: u16) -> Fetch
         requires { IsDepth depth }
         ensures { result ≡ record { base = base; depth = depth; fetched = 0; rung = 0 } }
     {
         Fetch {
-            base,
-            depth,
-            head: Place::first(),
-            tail: Place::first(),
+            ring: Ring::new(base, depth),
         }
     }
 
     /// Takes a write to the tail doorbell. A tail that names no slot is ignored. Section "Submission
     /// Queue y Tail Doorbell".
-    #[tactic(auto, using(crate::proofs::NumberLaws::told_slots))]
     pub fn tail(&mut self, value: u32)
         ensures rung { value < self.old.depth → self.new ≡ rung_to self.old value }
         ensures ignored { self.old.depth ≤ value → self.new ≡ self.old }
     {
-        if value < self.depth as u32 {
-            self.tail = self.head.reach(value as u16, self.depth);
+        if let Some(slot) = self.ring.named_slot(value) {
+            self.ring.fill_to(slot);
         }
     }
 
     /// The slot of the next submission, the SQ head to post.
-    #[tactic(auto, using(crate::proofs::NumberLaws::places))]
     pub fn head(&self) -> u16
         ensures { result ≡ slot_of self.now.depth self.now.fetched }
     {
-        self.head.slot
+        self.ring.slot()
     }
 
     /// Whether no submission is left to take. Section "Empty Queue".
-    #[tactic(auto, using(crate::proofs::NumberLaws::empty_rings))]
     pub fn is_empty(&self) -> bool
         ensures ring { IsFetchRing self.now }
         ensures empty { IsTrue result ↔ (self.now.fetched ≡ self.now.rung) }
     {
-        self.head.slot == self.tail.slot
+        self.ring.is_empty()
     }
 
-    /// Whether the slot of the next submission lies in the memory.
-    #[tactic(auto, using(crate::proofs::NumberLaws::places))]
+    /// Whether the slot of the next submission lies in the memory: the condition of `next`.
     pub fn fits<M: HostMemory>(&self, mem: &M) -> bool
         ensures { IsTrue result ↔
             (submission_place self.now.base self.now.depth self.now.fetched + 64 ≤ length (M.bytes mem.now)) }
     {
-        reaches(mem, self.base, 64 * self.head.slot as u32 + 64)
+        self.ring.fits(mem, 64)
     }
 
-    /// Takes the next submission. There is none where the ring is empty.
-    #[tactic(auto, using(crate::proofs::NumberLaws::empty_rings))]
+    /// Takes the next submission, whose slot lies in the memory, as `fits` tells. There is none where
+    /// the ring is empty.
     pub fn next<M: HostMemory>(&mut self, mem: &M) -> Option<Sqe>
         requires { submission_place self.old.base self.old.depth self.old.fetched + 64
             ≤ length (M.bytes mem.now) }
@@ -107,9 +92,9 @@ impl Fetch {
             return None;
         }
         let mut bytes = [0; 64];
-        let addr = address_in(mem, self.base, 64 * self.head.slot as u32);
+        let addr = self.ring.address(mem, 64);
         load_inside(mem, addr, &mut bytes);
-        self.head = self.head.step(self.depth);
+        self.ring.step();
         Some(Sqe::get(&bytes))
     }
 }

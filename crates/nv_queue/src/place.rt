@@ -1,10 +1,10 @@
 //! Places in a ring.
 
 ghost use Rattle.std.specs.Prelude.{◌≡◌, ◌<◌, ◌↔◌, IsTrue, false};
-ghost use Rattle.nv_queue.specs.Numbers.{IsDepth, IsSlotBetween, above, ahead, next, number_of, reached};
+ghost use Rattle.nv_queue.specs.Numbers.{IsDepth, IsSlotBetween, above, ahead, first_in_slot, next, number_of};
 
 /// A slot, and whether it is met in the second of two passes over the ring.
-#[derive(Clone, Copy, PartialEq, Eq)]
+#[derive(Clone, Copy)]
 pub struct Place {
     pub slot: u16,
     pub second: bool,
@@ -22,7 +22,7 @@ impl Place {
     }
 
     /// The place of the next number.
-    #[tactic(auto, using(crate::proofs::NumberLaws::step_wraps, crate::proofs::NumberLaws::step_stays))]
+    #[tactic(auto, using(crate::proofs::PlaceLaws::step_wraps, crate::proofs::PlaceLaws::step_stays))]
     pub fn step(self, depth: u16) -> Place
         requires depth { IsDepth depth }
         requires within { self.slot < depth }
@@ -44,7 +44,7 @@ impl Place {
     }
 
     /// Whether a slot is met on the way from here to a place less than the depth ahead, ends included.
-    #[tactic(auto, using(crate::proofs::NumberLaws::told_slots))]
+    #[tactic(auto, using(crate::proofs::PlaceLaws::places, crate::proofs::PlaceLaws::ahead_place))]
     pub fn meets(self, slot: u16, end: Place, depth: u16) -> bool
         requires depth { IsDepth depth }
         requires within { self.slot < depth }
@@ -58,8 +58,8 @@ impl Place {
     }
 
     /// How many places from here to the next one in a slot.
-    #[tactic(auto, using(crate::proofs::NumberLaws::ahead_behind, crate::proofs::NumberLaws::ahead_before))]
-    pub fn ahead(self, slot: u16, depth: u16) -> u16
+    #[tactic(auto, using(crate::proofs::PlaceLaws::ahead_behind, crate::proofs::PlaceLaws::ahead_before))]
+    fn ahead(self, slot: u16, depth: u16) -> u16
         requires depth { IsDepth depth }
         requires within { self.slot < depth }
         requires slot { slot < depth }
@@ -73,13 +73,13 @@ impl Place {
     }
 
     /// The next place in a slot, this one included.
-    #[tactic(auto, using(crate::proofs::NumberLaws::reach_wraps, crate::proofs::NumberLaws::reach_stays))]
+    #[tactic(auto, using(crate::proofs::PlaceLaws::first_behind, crate::proofs::PlaceLaws::first_before))]
     pub fn reach(self, slot: u16, depth: u16) -> Place
         requires depth { IsDepth depth }
         requires within { self.slot < depth }
         requires slot { slot < depth }
         ensures number { number_of depth result.slot result.second
-            ≡ reached depth (number_of depth self.slot self.second) slot }
+            ≡ first_in_slot depth (number_of depth self.slot self.second) slot }
         ensures slot { result.slot ≡ slot }
     {
         let second = if slot < self.slot {

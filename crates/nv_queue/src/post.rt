@@ -5,108 +5,94 @@ ghost use Rattle.nv_queue.specs.Numbers.{IsDepth, IsSlotBetween, phase_of};
 ghost use Rattle.nv_queue.specs.Rings.{IsPostFull, IsPostRing, posted_one, told_to};
 ghost use Rattle.nv_queue.specs.Slots.{HoldsOneMore, KeepsTags, completion_place, with_completion};
 
-use crate::memory::{address_in, reaches};
-use crate::place::Place;
+use crate::ring::Ring;
 use nv_host::{HostMemory, store_inside};
 use nv_layout::Cqe;
 use std::marker::Model;
+use thiserror::Error;
 
-/// The completion ring has no free slot.
-#[derive(Clone, Copy, Debug, PartialEq, Eq)]
+/// The completion ring has no free slot. Section "Full Queue".
+#[derive(Clone, Copy, Debug, PartialEq, Eq, Error)]
+#[error("the completion ring is full")]
 pub struct CqFull;
 
-/// The device's side of a completion ring. Section "Submission Queue & Completion Queue
-/// Definition".
+/// The device's side of a completion ring, of 2 to 4,096 slots of 16 bytes, in memory or not.
+/// Section "Submission Queue & Completion Queue Definition".
 #[derive(Drop)]
 pub struct Post {
-    base: u64,
-    depth: u16,
-    tail: Place,
-    told: Place,
+    ring: Ring,
 }
 
 impl Model for Post {
-    ghost use Rattle.std.specs.Prelude.{◌<◌};
-    ghost use Rattle.nv_queue.specs.Rings.{PostNumbers};
-    ghost use Rattle.nv_queue.specs.Numbers.{IsDepth, above, number_of};
+    ghost use Rattle.nv_queue.specs.Rings.{IsToldBehind, PostNumbers};
 
     ghost Value = { PostNumbers };
 
     ghost view = { λ r. record {
-      base = r.base;
-      depth = r.depth;
-      posted = number_of r.depth r.tail.slot r.tail.second;
-      told = number_of r.depth r.told.slot r.told.second;
+      base = r.ring.base;
+      depth = r.ring.depth;
+      posted = r.ring.own;
+      told = r.ring.told;
     } };
 
-    ghost invariant = { λ r. IsDepth r.depth × (r.tail.slot < r.depth) × (r.told.slot < r.depth)
-        × (above r.depth (number_of r.depth r.tail.slot r.tail.second)
-        (number_of r.depth r.told.slot r.told.second) < r.depth) };
+    ghost invariant = { λ r. IsToldBehind r.ring };
 }
 
 impl Post {
-    /// A new ring of `depth` slots, 16 bytes each, from address `base` on. Nothing was posted.
-    #[tactic(auto, using(crate::proofs::NumberLaws::above_zero))]
+    /// A new ring of `depth` slots, 2 to 4,096, from address `base` on. Nothing was posted.
+    #[tactic(auto, using(crate::specs::NumberLaws::within_new))]
     pub fn new(base: u64, depth: u16) -> Post
         requires { IsDepth depth }
         ensures { result ≡ record { base = base; depth = depth; posted = 0; told = 0 } }
     {
         Post {
-            base,
-            depth,
-            tail: Place::first(),
-            told: Place::first(),
+            ring: Ring::new(base, depth),
         }
     }
 
     /// Takes a write to the head doorbell. A head that is not reached by freeing posted slots is
     /// ignored. Section "Completion Queue y Head Doorbell".
-    #[tactic(auto, using(crate::proofs::NumberLaws::told_slots))]
     pub fn head(&mut self, value: u32)
         ensures told { IsSlotBetween self.old.depth self.old.told self.old.posted value
             → self.new ≡ told_to self.old value }
         ensures ignored { ¬ IsSlotBetween self.old.depth self.old.told self.old.posted value
             → self.new ≡ self.old }
     {
-        if value >= self.depth as u32 {
-            return;
-        }
-        let slot = value as u16;
-        if self.told.meets(slot, self.tail, self.depth) {
-            self.told = self.told.reach(slot, self.depth);
+        if let Some(slot) = self.ring.named_slot(value)
+            && self.ring.may_free(slot)
+        {
+            self.ring.free_to(slot);
         }
     }
 
     /// The phase tag of the next completion. Section "Completion Queue Entry".
-    #[tactic(auto, using(crate::proofs::NumberLaws::places))]
     pub fn phase(&self) -> bool
         ensures { result ≡ phase_of self.now.depth self.now.posted }
     {
-        !self.tail.second
+        self.ring.phase()
     }
 
     /// Whether all but one of the slots hold completions that are not known to be collected. Section
     /// "Full Queue".
-    #[tactic(auto, using(crate::proofs::NumberLaws::full_rings))]
     pub fn is_full(&self) -> bool
         ensures ring { IsPostRing self.now }
         ensures full { IsTrue result ↔ IsPostFull self.now }
     {
-        self.tail.step(self.depth).slot == self.told.slot
+        self.ring.is_full()
     }
 
-    /// Whether the slot of the next completion lies in the memory.
-    #[tactic(auto, using(crate::proofs::NumberLaws::places))]
+    /// Whether the slot of the next completion lies in the memory: the condition of `put`.
     pub fn fits<M: HostMemory>(&self, mem: &M) -> bool
         ensures { IsTrue result ↔
             (completion_place self.now.base self.now.depth self.now.posted + 16 ≤ length (M.bytes mem.now)) }
     {
-        reaches(mem, self.base, 16 * self.tail.slot as u32 + 16)
+        self.ring.fits(mem, 16)
     }
 
-    /// Posts a completion with the phase tag that is due in place of its own. Where the ring is full,
-    /// nothing changes.
-    #[tactic(auto, using(crate::proofs::NumberLaws::full_rings, crate::proofs::SlotLaws::holds_one_more, crate::proofs::TagLaws::keeps_tags))]
+    /// Posts a completion with the phase tag that is due in place of its own, and writes no byte but
+    /// those of its slot, which lies in the memory, as `fits` tells. Where the ring is full, nothing
+    /// changes.
+    #[tactic(auto, using(crate::specs::SlotLaws::holds_one_more, crate::specs::TagLaws::keeps_tags))]
     pub fn put<M: HostMemory>(&mut self, mem: &mut M, completion: Cqe) -> Result<(), CqFull>
         requires { completion_place self.old.base self.old.depth self.old.posted + 16
             ≤ length (M.bytes mem.old) }
@@ -129,9 +115,9 @@ impl Post {
         };
         let mut bytes = [0; 16];
         posted.put(&mut bytes);
-        let addr = address_in(mem, self.base, 16 * self.tail.slot as u32);
+        let addr = self.ring.address(mem, 16);
         store_inside(mem, addr, &bytes);
-        self.tail = self.tail.step(self.depth);
+        self.ring.step();
         Ok(())
     }
 }

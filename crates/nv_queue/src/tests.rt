@@ -4,6 +4,7 @@ ghost use Rattle.nv_queue.specs.Numbers.{IsDepth};
 use super::*;
 use nv_host::{FlatMemory, HostMemory};
 use nv_layout::{Cqe, Sqe, Status};
+use std::alloc::AllocError;
 use std::process::Abort;
 
 const COMPLETIONS: u64 = 0x40000;
@@ -46,7 +47,9 @@ fn completion(number: u16, sq_head: u16, phase: bool) -> Cqe {
     }
 }
 
-fn put(rt: &impl Abort, ring: &mut Post, mem: &mut FlatMemory, number: u16) {
+fn put(rt: &impl Abort, ring: &mut Post, mem: &mut FlatMemory, number: u16)
+    ensures { length mem.new.bytes ≡ length mem.old.bytes }
+{
     let phase = ring.phase();
     assert!(rt; ring.fits(mem));
     assert_eq!(rt; ring.put(mem, completion(number, 0, !phase)), Ok(()));
@@ -233,6 +236,92 @@ fn both_rings_wrap(rt: HostRuntime) {
         }
         fill(&rt, &mut pair, &mut mem, depth);
     }
+}
+
+/// The example of the crate's page.
+#[test]
+#[tactic(auto, unfolding(nv_host::specs::Pages::IsPageSize))]
+fn one_command_there_and_back(rt: HostRuntime) {
+    let Ok(mut mem) = FlatMemory::new(rt.alloc(), 4096, 2) else {
+        assert!(rt; false, "out of memory");
+        return;
+    };
+    let mut submissions = SubmitRing::new(0, 16);
+    let mut completions = CompletionRing::new(4096, 16);
+    let mut fetch = Fetch::new(0, 16);
+    let mut post = Post::new(4096, 16);
+
+    let tail = submissions.push(&mut mem, &command(9));
+    assert_eq!(rt; tail, Ok(1));
+    fetch.tail(1);
+
+    if fetch.fits(&mem)
+        && let Some(taken) = fetch.next(&mem)
+        && post.fits(&mem)
+    {
+        let posted = post.put(&mut mem, completion(taken.cid, fetch.head(), false));
+        assert_eq!(rt; posted, Ok(()));
+    }
+
+    let collected = completions.poll(&mem);
+    assert_eq!(rt; collected, Some(completion(9, 1, true)));
+    if let Some(collected) = collected {
+        assert!(rt; submissions.may_free(collected.sq_head));
+        submissions.freed(collected.sq_head);
+    }
+    assert_eq!(rt; completions.head_to_tell(), Some(1));
+    post.head(1);
+}
+
+/// A device that doesn't wait to be told, and a host that tells after four completions: the numbers
+/// are those of the beginning, but a head is left to tell.
+#[test]
+#[tactic(auto, unfolding(nv_host::specs::Pages::IsPageSize))]
+fn head_to_tell_after_two_passes(rt: HostRuntime) {
+    let Ok(mut mem) = FlatMemory::new(rt.alloc(), 4096, 65) else {
+        assert!(rt; false, "out of memory");
+        return;
+    };
+    let mut post = Post::new(COMPLETIONS, 2);
+    let mut collect = CompletionRing::new(COMPLETIONS, 2);
+    assert_eq!(rt; collect.head_to_tell(), None);
+    for (number, head, phase) in [(0, 1, true), (1, 0, true), (2, 1, false), (3, 0, false)] {
+        put(&rt, &mut post, &mut mem, number);
+        post.head(head);
+        assert_eq!(rt; collect.poll(&mem), Some(completion(number, 0, phase)));
+    }
+    assert_eq!(rt; collect.head_to_tell(), Some(0));
+    assert_eq!(rt; collect.head_to_tell(), None);
+}
+
+#[test]
+#[tactic(auto, unfolding(nv_host::specs::Pages::IsPageSize))]
+fn rings_that_leave_the_memory(rt: HostRuntime) {
+    let Ok(mut mem) = FlatMemory::new(rt.alloc(), 4096, 1) else {
+        assert!(rt; false, "out of memory");
+        return;
+    };
+    // One slot of each lies in the memory, and none of the last rings.
+    let mut post = Post::new(4080, 4);
+    put(&rt, &mut post, &mut mem, 0);
+    assert!(rt; !post.fits(&mem));
+    let mut fetch = Fetch::new(4032, 4);
+    fetch.tail(2);
+    assert!(rt; fetch.fits(&mem));
+    assert!(rt; fetch.next(&mem).is_some());
+    assert!(rt; !fetch.fits(&mem));
+    assert!(rt; !Post::new(u64::MAX, 2).fits(&mem));
+    assert!(rt; !Fetch::new(u64::MAX, 2).fits(&mem));
+}
+
+#[test]
+fn errors_as_text(rt: HostRuntime) -> Result<(), AllocError> {
+    let shown = format!(in rt.alloc(); "{RingFull}, {CqFull}")?;
+    assert_eq!(rt;
+        shown.as_str(),
+        "the submission ring is full, the completion ring is full"
+    );
+    Ok(())
 }
 
 #[test]

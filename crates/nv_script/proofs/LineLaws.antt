@@ -15,7 +15,7 @@ use Rattle.nv_script.specs.declared.executing.Position.{Position}
 use Rattle.nv_line.specs.declared.fault.LineFault.{LineFault}
 use Rattle.nv_line.specs.declared.fault.LineFault.TheVariants as fault
 use Rattle.nv_line.specs.declared.line.Line.{Line}
-use Rattle.nv_line.specs.declared.line.Line.TheVariants.{Skipped, Asked}
+use Rattle.nv_line.specs.declared.line.Line.TheVariants as line
 use Rattle.nv_line.specs.declared.request.Request.{Request}
 use Rattle.nv_script.proofs.Taking.{Appends-at, Appends-join}
 
@@ -102,7 +102,7 @@ fault_said f said other (inr e) = sym e
 pub said_here : (p : Progress) (text : List ℕ) (s : State) (controllers : ℕ) (said : Said) → s ≡ p.state → controllers ≡ length s.controllers → reading text controllers ≡ said → said_at p text ≡ said
 said_here p text s controllers said es ec e = ap (λ (x : State). reading text (length x.controllers)) (sym es) ∙ ap (reading text) (sym ec) ∙ e
 
-pub result_asked : (p : Progress) (text : List ℕ) (r : Request) (s : State) (serials : List ℕ) (n : ℕ) → said_at p text ≡ Ok (Asked r) → s ≡ p.state → serials ≡ p.serials → n ≡ p.number
+pub result_asked : (p : Progress) (text : List ℕ) (r : Request) (s : State) (serials : List ℕ) (n : ℕ) → said_at p text ≡ Ok (line.Request r) → s ≡ p.state → serials ≡ p.serials → n ≡ p.number
     → result_at p text ≡ told (n + 1) r (carried_out s serials (commands_of s r))
 result_asked p text r s serials n e es er en =
     ap (λ (x : Said). line_result p.state p.serials (p.number + 1) x) e
@@ -119,11 +119,11 @@ result_fault p text f s serials n e es er en =
     ∙ ap (λ (x : ℕ). line_result s serials (x + 1) (Err f)) (sym en)
 
 pub amid-zero : (s : State) (serials : List ℕ) (said : Said) → state_amid s serials said 0 ≡ s
-amid-zero s serials (Ok Skipped) = refl
-amid-zero s serials (Ok (Asked r)) = refl
+amid-zero s serials (Ok line.Skipped) = refl
+amid-zero s serials (Ok (line.Request r)) = refl
 amid-zero s serials (Err f) = refl
 
-pub amid-all : (p : Progress) (text : List ℕ) (r : Request) (s : State) (serials : List ℕ) → said_at p text ≡ Ok (Asked r) → s ≡ p.state → serials ≡ p.serials
+pub amid-all : (p : Progress) (text : List ℕ) (r : Request) (s : State) (serials : List ℕ) → said_at p text ≡ Ok (line.Request r) → s ≡ p.state → serials ≡ p.serials
     → (carried_out s serials (commands_of s r)).state ≡ state_amid p.state p.serials (said_at p text) (length (commands_of p.state r))
 amid-all p text r s serials e es er =
     ap (λ (x : State). (carried_out x serials (commands_of x r)).state) es

@@ -12,7 +12,7 @@ use Rattle.nv_script.specs.declared.ends.RunEnd.TheVariants.{Status, Read, OutWr
 use Rattle.nv_script.specs.declared.executing.Position.{Position}
 use Rattle.nv_line.specs.declared.fault.LineFault.{LineFault}
 use Rattle.nv_line.specs.declared.line.Line.{Line}
-use Rattle.nv_line.specs.declared.line.Line.TheVariants.{Skipped, Asked}
+use Rattle.nv_line.specs.declared.line.Line.TheVariants as line
 
 -- Which end it is: a write's exactly where that Sink has failed, and Read exactly where no write
 -- failed, no memory was refused and the Source has stopped
@@ -49,8 +49,8 @@ pub record Stands (p : Progress) (left : Left) (serials : List ℕ) (at : Positi
 
 -- the state after the first k commands of a line
 abbrev pub state_amid : State → List ℕ → Result Line LineFault → ℕ → State
-state_amid s serials (Ok Skipped) k = s
-state_amid s serials (Ok (Asked r)) k = (carried_out s serials (take k (commands_of s r))).state
+state_amid s serials (Ok line.Skipped) k = s
+state_amid s serials (Ok (line.Request r)) k = (carried_out s serials (take k (commands_of s r))).state
 state_amid s serials (Err fault) k = s
 
 -- The beginnings, at a line after p. The output failed: the texts before the line stand whole, and a

@@ -1,10 +1,4 @@
-pub use Rattle.nv_line.specs.Word
-pub use Rattle.nv_line.specs.Number
-pub use Rattle.nv_line.specs.Device
-pub use Rattle.nv_line.specs.OptionName
 pub use Rattle.nv_line.specs.LineFault
-pub use Rattle.nv_line.specs.OptionTable
-pub use Rattle.nv_line.specs.Request
 pub use Rattle.nv_line.specs.Line
 pub mod Streams
 pub mod Entries

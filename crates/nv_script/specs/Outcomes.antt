@@ -8,8 +8,9 @@ use Rattle.nv_subsystem.specs.declared.commands.Command.TheVariants.{IdentifyNam
 use Rattle.nv_subsystem.specs.declared.commands.Reply.{Reply}
 use Rattle.nv_script.specs.Asking.{asked}
 use Rattle.nv_script.specs.Texts.{text_of}
+use Rattle.nv_line.specs.declared.request.Ask.{Ask}
+use Rattle.nv_line.specs.declared.request.Ask.TheVariants as ask
 use Rattle.nv_line.specs.declared.request.Request.{Request}
-use Rattle.nv_line.specs.declared.request.Request.TheVariants as request
 
 -- a command for a controller
 pub record Order : Type 0 where
@@ -22,10 +23,14 @@ list_command all after = if all then AllocatedList after else ActiveList after
 abbrev pub namespace_command : Bool → ℕ → Command
 namespace_command force nsid = if force then AllocatedNamespace nsid else IdentifyNamespace nsid
 
--- the commands that a request stands for; a list begins at an NSID, and is asked for after the one before it
+-- the commands for what a controller is asked; a list begins at an NSID, and is asked for after the one before it
+abbrev pub commands_at : State → ℕ → Ask → List Order
+commands_at s controller (ask.ListNs first all) = record { controller = controller; command = list_command all (first - 1) } ∷ []
+commands_at s controller (ask.IdNs nsid force) = record { controller = controller; command = namespace_command force nsid } ∷ []
+
+-- the commands that a request stands for
 abbrev pub commands_of : State → Request → List Order
-commands_of s (request.ListNs controller first all) = record { controller = controller; command = list_command all (first - 1) } ∷ []
-commands_of s (request.IdNs controller nsid force) = record { controller = controller; command = namespace_command force nsid } ∷ []
+commands_of s r = commands_at s r.controller r.ask
 
 -- the replies up to the first refusal, and where that leaves the subsystem and the serials
 pub record Outcome : Type 0 where
@@ -48,5 +53,5 @@ carried_out s serials (o ∷ os) =
 
 -- what a request is answered: the text of its replies, unless memory was refused for it, or its refusal
 abbrev pub Answers : {Z E : Type 0} → Result (Result (String Z) E) Status → Request → Outcome → Type 0
-Answers (Ok text) r o = (o.refusal ≡ None) × IfOk text (λ t. string_bytes t ≡ text_of r o.replies)
+Answers (Ok text) r o = (o.refusal ≡ None) × IfOk text (λ t. string_bytes t ≡ text_of r.ask o.replies)
 Answers (Err status) r o = o.refusal ≡ Some status

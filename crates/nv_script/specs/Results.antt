@@ -9,7 +9,7 @@ use Rattle.nv_script.specs.Texts.{message_of, refusal_text, text_of}
 use Rattle.nv_script.specs.declared.executing.Position.{Position}
 use Rattle.nv_line.specs.declared.fault.LineFault.{LineFault}
 use Rattle.nv_line.specs.declared.line.Line.{Line}
-use Rattle.nv_line.specs.declared.line.Line.TheVariants.{Skipped, Asked}
+use Rattle.nv_line.specs.declared.line.Line.TheVariants as line
 use Rattle.nv_line.specs.declared.request.Request.{Request}
 
 -- what a line prints, on one of the two streams at most; its status, if it has one; and what it leaves
@@ -22,7 +22,7 @@ pub record LineResult : Type 0 where
 
 -- a request prints its text, or the message of its refusal
 abbrev pub told_by : Option Status → ℕ → Request → Outcome → LineResult
-told_by None number r o = record { output = text_of r o.replies; message = []; status = Some 0; state = o.state; serials = o.serials }
+told_by None number r o = record { output = text_of r.ask o.replies; message = []; status = Some 0; state = o.state; serials = o.serials }
 told_by (Some status) number r o = record { output = []; message = message_of number (refusal_text status); status = Some 2; state = o.state; serials = o.serials }
 
 abbrev pub told : ℕ → Request → Outcome → LineResult
@@ -30,8 +30,8 @@ told number r o = told_by o.refusal number r o
 
 -- the line of this number
 abbrev pub line_result : State → List ℕ → ℕ → Result Line LineFault → LineResult
-line_result s serials number (Ok Skipped) = record { output = []; message = []; status = None; state = s; serials = serials }
-line_result s serials number (Ok (Asked r)) = told number r (carried_out s serials (commands_of s r))
+line_result s serials number (Ok line.Skipped) = record { output = []; message = []; status = None; state = s; serials = serials }
+line_result s serials number (Ok (line.Request r)) = told number r (carried_out s serials (commands_of s r))
 line_result s serials number (Err fault) = record { output = []; message = message_of number (fault_text fault); status = Some 1; state = s; serials = serials }
 
 -- where a script stands between two lines: what was printed, the status of the last line that has one, the

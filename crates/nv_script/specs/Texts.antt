@@ -9,8 +9,8 @@ use Rattle.nv_layout.specs.declared.id_ns.Lbaf.{Lbaf}
 use Rattle.nv_subsystem.specs.Reply.{blank}
 use Rattle.nv_subsystem.specs.declared.commands.Reply.{Reply}
 use Rattle.nv_subsystem.specs.declared.commands.Reply.TheVariants as reply
-use Rattle.nv_line.specs.declared.request.Request.{Request}
-use Rattle.nv_line.specs.declared.request.Request.TheVariants as request
+use Rattle.nv_line.specs.declared.request.Ask.{Ask}
+use Rattle.nv_line.specs.declared.request.Ask.TheVariants as ask
 
 -- 0x and hexadecimal digits
 abbrev pub hexadecimal : ℕ → List ℕ
@@ -80,10 +80,10 @@ namespace_in [] = blank
 namespace_in (reply.List nsids ∷ rest) = blank
 namespace_in (reply.Namespace r ∷ rest) = r
 
--- what a request prints of its replies
-abbrev pub text_of : Request → List Reply → List ℕ
-text_of (request.ListNs controller first all) replies = text_of_nsids (nsids_in replies)
-text_of (request.IdNs controller nsid force) replies = text_of_namespace (namespace_in replies)
+-- what is printed of the replies to an ask
+abbrev pub text_of : Ask → List Reply → List ℕ
+text_of (ask.ListNs first all) replies = text_of_nsids (nsids_in replies)
+text_of (ask.IdNs nsid force) replies = text_of_namespace (namespace_in replies)
 
 -- ---- messages
 

@@ -7,7 +7,6 @@ ghost use Rattle.nv_script.specs.Ends.{IsFailureOf, LineLeaves, Printed, Stands,
 ghost use Rattle.nv_line.specs.LineFault.{IsUnlessMemory};
 ghost use Rattle.nv_script.specs.Outcomes.{Answers, carried_out, commands_of};
 ghost use Rattle.nv_line.specs.Line.{IsKnown, reading};
-ghost use Rattle.nv_line.specs.Request.{controller_of};
 ghost use Rattle.nv_script.specs.Results.{Progress};
 ghost use Rattle.nv_script.specs.ScriptLines.{held};
 ghost use Rattle.nv_script.specs.Streams.{WritesAll};
@@ -18,7 +17,7 @@ use crate::serving::Direct;
 use crate::streams::Sink;
 use crate::texts::{fault_message, list_text, namespace_text, refusal_message};
 use nv_layout::Status;
-use nv_line::{Line, LineFault, Request, read_line};
+use nv_line::{Ask, Line, LineFault, Request, read_line};
 use std::alloc::{AllocError, Global};
 
 /// Where a run stands between two lines: how many lines there were, and the status of the last one that
@@ -75,29 +74,22 @@ fn perform<D: Direct>(
     request: Request,
 ) -> Result<Result<String, AllocError>, Status>
     requires ready { IsReady (D.state direct.old) serials.old }
-    requires controller { controller_of request < length serials.old }
+    requires controller { request.controller < length serials.old }
     ensures answer { Answers result request (carried_out (D.state direct.old) serials.old (commands_of (D.state direct.old) request)) }
     ensures state { D.state direct.new ≡ (carried_out (D.state direct.old) serials.old (commands_of (D.state direct.old) request)).state }
     ensures serials { serials.new ≡ (carried_out (D.state direct.old) serials.old (commands_of (D.state direct.old) request)).serials }
     ensures ready { IsReady (D.state direct.new) serials.new }
 {
-    match request {
-        Request::ListNs {
-            controller,
-            first,
-            all,
-        } => {
+    let controller = request.controller;
+    match request.ask {
+        Ask::ListNs { first, all } => {
             let after = first.saturating_sub(1);
             match ask_list(direct, serials, controller, after, all) {
                 Ok(list) => Ok(list_text(alloc, &list)),
                 Err(status) => Err(status),
             }
         }
-        Request::IdNs {
-            controller,
-            nsid,
-            force,
-        } => match ask_namespace(direct, serials, controller, nsid, force) {
+        Ask::IdNs { nsid, force } => match ask_namespace(direct, serials, controller, nsid, force) {
             Ok(namespace) => Ok(namespace_text(alloc, &namespace)),
             Err(status) => Err(status),
         },
@@ -151,7 +143,7 @@ pub fn execute_line<D: Direct, O: Sink, M: Sink>(
     };
     match said {
         Line::Skipped => Ok(()),
-        Line::Asked(request) => match perform(alloc, direct, serials, request) {
+        Line::Request(request) => match perform(alloc, direct, serials, request) {
             Ok(text) => {
                 at.status = 0;
                 print(out, text, RunEnd::OutWrite)

@@ -12,7 +12,7 @@ mod streams;
 mod texts;
 
 pub use ends::RunEnd;
-pub use nv_line::{Line, LineFault, OptionName, Request, read_line};
+pub use nv_line::{Ask, LINE_LIMIT, Line, LineFault, OptionName, Request, read_line};
 pub use running::run;
 pub use serving::{Direct, Straight};
 pub use streams::{OverRead, OverWrite, Sink, Source};

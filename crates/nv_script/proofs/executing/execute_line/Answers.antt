@@ -5,7 +5,7 @@ use Rattle.nv_script.specs.Outcomes.{carried_out, commands_of}
 use Rattle.nv_script.specs.Results.{LineResult, told_by}
 use Rattle.nv_script.specs.Texts.{message_of, refusal_text, text_of}
 use Rattle.nv_script.specs.declared.executing.Position.{Position}
-use Rattle.nv_line.specs.declared.line.Line.TheVariants.{Asked}
+use Rattle.nv_line.specs.declared.line.Line.TheVariants as line
 use Rattle.nv_script.proofs.LineLaws.{amid-all, amid-zero, fault_said, line_said, message_leaves, output_leaves, result_asked, result_fault, said_here}
 use Rattle.nv_script.proofs.executing.execute_line.Goals as goal
 
@@ -14,13 +14,13 @@ returns-in-Ok-perform-clause-left g c text p o m is stands =
     let s = g.D.Direct.state c.args.direct.now in
     let serials = c.args.serials.now in
     let n = c.args.at.now.number in
-    let r = c.in-Asked.request in
-    let said = line_said c.in-Ok.said _ (c.in-Ok.ensures.said text is) ∙ ap Ok c.in-Asked.is in
-    let here = said_here p text s c.controllers.result (Ok (Asked r)) stands.holds.reached c.controllers.ensures said in
+    let r = c.in-Request.request in
+    let said = line_said c.in-Ok.said _ (c.in-Ok.ensures.said text is) ∙ ap Ok c.in-Request.is in
+    let here = said_here p text s c.controllers.result (Ok (line.Request r)) stands.holds.reached c.controllers.ensures said in
     let number = ap (λ (x : Position). x.number) stands.place in
     let come = carried_out s serials (commands_of s r) in
     let answer = c.in-Ok-perform.ensures.answer in
-    let lr : LineResult = record { output = text_of r come.replies; message = []; status = Some 0; state = come.state; serials = come.serials } in
+    let lr : LineResult = record { output = text_of r.ask come.replies; message = []; status = Some 0; state = come.state; serials = come.serials } in
     let same = result_asked p text r s serials n here stands.holds.reached stands.next number ∙ ap (λ x. told_by x (n + 1) r come) answer.0 in
     let place = ap (λ x. let at : Position = record { number = x + 1; status = 0 } in at) number in
     output_leaves p text lr (length (commands_of p.state r)) (left_at o (g.O.Sink.taken c.args.out.now) m (g.M.Sink.taken c.args.messages.now) s) (g.D.Direct.state c.perform.new.direct) c.perform.new.serials _
@@ -32,9 +32,9 @@ returns-in-Err-perform-clause-left g c text p o m is stands =
     let s = g.D.Direct.state c.args.direct.now in
     let serials = c.args.serials.now in
     let n = c.args.at.now.number in
-    let r = c.in-Asked.request in
-    let said = line_said c.in-Ok.said _ (c.in-Ok.ensures.said text is) ∙ ap Ok c.in-Asked.is in
-    let here = said_here p text s c.controllers.result (Ok (Asked r)) stands.holds.reached c.controllers.ensures said in
+    let r = c.in-Request.request in
+    let said = line_said c.in-Ok.said _ (c.in-Ok.ensures.said text is) ∙ ap Ok c.in-Request.is in
+    let here = said_here p text s c.controllers.result (Ok (line.Request r)) stands.holds.reached c.controllers.ensures said in
     let number = ap (λ (x : Position). x.number) stands.place in
     let come = carried_out s serials (commands_of s r) in
     let status = c.in-Err-perform.status in

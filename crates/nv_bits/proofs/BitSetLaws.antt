@@ -1,0 +1,198 @@
+-- Sets of numbers as bits.
+use Rattle.std.proofs.Common.{◌≡◌, ◌≢◌, ◌∙◌, ℕ, zero, suc, ◌+◌, ◌-◌, ◌*◌, ◌/◌, ◌%◌, ◌^◌, ◌<◌, ◌≤◌, ◌==◌, Bool, true, false, not, cond, List, length, get_or, set, length-set, Option, Some, None, is_some, refl, sym, ap, subst, arith, inl, inr, min, get_or-set_other, replicate}
+use Rattle.std.proofs.lemmas.List.{get_or-replicate, length-replicate}
+use Rattle.std.proofs.lemmas.Bool.{cases_eq, cases_lt, eq-eqb, false_from_ne_true, ne_eqb, true≢false}
+use mir.Val.{bool_byte}
+use Rattle.std.specs.FinMap as map
+use Rattle.std.specs.FinMap.{get, get-empty, len-empty, len-insert, len-remove}
+use Rattle.std.specs.Cmp.{nat_cmp_total}
+use Rattle.std.specs.Ordering.{nat_cmp}
+use Rattle.nv_bits.specs.Numbers.{IsLowest, IsNext, IsOf, NumberSet, all_of, as_member, by_place, insert}
+use Rattle.nv_bits.specs.NumberLaws.{by_place_is, get_at, get_of_insert, get_of_remove, get_outside, len-all_of, len_within}
+use Rattle.nv_bits.specs.Words.{ChangesBit, IsLeastFrom, bit_of}
+use Rattle.nv_bits.specs.BitSet.{AreBits, members_of}
+use Rattle.nv_bits.proofs.WordLaws.{bit_of-ones, bit_of-past_ones, bit_of-zeros, first_ones, none_of_zero}
+
+is_member : (b : Bool) → is_some (as_member b) ≡ b
+is_member true = refl
+is_member false = refl
+
+-- a number of the range is a member where its bit is set
+pub contains_at : (first count : ℕ) (words : List ℕ) (k : ℕ) → k < count
+    → map.contains_key (members_of first count words) (first + k) ≡ bit_of words k
+contains_at first count words k h = ap is_some (get_at _ first count k h) ∙ is_member (bit_of words k)
+
+-- where a number is none of the range, or its bit is not set
+pub not_member : (first count : ℕ) (words : List ℕ) (q : ℕ)
+    → (first ≤ q → q < first + count → bit_of words (q - first) ≡ false)
+    → map.contains_key (members_of first count words) q ≡ false
+not_member first count words q clear =
+    false_from_ne_true (map.contains_key (members_of first count words) q) (λ member.
+    let out : IsOf first count q → ⊥ = λ is.
+        let e : q ≡ first + (q - first) = omega arith in
+        true≢false (sym (rw e at member) ∙ contains_at first count words (q - first) (omega arith) ∙ clear is.0 is.1) in
+    true≢false (sym member ∙ ap is_some (get_outside _ first count q out)))
+
+module _ (first count : ℕ) (old new : List ℕ) (k : ℕ) (here : k < count) where
+  same_place : (b : Bool) → ChangesBit old new k b → (j : ℕ) → as_member (bit_of new j) ≡ cond (first + j == first + k) (as_member b) (as_member (bit_of old j))
+  same_place b change j =
+      elim (cases_eq j k) [
+        | inl e ↦ rw (change j, e, eq-eqb k k refl, eq-eqb (first + k) (first + k) refl) refl
+        | inr ne ↦
+          let other : first + j ≢ first + k = omega arith in
+          rw (change j, ne_eqb j k ne, ne_eqb (first + j) (first + k) other) refl
+      ]
+
+  elsewhere : (q : ℕ) → (IsOf first count q → ⊥) → q ≢ first + k
+  elsewhere q out e = out (omega arith, omega arith)
+
+  pub members-insert : ChangesBit old new k true → members_of first count new ≡ insert (members_of first count old) (first + k)
+  members-insert change =
+      by_place_is _ first count _
+      (λ j h. get_of_insert _ (first + k) tt (first + j) ∙ ap (cond (first + j == first + k) (Some tt)) (get_at _ first count j h) ∙ sym (same_place true change j))
+      (λ q out. get_of_insert _ (first + k) tt q ∙ rw (ne_eqb q (first + k) (elsewhere q out)) (get_outside _ first count q out))
+
+  pub members-remove : ChangesBit old new k false → members_of first count new ≡ map.remove (members_of first count old) (first + k)
+  members-remove change =
+      by_place_is _ first count _
+      (λ j h. get_of_remove _ (first + k) (first + j) ∙ ap (cond (first + j == first + k) None) (get_at _ first count j h) ∙ sym (same_place false change j))
+      (λ q out. get_of_remove _ (first + k) q ∙ rw (ne_eqb q (first + k) (elsewhere q out)) (get_outside _ first count q out))
+
+-- no bit is set
+pub members-empty : (first count : ℕ) (words : List ℕ) → ((k : ℕ) → k < count → bit_of words k ≡ false) → members_of first count words ≡ map.empty
+members-empty first count words none =
+    by_place_is _ first count map.empty (λ k h. get-empty nat_cmp (first + k) ∙ rw (none k h) refl) (λ q _. get-empty nat_cmp q)
+
+-- all bits are set
+pub members-all : (first count : ℕ) (words : List ℕ) → ((k : ℕ) → k < count → bit_of words k ≡ true) → members_of first count words ≡ all_of first count
+members-all first count words all =
+    by_place_is _ first count (all_of first count) (λ k h. get_at _ first count k h ∙ rw (all k h) refl) (λ q out. get_outside _ first count q out)
+
+-- ---- the fields of a set
+
+are_more : (b : Bool) (len n : ℕ) → len ≡ n → len + bool_byte (not b) ≡ cond b n (n + 1)
+are_more true len n e = omega arith
+are_more false len n e = omega arith
+
+module _ (first count len lowest_word : ℕ) (words : List ℕ) (are : AreBits first count len lowest_word words) where
+  abbrev members : NumberSet
+  members = members_of first count words
+
+  pub len_in_range : len ≤ count
+  len_in_range = omega (arith, are.len_is, len_within (λ k. as_member (bit_of words k)) first count)
+
+  -- none is a member below the lowest word
+  none_below_lowest : (q : ℕ) → q < first + 64 * lowest_word → map.contains_key members q ≡ false
+  none_below_lowest q h =
+      not_member first count words q (λ from _. none_of_zero words (q - first) (are.none_below ((q - first) / 64) (omega arith)))
+
+  module _ (at k : ℕ) (least : IsLeastFrom (bit_of words) at k) where
+    pub least_in_range : k < count
+    least_in_range =
+        elim (cases_lt k count) [
+          | inl h ↦ h
+          | inr h ↦ absurd (true≢false (sym least.passes ∙ are.none_past k h))
+        ]
+
+    least_is_member : map.contains_key members (first + k) ≡ true
+    least_is_member = contains_at first count words k least_in_range ∙ least.passes
+
+    none_between : (q : ℕ) → (first ≤ q → at ≤ q - first) → q < first + k → map.contains_key members q ≡ false
+    none_between q from to = not_member first count words q (λ f _. least.before (q - first) (from f) (omega arith))
+
+    -- the least bit from the lowest word on is that of the lowest number
+    pub lowest_is : at ≡ 64 * lowest_word → IsLowest members (first + k)
+    lowest_is e = record {
+      member = least_is_member;
+      least = λ q h.
+          elim (cases_lt q (first + 64 * lowest_word)) [
+            | inl below ↦ none_below_lowest q below
+            | inr from ↦ none_between q (λ f. omega arith) h
+          ];
+    }
+
+    -- and from the place behind a number on, that of the next number
+    pub next_is : (n : ℕ) → at ≡ n + 1 - first → IsNext members n (first + k)
+    next_is n e = record {
+      later = omega (arith, least.from);
+      member = least_is_member;
+      least = λ q after before. none_between q (λ f. omega arith) before;
+    }
+
+  module _ (at : ℕ) (none : (k : ℕ) → at ≤ k → bit_of words k ≡ false) where
+    -- where no bit is set from the lowest word on, there is no number
+    pub none_is : at ≡ 64 * lowest_word → members ≡ map.empty
+    none_is e =
+        members-empty first count words (λ k _.
+        elim (cases_lt k at) [
+          | inl below ↦ none_of_zero words k (are.none_below (k / 64) (omega arith))
+          | inr from ↦ none k from
+        ])
+
+    -- and from the place behind a number on, none above it
+    pub no_next : (n : ℕ) → at ≡ n + 1 - first → (q : ℕ) → n < q → map.contains_key members q ≡ false
+    no_next n e q after = not_member first count words q (λ f _. none (q - first) (omega arith))
+
+  -- one bit more
+  pub are-insert : (k w : ℕ) → k < count → ChangesBit words (set words (k / 64) w) k true
+      → AreBits first count (len + bool_byte (not (bit_of words k))) (min lowest_word (k / 64)) (set words (k / 64) w)
+  are-insert k w here change = record {
+    in_range = are.in_range;
+    room = length-set words (k / 64) w ∙ are.room;
+    none_past = λ j h. let ne : j ≢ k = omega arith in change j ∙ rw (ne_eqb j k ne) (are.none_past j h);
+    len_is =
+        are_more (bit_of words k) _ _ are.len_is
+        ∙ sym (ap map.len (members-insert first count words (set words (k / 64) w) k here change)
+        ∙ len-insert nat_cmp_total members (first + k) tt
+        ∙ ap (λ b. cond b (map.len members) (map.len members + 1)) (contains_at first count words k here));
+    within = omega (arith, length-set words (k / 64) w, are.within);
+    none_below = λ i h. let ne : i ≢ k / 64 = omega arith in get_or-set_other words (k / 64) i w 0 ne ∙ are.none_below i (omega arith);
+  }
+
+  -- one bit less
+  pub are-remove : (k w next : ℕ) → k < count → bit_of words k ≡ true → ChangesBit words (set words (k / 64) w) k false
+      → lowest_word ≤ next → next ≤ length words → ((i : ℕ) → lowest_word ≤ i → i < next → get_or (set words (k / 64) w) i 0 ≡ 0)
+      → AreBits first count (len - 1) next (set words (k / 64) w)
+  are-remove k w next here bit change from to zeros = record {
+    in_range = are.in_range;
+    room = length-set words (k / 64) w ∙ are.room;
+    none_past = λ j h. let ne : j ≢ k = omega arith in change j ∙ rw (ne_eqb j k ne) (are.none_past j h);
+    len_is =
+        ap (λ n. n - 1) are.len_is
+        ∙ sym (ap map.len (members-remove first count words (set words (k / 64) w) k here change)
+        ∙ len-remove nat_cmp_total members (first + k)
+        ∙ ap (λ b. cond b (map.len members - 1) (map.len members)) (contains_at first count words k here ∙ bit));
+    within = omega (arith, length-set words (k / 64) w);
+    none_below = λ i h.
+        elim (cases_lt i lowest_word) [
+          | inr from ↦ zeros i from h
+          | inl below ↦
+            elim (cases_eq i (k / 64)) [
+              | inl same ↦ absurd (true≢false (sym bit ∙ none_of_zero words k (rw same at (are.none_below i below))))
+              | inr ne ↦ get_or-set_other words (k / 64) i w 0 ne ∙ are.none_below i below
+            ]
+        ];
+  }
+
+-- ---- new sets
+
+pub are-empty : (first count : ℕ) → first + count ≤ 2 ^ 32
+    → AreBits first count 0 (length {A = ℕ} (replicate (count / 64 + 1) 0)) (replicate (count / 64 + 1) 0)
+are-empty first count range = record {
+  in_range = range;
+  room = length-replicate {A = ℕ} (count / 64 + 1) 0;
+  none_past = λ k _. bit_of-zeros (count / 64 + 1) k;
+  len_is = sym (ap map.len (members-empty first count _ (λ k _. bit_of-zeros (count / 64 + 1) k)) ∙ len-empty nat_cmp (Unit {0}));
+  within = omega arith;
+  none_below = λ i h. get_or-replicate (count / 64 + 1) i 0 0 (omega (arith, length-replicate {A = ℕ} (count / 64 + 1) 0));
+}
+
+pub are-full : (first count : ℕ) → first + count ≤ 2 ^ 32 → AreBits first count count 0 (first_ones count)
+are-full first count range = record {
+  in_range = range;
+  room = length-set (replicate (count / 64 + 1) (2 ^ 64 - 1)) (count / 64) (2 ^ (count % 64) - 1) ∙ length-replicate (count / 64 + 1) (2 ^ 64 - 1);
+  none_past = bit_of-past_ones count;
+  len_is = sym (ap map.len (members-all first count (first_ones count) (bit_of-ones count)) ∙ len-all_of first count);
+  within = omega arith;
+  none_below = λ i h. absurd (omega arith);
+}

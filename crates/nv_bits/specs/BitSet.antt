@@ -1,0 +1,33 @@
+-- A set of numbers out of a range, and the bits that stand for it.
+use Rattle.std.specs.Prelude.{◌≡◌, ℕ, ◌+◌, ◌/◌, ◌^◌, ◌<◌, ◌≤◌, false, List, length, slice_index, refl}
+use Rattle.std.specs.Coded.{Coded, code_by, coded×, coded_ℕ}
+use Rattle.std.specs.FinMap as map
+use Rattle.std.specs.FinSet as set
+use Rattle.nv_bits.specs.Numbers.{NumberSet, as_member, by_place}
+use Rattle.nv_bits.specs.Words.{bit_of}
+
+-- a set of numbers, all of them among the `count` from `first` on
+pub record RangeSet : Type 0 where
+  pub first : ℕ
+  pub count : ℕ
+  pub members : NumberSet
+
+-- such a set is stored as its fields
+abbrev pub range_set_code : Coded RangeSet
+range_set_code =
+    code_by (ℕ × (ℕ × NumberSet)) (coded× coded_ℕ (coded× coded_ℕ (set.code coded_ℕ)))
+    (λ s. (s.first, (s.count, s.members)))
+    (λ p. record { first = p.0; count = p.1.0; members = p.1.1 }) (λ _. refl)
+
+-- the numbers whose bits are set
+abbrev pub members_of : ℕ → ℕ → List ℕ → NumberSet
+members_of first count words = by_place (λ k. as_member (bit_of words k)) first count
+
+-- what is true of the fields
+pub record AreBits (first count len lowest_word : ℕ) (words : List ℕ) : Type 0 where
+  pub in_range : first + count ≤ 2 ^ 32
+  pub room : length words ≡ count / 64 + 1
+  pub none_past : (k : ℕ) → count ≤ k → bit_of words k ≡ false
+  pub len_is : len ≡ map.len (members_of first count words)
+  pub within : lowest_word ≤ length words
+  pub none_below : (i : ℕ) → i < lowest_word → slice_index words i ≡ 0

@@ -1,0 +1,215 @@
+-- Laws of maps and sets of numbers.
+use Rattle.std.proofs.Common.{◌≡◌, ◌≢◌, ◌∙◌, ℕ, zero, suc, ◌+◌, ◌-◌, ◌<◌, ◌≤◌, ◌==◌, ◌||◌, ◌&&◌, Bool, true, false, cond, List, [], ◌∷◌, Option, Some, None, is_some, refl, sym, ap, subst, arith, inl, inr, map as map_list}
+use Rattle.std.proofs.Math.Dec.{T}
+use Rattle.std.proofs.lemmas.Bool.{cases_eq, cases_lt, cases_order, cond_both, eq-eqb, le-ltb, lt-ltb, ne_eqb, or_parts, true≢false}
+use Rattle.std.proofs.lemmas.Bool.Decides.{nat_tests}
+use Rattle.std.specs.List.{list_any}
+use Rattle.std.specs.Ordering.{nat_cmp, eq_by_cmp, is_lt}
+use Rattle.std.specs.declared.cmp.Ordering.TheVariants.{Equal, Greater}
+use Rattle.std.specs.Cmp.{nat_cmp_total, unsigned_tied}
+use Rattle.std.specs.FinMap as map
+use Rattle.std.specs.FinMap.{get, get-empty, get-insert, get-remove, is_sorted, len-empty, len-insert, nat_cmp-IsAntisymmetric, same_map}
+use Rattle.std.specs.FinMap.Entries.{below_all}
+use Rattle.nv_bits.specs.Numbers.{IsNext, IsOf, NumberMap, above, all_of, as_member, by_place, with_value}
+
+module _ {A : Type 0} where
+  -- what is found after a change
+  pub get_of_insert : (m : NumberMap A) (k : ℕ) (x : A) (q : ℕ) → get (map.insert m k x) q ≡ cond (q == k) (Some x) (get m q)
+  get_of_insert m k x q = get-insert nat_cmp_total m k x q ∙ ap (λ b. cond b (Some x) (get m q)) (unsigned_tied q k)
+
+  pub get_of_remove : (m : NumberMap A) (k q : ℕ) → get (map.remove m k) q ≡ cond (q == k) None (get m q)
+  get_of_remove m k q = get-remove nat_cmp_total m k q ∙ ap (λ b. cond b None (get m q)) (unsigned_tied q k)
+
+  -- two maps in which the same is found are equal
+  pub same_numbers : (m n : NumberMap A) → ((q : ℕ) → get m q ≡ get n q) → m ≡ n
+  same_numbers m n = same_map nat_cmp_total nat_cmp-IsAntisymmetric m n
+
+  get_of_with_value : (m : NumberMap A) (k q : ℕ) (o : Option A) → get m k ≡ None → get (with_value m k o) q ≡ cond (q == k) o (get m q)
+  get_of_with_value m k q None none =
+      elim (cases_eq q k) [
+        | inl e ↦ rw (e, eq-eqb k k refl) none
+        | inr ne ↦ rw (ne_eqb q k ne) refl
+      ]
+  get_of_with_value m k q (Some x) none = get_of_insert m k x q
+
+  -- where a map by places has nothing, since the number is none of the range
+  pub get_outside : (at : ℕ → Option A) (first count q : ℕ) → (IsOf first count q → ⊥) → get (by_place at first count) q ≡ None
+  unfolding by_place
+  get_outside at first zero q out = get-empty nat_cmp q
+  get_outside at first (suc count) q out =
+      let none = get_outside at first count (first + count) (λ is. absurd (omega arith)) in
+      let other : q ≢ first + count = λ e. out (omega arith, omega arith) in
+      get_of_with_value (by_place at first count) (first + count) q (at count) none
+      ∙ rw (ne_eqb q (first + count) other) (get_outside at first count q (λ is. out (is.0, omega arith)))
+
+  -- and what it has at a place
+  pub get_at : (at : ℕ → Option A) (first count k : ℕ) → k < count → get (by_place at first count) (first + k) ≡ at k
+  unfolding by_place
+  get_at at first zero k h = absurd (omega arith)
+  get_at at first (suc count) k h =
+      let none = get_outside at first count (first + count) (λ is. absurd (omega arith)) in
+      get_of_with_value (by_place at first count) (first + count) (first + k) (at count) none
+      ∙ elim (cases_eq k count) [
+        | inl e ↦ rw (e, eq-eqb (first + count) (first + count) refl) refl
+        | inr ne ↦
+          let other : first + k ≢ first + count = omega arith in
+          rw (ne_eqb (first + k) (first + count) other) (get_at at first count k (omega arith))
+      ]
+
+  -- a map that has the same at each place, and nothing elsewhere
+  pub by_place_is : (at : ℕ → Option A) (first count : ℕ) (m : NumberMap A) → ((k : ℕ) → k < count → get m (first + k) ≡ at k)
+      → ((q : ℕ) → (IsOf first count q → ⊥) → get m q ≡ None) → by_place at first count ≡ m
+  by_place_is at first count m inside outside =
+      same_numbers _ m (λ q. elim (cases_lt q first) [
+        | inl below ↦
+          let out : IsOf first count q → ⊥ = λ is. omega arith in
+          get_outside at first count q out ∙ sym (outside q out)
+        | inr from ↦
+          elim (cases_lt q (first + count)) [
+            | inr past ↦
+              let out : IsOf first count q → ⊥ = λ is. omega arith in
+              get_outside at first count q out ∙ sym (outside q out)
+            | inl within ↦
+              let e : q ≡ first + (q - first) = omega arith in
+              rw e (get_at at first count (q - first) (omega arith) ∙ sym (inside (q - first) (omega arith)))
+          ]
+      ])
+
+  -- a map by places has no more numbers than there are
+  pub len_within : (at : ℕ → Option A) (first count : ℕ) → map.len (by_place at first count) ≤ count
+  unfolding by_place
+  len_within at first zero = omega (arith, len-empty nat_cmp A)
+  len_within at first (suc count) = one_more (by_place at first count) (first + count) count (at count) (len_within at first count)
+    where
+    one_more : (m : NumberMap A) (k n : ℕ) (o : Option A) → map.len m ≤ n → map.len (with_value m k o) ≤ suc n
+    one_more m k n None h = omega arith
+    one_more m k n (Some x) h =
+        let P : ℕ → Type 0 = λ l. l ≤ suc n in
+        subst P (sym (len-insert nat_cmp_total m k x)) (cond_both (map.contains_key m k) (map.len m) (map.len m + 1) P (λ _. omega arith) (λ _. omega arith))
+
+  -- a map that has a number isn't empty
+  pub has_one : (m : NumberMap A) (k : ℕ) → map.contains_key m k ≡ true → 0 < map.len m
+  has_one m k member =
+      elim (cases_lt 0 (map.len m)) [
+        | inl h ↦ h
+        | inr h ↦
+          let none : m ≡ map.empty = map.empty_of_len m (omega arith) in
+          absurd (true≢false (sym member ∙ ap (λ e. map.contains_key e k) none ∙ ap is_some (get-empty nat_cmp k)))
+      ]
+
+  -- what has no place is taken out of nothing
+  pub remove_absent : (m : NumberMap A) (k : ℕ) → map.contains_key m k ≡ false → map.remove m k ≡ m
+  remove_absent m k absent =
+      same_numbers _ m (λ q. get_of_remove m k q ∙ elim (cases_eq q k) [
+        | inl e ↦ rw (e, eq-eqb k k refl) (sym (none_of (get m k) absent))
+        | inr ne ↦ rw (ne_eqb q k ne) refl
+      ])
+    where
+    none_of : (o : Option A) → is_some o ≡ false → o ≡ None
+    none_of None e = refl
+    none_of (Some x) e = absurd (true≢false e)
+
+-- how many numbers a range has
+pub len-all_of : (first count : ℕ) → map.len (all_of first count) ≡ count
+unfolding by_place
+len-all_of first zero = len-empty nat_cmp (Unit {0})
+len-all_of first (suc count) =
+    let fewer = all_of first count in
+    let out = get_outside (λ _. as_member true) first count (first + count) (λ is. absurd (omega arith)) in
+    len-insert nat_cmp_total fewer (first + count) tt
+    ∙ ap (λ o. cond (is_some o) (map.len fewer) (map.len fewer + 1)) out
+    ∙ ap (λ n. n + 1) (len-all_of first count) ∙ omega arith
+
+-- ---- the numbers of a map in ascending order
+
+less : (x y : ℕ) → T (is_lt (nat_cmp x y)) → x < y
+less x y h =
+    elim (cases_lt x y) [
+      | inl l ↦ l
+      | inr g ↦ absurd (not_less (x == y) (rw (le-ltb x y g) at h))
+    ]
+  where
+  not_less : (b : Bool) → T (is_lt (cond b Equal Greater)) → ⊥
+  not_less true h = h
+  not_less false h = h
+
+left : (a b : Bool) → T (a && b) → T a
+left true b h = tt
+left false b h = absurd h
+
+right : (a b : Bool) → T (a && b) → T b
+right true b h = h
+right false b h = absurd h
+
+module _ {A : Type 0} where
+  abbrev has : List (ℕ × A) → ℕ → Bool
+  has es q = list_any (eq_by_cmp nat_cmp q) (map_list (λ e. e.0) es)
+
+  abbrev numbers : List (ℕ × A) → List ℕ
+  numbers es = map_list (λ e. e.0) es
+
+  -- a number in front of others
+  has_first : (e : ℕ × A) (es : List (ℕ × A)) → has (e ∷ es) e.0 ≡ true
+  has_first e es = rw (unsigned_tied e.0 e.0, eq-eqb e.0 e.0 refl) refl
+
+  has_other : (e : ℕ × A) (es : List (ℕ × A)) (q : ℕ) → q ≢ e.0 → has (e ∷ es) q ≡ has es q
+  has_other e es q ne = rw (unsigned_tied q e.0, ne_eqb q e.0 ne) refl
+
+  -- those behind a lower number are above it
+  above_first : (x q : ℕ) (es : List (ℕ × A)) → T (below_all nat_cmp x es) → has es q ≡ true → x < q
+  above_first x q [] below member = absurd (true≢false (sym member))
+  above_first x q (e ∷ es) below member =
+      elim (cases_eq q e.0) [
+        | inl same ↦ rw same (less x e.0 (left _ _ below))
+        | inr ne ↦ above_first x q es (right (is_lt (nat_cmp x e.0)) _ below) (sym (has_other e es q ne) ∙ member)
+      ]
+
+  none_listed : (n : ℕ) (es : List (ℕ × A)) → ((q : ℕ) → n < q → has es q ≡ false) → above n (numbers es) ≡ []
+  none_listed n [] none = refl
+  none_listed n (e ∷ es) none =
+      elim (cases_lt n e.0) [
+        | inl h ↦ absurd (true≢false (sym (has_first e es) ∙ none e.0 h))
+        | inr h ↦ rw (le-ltb n e.0 h) (none_listed n es (λ q l. (or_parts (eq_by_cmp nat_cmp q e.0) (has es q) (none q l)).1))
+      ]
+
+  all_listed : (n x : ℕ) (es : List (ℕ × A)) → n ≤ x → T (below_all nat_cmp x es) → above n (numbers es) ≡ numbers es
+  all_listed n x [] h below = refl
+  all_listed n x (e ∷ es) h below =
+      let l : x < e.0 = less x e.0 (left _ _ below) in
+      rw (lt-ltb n e.0 (omega arith)) (ap (λ t. e.0 ∷ t) (all_listed n x es h (right (is_lt (nat_cmp x e.0)) _ below)))
+
+  next_listed : (n k : ℕ) (es : List (ℕ × A)) → T (is_sorted nat_cmp es) → n < k → has es k ≡ true
+      → ((q : ℕ) → n < q → q < k → has es q ≡ false) → above n (numbers es) ≡ k ∷ above k (numbers es)
+  next_listed n k [] sorted after member least = absurd (true≢false (sym member))
+  next_listed n k (e ∷ es) sorted after member least =
+      let below : T (below_all nat_cmp e.0 es) = left _ _ sorted in
+      elim (cases_lt n e.0) [
+        | inr past ↦
+          let other : k ≢ e.0 = omega arith in
+          rw (le-ltb n e.0 past, le-ltb k e.0 (omega arith))
+              (next_listed n k es (right (below_all nat_cmp e.0 es) _ sorted) after (sym (has_other e es k other) ∙ member)
+              (λ q a b. let ne : q ≢ e.0 = omega arith in sym (has_other e es q ne) ∙ least q a b))
+        | inl l ↦
+          elim (cases_order e.0 k) [
+            | inl same ↦
+              rw (lt-ltb n e.0 l, le-ltb k e.0 (omega arith))
+                  (ap (λ t. e.0 ∷ t) (all_listed n e.0 es (omega arith) below)
+                  ∙ rw same (ap (λ t. k ∷ t) (sym (all_listed k e.0 es (omega arith) below))))
+            | inr differ ↦
+              elim differ [
+                | inl before ↦ absurd (true≢false (sym (has_first e es) ∙ least e.0 l before))
+                | inr behind ↦
+                  let ne : k ≢ e.0 = omega arith in
+                  let more : e.0 < k = above_first e.0 k es below (sym (has_other e es k ne) ∙ member) in
+                  absurd (omega arith)
+              ]
+          ]
+      ]
+
+  pub above_none : (m : NumberMap A) (n : ℕ) → ((q : ℕ) → n < q → map.contains_key m q ≡ false) → above n (map.keys m) ≡ []
+  above_none m n none = none_listed n (map.entries m) (λ q h. sym (map.contains_key-keys m q) ∙ none q h)
+
+  pub above_next : (m : NumberMap A) (n k : ℕ) → IsNext m n k → above n (map.keys m) ≡ k ∷ above k (map.keys m)
+  above_next m n k next =
+      next_listed n k (map.entries m) (map.entries_sorted m) next.later (sym (map.contains_key-keys m k) ∙ next.member)
+      (λ q a b. sym (map.contains_key-keys m q) ∙ next.least q a b)

@@ -1,0 +1,177 @@
+//! A set of numbers out of a range.
+
+ghost use Rattle.std.specs.Prelude.{◌≡◌, ◌+◌, ◌^◌, ◌<◌, ◌≤◌, ◌∷◌, [], ℕ, false, true, not, ◌↔◌, IfOk, IfSome, IsTrue, MatchOption};
+ghost use Rattle.std.specs.Bool.{OnTrue};
+ghost use Rattle.std.specs.FinMap as map;
+ghost use Rattle.nv_bits.specs.Numbers.{IsLowest, IsNext, IsOf, above, all_of, insert};
+
+use crate::words::{bit, least_from, next_word, repeated};
+use std::alloc::{AllocError, Global};
+use std::marker::Model;
+
+/// A set of numbers, each of them one of `count` consecutive ones. Its room is made once, with a
+/// bit for each number.
+#[derive(Drop)]
+pub struct BitSet {
+    first: u32,
+    count: u32,
+    len: u32,
+    lowest_word: usize,
+    words: Vec<u64>,
+}
+
+impl Model for BitSet {
+    ghost use Rattle.nv_bits.specs.BitSet.{AreBits, RangeSet, members_of, range_set_code};
+
+    ghost Value = { RangeSet };
+
+    ghost coded = { range_set_code };
+
+    ghost view = { λ s. record { first = s.first; count = s.count; members = members_of s.first s.count s.words.items } };
+
+    ghost invariant = { λ s. AreBits s.first s.count s.len s.lowest_word s.words.items };
+}
+
+impl BitSet {
+    /// The empty set, with room for the `count` numbers from `first` on.
+    pub fn new(alloc: Global, first: u32, count: u32) -> Result<BitSet, AllocError>
+        requires { first + count ≤ 2 ^ 32 }
+        ensures { IfOk result (λ s. s ≡ record { first = first; count = count; members = map.empty }) }
+    {
+        let words = repeated(alloc, 0, count as usize / 64 + 1)?;
+        Ok(BitSet {
+            first,
+            count,
+            len: 0,
+            lowest_word: words.len(),
+            words,
+        })
+    }
+
+    /// The set of the `count` numbers from `first` on.
+    pub fn full(alloc: Global, first: u32, count: u32) -> Result<BitSet, AllocError>
+        requires { first + count ≤ 2 ^ 32 }
+        ensures { IfOk result (λ s. s ≡ record { first = first; count = count; members = all_of first count }) }
+    {
+        let mut words = repeated(alloc, u64::MAX, count as usize / 64 + 1)?;
+        words[count as usize / 64] = (1 << (count % 64)) - 1;
+        Ok(BitSet {
+            first,
+            count,
+            len: count,
+            lowest_word: 0,
+            words,
+        })
+    }
+
+    /// The least number that the set can have.
+    pub fn first(&self) -> u32
+        ensures { result ≡ self.now.first }
+    {
+        self.first
+    }
+
+    /// How many numbers the set can have.
+    pub fn count(&self) -> u32
+        ensures value { result ≡ self.now.count }
+        ensures in_range { self.now.first + result ≤ 2 ^ 32 }
+    {
+        self.count
+    }
+
+    /// How many numbers the set has.
+    pub fn len(&self) -> u32
+        ensures value { result ≡ map.len self.now.members }
+        ensures within { result ≤ self.now.count }
+    {
+        self.len
+    }
+
+    /// Whether the set has no number.
+    pub fn is_empty(&self) -> bool
+        ensures { IsTrue result ↔ (self.now.members ≡ map.empty) }
+    {
+        self.len == 0
+    }
+
+    /// Whether the set has a number. It has none out of its range.
+    pub fn contains(&self, n: u32) -> bool
+        ensures value { result ≡ map.contains_key self.now.members n }
+        ensures in_range { OnTrue result (IsOf self.now.first self.now.count n) }
+    {
+        if n < self.first {
+            return false;
+        }
+        let k = n - self.first;
+        k < self.count && bit(&self.words, k as usize)
+    }
+
+    /// Adds a number of the range, and says whether the set didn't have it.
+    pub fn insert(&mut self, n: u32) -> bool
+        requires { IsOf self.old.first self.old.count n }
+        ensures members { self.new ≡ record self.old { members = insert self.old.members n } }
+        ensures is_new { result ≡ not (map.contains_key self.old.members n) }
+    {
+        let k = (n - self.first) as usize;
+        let is_new = !bit(&self.words, k);
+        self.words[k / 64] |= 1 << (k % 64);
+        self.len += u32::from(is_new);
+        self.lowest_word = self.lowest_word.min(k / 64);
+        is_new
+    }
+
+    /// Takes a number out, and says whether the set had it.
+    pub fn remove(&mut self, n: u32) -> bool
+        ensures members { self.new ≡ record self.old { members = map.remove self.old.members n } }
+        ensures is_member { result ≡ map.contains_key self.old.members n }
+    {
+        if !self.contains(n) {
+            return false;
+        }
+        let k = (n - self.first) as usize;
+        self.words[k / 64] &= !(1 << (k % 64));
+        self.len -= 1;
+        self.lowest_word = next_word(&self.words, self.lowest_word);
+        true
+    }
+
+    /// The lowest number of the set.
+    pub fn lowest(&self) -> Option<u32>
+        ensures lowest { MatchOption result (self.now.members ≡ map.empty) (IsLowest self.now.members) }
+        ensures in_range { IfSome result (IsOf self.now.first self.now.count) }
+    {
+        let k = least_from(&self.words, 64 * self.lowest_word)?;
+        Some(self.first + k as u32)
+    }
+
+    /// Takes the lowest number out. There is none exactly where the set is empty, which then stays
+    /// so.
+    pub fn take_lowest(&mut self) -> Option<u32>
+        ensures taken { MatchOption result
+            ((self.old.members ≡ map.empty) × (self.new ≡ self.old))
+            (λ n. IsLowest self.old.members n
+            × (self.new ≡ record self.old { members = map.remove self.old.members n })) }
+        ensures in_range { IfSome result (IsOf self.old.first self.old.count) }
+    {
+        let n = self.lowest()?;
+        self.remove(n);
+        Some(n)
+    }
+
+    /// The lowest number of the set above one.
+    pub fn next_above(&self, n: u32) -> Option<u32>
+        ensures least { MatchOption result
+            ((q : ℕ) → n < q → map.contains_key self.now.members q ≡ false)
+            (IsNext self.now.members n) }
+
+        // So the numbers above one are listed, in ascending order.
+        ensures listed { MatchOption result
+            (above n (map.keys self.now.members) ≡ [])
+            (λ m. above n (map.keys self.now.members) ≡ m ∷ above m (map.keys self.now.members)) }
+        ensures in_range { IfSome result (IsOf self.now.first self.now.count) }
+    {
+        let at = (n as usize + 1).saturating_sub(self.first as usize);
+        let k = least_from(&self.words, at)?;
+        Some(self.first + k as u32)
+    }
+}

@@ -1,7 +1,0 @@
-use Rattle.std.proofs.Common.{◌≡◌, take}
-use Rattle.nv_line.specs.OptionTable.{command_app, word_of}
-use Rattle.clap.specs.Words.{app_of}
-use Rattle.nv_line.proofs.option.clap_command.Given as goal
-
-abbrev pub invariant-loop-option : goal.invariant-loop-option
-invariant-loop-option l = app_of l.command ≡ command_app (word_of l.fn.verb) (take l.option-index l.options)

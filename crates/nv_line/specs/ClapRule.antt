@@ -1,0 +1,51 @@
+-- The commands as clap is told of them, and what it finds in a command line.
+use Rattle.std.specs.Prelude.{ℕ, Bool, true, false, List, fold, Some, Result, Ok, Err, codes, if◌then◌else◌}
+use Rattle.clap.specs.Words.{App, Row, Rule, Text, fault_of, matches_of, new_app, new_rule, with_rule}
+use Rattle.clap.specs.Walk.{is_empty}
+use Rattle.clap.specs.declared.builder.ArgAction.{ArgAction}
+use Rattle.clap.specs.declared.builder.ArgAction.TheVariants.{Set, SetTrue}
+use Rattle.nv_line.specs.NumberOption.{is_required}
+use Rattle.nv_line.specs.OptionName.{name_of}
+use Rattle.nv_line.specs.Verb.{options_of, word_of}
+use Rattle.nv_line.specs.declared.fault.LineFault.{LineFault}
+use Rattle.nv_line.specs.declared.fault.LineFault.TheVariants.{Usage}
+use Rattle.nv_line.specs.declared.option.CommandOption.{CommandOption}
+use Rattle.nv_line.specs.declared.option.CommandOption.TheVariants.{Flag, Number}
+use Rattle.nv_line.specs.declared.option.OptionName.{OptionName}
+use Rattle.nv_line.specs.declared.verb.Verb.{Verb}
+
+-- the rule of an option with a long name and a letter
+abbrev pub rule_for : OptionName → ℕ → ArgAction → Bool → Rule
+rule_for name letter action required = record (new_rule (name_of name)) {
+  long = Some (name_of name);
+  short = Some letter;
+  action = Some action;
+  required = required;
+}
+
+-- a flag takes no value; any other option takes one
+abbrev pub option_rule : CommandOption → Rule
+option_rule (Flag o) = rule_for o.name o.letter SetTrue false
+option_rule (Number o) = rule_for o.name o.letter Set (is_required o)
+
+abbrev pub device_rule : Rule
+device_rule = record (new_rule (codes "device")) { required = true }
+
+-- a command with a device and these options
+abbrev pub command_app : Text → List CommandOption → App
+command_app name options =
+    fold (λ a o. with_rule a (option_rule o)) (with_rule (new_app name) device_rule) options
+
+abbrev pub app_for : Verb → App
+app_for verb = command_app (word_of verb) (options_of verb)
+
+-- clap finds no fault in the words, of which the first is the command word
+unfoldable pub is_taken : Verb → List Text → Bool
+is_taken verb words = is_empty (fault_of (app_for verb) words)
+
+-- what clap then finds
+unfoldable pub clap_rows : Verb → List Text → List Row
+clap_rows verb words = matches_of (app_for verb) words
+
+abbrev pub rows_of_words : Verb → List Text → Result (List Row) LineFault
+rows_of_words verb words = if is_taken verb words then Ok (clap_rows verb words) else Err Usage

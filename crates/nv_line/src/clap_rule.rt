@@ -1,0 +1,79 @@
+//! The commands as `clap` is told of them, and what it finds in a command line.
+
+ghost use Rattle.std.specs.Prelude.{◌≡◌, IfOk, map, option_map, false};
+ghost use Rattle.clap.specs.Words.{app_of, first_of, found_of, rows_of, rule_of};
+ghost use Rattle.nv_line.specs.ClapRule.{app_for, option_rule, rows_of_words, rule_for};
+ghost use Rattle.nv_line.specs.LineFault.{IsUnlessMemory, ok_map};
+
+use crate::fault::LineFault;
+use crate::option::{CommandOption, OptionName};
+use crate::verb::Verb;
+use clap::error::ErrorKind;
+use clap::{Arg, ArgAction, ArgMatches, Command};
+use std::alloc::{AllocError, Global};
+
+/// The argument of an option by its long name and its letter.
+fn named_arg<'a>(alloc: Global, name: OptionName, letter: char, action: ArgAction) -> Arg<'a>
+    ensures rule { rule_of result ≡ rule_for name letter action false }
+    ensures own { result.global ≡ false }
+{
+    let name = name.text();
+    Arg::new(alloc, name)
+        .long(name)
+        .short(letter)
+        .action(action)
+}
+
+/// The argument of an option: a flag takes no value, any other option takes one.
+fn option_arg<'a>(alloc: Global, option: CommandOption) -> Arg<'a>
+    ensures rule { rule_of result ≡ option_rule option }
+    ensures own { result.global ≡ false }
+{
+    match option {
+        CommandOption::Flag(flag) => named_arg(alloc, flag.name, flag.letter, ArgAction::SetTrue),
+        CommandOption::Number(number) => {
+            named_arg(alloc, number.name, number.letter, ArgAction::Set).required(
+                number.is_required(),
+            )
+        }
+    }
+}
+
+/// The `clap` command of a command word: a device, and its options.
+fn clap_command<'a>(alloc: Global, verb: Verb) -> Result<Command<'a>, AllocError>
+    ensures { IfOk result (λ c. app_of c ≡ app_for verb) }
+{
+    let device = Arg::new(alloc, "device").required(true);
+    let mut command = Command::new(alloc, verb.word()).arg(device)?;
+    let options = verb.options();
+    for option in options {
+        command = command.arg(option_arg(alloc, *option))?;
+    }
+    Ok(command)
+}
+
+/// What `clap` finds in the words, of which the first is the command word.
+pub fn clap_matches<'a>(
+    alloc: Global,
+    verb: Verb,
+    words: &'a [&'a str],
+) -> Result<ArgMatches<'a>, LineFault>
+    ensures { IsUnlessMemory (rows_of_words verb (map (λ w. w.now) words.entry.now))
+        (ok_map (λ m. rows_of (found_of m)) result) }
+{
+    let command = clap_command(alloc, verb)?;
+    match command.try_get_matches_from(words) {
+        Ok(matches) => Ok(matches),
+        Err(error) => match error.kind() {
+            ErrorKind::OutOfMemory => Err(LineFault::Memory),
+            _ => Err(LineFault::Usage),
+        },
+    }
+}
+
+/// The text that an argument was given.
+pub fn text_of<'a>(matches: &ArgMatches<'a>, id: &str) -> Option<&'a str>
+    ensures { option_map (λ s. s.now) result ≡ first_of id.now (rows_of (found_of matches.now)) }
+{
+    matches.get_str(id)
+}

@@ -1,0 +1,39 @@
+//! What a command line gives its options.
+
+ghost use Rattle.std.specs.Prelude.{◌≡◌, ◌≤◌, IfOk};
+ghost use Rattle.clap.specs.Words.{found_of, rows_of};
+ghost use Rattle.nv_line.specs.NumberOption.{IsSound};
+ghost use Rattle.nv_line.specs.OptionValue.{flag_in, number_option_in};
+
+use crate::clap_rule::text_of;
+use crate::device::Device;
+use crate::fault::LineFault;
+use crate::number::number;
+use crate::option::{FlagOption, NumberOption};
+use clap::ArgMatches;
+
+/// The number of an option, or what stands in where it isn't written.
+pub fn read_number(
+    matches: &ArgMatches<'_>,
+    option: NumberOption,
+    device: Device,
+) -> Result<u64, LineFault>
+    requires { IsSound option }
+    ensures value { result ≡ number_option_in (rows_of (found_of matches.now)) option device }
+    ensures in_range { IfOk result (λ n. (option.least ≤ n) × (n ≤ option.most)) }
+{
+    match text_of(matches, option.name.text()) {
+        Some(text) => number(text, option.least, option.most).ok_or(LineFault::Number(option.name)),
+        None => option.fallback(device).ok_or(LineFault::Usage),
+    }
+}
+
+/// Whether a flag was written.
+pub fn is_set(matches: &ArgMatches<'_>, flag: FlagOption) -> bool
+    ensures { result ≡ flag_in (rows_of (found_of matches.now)) flag }
+{
+    match text_of(matches, flag.name.text()) {
+        Some(text) => text == "true",
+        None => false,
+    }
+}

@@ -1,0 +1,53 @@
+-- The numbers of places in a ring.
+use Rattle.std.proofs.Common.{◌≡◌, ℕ, ◌+◌, ◌-◌, ◌*◌, ◌<◌, ◌≤◌, Bool, true, false, not, sym, arith}
+use Rattle.nv_queue.specs.Numbers.{above, ahead, first_in_slot, next, number_of, phase_of, slot_of}
+use Rattle.nv_queue.specs.NumberLaws.{ahead_cases, ahead_slot, next_cases, phase_high, phase_low, slot_high, slot_low}
+
+pub number_below : (d s : ℕ) (b : Bool) → s < d → number_of d s b < 2 * d
+number_below d s true h = omega arith
+number_below d s false h = omega arith
+
+pub slot_number_of : (d s : ℕ) (b : Bool) → s < d → slot_of d (number_of d s b) ≡ s
+slot_number_of d s true h = rw (slot_high d (d + s) (omega arith) (omega arith)) (omega arith)
+slot_number_of d s false h = slot_low d s h
+
+pub phase_number_of : (d s : ℕ) (b : Bool) → s < d → phase_of d (number_of d s b) ≡ not b
+phase_number_of d s true h = phase_high d (d + s) (omega arith) (omega arith)
+phase_number_of d s false h = phase_low d s h
+
+pub step_wraps : (d s : ℕ) (b : Bool) → s + 1 ≡ d → number_of d 0 (not b) ≡ next d (number_of d s b)
+step_wraps d s true h = grind (arith, next_cases d (d + s) (omega arith))
+step_wraps d s false h = grind (arith, next_cases d s (omega arith))
+
+pub step_stays : (d s : ℕ) (b : Bool) → s + 1 < d → number_of d (s + 1) b ≡ next d (number_of d s b)
+step_stays d s true h = grind (arith, next_cases d (d + s) (omega arith))
+step_stays d s false h = grind (arith, next_cases d s (omega arith))
+
+-- how far ahead a slot is, which one behind is met in the other pass
+pub ahead_behind : (d s t : ℕ) (b : Bool) → s < d → t < s → t + d - s ≡ ahead d (number_of d s b) t
+ahead_behind d s t true h l = grind (arith, ahead_cases d (d + s) t (omega arith) (omega arith))
+ahead_behind d s t false h l = grind (arith, ahead_cases d s t (omega arith) (omega arith))
+
+pub ahead_before : (d s t : ℕ) (b : Bool) → t < d → s ≤ t → t - s ≡ ahead d (number_of d s b) t
+ahead_before d s t true h l = grind (arith, ahead_cases d (d + s) t (omega arith) (omega arith))
+ahead_before d s t false h l = grind (arith, ahead_cases d s t (omega arith) (omega arith))
+
+pub first_behind : (d s t : ℕ) (b : Bool) → s < d → t < s
+    → number_of d t (not b) ≡ first_in_slot d (number_of d s b) t
+first_behind d s t true h l = grind (arith, ahead_cases d (d + s) t (omega arith) (omega arith))
+first_behind d s t false h l = grind (arith, ahead_cases d s t (omega arith) (omega arith))
+
+pub first_before : (d s t : ℕ) (b : Bool) → t < d → s ≤ t
+    → number_of d t b ≡ first_in_slot d (number_of d s b) t
+first_before d s t true h l = grind (arith, ahead_cases d (d + s) t (omega arith) (omega arith))
+first_before d s t false h l = grind (arith, ahead_cases d s t (omega arith) (omega arith))
+
+-- how far ahead the slot of a number less than a depth above is
+pub ahead_place : (d s k : ℕ) (b : Bool) → s < d → k < 2 * d → above d (number_of d s b) k < d
+    → ahead d k s ≡ above d (number_of d s b) k
+ahead_place d s k b h i f = rw slot_number_of at (ahead_slot d (number_of d s b) k (number_below d s b h) i f)
+
+-- ---- for the attributes of src/
+
+-- the slot and the phase of a place's number
+pub ruleset places = (slot_number_of, phase_number_of, number_below)

@@ -1,0 +1,23 @@
+use Rattle.nv_queue.specs.SlotLaws.{collects_posted}
+use Rattle.nv_queue.specs.TagLaws.{finds_by_tags}
+use Rattle.nv_queue.proofs.completion_ring.CompletionRing.poll.Goals as goal
+
+pub returns-then-is_some-clause-posted : goal.returns-then-is_some-clause-posted
+returns-then-is_some-clause-posted g c =
+    let found = c.peek-completion.ensures in
+    collects_posted _ c.args.self.now c.peek-completion.result found.ring.deep.0 found.awaited found.value
+
+pub returns-else-is_some-clause-posted : goal.returns-else-is_some-clause-posted
+returns-else-is_some-clause-posted g c =
+    let found = c.peek-completion.ensures in
+    collects_posted _ c.args.self.now c.peek-completion.result found.ring.deep.0 found.awaited found.value
+
+pub returns-then-is_some-clause-tags : goal.returns-then-is_some-clause-tags
+returns-then-is_some-clause-tags g c =
+    let found = c.peek-completion.ensures in
+    finds_by_tags _ c.args.self.now c.peek-completion.result found.ring found.awaited
+
+pub returns-else-is_some-clause-tags : goal.returns-else-is_some-clause-tags
+returns-else-is_some-clause-tags g c =
+    let found = c.peek-completion.ensures in
+    finds_by_tags _ c.args.self.now c.peek-completion.result found.ring found.awaited

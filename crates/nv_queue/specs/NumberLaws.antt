@@ -1,0 +1,199 @@
+-- Slots, phases and distances of numbers below twice the depth.
+use Rattle.std.proofs.Common.{◌≡◌, ◌≢◌, ℕ, ◌+◌, ◌-◌, ◌*◌, ◌/◌, ◌%◌, ◌<◌, ◌≤◌, true, false, ◌∙◌, arith}
+use Rattle.std.proofs.Common.{inl, inr, ◌⊎◌, ◌↔◌}
+use Rattle.std.proofs.lemmas.Nat.{mod-mul-add, div-mul-add}
+use Rattle.std.proofs.lemmas.Bool.{cases_lt}
+use Rattle.nv_queue.specs.Numbers.{IsDepth, IsFull, IsSlotBetween, IsWithinRing, above, ahead, first_in_slot, next}
+use Rattle.nv_queue.specs.Numbers.{phase_of, slot_of}
+
+pub rest_is : (x q d r : ℕ) → x ≡ q * d + r → r < d → x % d ≡ r
+rest_is x q d r e h = rw e (mod-mul-add q d r h)
+
+pub times_is : (x q d r : ℕ) → x ≡ q * d + r → r < d → x / d ≡ q
+times_is x q d r e h = rw e (div-mul-add q d r h)
+
+-- ---- each function by cases
+
+pub slot_low : (d n : ℕ) → n < d → slot_of d n ≡ n
+unfolding slot_of
+slot_low d n h = rest_is n 0 d n (omega arith) h
+
+pub slot_high : (d n : ℕ) → d ≤ n → n < 2 * d → slot_of d n ≡ n - d
+unfolding slot_of
+slot_high d n h i = rest_is n 1 d (n - d) (omega arith) (omega arith)
+
+pub phase_low : (d n : ℕ) → n < d → phase_of d n ≡ true
+unfolding phase_of
+phase_low d n h = rw (times_is n 0 d n (omega arith) h)
+
+pub phase_high : (d n : ℕ) → d ≤ n → n < 2 * d → phase_of d n ≡ false
+unfolding phase_of
+phase_high d n h i = rw (times_is n 1 d (n - d) (omega arith) (omega arith))
+
+-- where n stands
+pub slot_cases : (d n : ℕ) → n < 2 * d
+    → ((n < d) × (slot_of d n ≡ n) × (phase_of d n ≡ true))
+    ⊎ ((d ≤ n) × (slot_of d n ≡ n - d) × (phase_of d n ≡ false))
+slot_cases d n h =
+    elim (cases_lt n d) [
+      | inl l ↦ inl (l, slot_low d n l, phase_low d n l)
+      | inr g ↦ inr (g, slot_high d n g h, phase_high d n g h)
+    ]
+
+pub slot_below : (d n : ℕ) → n < 2 * d → slot_of d n < d
+slot_below d n h = grind (arith, slot_cases d n h)
+
+-- the number after n
+pub next_cases : (d n : ℕ) → n < 2 * d
+    → ((n + 1 < 2 * d) × (next d n ≡ n + 1)) ⊎ ((n + 1 ≡ 2 * d) × (next d n ≡ 0))
+unfolding next
+next_cases d n h =
+    elim (cases_lt (n + 1) (2 * d)) [
+      | inl l ↦ inl (l, rest_is (n + 1) 0 (2 * d) (n + 1) (omega arith) l)
+      | inr g ↦ inr (omega arith, rest_is (n + 1) 1 (2 * d) 0 (omega arith) (omega arith))
+    ]
+
+pub next_below : (d n : ℕ) → n < 2 * d → next d n < 2 * d
+next_below d n h = grind (arith, next_cases d n h)
+
+pub above_cases : (d a b : ℕ) → a < 2 * d → b < 2 * d
+    → ((b ≤ a) × (above d a b ≡ a - b)) ⊎ ((a < b) × (above d a b ≡ a + 2 * d - b))
+unfolding above
+above_cases d a b h i =
+    elim (cases_lt a b) [
+      | inl l ↦ inr (l, rest_is (a + 2 * d - b) 0 (2 * d) (a + 2 * d - b) (omega arith) (omega arith))
+      | inr g ↦ inl (g, rest_is (a + 2 * d - b) 1 (2 * d) (a - b) (omega arith) (omega arith))
+    ]
+
+ahead_is : (d n t k q : ℕ) → t + 2 * d - n ≡ q * d + k → k < d → ahead d n t ≡ k
+unfolding ahead
+ahead_is d n t k q e h = rest_is (t + 2 * d - n) q d k e h
+
+-- where the first number in slot t at n or above it lies
+pub ahead_cases : (d n t : ℕ) → n < 2 * d → t < d
+    → ((n ≤ t) × (ahead d n t ≡ t - n) × (first_in_slot d n t ≡ t))
+    ⊎ (((t < n) × (n ≤ t + d) × (ahead d n t ≡ t + d - n) × (first_in_slot d n t ≡ t + d))
+    ⊎ ((t + d < n) × (ahead d n t ≡ t + 2 * d - n) × (first_in_slot d n t ≡ t)))
+unfolding first_in_slot
+ahead_cases d n t h i =
+    elim (cases_lt t n) [
+      | inr g ↦
+          let e = ahead_is d n t (t - n) 2 (omega arith) (omega arith) in
+          inl (g, e, rw e (rest_is (n + (t - n)) 0 (2 * d) t (omega arith) (omega arith)))
+      | inl l ↦ elim (cases_lt (t + d) n) [
+        | inr m ↦
+            let e = ahead_is d n t (t + d - n) 1 (omega arith) (omega arith) in
+            inr (inl (l, m, e, rw e (rest_is (n + (t + d - n)) 0 (2 * d) (t + d) (omega arith) (omega arith))))
+        | inl m ↦
+            let e = ahead_is d n t (t + 2 * d - n) 0 (omega arith) (omega arith) in
+            inr (inr (m, e, rw e (rest_is (n + (t + 2 * d - n)) 1 (2 * d) t (omega arith) (omega arith))))
+      ]
+    ]
+
+pub ahead_below : (d n t : ℕ) → n < 2 * d → t < d → ahead d n t < d
+ahead_below d n t h i = grind (arith, ahead_cases d n t h i)
+
+pub first_in_slot_below : (d n t : ℕ) → n < 2 * d → t < d → first_in_slot d n t < 2 * d
+first_in_slot_below d n t h i = grind (arith, ahead_cases d n t h i)
+
+-- ---- how many numbers lie between
+
+-- one more
+pub above_next : (d n k : ℕ) → n < 2 * d → k < 2 * d → above d n k + 1 < 2 * d
+    → above d (next d n) k ≡ above d n k + 1
+above_next d n k h i l =
+    grind (arith, next_cases d n h, above_cases d n k h i, above_cases d (next d n) k (next_below d n h) i)
+
+-- one less
+pub next_above : (d n k : ℕ) → n < 2 * d → k < 2 * d → k ≢ n → above d n (next d k) ≡ above d n k - 1
+next_above d n k h i o =
+    grind (arith, next_cases d k i, above_cases d n k h i, above_cases d n (next d k) h (next_below d k i))
+
+pub above_none : (d n k : ℕ) → n < 2 * d → k < 2 * d → above d n k ≡ 0 → k ≡ n
+above_none d n k h i e = grind (arith, above_cases d n k h i)
+
+-- the slot of a number less than a depth above is as far ahead as that number
+pub ahead_slot : (d a b : ℕ) → a < 2 * d → b < 2 * d → above d a b < d → ahead d b (slot_of d a) ≡ above d a b
+ahead_slot d a b h i f =
+    grind (arith, slot_cases d a h, above_cases d a b h i, ahead_cases d b (slot_of d a) i (slot_below d a h))
+
+pub above_first : (d n t : ℕ) → n < 2 * d → t < d → above d (first_in_slot d n t) n ≡ ahead d n t
+above_first d n t h i =
+    grind (arith, ahead_cases d n t h i, above_cases d (first_in_slot d n t) n (first_in_slot_below d n t h i) h)
+
+-- that many fewer
+pub first_above : (d a n t : ℕ) → a < 2 * d → n < 2 * d → t < d → ahead d n t ≤ above d a n
+    → above d a (first_in_slot d n t) ≡ above d a n - ahead d n t
+first_above d a n t j h i g =
+    grind (
+      arith,
+      ahead_cases d n t h i,
+      above_cases d a n j h,
+      above_cases d a (first_in_slot d n t) j (first_in_slot_below d n t h i),
+    )
+
+-- ---- the numbers of a ring
+
+pub within_new : (d : ℕ) → IsDepth d → IsWithinRing d 0 0
+within_new d deep = record {
+  deep = deep;
+  from = omega arith;
+  to = omega arith;
+  few = grind (arith, above_cases d 0 0 (omega arith) (omega arith));
+}
+
+pub within_more : (d k n : ℕ) → IsWithinRing d k n → ¬ IsFull d k n → IsWithinRing d k (next d n)
+within_more d k n is free =
+    let deep = is.deep in
+    let more = above_next d n k is.to is.from (omega (arith, is.few)) in
+    record { deep = deep; from = is.from; to = next_below d n is.to; few = omega (arith, is.few, free) }
+
+pub within_taken : (d k n : ℕ) → IsWithinRing d k n → k ≢ n → IsWithinRing d (next d k) n
+within_taken d k n is left =
+    let less = next_above d n k is.to is.from left in
+    record { deep = is.deep; from = next_below d k is.from; to = is.to; few = omega (arith, is.few) }
+
+pub within_freed : (d k n t : ℕ) → IsWithinRing d k n → IsSlotBetween d k n t → IsWithinRing d (first_in_slot d k t) n
+within_freed d k n t is slot =
+    let less = first_above d n k t is.to is.from slot.0 slot.1 in
+    record {
+      deep = is.deep;
+      from = first_in_slot_below d k t is.from slot.0;
+      to = is.to;
+      few = omega (arith, is.few);
+    }
+
+pub within_filled : (d k n t : ℕ) → IsWithinRing d k n → t < d → IsWithinRing d k (first_in_slot d k t)
+within_filled d k n t is low =
+    let far = above_first d k t is.from low in
+    let near = ahead_below d k t is.from low in
+    record { deep = is.deep; from = is.from; to = first_in_slot_below d k t is.from low; few = omega arith }
+
+-- it is full where the slot after the last is that of the first
+pub full_slots : (d k n : ℕ) → IsWithinRing d k n → (slot_of d (next d n) ≡ slot_of d k) ↔ IsFull d k n
+full_slots d k n is =
+    let deep = is.deep in
+    let few = is.few in (
+      (λ e. grind (
+        arith,
+        slot_cases d k is.from,
+        above_cases d n k is.to is.from,
+        next_cases d n is.to,
+        slot_cases d (next d n) (next_below d n is.to),
+      )),
+      (λ e. grind (
+        arith,
+        slot_cases d k is.from,
+        above_cases d n k is.to is.from,
+        next_cases d n is.to,
+        slot_cases d (next d n) (next_below d n is.to),
+      )),
+    )
+
+-- and empty where both are one
+pub empty_slots : (d k n : ℕ) → IsWithinRing d k n → (slot_of d k ≡ slot_of d n) ↔ (k ≡ n)
+empty_slots d k n is =
+    let few = is.few in (
+      (λ e. grind (arith, slot_cases d k is.from, slot_cases d n is.to, above_cases d n k is.to is.from)),
+      (λ e. grind (arith, e)),
+    )

@@ -1,0 +1,105 @@
+//! The host's side of a completion ring.
+
+ghost use Rattle.std.specs.Prelude.{◌≡◌, ◌+◌, ◌*◌, ◌<◌, ◌≤◌, ◌↔◌, IfNone, IfSome, IsNone, IsSome, OnSome, false, length};
+ghost use Rattle.nv_queue.specs.Numbers.{IsDepth, slot_of};
+ghost use Rattle.nv_queue.specs.Rings.{IsCollectRing, collected_one, told_all};
+ghost use Rattle.nv_queue.specs.Slots.{CollectsPosted, FindsByTags, IsAwaitedThere, awaited_completion};
+
+use crate::ring::Ring;
+use nv_host::{HostMemory, load_inside};
+use nv_layout::Cqe;
+use std::marker::Model;
+
+/// The host's side of a completion ring, of 2 to 4,096 slots of 16 bytes. Section "Submission Queue
+/// & Completion Queue Definition".
+#[derive(Drop)]
+pub struct CompletionRing {
+    ring: Ring,
+    untold: bool,
+}
+
+impl Model for CompletionRing {
+    ghost use Rattle.std.specs.Prelude.{◌≡◌, false};
+    ghost use Rattle.nv_queue.specs.Rings.{CollectNumbers};
+
+    ghost Value = { CollectNumbers };
+
+    ghost view = { λ r. record {
+      base = r.ring.base;
+      depth = r.ring.depth;
+      collected = r.ring.own;
+      told = r.ring.told;
+      untold = r.untold;
+    } };
+
+    ghost invariant = { λ r. r.untold ≡ false → r.ring.own ≡ r.ring.told };
+}
+
+impl CompletionRing {
+    /// A new ring of `depth` slots, 2 to 4,096, from address `base` on. Nothing was collected. The
+    /// host zeroes the slots before the device posts: a completion is told from what a slot held
+    /// before by its phase tag alone. Each `poll` needs all slots in its memory.
+    pub fn new(base: u64, depth: u16) -> CompletionRing
+        requires { IsDepth depth }
+        ensures { result ≡ record { base = base; depth = depth; collected = 0; told = 0; untold = false } }
+    {
+        CompletionRing {
+            ring: Ring::new(base, depth),
+            untold: false,
+        }
+    }
+
+    /// The completion in the awaited slot, if it has the phase tag that is due.
+    #[tactic(auto, using(crate::specs::NumberLaws::slot_below))]
+    fn peek<M: HostMemory>(&self, mem: &M) -> Option<Cqe>
+        requires { self.now.base + 16 * self.now.depth ≤ length (M.bytes mem.now) }
+        ensures awaited { IsSome result ↔ IsAwaitedThere (M.bytes mem.now) self.now }
+        ensures value { IfSome result (λ c. c ≡ awaited_completion (M.bytes mem.now) self.now) }
+        ensures ring { IsCollectRing self.now }
+    {
+        let due = self.ring.phase();
+        let mut bytes = [0; 16];
+        let addr = self.ring.address(mem, 16);
+        load_inside(mem, addr, &mut bytes);
+        let completion = Cqe::get(&bytes);
+        if completion.phase != due {
+            return None;
+        }
+        Some(completion)
+    }
+
+    /// Collects the awaited completion. It was posted exactly where its slot has the phase tag of
+    /// its number. Section "Completion Queue Entry". All slots lie in the memory.
+    pub fn poll<M: HostMemory>(&mut self, mem: &M) -> Option<Cqe>
+        requires { self.old.base + 16 * self.old.depth ≤ length (M.bytes mem.now) }
+        ensures awaited { IsSome result ↔ IsAwaitedThere (M.bytes mem.now) self.old }
+        ensures value { IfSome result (λ c. c ≡ awaited_completion (M.bytes mem.now) self.old) }
+        ensures ring { IsCollectRing self.old }
+        ensures posted { CollectsPosted (M.bytes mem.now) self.old result }
+        ensures tags { FindsByTags (M.bytes mem.now) self.old result }
+        ensures collected { OnSome result (self.new ≡ collected_one self.old) }
+        ensures none { IfNone result (self.new ≡ self.old) }
+    {
+        let completion = self.peek(mem);
+        if completion.is_some() {
+            self.ring.step();
+            self.untold = true;
+        }
+        completion
+    }
+
+    /// The head to write to the head doorbell, which then counts as told. There is none where
+    /// nothing was collected since the last one. Section "Completion Queue y Head Doorbell".
+    pub fn head_to_tell(&mut self) -> Option<u16>
+        ensures none { IsNone result ↔ (self.old.untold ≡ false) }
+        ensures head { IfSome result (λ h. h ≡ slot_of self.old.depth self.old.collected) }
+        ensures told { self.new ≡ told_all self.old }
+    {
+        if !self.untold {
+            return None;
+        }
+        self.ring.tell();
+        self.untold = false;
+        Some(self.ring.slot())
+    }
+}

@@ -1,0 +1,169 @@
+//! A ring of slots in the host's memory, with two places in it.
+
+ghost use Rattle.std.specs.Prelude.{◌≡◌, ◌≢◌, ◌+◌, ◌*◌, ◌<◌, ◌≤◌, ◌↔◌, IfSome, IsNone, IsTrue, length};
+ghost use Rattle.nv_queue.specs.Numbers.{IsDepth, IsFull, IsSlotBetween, first_in_slot, next, phase_of, slot_of};
+ghost use Rattle.nv_queue.specs.Rings.{IsRing, IsToldAhead, IsToldBehind};
+
+use crate::place::Place;
+use nv_host::{HostMemory, size_of_memory};
+use std::marker::Model;
+
+/// A ring as one of the four sides keeps it: its own place, and the place that one side told the
+/// other by a doorbell or by the SQ head of a completion.
+#[derive(Drop)]
+pub struct Ring {
+    base: u64,
+    depth: u16,
+    own: Place,
+    told: Place,
+}
+
+impl Model for Ring {
+    ghost use Rattle.std.specs.Prelude.{◌<◌};
+    ghost use Rattle.nv_queue.specs.Rings.{RingNumbers};
+    ghost use Rattle.nv_queue.specs.Numbers.{IsDepth, number_of};
+
+    ghost Value = { RingNumbers };
+
+    ghost view = { λ r. record {
+      base = r.base;
+      depth = r.depth;
+      own = number_of r.depth r.own.slot r.own.second;
+      told = number_of r.depth r.told.slot r.told.second;
+    } };
+
+    ghost invariant = { λ r. IsDepth r.depth × (r.own.slot < r.depth) × (r.told.slot < r.depth) };
+}
+
+impl Ring {
+    /// A ring whose places are those of number 0.
+    pub fn new(base: u64, depth: u16) -> Ring
+        requires { IsDepth depth }
+        ensures { result ≡ record { base = base; depth = depth; own = 0; told = 0 } }
+    {
+        Ring {
+            base,
+            depth,
+            own: Place::first(),
+            told: Place::first(),
+        }
+    }
+
+    /// The slot of the own place.
+    #[tactic(auto, using(crate::proofs::PlaceLaws::places))]
+    pub fn slot(&self) -> u16
+        ensures ring { IsRing self.now }
+        ensures slot { result ≡ slot_of self.now.depth self.now.own }
+    {
+        self.own.slot
+    }
+
+    /// The phase tag that is due at the own place.
+    #[tactic(auto, using(crate::proofs::PlaceLaws::places))]
+    pub fn phase(&self) -> bool
+        ensures ring { IsRing self.now }
+        ensures phase { result ≡ phase_of self.now.depth self.now.own }
+    {
+        !self.own.second
+    }
+
+    /// Moves the own place to the next number.
+    #[tactic(auto, using(crate::proofs::PlaceLaws::places, crate::specs::NumberLaws::within_more, crate::specs::NumberLaws::within_taken))]
+    pub fn step(&mut self)
+        ensures behind { IsToldBehind self.old → ¬ IsFull self.old.depth self.old.told self.old.own
+            → IsToldBehind self.new }
+        ensures ahead { IsToldAhead self.old → self.old.own ≢ self.old.told → IsToldAhead self.new }
+        ensures own { self.new ≡ record self.old { own = next self.old.depth self.old.own } }
+    {
+        self.own = self.own.step(self.depth);
+    }
+
+    /// Whether the own place is as far above the told one as it may come.
+    #[tactic(auto, using(crate::proofs::PlaceLaws::places, crate::specs::NumberLaws::full_slots))]
+    pub fn is_full(&self) -> bool
+        requires { IsToldBehind self.now }
+        ensures { IsTrue result ↔ IsFull self.now.depth self.now.told self.now.own }
+    {
+        self.own.step(self.depth).slot == self.told.slot
+    }
+
+    /// Whether the own place has come to the told one.
+    #[tactic(auto, using(crate::proofs::PlaceLaws::places, crate::specs::NumberLaws::empty_slots))]
+    pub fn is_empty(&self) -> bool
+        requires { IsToldAhead self.now }
+        ensures { IsTrue result ↔ (self.now.own ≡ self.now.told) }
+    {
+        self.own.slot == self.told.slot
+    }
+
+    /// The slot that a doorbell names, if the ring has it.
+    pub fn named_slot(&self, value: u32) -> Option<u16>
+        ensures none { IsNone result ↔ (self.now.depth ≤ value) }
+        ensures slot { IfSome result (λ slot. slot ≡ value) }
+    {
+        if value >= self.depth as u32 {
+            return None;
+        }
+        Some(value as u16)
+    }
+
+    /// Whether a slot is met on the way from the told place to the own one, ends included.
+    #[tactic(auto, using(crate::proofs::PlaceLaws::places, crate::specs::NumberLaws::ahead_slot))]
+    pub fn may_free(&self, slot: u16) -> bool
+        requires { IsToldBehind self.now }
+        ensures { IsTrue result ↔ IsSlotBetween self.now.depth self.now.told self.now.own slot }
+    {
+        self.told.meets(slot, self.own, self.depth)
+    }
+
+    /// Moves the told place forward to a slot.
+    #[tactic(auto, using(crate::proofs::PlaceLaws::places, crate::specs::NumberLaws::within_freed))]
+    pub fn free_to(&mut self, slot: u16)
+        requires behind { IsToldBehind self.old }
+        requires between { IsSlotBetween self.old.depth self.old.told self.old.own slot }
+        ensures behind { IsToldBehind self.new }
+        ensures told { self.new ≡ record self.old { told = first_in_slot self.old.depth self.old.told slot } }
+    {
+        self.told = self.told.reach(slot, self.depth);
+    }
+
+    /// Sets the told place to a slot, at the own place or above it.
+    #[tactic(auto, using(crate::proofs::PlaceLaws::places, crate::specs::NumberLaws::within_filled))]
+    pub fn fill_to(&mut self, slot: u16)
+        requires ahead { IsToldAhead self.old }
+        requires slot { slot < self.old.depth }
+        ensures ahead { IsToldAhead self.new }
+        ensures told { self.new ≡ record self.old { told = first_in_slot self.old.depth self.old.own slot } }
+    {
+        self.told = self.own.reach(slot, self.depth);
+    }
+
+    /// Sets the told place to the own one.
+    pub fn tell(&mut self)
+        ensures { self.new ≡ record self.old { told = self.old.own } }
+    {
+        self.told = self.own;
+    }
+
+    /// Whether the memory has the slot of the own place, where a slot has `size` bytes.
+    #[tactic(auto, using(crate::proofs::PlaceLaws::places))]
+    pub fn fits<M: HostMemory>(&self, mem: &M, size: u16) -> bool
+        ensures { IsTrue result ↔
+            (self.now.base + size * slot_of self.now.depth self.now.own + size ≤ length (M.bytes mem.now)) }
+    {
+        let bytes = size_of_memory(mem);
+        let end = u64::from(size) * u64::from(self.own.slot) + u64::from(size);
+        self.base <= bytes && end <= bytes - self.base
+    }
+
+    /// The address of that slot.
+    #[tactic(auto, using(crate::proofs::PlaceLaws::places))]
+    pub fn address<M: HostMemory>(&self, mem: &M, size: u16) -> u64
+        requires { self.now.base + size * slot_of self.now.depth self.now.own + size ≤ length (M.bytes mem.now) }
+        ensures { result ≡ self.now.base + size * slot_of self.now.depth self.now.own }
+    {
+        // That the memory has the slot bounds the sum.
+        let _bytes = size_of_memory(mem);
+        self.base + u64::from(size) * u64::from(self.own.slot)
+    }
+}
