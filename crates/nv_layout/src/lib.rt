@@ -35,6 +35,7 @@ pub use cqe::Cqe;
 pub use error_entry::ErrorEntry;
 pub use id_ns::{IdNs, Lbaf};
 pub use ns_list::NsList;
+pub use parts::{bits_of, to_bits};
 pub use sqe::Sqe;
 pub use status::Status;
 

@@ -1,0 +1,24 @@
+-- Registers of several fields as dwords. Bits that no field has read 0 and are ignored where they are written.
+use Rattle.std.specs.Prelude.{ℕ, ◌==◌, ◌+◌}
+use Rattle.nv_layout.specs.Parts.{at_bits, bit, bits}
+use Rattle.nv_register.specs.declared.admin_queue_attributes.AdminQueueAttributes.{AdminQueueAttributes}
+use Rattle.nv_register.specs.declared.controller_configuration.ControllerConfiguration.{ControllerConfiguration}
+use Rattle.nv_register.specs.declared.controller_status.ControllerStatus.{ControllerStatus}
+
+-- EN 0, MPS 10:7, IOSQES 19:16, IOCQES 23:20
+abbrev pub cc_dword : ControllerConfiguration → ℕ
+cc_dword r = at_bits 0 1 (bit r.en) + at_bits 7 4 r.mps + at_bits 16 4 r.iosqes + at_bits 20 4 r.iocqes
+
+abbrev pub cc_of_dword : ℕ → ControllerConfiguration
+cc_of_dword x = record { en = bits 0 1 x == 1; mps = bits 7 4 x; iosqes = bits 16 4 x; iocqes = bits 20 4 x }
+
+-- RDY 0, CFS 1
+abbrev pub csts_dword : ControllerStatus → ℕ
+csts_dword r = at_bits 0 1 (bit r.rdy) + at_bits 1 1 (bit r.cfs)
+
+-- ASQS 11:0, ACQS 27:16
+abbrev pub aqa_dword : AdminQueueAttributes → ℕ
+aqa_dword r = at_bits 0 12 r.asqs + at_bits 16 12 r.acqs
+
+abbrev pub aqa_of_dword : ℕ → AdminQueueAttributes
+aqa_of_dword x = record { asqs = bits 0 12 x; acqs = bits 16 12 x }

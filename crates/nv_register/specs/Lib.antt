@@ -1,0 +1,4 @@
+pub mod Register
+pub mod Dwords
+pub mod PageSize
+pub mod Port

@@ -1,0 +1,129 @@
+-- The registers of one controller, and what a read and a write of a dword do.
+use Rattle.std.specs.Prelude.{ℕ, ◌+◌, ◌*◌, ◌-◌, ◌/◌, ◌%◌, ◌^◌, ◌<◌, ◌==◌, ◌&&◌, Bool, true, false, nat_le, nat_lt, is_some, if◌then◌else◌, Option, Some, None, option_map}
+use Rattle.std.specs.Option.{option_map_or}
+use Rattle.nv_queue.specs.Numbers.{above, ahead}
+use Rattle.nv_queue.specs.Rings.{FetchNumbers, PostNumbers, rung_to, told_to}
+use Rattle.nv_register.specs.Dwords.{aqa_dword, aqa_of_dword, cc_dword, cc_of_dword, csts_dword}
+use Rattle.nv_register.specs.PageSize.{page_size_of}
+use Rattle.nv_register.specs.Register.{register_at}
+use Rattle.nv_register.specs.declared.admin_queue_attributes.AdminQueueAttributes.{AdminQueueAttributes}
+use Rattle.nv_register.specs.declared.controller_configuration.ControllerConfiguration.{ControllerConfiguration}
+use Rattle.nv_register.specs.declared.port.Port.{Port}
+use Rattle.nv_register.specs.declared.rings.Rings.{Rings}
+use Rattle.nv_register.specs.declared.register.Register.{Register}
+use Rattle.nv_register.specs.declared.register.Register.TheVariants.{CapLow, CapHigh, Vs, Cc, Csts, Aqa, AsqLow, AsqHigh, AcqLow, AcqHigh, TailDoorbell, HeadDoorbell}
+
+-- after power on
+abbrev pub new_port : Port
+new_port = record {
+  cc = record { en = false; mps = 0; iosqes = 0; iocqes = 0 };
+  cfs = false;
+  aqa = record { asqs = 0; acqs = 0 };
+  asq = 0;
+  acq = 0;
+  rings = None;
+}
+
+-- ---- reads
+
+-- what a register reads; doorbells read 0
+abbrev pub value_of : Port → Register → ℕ
+value_of p CapLow = 0x01010fff
+value_of p CapHigh = 0x00400020
+value_of p Vs = 0x00010400
+value_of p Cc = cc_dword p.cc
+value_of p Csts = csts_dword (record { rdy = is_some p.rings; cfs = p.cfs })
+value_of p Aqa = aqa_dword p.aqa
+value_of p AsqLow = p.asq % 2 ^ 32
+value_of p AsqHigh = p.asq / 2 ^ 32
+value_of p AcqLow = p.acq % 2 ^ 32
+value_of p AcqHigh = p.acq / 2 ^ 32
+value_of p TailDoorbell = 0
+value_of p HeadDoorbell = 0
+
+-- the dword at an offset; 0 where no register begins
+abbrev pub value_at : Port → ℕ → ℕ
+value_at p offset = option_map_or (value_of p) (register_at offset) 0
+
+-- ---- enabling
+
+-- a queue of so many entries, less one
+abbrev pub is_queue : ControllerConfiguration → ℕ → ℕ → Bool
+is_queue cc base less_one = base % page_size_of cc == 0 && (nat_le 1 less_one && nat_le less_one 4095)
+
+-- the values with which a controller becomes ready: a page has at most 65,536 bytes, and both queues begin at a page
+-- and have 2 to 4,096 entries
+abbrev pub can_start : Port → Bool
+can_start p = nat_le p.cc.mps 4 && (is_queue p.cc p.asq p.aqa.asqs && is_queue p.cc p.acq p.aqa.acqs)
+
+-- new rings: their numbers begin at 0
+abbrev pub new_rings : Port → Rings
+new_rings p = record {
+  page_size = page_size_of p.cc;
+  submission = record { base = p.asq; depth = p.aqa.asqs + 1; fetched = 0; rung = 0 };
+  completion = record { base = p.acq; depth = p.aqa.acqs + 1; posted = 0; told = 0 };
+}
+
+-- EN was set: ready at once, or a fatal status
+abbrev pub start : Port → Port
+start p = if can_start p then record p { rings = Some (new_rings p) } else record p { cfs = true }
+
+-- EN was cleared, which clears RDY and CFS
+abbrev pub stop : Port → Port
+stop p = record p { cc = record p.cc { en = false }; cfs = false; rings = None }
+
+-- while EN is 1 a write of CC changes EN alone
+abbrev pub with_cc : Port → ControllerConfiguration → Port
+with_cc p cc =
+    if p.cc.en then (if cc.en then p else stop p)
+    else (if cc.en then start (record p { cc = cc }) else record p { cc = cc })
+
+-- ---- doorbells: both are ignored where the controller is not ready
+
+-- a tail that names no slot is ignored
+abbrev pub rung_by : FetchNumbers → ℕ → FetchNumbers
+rung_by ring tail = if nat_lt tail ring.depth then rung_to ring tail else ring
+
+-- a head that isn't reached by freeing posted slots is ignored
+abbrev pub told_by : PostNumbers → ℕ → PostNumbers
+told_by ring head =
+    if nat_lt head ring.depth && nat_le (ahead ring.depth ring.told head) (above ring.depth ring.posted ring.told)
+    then told_to ring head else ring
+
+abbrev pub with_tail : ℕ → Rings → Rings
+with_tail tail rings = record rings { submission = rung_by rings.submission tail }
+
+abbrev pub with_head : ℕ → Rings → Rings
+with_head head rings = record rings { completion = told_by rings.completion head }
+
+-- ---- writes
+
+-- an address with another low dword, and with another high one
+abbrev pub with_low : ℕ → ℕ → ℕ
+with_low address dword = address / 2 ^ 32 * 2 ^ 32 + dword
+
+abbrev pub with_high : ℕ → ℕ → ℕ
+with_high address dword = dword * 2 ^ 32 + address % 2 ^ 32
+
+-- the queue registers ignore writes while EN is 1
+abbrev pub unless_enabled : Port → Port → Port
+unless_enabled p other = if p.cc.en then p else other
+
+-- a write of a register
+abbrev pub with_register : Port → Register → ℕ → Port
+with_register p CapLow x = p
+with_register p CapHigh x = p
+with_register p Vs x = p
+with_register p Cc x = with_cc p (cc_of_dword x)
+with_register p Csts x = p
+with_register p Aqa x = unless_enabled p (record p { aqa = aqa_of_dword x })
+with_register p AsqLow x = unless_enabled p (record p { asq = with_low p.asq x })
+with_register p AsqHigh x = unless_enabled p (record p { asq = with_high p.asq x })
+with_register p AcqLow x = unless_enabled p (record p { acq = with_low p.acq x })
+with_register p AcqHigh x = unless_enabled p (record p { acq = with_high p.acq x })
+with_register p TailDoorbell x = record p { rings = option_map (with_tail x) p.rings }
+with_register p HeadDoorbell x = record p { rings = option_map (with_head x) p.rings }
+
+-- a write of the dword at an offset; ignored where no register begins
+abbrev pub with_register_at : Port → ℕ → ℕ → Port
+with_register_at p offset x = option_map_or (λ r. with_register p r x) (register_at offset) p
