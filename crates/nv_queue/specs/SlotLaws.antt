@@ -15,8 +15,7 @@ use Rattle.nv_layout.specs.Cqe.{CqeFits, bytes_of_cqe, cqe_of_bytes}
 use Rattle.nv_layout.specs.Sqe.{SqeFits, bytes_of_sqe, sqe_of_bytes}
 use Rattle.nv_layout.specs.declared.cqe.Cqe.{Cqe}
 use Rattle.nv_layout.specs.declared.sqe.Sqe.{Sqe}
-use Rattle.nv_layout.proofs.RecordLaws.{cqe_back, length-bytes_of_cqe, length-bytes_of_sqe}
-use Rattle.nv_layout.proofs.RecordLaws.{sqe_back}
+use Rattle.nv_layout.specs.RecordLaws.{cqe_back, length-bytes_of_cqe, length-bytes_of_sqe, sqe_back}
 use Rattle.nv_queue.specs.Numbers.{kept_number, phase_of, slot_of}
 use Rattle.nv_queue.specs.NumberLaws.{phase_low, slot_low}
 use Rattle.nv_queue.specs.KeptLaws.{phase_again, phase_kept, slot_again, slot_kept, slots_apart}

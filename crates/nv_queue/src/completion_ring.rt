@@ -96,6 +96,7 @@ impl CompletionRing {
     /// nothing was collected since the last one. Section "Completion Queue y Head Doorbell".
     pub fn head_to_tell(&mut self) -> Option<u16>
         ensures none { IsNone result ↔ (self.old.untold ≡ false) }
+        ensures all_told { IfNone result (self.old.collected ≡ self.old.told) }
         ensures head { IfSome result (λ h. h ≡ slot_of self.old.depth self.old.collected) }
         ensures told { self.new ≡ told_all self.old }
     {
