@@ -1,20 +1,23 @@
 -- The capacities of the namespaces of a file, added up.
-use Rattle.std.proofs.Common.{◌≡◌, ◌≢◌, ◌∙◌, ℕ, zero, suc, ◌+◌, List, [], ◌∷◌, map, length, get_or, Some, None, refl, sym, ap, arith, Ordering}
+use Rattle.std.proofs.Common.{◌≡◌, ◌≢◌, ◌∙◌, ℕ, zero, suc, ◌+◌, List, [], ◌∷◌, map, length, get_or, Some, None, false, refl, sym, ap, arith, Ordering}
 use Rattle.std.specs.Prelude.{All, AllPairs, sum_by}
 use Rattle.std.specs.List.{fold}
-use Rattle.std.specs.Ordering.{nat_cmp}
+use Rattle.std.specs.Ordering.{eq_by_cmp, nat_cmp}
 use Rattle.std.specs.declared.cmp.Ordering.TheVariants.{Less, Equal, Greater}
-use Rattle.std.specs.Cmp.{nat_cmp_total}
+use Rattle.std.specs.Cmp.{nat_cmp_total, unsigned_tied}
 use Rattle.std.specs.FinMap as map_of
 use Rattle.std.specs.FinMap.{entries-insert, get-entries, get-insert, len-empty, len-entries}
 use Rattle.std.specs.FinMap.Entries.{put, find}
+use Rattle.std.proofs.lemmas.Bool.{ne_eqb}
 use Rattle.std.proofs.lemmas.List.Sums.{sum_by-cons}
 use Rattle.nv_subsystem.specs.Capacity.{used}
 use Rattle.nv_file.specs.FileValue.{NamespaceValue}
 use Rattle.nv_subsystem.specs.FromFile.{with_namespace}
 use Rattle.nv_subsystem.specs.State.{Namespaces}
 use Rattle.nv_file.specs.declared.namespace.Namespace.{Namespace}
-use Rattle.nv_subsystem.proofs.ByNsid.{differs}
+
+pub differs : (q n : ℕ) → q ≢ n → eq_by_cmp nat_cmp q n ≡ false
+differs q n h = unsigned_tied q n ∙ ne_eqb q n h
 
 total : List (ℕ × Namespace) → ℕ
 total es = sum_by (λ x. x.capacity) (map (λ e. e.1) es)

@@ -16,8 +16,7 @@ use Rattle.nv_file.specs.IsFile.{IsAttached, IsControllerEntry, IsFile, IsNamesp
 use Rattle.nv_subsystem.specs.State.{Namespaces, Nsids}
 use Rattle.nv_subsystem.specs.WellFormed.{IsController, IsNamespace, IsWellFormed}
 use Rattle.nv_file.specs.declared.namespace.Namespace.{Namespace}
-use Rattle.nv_subsystem.proofs.ByNsid.{differs}
-use Rattle.nv_subsystem.proofs.Capacities.{used-all, used-empty}
+use Rattle.nv_subsystem.proofs.Capacities.{differs, used-all, used-empty}
 
 -- the namespace of a file with an NSID
 entry_at : List NamespaceValue → ℕ → Option NamespaceValue
