@@ -6,15 +6,16 @@ use Rattle.std.specs.Ordering.{nat_cmp}
 use Rattle.std.specs.declared.cmp.Ordering.TheVariants.{Less, Equal, Greater}
 use Rattle.std.specs.Cmp.{nat_cmp_total}
 use Rattle.std.specs.FinMap as map_of
-use Rattle.std.specs.FinMap.{entries-insert, get-entries, get-insert, len-empty, len-entries}
+use Rattle.std.specs.FinMap.{entries-insert, get-entries, len-empty, len-entries}
 use Rattle.std.specs.FinMap.Entries.{put, find}
+use Rattle.std.proofs.lemmas.Bool.{ne_eqb}
 use Rattle.std.proofs.lemmas.List.Sums.{sum_by-cons}
+use Rattle.nv_bits.specs.NumberLaws.{get_of_insert}
 use Rattle.nv_subsystem.specs.Capacity.{used}
 use Rattle.nv_file.specs.FileValue.{NamespaceValue}
 use Rattle.nv_subsystem.specs.FromFile.{with_namespace}
 use Rattle.nv_subsystem.specs.State.{Namespaces}
 use Rattle.nv_file.specs.declared.namespace.Namespace.{Namespace}
-use Rattle.nv_subsystem.proofs.ByNsid.{differs}
 
 total : List (ℕ × Namespace) → ℕ
 total es = sum_by (λ x. x.capacity) (map (λ e. e.1) es)
@@ -43,7 +44,7 @@ used-all m [] pairs new = omega arith
 used-all m (n ∷ ns) pairs new =
     let here : map_of.get m n.nsid ≡ None = new zero n (omega arith) in
     let rest = used-all (with_namespace m n) ns (λ i j d a b. pairs (suc i) (suc j) d (omega arith) (omega arith))
-    (λ j d b. get-insert nat_cmp_total m n.nsid n.namespace (get_or ns j d).nsid ∙ rw (differs (get_or ns j d).nsid n.nsid (λ e. pairs zero (suc j) d (omega arith) (omega arith) (sym e))) (new (suc j) d (omega arith))) in
+    (λ j d b. get_of_insert m n.nsid n.namespace (get_or ns j d).nsid ∙ rw (ne_eqb (get_or ns j d).nsid n.nsid (λ e. pairs zero (suc j) d (omega arith) (omega arith) (sym e))) (new (suc j) d (omega arith))) in
     omega (arith, rest, used-insert m n.nsid n.namespace here, sum_by-cons (λ n. n.namespace.capacity) n ns)
 
 none_used : (es : List (ℕ × Namespace)) → length es ≡ 0 → total es ≡ 0

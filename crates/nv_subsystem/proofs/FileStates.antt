@@ -1,11 +1,12 @@
 -- The subsystem of a file is well formed.
-use Rattle.std.proofs.Common.{◌≡◌, ◌≢◌, ◌∙◌, ℕ, zero, suc, ◌≤◌, ◌||◌, ℤ, pos, Bool, true, false, cond, List, [], ◌∷◌, map, length, get_or, Option, Some, None, is_some, refl, sym, ap, subst, arith, int_eq}
+use Rattle.std.proofs.Common.{◌≡◌, ◌≢◌, ◌∙◌, ℕ, zero, suc, ◌≤◌, ◌==◌, ◌||◌, ℤ, pos, Bool, true, false, cond, List, [], ◌∷◌, map, length, get_or, Option, Some, None, is_some, refl, sym, ap, subst, arith, int_eq}
 use Rattle.std.specs.Prelude.{All, AllPairs, if◌then◌else◌, count_by}
 use Rattle.std.specs.List.{fold, list_any}
-use Rattle.std.specs.Ordering.{nat_cmp, eq_by_cmp}
-use Rattle.std.specs.Cmp.{nat_cmp_total, unsigned_tied}
+use Rattle.std.specs.Ordering.{nat_cmp}
+use Rattle.nv_bits.specs.NumberLaws.{get_of_insert}
 use Rattle.std.specs.FinMap as map_of
-use Rattle.std.specs.FinMap.{get-empty, get-insert}
+use Rattle.std.specs.FinMap.{get-empty}
+use Rattle.std.proofs.lemmas.Bool.{ne_eqb}
 use Rattle.std.proofs.lemmas.Bool.Decides.{Decides-int_eq, nat_tests}
 use Rattle.std.proofs.lemmas.List.{length-map, get_or-map}
 use Rattle.std.proofs.lemmas.List.Elements.{All-map, All-weaker}
@@ -16,13 +17,12 @@ use Rattle.nv_file.specs.IsFile.{IsAttached, IsControllerEntry, IsFile, IsNamesp
 use Rattle.nv_subsystem.specs.State.{Namespaces, Nsids}
 use Rattle.nv_subsystem.specs.WellFormed.{IsController, IsNamespace, IsWellFormed}
 use Rattle.nv_file.specs.declared.namespace.Namespace.{Namespace}
-use Rattle.nv_subsystem.proofs.ByNsid.{differs}
 use Rattle.nv_subsystem.proofs.Capacities.{used-all, used-empty}
 
 -- the namespace of a file with an NSID
 entry_at : List NamespaceValue → ℕ → Option NamespaceValue
 entry_at [] q = None
-entry_at (n ∷ ns) q = cond (eq_by_cmp nat_cmp q n.nsid) (Some n) (entry_at ns q)
+entry_at (n ∷ ns) q = cond (q == n.nsid) (Some n) (entry_at ns q)
 
 Distinct : List NamespaceValue → Type 0
 Distinct ns = AllPairs (λ a b. a.nsid ≢ b.nsid) ns
@@ -35,25 +35,25 @@ abbrev says : (NamespaceValue → Bool) → Option NamespaceValue → Bool
 says p None = false
 says p (Some e) = p e
 
-is_nsid : (q n : ℕ) → eq_by_cmp nat_cmp q n ≡ true → q ≡ n
-is_nsid q n h = let e = sym (unsigned_tied q n) ∙ h in grind (arith, nat_tests)
+is_nsid : (q n : ℕ) → (q == n) ≡ true → q ≡ n
+is_nsid q n h = grind (arith, nat_tests)
 
 -- an NSID that none of them has
 absent : (ns : List NamespaceValue) (q : ℕ) → All (λ n. q ≢ n.nsid) ns → entry_at ns q ≡ None
 unfolding entry_at
 absent [] q h = refl
-absent (n ∷ ns) q h = rw (differs q n.nsid (h zero n (omega arith))) (absent ns q (λ k d b. h (suc k) d (omega arith)))
+absent (n ∷ ns) q h = rw (ne_eqb q n.nsid (h zero n (omega arith))) (absent ns q (λ k d b. h (suc k) d (omega arith)))
 
 later : (n : NamespaceValue) (ns : List NamespaceValue) → Distinct (n ∷ ns) → Distinct ns
 unfolding Distinct
 later n ns h = λ i j d a b. h (suc i) (suc j) d (omega arith) (omega arith)
 
-alone : (n : NamespaceValue) (ns : List NamespaceValue) (q : ℕ) → Distinct (n ∷ ns) → eq_by_cmp nat_cmp q n.nsid ≡ true → entry_at ns q ≡ None
+alone : (n : NamespaceValue) (ns : List NamespaceValue) (q : ℕ) → Distinct (n ∷ ns) → (q == n.nsid) ≡ true → entry_at ns q ≡ None
 unfolding Distinct
 alone n ns q h e = absent ns q (λ k d b. subst (λ m. m ≢ (get_or ns k d).nsid) (sym (is_nsid q n.nsid e)) (h zero (suc k) d (omega arith) (omega arith)))
 
 -- what the map of a file's namespaces has
-found_at : (m : Namespaces) (n : NamespaceValue) (ns : List NamespaceValue) (q : ℕ) (t : Bool) → eq_by_cmp nat_cmp q n.nsid ≡ t → Distinct (n ∷ ns)
+found_at : (m : Namespaces) (n : NamespaceValue) (ns : List NamespaceValue) (q : ℕ) (t : Bool) → (q == n.nsid) ≡ t → Distinct (n ∷ ns)
     → or_else (entry_at ns q) (cond t (Some n.namespace) (map_of.get m q)) ≡ or_else (cond t (Some n) (entry_at ns q)) (map_of.get m q)
 found_at m n ns q true e d = ap (λ o. or_else o (Some n.namespace)) (alone n ns q d e)
 found_at m n ns q false e d = refl
@@ -62,14 +62,14 @@ found : (m : Namespaces) (ns : List NamespaceValue) (q : ℕ) → Distinct ns �
 unfolding entry_at
 found m [] q d = refl
 found m (n ∷ ns) q d =
-    found (with_namespace m n) ns q (later n ns d) ∙ ap (or_else (entry_at ns q)) (get-insert nat_cmp_total m n.nsid n.namespace q) ∙ found_at m n ns q (eq_by_cmp nat_cmp q n.nsid) refl d
+    found (with_namespace m n) ns q (later n ns d) ∙ ap (or_else (entry_at ns q)) (get_of_insert m n.nsid n.namespace q) ∙ found_at m n ns q (q == n.nsid) refl d
 
 -- which NSIDs are attached to a controller
-marked_one : (m : Nsids) (n : NamespaceValue) (cntlid q : ℕ) (t : Bool) → is_attached_to cntlid n ≡ t → is_some (map_of.get (if t then map_of.insert m n.nsid tt else m) q) ≡ (cond (eq_by_cmp nat_cmp q n.nsid) t false || is_some (map_of.get m q))
-marked_one m n cntlid q true e = ap is_some (get-insert nat_cmp_total m n.nsid tt q) ∙ (elim (eq_by_cmp nat_cmp q n.nsid) as (λ b. is_some (cond b (Some tt) (map_of.get m q)) ≡ (cond b true false || is_some (map_of.get m q))) [ true ↦ refl | false ↦ refl ])
-marked_one m n cntlid q false e = elim (eq_by_cmp nat_cmp q n.nsid) as (λ b. is_some (map_of.get m q) ≡ (cond b false false || is_some (map_of.get m q))) [ true ↦ refl | false ↦ refl ]
+marked_one : (m : Nsids) (n : NamespaceValue) (cntlid q : ℕ) (t : Bool) → is_attached_to cntlid n ≡ t → is_some (map_of.get (if t then map_of.insert m n.nsid tt else m) q) ≡ (cond (q == n.nsid) t false || is_some (map_of.get m q))
+marked_one m n cntlid q true e = ap is_some (get_of_insert m n.nsid tt q) ∙ (elim (q == n.nsid) as (λ b. is_some (cond b (Some tt) (map_of.get m q)) ≡ (cond b true false || is_some (map_of.get m q))) [ true ↦ refl | false ↦ refl ])
+marked_one m n cntlid q false e = elim (q == n.nsid) as (λ b. is_some (map_of.get m q) ≡ (cond b false false || is_some (map_of.get m q))) [ true ↦ refl | false ↦ refl ]
 
-marked_at : (n : NamespaceValue) (ns : List NamespaceValue) (cntlid q : ℕ) (held t : Bool) → eq_by_cmp nat_cmp q n.nsid ≡ t → Distinct (n ∷ ns)
+marked_at : (n : NamespaceValue) (ns : List NamespaceValue) (cntlid q : ℕ) (held t : Bool) → (q == n.nsid) ≡ t → Distinct (n ∷ ns)
     → (says (is_attached_to cntlid) (entry_at ns q) || (cond t (is_attached_to cntlid n) false || held)) ≡ (says (is_attached_to cntlid) (cond t (Some n) (entry_at ns q)) || held)
 marked_at n ns cntlid q held true e d = ap (λ o. says (is_attached_to cntlid) o || (is_attached_to cntlid n || held)) (alone n ns q d e)
 marked_at n ns cntlid q held false e d = refl
@@ -80,15 +80,15 @@ marked m [] cntlid q d = refl
 marked m (n ∷ ns) cntlid q d =
     marked (with_attachment cntlid m n) ns cntlid q (later n ns d)
     ∙ ap (λ b. says (is_attached_to cntlid) (entry_at ns q) || b) (marked_one m n cntlid q (is_attached_to cntlid n) refl)
-    ∙ marked_at n ns cntlid q (is_some (map_of.get m q)) (eq_by_cmp nat_cmp q n.nsid) refl d
+    ∙ marked_at n ns cntlid q (is_some (map_of.get m q)) (q == n.nsid) refl d
 
 -- what holds of each namespace of the file holds of the one with an NSID, which has that NSID
 at_nsid : (P : NamespaceValue → Type 0) (ns : List NamespaceValue) (q : ℕ) (e : NamespaceValue) → All P ns → entry_at ns q ≡ Some e → P e × (e.nsid ≡ q)
 unfolding entry_at
 at_nsid P [] q e all is = absurd (cc is)
-at_nsid P (n ∷ ns) q e all is = at_test (eq_by_cmp nat_cmp q n.nsid) refl is (at_nsid P ns q e (λ k d b. all (suc k) d (omega arith)))
+at_nsid P (n ∷ ns) q e all is = at_test (q == n.nsid) refl is (at_nsid P ns q e (λ k d b. all (suc k) d (omega arith)))
   where
-    at_test : (t : Bool) → eq_by_cmp nat_cmp q n.nsid ≡ t → ◌≡◌ {A = Option NamespaceValue} (cond t (Some n) (entry_at ns q)) (Some e) → (entry_at ns q ≡ Some e → P e × (e.nsid ≡ q)) → P e × (e.nsid ≡ q)
+    at_test : (t : Bool) → (q == n.nsid) ≡ t → ◌≡◌ {A = Option NamespaceValue} (cond t (Some n) (entry_at ns q)) (Some e) → (entry_at ns q ≡ Some e → P e × (e.nsid ≡ q)) → P e × (e.nsid ≡ q)
     at_test true h w rest = let same : n ≡ e = cc w in subst (λ x. P x × (x.nsid ≡ q)) same (all zero n (omega arith), sym (is_nsid q n.nsid h))
     at_test false h w rest = rest w
 

@@ -1,6 +1,5 @@
 -- The controllers of the code as values.
 use Rattle.nv_file.specs.Identity.{identity_view}
-use Rattle.nv_subsystem.specs.Slots.{marked_nsids}
 use Rattle.nv_subsystem.specs.State.{Controller}
 use Rattle.nv_subsystem.specs.declared.controller.Controller as controllers
 
@@ -12,5 +11,5 @@ controller_view x = record {
   log = x.log.entries;
   refusals = x.refusals;
   commands = x.commands;
-  attached = marked_nsids x.attached.items;
+  attached = x.attached.members;
 }

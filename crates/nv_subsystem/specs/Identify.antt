@@ -2,6 +2,7 @@
 use Rattle.std.specs.Prelude.{ℕ, ◌+◌, ◌-◌, ◌==◌, ◌||◌, not, nat_le, List, [], ◌∷◌, ◌++◌, length, map, replicate, if◌then◌else◌}
 use Rattle.std.specs.Option.{option_map_or}
 use Rattle.std.specs.FinMap as map_of
+use Rattle.nv_bits.specs.Numbers.{above}
 use Rattle.nv_layout.specs.declared.id_ns.IdNs.{IdNs}
 use Rattle.nv_layout.specs.declared.id_ns.Lbaf.{Lbaf}
 use Rattle.nv_command.specs.declared.command.TheConstants.{BROADCAST_NSID}
@@ -9,7 +10,7 @@ use Rattle.nv_command.specs.declared.reply.Reply.{Reply}
 use Rattle.nv_command.specs.declared.reply.Reply.TheVariants as reply
 use Rattle.nv_command.specs.declared.status_code.StatusCode.TheVariants.{InvalidNamespaceOrFormat}
 use Rattle.nv_subsystem.specs.Capacity.{blocks}
-use Rattle.nv_subsystem.specs.Nsid.{above, active_nsids, is_active, is_valid}
+use Rattle.nv_subsystem.specs.Nsid.{active_nsids, is_active, is_valid}
 use Rattle.nv_subsystem.specs.Row.{Row, row}
 use Rattle.nv_subsystem.specs.State.{State, allocated_nsids}
 use Rattle.nv_subsystem.specs.declared.identify.TheConstants.{LIST_LIMIT}

@@ -5,7 +5,6 @@ pub mod Row
 pub mod ErrorLog
 pub mod State
 pub mod StateCode
-pub mod Slots
 pub mod Capacity
 pub mod Nsid
 pub mod Identify

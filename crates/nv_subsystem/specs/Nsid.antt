@@ -1,6 +1,5 @@
 -- The NSIDs of a subsystem.
-use Rattle.std.specs.Prelude.{ℕ, ◌&&◌, nat_lt, nat_le, List, [], Bool, false}
-use Rattle.std.specs.List.{filter}
+use Rattle.std.specs.Prelude.{ℕ, ◌&&◌, nat_le, List, [], Bool, false}
 use Rattle.std.specs.Option.{option_map_or}
 use Rattle.std.specs.FinMap as map_of
 use Rattle.nv_subsystem.specs.State.{State, controller_at, ascending}
@@ -8,10 +7,6 @@ use Rattle.nv_subsystem.specs.State.{State, controller_at, ascending}
 -- an NSID that a namespace of the subsystem could have
 abbrev pub is_valid : State → ℕ → Bool
 is_valid s n = nat_le 1 n && nat_le n s.nn
-
--- the NSIDs above one
-abbrev pub above : ℕ → List ℕ → List ℕ
-above after ns = filter (λ n. nat_lt after n) ns
 
 -- the NSIDs that are attached to a controller, ascending
 abbrev pub active_nsids : State → ℕ → List ℕ

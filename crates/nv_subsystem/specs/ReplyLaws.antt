@@ -9,7 +9,8 @@ use Rattle.nv_command.specs.Reply.{IsNsidList}
 use Rattle.nv_command.specs.declared.command.TheConstants.{BROADCAST_NSID}
 use Rattle.nv_subsystem.specs.Fits.{RepliesFit}
 use Rattle.nv_subsystem.specs.Identify.{blank, id_ns_of}
-use Rattle.nv_subsystem.specs.Nsid.{above, is_active}
+use Rattle.nv_bits.specs.Numbers.{above}
+use Rattle.nv_subsystem.specs.Nsid.{is_active}
 use Rattle.nv_subsystem.specs.State.{Controller, State, ascending, controller_at}
 use Rattle.nv_subsystem.specs.WellFormed.{IsController, IsWellFormed}
 use Rattle.nv_command.specs.declared.command.Command.TheVariants.{IdentifyNamespace, AllocatedNamespace, ActiveList, AllocatedList}

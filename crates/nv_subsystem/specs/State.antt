@@ -42,10 +42,6 @@ pub record State : Type 0 where
 abbrev pub controller_at : State → ℕ → Option Controller
 controller_at s c = slice_get s.controllers c
 
--- the greatest value of a count, where it stays
-abbrev pub greatest_count : ℕ
-greatest_count = 18446744073709551615
-
 -- the NSIDs of a set, ascending
 abbrev pub ascending : Nsids → List ℕ
 ascending ns = map_of.keys ns

@@ -8,13 +8,14 @@ use Rattle.nv_command.specs.declared.reply.Reply.{Reply}
 use Rattle.nv_subsystem.specs.Effect.{effect_of}
 use Rattle.nv_subsystem.specs.Refusal.{refusal_of}
 use Rattle.nv_subsystem.specs.Reply.{reply_of}
-use Rattle.nv_subsystem.specs.State.{Controller, State, greatest_count}
+use Rattle.nv_subsystem.specs.State.{Controller, State}
+use Rattle.nv_subsystem.specs.declared.controller.TheConstants.{GREATEST_COUNT}
 use Rattle.nv_subsystem.specs.declared.error_log.LogEntry.{LogEntry}
 use Rattle.nv_subsystem.specs.declared.origin.TheConstants.{SERIALS}
 
 -- one more, up to the greatest count
 abbrev pub next_count : ℕ → ℕ
-next_count n = min (n + 1) greatest_count
+next_count n = min (n + 1) GREATEST_COUNT
 
 -- a list with the element at a place changed
 abbrev pub changed_at : {A : Type 0} → List A → ℕ → (A → A) → List A

@@ -6,7 +6,8 @@ use Rattle.std.specs.Prelude.{All, if◌then◌else◌}
 use Rattle.std.specs.List.{AllByRecursion}
 use Rattle.std.specs.FinMap as map_of
 use Rattle.nv_file.specs.Identity.{Identity}
-use Rattle.nv_subsystem.specs.State.{Controller, Namespaces, Nsids, State, greatest_count}
+use Rattle.nv_subsystem.specs.State.{Controller, Namespaces, Nsids, State}
+use Rattle.nv_subsystem.specs.declared.controller.TheConstants.{GREATEST_COUNT}
 use Rattle.nv_subsystem.specs.Step.{next_count, refused, step, step_by, with_command, with_controller, with_refusal}
 use Rattle.nv_subsystem.specs.Effect.{effect_of}
 use Rattle.nv_subsystem.specs.Refusal.{refusal_of, rows_of}
@@ -54,7 +55,7 @@ keeps s c f k w =
       capacities = w.capacities;
     }
 
-next_count-le : (n : ℕ) → next_count n ≤ greatest_count
+next_count-le : (n : ℕ) → next_count n ≤ GREATEST_COUNT
 next_count-le n = omega arith
 
 pub counting_keeps : Keeps (λ x. record x { commands = next_count x.commands })
@@ -64,7 +65,7 @@ counting_keeps = record {
   sound = λ s x h. record { identity = h.identity; rules = h.rules; fids = h.fids; smart = h.smart; log = h.log; entries = h.entries; refusals = h.refusals; commands = next_count-le x.commands; attached = h.attached };
 }
 
-length-with_refusal : (most refusals : ℕ) (e : LogEntry) (log : List LogEntry) → 0 < most → most ≤ 256 → refusals ≤ greatest_count → length log ≡ min refusals most → length (take most (e ∷ log)) ≡ min (next_count refusals) most
+length-with_refusal : (most refusals : ℕ) (e : LogEntry) (log : List LogEntry) → 0 < most → most ≤ 256 → refusals ≤ GREATEST_COUNT → length log ≡ min refusals most → length (take most (e ∷ log)) ≡ min (next_count refusals) most
 length-with_refusal most refusals e log some few low len =
     length-take most (e ∷ log) ∙ (let up : length (e ∷ log) ≡ suc (length log) = refl in omega arith)
 

@@ -3,18 +3,19 @@ use Rattle.std.specs.Prelude.{◌≡◌, ◌≢◌, ℕ, ◌+◌, ◌^◌, ◌<�
 use Rattle.std.specs.FinMap as map_of
 use Rattle.nv_subsystem.specs.Capacity.{used}
 use Rattle.nv_file.specs.Ranges.{AreTopKeys, IsFeatureRule, IsFormat, IsIdentity, IsInFormat, IsSmart}
-use Rattle.nv_subsystem.specs.State.{Controller, Namespaces, State, greatest_count}
+use Rattle.nv_subsystem.specs.State.{Controller, Namespaces, State}
+use Rattle.nv_subsystem.specs.declared.controller.TheConstants.{GREATEST_COUNT}
 use Rattle.nv_layout.specs.Status.{StatusFits}
 use Rattle.nv_subsystem.specs.declared.error_log.LogEntry.{LogEntry}
 use Rattle.nv_file.specs.declared.namespace.Namespace.{Namespace}
 
 -- the numbers of an entry fit their fields
 pub record IsLogEntry (e : LogEntry) : Type 0 where
-  pub count : e.count ≤ greatest_count
+  pub count : e.count ≤ GREATEST_COUNT
   pub cid : e.cid < 2 ^ 16
   pub status : StatusFits e.status
   pub nsid : e.nsid < 2 ^ 32
-  pub specific : e.specific ≤ greatest_count
+  pub specific : e.specific ≤ GREATEST_COUNT
 
 -- a controller of the subsystem: what its file table gives is in range, it has only namespaces of the
 -- subsystem, and its log has the newest of its refusals
@@ -25,8 +26,8 @@ pub record IsController (namespaces : Namespaces) (x : Controller) : Type 0 wher
   pub smart : IsSmart x.smart
   pub log : length x.log ≡ min x.refusals (x.identity.numbers.elpe + 1)
   pub entries : All IsLogEntry x.log
-  pub refusals : x.refusals ≤ greatest_count
-  pub commands : x.commands ≤ greatest_count
+  pub refusals : x.refusals ≤ GREATEST_COUNT
+  pub commands : x.commands ≤ GREATEST_COUNT
   pub attached : (n : ℕ) → map_of.contains_key x.attached n ≡ true → map_of.contains_key namespaces n ≡ true
 
 -- a namespace of the subsystem

@@ -7,8 +7,12 @@ ghost use Rattle.nv_subsystem.specs.Step.{next_count, with_refusal};
 
 use crate::error_log::{ErrorLog, LogEntry};
 use crate::origin::Origin;
+use nv_bits::BitSet;
 use nv_command::Refusal;
 use nv_file::{FeatureRule, Identity, SmartBase};
+
+/// The greatest value of a count, where it stays.
+pub const GREATEST_COUNT: u64 = u64::MAX;
 
 /// A controller: what its file table gives, and what its commands change.
 #[derive(Drop)]
@@ -19,14 +23,17 @@ pub struct Controller {
     pub log: ErrorLog,
     pub refusals: u64,
     pub commands: u64,
-    /// Whether the namespace of NSID n is attached, at place n − 1.
-    pub attached: Vec<bool>,
+    /// The NSIDs of the attached namespaces, out of 1 to NN.
+    pub attached: BitSet,
 }
 
 impl Controller {
     /// Counts a command.
     pub fn count_command(&mut self)
-        ensures command { controller_view self.new ≡ record (controller_view self.old) { commands = next_count (controller_view self.old).commands } }
+        ensures command { controller_view self.new
+            ≡ record (controller_view self.old) {
+              commands = next_count (controller_view self.old).commands;
+            } }
         ensures sized { (nn : ℕ) → IsSized nn self.old → IsSized nn self.new }
     {
         self.commands = self.commands.saturating_add(1);
@@ -35,7 +42,8 @@ impl Controller {
     /// Books a refusal as the newest entry of the error log.
     pub fn book(&mut self, origin: Origin, nsid: u32, refusal: Refusal)
         requires { self.old.log.most ≡ self.old.identity.numbers.elpe + 1 }
-        ensures refusal { controller_view self.new ≡ with_refusal nsid origin.cid refusal (controller_view self.old) }
+        ensures refusal { controller_view self.new
+            ≡ with_refusal nsid origin.cid refusal (controller_view self.old) }
         ensures range { origin.cid < 2 ^ 16 }
         ensures sized { (nn : ℕ) → IsSized nn self.old → IsSized nn self.new }
     {

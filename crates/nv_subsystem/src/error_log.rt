@@ -30,7 +30,8 @@ impl From<Booked> for ErrorEntry {
 
     ghost from_gives = { λ b r. r ≡ error_entry b.entry b.phase };
 
-    /// A refusal of a command of the admin queue: no field of the command and no logical block is told.
+    /// A refusal of a command of the admin queue: no field of the command and no logical block is
+    /// told.
     fn from(booked: Booked) -> ErrorEntry {
         ErrorEntry {
             count: booked.entry.count,
@@ -65,7 +66,8 @@ impl Model for ErrorLog {
 
     ghost view = { λ l. record { most = l.most; entries = map (λ b. b.entry) l.booked.items } };
 
-    ghost invariant = { λ l. (0 < l.most) × (vec_len l.booked ≤ l.most) × (l.most ≤ vec_capacity l.booked) };
+    ghost invariant = { λ l.
+        (0 < l.most) × (vec_len l.booked ≤ l.most) × (l.most ≤ vec_capacity l.booked) };
 }
 
 impl ErrorLog {
@@ -80,7 +82,8 @@ impl ErrorLog {
 
     /// Books a refusal as the newest entry, in place of the oldest where the log is full.
     pub fn book(&mut self, entry: LogEntry, phase: bool)
-        ensures { self.new ≡ record self.old { entries = take self.old.most (entry ∷ self.old.entries) } }
+        ensures { self.new
+            ≡ record self.old { entries = take self.old.most (entry ∷ self.old.entries) } }
     {
         if self.booked.len() == self.most as usize {
             self.booked.pop();

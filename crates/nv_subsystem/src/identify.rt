@@ -5,8 +5,8 @@ ghost use Rattle.nv_subsystem.specs.Capacity.{blocks};
 ghost use Rattle.nv_subsystem.specs.Identify.{active_list_reply, active_namespace, active_reply, active_rows, allocated_list_reply, allocated_namespace, allocated_reply, allocated_rows, blank, common_of, flbas_of, id_ns_of, lbaf_of, lbafs_of, list_rows};
 ghost use Rattle.nv_subsystem.specs.Row.{Checks};
 
+use crate::listing::{allocated_above, attached_above};
 use crate::row::refuse_if;
-use crate::slots::{is_marked, marked_above, namespace_at, occupied_above};
 use crate::subsystem::Subsystem;
 use nv_command::{BROADCAST_NSID, Refusal, Reply, StatusCode};
 use nv_file::{Format, Namespace};
@@ -44,7 +44,7 @@ impl Subsystem {
     fn allocated(&self, nsid: u32) -> IdNs
         ensures { result ≡ allocated_namespace self.now nsid }
     {
-        match namespace_at(&self.slots, nsid) {
+        match self.slots.get(nsid) {
             Some(namespace) => describe(&self.formats, self.mc, &namespace),
             None => blank_namespace(),
         }
@@ -55,7 +55,7 @@ impl Subsystem {
         requires { ctrl < length self.now.controllers }
         ensures { result ≡ active_namespace self.now ctrl nsid }
     {
-        if is_marked(&self.controllers[ctrl as usize].attached, nsid) {
+        if self.controllers[ctrl as usize].attached.contains(nsid) {
             self.allocated(nsid)
         } else {
             blank_namespace()
@@ -86,14 +86,14 @@ impl Subsystem {
         requires { ctrl < length self.now.controllers }
         ensures { result ≡ active_list_reply self.now ctrl after }
     {
-        Reply::List(marked_above(&self.controllers[ctrl as usize].attached, after))
+        Reply::List(attached_above(&self.controllers[ctrl as usize].attached, after))
     }
 
     /// The allocated NSIDs above one.
     pub(crate) fn allocated_list_reply(&self, after: u32) -> Reply
         ensures { result ≡ allocated_list_reply self.now after }
     {
-        Reply::List(occupied_above(&self.slots, after))
+        Reply::List(allocated_above(&self.slots, after))
     }
 }
 

@@ -5,11 +5,12 @@ mod controller;
 mod error_log;
 mod from_file;
 mod identify;
+mod listing;
 mod origin;
 mod row;
-mod slots;
 mod subsystem;
 
+pub use controller::GREATEST_COUNT;
 pub use nv_command::{Command, Refusal, Reply, StatusCode};
 pub use nv_file::{
     Counters, DEMO, FeatureRule, Format, Identity, IdentityNumbers, Key, Namespace, SmartBase,

@@ -20,6 +20,7 @@ use crate::controller::Controller;
 use crate::from_file::{controllers, slots};
 use crate::identify::check_list;
 use crate::origin::Origin;
+use nv_bits::Slots;
 use nv_command::{Command, Refusal, Reply};
 use nv_file::{File, Format, Namespace, SubsystemError};
 use nv_layout::ErrorEntry;
@@ -34,12 +35,12 @@ pub struct Subsystem {
     pub(crate) subnqn: String,
     pub(crate) formats: Vec<Format>,
     pub(crate) controllers: Vec<Controller>,
-    /// The namespace of NSID n, at place n − 1.
-    pub(crate) slots: Vec<Option<Namespace>>,
+    /// The namespaces by NSID, out of 1 to NN.
+    pub(crate) slots: Slots<Namespace>,
 }
 
 impl Model for Subsystem {
-    ghost use Rattle.std.specs.Prelude.{length, map, string_bytes};
+    ghost use Rattle.std.specs.Prelude.{map, string_bytes};
     ghost use Rattle.nv_subsystem.specs.State.{State};
     ghost use Rattle.nv_subsystem.specs.StateCode.{state_code};
 
@@ -48,20 +49,19 @@ impl Model for Subsystem {
     ghost coded = { state_code };
 
     ghost use Rattle.nv_subsystem.specs.ControllerView.{controller_view};
-    ghost use Rattle.nv_subsystem.specs.Slots.{by_nsid};
     ghost use Rattle.nv_subsystem.specs.Sound.{IsSound};
 
     ghost view = { λ s. record {
-      nn = length s.slots.items;
+      nn = s.slots.count;
       tnvmcap = s.tnvmcap;
       mc = s.mc;
       subnqn = string_bytes s.subnqn;
       formats = s.formats.items;
       controllers = map controller_view s.controllers.items;
-      namespaces = by_nsid s.slots.items;
+      namespaces = s.slots.values;
     } };
 
-    ghost invariant = { λ s. IsSound s.slots.items s.formats.items s.controllers.items };
+    ghost invariant = { λ s. IsSound s.slots s.formats.items s.controllers.items };
 }
 
 impl Subsystem {
@@ -71,9 +71,8 @@ impl Subsystem {
         ensures state { IfOk result (λ s. s ≡ state_of (file_view file)) }
         ensures memory { IfErr result (λ e. e ≡ SubsystemError.Memory) }
     {
-        let nn = file.nn as usize;
-        let slots = slots(alloc, nn, &file.namespaces)?;
-        let controllers = controllers(alloc, nn, file.controllers, &file.namespaces)?;
+        let slots = slots(alloc, file.nn, &file.namespaces)?;
+        let controllers = controllers(alloc, file.nn, file.controllers, &file.namespaces)?;
         Ok(Subsystem {
             tnvmcap: file.tnvmcap,
             mc: file.mc,
@@ -84,7 +83,8 @@ impl Subsystem {
         })
     }
 
-    /// Reads a subsystem file: the subsystem that its tables give, or its first fault, unless memory runs out.
+    /// Reads a subsystem file: the subsystem that its tables give, or its first fault, unless
+    /// memory runs out.
     #[tactic(auto, unfolding(crate::specs::FromFile::subsystem))]
     pub fn from_toml(alloc: Global, bytes: &[u8]) -> Result<Subsystem, SubsystemError>
         ensures exact { IsUnlessMemory (λ s. s) result (subsystem bytes.now) }
@@ -111,8 +111,8 @@ impl Subsystem {
         (controller.refusals, controller.commands)
     }
 
-    /// The entry of a controller's error log at this index, from the newest on, with the phase tag that its
-    /// completion had. "Error Information (Log Identifier 01h)".
+    /// The entry of a controller's error log at this index, from the newest on, with the phase tag
+    /// that its completion had. "Error Information (Log Identifier 01h)".
     pub fn log_entry(&self, ctrl: u16, index: usize) -> Option<ErrorEntry>
         requires { ctrl < length self.now.controllers }
         ensures { option_map without_phase result ≡ log_entry_of self.now ctrl index }
@@ -125,7 +125,7 @@ impl Subsystem {
     pub(crate) fn is_valid(&self, nsid: u32) -> bool
         ensures { result ≡ is_valid self.now nsid }
     {
-        1 <= nsid && nsid as usize <= self.slots.len()
+        1 <= nsid && nsid <= self.slots.count()
     }
 
     /// Why a command of a controller is refused: the first of its rows that applies.
@@ -185,19 +185,20 @@ impl Subsystem {
         controller.book(origin, nsid, refusal);
     }
 
-    /// Books a refusal in the error log of a controller, as its newest entry, and counts the command.
-    /// Nothing else changes.
+    /// Books a refusal in the error log of a controller, as its newest entry, and counts the
+    /// command. Nothing else changes.
     pub fn refuse(&mut self, ctrl: u16, origin: Origin, nsid: u32, refusal: Refusal)
         requires { ctrl < length self.old.controllers }
-        ensures state { self.new ≡ with_command (refused self.old ctrl nsid origin.cid refusal) ctrl }
+        ensures state { self.new
+            ≡ with_command (refused self.old ctrl nsid origin.cid refusal) ctrl }
         ensures well_formed { IsWellFormed self.old → IsRefusal refusal → IsWellFormed self.new }
     {
         self.book(ctrl, origin, nsid, refusal);
         self.count(ctrl);
     }
 
-    /// Executes a command of a controller. A refusal books itself in that controller's error log; the
-    /// controller counts the command in both cases.
+    /// Executes a command of a controller. A refusal books itself in that controller's error log;
+    /// the controller counts the command in both cases.
     pub fn execute(
         &mut self,
         ctrl: u16,

@@ -6,12 +6,12 @@ use Rattle.std.proofs.Common.{ap, map, ◌∙◌}
 use Rattle.nv_subsystem.proofs.FileCode.{is_sound, nsids_within}
 use Rattle.nv_subsystem.proofs.subsystem.Subsystem.from_file.Goals as goal
 
-pub slots-requires : goal.slots-requires
-slots-requires c = rw (c.deref.ensures.value) (nsids_within c.args.file c.requires)
+pub slots-requires-clause-nsids : goal.slots-requires-clause-nsids
+slots-requires-clause-nsids c = rw (c.deref.ensures.value) (nsids_within c.args.file c.requires)
 
-pub controllers-requires : goal.controllers-requires
-controllers-requires c = rw (c.deref-2.ensures.value) (nsids_within c.args.file c.requires)
+pub controllers-requires-clause-nsids : goal.controllers-requires-clause-nsids
+controllers-requires-clause-nsids c = rw (c.deref-2.ensures.value) (nsids_within c.args.file c.requires)
 
 pub invariant_of-result : goal.invariant_of-result
 invariant_of-result c =
-    is_sound c.args.file c.in_ok-slots.slots.items c.in_ok-controllers.controllers.items c.requires c.in_ok-slots.ensures.len (c.in_ok-slots.ensures.value ∙ ap (λ t. fold with_namespace map_of.empty (map namespace_entry_view t)) c.deref.ensures.value) (c.in_ok-controllers.ensures.value ∙ ap (λ t. map (controller_of (map namespace_entry_view t)) (map controller_entry_view c.args.file.controllers.items)) c.deref-2.ensures.value) c.in_ok-controllers.ensures.sized
+    is_sound c.args.file c.in_ok-slots.slots c.in_ok-controllers.controllers.items c.requires (c.in_ok-slots.ensures.value ∙ ap (λ t. record { first = 1; count = c.args.file.nn; values = fold with_namespace map_of.empty (map namespace_entry_view t) }) c.deref.ensures.value) (c.in_ok-controllers.ensures.value ∙ ap (λ t. map (controller_of (map namespace_entry_view t)) (map controller_entry_view c.args.file.controllers.items)) c.deref-2.ensures.value) c.in_ok-controllers.ensures.sized
