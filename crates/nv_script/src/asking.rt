@@ -16,8 +16,8 @@ fn new_page() -> [u8; 4096]
     [0; 4096]
 }
 
-/// Asks one command, under its controller's next command identifier: the reply, or the status of the
-/// refusal.
+/// Asks one command, under its controller's next command identifier: the reply, or the status of
+/// the refusal.
 pub fn ask<D: Direct>(direct: &mut D, serials: &mut [u16], order: &Order) -> Result<Reply, Status>
     requires ready { IsReady (D.state direct.old) serials.old }
     requires controller { order.now.controller < length serials.old }

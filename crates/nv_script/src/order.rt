@@ -37,7 +37,8 @@ fn namespace_command(force: bool, nsid: u32) -> Command
     }
 }
 
-/// The commands of a request, in order. They are known before the first reply.
+/// The commands of a request, in order. They are known from the request alone, before the first
+/// reply.
 pub fn commands_of(alloc: Global, request: Request) -> Result<Vec<Order>, AllocError>
     ensures { IfOk result (λ orders. (s : State) → orders.items ≡ commands_of s request) }
 {
