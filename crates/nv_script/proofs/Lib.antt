@@ -1,4 +1,6 @@
-pub mod AskedLaws
+pub mod AskingLaws
+pub mod OutcomeLaws
+pub mod RequestLaws
 pub mod Padding
 pub mod NumberedLines
 pub mod Taking

@@ -5,22 +5,23 @@ use Rattle.nv_subsystem.specs.declared.origin.TheConstants.{SERIALS}
 use Rattle.nv_subsystem.specs.State.{State}
 use Rattle.nv_subsystem.specs.Step.{next_serial, step}
 use Rattle.nv_subsystem.specs.WellFormed.{IsWellFormed}
-use Rattle.nv_command.specs.declared.command.Command.{Command}
 use Rattle.nv_command.specs.declared.reply.Reply.{Reply}
+use Rattle.nv_script.specs.declared.order.Order.{Order}
 
--- the answer, the state after it, and the serials of the controllers
-pub record Asked : Type 0 where
+-- the answer to a command, and the state and the serials of the controllers after it
+pub record Exchange : Type 0 where
   pub answer : Result Reply Status
   pub state : State
   pub serials : List ℕ
 
-abbrev pub asked : State → List ℕ → ℕ → Command → Asked
-asked s serials c k =
-    let serial = slice_index serials c in
+abbrev pub exchange_of : State → List ℕ → Order → Exchange
+exchange_of s serials o =
+    let serial = slice_index serials o.controller in
+    let step = step s o.controller o.command serial in
     record {
-      answer = (step s c k serial).answer;
-      state = (step s c k serial).state;
-      serials = slice_set serials c (next_serial serial);
+      answer = step.answer;
+      state = step.state;
+      serials = slice_set serials o.controller (next_serial serial);
     }
 
 -- a subsystem that can be asked: each of its controllers has a serial, and FFFFh is none

@@ -2,7 +2,7 @@
 use Rattle.std.specs.Prelude.{◌≡◌, ℕ, ◌+◌, ◌<◌, List, [], ◌∷◌, ◌++◌, length, take, flat_map, Option, Result, Ok, Err}
 use Rattle.std.specs.Io.KnownBytes.{Appends}
 use Rattle.nv_subsystem.specs.State.{State}
-use Rattle.nv_script.specs.Outcomes.{carried_out, commands_of}
+use Rattle.nv_script.specs.Outcomes.{commands_of, outcome_of}
 use Rattle.nv_script.specs.Results.{Progress, result_at, said_at, whole}
 use Rattle.nv_script.specs.ScriptLines.{script_lines}
 use Rattle.nv_script.specs.Streams.{IsBeginning}
@@ -46,7 +46,8 @@ HoldsWhole s lines left =
 -- the state after the first k commands of a line
 abbrev pub state_amid : State → List ℕ → Result Line LineFault → ℕ → State
 state_amid s serials (Ok line.Skipped) k = s
-state_amid s serials (Ok (line.Request r)) k = (carried_out s serials (take k (commands_of s r))).state
+state_amid s serials (Ok (line.Request r)) k =
+    (outcome_of s serials (take k (commands_of s r))).state
 state_amid s serials (Err fault) k = s
 
 -- The beginnings, at a line after p. The output failed: the texts before the line stand whole, and

@@ -5,6 +5,7 @@ pub mod Serving
 pub mod Asking
 pub mod Outcomes
 pub mod Texts
+pub mod Performing
 pub mod ScriptLines
 pub mod Session
 pub mod Results

@@ -3,7 +3,7 @@ use Rattle.std.specs.Prelude.{ℕ, ◌+◌, List, [], ◌++◌, length, replicat
 use Rattle.nv_layout.specs.declared.status.Status.{Status}
 use Rattle.nv_subsystem.specs.State.{State}
 use Rattle.nv_line.specs.LineFault.{fault_text}
-use Rattle.nv_script.specs.Outcomes.{Outcome, carried_out, commands_of}
+use Rattle.nv_script.specs.Outcomes.{Outcome, commands_of, outcome_of}
 use Rattle.nv_line.specs.Line.{reading}
 use Rattle.nv_script.specs.Texts.{message_of, refusal_text, text_of}
 use Rattle.nv_line.specs.declared.fault.LineFault.{LineFault}
@@ -54,7 +54,7 @@ quiet_result s serials message status = record {
 abbrev pub line_result : State → List ℕ → ℕ → Result Line LineFault → LineResult
 line_result s serials number (Ok line.Skipped) = quiet_result s serials [] None
 line_result s serials number (Ok (line.Request r)) =
-    request_result number r (carried_out s serials (commands_of s r))
+    request_result number r (outcome_of s serials (commands_of s r))
 line_result s serials number (Err fault) =
     quiet_result s serials (message_of number (fault_text fault)) (Some 1)
 

@@ -7,7 +7,6 @@ use Rattle.nv_layout.specs.declared.status.Status.{Status}
 use Rattle.nv_layout.specs.declared.id_ns.IdNs.{IdNs}
 use Rattle.nv_layout.specs.declared.id_ns.Lbaf.{Lbaf}
 use Rattle.nv_command.specs.StatusCode.{name_of_status}
-use Rattle.nv_subsystem.specs.Identify.{blank}
 use Rattle.nv_command.specs.declared.reply.Reply.{Reply}
 use Rattle.nv_command.specs.declared.reply.Reply.TheVariants as reply
 use Rattle.nv_line.specs.declared.request.Ask.{Ask}
@@ -33,12 +32,6 @@ lines_of line i (x ∷ xs) = line i x ++ lines_of line (i + 1) xs
 -- the text of a list of NSIDs
 abbrev pub text_of_nsids : List ℕ → List ℕ
 text_of_nsids nsids = lines_of nsid_line 0 nsids
-
--- the NSIDs of the first reply
-abbrev pub nsids_in : List Reply → List ℕ
-nsids_in [] = []
-nsids_in (reply.List nsids ∷ rest) = nsids
-nsids_in (reply.Namespace r ∷ rest) = []
 
 -- a field: its key on the left of 20 places, and its value
 abbrev pub field_line : List ℕ → List ℕ → List ℕ
@@ -75,16 +68,22 @@ namespace_fields r = joined (
 unfoldable pub text_of_namespace : IdNs → List ℕ
 text_of_namespace r = namespace_fields r ++ lines_of (lbaf_line (r.flbas % 16)) 0 (take (min r.nlbaf 15 + 1) r.lbafs)
 
--- the namespace of the first reply
-abbrev pub namespace_in : List Reply → IdNs
-namespace_in [] = blank
-namespace_in (reply.List nsids ∷ rest) = blank
-namespace_in (reply.Namespace r ∷ rest) = r
+-- the NSIDs of the first reply, and the namespace of the first reply; nothing where it is no such
+-- reply
+abbrev pub text_of_list : List Reply → List ℕ
+text_of_list [] = []
+text_of_list (reply.List nsids ∷ rest) = text_of_nsids nsids
+text_of_list (reply.Namespace r ∷ rest) = []
+
+abbrev pub text_of_identify : List Reply → List ℕ
+text_of_identify [] = []
+text_of_identify (reply.List nsids ∷ rest) = []
+text_of_identify (reply.Namespace r ∷ rest) = text_of_namespace r
 
 -- what is printed of the replies to an ask
 abbrev pub text_of : Ask → List Reply → List ℕ
-text_of (ask.ListNs first all) replies = text_of_nsids (nsids_in replies)
-text_of (ask.IdNs nsid force) replies = text_of_namespace (namespace_in replies)
+text_of (ask.ListNs first all) replies = text_of_list replies
+text_of (ask.IdNs nsid force) replies = text_of_identify replies
 
 -- ---- messages
 

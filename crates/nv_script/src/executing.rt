@@ -6,21 +6,19 @@ ghost use Rattle.nv_script.specs.Asking.{IsReady};
 ghost use Rattle.nv_script.specs.Cuts.{left_at};
 ghost use Rattle.nv_script.specs.Feeding.{IsFailureOf, LineLeaves, PrintLeaves, Stands};
 ghost use Rattle.nv_line.specs.LineFault.{IsUnlessMemory};
-ghost use Rattle.nv_script.specs.Outcomes.{Answers, carried_out, commands_of};
 ghost use Rattle.nv_line.specs.Line.{IsKnown, reading};
 ghost use Rattle.nv_script.specs.Results.{Progress};
 ghost use Rattle.nv_script.specs.ScriptLines.{buffer_of};
 ghost use Rattle.nv_script.specs.Session.{IsSessionOf};
 ghost use Rattle.nv_script.specs.Streams.{WritesAll};
 
-use crate::asking::{ask_list, ask_namespace};
 use crate::ends::RunEnd;
+use crate::performing::{Stop, perform};
 use crate::serving::Direct;
 use crate::session::Session;
 use crate::streams::Sink;
-use crate::texts::{fault_message, list_text, namespace_text, refusal_message};
-use nv_layout::Status;
-use nv_line::{Ask, Line, LineFault, Request, read_line};
+use crate::texts::{fault_message, refusal_message};
+use nv_line::{Line, LineFault, read_line};
 use std::alloc::{AllocError, Global};
 
 /// Writes a text, in as many writes as it takes. After a failing write the sink has taken a
@@ -59,36 +57,6 @@ fn print<S: Sink>(
                 Err(fault)
             }
         }
-    }
-}
-
-/// Sends the commands of a request, up to the first refusal, and makes the text of their replies.
-fn perform<D: Direct>(
-    alloc: Global,
-    direct: &mut D,
-    serials: &mut [u16],
-    request: Request,
-) -> Result<Result<String, AllocError>, Status>
-    requires ready { IsReady (D.state direct.old) serials.old }
-    requires controller { request.controller < length serials.old }
-    ensures answer { Answers result request (carried_out (D.state direct.old) serials.old (commands_of (D.state direct.old) request)) }
-    ensures state { D.state direct.new ≡ (carried_out (D.state direct.old) serials.old (commands_of (D.state direct.old) request)).state }
-    ensures serials { serials.new ≡ (carried_out (D.state direct.old) serials.old (commands_of (D.state direct.old) request)).serials }
-    ensures ready { IsReady (D.state direct.new) serials.new }
-{
-    let controller = request.controller;
-    match request.ask {
-        Ask::ListNs { first, all } => {
-            let after = first.saturating_sub(1);
-            match ask_list(direct, serials, controller, after, all) {
-                Ok(list) => Ok(list_text(alloc, &list)),
-                Err(status) => Err(status),
-            }
-        }
-        Ask::IdNs { nsid, force } => match ask_namespace(direct, serials, controller, nsid, force) {
-            Ok(namespace) => Ok(namespace_text(alloc, &namespace)),
-            Err(status) => Err(status),
-        },
     }
 }
 
@@ -153,9 +121,10 @@ pub fn execute_line<D: Direct, O: Sink, M: Sink>(
         ) {
             Ok(text) => {
                 session.status = 0;
-                print(out, text, RunEnd::OutWrite)
+                print(out, Ok(text), RunEnd::OutWrite)
             }
-            Err(status) => {
+            Err(Stop::Memory) => Err(RunEnd::Memory),
+            Err(Stop::Refused(status)) => {
                 session.status = 2;
                 let text = refusal_message(alloc, session.number, status);
                 print(messages, text, RunEnd::MessageWrite)

@@ -5,6 +5,8 @@ mod asking;
 mod ends;
 mod executing;
 mod line_buffer;
+mod order;
+mod performing;
 mod running;
 mod serving;
 mod session;

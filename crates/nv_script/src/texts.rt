@@ -2,11 +2,11 @@
 
 ghost use Rattle.std.specs.Prelude.{◌≡◌, IfOk, string_bytes};
 ghost use Rattle.nv_line.specs.LineFault.{fault_text};
-ghost use Rattle.nv_script.specs.Texts.{message_of, namespace_fields, refusal_text, text_of_namespace, text_of_nsids};
+ghost use Rattle.nv_script.specs.Texts.{message_of, namespace_fields, refusal_text, text_of, text_of_identify, text_of_list, text_of_namespace, text_of_nsids};
 
-use nv_command::StatusCode;
+use nv_command::{Reply, StatusCode};
 use nv_layout::{IdNs, Lbaf, NsList, Status};
-use nv_line::LineFault;
+use nv_line::{Ask, LineFault};
 use std::alloc::{AllocError, Global};
 use std::{cmp, fmt};
 
@@ -69,7 +69,7 @@ impl fmt::Display for NsidLine {
 }
 
 /// The text of a list of NSIDs.
-pub fn list_text(alloc: Global, list: &NsList) -> Result<String, AllocError>
+fn list_text(alloc: Global, list: &NsList) -> Result<String, AllocError>
     ensures { IfOk result (λ text. string_bytes text ≡ text_of_nsids list.now) }
 {
     let nsids = list.as_slice();
@@ -148,7 +148,7 @@ fn namespace_fields(alloc: Global, namespace: &IdNs) -> Result<String, AllocErro
 }
 
 /// The text of a namespace ("Identify Namespace Data Structure").
-pub fn namespace_text(alloc: Global, namespace: &IdNs) -> Result<String, AllocError>
+fn namespace_text(alloc: Global, namespace: &IdNs) -> Result<String, AllocError>
     ensures { IfOk result (λ text. string_bytes text ≡ text_of_namespace namespace.now) }
 {
     let in_use = namespace.flbas as usize % 16;
@@ -163,6 +163,36 @@ pub fn namespace_text(alloc: Global, namespace: &IdNs) -> Result<String, AllocEr
         write!(text, "{line}")?;
     }
     Ok(text)
+}
+
+/// The text of the NSIDs of a first reply.
+fn text_of_list(alloc: Global, replies: &[Reply]) -> Result<String, AllocError>
+    ensures { IfOk result (λ text. string_bytes text ≡ text_of_list replies.now) }
+{
+    match replies.first() {
+        Some(Reply::List(list)) => list_text(alloc, list),
+        Some(Reply::Namespace(_)) | None => Ok(String::new(alloc)),
+    }
+}
+
+/// The text of the namespace of a first reply.
+fn text_of_identify(alloc: Global, replies: &[Reply]) -> Result<String, AllocError>
+    ensures { IfOk result (λ text. string_bytes text ≡ text_of_identify replies.now) }
+{
+    match replies.first() {
+        Some(Reply::Namespace(namespace)) => namespace_text(alloc, namespace),
+        Some(Reply::List(_)) | None => Ok(String::new(alloc)),
+    }
+}
+
+/// The text of the replies to the commands of a request.
+pub fn text_of(alloc: Global, ask: Ask, replies: &[Reply]) -> Result<String, AllocError>
+    ensures { IfOk result (λ text. string_bytes text ≡ text_of ask replies.now) }
+{
+    match ask {
+        Ask::ListNs { first: _, all: _ } => text_of_list(alloc, replies),
+        Ask::IdNs { nsid: _, force: _ } => text_of_identify(alloc, replies),
+    }
 }
 
 /// The status of a refusal, as a message says it.

@@ -29,7 +29,8 @@ use Rattle.nv_subsystem.specs.State.{State}
 use Rattle.nv_subsystem.specs.Step.{next_serial, step, step_by}
 use Rattle.nv_subsystem.specs.StepLaws.{refusal_fits, step_controllers, step_keeps}
 use Rattle.nv_subsystem.specs.WellFormed.{IsWellFormed}
-use Rattle.nv_script.specs.Asking.{Asked, IsReady, asked}
+use Rattle.nv_script.specs.Asking.{Exchange, IsReady, exchange_of}
+use Rattle.nv_script.specs.declared.order.Order.{Order}
 use Rattle.nv_script.specs.Serving.{IsServed, completion_of, dword0_in, status_of, with_reply}
 
 -- ---- the entry
@@ -133,6 +134,7 @@ ready_after s new serials c k r inside n e =
 pub fits_nsid : (k : Command) (cid : ℕ) (e : Sqe) → e ≡ entry_of k cid → SqeFits e → namespace_of k < 2 ^ 32
 fits_nsid k cid e is fits = subst (λ n. n < 2 ^ 32) (ap (λ (x : Sqe). x.nsid) is) fits.nsid
 
-pub asked_as : (s new : State) (serials : List ℕ) (c : ℕ) (k : Command) (answer : Result Reply Status) → answer ≡ (step s c k (get_or serials c 0)).answer → new ≡ (step s c k (get_or serials c 0)).state
-    → ◌≡◌ {A = Asked} (record { answer = answer; state = new; serials = set serials c (next_serial (get_or serials c 0)) }) (asked s serials c k)
-asked_as s new serials c k answer a e = λ i. record { answer = a i; state = e i; serials = set serials c (next_serial (get_or serials c 0)) }
+pub exchange_as : (s new : State) (serials : List ℕ) (o : Order) (answer : Result Reply Status) → answer ≡ (step s o.controller o.command (get_or serials o.controller 0)).answer
+    → new ≡ (step s o.controller o.command (get_or serials o.controller 0)).state
+    → ◌≡◌ {A = Exchange} (record { answer = answer; state = new; serials = set serials o.controller (next_serial (get_or serials o.controller 0)) }) (exchange_of s serials o)
+exchange_as s new serials o answer a e = λ i. record { answer = a i; state = e i; serials = set serials o.controller (next_serial (get_or serials o.controller 0)) }

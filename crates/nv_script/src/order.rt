@@ -1,0 +1,55 @@
+//! The commands that a request stands for.
+
+ghost use Rattle.std.specs.Prelude.{◌≡◌, IfOk};
+ghost use Rattle.nv_subsystem.specs.State.{State};
+ghost use Rattle.nv_script.specs.Outcomes.{commands_of, list_command, namespace_command};
+
+use nv_command::Command;
+use nv_line::{Ask, Request};
+use std::alloc::{AllocError, Global};
+
+/// A command for a controller, named by its place in the subsystem's file.
+#[derive(Drop)]
+pub struct Order {
+    pub controller: u16,
+    pub command: Command,
+}
+
+/// The command for the NSIDs above one: those attached to the controller, or all allocated ones.
+fn list_command(all: bool, after: u32) -> Command
+    ensures { result ≡ list_command all after }
+{
+    if all {
+        Command::AllocatedList { after }
+    } else {
+        Command::ActiveList { after }
+    }
+}
+
+/// The command for what a namespace is: one attached to the controller, or any allocated one.
+fn namespace_command(force: bool, nsid: u32) -> Command
+    ensures { result ≡ namespace_command force nsid }
+{
+    if force {
+        Command::AllocatedNamespace { nsid }
+    } else {
+        Command::IdentifyNamespace { nsid }
+    }
+}
+
+/// The commands of a request, in order. They are known from the request alone, before the first
+/// reply.
+pub fn commands_of(alloc: Global, request: Request) -> Result<Vec<Order>, AllocError>
+    ensures { IfOk result (λ orders. (s : State) → orders.items ≡ commands_of s request) }
+{
+    let Request { controller, ask } = request;
+    let command = match ask {
+        Ask::ListNs { first, all } => list_command(all, first.saturating_sub(1)),
+        Ask::IdNs { nsid, force } => namespace_command(force, nsid),
+    };
+    let order = Order {
+        controller,
+        command,
+    };
+    Ok(Vec::from_array(alloc, [order])?)
+}
