@@ -1,0 +1,4 @@
+pub mod Bus
+pub mod Call
+pub mod Entry
+pub mod Turn
