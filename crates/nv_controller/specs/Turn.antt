@@ -6,7 +6,7 @@ use Rattle.nv_register.specs.declared.port.Port.{Port}
 use Rattle.nv_register.specs.declared.rings.Rings.{Rings}
 use Rattle.nv_subsystem.specs.State.{State}
 use Rattle.nv_controller.specs.Bus.{BusValue, port_at}
-use Rattle.nv_controller.specs.Entry.{One, Scene}
+use Rattle.nv_controller.specs.Entry.{One, Scene, scene}
 
 -- an entry waits, and there is a free slot for its completion
 abbrev pub can_take : Rings → Bool
@@ -41,25 +41,32 @@ Stops page_size most count x fatal =
     × (fatal ≡ true → (can_take x.rings ≡ true) × (reaches x.rings page_size (length x.bytes) ≡ false))
 
 -- a turn of a ready controller
-pub record TurnOver (page_size c most count : ℕ) (old : Scene) (new : Scene) (fatal : Bool) : Type 0 where
+pub record RingsTurn (page_size c most count : ℕ) (old new : Scene) (fatal : Bool) : Type 0 where
   pub entries : Taken count page_size c old new
   pub stop : Stops page_size most count new fatal
 
--- a turn of controller c: nothing where it isn't ready or has a fatal status
-abbrev pub PortTurn : ℕ → ℕ → ℕ → ℕ → State → Port → List ℕ → State → Port → List ℕ → Type 0
-PortTurn page_size c most count s p bytes s' p' bytes' = RingsTurn p.cfs p.rings
-  where
-    IsIdle : Type 0
-    IsIdle = (count ≡ 0) × (s' ≡ s) × (p' ≡ p) × (bytes' ≡ bytes)
+-- what a turn of one controller reads and changes
+pub record Site : Type 0 where
+  pub state : State
+  pub port : Port
+  pub bytes : List ℕ
 
-    RingsTurn : Bool → Option Rings → Type 0
-    RingsTurn true rings = IsIdle
-    RingsTurn false None = IsIdle
-    RingsTurn false (Some r) =
-        (last : Scene) × (fatal : Bool)
-        × TurnOver page_size c most count (record { state = s; rings = r; bytes = bytes }) last fatal
-        × (s' ≡ last.state) × (bytes' ≡ last.bytes) × (p' ≡ record p { cfs = fatal; rings = Some last.rings })
+abbrev pub site : State → Port → List ℕ → Site
+site state port bytes = record { state = state; port = port; bytes = bytes }
 
+abbrev pub TurnBy : Bool → Option Rings → ℕ → ℕ → ℕ → ℕ → Site → Site → Type 0
+TurnBy true rings page_size c most count old new = (count ≡ 0) × (new ≡ old)
+TurnBy false None page_size c most count old new = (count ≡ 0) × (new ≡ old)
+TurnBy false (Some rings) page_size c most count old new =
+    (last : Scene) × (fatal : Bool)
+    × RingsTurn page_size c most count (scene old.state rings old.bytes) last fatal
+    × (new ≡ site last.state (record old.port { cfs = fatal; rings = Some last.rings }) last.bytes)
+
+-- a turn of controller c, which takes nothing where it isn't ready or has a fatal status
+abbrev pub PortTurn : ℕ → ℕ → ℕ → ℕ → Site → Site → Type 0
+PortTurn page_size c most count old new = TurnBy old.port.cfs old.port.rings page_size c most count old new
+
+-- a turn of controller c of a bus: the other controllers' registers and rings stay
 pub record Turn (page_size c most count : ℕ) (b : BusValue) (bytes : List ℕ) (b' : BusValue) (bytes' : List ℕ) : Type 0 where
-  pub own : PortTurn page_size c most count b.state (port_at b.ports c) bytes b'.state (port_at b'.ports c) bytes'
+  pub own : PortTurn page_size c most count (site b.state (port_at b.ports c) bytes) (site b'.state (port_at b'.ports c) bytes')
   pub others : b'.ports ≡ slice_set b.ports c (port_at b'.ports c)

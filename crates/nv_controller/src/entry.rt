@@ -34,6 +34,7 @@ fn answer_entry<M: HostMemory>(
     ensures state { let call = call_of (M.page_len mem.now) (M.bytes mem.now) entry.now in
         subsystem.new ≡ (step_unless call subsystem.old ctrl entry.now).state }
     ensures well_formed { IsWellFormed subsystem.new }
+    ensures controllers { length subsystem.new.controllers ≡ length subsystem.old.controllers }
     ensures places { OnOk result
         (places spans.new ≡ places_in (call_of (M.page_len mem.now) (M.bytes mem.now) entry.now)) }
     ensures inside { OnOk result (LieIn (length (M.bytes mem.now)) spans.new) }
@@ -99,6 +100,7 @@ pub fn take_one<M: HostMemory>(subsystem: &mut Subsystem, rings: &mut Rings, ctr
     ensures one { One ctrl (scene subsystem.old rings.old (M.bytes mem.old))
         (scene subsystem.new rings.new (M.bytes mem.new)) }
     ensures well_formed { IsWellFormed subsystem.new }
+    ensures controllers { length subsystem.new.controllers ≡ length subsystem.old.controllers }
     ensures len { length (M.bytes mem.new) ≡ length (M.bytes mem.old) }
     ensures page { M.page_len mem.new ≡ M.page_len mem.old }
 {

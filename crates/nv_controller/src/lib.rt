@@ -4,6 +4,8 @@
 mod bus;
 mod call;
 mod entry;
+mod machine;
+mod turn;
 
 pub use bus::Bus;
-pub use call::read_call;
+pub use machine::Machine;
