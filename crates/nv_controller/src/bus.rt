@@ -26,7 +26,8 @@ pub trait Bus {
         requires { ctrl < length (meaning self.old).ports }
         ensures state { (meaning self.new).state ≡ (meaning self.old).state }
         ensures ports { (meaning self.new).ports ≡ slice_set (meaning self.old).ports ctrl
-            (with_register_at (port_at (meaning self.old).ports ctrl) offset dword) };
+            (with_register_at (port_at (meaning self.old).ports ctrl) offset dword) }
+        ensures bus { IsBus (meaning self.old) → IsBus (meaning self.new) };
 
     /// Takes entries of a controller's submission ring, at most so many, and answers how many it took.
     /// Each gets one completion; of the memory only the places of its data and its completion's slot

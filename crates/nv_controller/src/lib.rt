@@ -5,6 +5,8 @@ mod bus;
 mod call;
 mod entry;
 mod machine;
+#[cfg(test)]
+mod tests;
 mod turn;
 
 pub use bus::Bus;

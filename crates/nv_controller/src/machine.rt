@@ -2,6 +2,8 @@
 
 ghost use Rattle.std.specs.Prelude.{◌≡◌, IfOk, length, replicate};
 ghost use Rattle.nv_register.specs.Port.{new_port};
+ghost use Rattle.nv_subsystem.specs.WellFormed.{IsWellFormed};
+ghost use Rattle.nv_controller.specs.Bus.{IsBus};
 
 use crate::bus::Bus;
 use crate::turn::turn_port;
@@ -52,7 +54,11 @@ impl Machine {
     /// The controllers of a subsystem after power on. Where memory is refused the subsystem is
     /// dropped.
     pub fn new(alloc: Global, subsystem: Subsystem) -> Result<Machine, Memory>
-        ensures { IfOk result (λ m. m ≡ record { state = subsystem; ports = replicate (length subsystem.controllers) new_port }) }
+        ensures value { IfOk result (λ m. m ≡ record {
+          state = subsystem;
+          ports = replicate (length subsystem.controllers) new_port;
+        }) }
+        ensures bus { IfOk result (λ m. IsWellFormed subsystem → IsBus m) }
     {
         let ports = new_ports(alloc, subsystem.controllers())?;
         Ok(Machine { subsystem, ports })
