@@ -72,15 +72,15 @@ fn completion(rt: &impl Abort, mem: &FlatMemory, slot: u64) -> Cqe {
 }
 
 /// Sixteen pages of so many bytes.
-fn memory(rt: &HostRuntime, page_size: u32) -> Result<FlatMemory, Fail> {
+fn memory(rt: &impl Abort, alloc: Global, page_size: u32) -> Result<FlatMemory, Fail> {
     assert!(rt; is_page_size(page_size));
-    let mem = FlatMemory::new(rt.alloc(), page_size, 16)?;
+    let mem = FlatMemory::new(alloc, page_size, 16)?;
     Ok(mem)
 }
 
 /// Sixteen pages of 4,096 bytes.
-fn pages(rt: &HostRuntime) -> Result<FlatMemory, Fail> {
-    memory(rt, 4096)
+fn pages(rt: &impl Abort, alloc: Global) -> Result<FlatMemory, Fail> {
+    memory(rt, alloc, 4096)
 }
 
 #[test]
@@ -175,7 +175,7 @@ fn answers_any_entry_by_its_first_fault(rt: HostRuntime) -> Result<(), Fail> {
         ),
     ] {
         let mut machine = machine(rt.alloc())?;
-        let mut mem = pages(&rt)?;
+        let mut mem = pages(&rt, rt.alloc())?;
         submit(&rt, &mut mem, 0, &entry);
         assert!(rt; machine.controllers() == 2);
         machine.write32(0, 0x1000, 1);
@@ -197,7 +197,7 @@ fn answers_any_entry_by_its_first_fault(rt: HostRuntime) -> Result<(), Fail> {
 #[test]
 fn writes_a_list_and_its_completion_alone(rt: HostRuntime) -> Result<(), Fail> {
     let mut machine = machine(rt.alloc())?;
-    let mut mem = pages(&rt)?;
+    let mut mem = pages(&rt, rt.alloc())?;
     assert!(rt; mem.store(0x5000, &[0xee; 8192]).is_ok());
     submit(&rt, &mut mem, 0, &identify(1, 0, 0x02, 0x5ff8));
     submit(
@@ -228,7 +228,7 @@ fn writes_a_list_and_its_completion_alone(rt: HostRuntime) -> Result<(), Fail> {
 #[test]
 fn posts_a_refusal_byte_by_byte(rt: HostRuntime) -> Result<(), Fail> {
     let mut machine = machine(rt.alloc())?;
-    let mut mem = pages(&rt)?;
+    let mut mem = pages(&rt, rt.alloc())?;
     submit(&rt, &mut mem, 0, &identify(1, 0, 0x00, 0x5000));
     assert!(rt; machine.controllers() == 2);
     machine.write32(0, 0x1000, 1);
@@ -245,7 +245,7 @@ fn posts_a_refusal_byte_by_byte(rt: HostRuntime) -> Result<(), Fail> {
 #[test]
 fn takes_what_the_rings_have_room_for(rt: HostRuntime) -> Result<(), Fail> {
     let mut machine = machine(rt.alloc())?;
-    let mut mem = pages(&rt)?;
+    let mut mem = pages(&rt, rt.alloc())?;
     assert!(rt; machine.controllers() == 2);
     for slot in 0..3 {
         submit(&rt, &mut mem, slot, &identify(slot as u16, 1, 0x00, 0x5000));
@@ -269,7 +269,7 @@ fn takes_what_the_rings_have_room_for(rt: HostRuntime) -> Result<(), Fail> {
 #[test]
 fn takes_at_most_so_many(rt: HostRuntime) -> Result<(), Fail> {
     let mut machine = machine(rt.alloc())?;
-    let mut mem = pages(&rt)?;
+    let mut mem = pages(&rt, rt.alloc())?;
     assert!(rt; machine.controllers() == 2);
     for slot in 0..3 {
         submit(&rt, &mut mem, slot, &identify(slot as u16, 1, 0x00, 0x5000));
@@ -292,7 +292,7 @@ fn takes_at_most_so_many(rt: HostRuntime) -> Result<(), Fail> {
 fn fails_where_the_memory_does_not_reach(rt: HostRuntime) -> Result<(), Fail> {
     for (page_size, asq) in [(4096, 0x10000), (8192, 0)] {
         let mut machine = machine(rt.alloc())?;
-        let mut mem = memory(&rt, page_size)?;
+        let mut mem = memory(&rt, rt.alloc(), page_size)?;
         enable(&mut machine, 3, asq);
         assert!(rt; machine.controllers() == 2);
         // Nothing is tested where no entry would be taken.
@@ -311,7 +311,7 @@ fn fails_where_the_memory_does_not_reach(rt: HostRuntime) -> Result<(), Fail> {
 #[test]
 fn reads_an_entry_from_what_the_one_before_left(rt: HostRuntime) -> Result<(), Fail> {
     let mut machine = machine(rt.alloc())?;
-    let mut mem = pages(&rt)?;
+    let mut mem = pages(&rt, rt.alloc())?;
     assert!(rt; machine.controllers() == 2);
     submit(&rt, &mut mem, 0, &identify(5, 0, 0x02, 0));
     submit(&rt, &mut mem, 1, &identify(6, 0, 0x02, 0x5000));
