@@ -1,0 +1,6 @@
+use Rattle.std.proofs.Common.{sym}
+use Rattle.nv_controller.proofs.CallLaws.{has_room}
+use Rattle.nv_controller.proofs.call.read_call.Goals as goal
+
+pub find_data-requires-clause-room : goal.find_data-requires-clause-room
+find_data-requires-clause-room g c = has_room c.args.entry.now c.in_ok-moves.moves (sym c.in_ok-moves.ensures)

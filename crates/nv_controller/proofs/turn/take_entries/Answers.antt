@@ -1,0 +1,26 @@
+use Rattle.std.proofs.Common.{◌∙◌, ℕ, ap, sym, length}
+use Rattle.nv_controller.specs.Entry.{scene}
+use Rattle.nv_controller.specs.Turn.{reaches}
+use Rattle.nv_controller.proofs.TurnLaws.{taken_more}
+use Rattle.nv_controller.proofs.turn.take_entries.Goals as goal
+
+pub loop-count-preserved : goal.loop-count-preserved
+loop-count-preserved g c =
+    let inv = c.loop-count.invariant in
+    let bytes = g.M.HostMemory.bytes c.loop-count.mem in
+    record {
+      taken = taken_more c.loop-count.count (g.M.HostMemory.page_len c.args.mem.now) c.args.ctrl
+          (scene c.args.subsystem.now c.args.rings.now (g.M.HostMemory.bytes c.args.mem.now))
+          (scene c.loop-count.subsystem c.loop-count.rings bytes)
+          (scene c.take_one.new.subsystem c.take_one.new.rings (g.M.HostMemory.bytes c.take_one.new.mem))
+          inv.taken
+          (record {
+            can = sym c.if-not-can_take.ensures;
+            reached = ap (λ (p : ℕ). reaches c.loop-count.rings p (length bytes)) (sym inv.page) ∙ sym c.if-not-reaches.ensures;
+            one = c.take_one.ensures.one;
+          });
+      well_formed = c.take_one.ensures.well_formed;
+      controllers = c.take_one.ensures.controllers ∙ inv.controllers;
+      len = c.take_one.ensures.len ∙ inv.len;
+      page = c.take_one.ensures.page ∙ inv.page;
+    }

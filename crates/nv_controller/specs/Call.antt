@@ -1,0 +1,64 @@
+-- What is found of an entry before its command is executed: its command and where its data lies, or the status of
+-- the first rule that it breaks.
+use Rattle.std.specs.Prelude.{ℕ, ◌<◌, ◌≤◌, List, [], Option, Some, None, Result, Ok, Err}
+use Rattle.nv_layout.specs.declared.sqe.Sqe.{Sqe}
+use Rattle.nv_prp.specs.Place.{read_at}
+use Rattle.nv_prp.specs.Transfer as prp
+use Rattle.nv_prp.specs.declared.error.PrpError.{PrpError}
+use Rattle.nv_prp.specs.declared.error.PrpError.TheVariants.{Offset, Outside}
+use Rattle.nv_command.specs.Decoding.{command_of, transfer_of}
+use Rattle.nv_command.specs.Steps.{◌>>=◌}
+use Rattle.nv_command.specs.declared.command.Command.{Command}
+use Rattle.nv_command.specs.declared.status_code.StatusCode.{StatusCode}
+use Rattle.nv_command.specs.declared.status_code.StatusCode.TheVariants.{DataTransferError, PrpOffsetInvalid}
+use Rattle.nv_command.specs.declared.transfer.Transfer.{Transfer}
+use Rattle.nv_command.specs.declared.transfer.Transfer.TheVariants.{NoData, ToHost, FromHost}
+
+abbrev pub prp_status : PrpError → StatusCode
+prp_status Offset = PrpOffsetInvalid
+prp_status Outside = DataTransferError
+
+-- the places of a transfer's bytes, or the status of its first fault
+abbrev pub places_unless : Option PrpError → List ℕ → Result (List ℕ) StatusCode
+places_unless None places = Ok places
+places_unless (Some fault) places = Err (prp_status fault)
+
+unfoldable pub places_of : prp.Transfer → Result (List ℕ) StatusCode
+places_of t = places_unless (prp.first_fault t) (prp.transfer_places t)
+
+-- a length that a data pointer can have; what the host sends is a page of 4,096 bytes at most
+abbrev pub HasRoom : Transfer → Type 0
+HasRoom NoData = Unit {0}
+HasRoom (ToHost n) = (0 < n) × (n ≤ 1048576)
+HasRoom (FromHost n) = (0 < n) × (n ≤ 4096)
+
+-- how many bytes a transfer has
+abbrev pub length_of : Transfer → ℕ
+length_of NoData = 0
+length_of (ToHost n) = n
+length_of (FromHost n) = n
+
+-- where the data of an entry lies in the host's memory; an entry without data has no use for its data pointer
+abbrev pub data_places : ℕ → List ℕ → Sqe → Transfer → Result (List ℕ) StatusCode
+data_places page_size bytes e NoData = Ok []
+data_places page_size bytes e (ToHost n) = places_of (prp.transfer page_size bytes e.prp1 e.prp2 n)
+data_places page_size bytes e (FromHost n) = places_of (prp.transfer page_size bytes e.prp1 e.prp2 n)
+
+-- the bytes that the host sends
+abbrev pub sent_from : Transfer → List ℕ → List ℕ → List ℕ
+sent_from NoData bytes places = []
+sent_from (ToHost n) bytes places = []
+sent_from (FromHost n) bytes places = read_at bytes places
+
+-- a command, and the places of its data
+pub record Call : Type 0 where
+  pub command : Command
+  pub places : List ℕ
+
+-- the rules in order: those of the entry alone, those of its data pointer, those of the data that the host sends
+abbrev pub call_of : ℕ → List ℕ → Sqe → Result Call StatusCode
+call_of page_size bytes e = do
+  moves ← transfer_of e
+  places ← data_places page_size bytes e moves
+  command ← command_of e (sent_from moves bytes places)
+  Ok (record { command = command; places = places })

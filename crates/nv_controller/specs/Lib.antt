@@ -1,0 +1,5 @@
+pub mod Bus
+pub mod BusCode
+pub mod Call
+pub mod Entry
+pub mod Turn

@@ -1,0 +1,108 @@
+//! What is found of an entry before its command is executed.
+
+ghost use Rattle.std.specs.Prelude.{◌≡◌, ◌<◌, ◌≤◌, [], Ok, Err, IfOk, MatchResult, OnOk, length};
+ghost use Rattle.nv_command.specs.Command.{transfer_by};
+ghost use Rattle.nv_prp.specs.Place.{LieIn, places};
+ghost use Rattle.nv_prp.specs.Transfer.{transfer};
+ghost use Rattle.nv_controller.specs.Call.{HasRoom, call_of, data_places, length_of, places_of, prp_status, sent_from};
+
+use nv_command::{Command, StatusCode, Transfer};
+use nv_host::HostMemory;
+use nv_layout::Sqe;
+use nv_prp::{PrpError, Spans, copy_in, walk};
+
+/// The status of a faulty data pointer. Section "Generic Command Status Definition".
+fn prp_status(fault: PrpError) -> StatusCode
+    ensures { result ≡ prp_status fault }
+{
+    match fault {
+        PrpError::Offset => StatusCode::PrpOffsetInvalid,
+        PrpError::Outside => StatusCode::DataTransferError,
+    }
+}
+
+/// Walks the data pointer of an entry for so many bytes.
+#[tactic(auto, unfolding(crate::specs::Call::places_of))]
+fn walk_data<M: HostMemory>(
+    mem: &M,
+    entry: &Sqe,
+    len: u64,
+    spans: &mut Spans,
+) -> Result<(), StatusCode>
+    requires some { 0 < len }
+    requires limit { len ≤ 1048576 }
+    ensures found { let t = transfer (M.page_len mem.now) (M.bytes mem.now) entry.now.prp1 entry.now.prp2 len in
+        MatchResult result (λ _. places_of t ≡ Ok (places spans.new)) (λ code. places_of t ≡ Err code) }
+    ensures inside { OnOk result (LieIn (length (M.bytes mem.now)) spans.new) }
+    ensures len { OnOk result (length (places spans.new) ≡ len) }
+{
+    match walk(mem, entry.prp1, entry.prp2, len as u32, spans) {
+        Ok(()) => Ok(()),
+        Err(fault) => Err(prp_status(fault)),
+    }
+}
+
+/// Finds the places of an entry's data; `spans` are empty before.
+fn find_data<M: HostMemory>(
+    mem: &M,
+    entry: &Sqe,
+    moves: Transfer,
+    spans: &mut Spans,
+) -> Result<(), StatusCode>
+    requires room { HasRoom moves }
+    requires fresh { spans.old ≡ [] }
+    ensures found { let found = data_places (M.page_len mem.now) (M.bytes mem.now) entry.now moves in
+        MatchResult result (λ _. found ≡ Ok (places spans.new)) (λ code. found ≡ Err code) }
+    ensures inside { OnOk result (LieIn (length (M.bytes mem.now)) spans.new) }
+    ensures len { OnOk result (length (places spans.new) ≡ length_of moves) }
+{
+    match moves {
+        Transfer::NoData => Ok(()),
+        Transfer::ToHost(len) => walk_data(mem, entry, len, spans),
+        Transfer::FromHost(len) => walk_data(mem, entry, len, spans),
+    }
+}
+
+/// The bytes that the host sends, read into the front of a page.
+fn sent_data<'a, M: HostMemory>(
+    mem: &M,
+    moves: Transfer,
+    spans: &Spans,
+    page: &'a mut [u8; 4096],
+) -> &'a [u8]
+    requires room { HasRoom moves }
+    requires inside { LieIn (length (M.bytes mem.now)) spans.now }
+    requires len { length (places spans.now) ≡ length_of moves }
+    ensures { result.now ≡ sent_from moves (M.bytes mem.now) (places spans.now) }
+{
+    match moves {
+        Transfer::NoData | Transfer::ToHost(_) => &[],
+        Transfer::FromHost(len) => {
+            let sent = &mut page[..len as usize];
+            copy_in(mem, spans, sent);
+            sent
+        }
+    }
+}
+
+/// The command of an entry, or the status of the first rule that the entry or its data breaks;
+/// `spans`, empty before, get the places of its data.
+pub fn read_call<M: HostMemory>(
+    mem: &M,
+    entry: &Sqe,
+    spans: &mut Spans,
+) -> Result<Command, StatusCode>
+    requires { spans.old ≡ [] }
+    ensures found { let found = call_of (M.page_len mem.now) (M.bytes mem.now) entry.now in
+        MatchResult result (λ command. found ≡ Ok (record { command = command; places = places spans.new }))
+        (λ code. found ≡ Err code) }
+    ensures inside { OnOk result (LieIn (length (M.bytes mem.now)) spans.new) }
+    ensures len { IfOk result (λ command. length (places spans.new) ≡ length_of (transfer_by command)) }
+{
+    let moves = Transfer::of(entry)?;
+    find_data(mem, entry, moves, spans)?;
+    let mut page = [0; 4096];
+    let sent = sent_data(mem, moves, spans, &mut page);
+    let command = Command::of(entry, sent)?;
+    Ok(command)
+}

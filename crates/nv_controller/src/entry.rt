@@ -1,0 +1,116 @@
+//! Taking one entry.
+
+ghost use Rattle.std.specs.Prelude.{◌≡◌, ◌<◌, [], IfOk, OnOk, length, true};
+ghost use Rattle.nv_command.specs.Reply.{data_of};
+ghost use Rattle.nv_prp.specs.Place.{LieIn, places, written_at};
+ghost use Rattle.nv_subsystem.specs.WellFormed.{IsWellFormed};
+ghost use Rattle.nv_controller.specs.Call.{call_of};
+ghost use Rattle.nv_controller.specs.Entry.{One, completion_with, places_in, scene, step_unless};
+ghost use Rattle.nv_controller.specs.Turn.{can_take, reaches};
+
+use crate::call::read_call;
+use nv_command::{Refusal, Reply};
+use nv_host::HostMemory;
+use nv_layout::{Cqe, Sqe, Status};
+use nv_prp::{Spans, copy_out};
+use nv_register::Rings;
+use nv_subsystem::{Origin, Subsystem};
+
+/// Executes the command of an entry, or refuses the entry; `spans`, empty before, get the places of
+/// its data. `phase` is the phase tag that its completion will have.
+fn answer_entry<M: HostMemory>(
+    subsystem: &mut Subsystem,
+    ctrl: u16,
+    mem: &M,
+    entry: &Sqe,
+    phase: bool,
+    spans: &mut Spans,
+) -> Result<Reply, Status>
+    requires ctrl { ctrl < length subsystem.old.controllers }
+    requires well_formed { IsWellFormed subsystem.old }
+    requires fresh { spans.old ≡ [] }
+    ensures answer { let call = call_of (M.page_len mem.now) (M.bytes mem.now) entry.now in
+        result ≡ (step_unless call subsystem.old ctrl entry.now).answer }
+    ensures state { let call = call_of (M.page_len mem.now) (M.bytes mem.now) entry.now in
+        subsystem.new ≡ (step_unless call subsystem.old ctrl entry.now).state }
+    ensures well_formed { IsWellFormed subsystem.new }
+    ensures controllers { length subsystem.new.controllers ≡ length subsystem.old.controllers }
+    ensures places { OnOk result
+        (places spans.new ≡ places_in (call_of (M.page_len mem.now) (M.bytes mem.now) entry.now)) }
+    ensures inside { OnOk result (LieIn (length (M.bytes mem.now)) spans.new) }
+    ensures len { OnOk result (length (places spans.new) ≡ 4096) }
+    ensures page { IfOk result (λ reply. length (data_of reply) ≡ 4096) }
+{
+    let origin = Origin {
+        cid: entry.cid,
+        phase,
+    };
+    match read_call(mem, entry, spans) {
+        Err(code) => {
+            let refusal = Refusal::from(code);
+            subsystem.refuse(ctrl, origin, entry.nsid, refusal);
+            Err(refusal.status)
+        }
+        Ok(command) => match subsystem.execute(ctrl, &command, origin) {
+            Ok(reply) => Ok(reply),
+            Err(refusal) => Err(refusal.status),
+        },
+    }
+}
+
+/// Writes the data of a reply, a page, to its places.
+fn deliver<M: HostMemory>(mem: &mut M, spans: &Spans, reply: &Reply)
+    requires inside { LieIn (length (M.bytes mem.old)) spans.now }
+    requires len { length (places spans.now) ≡ 4096 }
+    requires page { length (data_of reply.now) ≡ 4096 }
+    ensures bytes { M.bytes mem.new ≡ written_at (M.bytes mem.old) (places spans.now) (data_of reply.now) }
+    ensures len { length (M.bytes mem.new) ≡ length (M.bytes mem.old) }
+    ensures page_len { M.page_len mem.new ≡ M.page_len mem.old }
+{
+    let mut page = [0; 4096];
+    reply.put(&mut page);
+    copy_out(mem, spans, &page);
+}
+
+/// The completion of an entry that was answered so; the ring gives it its phase tag.
+fn completion(cid: u16, sq_head: u16, answer: &Result<Reply, Status>) -> Cqe
+    ensures { result ≡ completion_with cid sq_head answer.now }
+{
+    let (command_specific, status) = match answer {
+        Ok(reply) => (reply.dword0(), Status::SUCCESS),
+        Err(status) => (0, *status),
+    };
+    Cqe {
+        command_specific,
+        sq_head,
+        sq_identifier: 0,
+        cid,
+        phase: false,
+        status,
+    }
+}
+
+/// Takes the next entry of a controller's submission ring: its command is executed or the entry is
+/// refused, the data of its reply is written, and then its completion.
+pub fn take_one<M: HostMemory>(subsystem: &mut Subsystem, rings: &mut Rings, ctrl: u16, mem: &mut M)
+    requires ctrl { ctrl < length subsystem.old.controllers }
+    requires well_formed { IsWellFormed subsystem.old }
+    requires can { can_take rings.old ≡ true }
+    requires reached { reaches rings.old (M.page_len mem.old) (length (M.bytes mem.old)) ≡ true }
+    ensures one { One ctrl (scene subsystem.old rings.old (M.bytes mem.old))
+        (scene subsystem.new rings.new (M.bytes mem.new)) }
+    ensures well_formed { IsWellFormed subsystem.new }
+    ensures controllers { length subsystem.new.controllers ≡ length subsystem.old.controllers }
+    ensures len { length (M.bytes mem.new) ≡ length (M.bytes mem.old) }
+    ensures page { M.page_len mem.new ≡ M.page_len mem.old }
+{
+    let entry = rings.submission.next(mem).unwrap();
+    let phase = rings.completion.phase();
+    let mut spans = Spans::new();
+    let answer = answer_entry(subsystem, ctrl, mem, &entry, phase, &mut spans);
+    if let Ok(reply) = &answer {
+        deliver(mem, &spans, reply);
+    }
+    let posted = completion(entry.cid, rings.submission.head(), &answer);
+    rings.completion.put(mem, posted).unwrap();
+}

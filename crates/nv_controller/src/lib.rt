@@ -1,0 +1,13 @@
+//! The controller of an NVM subsystem as a host meets it.
+#![tactic(auto)]
+
+mod bus;
+mod call;
+mod entry;
+mod machine;
+#[cfg(test)]
+mod tests;
+mod turn;
+
+pub use bus::Bus;
+pub use machine::Machine;

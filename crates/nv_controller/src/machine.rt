@@ -1,0 +1,95 @@
+//! The controllers of a subsystem.
+
+ghost use Rattle.std.specs.Prelude.{◌≡◌, IfOk, length, replicate};
+ghost use Rattle.nv_register.specs.Port.{new_port};
+ghost use Rattle.nv_subsystem.specs.WellFormed.{IsWellFormed};
+ghost use Rattle.nv_controller.specs.Bus.{IsBus};
+
+use crate::bus::Bus;
+use crate::turn::turn_port;
+use nv_host::{HostMemory, Memory};
+use nv_register::Port;
+use nv_subsystem::Subsystem;
+use std::alloc::Global;
+use std::marker::Model;
+
+/// A bus over a subsystem: the registers and rings of each of its controllers.
+#[derive(Drop)]
+pub struct Machine {
+    subsystem: Subsystem,
+    ports: Vec<Port>,
+}
+
+impl Model for Machine {
+    ghost use Rattle.nv_controller.specs.Bus.{BusValue};
+
+    ghost Value = { BusValue };
+
+    ghost use Rattle.nv_controller.specs.BusCode.{bus_code};
+
+    ghost coded = { bus_code };
+
+    ghost view = { λ m. record { state = m.subsystem; ports = m.ports.items } };
+
+    ghost use Rattle.std.specs.Prelude.{◌≡◌, length};
+
+    ghost invariant = { λ m. length m.ports.items ≡ length m.subsystem.controllers };
+}
+
+/// The registers of so many controllers after power on.
+#[tactic(auto, using(std::proofs::lemmas::List::replicate_more))]
+fn new_ports(alloc: Global, count: u16) -> Result<Vec<Port>, Memory>
+    ensures { IfOk result (λ ports. ports.items ≡ replicate count new_port) }
+{
+    let mut ports = Vec::new(alloc);
+    for _ in 0..count {
+        if ports.push(Port::new()).is_err() {
+            return Err(Memory);
+        }
+    }
+    Ok(ports)
+}
+
+impl Machine {
+    /// The controllers of a subsystem after power on. Where memory is refused the subsystem is
+    /// dropped.
+    pub fn new(alloc: Global, subsystem: Subsystem) -> Result<Machine, Memory>
+        ensures value { IfOk result (λ m. m ≡ record {
+          state = subsystem;
+          ports = replicate (length subsystem.controllers) new_port;
+        }) }
+        ensures bus { IfOk result (λ m. IsWellFormed subsystem → IsBus m) }
+    {
+        let ports = new_ports(alloc, subsystem.controllers())?;
+        Ok(Machine { subsystem, ports })
+    }
+
+    /// The subsystem as it is now.
+    pub fn subsystem(&self) -> &Subsystem
+        ensures { result.now ≡ self.now.state }
+    {
+        &self.subsystem
+    }
+}
+
+impl Bus for Machine {
+    ghost meaning = { λ m. m };
+
+    fn controllers(&self) -> u16 {
+        self.subsystem.controllers()
+    }
+
+    fn read32(&self, ctrl: u16, offset: u32) -> u32 {
+        self.ports[ctrl as usize].read32(offset)
+    }
+
+    fn write32(&mut self, ctrl: u16, offset: u32, dword: u32) {
+        let port = &mut self.ports[ctrl as usize];
+        port.write32(offset, dword);
+    }
+
+    fn turn<M: HostMemory>(&mut self, ctrl: u16, mem: &mut M, most: u16) -> u16 {
+        let port = &mut self.ports[ctrl as usize];
+        turn_port(&mut self.subsystem, port, ctrl, mem, most)
+    }
+}

@@ -1,0 +1,88 @@
+//! The turn of a controller.
+
+ghost use Rattle.std.specs.Prelude.{◌≡◌, ◌<◌, length};
+ghost use Rattle.nv_subsystem.specs.WellFormed.{IsWellFormed};
+ghost use Rattle.nv_controller.specs.Entry.{scene};
+ghost use Rattle.nv_controller.specs.Turn.{PortTurn, RingsTurn, can_take, reaches, site};
+
+use crate::entry::take_one;
+use nv_host::HostMemory;
+use nv_register::{Port, Rings};
+use nv_subsystem::Subsystem;
+
+/// Whether an entry waits, and there is a free slot for its completion.
+fn can_take(rings: &Rings) -> bool
+    ensures { result ≡ can_take rings.now }
+{
+    !rings.submission.is_empty() && !rings.completion.is_full()
+}
+
+/// Whether the memory has the page size that the controller was enabled with, the entry's slot and
+/// that of its completion.
+fn reaches<M: HostMemory>(rings: &Rings, mem: &M) -> bool
+    ensures { result ≡ reaches rings.now (M.page_len mem.now) (length (M.bytes mem.now)) }
+{
+    mem.page_size() == rings.page_size && rings.submission.fits(mem) && rings.completion.fits(mem)
+}
+
+/// Takes entries, at most so many: how many it took, and whether it stopped since the memory does
+/// not reach.
+fn take_entries<M: HostMemory>(
+    subsystem: &mut Subsystem,
+    rings: &mut Rings,
+    ctrl: u16,
+    mem: &mut M,
+    most: u16,
+) -> (u16, bool)
+    requires ctrl { ctrl < length subsystem.old.controllers }
+    requires well_formed { IsWellFormed subsystem.old }
+    ensures turn { RingsTurn (M.page_len mem.old) ctrl most result.0
+        (scene subsystem.old rings.old (M.bytes mem.old))
+        (scene subsystem.new rings.new (M.bytes mem.new)) result.1 }
+    ensures well_formed { IsWellFormed subsystem.new }
+    ensures controllers { length subsystem.new.controllers ≡ length subsystem.old.controllers }
+    ensures len { length (M.bytes mem.new) ≡ length (M.bytes mem.old) }
+    ensures page { M.page_len mem.new ≡ M.page_len mem.old }
+{
+    for count in 0..most {
+        if !can_take(rings) {
+            return (count, false);
+        }
+        if !reaches(rings, mem) {
+            return (count, true);
+        }
+        take_one(subsystem, rings, ctrl, mem);
+    }
+    (most, false)
+}
+
+/// A turn of one controller, over its registers and rings.
+pub fn turn_port<M: HostMemory>(
+    subsystem: &mut Subsystem,
+    port: &mut Port,
+    ctrl: u16,
+    mem: &mut M,
+    most: u16,
+) -> u16
+    requires ctrl { ctrl < length subsystem.old.controllers }
+    requires well_formed { IsWellFormed subsystem.old }
+    ensures turn { PortTurn (M.page_len mem.old) ctrl most result
+        (site subsystem.old port.old (M.bytes mem.old))
+        (site subsystem.new port.new (M.bytes mem.new)) }
+    ensures well_formed { IsWellFormed subsystem.new }
+    ensures controllers { length subsystem.new.controllers ≡ length subsystem.old.controllers }
+    ensures len { length (M.bytes mem.new) ≡ length (M.bytes mem.old) }
+    ensures page { M.page_len mem.new ≡ M.page_len mem.old }
+{
+    if port.cfs {
+        return 0;
+    }
+    match &mut port.rings {
+        None => 0,
+        Some(rings) => {
+            let (count, fatal) = take_entries(subsystem, rings, ctrl, mem, most);
+            port.cfs = fatal;
+            count
+        }
+    }
+}
