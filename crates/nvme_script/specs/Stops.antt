@@ -20,7 +20,7 @@ exit_status stop.Memory = 6
 -- want of memory is told as such, and any other fault as what it means there
 abbrev pub unless_memory : ErrorKind → Stop → Stop
 unless_memory kind.OutOfMemory otherwise = stop.Memory
-unless_memory other otherwise = otherwise
+unless_memory _ otherwise = otherwise
 
 -- a subsystem file that was refused
 abbrev pub of_file : SubsystemError → Stop
