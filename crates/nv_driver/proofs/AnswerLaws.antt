@@ -1,0 +1,78 @@
+-- What an answer is, and that it is read as it is where its completion and its data lie.
+use Rattle.std.proofs.Common.{◌≡◌, ◌∙◌, ℕ, ◌<◌, ◌≤◌, ◌^◌, ◌==◌, ◌&&◌, Bool, true, false, Err, List, None, Ok, Option, Result, Some, ap, arith, lit<, refl, subst, sym}
+use Rattle.std.proofs.lemmas.Bool.Decides.{nat_tests}
+use Rattle.nv_layout.specs.Cqe.{CqeFits}
+use Rattle.nv_layout.specs.Status.{StatusFits}
+use Rattle.nv_layout.specs.declared.cqe.Cqe.{Cqe}
+use Rattle.nv_layout.specs.declared.status.Status.{Status}
+use Rattle.nv_prp.specs.Place.{read_at}
+use Rattle.nv_command.specs.Refusal.{IsRefusal}
+use Rattle.nv_command.specs.Reply.{FitsRecord, IsReplyTo, data_of, dword0_of}
+use Rattle.nv_command.specs.TravelLaws.{replies_travel}
+use Rattle.nv_command.specs.declared.command.Command.{Command}
+use Rattle.nv_command.specs.declared.refusal.Refusal.{Refusal}
+use Rattle.nv_command.specs.declared.reply.Reply.{Reply}
+use Rattle.nv_command.specs.declared.reply.Reply.TheVariants as reply
+use Rattle.nv_subsystem.specs.Refusal.{refusal_of}
+use Rattle.nv_subsystem.specs.Reply.{reply_of}
+use Rattle.nv_subsystem.specs.ReplyLaws.{reply_fits}
+use Rattle.nv_subsystem.specs.State.{State}
+use Rattle.nv_subsystem.specs.Step.{step, step_by}
+use Rattle.nv_subsystem.specs.StepLaws.{refusal_fits}
+use Rattle.nv_subsystem.specs.WellFormed.{IsWellFormed}
+use Rattle.nv_controller.specs.Entry.{completion_with, dword0_in, status_in}
+use Rattle.nv_queue.specs.Slots.{posted_as}
+use Rattle.nv_driver.specs.Schedule.{Answer, Sent, Setting, answer_read, is_success, places}
+
+-- a reply that its command can have and its record holds, or a status that is no success
+abbrev pub IsAnswerTo : Command → Answer → Type 0
+IsAnswerTo k (Ok r) = IsReplyTo k r × FitsRecord r
+IsAnswerTo k (Err status) = StatusFits status × (is_success status ≡ false)
+
+no_success : (status : Status) → ((status.sct ≡ 0) × (status.sc ≡ 0) → ⊥) → is_success status ≡ false
+no_success status fails = no_zeros status.sct status.sc fails
+  where
+    no_zeros : (a b : ℕ) → ((a ≡ 0) × (b ≡ 0) → ⊥) → (a == 0 && b == 0) ≡ false
+    no_zeros a b fails = grind (arith, nat_tests, fails)
+
+answer_by : (o : Option Refusal) (s : State) (c : ℕ) (k : Command) (cid : ℕ) → IsWellFormed s → ((r : Refusal) → o ≡ Some r → IsRefusal r)
+    → IsAnswerTo k (step_by o s c k cid).answer
+answer_by None s c k cid w fits = let f = reply_fits s c k w in (f.is_reply, f.fits)
+answer_by (Some r) s c k cid w fits = let f = fits r refl in (f.status, no_success r.status f.fails)
+
+pub answer_sound : (s : State) (c : ℕ) (k : Command) (cid : ℕ) → IsWellFormed s → IsAnswerTo k (step s c k cid).answer
+answer_sound s c k cid w = answer_by (refusal_of s c k) s c k cid w (refusal_fits s c k)
+
+-- ---- completions
+
+dword0_fits : (r : Reply) → dword0_of r < 2 ^ 32
+dword0_fits (reply.Namespace r) = lit< tt
+dword0_fits (reply.List ids) = lit< tt
+
+pub completion_fits : (k : Command) (cid head : ℕ) (a : Answer) → cid < 2 ^ 16 → head < 2 ^ 16 → IsAnswerTo k a → CqeFits (completion_with cid head a)
+completion_fits k cid head (Ok r) low below is = record {
+  command_specific = dword0_fits r;
+  sq_head = below;
+  sq_identifier = lit< tt;
+  cid = low;
+  status = record { sc = lit< tt; sct = lit< tt; crd = lit< tt };
+}
+completion_fits k cid head (Err status) low below is = record {
+  command_specific = lit< tt;
+  sq_head = below;
+  sq_identifier = lit< tt;
+  cid = low;
+  status = is.0;
+}
+
+-- the data of a reply lies at the places of the command
+abbrev pub Delivers : Setting → Sent → List ℕ → Answer → Type 0
+Delivers t x mem (Ok r) = read_at mem (places t x) ≡ data_of r
+Delivers t x mem (Err status) = Unit {0}
+
+pub answer_back : (t : Setting) (x : Sent) (mem : List ℕ) (depth n cid head : ℕ) (a : Answer) → IsAnswerTo x.command a → Delivers t x mem a
+    → answer_read t x mem (posted_as depth n (completion_with cid head a)) ≡ a
+answer_back t x mem depth n cid head (Ok r) is delivered =
+    let back = (replies_travel x.command r is.0 is.1).reply in
+    rw delivered (ap Ok back)
+answer_back t x mem depth n cid head (Err status) is delivered = rw (is.1) refl

@@ -1,0 +1,72 @@
+-- The counts of a schedule, and what rings and doorbells keep of them.
+use Rattle.std.proofs.Common.{◌≡◌, ◌≢◌, ◌∙◌, ℕ, ◌+◌, ◌-◌, ◌*◌, ◌==◌, ◌<◌, ◌≤◌, ◌&&◌, Bool, true, false, nat_le, nat_lt, ap, arith, refl, subst, sym, Some}
+use Rattle.std.proofs.lemmas.Bool.Decides.{nat_tests}
+use Rattle.nv_queue.specs.Numbers.{IsDepth, IsSlotBetween, above, ahead, first_in_slot, kept_number, next, phase_of, slot_of}
+use Rattle.nv_queue.specs.NumberLaws.{above_cases, slot_below}
+use Rattle.nv_queue.specs.KeptLaws.{above_kept, between_kept, first_kept, kept_below, kept_next, slot_kept, slots_apart}
+use Rattle.nv_queue.specs.Rings.{FetchNumbers, PostNumbers}
+use Rattle.nv_register.specs.Port.{rung_by, told_by, with_register_at}
+use Rattle.nv_driver.specs.Schedule.{Setting, device_rings, number, port_with, slot}
+
+pub number_below : (t : Setting) (n : ℕ) → 0 < t.depth → number t n < 2 * t.depth
+number_below t n p = kept_below t.depth (t.start + n) p
+
+pub number_next : (t : Setting) (n : ℕ) → next t.depth (number t n) ≡ number t (n + 1)
+number_next t n =
+    let sum : t.start + n + 1 ≡ t.start + (n + 1) = omega arith in
+    kept_next t.depth (t.start + n) ∙ ap (kept_number t.depth) sum
+
+pub slot_inside : (t : Setting) (n : ℕ) → 0 < t.depth → slot t n < t.depth
+slot_inside t n p = slot_below t.depth (number t n) (number_below t n p)
+
+-- commands fewer than a depth apart have two slots
+pub slots_differ : (t : Setting) (n m : ℕ) → n < m → m < n + t.depth → slot t m ≢ slot t n
+slots_differ t n m l h = λ same.
+    slots_apart t.depth (t.start + m) (t.start + n) (omega arith) (omega arith)
+    (sym (slot_kept t.depth (t.start + m)) ∙ same ∙ slot_kept t.depth (t.start + n))
+
+-- how far a number is above another
+pub number_above : (t : Setting) (n m : ℕ) → 0 < t.depth → n ≤ m → m < n + 2 * t.depth
+    → above t.depth (number t m) (number t n) ≡ m - n
+number_above t n m p l h = above_kept t.depth (t.start + m) (t.start + n) (m - n) p (omega arith) (omega arith)
+
+pub numbers_differ : (t : Setting) (n m : ℕ) → n < m → m < n + t.depth → number t n ≢ number t m
+numbers_differ t n m l h = λ same.
+    let far = number_above t n m (omega arith) (omega arith) (omega arith) in
+    let below = number_below t n (omega arith) in
+    let none : above t.depth (number t n) (number t n) ≡ m - n = ap (λ x. above t.depth x (number t n)) same ∙ far in
+    grind (arith, none, above_cases t.depth (number t n) (number t n) below below)
+
+-- ---- doorbells
+
+rung_is : (t : Setting) (rung done m : ℕ) → done ≤ m → m < done + t.depth
+    → rung_by (record { base = t.sq; depth = t.depth; fetched = number t done; rung = number t rung }) (slot t m)
+    ≡ record { base = t.sq; depth = t.depth; fetched = number t done; rung = number t m }
+rung_is t rung done m l h =
+    let inside = slot_inside t m (omega arith) in
+    let first = first_kept t.depth (t.start + m) (t.start + done) (m - done) (omega arith) (omega arith) in
+    let is_slot : nat_lt (slot t m) t.depth ≡ true = grind (arith, nat_tests, inside) in
+    rw (is_slot, first) refl
+
+-- the tail of the commands that were sent is taken
+pub tail_rung : (t : Setting) (rung done told m : ℕ) → done ≤ m → m < done + t.depth
+    → with_register_at (port_with t (device_rings t rung done told)) 0x1000 (slot t m) ≡ port_with t (device_rings t m done told)
+tail_rung t rung done told m l h =
+    ap (λ (r : FetchNumbers). port_with t (record (device_rings t rung done told) { submission = r })) (rung_is t rung done m l h)
+
+told_is : (t : Setting) (done told k : ℕ) → told ≤ k → k ≤ done → done < told + t.depth
+    → told_by (record { base = t.cq; depth = t.depth; posted = number t done; told = number t told }) (slot t k)
+    ≡ record { base = t.cq; depth = t.depth; posted = number t done; told = number t k }
+told_is t done told k l m h =
+    let between : IsSlotBetween t.depth (number t told) (number t done) (slot t k) =
+        between_kept t.depth (t.start + told) (k - told) (done - told) (t.start + k) (t.start + done) (omega arith) (omega arith) (omega arith) (omega arith) in
+    let first = first_kept t.depth (t.start + k) (t.start + told) (k - told) (omega arith) (omega arith) in
+    let is_slot : nat_lt (slot t k) t.depth ≡ true = grind (arith, nat_tests, between.0) in
+    let is_near : nat_le (ahead t.depth (number t told) (slot t k)) (above t.depth (number t done) (number t told)) ≡ true = grind (arith, nat_tests, between.1) in
+    rw (is_slot, is_near, first) refl
+
+-- the head of the answers that were collected is taken
+pub head_told : (t : Setting) (rung done told k : ℕ) → told ≤ k → k ≤ done → done < told + t.depth
+    → with_register_at (port_with t (device_rings t rung done told)) 0x1004 (slot t k) ≡ port_with t (device_rings t rung done k)
+head_told t rung done told k l m h =
+    ap (λ (r : PostNumbers). port_with t (record (device_rings t rung done told) { completion = r })) (told_is t done told k l m h)

@@ -1,0 +1,29 @@
+-- Answers that are held while the memory and the schedule go on.
+use Rattle.std.proofs.Common.{◌≡◌, ◌∙◌, ℕ, ◌+◌, ◌*◌, ◌<◌, ◌≤◌, Bool, Err, List, Ok, ap, arith, get_or, if◌then◌else◌, inl, inr, length, sym}
+use Rattle.nv_host.specs.Bytes.{bytes_at}
+use Rattle.nv_layout.specs.Cqe.{cqe_of_bytes}
+use Rattle.nv_layout.specs.Sqe.{sqe_of_bytes}
+use Rattle.nv_layout.specs.declared.cqe.Cqe.{Cqe}
+use Rattle.nv_prp.specs.Buffer.{IsApart}
+use Rattle.nv_prp.specs.Place.{read_at}
+use Rattle.nv_queue.specs.Slots.{completion_at, submission_at}
+use Rattle.nv_command.specs.Reply.{reply_in}
+use Rattle.nv_subsystem.specs.State.{State}
+use Rattle.nv_driver.specs.Schedule.{Answer, Holds, Sent, Setting, World, answer_read, answers_to, is_success, places, slot}
+
+answer_from : Sent → Cqe → List ℕ → Answer
+answer_from x c bytes = if is_success c.status then Ok (reply_in x.command c.command_specific bytes) else Err c.status
+
+pub answer_same : (t : Setting) (x : Sent) (old new : List ℕ) (c e : Cqe) → e ≡ c → read_at new (places t x) ≡ read_at old (places t x)
+    → answer_read t x new e ≡ answer_read t x old c
+unfolding answer_from
+answer_same t x old new c e same bytes = ap (λ r. answer_from x r (read_at new (places t x))) same ∙ ap (answer_from x c) bytes
+
+pub holds_on : (t : Setting) (s : State) (w v : World) (n : ℕ) (x : Sent) → completion_at v.mem t.cq (slot t n) ≡ completion_at w.mem t.cq (slot t n)
+    → read_at v.mem (places t x) ≡ read_at w.mem (places t x)
+    → ((d : Answer) → get_or (answers_to t.controller s v.sent) n d ≡ get_or (answers_to t.controller s w.sent) n d)
+    → Holds t s w n x → Holds t s v n x
+holds_on t s w v n x completion bytes answers h = record {
+  answer = λ d. answer_same t x w.mem v.mem _ _ completion bytes ∙ h.answer d ∙ sym (answers d);
+  cid = ap (λ (c : Cqe). c.cid) completion ∙ h.cid;
+}

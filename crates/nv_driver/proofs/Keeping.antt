@@ -1,0 +1,54 @@
+-- What holds along a schedule, after each of its events.
+use Rattle.std.proofs.Common.{◌≡◌, ℕ, ◌+◌, ◌*◌, ◌^◌, ◌<◌, ◌≤◌, List, get_or, length, take, Ok}
+use Rattle.nv_host.specs.Pages.{IsPageSize}
+use Rattle.nv_prp.specs.Place.{AreDistinct}
+use Rattle.nv_queue.specs.Numbers.{IsDepth}
+use Rattle.nv_queue.specs.Slots.{HoldsTags, submission_at}
+use Rattle.nv_command.specs.Command.{CommandFits}
+use Rattle.nv_subsystem.specs.State.{State}
+use Rattle.nv_subsystem.specs.WellFormed.{IsWellFormed}
+use Rattle.nv_controller.specs.Call.{call_of}
+use Rattle.nv_driver.specs.Schedule.{AreApart, AreOutside, Holds, Sent, Setting, World, after, answers_to, data_length, device_rings, entry, number, places, port_with, slot}
+
+-- the rings lie in a memory of this size, the submission ring first
+pub record IsPlaced (t : Setting) (size : ℕ) : Type 0 where
+  pub page_size : IsPageSize t.page_size
+  pub deep : IsDepth t.depth
+  pub rings : t.sq + 64 * t.depth ≤ t.cq
+  pub inside : t.cq + 16 * t.depth ≤ size
+
+-- a command in the memory: its data pointer names the places of its data, in pages of its own
+pub record IsOwn (t : Setting) (size : ℕ) (x : Sent) : Type 0 where
+  pub fits : CommandFits x.command
+  pub cid : x.cid < 2 ^ 16
+  pub enough : x.offset + data_length x ≤ length x.pages * t.page_size
+  pub inside : (k : ℕ) → k < data_length x → get_or (places t x) k 0 < size
+  pub distinct : AreDistinct (places t x)
+  pub submissions : AreOutside t x t.sq (64 * t.depth)
+  pub completions : AreOutside t x t.cq (16 * t.depth)
+  pub call : (mem : List ℕ) → length mem ≡ size
+      → call_of t.page_size mem (entry x) ≡ Ok (record { command = x.command; places = places t x })
+
+-- the counts of collected, done, rung, sent and told commands, in this order
+pub record AreInOrder (depth k d r m h : ℕ) : Type 0 where
+  pub told : h ≤ k
+  pub collected : k ≤ d
+  pub done : d ≤ r
+  pub rung : r ≤ m
+  pub few : m < k + depth
+  pub free : d < h + depth
+
+-- from commands of controller c on over a well-formed subsystem s
+pub record Keeps (t : Setting) (s : State) (w : World) : Type 0 where
+  pub placed : IsPlaced t (length w.mem)
+  pub counts : AreInOrder t.depth (length w.answers) w.done w.rung (length w.sent) w.told
+  pub port : w.port ≡ port_with t (device_rings t w.rung w.done w.told)
+  pub state : w.state ≡ after t.controller s (take w.done w.sent)
+  pub well_formed : IsWellFormed w.state
+  pub controller : t.controller < length w.state.controllers
+  pub own : (n : ℕ) (d : Sent) → length w.answers ≤ n → n < length w.sent → IsOwn t (length w.mem) (get_or w.sent n d)
+  pub apart : (n m : ℕ) (d : Sent) → length w.answers ≤ n → n < m → m < length w.sent → AreApart (get_or w.sent n d) (get_or w.sent m d)
+  pub waiting : (n : ℕ) (d : Sent) → w.done ≤ n → n < length w.sent → submission_at w.mem t.sq (slot t n) ≡ entry (get_or w.sent n d)
+  pub held : (n : ℕ) (d : Sent) → length w.answers ≤ n → n < w.done → Holds t s w n (get_or w.sent n d)
+  pub tags : HoldsTags w.mem t.cq t.depth (number t w.done)
+  pub answers : w.answers ≡ take (length w.answers) (answers_to t.controller s w.sent)

@@ -1,0 +1,144 @@
+-- What a schedule keeps from its beginning on, where a doorbell is rung or an answer is collected.
+use Rattle.std.proofs.Common.{◌≡◌, ◌∙◌, ◌⊎◌, ℕ, zero, suc, ◌+◌, ◌-◌, ◌*◌, ◌%◌, ◌<◌, ◌≤◌, length-append, List, [], ◌∷◌, ◌++◌, ap, arith, get_or, inl, inr, length, refl, subst, sym, take}
+use Rattle.std.proofs.Common.{not}
+use Rattle.std.proofs.Math.Nat.{mod-eq_of_lt}
+use Rattle.std.proofs.lemmas.Bool.{cases_lt}
+use Rattle.std.proofs.lemmas.List.{take_more}
+use Rattle.nv_queue.specs.Numbers.{kept_number, phase_of, slot_of, tag_below}
+use Rattle.nv_queue.specs.SlotLaws.{not_own}
+use Rattle.nv_queue.specs.Slots.{HoldsTags, IsAwaitedThere, completion_at}
+use Rattle.nv_queue.specs.TagLaws.{tag_below_here}
+use Rattle.nv_subsystem.specs.State.{State}
+use Rattle.nv_register.specs.Port.{with_register_at}
+use Rattle.nv_driver.specs.Schedule.{Happens, Holds, IsIdle, Sent, Setting, World, after, answer_awaited, answers_to, awaited, device_rings, number, port_with, slot}
+use Rattle.nv_driver.specs.Schedule.{Submit, Bell, Turn, Collect, Tell}
+use Rattle.nv_driver.proofs.CountLaws.{head_told, number_below, slot_inside, tail_rung}
+use Rattle.nv_driver.proofs.Keeping.{Keeps}
+use Rattle.nv_driver.proofs.SerialLaws.{length-answers}
+
+-- ---- the beginning
+
+number_zero : (t : Setting) → t.start < 2 * t.depth → t.start ≡ number t 0
+unfolding kept_number
+number_zero t h = let sum : t.start + 0 ≡ t.start = omega arith in sym (ap (λ n. n % (2 * t.depth)) sum ∙ mod-eq_of_lt h)
+
+pub idle_keeps : (t : Setting) (w : World) → IsIdle t w → Keeps t w.state w
+idle_keeps t w i =
+    let no_sent = ap (λ xs. length xs) i.sent in
+    let no_answers = ap (λ xs. length xs) i.answers in
+    let deep = i.deep in
+    record {
+      placed = record { page_size = i.page_size; deep = i.deep; rings = i.rings; inside = i.inside };
+      counts = record {
+        told = omega (arith, i.told);
+        collected = omega (arith, no_answers);
+        done = omega (arith, i.done);
+        rung = omega (arith, i.rung);
+        few = omega (arith, no_sent, deep.0);
+        free = omega (arith, i.done, deep.0);
+      };
+      port = rw (i.rung, i.done, i.told) i.port;
+      state = rw (i.done) refl;
+      well_formed = i.state;
+      controller = i.controller;
+      own = λ n d from below. absurd (omega (arith, no_sent));
+      apart = λ n m d from later below. absurd (omega (arith, no_sent));
+      waiting = λ n d from below. absurd (omega (arith, no_sent));
+      held = λ n d from below. absurd (omega (arith, i.done));
+      tags = subst (HoldsTags w.mem t.cq t.depth) (number_zero t i.start ∙ ap (number t) (sym i.done)) i.tags;
+      answers = rw (i.answers) refl;
+    }
+
+-- ---- doorbells change a count and the registers
+
+pub bell_keeps : (t : Setting) (s : State) (w w' : World) → Keeps t s w → Happens t Bell w w' → Keeps t s w'
+bell_keeps t s w w' k happens =
+    let c = k.counts in
+    subst (Keeps t s) (sym happens) (record {
+      placed = k.placed;
+      counts = record { told = c.told; collected = c.collected; done = omega (arith, c.done, c.rung); rung = omega arith; few = c.few; free = c.free };
+      port = ap (λ p. with_register_at p 0x1000 (slot t (length w.sent))) k.port
+          ∙ tail_rung t w.rung w.done w.told (length w.sent) (omega (arith, c.done, c.rung)) (omega (arith, c.few, c.collected));
+      state = k.state;
+      well_formed = k.well_formed;
+      controller = k.controller;
+      own = k.own;
+      apart = k.apart;
+      waiting = k.waiting;
+      held = λ n d from below. let h = k.held n d from below in record { answer = h.answer; cid = h.cid };
+      tags = k.tags;
+      answers = k.answers;
+    })
+
+pub tell_keeps : (t : Setting) (s : State) (w w' : World) → Keeps t s w → Happens t Tell w w' → Keeps t s w'
+tell_keeps t s w w' k happens =
+    let c = k.counts in
+    subst (Keeps t s) (sym happens) (record {
+      placed = k.placed;
+      counts = record { told = omega arith; collected = c.collected; done = c.done; rung = c.rung; few = c.few; free = omega (arith, c.free, c.few, c.done, c.rung, c.collected) };
+      port = ap (λ p. with_register_at p 0x1004 (slot t (length w.answers))) k.port
+          ∙ head_told t w.rung w.done w.told (length w.answers) c.told c.collected c.free;
+      state = k.state;
+      well_formed = k.well_formed;
+      controller = k.controller;
+      own = k.own;
+      apart = k.apart;
+      waiting = k.waiting;
+      held = λ n d from below. let h = k.held n d from below in record { answer = h.answer; cid = h.cid };
+      tags = k.tags;
+      answers = k.answers;
+    })
+
+-- ---- an answer is collected
+
+-- the awaited completion is there only where a command was done whose answer wasn't collected
+posted : (t : Setting) (w : World) (d k : ℕ) → 0 < t.depth → k ≤ d → HoldsTags w.mem t.cq t.depth (number t d)
+    → (completion_at w.mem t.cq (slot t k)).phase ≡ phase_of t.depth (number t k) → k < d
+posted t w d k some low tags there =
+    elim (cases_lt k d) [
+      | inl l ↦ l
+      | inr g ↦
+          let same : k ≡ d = omega arith in
+          let here = tags (slot t d) (slot_inside t d some) ∙ tag_below_here t.depth (number t d) (number_below t d some) in
+          absurd (not_own _ _ here (subst (λ n. (completion_at w.mem t.cq (slot t n)).phase ≡ phase_of t.depth (number t n)) same there))
+    ]
+
+collected_one : (t : Setting) (s : State) (w : World) (d : Sent) → Keeps t s w → length w.answers < w.done
+    → Keeps t s (record w { answers = w.answers ++ answer_awaited t w (get_or w.sent (length w.answers) d) ∷ [] })
+collected_one t s w d k below =
+    let c = k.counts in
+    let n = length w.answers in
+    let a = answer_awaited t w (get_or w.sent n d) in
+    let all = answers_to t.controller s w.sent in
+    let more : length (w.answers ++ a ∷ []) ≡ n + 1 = length-append w.answers (a ∷ []) in
+    let many : length all ≡ length w.sent = length-answers t.controller s w.sent in
+    let is : a ≡ get_or all n a = (k.held n d (omega arith) below).answer a in
+    record {
+      placed = k.placed;
+      counts = record {
+        told = omega (arith, c.told);
+        collected = omega arith;
+        done = c.done;
+        rung = c.rung;
+        few = omega (arith, c.few);
+        free = c.free;
+      };
+      port = k.port;
+      state = k.state;
+      well_formed = k.well_formed;
+      controller = k.controller;
+      own = λ i e from high. k.own i e (omega arith) high;
+      apart = λ i j e from later high. k.apart i j e (omega arith) later high;
+      waiting = k.waiting;
+      held = λ i e from high. let h = k.held i e (omega arith) high in record { answer = h.answer; cid = h.cid };
+      tags = k.tags;
+      answers = ap (λ xs. xs ++ a ∷ []) k.answers ∙ ap (λ x. take n all ++ x ∷ []) is
+          ∙ sym (take_more all n a (omega (arith, c.done, c.rung)))
+          ∙ ap (λ i. take i all) (sym more);
+    }
+
+pub collect_keeps : (t : Setting) (s : State) (w w' : World) → Keeps t s w → Happens t Collect w w' → Keeps t s w'
+collect_keeps t s w w' k (inl there) =
+    let below = posted t w w.done (length w.answers) (let deep = k.placed.deep in omega arith) k.counts.collected k.tags there.0 in
+    subst (Keeps t s) (sym there.2) (collected_one t s w there.1 k below)
+collect_keeps t s w w' k (inr none) = subst (Keeps t s) (sym none.1) k

@@ -1,0 +1,11 @@
+pub mod SerialLaws
+pub mod CountLaws
+pub mod RegionLaws
+pub mod PointerLaws
+pub mod Keeping
+pub mod KeptLaws
+pub mod AnswerLaws
+pub mod HeldLaws
+pub mod SubmitLaws
+pub mod TurnLaws
+pub mod ScheduleLaws

@@ -1,0 +1,184 @@
+-- Parts of the memory that a command's pages, or a slot of a ring, do not reach.
+use Rattle.std.proofs.Common.{◌≡◌, ◌≢◌, ◌∙◌, ◌⊎◌, ℕ, zero, suc, ◌+◌, ◌-◌, ◌*◌, ◌/◌, ◌%◌, ◌<◌, ◌≤◌, List, [], ◌∷◌, ap, arith, drop, get_or, inl, inr, length, sym, take}
+use Rattle.std.specs.Prelude.{All}
+use Rattle.std.proofs.Math.Nat.{mul-le-mul_left, mul-le-mul_right}
+use Rattle.std.proofs.lemmas.Bool.{cases_lt}
+use Rattle.std.proofs.lemmas.Grind.{same_number_lists}
+use Rattle.std.proofs.lemmas.List.{get_or-drop, get_or-map, get_or-take}
+use Rattle.std.proofs.lemmas.Nat.{div-add-mod', div_below, mod_below}
+use Rattle.nv_host.specs.Bytes.{bytes_at, with_bytes}
+use Rattle.nv_host.specs.BytesLaws.{bytes_at-with_after, bytes_at-with_before}
+use Rattle.nv_layout.specs.Cqe.{bytes_of_cqe}
+use Rattle.nv_layout.specs.RecordLaws.{length-bytes_of_cqe, length-bytes_of_sqe}
+use Rattle.nv_layout.specs.Sqe.{bytes_of_sqe}
+use Rattle.nv_layout.specs.declared.cqe.Cqe.{Cqe}
+use Rattle.nv_layout.specs.declared.sqe.Sqe.{Sqe}
+use Rattle.nv_prp.specs.Buffer.{IsApart, IsOutside, buffer_place, buffer_places}
+use Rattle.nv_prp.specs.Place.{AreDistinct, read_at, table, written_at}
+use Rattle.nv_prp.specs.PlaceLaws.{get_or-table, later_stays, length-read_at, length-table, part_stays}
+use Rattle.nv_queue.specs.Rings.{PostNumbers, SubmitNumbers}
+use Rattle.nv_queue.specs.Slots.{completion_place, put_as, submission_place, with_completion, with_submission}
+use Rattle.nv_queue.specs.SlotLaws.{slot_within}
+use Rattle.nv_driver.specs.Schedule.{AreApart, AreOutside, Sent, Setting, data_length, own_pages, places}
+
+-- ---- places and pages
+
+-- a place lies in one of the pages
+pub record InPage (page_size : ℕ) (pages : List ℕ) (place : ℕ) : Type 0 where
+  pub index : ℕ
+  pub is_one : index < length pages
+  pub from : get_or pages index 0 * page_size ≤ place
+  pub to : place < get_or pages index 0 * page_size + page_size
+
+pub place_page : (page_size : ℕ) (pages : List ℕ) (offset len k : ℕ) → 0 < page_size → offset + len ≤ length pages * page_size → k < len
+    → InPage page_size pages (get_or (buffer_places page_size pages offset len) k 0)
+unfolding buffer_places buffer_place
+place_page page_size pages offset len k some enough below =
+    let at = offset + k in
+    let is = get_or-table len (buffer_place page_size pages offset) k 0 below in
+    let rest = mod_below at page_size some in
+    record {
+      index = at / page_size;
+      is_one = div_below at page_size (length pages) some (omega arith);
+      from = omega (arith, is);
+      to = omega (arith, is, rest);
+    }
+
+-- the n bytes from a place on share none with a part of the memory
+abbrev IsBeside : ℕ → ℕ → ℕ → Type 0
+IsBeside place from n = (place < from) ⊎ (from + n ≤ place)
+
+beside_page : (page_size page place from n : ℕ) → page * page_size ≤ place → place < page * page_size + page_size
+    → IsOutside page_size page from n → IsBeside place from n
+beside_page page_size page place from n low high outside =
+    elim outside [
+      | inl before ↦ inr (omega arith)
+      | inr behind ↦ inl (omega arith)
+    ]
+
+-- a place of a command's data is beside each part that its pages are outside of
+pub place_beside : (t : Setting) (x : Sent) (from n k : ℕ) → 0 < t.page_size → x.offset + data_length x ≤ length x.pages * t.page_size
+    → AreOutside t x from n → k < data_length x → IsBeside (get_or (places t x) k 0) from n
+place_beside t x from n k some enough outside below =
+    let page = place_page t.page_size x.pages x.offset (data_length x) k some enough below in
+    beside_page t.page_size (get_or x.pages page.index 0) (get_or (places t x) k 0) from n page.from page.to
+    (outside (suc (suc page.index)) 0 (let h = page.is_one in omega arith))
+
+-- two pages that aren't one share no byte
+other_page : (page_size p q place : ℕ) → p ≢ q → p * page_size ≤ place → place < p * page_size + page_size → IsOutside page_size q place 1
+other_page page_size p q place differ low high =
+    elim (cases_lt p q) [
+      | inl l ↦
+          let before : p + 1 ≤ q = omega arith in
+          let near = mul-le-mul_right page_size before in inl (omega arith)
+      | inr g ↦
+          let after : q + 1 ≤ p = omega (arith, differ) in
+          let near = mul-le-mul_right page_size after in inr (omega arith)
+    ]
+
+-- where two commands have no page in common, the pages of the one are outside of each byte of the other's data
+pub place_outside : (t : Setting) (x y : Sent) (k : ℕ) → 0 < t.page_size → x.offset + data_length x ≤ length x.pages * t.page_size
+    → AreApart x y → k < data_length x → AreOutside t y (get_or (places t x) k 0) 1
+place_outside t x y k some enough apart below i d inside =
+    let page = place_page t.page_size x.pages x.offset (data_length x) k some enough below in
+    other_page t.page_size (get_or x.pages page.index 0) (get_or (own_pages y) i d) (get_or (places t x) k 0)
+    (apart (suc (suc page.index)) 0 (let h = page.is_one in omega arith) i d inside) page.from page.to
+
+-- ---- what stays
+
+pub length-places : (t : Setting) (x : Sent) → length (places t x) ≡ data_length x
+unfolding buffer_places
+length-places t x = length-table (data_length x) (buffer_place t.page_size x.pages x.offset)
+
+-- a part that a command's pages are outside of, where its data is written
+pub data_keeps : (t : Setting) (x : Sent) (bytes written : List ℕ) (from n : ℕ) → 0 < t.page_size
+    → x.offset + data_length x ≤ length x.pages * t.page_size → AreOutside t x from n
+    → bytes_at (written_at bytes (places t x) written) from n ≡ bytes_at bytes from n
+data_keeps t x bytes written from n some enough outside =
+    part_stays bytes (places t x) written from n
+    (λ k h. let size = length-places t x in place_beside t x from n k some enough outside (omega arith))
+
+-- a part beside a completion ring, where a completion is put
+pub completion_keeps : (bytes : List ℕ) (ring : PostNumbers) (c : Cqe) (from n : ℕ) → 0 < ring.depth
+    → ring.base + 16 * ring.depth ≤ length bytes → IsApart ring.base (16 * ring.depth) from n
+    → bytes_at (with_completion bytes ring c) from n ≡ bytes_at bytes from n
+completion_keeps bytes ring c from n some inside apart =
+    let low = slot_within ring.depth ring.posted some in
+    let len = length-bytes_of_cqe (put_as ring c) in
+    let at = completion_place ring.base ring.depth ring.posted in
+    elim apart [
+      | inl before ↦ bytes_at-with_before bytes at (bytes_of_cqe (put_as ring c)) from n (omega arith) (omega arith)
+      | inr behind ↦ bytes_at-with_after bytes at (bytes_of_cqe (put_as ring c)) from n (omega arith) (omega arith)
+    ]
+
+-- a part beside a submission ring, where a command is submitted
+pub submission_keeps : (bytes : List ℕ) (ring : SubmitNumbers) (c : Sqe) (from n : ℕ) → 0 < ring.depth
+    → ring.base + 64 * ring.depth ≤ length bytes → IsApart ring.base (64 * ring.depth) from n
+    → bytes_at (with_submission bytes ring c) from n ≡ bytes_at bytes from n
+submission_keeps bytes ring c from n some inside apart =
+    let low = slot_within ring.depth ring.submitted some in
+    let len = length-bytes_of_sqe c in
+    let at = submission_place ring.base ring.depth ring.submitted in
+    elim apart [
+      | inl before ↦ bytes_at-with_before bytes at (bytes_of_sqe c) from n (omega arith) (omega arith)
+      | inr behind ↦ bytes_at-with_after bytes at (bytes_of_sqe c) from n (omega arith) (omega arith)
+    ]
+
+-- ---- what is read
+
+byte_at : (bytes : List ℕ) (from : ℕ) → get_or (bytes_at bytes from 1) 0 0 ≡ get_or bytes from 0
+unfolding bytes_at
+byte_at bytes from =
+    get_or-take 1 (drop from bytes) 0 0 (omega arith) ∙ get_or-drop from bytes 0 0 ∙ ap (λ k. get_or bytes k 0) (let e : from + 0 ≡ from = omega arith in e)
+
+-- bytes that stay are read as before
+pub read_keeps : (old new at : List ℕ)
+    → ((k : ℕ) → k < length at → bytes_at new (get_or at k 0) 1 ≡ bytes_at old (get_or at k 0) 1) → read_at new at ≡ read_at old at
+unfolding read_at
+read_keeps old new at same =
+    let size = length-read_at new at in
+    same_number_lists _ _ (size ∙ sym (length-read_at old at))
+    (λ k h. let below : k < length at = omega (arith, size) in
+    get_or-map (λ p. get_or new p 0) at k 0 0 below
+    ∙ (sym (byte_at new (get_or at k 0)) ∙ ap (λ bytes. get_or bytes 0 0) (same k below) ∙ byte_at old (get_or at k 0))
+    ∙ sym (get_or-map (λ p. get_or old p 0) at k 0 0 below))
+
+-- data that was written to distinct places is read from them
+pub data_read : (bytes at written : List ℕ) → length at ≡ length written
+    → ((k : ℕ) → k < length at → get_or at k 0 < length bytes) → AreDistinct at → read_at (written_at bytes at written) at ≡ written
+unfolding read_at
+data_read bytes at written same inside distinct =
+    let size = length-read_at (written_at bytes at written) at in
+    same_number_lists _ _ (size ∙ same)
+    (λ k h. let below : k < length at = omega (arith, size) in
+    get_or-map (λ p. get_or (written_at bytes at written) p 0) at k 0 0 below
+    ∙ later_stays bytes at written k same below (inside k below) (λ j later more e. distinct k j 0 later more (sym e)))
+
+-- ---- what a command's pages and one ring change
+
+-- a part of what the pages are outside of
+pub outside_part : (t : Setting) (x : Sent) (from n a k : ℕ) → AreOutside t x from n → from ≤ a → a + k ≤ from + n → AreOutside t x a k
+outside_part t x from n a k outside low high i d h =
+    elim (outside i d h) [
+      | inl before ↦ inl (omega arith)
+      | inr behind ↦ inr (omega arith)
+    ]
+
+-- only the pages of x and the n bytes from `base` on are other ones
+abbrev pub ChangesOnlyAt : Setting → Sent → ℕ → ℕ → List ℕ → List ℕ → Type 0
+ChangesOnlyAt t x base n old new =
+    (from k : ℕ) → AreOutside t x from k → IsApart base n from k → bytes_at new from k ≡ bytes_at old from k
+
+-- the data of another command stays
+pub data_stays : (t : Setting) (x y : Sent) (base n : ℕ) (old new : List ℕ) → 0 < t.page_size
+    → y.offset + data_length y ≤ length y.pages * t.page_size → ChangesOnlyAt t x base n old new → AreApart y x → AreOutside t y base n
+    → read_at new (places t y) ≡ read_at old (places t y)
+data_stays t x y base n old new some enough only apart outside =
+    let size = length-places t y in
+    read_keeps old new (places t y)
+    (λ k below. let inside : k < data_length y = omega arith in
+    only (get_or (places t y) k 0) 1 (place_outside t y x k some enough apart inside)
+    (elim (place_beside t y base n k some enough outside inside) [
+      | inl before ↦ inl (omega arith)
+      | inr behind ↦ inr behind
+    ]))

@@ -1,0 +1,242 @@
+-- Schedules of one controller's commands: submit, ring the doorbell, turn, collect, tell the head, in any order.
+use Rattle.std.specs.Prelude.{◌≡◌, ◌≢◌, ◌⊎◌, ℕ, zero, suc, ◌+◌, ◌-◌, ◌*◌, ◌<◌, ◌≤◌, ◌^◌, ◌==◌, ◌&&◌, Bool, false, true, All, List, [], ◌∷◌, ◌++◌, if◌then◌else◌, length, not, slice_index_or, take, Option, Some, None, Result, Ok, Err}
+use Rattle.nv_host.specs.Bytes.{bytes_at}
+use Rattle.nv_host.specs.Pages.{IsPageSize}
+use Rattle.nv_layout.specs.declared.cqe.Cqe.{Cqe}
+use Rattle.nv_layout.specs.declared.sqe.Sqe.{Sqe}
+use Rattle.nv_layout.specs.declared.status.Status.{Status}
+use Rattle.nv_prp.specs.Buffer.{IsBuffer, IsListPlace, IsOutside, buffer_place, buffer_places}
+use Rattle.nv_prp.specs.Place.{AreDistinct, read_at}
+use Rattle.nv_prp.specs.Transfer.{IsLegal, place_of, transfer}
+use Rattle.nv_queue.specs.Numbers.{IsDepth, kept_number, slot_of}
+use Rattle.nv_queue.specs.Rings.{CollectNumbers, SubmitNumbers}
+use Rattle.nv_queue.specs.Slots.{HoldsTags, IsAwaitedThere, awaited_completion, completion_at, with_submission}
+use Rattle.nv_command.specs.Command.{CommandFits, transfer_by}
+use Rattle.nv_command.specs.Entry.{entry_of, with_pointer}
+use Rattle.nv_command.specs.Reply.{reply_in}
+use Rattle.nv_command.specs.declared.command.Command.{Command}
+use Rattle.nv_command.specs.declared.reply.Reply.{Reply}
+use Rattle.nv_register.specs.Port.{with_register_at}
+use Rattle.nv_register.specs.declared.port.Port.{Port}
+use Rattle.nv_register.specs.declared.rings.Rings.{Rings}
+use Rattle.nv_subsystem.specs.State.{State}
+use Rattle.nv_subsystem.specs.Step.{step}
+use Rattle.nv_subsystem.specs.WellFormed.{IsWellFormed}
+use Rattle.nv_controller.specs.Call.{length_of}
+use Rattle.nv_controller.specs.Turn.{PortTurn, site}
+
+-- ---- commands, one at a time
+
+-- a command with its command identifier, the numbers of its data pages and where its data begins in the first one, its
+-- two pages for a list and where a list begins in the first one, and its data pointer
+pub record Sent : Type 0 where
+  pub command : Command
+  pub cid : ℕ
+  pub pages : List ℕ
+  pub offset : ℕ
+  pub first : ℕ
+  pub second : ℕ
+  pub list_offset : ℕ
+  pub prp1 : ℕ
+  pub prp2 : ℕ
+
+-- the reply, or the status of the refusal
+abbrev pub Answer : Type 0
+Answer = Result Reply Status
+
+-- the state after commands of controller c, one after the other
+abbrev pub after : ℕ → State → List Sent → State
+after c s [] = s
+after c s (x ∷ xs) = after c (step s c x.command x.cid).state xs
+
+-- and their answers
+abbrev pub answers_to : ℕ → State → List Sent → List Answer
+answers_to c s [] = []
+answers_to c s (x ∷ xs) = (step s c x.command x.cid).answer ∷ answers_to c (step s c x.command x.cid).state xs
+
+-- ---- what a schedule runs over
+
+-- a controller, the memory's page size, where the rings lie and how deep they are, the number of the first command as
+-- the rings keep it, and the controller's other registers
+pub record Setting : Type 0 where
+  pub controller : ℕ
+  pub page_size : ℕ
+  pub sq : ℕ
+  pub cq : ℕ
+  pub depth : ℕ
+  pub start : ℕ
+  pub port : Port
+
+-- The memory, the subsystem, the controller's registers, the commands that were sent, and the answers that were
+-- collected. Of the commands so many were told by the tail doorbell, so many were done by turns, and so many were told
+-- by the head doorbell to be collected.
+pub record World : Type 0 where
+  pub mem : List ℕ
+  pub state : State
+  pub port : Port
+  pub sent : List Sent
+  pub rung : ℕ
+  pub done : ℕ
+  pub told : ℕ
+  pub answers : List Answer
+
+-- the number of command n as the rings keep it, and its slot
+abbrev pub number : Setting → ℕ → ℕ
+number t n = kept_number t.depth (t.start + n)
+
+abbrev pub slot : Setting → ℕ → ℕ
+slot t n = slot_of t.depth (number t n)
+
+-- the host's sides of the rings, where so many commands were sent and collected, and so many told
+abbrev pub submit_ring : Setting → ℕ → ℕ → SubmitNumbers
+submit_ring t sent collected = record { base = t.sq; depth = t.depth; submitted = number t sent; known = number t collected }
+
+abbrev pub collect_ring : Setting → ℕ → ℕ → CollectNumbers
+collect_ring t collected told = record {
+  base = t.cq;
+  depth = t.depth;
+  collected = number t collected;
+  told = number t told;
+  untold = not (told == collected);
+}
+
+-- the device's sides
+abbrev pub device_rings : Setting → ℕ → ℕ → ℕ → Rings
+device_rings t rung done told = record {
+  page_size = t.page_size;
+  submission = record { base = t.sq; depth = t.depth; fetched = number t done; rung = number t rung };
+  completion = record { base = t.cq; depth = t.depth; posted = number t done; told = number t told };
+}
+
+abbrev pub port_with : Setting → Rings → Port
+port_with t rings = record t.port { cfs = false; rings = Some rings }
+
+-- ---- submitting
+
+abbrev pub entry : Sent → Sqe
+entry x = with_pointer (entry_of x.command x.cid) x.prp1 x.prp2
+
+abbrev pub data_length : Sent → ℕ
+data_length x = length_of (transfer_by x.command)
+
+abbrev pub own_pages : Sent → List ℕ
+own_pages x = x.first ∷ x.second ∷ x.pages
+
+-- no page of the one is a page of the other
+abbrev pub AreApart : Sent → Sent → Type 0
+AreApart x y = All (λ p. All (λ q. p ≢ q) (own_pages y)) (own_pages x)
+
+-- n bytes share none with the pages
+abbrev pub AreOutside : Setting → Sent → ℕ → ℕ → Type 0
+AreOutside t x from n = All (λ p. IsOutside t.page_size p from n) (own_pages x)
+
+-- The ring has a free slot; the command fits its bits; its pages hold its data, and are distinct, of no ring and of no
+-- outstanding command.
+pub record MaySubmit (t : Setting) (w : World) (x : Sent) : Type 0 where
+  pub free : length w.sent + 1 < length w.answers + t.depth
+  pub fits : CommandFits x.command
+  pub cid : x.cid < 2 ^ 16
+  pub buffer : IsBuffer w.mem t.page_size x.pages x.offset (data_length x)
+  pub list : IsListPlace w.mem t.page_size x.first x.second x.list_offset
+  pub distinct : AreDistinct (own_pages x)
+  pub submissions : AreOutside t x t.sq (64 * t.depth)
+  pub completions : AreOutside t x t.cq (16 * t.depth)
+  pub apart : (n : ℕ) (d : Sent) → length w.answers ≤ n → n < length w.sent → AreApart (slice_index_or w.sent n d) x
+
+-- the command's pages were made ready, and its data pointer names the places of its data
+pub record IsPrepared (t : Setting) (x : Sent) (old new : List ℕ) : Type 0 where
+  pub others : (from n : ℕ) → AreOutside t x from n → bytes_at new from n ≡ bytes_at old from n
+  pub len : length new ≡ length old
+  pub prp1 : x.prp1 < 2 ^ 64
+  pub prp2 : x.prp2 < 2 ^ 64
+  pub legal : IsLegal (transfer t.page_size new x.prp1 x.prp2 (data_length x))
+  pub places : (i : ℕ) → i < data_length x
+      → place_of (transfer t.page_size new x.prp1 x.prp2 (data_length x)) i ≡ buffer_place t.page_size x.pages x.offset i
+
+-- ---- collecting
+
+-- where the data of a command lies
+abbrev pub places : Setting → Sent → List ℕ
+places t x = buffer_places t.page_size x.pages x.offset (data_length x)
+
+abbrev pub is_success : Status → Bool
+is_success status = status.sct == 0 && status.sc == 0
+
+-- what a completion and the data in the command's pages say
+abbrev pub answer_read : Setting → Sent → List ℕ → Cqe → Answer
+answer_read t x mem completion =
+    if is_success completion.status then Ok (reply_in x.command completion.command_specific (read_at mem (places t x))) else Err completion.status
+
+abbrev pub awaited : Setting → World → CollectNumbers
+awaited t w = collect_ring t (length w.answers) w.told
+
+abbrev pub answer_awaited : Setting → World → Sent → Answer
+answer_awaited t w x = answer_read t x w.mem (awaited_completion w.mem (awaited t w))
+
+-- ---- events
+
+pub data Event : Type 0 where
+  Submit : Sent → Event
+  Bell : Event
+  Turn : (most : ℕ) → Event
+  Collect : Event
+  Tell : Event
+
+-- what each does, by what `build`, `push`, `write32`, `turn`, `poll` and `head_to_tell` ensure
+abbrev pub Happens : Setting → Event → World → World → Type 0
+Happens t (Submit x) w w' =
+    MaySubmit t w x
+    × (ready : List ℕ) × IsPrepared t x w.mem ready
+    × (w' ≡ record w { mem = with_submission ready (submit_ring t (length w.sent) (length w.answers)) (entry x); sent = w.sent ++ x ∷ [] })
+Happens t Bell w w' =
+    w' ≡ record w { port = with_register_at w.port 0x1000 (slot t (length w.sent)); rung = length w.sent }
+Happens t (Turn most) w w' =
+    (count : ℕ) × PortTurn t.page_size t.controller most count (site w.state w.port w.mem) (site w'.state w'.port w'.mem)
+    × (w' ≡ record w { mem = w'.mem; state = w'.state; port = w'.port; done = w.done + count })
+Happens t Collect w w' =
+    (IsAwaitedThere w.mem (awaited t w) × (d : Sent)
+        × (w' ≡ record w { answers = w.answers ++ answer_awaited t w (slice_index_or w.sent (length w.answers) d) ∷ [] }))
+    ⊎ ((¬ IsAwaitedThere w.mem (awaited t w)) × (w' ≡ w))
+Happens t Tell w w' =
+    w' ≡ record w { port = with_register_at w.port 0x1004 (slot t (length w.answers)); told = length w.answers }
+
+abbrev pub Runs : Setting → List Event → World → World → Type 0
+Runs t [] w w' = w' ≡ w
+Runs t (e ∷ es) w w' = (mid : World) × Happens t e w mid × Runs t es mid w'
+
+-- ---- the law
+
+-- no command is outstanding: a ready controller of a well-formed subsystem, whose rings lie in the memory, the
+-- submission ring first, and hold the tags that are due
+pub record IsIdle (t : Setting) (w : World) : Type 0 where
+  pub page_size : IsPageSize t.page_size
+  pub deep : IsDepth t.depth
+  pub start : t.start < 2 * t.depth
+  pub rings : t.sq + 64 * t.depth ≤ t.cq
+  pub inside : t.cq + 16 * t.depth ≤ length w.mem
+  pub tags : HoldsTags w.mem t.cq t.depth t.start
+  pub port : w.port ≡ port_with t (device_rings t 0 0 0)
+  pub state : IsWellFormed w.state
+  pub controller : t.controller < length w.state.controllers
+  pub sent : w.sent ≡ []
+  pub rung : w.rung ≡ 0
+  pub done : w.done ≡ 0
+  pub told : w.told ≡ 0
+  pub answers : w.answers ≡ []
+
+-- the completion and the pages of command n hold its answer, under its command identifier
+pub record Holds (t : Setting) (s : State) (w : World) (n : ℕ) (x : Sent) : Type 0 where
+  pub answer : (d : Answer) → answer_read t x w.mem (completion_at w.mem t.cq (slot t n)) ≡ slice_index_or (answers_to t.controller s w.sent) n d
+  pub cid : (completion_at w.mem t.cq (slot t n)).cid ≡ x.cid
+
+-- The collected answers are the first of those that the commands have one at a time, and the subsystem is that after
+-- the commands that were done. An answer is held from its command's turn on until it is collected.
+pub record IsSerial (t : Setting) (s : State) (w : World) : Type 0 where
+  pub answers : w.answers ≡ take (length w.answers) (answers_to t.controller s w.sent)
+  pub state : w.state ≡ after t.controller s (take w.done w.sent)
+  pub collected : length w.answers ≤ w.done
+  pub done : w.done ≤ length w.sent
+  pub held : (n : ℕ) (d : Sent) → length w.answers ≤ n → n < w.done → Holds t s w n (slice_index_or w.sent n d)
+
+abbrev pub EveryScheduleIsSerial : Type 0
+EveryScheduleIsSerial = (t : Setting) (events : List Event) (old new : World) → IsIdle t old → Runs t events old new → IsSerial t old.state new
