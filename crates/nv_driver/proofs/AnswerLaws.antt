@@ -1,5 +1,5 @@
 -- What an answer is, and that it is read as it is where its completion and its data lie.
-use Rattle.std.proofs.Common.{◌≡◌, ◌∙◌, ℕ, ◌<◌, ◌≤◌, ◌^◌, ◌==◌, ◌&&◌, Bool, true, false, Err, List, None, Ok, Option, Result, Some, ap, arith, lit<, refl, subst, sym}
+use Rattle.std.proofs.Common.{◌≡◌, ◌∙◌, ℕ, ◌<◌, ◌≤◌, ◌^◌, ◌==◌, ◌&&◌, Bool, true, false, Err, List, None, Ok, Option, Result, Some, ap, arith, length, lit<, refl, subst, sym}
 use Rattle.std.proofs.lemmas.Bool.Decides.{nat_tests}
 use Rattle.nv_layout.specs.Cqe.{CqeFits}
 use Rattle.nv_layout.specs.Status.{StatusFits}
@@ -21,8 +21,11 @@ use Rattle.nv_subsystem.specs.Step.{step, step_by}
 use Rattle.nv_subsystem.specs.StepLaws.{refusal_fits}
 use Rattle.nv_subsystem.specs.WellFormed.{IsWellFormed}
 use Rattle.nv_controller.specs.Entry.{completion_with, dword0_in, status_in}
+use Rattle.nv_controller.proofs.CallLaws.{transfer_by-page}
+use Rattle.nv_controller.specs.Call.{length_of}
+use Rattle.nv_command.specs.Command.{bytes_to_host}
 use Rattle.nv_queue.specs.Slots.{posted_as}
-use Rattle.nv_driver.specs.Schedule.{Answer, Sent, Setting, answer_read, is_success, places}
+use Rattle.nv_driver.specs.Schedule.{Answer, Sent, Setting, answer_read, data_length, is_success, places}
 
 -- a reply that its command can have and its record holds, or a status that is no success
 abbrev pub IsAnswerTo : Command → Answer → Type 0
@@ -76,3 +79,9 @@ answer_back t x mem depth n cid head (Ok r) is delivered =
     let back = (replies_travel x.command r is.0 is.1).reply in
     rw delivered (ap Ok back)
 answer_back t x mem depth n cid head (Err status) is delivered = rw (is.1) refl
+
+-- a reply's data is as long as its command's
+pub reply_length : (x : Sent) (r : Reply) → IsAnswerTo x.command (Ok r) → data_length x ≡ length (data_of r)
+reply_length x r is =
+    ap length_of (transfer_by-page x.command)
+    ∙ sym ((replies_travel x.command r is.0 is.1).bytes ∙ ap bytes_to_host (transfer_by-page x.command))

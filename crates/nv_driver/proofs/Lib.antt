@@ -7,5 +7,7 @@ pub mod KeptLaws
 pub mod AnswerLaws
 pub mod HeldLaws
 pub mod SubmitLaws
+pub mod TakenLaws
+pub mod EntryLaws
 pub mod TurnLaws
 pub mod ScheduleLaws

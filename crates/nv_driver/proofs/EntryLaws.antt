@@ -1,0 +1,144 @@
+-- What one entry of a turn keeps.
+use Rattle.std.proofs.Common.{◌≡◌, ◌∙◌, ◌⊎◌, ℕ, ◌+◌, ◌*◌, ◌<◌, ◌≤◌, ◌^◌, List, ap, arith, get_or, inl, inr, length, refl, subst, sym, take}
+use Rattle.std.proofs.Math.Nat.{mul-le-mul_left}
+use Rattle.std.proofs.lemmas.Bool.{cases_lt}
+use Rattle.std.proofs.lemmas.List.{get_or_default}
+use Rattle.nv_host.specs.Bytes.{bytes_at}
+use Rattle.nv_host.specs.PageLaws.{page_size_bounds}
+use Rattle.nv_layout.specs.Cqe.{CqeFits}
+use Rattle.nv_layout.specs.Sqe.{sqe_of_bytes}
+use Rattle.nv_layout.specs.declared.cqe.Cqe.{Cqe}
+use Rattle.nv_prp.specs.Buffer.{IsApart}
+use Rattle.nv_prp.specs.Place.{read_at}
+use Rattle.nv_queue.specs.SlotLaws.{length-with_completion, put_written}
+use Rattle.nv_queue.specs.Slots.{HoldsTags, WritesCompletion, completion_at, posted_as, submission_at, with_completion}
+use Rattle.nv_queue.specs.TagLaws.{tags_after}
+use Rattle.nv_command.specs.Command.{CommandFits, namespace_of}
+use Rattle.nv_command.specs.declared.command.Command.{Command}
+use Rattle.nv_command.specs.declared.command.Command.TheVariants.{IdentifyNamespace, AllocatedNamespace, ActiveList, AllocatedList}
+use Rattle.nv_subsystem.specs.WellFormed.{IsWellFormed}
+use Rattle.nv_subsystem.specs.State.{State}
+use Rattle.nv_subsystem.specs.Step.{step}
+use Rattle.nv_subsystem.specs.StepLaws.{step_controllers, step_keeps}
+use Rattle.nv_controller.specs.Entry.{Scene, completion_with, scene}
+use Rattle.nv_controller.specs.Turn.{Takes}
+use Rattle.nv_driver.specs.Schedule.{Answer, AreApart, Holds, Sent, Setting, World, after, answer_read, answers_to, data_length, device_rings, entry, number, places, port_with, slot}
+use Rattle.nv_driver.proofs.AnswerLaws.{IsAnswerTo, answer_back, answer_sound, completion_fits}
+use Rattle.nv_driver.proofs.CountLaws.{number_below, number_next, slot_inside, slots_differ}
+use Rattle.nv_driver.proofs.HeldLaws.{holds_on}
+use Rattle.nv_driver.proofs.Keeping.{IsOwn, Keeps}
+use Rattle.nv_driver.proofs.RegionLaws.{ChangesOnlyAt, completion_keeps, data_stays, length-places, outside_part, place_beside, read_keeps}
+use Rattle.nv_driver.proofs.SerialLaws.{after_more, answer_at}
+use Rattle.nv_driver.proofs.TakenLaws.{IsDone, can_go, delivered, is_done, moved_keeps, moved_length, moved_slot, now}
+
+place_apart : (place from n : ℕ) → (place < from) ⊎ (from + n ≤ place) → IsApart from n place 1
+place_apart place from n (inl before) = inl (omega arith)
+place_apart place from n (inr behind) = inr behind
+
+slot_room : (size s depth : ℕ) → s < depth → size * s + size ≤ size * depth
+slot_room size s depth below =
+    let top : s + 1 ≤ depth = omega arith in
+    let room = mul-le-mul_left size top in omega arith
+
+nsid_fits : (k : Command) → CommandFits k → namespace_of k < 2 ^ 32
+nsid_fits (IdentifyNamespace n) fits = fits
+nsid_fits (AllocatedNamespace n) fits = fits
+nsid_fits (ActiveList after) fits = fits
+nsid_fits (AllocatedList after) fits = fits
+
+-- the schedule after one entry
+abbrev pub world_after : Setting → World → Scene → World
+world_after t w y = record w {
+  mem = y.bytes;
+  state = y.state;
+  port = port_with t (device_rings t w.rung (w.done + 1) w.told);
+  done = w.done + 1;
+}
+
+one_more : (t : Setting) (s : State) (w : World) (y : Scene) (d : Sent) → Keeps t s w → w.done < w.rung → w.done + 1 < w.told + t.depth
+    → IsDone t w (get_or w.sent w.done d) y → Keeps t s (world_after t w y)
+one_more t s w y d k waits free one =
+    let c = k.counts in
+    let p = k.placed in
+    let deep = p.deep in
+    let n = w.done in
+    let x = get_or w.sent n d in
+    let below : n < length w.sent = omega (arith, c.rung) in
+    let own = k.own n d c.collected below in
+    let some : 0 < t.page_size = omega (arith, page_size_bounds t.page_size p.page_size) in
+    let a = (step w.state t.controller x.command x.cid).answer in
+    let sound : IsAnswerTo x.command a = answer_sound w.state t.controller x.command x.cid k.well_formed in
+    let ring = (now t w).completion in
+    let posted = completion_with x.cid (slot t (n + 1)) a in
+    let head = slot_inside t (n + 1) (omega (arith, deep.0)) in
+    let fits : CqeFits posted = completion_fits x.command x.cid (slot t (n + 1)) a own.cid (omega (arith, deep.1)) sound in
+    let size : length one.moved ≡ length w.mem = moved_length t x a w.mem one.moved one.moves in
+    let inside : t.cq + 16 * t.depth ≤ length one.moved = omega (arith, p.inside) in
+    let len : length y.bytes ≡ length w.mem =
+        ap (λ (m : List ℕ). length m) one.bytes ∙ length-with_completion one.moved ring posted (omega (arith, deep.0)) inside ∙ size in
+    let written : WritesCompletion one.moved y.bytes t.cq t.depth (slot t n) (posted_as t.depth (number t n) posted) =
+        subst (λ m. WritesCompletion one.moved m t.cq t.depth (slot t n) (posted_as t.depth (number t n) posted)) (sym one.bytes)
+        (put_written one.moved ring posted (omega (arith, deep.0)) inside fits) in
+    let only : ChangesOnlyAt t x t.cq (16 * t.depth) w.mem y.bytes = λ from i outside apart.
+        ap (λ m. bytes_at m from i) one.bytes ∙ completion_keeps one.moved ring posted from i (omega (arith, deep.0)) inside apart
+        ∙ moved_keeps t x a w.mem one.moved from i some own.enough one.moves outside in
+    let there : completion_at y.bytes t.cq (slot t n) ≡ posted_as t.depth (number t n) posted = written.here in
+    let same_slot = λ (j : ℕ) (low : j < t.depth). moved_slot t x a w.mem one.moved j some own.enough one.moves own.completions low in
+    let beside = λ (j : ℕ) (low : j < length (places t x)).
+        let data_size = length-places t x in
+        place_apart (get_or (places t x) j 0) t.cq (16 * t.depth)
+        (place_beside t x t.cq (16 * t.depth) j some own.enough own.completions (omega arith)) in
+    let same_data = read_keeps one.moved y.bytes (places t x)
+        (λ j low. ap (λ m. bytes_at m (get_or (places t x) j 0) 1) one.bytes
+        ∙ completion_keeps one.moved ring posted (get_or (places t x) j 0) 1 (omega (arith, deep.0)) inside (beside j low)) in
+    let is_answer = λ (b : Answer).
+        answer_at t.controller s w.sent n d b below ∙ ap (λ (q : State). (step q t.controller x.command x.cid).answer) (sym k.state) in
+    let held_now : Holds t s (world_after t w y) n x = record {
+      answer = λ b. ap (answer_read t x y.bytes) there
+          ∙ answer_back t x y.bytes t.depth (number t n) x.cid (slot t (n + 1)) a sound
+          (delivered t x a w.mem one.moved y.bytes sound one.moves own same_data)
+          ∙ sym (is_answer b);
+      cid = ap (λ (q : Cqe). q.cid) there;
+    } in
+    record {
+      placed = record { page_size = p.page_size; deep = p.deep; rings = p.rings; inside = omega (arith, p.inside) };
+      counts = record { told = c.told; collected = omega (arith, c.collected); done = omega arith; rung = c.rung; few = c.few; free = free };
+      port = refl;
+      state = one.state ∙ ap (λ (q : State). (step q t.controller x.command x.cid).state) k.state ∙ sym (after_more t.controller s w.sent n d below);
+      well_formed = subst IsWellFormed (sym one.state)
+          (step_keeps w.state t.controller x.command x.cid (nsid_fits x.command own.fits) own.cid k.well_formed);
+      controller = omega (arith, k.controller, ap (λ (q : State). length q.controllers) one.state, step_controllers w.state t.controller x.command x.cid);
+      own = λ i e from high. subst (λ j. IsOwn t j (get_or w.sent i e)) (sym len) (k.own i e from high);
+      apart = k.apart;
+      waiting = λ i e from high.
+          let low = slot_inside t i (omega (arith, deep.0)) in
+          let room = slot_room 64 (slot t i) t.depth low in
+          ap sqe_of_bytes (only (t.sq + 64 * slot t i) 64
+          (outside_part t x t.sq (64 * t.depth) (t.sq + 64 * slot t i) 64 own.submissions (omega arith) (omega arith))
+          (inl (omega (arith, p.rings)))) ∙ k.waiting i e (omega arith) high;
+      held = λ i e from high. elim (cases_lt i n) [
+        | inl earlier ↦
+            let z = get_or w.sent i e in
+            let early : i < length w.sent = omega (arith, c.rung, c.done) in
+            let other = k.own i e from early in
+            let low = slot_inside t i (omega (arith, deep.0)) in
+            holds_on t s w (world_after t w y) i z
+            (written.others (slot t i) low (λ same. slots_differ t i n earlier (omega (arith, c.few, c.rung)) (sym same)) ∙ same_slot (slot t i) low)
+            (data_stays t x z t.cq (16 * t.depth) w.mem y.bytes some other.enough only (subst (λ q. AreApart z q) (get_or_default w.sent n e d below) (k.apart i n e from earlier below)) other.completions)
+            (λ b. refl) (k.held i e from earlier)
+        | inr later ↦
+            let is : i ≡ n = omega arith in
+            let same = ap (λ j. get_or w.sent j e) is ∙ get_or_default w.sent n e d below in
+            subst (Holds t s (world_after t w y) i) (sym same) (subst (λ j. Holds t s (world_after t w y) j x) (sym is) held_now)
+      ];
+      tags = subst (HoldsTags y.bytes t.cq t.depth) (number_next t n)
+          (tags_after one.moved y.bytes t.cq t.depth (number t n) posted (number_below t n (omega (arith, deep.0))) written
+          (λ j low. ap (λ (q : Cqe). q.phase) (same_slot j low) ∙ k.tags j low));
+      answers = k.answers;
+    }
+
+pub entry_keeps : (t : Setting) (s : State) (w : World) (y : Scene) (d : Sent) → Keeps t s w
+    → Takes t.page_size t.controller (scene w.state (now t w) w.mem) y → Keeps t s (world_after t w y)
+entry_keeps t s w y d k takes =
+    let go = can_go t s w k takes.can in
+    one_more t s w y d k go.0 go.1 (is_done t s w y d k (let c = k.counts in omega (arith, go.0, c.rung)) takes.one)

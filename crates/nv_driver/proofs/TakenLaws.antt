@@ -1,0 +1,137 @@
+-- What taking one entry keeps of a schedule.
+use Rattle.std.proofs.Common.{◌≡◌, ◌≢◌, ◌∙◌, ◌⊎◌, ℕ, ◌+◌, ◌-◌, ◌*◌, ◌==◌, ◌&&◌, ◌<◌, ◌≤◌, ◌^◌, Bool, true, false, not, Err, List, Ok, Result, ap, arith, get_or, inl, inr, length, refl, subst, sym, take}
+use Rattle.std.proofs.Math.Nat.{mul-le-mul_left}
+use Rattle.std.proofs.lemmas.Bool.{cases_lt}
+use Rattle.std.proofs.lemmas.Bool.Decides.{nat_tests}
+use Rattle.nv_host.specs.Bytes.{bytes_at}
+use Rattle.nv_host.specs.PageLaws.{page_size_bounds}
+use Rattle.nv_layout.specs.Cqe.{cqe_of_bytes}
+use Rattle.nv_layout.specs.Sqe.{sqe_of_bytes}
+use Rattle.nv_layout.specs.declared.cqe.Cqe.{Cqe}
+use Rattle.nv_layout.specs.declared.sqe.Sqe.{Sqe}
+use Rattle.nv_layout.specs.declared.status.Status.{Status}
+use Rattle.nv_prp.specs.Place.{read_at, written_at}
+use Rattle.nv_prp.specs.PlaceLaws.{length-written_at}
+use Rattle.nv_queue.specs.Numbers.{above, next, slot_of}
+use Rattle.nv_queue.specs.Rings.{PostNumbers}
+use Rattle.nv_queue.specs.SlotLaws.{length-with_completion, put_written}
+use Rattle.nv_queue.specs.Slots.{HoldsTags, WritesCompletion, completion_at, posted_as, submission_at, with_completion}
+use Rattle.nv_queue.specs.TagLaws.{tags_after}
+use Rattle.nv_command.specs.Command.{namespace_of}
+use Rattle.nv_command.specs.Reply.{data_of}
+use Rattle.nv_command.specs.declared.reply.Reply.{Reply}
+use Rattle.nv_command.specs.declared.status_code.StatusCode.{StatusCode}
+use Rattle.nv_register.specs.declared.rings.Rings.{Rings}
+use Rattle.nv_subsystem.specs.State.{State}
+use Rattle.nv_subsystem.specs.Step.{Step, step}
+use Rattle.nv_subsystem.specs.StepLaws.{step_controllers, step_keeps}
+use Rattle.nv_controller.specs.Call.{Call, call_of}
+use Rattle.nv_controller.specs.Entry.{Moves, One, Scene, completion_in, completion_with, entry_in, entry_step, places_in, scene, step_unless}
+use Rattle.nv_controller.specs.Turn.{Takes, can_take}
+use Rattle.nv_driver.specs.Schedule.{Answer, AreApart, AreOutside, Holds, Sent, Setting, World, after, answers_to, data_length, device_rings, entry, number, places, port_with, slot}
+use Rattle.nv_driver.proofs.AnswerLaws.{Delivers, IsAnswerTo, answer_back, answer_sound, completion_fits, reply_length}
+use Rattle.nv_driver.proofs.CountLaws.{number_above, number_below, number_next, slot_inside, slots_differ}
+use Rattle.nv_driver.proofs.HeldLaws.{holds_on}
+use Rattle.nv_driver.proofs.Keeping.{IsOwn, Keeps}
+use Rattle.nv_driver.proofs.RegionLaws.{ChangesOnlyAt, completion_keeps, data_keeps, data_read, data_stays, length-places, outside_part, place_beside, read_keeps}
+use Rattle.nv_driver.proofs.SerialLaws.{after_more, answer_at}
+
+-- ---- which entry is taken
+
+waits : (a b c e : ℕ) → (not (a == b) && not (c == e)) ≡ true → (a ≢ b) × (c ≢ e)
+waits a b c e can = (λ same. grind (arith, nat_tests, can, same), λ same. grind (arith, nat_tests, can, same))
+
+abbrev pub now : Setting → World → Rings
+now t w = device_rings t w.rung w.done w.told
+
+pub can_go : (t : Setting) (s : State) (w : World) → Keeps t s w → can_take (now t w) ≡ true → (w.done < w.rung) × (w.done + 1 < w.told + t.depth)
+can_go t s w k can =
+    let c = k.counts in
+    let deep = k.placed.deep in
+    let far = waits (number t w.done) (number t w.rung) (above t.depth (number t w.done) (number t w.told)) (t.depth - 1) can in
+    let distance = number_above t w.told w.done (omega (arith, deep.0)) (omega (arith, c.told, c.collected)) (omega (arith, c.free)) in (
+      elim (cases_lt w.done w.rung) [
+        | inl l ↦ l
+        | inr g ↦ let same : w.done ≡ w.rung = omega (arith, c.done) in absurd (far.0 (ap (number t) same))
+      ],
+      omega (arith, far.1, distance, c.free, deep.0),
+    )
+
+-- ---- what taking it does
+
+-- command x was done
+pub record IsDone (t : Setting) (w : World) (x : Sent) (y : Scene) : Type 0 where
+  pub state : y.state ≡ (step w.state t.controller x.command x.cid).state
+  pub rings : y.rings ≡ device_rings t w.rung (w.done + 1) w.told
+  pub moved : List ℕ
+  pub moves : Moves (step w.state t.controller x.command x.cid).answer (places t x) w.mem moved
+  pub bytes : y.bytes ≡ with_completion moved (now t w).completion
+      (completion_with x.cid (slot t (w.done + 1)) (step w.state t.controller x.command x.cid).answer)
+
+done_by : (t : Setting) (w : World) (x : Sent) (y : Scene) (e : Sqe) (found : Result Call StatusCode) → e ≡ entry x
+    → found ≡ Ok (record { command = x.command; places = places t x })
+    → y.state ≡ (step_unless found w.state t.controller e).state
+    → y.rings ≡ device_rings t w.rung (w.done + 1) w.told
+    → (moved : List ℕ) → Moves (step_unless found w.state t.controller e).answer (places_in found) w.mem moved
+    → y.bytes ≡ with_completion moved (now t w).completion (completion_with e.cid (slot t (w.done + 1)) (step_unless found w.state t.controller e).answer)
+    → IsDone t w x y
+done_by t w x y e found is call state rings moved moves bytes =
+    let both : step_unless found w.state t.controller e ≡ step w.state t.controller x.command x.cid =
+        ap (λ (f : Result Call StatusCode). step_unless f w.state t.controller e) call ∙ ap (λ (q : Sqe). step w.state t.controller x.command q.cid) is in
+    record {
+      state = state ∙ ap (λ (p : Step). p.state) both;
+      rings = rings;
+      moved = moved;
+      moves = subst (λ (p : Step). Moves p.answer (places t x) w.mem moved) both
+          (subst (λ (f : Result Call StatusCode). Moves (step_unless found w.state t.controller e).answer (places_in f) w.mem moved) call moves);
+      bytes = bytes ∙ ap (λ (p : Step). with_completion moved (now t w).completion (completion_with e.cid (slot t (w.done + 1)) p.answer)) both
+          ∙ ap (λ (q : Sqe). with_completion moved (now t w).completion
+          (completion_with q.cid (slot t (w.done + 1)) (step w.state t.controller x.command x.cid).answer)) is;
+    }
+
+pub is_done : (t : Setting) (s : State) (w : World) (y : Scene) (d : Sent) → Keeps t s w → w.done < length w.sent
+    → One t.controller (scene w.state (now t w) w.mem) y → IsDone t w (get_or w.sent w.done d) y
+is_done t s w y d k below one =
+    let own = k.own w.done d k.counts.collected below in
+    let is = k.waiting w.done d (omega arith) below in
+    let next_one = number_next t w.done in
+    done_by t w (get_or w.sent w.done d) y (entry_in (scene w.state (now t w) w.mem)) (call_of t.page_size w.mem (entry_in (scene w.state (now t w) w.mem))) is
+    (ap (call_of t.page_size w.mem) is ∙ own.call w.mem refl) one.state
+    (one.rings ∙ ap (λ n. record (now t w) {
+      submission = record (now t w).submission { fetched = n };
+      completion = record (now t w).completion { posted = n };
+    }) next_one)
+    one.bytes.0 one.bytes.1
+    (one.bytes.2 ∙ ap (λ n. with_completion one.bytes.0 (now t w).completion
+    (completion_with (entry_in (scene w.state (now t w) w.mem)).cid (slot_of t.depth n) (entry_step t.controller (scene w.state (now t w) w.mem)).answer)) next_one)
+
+-- ---- the memory
+
+-- the places of a command's data, and what is moved there
+pub moved_length : (t : Setting) (x : Sent) (a : Answer) (old moved : List ℕ) → Moves a (places t x) old moved → length moved ≡ length old
+moved_length t x (Ok r) old moved moves = ap (λ (m : List ℕ). length m) moves ∙ length-written_at old (places t x) (data_of r)
+moved_length t x (Err status) old moved moves = ap (λ (m : List ℕ). length m) moves
+
+pub moved_keeps : (t : Setting) (x : Sent) (a : Answer) (old moved : List ℕ) (from n : ℕ) → 0 < t.page_size
+    → x.offset + data_length x ≤ length x.pages * t.page_size → Moves a (places t x) old moved → AreOutside t x from n
+    → bytes_at moved from n ≡ bytes_at old from n
+moved_keeps t x (Ok r) old moved from n some enough moves outside = ap (λ m. bytes_at m from n) moves ∙ data_keeps t x old (data_of r) from n some enough outside
+moved_keeps t x (Err status) old moved from n some enough moves outside = ap (λ m. bytes_at m from n) moves
+
+pub moved_slot : (t : Setting) (x : Sent) (a : Answer) (old moved : List ℕ) (s : ℕ) → 0 < t.page_size
+    → x.offset + data_length x ≤ length x.pages * t.page_size → Moves a (places t x) old moved → AreOutside t x t.cq (16 * t.depth) → s < t.depth
+    → completion_at moved t.cq s ≡ completion_at old t.cq s
+moved_slot t x a old moved s some enough moves outside below =
+    let top : s + 1 ≤ t.depth = omega arith in
+    let room = mul-le-mul_left 16 top in
+    ap cqe_of_bytes (moved_keeps t x a old moved (t.cq + 16 * s) 16 some enough moves
+    (outside_part t x t.cq (16 * t.depth) (t.cq + 16 * s) 16 outside (omega arith) (omega arith)))
+
+-- the data of a command's reply lies at its places, also after its completion was put
+pub delivered : (t : Setting) (x : Sent) (a : Answer) (old moved new : List ℕ) → IsAnswerTo x.command a → Moves a (places t x) old moved
+    → IsOwn t (length old) x → read_at new (places t x) ≡ read_at moved (places t x) → Delivers t x new a
+delivered t x (Ok r) old moved new is moves own same =
+    let size = length-places t x in
+    same ∙ ap (λ m. read_at m (places t x)) moves
+    ∙ data_read old (places t x) (data_of r) (size ∙ reply_length x r is) (λ i below. own.inside i (omega arith)) own.distinct
+delivered t x (Err status) old moved new is moves own same = tt
