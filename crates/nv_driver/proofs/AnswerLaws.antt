@@ -1,9 +1,8 @@
 -- What an answer is, and that it is read as it is where its completion and its data lie.
-use Rattle.std.proofs.Common.{◌≡◌, ◌∙◌, ℕ, ◌<◌, ◌≤◌, ◌^◌, ◌==◌, ◌&&◌, Bool, true, false, Err, List, None, Ok, Option, Result, Some, ap, arith, length, lit<, refl, subst, sym}
+use Rattle.std.proofs.Common.{◌≡◌, ◌∙◌, ℕ, ◌<◌, ◌^◌, ◌==◌, ◌&&◌, false, Err, List, None, Ok, Option, Some, ap, arith, length, lit<, refl, sym}
 use Rattle.std.proofs.lemmas.Bool.Decides.{nat_tests}
 use Rattle.nv_layout.specs.Cqe.{CqeFits}
 use Rattle.nv_layout.specs.Status.{StatusFits}
-use Rattle.nv_layout.specs.declared.cqe.Cqe.{Cqe}
 use Rattle.nv_layout.specs.declared.status.Status.{Status}
 use Rattle.nv_prp.specs.Place.{read_at}
 use Rattle.nv_command.specs.Refusal.{IsRefusal}
@@ -14,13 +13,12 @@ use Rattle.nv_command.specs.declared.refusal.Refusal.{Refusal}
 use Rattle.nv_command.specs.declared.reply.Reply.{Reply}
 use Rattle.nv_command.specs.declared.reply.Reply.TheVariants as reply
 use Rattle.nv_subsystem.specs.Refusal.{refusal_of}
-use Rattle.nv_subsystem.specs.Reply.{reply_of}
 use Rattle.nv_subsystem.specs.ReplyLaws.{reply_fits}
 use Rattle.nv_subsystem.specs.State.{State}
 use Rattle.nv_subsystem.specs.Step.{step, step_by}
 use Rattle.nv_subsystem.specs.StepLaws.{refusal_fits}
 use Rattle.nv_subsystem.specs.WellFormed.{IsWellFormed}
-use Rattle.nv_controller.specs.Entry.{completion_with, dword0_in, status_in}
+use Rattle.nv_controller.specs.Entry.{completion_with}
 use Rattle.nv_controller.proofs.CallLaws.{transfer_by-page}
 use Rattle.nv_controller.specs.Call.{length_of}
 use Rattle.nv_command.specs.Command.{bytes_to_host}

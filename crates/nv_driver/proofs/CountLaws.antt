@@ -1,7 +1,7 @@
 -- The counts of a schedule, and what rings and doorbells keep of them.
-use Rattle.std.proofs.Common.{◌≡◌, ◌≢◌, ◌∙◌, ℕ, ◌+◌, ◌-◌, ◌*◌, ◌==◌, ◌<◌, ◌≤◌, ◌&&◌, Bool, true, false, nat_le, nat_lt, ap, arith, refl, subst, sym, Some}
+use Rattle.std.proofs.Common.{◌≡◌, ◌≢◌, ◌∙◌, ℕ, ◌+◌, ◌-◌, ◌*◌, ◌<◌, ◌≤◌, true, nat_le, nat_lt, ap, arith, refl, sym}
 use Rattle.std.proofs.lemmas.Bool.Decides.{nat_tests}
-use Rattle.nv_queue.specs.Numbers.{IsDepth, IsSlotBetween, above, ahead, first_in_slot, kept_number, next, phase_of, slot_of}
+use Rattle.nv_queue.specs.Numbers.{IsSlotBetween, above, ahead, kept_number, next}
 use Rattle.nv_queue.specs.NumberLaws.{above_cases, slot_below}
 use Rattle.nv_queue.specs.KeptLaws.{above_kept, between_kept, first_kept, kept_below, kept_next, slot_kept, slots_apart}
 use Rattle.nv_queue.specs.Rings.{FetchNumbers, PostNumbers}

@@ -1,5 +1,5 @@
 -- What one entry of a turn keeps.
-use Rattle.std.proofs.Common.{◌≡◌, ◌∙◌, ◌⊎◌, ℕ, ◌+◌, ◌*◌, ◌<◌, ◌≤◌, ◌^◌, List, ap, arith, get_or, inl, inr, length, refl, subst, sym, take}
+use Rattle.std.proofs.Common.{◌≡◌, ◌∙◌, ◌⊎◌, ℕ, ◌+◌, ◌*◌, ◌<◌, ◌≤◌, ◌^◌, List, ap, arith, get_or, inl, inr, length, refl, subst, sym}
 use Rattle.std.proofs.Math.Nat.{mul-le-mul_left}
 use Rattle.std.proofs.lemmas.Bool.{cases_lt}
 use Rattle.std.proofs.lemmas.List.{get_or_default}
@@ -9,9 +9,8 @@ use Rattle.nv_layout.specs.Cqe.{CqeFits}
 use Rattle.nv_layout.specs.Sqe.{sqe_of_bytes}
 use Rattle.nv_layout.specs.declared.cqe.Cqe.{Cqe}
 use Rattle.nv_prp.specs.Buffer.{IsApart}
-use Rattle.nv_prp.specs.Place.{read_at}
 use Rattle.nv_queue.specs.SlotLaws.{length-with_completion, put_written}
-use Rattle.nv_queue.specs.Slots.{HoldsTags, WritesCompletion, completion_at, posted_as, submission_at, with_completion}
+use Rattle.nv_queue.specs.Slots.{HoldsTags, WritesCompletion, completion_at, posted_as}
 use Rattle.nv_queue.specs.TagLaws.{tags_after}
 use Rattle.nv_command.specs.Command.{CommandFits, namespace_of}
 use Rattle.nv_command.specs.declared.command.Command.{Command}
@@ -22,7 +21,7 @@ use Rattle.nv_subsystem.specs.Step.{step}
 use Rattle.nv_subsystem.specs.StepLaws.{step_controllers, step_keeps}
 use Rattle.nv_controller.specs.Entry.{Scene, completion_with, scene}
 use Rattle.nv_controller.specs.Turn.{Takes}
-use Rattle.nv_driver.specs.Schedule.{Answer, AreApart, Holds, Sent, Setting, World, after, answer_read, answers_to, data_length, device_rings, entry, number, places, port_with, slot}
+use Rattle.nv_driver.specs.Schedule.{Answer, AreApart, Holds, Sent, Setting, World, after, answer_read, device_rings, number, places, port_with, slot}
 use Rattle.nv_driver.proofs.AnswerLaws.{IsAnswerTo, answer_back, answer_sound, completion_fits}
 use Rattle.nv_driver.proofs.CountLaws.{number_below, number_next, slot_inside, slots_differ}
 use Rattle.nv_driver.proofs.HeldLaws.{holds_on}
@@ -135,6 +134,7 @@ one_more t s w y d k waits free one =
           (tags_after one.moved y.bytes t.cq t.depth (number t n) posted (number_below t n (omega (arith, deep.0))) written
           (λ j low. ap (λ (q : Cqe). q.phase) (same_slot j low) ∙ k.tags j low));
       answers = k.answers;
+      others = λ from i apart. only from i (apart.pages n d below) apart.completions ∙ k.others from i apart;
     }
 
 pub entry_keeps : (t : Setting) (s : State) (w : World) (y : Scene) (d : Sent) → Keeps t s w

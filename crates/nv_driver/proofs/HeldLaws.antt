@@ -1,12 +1,8 @@
 -- Answers that are held while the memory and the schedule go on.
-use Rattle.std.proofs.Common.{◌≡◌, ◌∙◌, ℕ, ◌+◌, ◌*◌, ◌<◌, ◌≤◌, Bool, Err, List, Ok, ap, arith, get_or, if◌then◌else◌, inl, inr, length, sym}
-use Rattle.nv_host.specs.Bytes.{bytes_at}
-use Rattle.nv_layout.specs.Cqe.{cqe_of_bytes}
-use Rattle.nv_layout.specs.Sqe.{sqe_of_bytes}
+use Rattle.std.proofs.Common.{◌≡◌, ◌∙◌, ℕ, Err, List, Ok, ap, get_or, if◌then◌else◌, sym}
 use Rattle.nv_layout.specs.declared.cqe.Cqe.{Cqe}
-use Rattle.nv_prp.specs.Buffer.{IsApart}
 use Rattle.nv_prp.specs.Place.{read_at}
-use Rattle.nv_queue.specs.Slots.{completion_at, submission_at}
+use Rattle.nv_queue.specs.Slots.{completion_at}
 use Rattle.nv_command.specs.Reply.{reply_in}
 use Rattle.nv_subsystem.specs.State.{State}
 use Rattle.nv_driver.specs.Schedule.{Answer, Holds, Sent, Setting, World, answer_read, answers_to, is_success, places, slot}

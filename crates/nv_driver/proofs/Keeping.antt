@@ -1,5 +1,6 @@
 -- What holds along a schedule, after each of its events.
 use Rattle.std.proofs.Common.{◌≡◌, ℕ, ◌+◌, ◌*◌, ◌^◌, ◌<◌, ◌≤◌, List, get_or, length, take, Ok}
+use Rattle.nv_host.specs.Bytes.{bytes_at}
 use Rattle.nv_host.specs.Pages.{IsPageSize}
 use Rattle.nv_prp.specs.Place.{AreDistinct}
 use Rattle.nv_queue.specs.Numbers.{IsDepth}
@@ -8,7 +9,7 @@ use Rattle.nv_command.specs.Command.{CommandFits}
 use Rattle.nv_subsystem.specs.State.{State}
 use Rattle.nv_subsystem.specs.WellFormed.{IsWellFormed}
 use Rattle.nv_controller.specs.Call.{call_of}
-use Rattle.nv_driver.specs.Schedule.{AreApart, AreOutside, Holds, Sent, Setting, World, after, answers_to, data_length, device_rings, entry, number, places, port_with, slot}
+use Rattle.nv_driver.specs.Schedule.{AreApart, AreOthers, AreOutside, Holds, Sent, Setting, World, after, answers_to, data_length, device_rings, entry, number, places, port_with, slot}
 
 -- the rings lie in a memory of this size, the submission ring first
 pub record IsPlaced (t : Setting) (size : ℕ) : Type 0 where
@@ -52,3 +53,4 @@ pub record Keeps (t : Setting) (s : State) (w : World) : Type 0 where
   pub held : (n : ℕ) (d : Sent) → length w.answers ≤ n → n < w.done → Holds t s w n (get_or w.sent n d)
   pub tags : HoldsTags w.mem t.cq t.depth (number t w.done)
   pub answers : w.answers ≡ take (length w.answers) (answers_to t.controller s w.sent)
+  pub others : (from n : ℕ) → AreOthers t w.sent from n → bytes_at w.mem from n ≡ bytes_at t.before from n

@@ -1,17 +1,17 @@
 -- What a schedule keeps from its beginning on, where a doorbell is rung or an answer is collected.
-use Rattle.std.proofs.Common.{◌≡◌, ◌∙◌, ◌⊎◌, ℕ, zero, suc, ◌+◌, ◌-◌, ◌*◌, ◌%◌, ◌<◌, ◌≤◌, length-append, List, [], ◌∷◌, ◌++◌, ap, arith, get_or, inl, inr, length, refl, subst, sym, take}
-use Rattle.std.proofs.Common.{not}
+use Rattle.std.proofs.Common.{◌≡◌, ◌∙◌, ℕ, ◌+◌, ◌*◌, ◌%◌, ◌<◌, ◌≤◌, length-append, [], ◌∷◌, ◌++◌, ap, arith, get_or, inl, inr, length, refl, subst, sym, take}
 use Rattle.std.proofs.Math.Nat.{mod-eq_of_lt}
 use Rattle.std.proofs.lemmas.Bool.{cases_lt}
 use Rattle.std.proofs.lemmas.List.{take_more}
-use Rattle.nv_queue.specs.Numbers.{kept_number, phase_of, slot_of, tag_below}
+use Rattle.nv_host.specs.Bytes.{bytes_at}
+use Rattle.nv_queue.specs.Numbers.{kept_number, phase_of}
 use Rattle.nv_queue.specs.SlotLaws.{not_own}
-use Rattle.nv_queue.specs.Slots.{HoldsTags, IsAwaitedThere, completion_at}
+use Rattle.nv_queue.specs.Slots.{HoldsTags, completion_at}
 use Rattle.nv_queue.specs.TagLaws.{tag_below_here}
 use Rattle.nv_subsystem.specs.State.{State}
 use Rattle.nv_register.specs.Port.{with_register_at}
-use Rattle.nv_driver.specs.Schedule.{Happens, Holds, IsIdle, Sent, Setting, World, after, answer_awaited, answers_to, awaited, device_rings, number, port_with, slot}
-use Rattle.nv_driver.specs.Schedule.{Submit, Bell, Turn, Collect, Tell}
+use Rattle.nv_driver.specs.Schedule.{Happens, IsIdle, Sent, Setting, World, answer_awaited, answers_to, number, slot}
+use Rattle.nv_driver.specs.Schedule.{Bell, Collect, Tell}
 use Rattle.nv_driver.proofs.CountLaws.{head_told, number_below, slot_inside, tail_rung}
 use Rattle.nv_driver.proofs.Keeping.{Keeps}
 use Rattle.nv_driver.proofs.SerialLaws.{length-answers}
@@ -47,6 +47,7 @@ idle_keeps t w i =
       held = λ n d from below. absurd (omega (arith, i.done));
       tags = subst (HoldsTags w.mem t.cq t.depth) (number_zero t i.start ∙ ap (number t) (sym i.done)) i.tags;
       answers = rw (i.answers) refl;
+      others = λ from n apart. ap (λ m. bytes_at m from n) i.before;
     }
 
 -- ---- doorbells change a count and the registers
@@ -68,6 +69,7 @@ bell_keeps t s w w' k happens =
       held = λ n d from below. let h = k.held n d from below in record { answer = h.answer; cid = h.cid };
       tags = k.tags;
       answers = k.answers;
+      others = k.others;
     })
 
 pub tell_keeps : (t : Setting) (s : State) (w w' : World) → Keeps t s w → Happens t Tell w w' → Keeps t s w'
@@ -87,6 +89,7 @@ tell_keeps t s w w' k happens =
       held = λ n d from below. let h = k.held n d from below in record { answer = h.answer; cid = h.cid };
       tags = k.tags;
       answers = k.answers;
+      others = k.others;
     })
 
 -- ---- an answer is collected
@@ -135,6 +138,7 @@ collected_one t s w d k below =
       answers = ap (λ xs. xs ++ a ∷ []) k.answers ∙ ap (λ x. take n all ++ x ∷ []) is
           ∙ sym (take_more all n a (omega (arith, c.done, c.rung)))
           ∙ ap (λ i. take i all) (sym more);
+      others = k.others;
     }
 
 pub collect_keeps : (t : Setting) (s : State) (w w' : World) → Keeps t s w → Happens t Collect w w' → Keeps t s w'

@@ -1,5 +1,5 @@
 -- A command whose pages were made ready: what a controller finds of its entry.
-use Rattle.std.proofs.Common.{◌≡◌, ◌∙◌, ◌/◌, ◌%◌, ◌^◌, ℕ, refl, inl, inr, zero, suc, ◌+◌, ◌*◌, ◌<◌, ◌≤◌, ◌==◌, Bool, true, false, List, [], None, Ok, Result, ap, arith, length, nat_lt, sym, subst, if◌then◌else◌}
+use Rattle.std.proofs.Common.{◌≡◌, ◌∙◌, ◌/◌, ◌%◌, ◌^◌, ℕ, refl, inl, inr, zero, suc, ◌+◌, ◌*◌, ◌<◌, ◌≤◌, ◌==◌, false, List, [], None, Ok, ap, arith, length, nat_lt, sym, if◌then◌else◌}
 use Rattle.std.proofs.lemmas.Bool.Decides.{nat_tests}
 use Rattle.std.proofs.Math.Nat.{mul-le-mul_right}
 use Rattle.std.proofs.lemmas.Bool.{cases_lt}
@@ -9,17 +9,14 @@ use Rattle.nv_host.specs.Pages.{IsPageSize}
 use Rattle.nv_host.specs.PageLaws.{page_size_bounds}
 use Rattle.nv_prp.specs.Buffer.{buffer_place, buffer_places}
 use Rattle.nv_prp.specs.PlaceLaws.{table-same}
-use Rattle.nv_prp.specs.Transfer.{IsLegal, Transfer, data_pages, entry_fault, offset, page_base, place_of, prp1_fault, prp2_fault, qwords, transfer, transfer_places}
-use Rattle.nv_command.specs.Command.{CommandFits, transfer_by}
+use Rattle.nv_prp.specs.Transfer.{IsLegal, Transfer, data_pages, entry_fault, offset, page_base, place_of, prp2_fault, qwords, transfer, transfer_places}
+use Rattle.nv_command.specs.Command.{CommandFits}
 use Rattle.nv_layout.specs.declared.sqe.Sqe.{Sqe}
 use Rattle.nv_command.specs.Decoding.{command_of, transfer_of}
 use Rattle.nv_command.specs.Identify.{identify_data}
-use Rattle.nv_command.specs.Steps.{◌>>=◌}
 use Rattle.nv_command.specs.TravelLaws.{commands_travel}
 use Rattle.nv_command.specs.declared.command.Command.{Command}
-use Rattle.nv_command.specs.declared.status_code.StatusCode.{StatusCode}
-use Rattle.nv_command.specs.declared.transfer.Transfer.{Transfer as Moves}
-use Rattle.nv_controller.specs.Call.{Call, call_of, data_places, length_of, places_of, sent_from}
+use Rattle.nv_controller.specs.Call.{call_of, length_of, places_of}
 use Rattle.nv_controller.proofs.CallLaws.{legal_places, transfer_by-page}
 use Rattle.nv_driver.specs.Schedule.{IsPrepared, Sent, Setting, data_length, entry, places}
 

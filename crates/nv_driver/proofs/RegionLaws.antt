@@ -1,12 +1,11 @@
 -- Parts of the memory that a command's pages, or a slot of a ring, do not reach.
-use Rattle.std.proofs.Common.{◌≡◌, ◌≢◌, ◌∙◌, ◌⊎◌, ℕ, zero, suc, ◌+◌, ◌-◌, ◌*◌, ◌/◌, ◌%◌, ◌<◌, ◌≤◌, List, [], ◌∷◌, ap, arith, drop, get_or, inl, inr, length, sym, take}
-use Rattle.std.specs.Prelude.{All}
-use Rattle.std.proofs.Math.Nat.{mul-le-mul_left, mul-le-mul_right}
+use Rattle.std.proofs.Common.{◌≡◌, ◌≢◌, ◌∙◌, ◌⊎◌, ℕ, suc, ◌+◌, ◌*◌, ◌/◌, ◌<◌, ◌≤◌, List, ap, arith, drop, get_or, inl, inr, length, sym}
+use Rattle.std.proofs.Math.Nat.{mul-le-mul_right}
 use Rattle.std.proofs.lemmas.Bool.{cases_lt}
 use Rattle.std.proofs.lemmas.Grind.{same_number_lists}
 use Rattle.std.proofs.lemmas.List.{get_or-drop, get_or-map, get_or-take}
-use Rattle.std.proofs.lemmas.Nat.{div-add-mod', div_below, mod_below}
-use Rattle.nv_host.specs.Bytes.{bytes_at, with_bytes}
+use Rattle.std.proofs.lemmas.Nat.{div_below, mod_below}
+use Rattle.nv_host.specs.Bytes.{bytes_at}
 use Rattle.nv_host.specs.BytesLaws.{bytes_at-with_after, bytes_at-with_before}
 use Rattle.nv_layout.specs.Cqe.{bytes_of_cqe}
 use Rattle.nv_layout.specs.RecordLaws.{length-bytes_of_cqe, length-bytes_of_sqe}
@@ -14,7 +13,7 @@ use Rattle.nv_layout.specs.Sqe.{bytes_of_sqe}
 use Rattle.nv_layout.specs.declared.cqe.Cqe.{Cqe}
 use Rattle.nv_layout.specs.declared.sqe.Sqe.{Sqe}
 use Rattle.nv_prp.specs.Buffer.{IsApart, IsOutside, buffer_place, buffer_places}
-use Rattle.nv_prp.specs.Place.{AreDistinct, read_at, table, written_at}
+use Rattle.nv_prp.specs.Place.{AreDistinct, read_at, written_at}
 use Rattle.nv_prp.specs.PlaceLaws.{get_or-table, later_stays, length-read_at, length-table, part_stays}
 use Rattle.nv_queue.specs.Rings.{PostNumbers, SubmitNumbers}
 use Rattle.nv_queue.specs.Slots.{completion_place, put_as, submission_place, with_completion, with_submission}

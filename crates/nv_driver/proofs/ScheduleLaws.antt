@@ -1,7 +1,7 @@
 -- Every schedule.
-use Rattle.std.proofs.Common.{◌≡◌, ◌∙◌, ◌⊎◌, ℕ, zero, suc, ◌+◌, ◌<◌, ◌≤◌, List, [], ◌∷◌, ap, arith, get_or, inl, inr, length, refl, subst, sym, take}
+use Rattle.std.proofs.Common.{List, [], ◌∷◌, arith, subst, sym}
 use Rattle.nv_subsystem.specs.State.{State}
-use Rattle.nv_driver.specs.Schedule.{Event, Submit, Bell, Turn, Collect, Tell, EveryScheduleIsSerial, Happens, IsIdle, IsSerial, Runs, Setting, World}
+use Rattle.nv_driver.specs.Schedule.{Event, Submit, Bell, Turn, Collect, Tell, EveryScheduleIsSerial, Happens, IsSerial, Runs, Setting, World}
 use Rattle.nv_driver.proofs.Keeping.{Keeps}
 use Rattle.nv_driver.proofs.KeptLaws.{bell_keeps, collect_keeps, idle_keeps, tell_keeps}
 use Rattle.nv_driver.proofs.SubmitLaws.{submit_keeps}
@@ -25,6 +25,7 @@ serial t s w keeps = record {
   collected = keeps.counts.collected;
   done = omega (arith, keeps.counts.done, keeps.counts.rung);
   held = keeps.held;
+  others = keeps.others;
 }
 
 pub every_schedule : EveryScheduleIsSerial

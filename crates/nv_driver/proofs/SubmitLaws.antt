@@ -1,25 +1,22 @@
 -- What a submission keeps.
-use Rattle.std.proofs.Common.{◌≡◌, ◌≢◌, ◌∙◌, ◌⊎◌, ℕ, ◌+◌, ◌*◌, ◌<◌, ◌≤◌, List, [], ◌∷◌, ◌++◌, Ok, ap, arith, get_or, inl, inr, length, length-append, subst, sym, take}
-use Rattle.std.proofs.Math.Nat.{mul-le-mul_left, mul-le-mul_right}
+use Rattle.std.proofs.Common.{◌≡◌, ◌∙◌, ℕ, ◌+◌, ◌*◌, ◌<◌, ◌≤◌, List, [], ◌∷◌, ◌++◌, ap, arith, get_or, inl, inr, length, length-append, refl, subst, sym, take}
+use Rattle.std.proofs.Math.Nat.{mul-le-mul_left}
 use Rattle.std.proofs.lemmas.Bool.{cases_lt}
 use Rattle.std.proofs.lemmas.List.{get_or_append_left, get_or_push, take-append-le}
-use Rattle.nv_host.specs.Bytes.{bytes_at}
 use Rattle.nv_host.specs.PageLaws.{page_size_bounds}
 use Rattle.nv_layout.specs.Cqe.{cqe_of_bytes}
 use Rattle.nv_layout.specs.Sqe.{SqeFits, sqe_of_bytes}
-use Rattle.nv_prp.specs.Buffer.{IsApart}
 use Rattle.nv_prp.specs.BufferLaws.{buffer_distinct, rest_distinct}
-use Rattle.nv_prp.specs.Place.{read_at}
 use Rattle.nv_queue.specs.SlotLaws.{length-with_submission, push_written}
 use Rattle.nv_queue.specs.Slots.{completion_at, submission_at, with_submission}
 use Rattle.nv_command.specs.TravelLaws.{commands_travel}
 use Rattle.nv_subsystem.specs.State.{State}
-use Rattle.nv_driver.specs.Schedule.{Answer, AreApart, AreOutside, Happens, Holds, IsPrepared, MaySubmit, Sent, Setting, Submit, World, after, answers_to, data_length, entry, places, slot, submit_ring}
+use Rattle.nv_driver.specs.Schedule.{AreApart, AreOutside, Happens, Holds, IsPrepared, MaySubmit, Sent, Setting, Submit, World, after, answers_to, data_length, entry, places, slot, submit_ring}
 use Rattle.nv_driver.proofs.CountLaws.{slot_inside, slots_differ}
 use Rattle.nv_driver.proofs.HeldLaws.{holds_on}
 use Rattle.nv_driver.proofs.Keeping.{IsOwn, Keeps}
 use Rattle.nv_driver.proofs.PointerLaws.{entry_call}
-use Rattle.nv_driver.proofs.RegionLaws.{ChangesOnlyAt, InPage, data_stays, length-places, outside_part, place_page, submission_keeps}
+use Rattle.nv_driver.proofs.RegionLaws.{ChangesOnlyAt, InPage, data_stays, outside_part, place_page, submission_keeps}
 use Rattle.nv_driver.proofs.SerialLaws.{answers-append, length-answers}
 
 -- the memory after a submission
@@ -167,6 +164,13 @@ submitted t s x w ready k may prepared =
           (k.held n d from below));
       tags = λ slot below. ap (λ e. e.phase) (completion_stays t x w.mem new slot only may.completions p.rings below) ∙ k.tags slot below;
       answers = k.answers ∙ sym (ap (take (length w.answers)) further ∙ take-append-le (length w.answers) all rest (omega (arith, c.collected, c.done, c.rung)));
+      others = λ from i apart.
+          only from i (subst (λ y. AreOutside t y from i) (get_or_push w.sent x x m refl) (apart.pages m x (omega arith))) apart.submissions
+          ∙ k.others from i (record {
+            submissions = apart.submissions;
+            completions = apart.completions;
+            pages = λ j d low. subst (λ y. AreOutside t y from i) (get_or_append_left w.sent (x ∷ []) d j low) (apart.pages j d (omega arith));
+          });
     }
 
 pub submit_keeps : (t : Setting) (s : State) (x : Sent) (w w' : World) → Keeps t s w → Happens t (Submit x) w w' → Keeps t s w'

@@ -1,40 +1,28 @@
 -- What taking one entry keeps of a schedule.
-use Rattle.std.proofs.Common.{◌≡◌, ◌≢◌, ◌∙◌, ◌⊎◌, ℕ, ◌+◌, ◌-◌, ◌*◌, ◌==◌, ◌&&◌, ◌<◌, ◌≤◌, ◌^◌, Bool, true, false, not, Err, List, Ok, Result, ap, arith, get_or, inl, inr, length, refl, subst, sym, take}
+use Rattle.std.proofs.Common.{◌≡◌, ◌≢◌, ◌∙◌, ℕ, ◌+◌, ◌-◌, ◌*◌, ◌==◌, ◌&&◌, ◌<◌, ◌≤◌, true, not, Err, List, Ok, Result, ap, arith, get_or, inl, inr, length, refl, subst}
 use Rattle.std.proofs.Math.Nat.{mul-le-mul_left}
 use Rattle.std.proofs.lemmas.Bool.{cases_lt}
 use Rattle.std.proofs.lemmas.Bool.Decides.{nat_tests}
 use Rattle.nv_host.specs.Bytes.{bytes_at}
-use Rattle.nv_host.specs.PageLaws.{page_size_bounds}
 use Rattle.nv_layout.specs.Cqe.{cqe_of_bytes}
-use Rattle.nv_layout.specs.Sqe.{sqe_of_bytes}
-use Rattle.nv_layout.specs.declared.cqe.Cqe.{Cqe}
 use Rattle.nv_layout.specs.declared.sqe.Sqe.{Sqe}
-use Rattle.nv_layout.specs.declared.status.Status.{Status}
-use Rattle.nv_prp.specs.Place.{read_at, written_at}
+use Rattle.nv_prp.specs.Place.{read_at}
 use Rattle.nv_prp.specs.PlaceLaws.{length-written_at}
-use Rattle.nv_queue.specs.Numbers.{above, next, slot_of}
-use Rattle.nv_queue.specs.Rings.{PostNumbers}
-use Rattle.nv_queue.specs.SlotLaws.{length-with_completion, put_written}
-use Rattle.nv_queue.specs.Slots.{HoldsTags, WritesCompletion, completion_at, posted_as, submission_at, with_completion}
-use Rattle.nv_queue.specs.TagLaws.{tags_after}
-use Rattle.nv_command.specs.Command.{namespace_of}
+use Rattle.nv_queue.specs.Numbers.{above, slot_of}
+use Rattle.nv_queue.specs.Slots.{completion_at, with_completion}
 use Rattle.nv_command.specs.Reply.{data_of}
-use Rattle.nv_command.specs.declared.reply.Reply.{Reply}
 use Rattle.nv_command.specs.declared.status_code.StatusCode.{StatusCode}
 use Rattle.nv_register.specs.declared.rings.Rings.{Rings}
 use Rattle.nv_subsystem.specs.State.{State}
 use Rattle.nv_subsystem.specs.Step.{Step, step}
-use Rattle.nv_subsystem.specs.StepLaws.{step_controllers, step_keeps}
 use Rattle.nv_controller.specs.Call.{Call, call_of}
-use Rattle.nv_controller.specs.Entry.{Moves, One, Scene, completion_in, completion_with, entry_in, entry_step, places_in, scene, step_unless}
-use Rattle.nv_controller.specs.Turn.{Takes, can_take}
-use Rattle.nv_driver.specs.Schedule.{Answer, AreApart, AreOutside, Holds, Sent, Setting, World, after, answers_to, data_length, device_rings, entry, number, places, port_with, slot}
-use Rattle.nv_driver.proofs.AnswerLaws.{Delivers, IsAnswerTo, answer_back, answer_sound, completion_fits, reply_length}
-use Rattle.nv_driver.proofs.CountLaws.{number_above, number_below, number_next, slot_inside, slots_differ}
-use Rattle.nv_driver.proofs.HeldLaws.{holds_on}
+use Rattle.nv_controller.specs.Entry.{Moves, One, Scene, completion_with, entry_in, entry_step, places_in, scene, step_unless}
+use Rattle.nv_controller.specs.Turn.{can_take}
+use Rattle.nv_driver.specs.Schedule.{Answer, AreOutside, Sent, Setting, World, data_length, device_rings, entry, number, places, slot}
+use Rattle.nv_driver.proofs.AnswerLaws.{Delivers, IsAnswerTo, reply_length}
+use Rattle.nv_driver.proofs.CountLaws.{number_above, number_next}
 use Rattle.nv_driver.proofs.Keeping.{IsOwn, Keeps}
-use Rattle.nv_driver.proofs.RegionLaws.{ChangesOnlyAt, completion_keeps, data_keeps, data_read, data_stays, length-places, outside_part, place_beside, read_keeps}
-use Rattle.nv_driver.proofs.SerialLaws.{after_more, answer_at}
+use Rattle.nv_driver.proofs.RegionLaws.{data_keeps, data_read, length-places, outside_part}
 
 -- ---- which entry is taken
 

@@ -1,14 +1,12 @@
 -- What a turn keeps.
-use Rattle.std.proofs.Common.{◌≡◌, ◌≢◌, ◌∙◌, ℕ, zero, suc, ◌+◌, ◌-◌, ◌*◌, ◌==◌, ◌&&◌, ◌<◌, ◌≤◌, Bool, true, false, List, [], Option, Some, ap, arith, length, nat_le, refl, subst, sym}
+use Rattle.std.proofs.Common.{◌≡◌, ◌∙◌, ℕ, zero, suc, ◌+◌, ◌==◌, ◌&&◌, ◌<◌, ◌≤◌, Bool, true, false, [], Some, ap, arith, length, nat_le, refl, subst, sym}
 use Rattle.std.proofs.Math.Nat.{mul-le-mul_left}
 use Rattle.std.proofs.lemmas.Bool.Decides.{nat_tests}
 use Rattle.nv_command.specs.declared.command.Command.TheVariants.{ActiveList}
 use Rattle.nv_queue.specs.Slots.{completion_place, submission_place}
-use Rattle.nv_register.specs.declared.port.Port.{Port}
-use Rattle.nv_register.specs.declared.rings.Rings.{Rings}
 use Rattle.nv_subsystem.specs.State.{State}
 use Rattle.nv_controller.specs.Entry.{Scene, scene}
-use Rattle.nv_controller.specs.Turn.{PortTurn, Site, Taken, Takes, can_take, reaches, site}
+use Rattle.nv_controller.specs.Turn.{PortTurn, Site, Taken, can_take, reaches, site}
 use Rattle.nv_driver.specs.Schedule.{Happens, Sent, Setting, Turn, World, device_rings, number, port_with, slot}
 use Rattle.nv_driver.proofs.CountLaws.{slot_inside}
 use Rattle.nv_driver.proofs.EntryLaws.{entry_keeps, world_after}

@@ -1,11 +1,11 @@
 -- Schedules of one controller's commands: submit, ring the doorbell, turn, collect, tell the head, in any order.
-use Rattle.std.specs.Prelude.{◌≡◌, ◌≢◌, ◌⊎◌, ℕ, zero, suc, ◌+◌, ◌-◌, ◌*◌, ◌<◌, ◌≤◌, ◌^◌, ◌==◌, ◌&&◌, Bool, false, true, All, List, [], ◌∷◌, ◌++◌, if◌then◌else◌, length, not, slice_index_or, take, Option, Some, None, Result, Ok, Err}
+use Rattle.std.specs.Prelude.{◌≡◌, ◌≢◌, ◌⊎◌, ℕ, ◌+◌, ◌*◌, ◌<◌, ◌≤◌, ◌^◌, ◌==◌, ◌&&◌, Bool, false, All, List, [], ◌∷◌, ◌++◌, if◌then◌else◌, length, not, slice_index_or, take, Some, Result, Ok, Err}
 use Rattle.nv_host.specs.Bytes.{bytes_at}
 use Rattle.nv_host.specs.Pages.{IsPageSize}
 use Rattle.nv_layout.specs.declared.cqe.Cqe.{Cqe}
 use Rattle.nv_layout.specs.declared.sqe.Sqe.{Sqe}
 use Rattle.nv_layout.specs.declared.status.Status.{Status}
-use Rattle.nv_prp.specs.Buffer.{IsBuffer, IsListPlace, IsOutside, buffer_place, buffer_places}
+use Rattle.nv_prp.specs.Buffer.{IsApart, IsBuffer, IsListPlace, IsOutside, buffer_place, buffer_places}
 use Rattle.nv_prp.specs.Place.{AreDistinct, read_at}
 use Rattle.nv_prp.specs.Transfer.{IsLegal, place_of, transfer}
 use Rattle.nv_queue.specs.Numbers.{IsDepth, kept_number, slot_of}
@@ -56,10 +56,11 @@ answers_to c s (x ∷ xs) = (step s c x.command x.cid).answer ∷ answers_to c (
 
 -- ---- what a schedule runs over
 
--- a controller, the memory's page size, where the rings lie and how deep they are, the number of the first command as
--- the rings keep it, and the controller's other registers
+-- a controller, the memory at the beginning and its page size, where the rings lie and how deep they are, the number of
+-- the first command as the rings keep it, and the controller's other registers
 pub record Setting : Type 0 where
   pub controller : ℕ
+  pub before : List ℕ
   pub page_size : ℕ
   pub sq : ℕ
   pub cq : ℕ
@@ -209,6 +210,7 @@ Runs t (e ∷ es) w w' = (mid : World) × Happens t e w mid × Runs t es mid w'
 -- no command is outstanding: a ready controller of a well-formed subsystem, whose rings lie in the memory, the
 -- submission ring first, and hold the tags that are due
 pub record IsIdle (t : Setting) (w : World) : Type 0 where
+  pub before : w.mem ≡ t.before
   pub page_size : IsPageSize t.page_size
   pub deep : IsDepth t.depth
   pub start : t.start < 2 * t.depth
@@ -229,14 +231,22 @@ pub record Holds (t : Setting) (s : State) (w : World) (n : ℕ) (x : Sent) : Ty
   pub answer : (d : Answer) → answer_read t x w.mem (completion_at w.mem t.cq (slot t n)) ≡ slice_index_or (answers_to t.controller s w.sent) n d
   pub cid : (completion_at w.mem t.cq (slot t n)).cid ≡ x.cid
 
+-- n bytes that lie in no ring, and in no page of a command that was sent
+pub record AreOthers (t : Setting) (sent : List Sent) (from n : ℕ) : Type 0 where
+  pub submissions : IsApart t.sq (64 * t.depth) from n
+  pub completions : IsApart t.cq (16 * t.depth) from n
+  pub pages : (i : ℕ) (d : Sent) → i < length sent → AreOutside t (slice_index_or sent i d) from n
+
 -- The collected answers are the first of those that the commands have one at a time, and the subsystem is that after
--- the commands that were done. An answer is held from its command's turn on until it is collected.
+-- the commands that were done. An answer is held from its command's turn on until it is collected. Bytes that lie in no
+-- ring and in no page of a command stay.
 pub record IsSerial (t : Setting) (s : State) (w : World) : Type 0 where
   pub answers : w.answers ≡ take (length w.answers) (answers_to t.controller s w.sent)
   pub state : w.state ≡ after t.controller s (take w.done w.sent)
   pub collected : length w.answers ≤ w.done
   pub done : w.done ≤ length w.sent
   pub held : (n : ℕ) (d : Sent) → length w.answers ≤ n → n < w.done → Holds t s w n (slice_index_or w.sent n d)
+  pub others : (from n : ℕ) → AreOthers t w.sent from n → bytes_at w.mem from n ≡ bytes_at t.before from n
 
 abbrev pub EveryScheduleIsSerial : Type 0
 EveryScheduleIsSerial = (t : Setting) (events : List Event) (old new : World) → IsIdle t old → Runs t events old new → IsSerial t old.state new
