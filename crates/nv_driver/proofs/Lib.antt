@@ -1,0 +1,2 @@
+pub mod GeometryLaws
+pub mod LayoutLaws

@@ -1,0 +1,46 @@
+-- One controller's place in the driver's memory, and its registers as the driver leaves them.
+use Rattle.std.specs.Prelude.{◌≡◌, ℕ, ◌+◌, ◌-◌, ◌*◌, ◌%◌, ◌<◌, ◌≤◌, true, false, List, Some}
+use Rattle.nv_queue.specs.Numbers.{IsDepth}
+use Rattle.nv_register.specs.declared.controller_configuration.ControllerConfiguration.{ControllerConfiguration}
+use Rattle.nv_register.specs.declared.port.Port.{Port}
+use Rattle.nv_register.specs.declared.rings.Rings.{Rings}
+use Rattle.nv_subsystem.specs.declared.origin.TheConstants.{SERIALS}
+
+-- where its rings and its pages lie, and of its next command the number, as the rings keep it, and the command
+-- identifier
+pub record Lane : Type 0 where
+  pub sq : ℕ
+  pub cq : ℕ
+  pub depth : ℕ
+  pub number : ℕ
+  pub serial : ℕ
+  pub first_page : ℕ
+  pub page_count : ℕ
+
+-- rings of this lane whose numbers are all that of the next command
+abbrev pub idle_rings : ℕ → Lane → Rings
+idle_rings page_size l = record {
+  page_size = page_size;
+  submission = record { base = l.sq; depth = l.depth; fetched = l.number; rung = l.number };
+  completion = record { base = l.cq; depth = l.depth; posted = l.number; told = l.number };
+}
+
+-- the registers of a controller that was enabled for this lane and has no command outstanding
+abbrev pub idle_port : ℕ → ℕ → Lane → Port
+idle_port mps page_size l = record {
+  cc = record { en = true; mps = mps; iosqes = 6; iocqes = 4 };
+  cfs = false;
+  aqa = record { asqs = l.depth - 1; acqs = l.depth - 1 };
+  asq = l.sq;
+  acq = l.cq;
+  rings = Some (idle_rings page_size l);
+}
+
+-- the submission ring, the completion ring and the pages follow one another in a memory of this size
+pub record IsLaid (page_size size : ℕ) (l : Lane) : Type 0 where
+  pub deep : IsDepth l.depth
+  pub number : l.number < 2 * l.depth
+  pub serial : l.serial < SERIALS
+  pub rings : l.sq + 64 * l.depth ≤ l.cq
+  pub pages : l.cq + 16 * l.depth ≤ l.first_page * page_size
+  pub inside : (l.first_page + l.page_count) * page_size ≤ size
