@@ -1,2 +1,3 @@
 pub mod GeometryLaws
+pub mod LaneLaws
 pub mod LayoutLaws

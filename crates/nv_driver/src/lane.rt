@@ -41,6 +41,7 @@ impl Lane {
 }
 
 /// The lanes of so many controllers before their first command.
+#[tactic(auto, using(crate::proofs::LaneLaws::quiet_more, crate::proofs::LaneLaws::lanes_more))]
 pub fn new_lanes(alloc: Global, geometry: Geometry, controllers: u16) -> Result<Vec<Lane>, Memory>
     requires geometry { IsGeometry geometry }
     requires controllers { controllers ≤ 16 }
