@@ -1,6 +1,7 @@
 //! The host's driver of the controllers of a bus.
 #![tactic(auto)]
 
+mod enabling;
 mod error;
 mod geometry;
 mod geometry_field;
