@@ -1,3 +1,4 @@
 pub mod GeometryLaws
 pub mod LaneLaws
 pub mod LayoutLaws
+pub mod RegisterLaws

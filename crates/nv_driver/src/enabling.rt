@@ -119,6 +119,7 @@ fn enable<B: Bus>(bus: &mut B, ctrl: u16, geometry: Geometry) -> Result<(), Driv
 }
 
 /// Enables each controller.
+#[tactic(auto, using(crate::proofs::RegisterLaws::all_enabled))]
 pub fn enable_all<B: Bus>(bus: &mut B, geometry: Geometry) -> Result<(), DriverError>
     requires geometry { IsGeometry geometry }
     requires bus { IsBus (B.meaning bus.old) }
