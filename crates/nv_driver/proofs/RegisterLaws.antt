@@ -1,6 +1,6 @@
 -- The registers of a controller as it is enabled.
 use Rattle.std.proofs.Common.{◌≡◌, ◌∙◌, ℕ, zero, suc, ◌+◌, ◌-◌, ◌*◌, ◌%◌, ◌^◌, ◌==◌, ◌&&◌, nat_le, ◌<◌, ◌≤◌, ◌⊎◌, inl, inr, Bool, true, false, ap, sym, refl, arith, List, length, fold, take, map, slice_set, None, Some}
-use Rattle.std.specs.Prelude.{if◌then◌else◌, is_some, slice_index_or}
+use Rattle.std.specs.Prelude.{◌≢◌, if◌then◌else◌, is_some, IsOk, MatchResult, Result, Ok, Err, slice_index_or}
 use Rattle.std.proofs.Math.ListN.{get_or}
 use Rattle.std.proofs.Math.Nat.{mul-mod_left, zero-add}
 use Rattle.std.proofs.lemmas.Bool.{cases_eq}
@@ -18,6 +18,7 @@ use Rattle.nv_driver.specs.Geometry.{IsGeometry}
 use Rattle.nv_driver.specs.Lane.{idle_port}
 use Rattle.nv_driver.specs.Layout.{lane_of, lane_pages, lanes_of, submission_pages}
 use Rattle.nv_driver.specs.Registers.{idle_ports, mps_of, with_dword, with_queues}
+use Rattle.nv_driver.specs.declared.error.DriverError.{DriverError}
 use Rattle.nv_driver.specs.declared.geometry.Geometry.{Geometry}
 
 -- ---- writes of one controller, one after another
@@ -149,6 +150,16 @@ enabled_ports a b d e c g x h off is value first second third =
     let p = with_register_at (port_at a c) 0x14 0 in
     then_own a d e c (queues p) (λ q. with_register_at q 0x14 x) h (then_own a b d c p queues h first second) third
     ∙ ap (slice_set a c) (enabled_port (port_at a c) g c x off is value)
+
+-- and then it is ready
+pub is_enabled : (a e : List Port) (c : ℕ) (g : Geometry) (r : Result (Unit {0}) DriverError) → c < length a
+    → e ≡ slice_set a c (idle_port (mps_of g.page_size) g.page_size (lane_of g c))
+    → MatchResult r (λ _. is_some (port_at e c).rings ≡ true) (λ _. is_some (port_at e c).rings ≢ true) → IsOk r
+is_enabled a e c g (Ok x) h is found = refl
+is_enabled a e c g (Err x) h is found =
+    let idle = idle_port (mps_of g.page_size) g.page_size (lane_of g c) in
+    let own : port_at e c ≡ idle = ap (λ x. port_at x c) is ∙ get_or-set_same a c idle new_port h in
+    absurd (found (ap (λ (p : Port). is_some p.rings) own))
 
 -- ---- all controllers
 

@@ -34,7 +34,8 @@ const READS: u32 = 16;
 
 /// CC.MPS: a page has two to this power times 4,096 bytes.
 fn mps(page_size: u32) -> u32
-    ensures { result ≡ mps_of page_size }
+    ensures value { result ≡ mps_of page_size }
+    ensures few { result ≤ 4 }
 {
     match page_size {
         4096 => 0,
