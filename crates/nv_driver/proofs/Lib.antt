@@ -1,4 +1,5 @@
 pub mod GeometryLaws
 pub mod LaneLaws
 pub mod LayoutLaws
+pub mod MemoryLaws
 pub mod RegisterLaws
