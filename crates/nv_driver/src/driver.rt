@@ -56,7 +56,7 @@ impl Driver {
 
     /// Makes the host's memory, and makes each controller ready with rings in it. After `Geometry`,
     /// which has the first field out of its limits, and after `Memory` the bus is untouched.
-    /// `NoReady` is for a bus without laws. Section "Controller Initialization".
+    /// A bus that keeps its contract never gives `NoReady`. Section "Controller Initialization".
     pub fn bring_up<B: Bus>(
         alloc: Global,
         bus: &mut B,

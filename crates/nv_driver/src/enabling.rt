@@ -1,6 +1,6 @@
 //! How controllers are enabled.
 
-ghost use Rattle.std.specs.Prelude.{◌≡◌, ◌≢◌, ◌<◌, ◌≤◌, All, IsOk, MatchResult, false, fold, is_some, length, slice_set};
+ghost use Rattle.std.specs.Prelude.{◌≡◌, ◌≢◌, ◌<◌, ◌≤◌, All, IfErr, IsOk, MatchResult, false, fold, is_some, length, slice_set};
 ghost use Rattle.nv_controller.specs.Bus.{IsBus, IsEnabledWhereReady, port_at};
 ghost use Rattle.nv_driver.specs.Geometry.{IsGeometry};
 ghost use Rattle.nv_driver.specs.Layout.{lane_of, lanes_of};
@@ -62,9 +62,10 @@ fn write_all<B: Bus>(bus: &mut B, ctrl: u16, writes: &[(u32, u32)])
 /// Awaits that CSTS.RDY has a value. Section "Controller Status".
 fn await_ready<B: Bus>(bus: &B, ctrl: u16, ready: bool) -> Result<(), DriverError>
     requires { ctrl < length (B.meaning bus.now).ports }
-    ensures { MatchResult result
+    ensures ready { MatchResult result
         (λ _. is_some (port_at (B.meaning bus.now).ports ctrl).rings ≡ ready)
         (λ _. is_some (port_at (B.meaning bus.now).ports ctrl).rings ≢ ready) }
+    ensures no_ready { IfErr result (λ e. e ≡ DriverError.NoReady) }
 {
     for _ in 0..READS {
         if (bus.read32(ctrl, CSTS) % 2 == 1) == ready {

@@ -1,4 +1,16 @@
 //! The host's driver of the controllers of a bus.
+//!
+//! A [`Driver`] has memory of its own, with a submission ring, a completion ring and pages for each
+//! controller. [`Driver::bring_up`] makes this memory by a [`Geometry`], and makes each controller
+//! ready with its rings:
+//!
+//! ```
+//! let mut machine = Machine::new(alloc, subsystem)?;
+//! let driver = Driver::bring_up(alloc, &mut machine, Geometry::default())?;
+//! let pages = driver.pages(); // 9 for each controller
+//! ```
+//!
+//! Sections are named as in the NVM Express Base Specification, revision 1.4.
 #![tactic(auto)]
 
 mod driver;
@@ -8,6 +20,8 @@ mod geometry;
 mod geometry_field;
 mod lane;
 mod layout;
+#[cfg(test)]
+mod tests;
 
 pub use driver::Driver;
 pub use error::DriverError;

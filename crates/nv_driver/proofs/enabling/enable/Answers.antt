@@ -14,4 +14,4 @@ returns-clause-ports g c =
 pub returns-clause-ok : goal.returns-clause-ok
 returns-clause-ok g c =
     is_enabled (g.B.Bus.meaning c.args.bus.now).ports _ c.args.ctrl c.args.geometry _ c.requires.ctrl
-    (returns-clause-ports g c) c.await_ready-2.ensures
+    (returns-clause-ports g c) c.await_ready-2.ensures.ready
