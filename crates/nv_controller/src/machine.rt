@@ -1,9 +1,9 @@
 //! The controllers of a subsystem.
 
-ghost use Rattle.std.specs.Prelude.{◌≡◌, IfOk, length, replicate};
+ghost use Rattle.std.specs.Prelude.{◌≡◌, All, IfOk, length, replicate};
 ghost use Rattle.nv_register.specs.Port.{new_port};
 ghost use Rattle.nv_subsystem.specs.WellFormed.{IsWellFormed};
-ghost use Rattle.nv_controller.specs.Bus.{IsBus};
+ghost use Rattle.nv_controller.specs.Bus.{IsBus, IsEnabledWhereReady};
 
 use crate::bus::Bus;
 use crate::turn::turn_port;
@@ -59,6 +59,7 @@ impl Machine {
           ports = replicate (length subsystem.controllers) new_port;
         }) }
         ensures bus { IfOk result (λ m. IsWellFormed subsystem → IsBus m) }
+        ensures enabled { IfOk result (λ m. All IsEnabledWhereReady m.ports) }
     {
         let ports = new_ports(alloc, subsystem.controllers())?;
         Ok(Machine { subsystem, ports })

@@ -1,2 +1,9 @@
+pub mod Geometry
+pub mod Names
 pub mod Lane
+pub mod Layout
+pub mod Quiet
+pub mod Settled
+pub mod Driver
+pub mod Registers
 pub mod Schedule

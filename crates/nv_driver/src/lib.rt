@@ -1,6 +1,31 @@
-//! The host's side of a controller: its commands as entries, their data in its memory.
+//! The host's driver of the controllers of a bus.
+//!
+//! A [`Driver`] has memory of its own, with a submission ring, a completion ring and pages for each
+//! controller. [`Driver::bring_up`] makes this memory by a [`Geometry`], and makes each controller
+//! ready with its rings:
+//!
+//! ```
+//! let mut machine = Machine::new(alloc, subsystem)?;
+//! let driver = Driver::bring_up(alloc, &mut machine, Geometry::default())?;
+//! let pages = driver.pages(); // 9 for each controller
+//! ```
+//!
+//! Sections are named as in the NVM Express Base Specification, revision 1.4.
 #![tactic(auto)]
 
+mod driver;
+mod enabling;
+mod error;
+mod geometry;
+mod geometry_field;
+mod lane;
 mod law;
+mod layout;
+#[cfg(test)]
+mod tests;
 
+pub use driver::Driver;
+pub use error::DriverError;
+pub use geometry::Geometry;
+pub use geometry_field::GeometryField;
 pub use law::any_schedule;

@@ -1,0 +1,58 @@
+-- The limits of a driver's geometry.
+use Rattle.std.specs.Prelude.{◌≡◌, ℕ, ◌%◌, ◌<◌, ◌≤◌, ◌==◌, ◌&&◌, nat_le, nat_lt, Bool, List, [], ◌∷◌, Option, Some, None, if◌then◌else◌}
+use Rattle.std.specs.List.{list_any}
+use Rattle.nv_host.specs.Pages.{IsPageSize}
+use Rattle.nv_queue.specs.Numbers.{IsDepth}
+use Rattle.nv_driver.specs.declared.geometry.Geometry.{Geometry}
+use Rattle.nv_driver.specs.declared.geometry_field.GeometryField.{GeometryField}
+use Rattle.nv_driver.specs.declared.geometry_field.GeometryField.TheVariants.{Depth, PageSize, Offset, ListOffset, Window, Pace}
+
+unfoldable pub is_between : ℕ → ℕ → ℕ → Bool
+is_between low high x = nat_le low x && nat_le x high
+
+-- a multiple of `unit` in a page
+unfoldable pub is_offset : ℕ → ℕ → ℕ → Bool
+is_offset unit page_size x = x % unit == 0 && nat_lt x page_size
+
+unfoldable pub is_page_size : ℕ → Bool
+is_page_size size = list_any (λ one. one == size) (4096 ∷ 8192 ∷ 16384 ∷ 32768 ∷ 65536 ∷ [])
+
+-- fewer outstanding commands than slots
+unfoldable pub is_window : ℕ → ℕ → Bool
+is_window depth x = is_between 1 16 x && nat_lt x depth
+
+-- whether a field keeps its limits
+pub record Row : Type 0 where
+  pub field : GeometryField
+  pub keeps : Bool
+
+abbrev pub row : GeometryField → Bool → Row
+row field keeps = record { field = field; keeps = keeps }
+
+-- the fields in order
+abbrev pub rows_of : Geometry → List Row
+rows_of g =
+    row Depth (is_between 2 4096 g.depth)
+    ∷ row PageSize (is_page_size g.page_size)
+    ∷ row Offset (is_offset 4 g.page_size g.offset)
+    ∷ row ListOffset (is_offset 8 g.page_size g.list_offset)
+    ∷ row Window (is_window g.depth g.window)
+    ∷ row Pace (is_between 1 4096 g.pace)
+    ∷ []
+
+abbrev pub first_fault : List Row → Option GeometryField
+first_fault [] = None
+first_fault (r ∷ rows) = if r.keeps then first_fault rows else Some r.field
+
+-- the first field out of its limits
+abbrev pub fault_of : Geometry → Option GeometryField
+fault_of g = first_fault (rows_of g)
+
+-- a geometry without a fault, field by field
+pub record IsGeometry (g : Geometry) : Type 0 where
+  pub depth : IsDepth g.depth
+  pub page_size : IsPageSize g.page_size
+  pub offset : (g.offset % 4 ≡ 0) × (g.offset < g.page_size)
+  pub list_offset : (g.list_offset % 8 ≡ 0) × (g.list_offset < g.page_size)
+  pub window : (1 ≤ g.window) × (g.window ≤ 16) × (g.window < g.depth)
+  pub pace : (1 ≤ g.pace) × (g.pace ≤ 4096)

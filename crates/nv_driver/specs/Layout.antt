@@ -1,0 +1,41 @@
+-- How a driver lays out the host's memory: for each controller in turn its submission ring, its completion ring and
+-- its page set, each in pages of its own.
+use Rattle.std.specs.Prelude.{ℕ, ◌+◌, ◌*◌, List, map}
+use Rattle.std.specs.Int.{div_ceil}
+use Rattle.std.specs.List.{range_with_len}
+use Rattle.nv_driver.specs.Lane.{Lane}
+use Rattle.nv_driver.specs.declared.geometry.Geometry.{Geometry}
+
+-- how many pages a ring of so many slots takes, of 64 bytes for submissions and of 16 for completions
+unfoldable pub submission_pages : Geometry → ℕ
+submission_pages g = div_ceil (64 * g.depth) g.page_size
+
+unfoldable pub completion_pages : Geometry → ℕ
+completion_pages g = div_ceil (16 * g.depth) g.page_size
+
+-- for each outstanding command: pages for 16,384 bytes, one more where they begin inside a page, and two for a PRP
+-- list that begins inside a page
+unfoldable pub set_pages : Geometry → ℕ
+set_pages g = g.window * (div_ceil 16384 g.page_size + 3)
+
+abbrev pub lane_pages : Geometry → ℕ
+lane_pages g = submission_pages g + completion_pages g + set_pages g
+
+-- of all controllers
+abbrev pub pages_of : Geometry → ℕ → ℕ
+pages_of g controllers = controllers * lane_pages g
+
+-- the lane of controller i before its first command
+abbrev pub lane_of : Geometry → ℕ → Lane
+lane_of g i = record {
+  sq = i * lane_pages g * g.page_size;
+  cq = (i * lane_pages g + submission_pages g) * g.page_size;
+  depth = g.depth;
+  number = 0;
+  serial = 0;
+  first_page = i * lane_pages g + submission_pages g + completion_pages g;
+  page_count = set_pages g;
+}
+
+abbrev pub lanes_of : Geometry → ℕ → List Lane
+lanes_of g controllers = map (lane_of g) (range_with_len 0 controllers)

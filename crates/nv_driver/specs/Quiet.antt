@@ -1,0 +1,26 @@
+-- What a controller's rings and pages stand for where no command is outstanding.
+use Rattle.std.specs.Prelude.{◌≡◌, false}
+use Rattle.std.specs.FinSet as set
+use Rattle.nv_host.specs.PageSets.{consecutive}
+use Rattle.nv_driver.specs.Lane.{Lane}
+use Rattle.nv_driver.specs.declared.lane.Lane.{Lane as LaneFields}
+
+-- all numbers are that of the next command, and no page is in use
+pub record IsQuiet (l : LaneFields) : Type 0 where
+  pub depth : l.completion.depth ≡ l.submission.depth
+  pub known : l.submission.known ≡ l.submission.submitted
+  pub collected : l.completion.collected ≡ l.submission.submitted
+  pub told : l.completion.told ≡ l.submission.submitted
+  pub untold : l.completion.untold ≡ false
+  pub free : l.pages.members ≡ set.from_list (consecutive l.pages.first l.pages.count)
+
+abbrev pub lane_value : LaneFields → Lane
+lane_value l = record {
+  sq = l.submission.base;
+  cq = l.completion.base;
+  depth = l.submission.depth;
+  number = l.submission.submitted;
+  serial = l.serial;
+  first_page = l.pages.first;
+  page_count = l.pages.count;
+}

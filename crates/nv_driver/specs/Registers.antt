@@ -1,0 +1,28 @@
+-- What a driver's controllers have in their registers.
+use Rattle.std.specs.Prelude.{ℕ, ◌==◌, List, map, if◌then◌else◌}
+use Rattle.nv_register.specs.Port.{with_register_at}
+use Rattle.nv_register.specs.declared.admin_queue_attributes.AdminQueueAttributes.{AdminQueueAttributes}
+use Rattle.nv_register.specs.declared.port.Port.{Port}
+use Rattle.nv_driver.specs.Lane.{Lane, idle_port}
+use Rattle.nv_driver.specs.Settled.{DriverValue}
+
+-- a write of a dword: its offset and its value
+abbrev pub with_dword : Port → ℕ × ℕ → Port
+with_dword p write = with_register_at p write.0 write.1
+
+-- queues of so many entries, less one, at these addresses
+abbrev pub with_queues : Port → ℕ → ℕ → ℕ → Port
+with_queues p less_one sq cq = record p { aqa = record { asqs = less_one; acqs = less_one }; asq = sq; acq = cq }
+
+-- the power of two that a page size is of 4,096
+abbrev pub mps_of : ℕ → ℕ
+mps_of page_size =
+    if page_size == 4096 then 0 else if page_size == 8192 then 1
+    else if page_size == 16384 then 2 else if page_size == 32768 then 3 else 4
+
+abbrev pub idle_ports : ℕ → List Lane → List Port
+idle_ports page_size lanes = map (idle_port (mps_of page_size) page_size) lanes
+
+-- of each controller, with no command outstanding
+abbrev pub ports_of : DriverValue → List Port
+ports_of d = idle_ports d.geometry.page_size d.lanes

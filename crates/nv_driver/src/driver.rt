@@ -1,0 +1,91 @@
+//! The driver of the controllers of a bus.
+
+ghost use Rattle.std.specs.Prelude.{◌≡◌, ◌≢◌, ◌≤◌, ◌↔◌, All, Err, IfOk, OnErr, Some, length};
+ghost use Rattle.nv_controller.specs.Bus.{IsBus, IsEnabledWhereReady};
+ghost use Rattle.nv_driver.specs.Driver.{new_driver};
+ghost use Rattle.nv_driver.specs.Geometry.{IsGeometry, fault_of};
+ghost use Rattle.nv_driver.specs.Registers.{ports_of};
+
+use crate::enabling::enable_all;
+use crate::error::DriverError;
+use crate::geometry::Geometry;
+use crate::geometry_field::GeometryField;
+use crate::lane::{Lane, new_lanes};
+use nv_controller::Bus;
+use nv_host::{FlatMemory, HostMemory, Memory};
+use std::alloc::Global;
+use std::marker::Model;
+
+/// The driver of each controller of a bus: the host's memory, and for each controller its rings and
+/// pages in it.
+#[derive(Drop)]
+pub struct Driver {
+    mem: FlatMemory,
+    geometry: Geometry,
+    lanes: Vec<Lane>,
+}
+
+impl Model for Driver {
+    ghost use Rattle.nv_driver.specs.Settled.{DriverValue};
+
+    ghost Value = { DriverValue };
+
+    ghost use Rattle.nv_driver.specs.Driver.{IsDriver, driver_value};
+
+    ghost view = { λ d. driver_value d.geometry d.mem d.lanes.items };
+
+    ghost invariant = { λ d. IsDriver d.geometry d.mem d.lanes.items };
+}
+
+impl Driver {
+    /// A driver of so many controllers, of which none is enabled yet. All bytes of its memory are 0.
+    fn new(alloc: Global, geometry: Geometry, controllers: u16) -> Result<Driver, Memory>
+        requires geometry { IsGeometry geometry }
+        requires controllers { controllers ≤ 16 }
+        ensures { IfOk result (λ d. d ≡ new_driver geometry controllers) }
+    {
+        let pages = geometry.pages(controllers);
+        let mem = FlatMemory::new(alloc, geometry.page_size, pages)?;
+        let lanes = new_lanes(alloc, geometry, controllers)?;
+        Ok(Driver {
+            mem,
+            geometry,
+            lanes,
+        })
+    }
+
+    /// Makes the host's memory, and makes each controller ready with rings in it. After `Geometry`,
+    /// which has the first field out of its limits, and after `Memory` the bus is untouched.
+    /// A bus that keeps its contract never gives `NoReady`. Section "Controller Initialization".
+    pub fn bring_up<B: Bus>(
+        alloc: Global,
+        bus: &mut B,
+        geometry: Geometry,
+    ) -> Result<Driver, DriverError>
+        requires bus { IsBus (B.meaning bus.old) }
+        requires enabled { All IsEnabledWhereReady (B.meaning bus.old).ports }
+        ensures state { (B.meaning bus.new).state ≡ (B.meaning bus.old).state }
+        ensures bus { IsBus (B.meaning bus.new) }
+        ensures geometry { (field : GeometryField)
+            → (result ≡ Err (DriverError.Geometry field)) ↔ (fault_of geometry ≡ Some field) }
+        ensures ready { result ≢ Err DriverError.NoReady }
+        ensures untouched { OnErr result (B.meaning bus.new ≡ B.meaning bus.old) }
+        ensures value { IfOk result
+            (λ d. d ≡ new_driver geometry (length (B.meaning bus.old).ports)) }
+        ensures ports { IfOk result (λ d. (B.meaning bus.new).ports ≡ ports_of d) }
+    {
+        if let Err(field) = geometry.check() {
+            return Err(DriverError::Geometry(field));
+        }
+        let driver = Driver::new(alloc, geometry, bus.controllers())?;
+        enable_all(bus, geometry)?;
+        Ok(driver)
+    }
+
+    /// How many pages the host's memory has.
+    pub fn pages(&self) -> u64
+        ensures { result ≡ self.now.pages }
+    {
+        u64::from(self.mem.pages())
+    }
+}

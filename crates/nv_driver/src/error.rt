@@ -1,0 +1,30 @@
+//! Why no driver is brought up.
+
+ghost use Rattle.std.specs.Prelude.{◌≡◌};
+ghost use Rattle.nv_driver.specs.declared.error.DriverError.TheVariants.{Memory as NoMemory};
+
+use crate::geometry_field::GeometryField;
+use nv_host::Memory;
+use thiserror::Error;
+
+/// Why no driver is brought up.
+#[derive(Clone, Copy, Debug, PartialEq, Eq, Error)]
+pub enum DriverError {
+    /// The first field of the geometry that is out of its limits.
+    #[error("geometry: {0}")]
+    Geometry(GeometryField),
+    /// There is no memory left to allocate.
+    #[error("out of memory")]
+    Memory,
+    /// A controller's CSTS.RDY is not as awaited. Section "Controller Status".
+    #[error("no ready")]
+    NoReady,
+}
+
+impl From<Memory> for DriverError {
+    ghost from_gives = { λ _ e. e ≡ NoMemory };
+
+    fn from(_error: Memory) -> DriverError {
+        DriverError::Memory
+    }
+}

@@ -1,0 +1,59 @@
+//! The host's side of one controller.
+
+ghost use Rattle.std.specs.Prelude.{◌≡◌, ◌<◌, ◌≤◌, All, IfOk, map};
+ghost use Rattle.nv_driver.specs.Geometry.{IsGeometry};
+ghost use Rattle.nv_driver.specs.Layout.{lane_of, lanes_of};
+ghost use Rattle.nv_driver.specs.Quiet.{IsQuiet, lane_value};
+
+use crate::geometry::Geometry;
+use nv_host::{Memory, PageSet};
+use nv_queue::{CompletionRing, SubmitRing};
+use std::alloc::Global;
+
+/// The rings and the pages of one controller.
+#[derive(Drop)]
+pub struct Lane {
+    pub submission: SubmitRing,
+    pub completion: CompletionRing,
+    /// The command identifier of the next command.
+    pub serial: u16,
+    /// The pages that no outstanding command has.
+    pub pages: PageSet,
+}
+
+impl Lane {
+    /// The lane of a controller before its first command. The page set has a bit for each page.
+    pub fn new(alloc: Global, geometry: Geometry, ctrl: u16) -> Result<Lane, Memory>
+        requires geometry { IsGeometry geometry }
+        requires ctrl { ctrl < 16 }
+        ensures quiet { IfOk result IsQuiet }
+        ensures lane { IfOk result (λ l. lane_value l ≡ lane_of geometry ctrl) }
+    {
+        let place = geometry.place(ctrl);
+        let depth = geometry.depth as u16;
+        Ok(Lane {
+            submission: SubmitRing::new(place.sq, depth),
+            completion: CompletionRing::new(place.cq, depth),
+            serial: 0,
+            pages: PageSet::new(alloc, place.first_page, place.page_count)?,
+        })
+    }
+}
+
+/// The lanes of so many controllers before their first command.
+#[tactic(auto, using(crate::proofs::LaneLaws::quiet_more, crate::proofs::LaneLaws::lanes_more))]
+pub fn new_lanes(alloc: Global, geometry: Geometry, controllers: u16) -> Result<Vec<Lane>, Memory>
+    requires geometry { IsGeometry geometry }
+    requires controllers { controllers ≤ 16 }
+    ensures quiet { IfOk result (λ lanes. All IsQuiet lanes.items) }
+    ensures lanes { IfOk result (λ lanes. map lane_value lanes.items ≡ lanes_of geometry controllers) }
+{
+    let mut lanes = Vec::new(alloc);
+    for ctrl in 0..controllers {
+        let lane = Lane::new(alloc, geometry, ctrl)?;
+        if lanes.push(lane).is_err() {
+            return Err(Memory);
+        }
+    }
+    Ok(lanes)
+}

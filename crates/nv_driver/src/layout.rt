@@ -1,0 +1,98 @@
+//! Where each controller's rings and pages lie in the host's memory.
+
+ghost use Rattle.std.specs.Prelude.{◌≡◌, ◌+◌, ◌^◌, ◌<◌, ◌≤◌};
+ghost use Rattle.nv_driver.specs.Geometry.{IsGeometry};
+ghost use Rattle.nv_driver.specs.Layout.{completion_pages, lane_of, lane_pages, pages_of, set_pages};
+ghost use Rattle.nv_driver.specs.Layout.{submission_pages};
+
+use crate::geometry::Geometry;
+
+/// The most bytes that a command's data has.
+const MOST_BYTES: u32 = 16_384;
+
+/// The pages of an outstanding command beside those of its data: one where the data begins inside a
+/// page, and two of a PRP list that begins inside a page.
+const MORE_PAGES: u32 = 3;
+
+/// Where one controller's rings and pages lie.
+#[derive(Clone, Copy)]
+pub struct Place {
+    /// The address of the submission ring.
+    pub sq: u64,
+    /// The address of the completion ring.
+    pub cq: u64,
+    pub first_page: u32,
+    pub page_count: u32,
+}
+
+impl Geometry {
+    /// How many pages a submission ring takes.
+    #[tactic(auto, unfolding(crate::specs::Layout::submission_pages))]
+    fn submission_pages(self) -> u32
+        requires { IsGeometry self }
+        ensures pages { result ≡ submission_pages self }
+        ensures few { result ≤ 0x80000 }
+    {
+        (64 * self.depth).div_ceil(self.page_size)
+    }
+
+    /// How many pages a completion ring takes.
+    #[tactic(auto, unfolding(crate::specs::Layout::completion_pages))]
+    fn completion_pages(self) -> u32
+        requires { IsGeometry self }
+        ensures pages { result ≡ completion_pages self }
+        ensures few { result ≤ 0x80000 }
+    {
+        (16 * self.depth).div_ceil(self.page_size)
+    }
+
+    /// How many pages the outstanding commands take.
+    #[tactic(auto, unfolding(crate::specs::Layout::set_pages))]
+    fn set_pages(self) -> u32
+        requires { IsGeometry self }
+        ensures pages { result ≡ set_pages self }
+        ensures few { result ≤ 0x80000 }
+    {
+        self.window * (MOST_BYTES.div_ceil(self.page_size) + MORE_PAGES)
+    }
+
+    /// How many pages one controller takes.
+    fn lane_pages(self) -> u32
+        requires { IsGeometry self }
+        ensures pages { result ≡ lane_pages self }
+        ensures few { result ≤ 0x180000 }
+    {
+        self.submission_pages() + self.completion_pages() + self.set_pages()
+    }
+
+    /// How many pages so many controllers take, of which there are 16 at most.
+    #[tactic(auto, using(crate::proofs::LayoutLaws::lane_times))]
+    pub fn pages(self, controllers: u16) -> u32
+        requires geometry { IsGeometry self }
+        requires controllers { controllers ≤ 16 }
+        ensures { result ≡ pages_of self controllers }
+    {
+        u32::from(controllers) * self.lane_pages()
+    }
+
+    /// Where the rings and pages of a controller lie. The page behind them has a number too.
+    #[tactic(auto, using(crate::proofs::LayoutLaws::lane_times, crate::proofs::LayoutLaws::page_times))]
+    pub fn place(self, ctrl: u16) -> Place
+        requires geometry { IsGeometry self }
+        requires ctrl { ctrl < 16 }
+        ensures sq { result.sq ≡ (lane_of self ctrl).sq }
+        ensures cq { result.cq ≡ (lane_of self ctrl).cq }
+        ensures first_page { result.first_page ≡ (lane_of self ctrl).first_page }
+        ensures page_count { result.page_count ≡ (lane_of self ctrl).page_count }
+        ensures numbered { result.first_page + result.page_count < 2 ^ 32 }
+    {
+        let first = u32::from(ctrl) * self.lane_pages();
+        let second = first + self.submission_pages();
+        Place {
+            sq: u64::from(first) * u64::from(self.page_size),
+            cq: u64::from(second) * u64::from(self.page_size),
+            first_page: second + self.completion_pages(),
+            page_count: self.set_pages(),
+        }
+    }
+}
