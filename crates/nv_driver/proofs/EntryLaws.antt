@@ -98,6 +98,7 @@ one_more t s w y d k waits free one =
           (delivered t x a w.mem one.moved y.bytes sound one.moves own same_data)
           ∙ sym (is_answer b);
       cid = ap (λ (q : Cqe). q.cid) there;
+      head = ap (λ (q : Cqe). q.sq_head) there;
     } in
     record {
       placed = record { page_size = p.page_size; deep = p.deep; rings = p.rings; inside = omega (arith, p.inside) };

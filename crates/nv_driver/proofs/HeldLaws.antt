@@ -22,4 +22,5 @@ pub holds_on : (t : Setting) (s : State) (w v : World) (n : ℕ) (x : Sent) → 
 holds_on t s w v n x completion bytes answers h = record {
   answer = λ d. answer_same t x w.mem v.mem _ _ completion bytes ∙ h.answer d ∙ sym (answers d);
   cid = ap (λ (c : Cqe). c.cid) completion ∙ h.cid;
+  head = ap (λ (c : Cqe). c.sq_head) completion ∙ h.head;
 }

@@ -66,7 +66,7 @@ bell_keeps t s w w' k happens =
       own = k.own;
       apart = k.apart;
       waiting = k.waiting;
-      held = λ n d from below. let h = k.held n d from below in record { answer = h.answer; cid = h.cid };
+      held = λ n d from below. let h = k.held n d from below in record { answer = h.answer; cid = h.cid; head = h.head };
       tags = k.tags;
       answers = k.answers;
       others = k.others;
@@ -86,7 +86,7 @@ tell_keeps t s w w' k happens =
       own = k.own;
       apart = k.apart;
       waiting = k.waiting;
-      held = λ n d from below. let h = k.held n d from below in record { answer = h.answer; cid = h.cid };
+      held = λ n d from below. let h = k.held n d from below in record { answer = h.answer; cid = h.cid; head = h.head };
       tags = k.tags;
       answers = k.answers;
       others = k.others;
@@ -133,7 +133,7 @@ collected_one t s w d k below =
       own = λ i e from high. k.own i e (omega arith) high;
       apart = λ i j e from later high. k.apart i j e (omega arith) later high;
       waiting = k.waiting;
-      held = λ i e from high. let h = k.held i e (omega arith) high in record { answer = h.answer; cid = h.cid };
+      held = λ i e from high. let h = k.held i e (omega arith) high in record { answer = h.answer; cid = h.cid; head = h.head };
       tags = k.tags;
       answers = ap (λ xs. xs ++ a ∷ []) k.answers ∙ ap (λ x. take n all ++ x ∷ []) is
           ∙ sym (take_more all n a (omega (arith, c.done, c.rung)))

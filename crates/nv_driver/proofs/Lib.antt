@@ -1,3 +1,4 @@
+pub mod PageSetLaws
 pub mod SerialLaws
 pub mod CountLaws
 pub mod RegionLaws

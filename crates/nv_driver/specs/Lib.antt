@@ -6,4 +6,5 @@ pub mod Quiet
 pub mod Settled
 pub mod Driver
 pub mod Registers
+pub mod CommandPages
 pub mod Schedule

@@ -226,10 +226,11 @@ pub record IsIdle (t : Setting) (w : World) : Type 0 where
   pub told : w.told ≡ 0
   pub answers : w.answers ≡ []
 
--- the completion and the pages of command n hold its answer, under its command identifier
+-- the completion and the pages of command n hold its answer, under its command identifier and with the head after it
 pub record Holds (t : Setting) (s : State) (w : World) (n : ℕ) (x : Sent) : Type 0 where
   pub answer : (d : Answer) → answer_read t x w.mem (completion_at w.mem t.cq (slot t n)) ≡ slice_index_or (answers_to t.controller s w.sent) n d
   pub cid : (completion_at w.mem t.cq (slot t n)).cid ≡ x.cid
+  pub head : (completion_at w.mem t.cq (slot t n)).sq_head ≡ slot t (n + 1)
 
 -- n bytes that lie in no ring, and in no page of a command that was sent
 pub record AreOthers (t : Setting) (sent : List Sent) (from n : ℕ) : Type 0 where

@@ -13,6 +13,7 @@
 //! Sections are named as in the NVM Express Base Specification, revision 1.4.
 #![tactic(auto)]
 
+mod command_pages;
 mod driver;
 mod enabling;
 mod error;

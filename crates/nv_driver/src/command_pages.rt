@@ -1,0 +1,79 @@
+//! The pages that one command has in the host's memory.
+
+ghost use Rattle.std.specs.Prelude.{◌≡◌, ◌≢◌, ◌+◌, ◌≤◌, All, AllPairs, false, slice_index};
+ghost use Rattle.std.specs.FinSet as set;
+ghost use Rattle.nv_host.specs.PageSets.{IsOf};
+ghost use Rattle.nv_driver.specs.CommandPages.{AreTaken, all_pages, data_pages, with_pages, without};
+
+use nv_host::{PageNo, PageSet};
+use nv_prp::ListPlace;
+
+/// The most pages of one command: five for 16,384 bytes that begin inside a page of 4,096, and two
+/// for a list.
+const MOST_PAGES: usize = 7;
+
+/// The pages of a command: two for a list, and then those of its data.
+#[derive(Clone, Copy)]
+pub struct CommandPages {
+    numbers: [PageNo; MOST_PAGES],
+    data_pages: usize,
+}
+
+impl CommandPages {
+    /// Takes the pages of a command out of a set, in its order: two for a list, and so many for its
+    /// data, at most five.
+    pub fn take(free: &mut PageSet, data_pages: usize) -> CommandPages
+        requires few { data_pages ≤ 5 }
+        requires enough { data_pages + 2 ≤ set.len free.old.members }
+        ensures count { result.data_pages ≡ data_pages }
+        ensures taken { AreTaken free.old (all_pages result) }
+        ensures set { free.new ≡ without free.old (all_pages result) }
+        ensures len { set.len free.new.members + (data_pages + 2) ≡ set.len free.old.members }
+    {
+        let mut numbers = [0; MOST_PAGES];
+        for at in 0..data_pages + 2 {
+            numbers[at] = free.take().unwrap();
+        }
+        CommandPages {
+            numbers,
+            data_pages,
+        }
+    }
+
+    /// Gives the pages back to their set, which has none of them.
+    pub fn give(&self, free: &mut PageSet)
+        requires few { self.now.data_pages ≤ 5 }
+        requires own { All (λ p. IsOf free.old.first free.old.count p) (all_pages self.now) }
+        requires none { All (λ p. set.contains free.old.members p ≡ false) (all_pages self.now) }
+        requires distinct { AllPairs (λ p q. p ≢ q) (all_pages self.now) }
+        ensures { free.new ≡ with_pages free.old (all_pages self.now) }
+    {
+        let pages = &self.numbers[..self.data_pages + 2];
+        for at in 0..pages.len() {
+            free.give(pages[at]);
+        }
+    }
+
+    /// The pages of the data.
+    pub fn data(&self) -> &[PageNo]
+        requires few { self.now.data_pages ≤ 5 }
+        ensures { result.now ≡ data_pages self.now }
+    {
+        &self.numbers[2..2 + self.data_pages]
+    }
+
+    /// Where a list may lie, from an offset in bytes on.
+    pub fn list(&self, offset: u32) -> ListPlace
+        ensures { result ≡ record {
+          first = slice_index self.now.numbers 0;
+          second = slice_index self.now.numbers 1;
+          offset = offset;
+        } }
+    {
+        ListPlace {
+            first: self.numbers[0],
+            second: self.numbers[1],
+            offset,
+        }
+    }
+}
