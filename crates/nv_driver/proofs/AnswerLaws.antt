@@ -68,11 +68,11 @@ completion_fits k cid head (Err status) low below is = record {
 
 -- the data of a reply lies at the places of the command
 abbrev pub Delivers : Setting → Sent → List ℕ → Answer → Type 0
-Delivers t x mem (Ok r) = read_at mem (places t x) ≡ data_of r
+Delivers t x mem (Ok r) = read_at mem (places t.page_size x) ≡ data_of r
 Delivers t x mem (Err status) = Unit {0}
 
 pub answer_back : (t : Setting) (x : Sent) (mem : List ℕ) (depth n cid head : ℕ) (a : Answer) → IsAnswerTo x.command a → Delivers t x mem a
-    → answer_read t x mem (posted_as depth n (completion_with cid head a)) ≡ a
+    → answer_read t.page_size x mem (posted_as depth n (completion_with cid head a)) ≡ a
 answer_back t x mem depth n cid head (Ok r) is delivered =
     let back = (replies_travel x.command r is.0 is.1).reply in
     rw delivered (ap Ok back)

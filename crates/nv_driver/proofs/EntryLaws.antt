@@ -83,17 +83,17 @@ one_more t s w y d k waits free one =
         ∙ moved_keeps t x a w.mem one.moved from i some own.enough one.moves outside in
     let there : completion_at y.bytes t.cq (slot t n) ≡ posted_as t.depth (number t n) posted = written.here in
     let same_slot = λ (j : ℕ) (low : j < t.depth). moved_slot t x a w.mem one.moved j some own.enough one.moves own.completions low in
-    let beside = λ (j : ℕ) (low : j < length (places t x)).
+    let beside = λ (j : ℕ) (low : j < length (places t.page_size x)).
         let data_size = length-places t x in
-        place_apart (get_or (places t x) j 0) t.cq (16 * t.depth)
+        place_apart (get_or (places t.page_size x) j 0) t.cq (16 * t.depth)
         (place_beside t x t.cq (16 * t.depth) j some own.enough own.completions (omega arith)) in
-    let same_data = read_keeps one.moved y.bytes (places t x)
-        (λ j low. ap (λ m. bytes_at m (get_or (places t x) j 0) 1) one.bytes
-        ∙ completion_keeps one.moved ring posted (get_or (places t x) j 0) 1 (omega (arith, deep.0)) inside (beside j low)) in
+    let same_data = read_keeps one.moved y.bytes (places t.page_size x)
+        (λ j low. ap (λ m. bytes_at m (get_or (places t.page_size x) j 0) 1) one.bytes
+        ∙ completion_keeps one.moved ring posted (get_or (places t.page_size x) j 0) 1 (omega (arith, deep.0)) inside (beside j low)) in
     let is_answer = λ (b : Answer).
         answer_at t.controller s w.sent n d b below ∙ ap (λ (q : State). (step q t.controller x.command x.cid).answer) (sym k.state) in
     let held_now : Holds t s (world_after t w y) n x = record {
-      answer = λ b. ap (answer_read t x y.bytes) there
+      answer = λ b. ap (answer_read t.page_size x y.bytes) there
           ∙ answer_back t x y.bytes t.depth (number t n) x.cid (slot t (n + 1)) a sound
           (delivered t x a w.mem one.moved y.bytes sound one.moves own same_data)
           ∙ sym (is_answer b);

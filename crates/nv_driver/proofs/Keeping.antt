@@ -23,12 +23,12 @@ pub record IsOwn (t : Setting) (size : ℕ) (x : Sent) : Type 0 where
   pub fits : CommandFits x.command
   pub cid : x.cid < 2 ^ 16
   pub enough : x.offset + data_length x ≤ length x.pages * t.page_size
-  pub inside : (k : ℕ) → k < data_length x → get_or (places t x) k 0 < size
-  pub distinct : AreDistinct (places t x)
-  pub submissions : AreOutside t x t.sq (64 * t.depth)
-  pub completions : AreOutside t x t.cq (16 * t.depth)
+  pub inside : (k : ℕ) → k < data_length x → get_or (places t.page_size x) k 0 < size
+  pub distinct : AreDistinct (places t.page_size x)
+  pub submissions : AreOutside t.page_size x t.sq (64 * t.depth)
+  pub completions : AreOutside t.page_size x t.cq (16 * t.depth)
   pub call : (mem : List ℕ) → length mem ≡ size
-      → call_of t.page_size mem (entry x) ≡ Ok (record { command = x.command; places = places t x })
+      → call_of t.page_size mem (entry x) ≡ Ok (record { command = x.command; places = places t.page_size x })
 
 -- the counts of collected, done, rung, sent and told commands, in this order
 pub record AreInOrder (depth k d r m h : ℕ) : Type 0 where

@@ -91,13 +91,13 @@ call_by e at k page_size mem len moves page found command = rw (moves, sym page,
 
 -- Wherever the memory's other bytes change, the entry decodes to its command, whose data lies in its pages.
 pub entry_call : (t : Setting) (x : Sent) (old ready mem : List ℕ) → IsPageSize t.page_size → CommandFits x.command → x.cid < 2 ^ 16
-    → IsPrepared t x old ready → length mem ≡ length ready
-    → call_of t.page_size mem (entry x) ≡ Ok (record { command = x.command; places = places t x })
+    → IsPrepared t.page_size x old ready → length mem ≡ length ready
+    → call_of t.page_size mem (entry x) ≡ Ok (record { command = x.command; places = places t.page_size x })
 entry_call t x old ready mem is fits cid prepared same =
     let arrives = commands_travel x.command x.cid fits cid in
     let page = data_page x in
     let now = transfer t.page_size ready x.prp1 x.prp2 (data_length x) in
-    let named : places t x ≡ transfer_places (over now mem) = named_over now t.page_size x.pages x.offset mem is page prepared.places in
-    let found = legal_places (over now mem) (places t x) (legal_over now mem is page same prepared.legal) named in
-    call_by (entry x) (places t x) x.command t.page_size mem (data_length x) (arrives.transfer x.prp1 x.prp2 ∙ ap Ok (transfer_by-page x.command)) page
+    let named : places t.page_size x ≡ transfer_places (over now mem) = named_over now t.page_size x.pages x.offset mem is page prepared.places in
+    let found = legal_places (over now mem) (places t.page_size x) (legal_over now mem is page same prepared.legal) named in
+    call_by (entry x) (places t.page_size x) x.command t.page_size mem (data_length x) (arrives.transfer x.prp1 x.prp2 ∙ ap Ok (transfer_by-page x.command)) page
     found (arrives.command x.prp1 x.prp2)

@@ -57,10 +57,10 @@ beside_page page_size page place from n low high outside =
 
 -- a place of a command's data is beside each part that its pages are outside of
 pub place_beside : (t : Setting) (x : Sent) (from n k : ℕ) → 0 < t.page_size → x.offset + data_length x ≤ length x.pages * t.page_size
-    → AreOutside t x from n → k < data_length x → IsBeside (get_or (places t x) k 0) from n
+    → AreOutside t.page_size x from n → k < data_length x → IsBeside (get_or (places t.page_size x) k 0) from n
 place_beside t x from n k some enough outside below =
     let page = place_page t.page_size x.pages x.offset (data_length x) k some enough below in
-    beside_page t.page_size (get_or x.pages page.index 0) (get_or (places t x) k 0) from n page.from page.to
+    beside_page t.page_size (get_or x.pages page.index 0) (get_or (places t.page_size x) k 0) from n page.from page.to
     (outside (suc (suc page.index)) 0 (let h = page.is_one in omega arith))
 
 -- two pages that aren't one share no byte
@@ -77,24 +77,24 @@ other_page page_size p q place differ low high =
 
 -- where two commands have no page in common, the pages of the one are outside of each byte of the other's data
 pub place_outside : (t : Setting) (x y : Sent) (k : ℕ) → 0 < t.page_size → x.offset + data_length x ≤ length x.pages * t.page_size
-    → AreApart x y → k < data_length x → AreOutside t y (get_or (places t x) k 0) 1
+    → AreApart x y → k < data_length x → AreOutside t.page_size y (get_or (places t.page_size x) k 0) 1
 place_outside t x y k some enough apart below i d inside =
     let page = place_page t.page_size x.pages x.offset (data_length x) k some enough below in
-    other_page t.page_size (get_or x.pages page.index 0) (get_or (own_pages y) i d) (get_or (places t x) k 0)
+    other_page t.page_size (get_or x.pages page.index 0) (get_or (own_pages y) i d) (get_or (places t.page_size x) k 0)
     (apart (suc (suc page.index)) 0 (let h = page.is_one in omega arith) i d inside) page.from page.to
 
 -- ---- what stays
 
-pub length-places : (t : Setting) (x : Sent) → length (places t x) ≡ data_length x
+pub length-places : (t : Setting) (x : Sent) → length (places t.page_size x) ≡ data_length x
 unfolding buffer_places
 length-places t x = length-table (data_length x) (buffer_place t.page_size x.pages x.offset)
 
 -- a part that a command's pages are outside of, where its data is written
 pub data_keeps : (t : Setting) (x : Sent) (bytes written : List ℕ) (from n : ℕ) → 0 < t.page_size
-    → x.offset + data_length x ≤ length x.pages * t.page_size → AreOutside t x from n
-    → bytes_at (written_at bytes (places t x) written) from n ≡ bytes_at bytes from n
+    → x.offset + data_length x ≤ length x.pages * t.page_size → AreOutside t.page_size x from n
+    → bytes_at (written_at bytes (places t.page_size x) written) from n ≡ bytes_at bytes from n
 data_keeps t x bytes written from n some enough outside =
-    part_stays bytes (places t x) written from n
+    part_stays bytes (places t.page_size x) written from n
     (λ k h. let size = length-places t x in place_beside t x from n k some enough outside (omega arith))
 
 -- a part beside a completion ring, where a completion is put
@@ -156,7 +156,7 @@ data_read bytes at written same inside distinct =
 -- ---- what a command's pages and one ring change
 
 -- a part of what the pages are outside of
-pub outside_part : (t : Setting) (x : Sent) (from n a k : ℕ) → AreOutside t x from n → from ≤ a → a + k ≤ from + n → AreOutside t x a k
+pub outside_part : (t : Setting) (x : Sent) (from n a k : ℕ) → AreOutside t.page_size x from n → from ≤ a → a + k ≤ from + n → AreOutside t.page_size x a k
 outside_part t x from n a k outside low high i d h =
     elim (outside i d h) [
       | inl before ↦ inl (omega arith)
@@ -166,17 +166,17 @@ outside_part t x from n a k outside low high i d h =
 -- only the pages of x and the n bytes from `base` on are other ones
 abbrev pub ChangesOnlyAt : Setting → Sent → ℕ → ℕ → List ℕ → List ℕ → Type 0
 ChangesOnlyAt t x base n old new =
-    (from k : ℕ) → AreOutside t x from k → IsApart base n from k → bytes_at new from k ≡ bytes_at old from k
+    (from k : ℕ) → AreOutside t.page_size x from k → IsApart base n from k → bytes_at new from k ≡ bytes_at old from k
 
 -- the data of another command stays
 pub data_stays : (t : Setting) (x y : Sent) (base n : ℕ) (old new : List ℕ) → 0 < t.page_size
-    → y.offset + data_length y ≤ length y.pages * t.page_size → ChangesOnlyAt t x base n old new → AreApart y x → AreOutside t y base n
-    → read_at new (places t y) ≡ read_at old (places t y)
+    → y.offset + data_length y ≤ length y.pages * t.page_size → ChangesOnlyAt t x base n old new → AreApart y x → AreOutside t.page_size y base n
+    → read_at new (places t.page_size y) ≡ read_at old (places t.page_size y)
 data_stays t x y base n old new some enough only apart outside =
     let size = length-places t y in
-    read_keeps old new (places t y)
+    read_keeps old new (places t.page_size y)
     (λ k below. let inside : k < data_length y = omega arith in
-    only (get_or (places t y) k 0) 1 (place_outside t y x k some enough apart inside)
+    only (get_or (places t.page_size y) k 0) 1 (place_outside t y x k some enough apart inside)
     (elim (place_beside t y base n k some enough outside inside) [
       | inl before ↦ inl (omega arith)
       | inr behind ↦ inr behind

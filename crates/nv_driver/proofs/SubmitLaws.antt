@@ -27,13 +27,13 @@ length-after : (t : Setting) (w : World) (x : Sent) (ready : List ℕ) → 0 < t
     → length (mem_after t w x ready) ≡ length ready
 length-after t w x ready some inside = length-with_submission ready (submit_ring t (length w.sent) (length w.answers)) (entry x) some inside
 
-changes_only : (t : Setting) (w : World) (x : Sent) (ready : List ℕ) → 0 < t.depth → t.sq + 64 * t.depth ≤ length ready → IsPrepared t x w.mem ready
+changes_only : (t : Setting) (w : World) (x : Sent) (ready : List ℕ) → 0 < t.depth → t.sq + 64 * t.depth ≤ length ready → IsPrepared t.page_size x w.mem ready
     → ChangesOnlyAt t x t.sq (64 * t.depth) w.mem (mem_after t w x ready)
 changes_only t w x ready some inside prepared from n outside apart =
     submission_keeps ready (submit_ring t (length w.sent) (length w.answers)) (entry x) from n some inside apart ∙ prepared.others from n outside
 
 -- a completion slot stays
-completion_stays : (t : Setting) (x : Sent) (old new : List ℕ) (s : ℕ) → ChangesOnlyAt t x t.sq (64 * t.depth) old new → AreOutside t x t.cq (16 * t.depth)
+completion_stays : (t : Setting) (x : Sent) (old new : List ℕ) (s : ℕ) → ChangesOnlyAt t x t.sq (64 * t.depth) old new → AreOutside t.page_size x t.cq (16 * t.depth)
     → t.sq + 64 * t.depth ≤ t.cq → s < t.depth → completion_at new t.cq s ≡ completion_at old t.cq s
 completion_stays t x old new s only outside order below =
     let top : s + 1 ≤ t.depth = omega arith in
@@ -41,7 +41,7 @@ completion_stays t x old new s only outside order below =
     ap cqe_of_bytes (only (t.cq + 16 * s) 16 (outside_part t x t.cq (16 * t.depth) (t.cq + 16 * s) 16 outside (omega arith) (omega arith)) (inr (omega arith)))
 
 -- a submission slot stays while the pages of a command are made ready
-slot_stays : (t : Setting) (x : Sent) (old ready : List ℕ) (s : ℕ) → IsPrepared t x old ready → AreOutside t x t.sq (64 * t.depth) → s < t.depth
+slot_stays : (t : Setting) (x : Sent) (old ready : List ℕ) (s : ℕ) → IsPrepared t.page_size x old ready → AreOutside t.page_size x t.sq (64 * t.depth) → s < t.depth
     → submission_at ready t.sq s ≡ submission_at old t.sq s
 slot_stays t x old ready s prepared outside below =
     let top : s + 1 ≤ t.depth = omega arith in
@@ -50,7 +50,7 @@ slot_stays t x old ready s prepared outside below =
 
 -- ---- the command that is submitted
 
-entry_fits : (t : Setting) (w : World) (x : Sent) (ready : List ℕ) → MaySubmit t w x → IsPrepared t x w.mem ready → SqeFits (entry x)
+entry_fits : (t : Setting) (w : World) (x : Sent) (ready : List ℕ) → MaySubmit t w x → IsPrepared t.page_size x w.mem ready → SqeFits (entry x)
 entry_fits t w x ready may prepared =
     let f = (commands_travel x.command x.cid may.fits may.cid).fits in
     record {
@@ -70,7 +70,7 @@ entry_fits t w x ready may prepared =
       cdw15 = f.cdw15;
     }
 
-own_of : (t : Setting) (s : State) (w : World) (x : Sent) (ready : List ℕ) → Keeps t s w → MaySubmit t w x → IsPrepared t x w.mem ready
+own_of : (t : Setting) (s : State) (w : World) (x : Sent) (ready : List ℕ) → Keeps t s w → MaySubmit t w x → IsPrepared t.page_size x w.mem ready
     → IsOwn t (length w.mem) x
 own_of t s w x ready k may prepared =
     let some : 0 < t.page_size = omega (arith, page_size_bounds t.page_size k.placed.page_size) in
@@ -78,7 +78,7 @@ own_of t s w x ready k may prepared =
       fits = may.fits;
       cid = may.cid;
       enough = may.buffer.enough;
-      inside = λ i below. inside_page (get_or (places t x) i 0) (place_page t.page_size x.pages x.offset (data_length x) i some may.buffer.enough below);
+      inside = λ i below. inside_page (get_or (places t.page_size x) i 0) (place_page t.page_size x.pages x.offset (data_length x) i some may.buffer.enough below);
       distinct = buffer_distinct t.page_size x.pages x.offset (data_length x) some may.buffer.enough (rest_distinct x.first x.second x.pages may.distinct);
       submissions = may.submissions;
       completions = may.completions;
@@ -118,7 +118,7 @@ apart_more t low xs x each last n m d from later below =
           (subst (AreApart (get_or xs n d)) (sym (get_or_push xs x d m (omega arith))) (last n d from early))
     ]
 
-submitted : (t : Setting) (s : State) (x : Sent) (w : World) (ready : List ℕ) → Keeps t s w → MaySubmit t w x → IsPrepared t x w.mem ready
+submitted : (t : Setting) (s : State) (x : Sent) (w : World) (ready : List ℕ) → Keeps t s w → MaySubmit t w x → IsPrepared t.page_size x w.mem ready
     → Keeps t s (record w { mem = mem_after t w x ready; sent = w.sent ++ x ∷ [] })
 submitted t s x w ready k may prepared =
     let c = k.counts in
@@ -165,11 +165,11 @@ submitted t s x w ready k may prepared =
       tags = λ slot below. ap (λ e. e.phase) (completion_stays t x w.mem new slot only may.completions p.rings below) ∙ k.tags slot below;
       answers = k.answers ∙ sym (ap (take (length w.answers)) further ∙ take-append-le (length w.answers) all rest (omega (arith, c.collected, c.done, c.rung)));
       others = λ from i apart.
-          only from i (subst (λ y. AreOutside t y from i) (get_or_push w.sent x x m refl) (apart.pages m x (omega arith))) apart.submissions
+          only from i (subst (λ y. AreOutside t.page_size y from i) (get_or_push w.sent x x m refl) (apart.pages m x (omega arith))) apart.submissions
           ∙ k.others from i (record {
             submissions = apart.submissions;
             completions = apart.completions;
-            pages = λ j d low. subst (λ y. AreOutside t y from i) (get_or_append_left w.sent (x ∷ []) d j low) (apart.pages j d (omega arith));
+            pages = λ j d low. subst (λ y. AreOutside t.page_size y from i) (get_or_append_left w.sent (x ∷ []) d j low) (apart.pages j d (omega arith));
           });
     }
 

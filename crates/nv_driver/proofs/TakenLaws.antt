@@ -52,12 +52,12 @@ pub record IsDone (t : Setting) (w : World) (x : Sent) (y : Scene) : Type 0 wher
   pub state : y.state ≡ (step w.state t.controller x.command x.cid).state
   pub rings : y.rings ≡ device_rings t w.rung (w.done + 1) w.told
   pub moved : List ℕ
-  pub moves : Moves (step w.state t.controller x.command x.cid).answer (places t x) w.mem moved
+  pub moves : Moves (step w.state t.controller x.command x.cid).answer (places t.page_size x) w.mem moved
   pub bytes : y.bytes ≡ with_completion moved (now t w).completion
       (completion_with x.cid (slot t (w.done + 1)) (step w.state t.controller x.command x.cid).answer)
 
 done_by : (t : Setting) (w : World) (x : Sent) (y : Scene) (e : Sqe) (found : Result Call StatusCode) → e ≡ entry x
-    → found ≡ Ok (record { command = x.command; places = places t x })
+    → found ≡ Ok (record { command = x.command; places = places t.page_size x })
     → y.state ≡ (step_unless found w.state t.controller e).state
     → y.rings ≡ device_rings t w.rung (w.done + 1) w.told
     → (moved : List ℕ) → Moves (step_unless found w.state t.controller e).answer (places_in found) w.mem moved
@@ -70,7 +70,7 @@ done_by t w x y e found is call state rings moved moves bytes =
       state = state ∙ ap (λ (p : Step). p.state) both;
       rings = rings;
       moved = moved;
-      moves = subst (λ (p : Step). Moves p.answer (places t x) w.mem moved) both
+      moves = subst (λ (p : Step). Moves p.answer (places t.page_size x) w.mem moved) both
           (subst (λ (f : Result Call StatusCode). Moves (step_unless found w.state t.controller e).answer (places_in f) w.mem moved) call moves);
       bytes = bytes ∙ ap (λ (p : Step). with_completion moved (now t w).completion (completion_with e.cid (slot t (w.done + 1)) p.answer)) both
           ∙ ap (λ (q : Sqe). with_completion moved (now t w).completion
@@ -96,18 +96,18 @@ is_done t s w y d k below one =
 -- ---- the memory
 
 -- the places of a command's data, and what is moved there
-pub moved_length : (t : Setting) (x : Sent) (a : Answer) (old moved : List ℕ) → Moves a (places t x) old moved → length moved ≡ length old
-moved_length t x (Ok r) old moved moves = ap (λ (m : List ℕ). length m) moves ∙ length-written_at old (places t x) (data_of r)
+pub moved_length : (t : Setting) (x : Sent) (a : Answer) (old moved : List ℕ) → Moves a (places t.page_size x) old moved → length moved ≡ length old
+moved_length t x (Ok r) old moved moves = ap (λ (m : List ℕ). length m) moves ∙ length-written_at old (places t.page_size x) (data_of r)
 moved_length t x (Err status) old moved moves = ap (λ (m : List ℕ). length m) moves
 
 pub moved_keeps : (t : Setting) (x : Sent) (a : Answer) (old moved : List ℕ) (from n : ℕ) → 0 < t.page_size
-    → x.offset + data_length x ≤ length x.pages * t.page_size → Moves a (places t x) old moved → AreOutside t x from n
+    → x.offset + data_length x ≤ length x.pages * t.page_size → Moves a (places t.page_size x) old moved → AreOutside t.page_size x from n
     → bytes_at moved from n ≡ bytes_at old from n
 moved_keeps t x (Ok r) old moved from n some enough moves outside = ap (λ m. bytes_at m from n) moves ∙ data_keeps t x old (data_of r) from n some enough outside
 moved_keeps t x (Err status) old moved from n some enough moves outside = ap (λ m. bytes_at m from n) moves
 
 pub moved_slot : (t : Setting) (x : Sent) (a : Answer) (old moved : List ℕ) (s : ℕ) → 0 < t.page_size
-    → x.offset + data_length x ≤ length x.pages * t.page_size → Moves a (places t x) old moved → AreOutside t x t.cq (16 * t.depth) → s < t.depth
+    → x.offset + data_length x ≤ length x.pages * t.page_size → Moves a (places t.page_size x) old moved → AreOutside t.page_size x t.cq (16 * t.depth) → s < t.depth
     → completion_at moved t.cq s ≡ completion_at old t.cq s
 moved_slot t x a old moved s some enough moves outside below =
     let top : s + 1 ≤ t.depth = omega arith in
@@ -116,10 +116,10 @@ moved_slot t x a old moved s some enough moves outside below =
     (outside_part t x t.cq (16 * t.depth) (t.cq + 16 * s) 16 outside (omega arith) (omega arith)))
 
 -- the data of a command's reply lies at its places, also after its completion was put
-pub delivered : (t : Setting) (x : Sent) (a : Answer) (old moved new : List ℕ) → IsAnswerTo x.command a → Moves a (places t x) old moved
-    → IsOwn t (length old) x → read_at new (places t x) ≡ read_at moved (places t x) → Delivers t x new a
+pub delivered : (t : Setting) (x : Sent) (a : Answer) (old moved new : List ℕ) → IsAnswerTo x.command a → Moves a (places t.page_size x) old moved
+    → IsOwn t (length old) x → read_at new (places t.page_size x) ≡ read_at moved (places t.page_size x) → Delivers t x new a
 delivered t x (Ok r) old moved new is moves own same =
     let size = length-places t x in
-    same ∙ ap (λ m. read_at m (places t x)) moves
-    ∙ data_read old (places t x) (data_of r) (size ∙ reply_length x r is) (λ i below. own.inside i (omega arith)) own.distinct
+    same ∙ ap (λ m. read_at m (places t.page_size x)) moves
+    ∙ data_read old (places t.page_size x) (data_of r) (size ∙ reply_length x r is) (λ i below. own.inside i (omega arith)) own.distinct
 delivered t x (Err status) old moved new is moves own same = tt

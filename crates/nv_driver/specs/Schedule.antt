@@ -128,8 +128,8 @@ abbrev pub AreApart : Sent → Sent → Type 0
 AreApart x y = All (λ p. All (λ q. p ≢ q) (own_pages y)) (own_pages x)
 
 -- n bytes share none with the pages
-abbrev pub AreOutside : Setting → Sent → ℕ → ℕ → Type 0
-AreOutside t x from n = All (λ p. IsOutside t.page_size p from n) (own_pages x)
+abbrev pub AreOutside : ℕ → Sent → ℕ → ℕ → Type 0
+AreOutside page_size x from n = All (λ p. IsOutside page_size p from n) (own_pages x)
 
 -- The ring has a free slot; the command fits its bits; its pages hold its data, and are distinct, of no ring and of no
 -- outstanding command.
@@ -140,39 +140,39 @@ pub record MaySubmit (t : Setting) (w : World) (x : Sent) : Type 0 where
   pub buffer : IsBuffer w.mem t.page_size x.pages x.offset (data_length x)
   pub list : IsListPlace w.mem t.page_size x.first x.second x.list_offset
   pub distinct : AreDistinct (own_pages x)
-  pub submissions : AreOutside t x t.sq (64 * t.depth)
-  pub completions : AreOutside t x t.cq (16 * t.depth)
+  pub submissions : AreOutside t.page_size x t.sq (64 * t.depth)
+  pub completions : AreOutside t.page_size x t.cq (16 * t.depth)
   pub apart : (n : ℕ) (d : Sent) → length w.answers ≤ n → n < length w.sent → AreApart (slice_index_or w.sent n d) x
 
 -- the command's pages were made ready, and its data pointer names the places of its data
-pub record IsPrepared (t : Setting) (x : Sent) (old new : List ℕ) : Type 0 where
-  pub others : (from n : ℕ) → AreOutside t x from n → bytes_at new from n ≡ bytes_at old from n
+pub record IsPrepared (page_size : ℕ) (x : Sent) (old new : List ℕ) : Type 0 where
+  pub others : (from n : ℕ) → AreOutside page_size x from n → bytes_at new from n ≡ bytes_at old from n
   pub len : length new ≡ length old
   pub prp1 : x.prp1 < 2 ^ 64
   pub prp2 : x.prp2 < 2 ^ 64
-  pub legal : IsLegal (transfer t.page_size new x.prp1 x.prp2 (data_length x))
+  pub legal : IsLegal (transfer page_size new x.prp1 x.prp2 (data_length x))
   pub places : (i : ℕ) → i < data_length x
-      → place_of (transfer t.page_size new x.prp1 x.prp2 (data_length x)) i ≡ buffer_place t.page_size x.pages x.offset i
+      → place_of (transfer page_size new x.prp1 x.prp2 (data_length x)) i ≡ buffer_place page_size x.pages x.offset i
 
 -- ---- collecting
 
 -- where the data of a command lies
-abbrev pub places : Setting → Sent → List ℕ
-places t x = buffer_places t.page_size x.pages x.offset (data_length x)
+abbrev pub places : ℕ → Sent → List ℕ
+places page_size x = buffer_places page_size x.pages x.offset (data_length x)
 
 abbrev pub is_success : Status → Bool
 is_success status = status.sct == 0 && status.sc == 0
 
 -- what a completion and the data in the command's pages say
-abbrev pub answer_read : Setting → Sent → List ℕ → Cqe → Answer
-answer_read t x mem completion =
-    if is_success completion.status then Ok (reply_in x.command completion.command_specific (read_at mem (places t x))) else Err completion.status
+abbrev pub answer_read : ℕ → Sent → List ℕ → Cqe → Answer
+answer_read page_size x mem completion =
+    if is_success completion.status then Ok (reply_in x.command completion.command_specific (read_at mem (places page_size x))) else Err completion.status
 
 abbrev pub awaited : Setting → World → CollectNumbers
 awaited t w = collect_ring t (length w.answers) w.told
 
 abbrev pub answer_awaited : Setting → World → Sent → Answer
-answer_awaited t w x = answer_read t x w.mem (awaited_completion w.mem (awaited t w))
+answer_awaited t w x = answer_read t.page_size x w.mem (awaited_completion w.mem (awaited t w))
 
 -- ---- events
 
@@ -187,7 +187,7 @@ pub data Event : Type 0 where
 abbrev pub Happens : Setting → Event → World → World → Type 0
 Happens t (Submit x) w w' =
     MaySubmit t w x
-    × (ready : List ℕ) × IsPrepared t x w.mem ready
+    × (ready : List ℕ) × IsPrepared t.page_size x w.mem ready
     × (w' ≡ record w { mem = with_submission ready (submit_ring t (length w.sent) (length w.answers)) (entry x); sent = w.sent ++ x ∷ [] })
 Happens t Bell w w' =
     w' ≡ record w { port = with_register_at w.port 0x1000 (slot t (length w.sent)); rung = length w.sent }
@@ -228,7 +228,7 @@ pub record IsIdle (t : Setting) (w : World) : Type 0 where
 
 -- the completion and the pages of command n hold its answer, under its command identifier and with the head after it
 pub record Holds (t : Setting) (s : State) (w : World) (n : ℕ) (x : Sent) : Type 0 where
-  pub answer : (d : Answer) → answer_read t x w.mem (completion_at w.mem t.cq (slot t n)) ≡ slice_index_or (answers_to t.controller s w.sent) n d
+  pub answer : (d : Answer) → answer_read t.page_size x w.mem (completion_at w.mem t.cq (slot t n)) ≡ slice_index_or (answers_to t.controller s w.sent) n d
   pub cid : (completion_at w.mem t.cq (slot t n)).cid ≡ x.cid
   pub head : (completion_at w.mem t.cq (slot t n)).sq_head ≡ slot t (n + 1)
 
@@ -236,7 +236,7 @@ pub record Holds (t : Setting) (s : State) (w : World) (n : ℕ) (x : Sent) : Ty
 pub record AreOthers (t : Setting) (sent : List Sent) (from n : ℕ) : Type 0 where
   pub submissions : IsApart t.sq (64 * t.depth) from n
   pub completions : IsApart t.cq (16 * t.depth) from n
-  pub pages : (i : ℕ) (d : Sent) → i < length sent → AreOutside t (slice_index_or sent i d) from n
+  pub pages : (i : ℕ) (d : Sent) → i < length sent → AreOutside t.page_size (slice_index_or sent i d) from n
 
 -- The collected answers are the first of those that the commands have one at a time, and the subsystem is that after
 -- the commands that were done. An answer is held from its command's turn on until it is collected. Bytes that lie in no
