@@ -59,7 +59,7 @@ told_is : (t : Setting) (done told k : ℕ) → told ≤ k → k ≤ done → do
     ≡ record { base = t.cq; depth = t.depth; posted = number t done; told = number t k }
 told_is t done told k l m h =
     let between : IsSlotBetween t.depth (number t told) (number t done) (slot t k) =
-        between_kept t.depth (t.start + told) (k - told) (done - told) (t.start + k) (t.start + done) (omega arith) (omega arith) (omega arith) (omega arith) in
+    between_kept t.depth (t.start + told) (k - told) (done - told) (t.start + k) (t.start + done) (omega arith) (omega arith) (omega arith) (omega arith) in
     let first = first_kept t.depth (t.start + k) (t.start + told) (k - told) (omega arith) (omega arith) in
     let is_slot : nat_lt (slot t k) t.depth ≡ true = grind (arith, nat_tests, between.0) in
     let is_near : nat_le (ahead t.depth (number t told) (slot t k)) (above t.depth (number t done) (number t told)) ≡ true = grind (arith, nat_tests, between.1) in

@@ -74,24 +74,24 @@ one_more t s w y d k waits free one =
     let size : length one.moved ≡ length w.mem = moved_length t x a w.mem one.moved one.moves in
     let inside : t.cq + 16 * t.depth ≤ length one.moved = omega (arith, p.inside) in
     let len : length y.bytes ≡ length w.mem =
-        ap (λ (m : List ℕ). length m) one.bytes ∙ length-with_completion one.moved ring posted (omega (arith, deep.0)) inside ∙ size in
+    ap (λ (m : List ℕ). length m) one.bytes ∙ length-with_completion one.moved ring posted (omega (arith, deep.0)) inside ∙ size in
     let written : WritesCompletion one.moved y.bytes t.cq t.depth (slot t n) (posted_as t.depth (number t n) posted) =
-        subst (λ m. WritesCompletion one.moved m t.cq t.depth (slot t n) (posted_as t.depth (number t n) posted)) (sym one.bytes)
-        (put_written one.moved ring posted (omega (arith, deep.0)) inside fits) in
+    subst (λ m. WritesCompletion one.moved m t.cq t.depth (slot t n) (posted_as t.depth (number t n) posted)) (sym one.bytes)
+    (put_written one.moved ring posted (omega (arith, deep.0)) inside fits) in
     let only : ChangesOnlyAt t x t.cq (16 * t.depth) w.mem y.bytes = λ from i outside apart.
-        ap (λ m. bytes_at m from i) one.bytes ∙ completion_keeps one.moved ring posted from i (omega (arith, deep.0)) inside apart
-        ∙ moved_keeps t x a w.mem one.moved from i some own.enough one.moves outside in
+    ap (λ m. bytes_at m from i) one.bytes ∙ completion_keeps one.moved ring posted from i (omega (arith, deep.0)) inside apart
+    ∙ moved_keeps t x a w.mem one.moved from i some own.enough one.moves outside in
     let there : completion_at y.bytes t.cq (slot t n) ≡ posted_as t.depth (number t n) posted = written.here in
     let same_slot = λ (j : ℕ) (low : j < t.depth). moved_slot t x a w.mem one.moved j some own.enough one.moves own.completions low in
     let beside = λ (j : ℕ) (low : j < length (places t.page_size x)).
-        let data_size = length-places t x in
-        place_apart (get_or (places t.page_size x) j 0) t.cq (16 * t.depth)
-        (place_beside t x t.cq (16 * t.depth) j some own.enough own.completions (omega arith)) in
+    let data_size = length-places t x in
+    place_apart (get_or (places t.page_size x) j 0) t.cq (16 * t.depth)
+    (place_beside t x t.cq (16 * t.depth) j some own.enough own.completions (omega arith)) in
     let same_data = read_keeps one.moved y.bytes (places t.page_size x)
-        (λ j low. ap (λ m. bytes_at m (get_or (places t.page_size x) j 0) 1) one.bytes
-        ∙ completion_keeps one.moved ring posted (get_or (places t.page_size x) j 0) 1 (omega (arith, deep.0)) inside (beside j low)) in
+    (λ j low. ap (λ m. bytes_at m (get_or (places t.page_size x) j 0) 1) one.bytes
+    ∙ completion_keeps one.moved ring posted (get_or (places t.page_size x) j 0) 1 (omega (arith, deep.0)) inside (beside j low)) in
     let is_answer = λ (b : Answer).
-        answer_at t.controller s w.sent n d b below ∙ ap (λ (q : State). (step q t.controller x.command x.cid).answer) (sym k.state) in
+    answer_at t.controller s w.sent n d b below ∙ ap (λ (q : State). (step q t.controller x.command x.cid).answer) (sym k.state) in
     let held_now : Holds t s (world_after t w y) n x = record {
       answer = λ b. ap (answer_read t.page_size x y.bytes) there
           ∙ answer_back t x y.bytes t.depth (number t n) x.cid (slot t (n + 1)) a sound

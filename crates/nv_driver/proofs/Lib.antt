@@ -1,4 +1,5 @@
 pub mod PageSetLaws
+pub mod SubmittingLaws
 pub mod SerialLaws
 pub mod CountLaws
 pub mod RegionLaws

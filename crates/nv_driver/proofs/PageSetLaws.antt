@@ -84,7 +84,7 @@ pub taking_more : (s now next : Pages) (ps : List ℕ) (p : ℕ) → Taking s no
 taking_more s now next ps p t there own is =
     let members = ap (λ (x : Pages). x.members) t.left in
     let found : (set.contains s.members p && not (is_in ps p)) ≡ true =
-        sym (difference_in s.members ps p) ∙ ap (λ m. set.contains m p) (sym members) ∙ there in
+    sym (difference_in s.members ps p) ∙ ap (λ m. set.contains m p) (sym members) ∙ there in
     let parts = both (set.contains s.members p) (is_in ps p) found in
     let fewer = ap (λ (x : Pages). set.len x.members) is ∙ set.len-remove nat_cmp_total now.members p in
     record {
@@ -146,7 +146,7 @@ pub taking_next : (s now new : Pages) (ps : List ℕ) (r : Option ℕ) (p : ℕ)
     → IfSome r (λ q. IsOf now.first now.count q) → Taking s new (ps ++ p ∷ [])
 taking_next s now new ps r p t is found own =
     let one = subst (λ (o : Option ℕ). MatchOption o ((now.members ≡ set.empty) × (new ≡ now))
-        (λ q. (set.contains now.members q ≡ true) × (new ≡ record now { members = set.remove now.members q }))) is found in
+    (λ q. (set.contains now.members q ≡ true) × (new ≡ record now { members = set.remove now.members q }))) is found in
     let of_now : IsOf now.first now.count p = subst (λ (o : Option ℕ). IfSome o (λ q. IsOf now.first now.count q)) is own in
     let of_all : IsOf s.first s.count p = subst (λ (x : Pages). IsOf x.first x.count p) t.left of_now in
     taking_more s now new ps p t one.0 of_all one.1
@@ -189,8 +189,8 @@ not_given s now pages at is below none distinct =
     let p = get_or pages at 0 in
     let size = length-take at pages in
     let earlier = not_in (take at pages) p
-        (λ i d h same. let low : i < at = omega arith in
-        distinct i at d low below (sym (get_or-take at pages i d low) ∙ same ∙ get_or_default pages at 0 d below)) in
+    (λ i d h same. let low : i < at = omega arith in
+    distinct i at d low below (sym (get_or-take at pages i d low) ∙ same ∙ get_or_default pages at 0 d below)) in
     ap (λ (x : Pages). set.contains x.members p) is ∙ union_in s.members (take at pages) p
     ∙ neither (set.contains s.members p) (is_in (take at pages) p) (none at 0 below) earlier
   where

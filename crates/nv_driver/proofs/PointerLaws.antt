@@ -1,42 +1,53 @@
 -- A command whose pages were made ready: what a controller finds of its entry.
-use Rattle.std.proofs.Common.{◌≡◌, ◌∙◌, ◌/◌, ◌%◌, ◌^◌, ℕ, refl, inl, inr, zero, suc, ◌+◌, ◌*◌, ◌<◌, ◌≤◌, ◌==◌, false, List, [], None, Ok, ap, arith, length, nat_lt, sym, if◌then◌else◌}
+use Rattle.std.proofs.Common.{subst, ◌≡◌, ◌∙◌, ◌/◌, ◌%◌, ◌^◌, ℕ, refl, inl, inr, zero, suc, ◌+◌, ◌*◌, ◌<◌, ◌≤◌, ◌==◌, false, List, [], None, Ok, ap, arith, length, nat_lt, sym, if◌then◌else◌}
 use Rattle.std.proofs.lemmas.Bool.Decides.{nat_tests}
 use Rattle.std.proofs.Math.Nat.{mul-le-mul_right}
 use Rattle.std.proofs.lemmas.Bool.{cases_lt}
 use Rattle.std.proofs.lemmas.Grind.{div_ceil_times}
 use Rattle.std.proofs.lemmas.Nat.{mod_below}
+use Rattle.std.specs.Int.{div_ceil}
 use Rattle.nv_host.specs.Pages.{IsPageSize}
 use Rattle.nv_host.specs.PageLaws.{page_size_bounds}
 use Rattle.nv_prp.specs.Buffer.{buffer_place, buffer_places}
 use Rattle.nv_prp.specs.PlaceLaws.{table-same}
 use Rattle.nv_prp.specs.Transfer.{IsLegal, Transfer, data_pages, entry_fault, offset, page_base, place_of, prp2_fault, qwords, transfer, transfer_places}
-use Rattle.nv_command.specs.Command.{CommandFits}
+use Rattle.nv_command.specs.Command.{CommandFits, transfer_by}
 use Rattle.nv_layout.specs.declared.sqe.Sqe.{Sqe}
 use Rattle.nv_command.specs.Decoding.{command_of, transfer_of}
 use Rattle.nv_command.specs.Identify.{identify_data}
 use Rattle.nv_command.specs.TravelLaws.{commands_travel}
 use Rattle.nv_command.specs.declared.command.Command.{Command}
+use Rattle.nv_command.specs.declared.transfer.Transfer.{Transfer as Moves}
 use Rattle.nv_controller.specs.Call.{call_of, length_of, places_of}
 use Rattle.nv_controller.proofs.CallLaws.{legal_places, transfer_by-page}
 use Rattle.nv_driver.specs.Schedule.{IsPrepared, Sent, Setting, data_length, entry, places}
 
 -- ---- a page of data lies in two pages at most, and its transfer needs nothing of the memory but its size
 
-few : (pages size bytes : ℕ) → pages * size < bytes + size → bytes < 2 * size → nat_lt 2 pages ≡ false
+few : (pages size bytes : ℕ) → pages * size < bytes + size → bytes < 2 * size → pages ≤ 2
 few pages size bytes l h =
     elim (cases_lt 2 pages) [
       | inl more ↦
           let least : 3 ≤ pages = omega arith in
           let times = mul-le-mul_right size least in absurd (omega arith)
-      | inr less ↦ grind (arith, nat_tests, less)
+      | inr less ↦ omega arith
     ]
+
+-- in how many pages a page of data lies
+pub two_pages : (from len size pages : ℕ) → IsPageSize size → from < size → len ≤ 4096 → pages ≡ div_ceil (from + len) size
+    → (from + len ≤ pages * size) × (pages ≤ 2)
+two_pages from len size pages is low most same =
+    let bounds = page_size_bounds size is in
+    let times = div_ceil_times (from + len) size (omega (arith, bounds)) in
+    (subst (λ n. from + len ≤ n * size) (sym same) times.0, few pages size (from + len) (subst (λ n. n * size < from + len + size) (sym same) times.1) (omega (arith, bounds)))
 
 short : (t : Transfer) → IsPageSize t.page_size → t.len ≡ 4096 → nat_lt 2 (data_pages t) ≡ false
 short t is len =
     let size = page_size_bounds t.page_size is in
     let near = mod_below t.prp1 t.page_size (omega (arith, size)) in
     let times = div_ceil_times (offset t + t.len) t.page_size (omega (arith, size)) in
-    few (data_pages t) t.page_size (offset t + t.len) times.1 (omega (arith, size))
+    let two = few (data_pages t) t.page_size (offset t + t.len) times.1 (omega (arith, size)) in
+    grind (arith, nat_tests, two)
 
 base_same : (a b : Transfer) (j : ℕ) → nat_lt 2 (data_pages a) ≡ false → nat_lt 2 (data_pages b) ≡ false → a.page_size ≡ b.page_size
     → a.prp1 ≡ b.prp1 → a.prp2 ≡ b.prp2 → page_base a j ≡ page_base b j
@@ -101,3 +112,7 @@ entry_call t x old ready mem is fits cid prepared same =
     let found = legal_places (over now mem) (places t.page_size x) (legal_over now mem is page same prepared.legal) named in
     call_by (entry x) (places t.page_size x) x.command t.page_size mem (data_length x) (arrives.transfer x.prp1 x.prp2 ∙ ap Ok (transfer_by-page x.command)) page
     found (arrives.command x.prp1 x.prp2)
+
+-- the data of a command by its way
+pub transfer_length : (k : Command) (m : Moves) → m ≡ transfer_by k → m ≡ identify_data
+transfer_length k m e = e ∙ transfer_by-page k

@@ -65,7 +65,7 @@ done_by : (t : Setting) (w : World) (x : Sent) (y : Scene) (e : Sqe) (found : Re
     → IsDone t w x y
 done_by t w x y e found is call state rings moved moves bytes =
     let both : step_unless found w.state t.controller e ≡ step w.state t.controller x.command x.cid =
-        ap (λ (f : Result Call StatusCode). step_unless f w.state t.controller e) call ∙ ap (λ (q : Sqe). step w.state t.controller x.command q.cid) is in
+    ap (λ (f : Result Call StatusCode). step_unless f w.state t.controller e) call ∙ ap (λ (q : Sqe). step w.state t.controller x.command q.cid) is in
     record {
       state = state ∙ ap (λ (p : Step). p.state) both;
       rings = rings;

@@ -102,8 +102,8 @@ by_rings t s w most count z k turn =
     let last = turn.0 in
     let reached = taken_keep t s count w last k turn.2.entries in
     let far : reaches last.rings t.page_size (length last.bytes) ≡ true =
-        ap (λ r. reaches r t.page_size (length last.bytes)) reached.rings
-        ∙ reaches_all t (length last.bytes) w.rung (w.done + count) w.told reached.keeps.placed in
+    ap (λ r. reaches r t.page_size (length last.bytes)) reached.rings
+    ∙ reaches_all t (length last.bytes) w.rung (w.done + count) w.told reached.keeps.placed in
     let stop = turn.2.stop in
     let well : turn.1 ≡ false = not_fatal (reaches last.rings t.page_size (length last.bytes)) turn.1 (λ e. (stop.2 e).1) far in
     record {

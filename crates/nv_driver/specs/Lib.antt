@@ -8,3 +8,4 @@ pub mod Driver
 pub mod Registers
 pub mod CommandPages
 pub mod Schedule
+pub mod Submitting

@@ -196,7 +196,7 @@ Happens t (Turn most) w w' =
     × (w' ≡ record w { mem = w'.mem; state = w'.state; port = w'.port; done = w.done + count })
 Happens t Collect w w' =
     (IsAwaitedThere w.mem (awaited t w) × (d : Sent)
-        × (w' ≡ record w { answers = w.answers ++ answer_awaited t w (slice_index_or w.sent (length w.answers) d) ∷ [] }))
+    × (w' ≡ record w { answers = w.answers ++ answer_awaited t w (slice_index_or w.sent (length w.answers) d) ∷ [] }))
     ⊎ ((¬ IsAwaitedThere w.mem (awaited t w)) × (w' ≡ w))
 Happens t Tell w w' =
     w' ≡ record w { port = with_register_at w.port 0x1004 (slot t (length w.answers)); told = length w.answers }

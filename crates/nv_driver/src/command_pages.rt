@@ -1,6 +1,6 @@
 //! The pages that one command has in the host's memory.
 
-ghost use Rattle.std.specs.Prelude.{◌≡◌, ◌≢◌, ◌+◌, ◌≤◌, All, AllPairs, false, slice_index};
+ghost use Rattle.std.specs.Prelude.{◌≡◌, ◌≢◌, ◌+◌, ◌≤◌, All, AllPairs, false, length, slice_index};
 ghost use Rattle.std.specs.FinSet as set;
 ghost use Rattle.nv_host.specs.PageSets.{IsOf};
 ghost use Rattle.nv_driver.specs.CommandPages.{AreTaken, all_pages, data_pages, with_pages, without};
@@ -26,6 +26,7 @@ impl CommandPages {
         requires few { data_pages ≤ 5 }
         requires enough { data_pages + 2 ≤ set.len free.old.members }
         ensures count { result.data_pages ≡ data_pages }
+        ensures seven { length result.numbers ≡ 7 }
         ensures taken { AreTaken free.old (all_pages result) }
         ensures set { free.new ≡ without free.old (all_pages result) }
         ensures len { set.len free.new.members + (data_pages + 2) ≡ set.len free.old.members }

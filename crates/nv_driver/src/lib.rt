@@ -22,6 +22,7 @@ mod geometry_field;
 mod lane;
 mod law;
 mod layout;
+mod submitting;
 #[cfg(test)]
 mod tests;
 
