@@ -5,15 +5,11 @@ use Rattle.nv_prp.specs.Place.{read_at}
 use Rattle.nv_queue.specs.Slots.{completion_at}
 use Rattle.nv_command.specs.Reply.{reply_in}
 use Rattle.nv_subsystem.specs.State.{State}
-use Rattle.nv_driver.specs.Schedule.{Answer, Holds, Sent, Setting, World, answer_read, answers_to, is_success, places, slot}
-
-answer_from : Sent → Cqe → List ℕ → Answer
-answer_from x c bytes = if is_success c.status then Ok (reply_in x.command c.command_specific bytes) else Err c.status
+use Rattle.nv_driver.specs.Schedule.{Answer, Holds, Sent, Setting, World, answer_from, answer_read, answers_to, is_success, places, slot}
 
 pub answer_same : (t : Setting) (x : Sent) (old new : List ℕ) (c e : Cqe) → e ≡ c → read_at new (places t.page_size x) ≡ read_at old (places t.page_size x)
     → answer_read t.page_size x new e ≡ answer_read t.page_size x old c
-unfolding answer_from
-answer_same t x old new c e same bytes = ap (λ r. answer_from x r (read_at new (places t.page_size x))) same ∙ ap (answer_from x c) bytes
+answer_same t x old new c e same bytes = ap (λ r. answer_from x.command r (read_at new (places t.page_size x))) same ∙ ap (answer_from x.command c) bytes
 
 pub holds_on : (t : Setting) (s : State) (w v : World) (n : ℕ) (x : Sent) → completion_at v.mem t.cq (slot t n) ≡ completion_at w.mem t.cq (slot t n)
     → read_at v.mem (places t.page_size x) ≡ read_at w.mem (places t.page_size x)

@@ -163,10 +163,14 @@ places page_size x = buffer_places page_size x.pages x.offset (data_length x)
 abbrev pub is_success : Status → Bool
 is_success status = status.sct == 0 && status.sc == 0
 
--- what a completion and the data in the command's pages say
+-- what a completion and the command's data say
+abbrev pub answer_from : Command → Cqe → List ℕ → Answer
+answer_from k completion bytes =
+    if is_success completion.status then Ok (reply_in k completion.command_specific bytes) else Err completion.status
+
+-- where the data lies in the command's pages
 abbrev pub answer_read : ℕ → Sent → List ℕ → Cqe → Answer
-answer_read page_size x mem completion =
-    if is_success completion.status then Ok (reply_in x.command completion.command_specific (read_at mem (places page_size x))) else Err completion.status
+answer_read page_size x mem completion = answer_from x.command completion (read_at mem (places page_size x))
 
 abbrev pub awaited : Setting → World → CollectNumbers
 awaited t w = collect_ring t (length w.answers) w.told

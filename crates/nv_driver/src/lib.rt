@@ -13,6 +13,7 @@
 //! Sections are named as in the NVM Express Base Specification, revision 1.4.
 #![tactic(auto)]
 
+mod answering;
 mod command_pages;
 mod driver;
 mod enabling;
@@ -26,6 +27,7 @@ mod submitting;
 #[cfg(test)]
 mod tests;
 
+pub use answering::Answer;
 pub use driver::Driver;
 pub use error::DriverError;
 pub use geometry::Geometry;

@@ -62,7 +62,7 @@ pub fn submit<M: HostMemory>(
     requires page { M.page_len mem.old ≡ geometry.page_size }
     requires fits { CommandFits command.now }
     requires serial { lane.old.serial < SERIALS }
-    requires pages { 7 ≤ set.len lane.old.pages.members }
+    requires pages { 4 ≤ set.len lane.old.pages.members }
     requires inside { (lane.old.pages.first + lane.old.pages.count) * geometry.page_size
         ≤ length (M.bytes mem.old) }
     requires ring { lane.old.submission.base + 64 * lane.old.submission.depth
