@@ -18,7 +18,7 @@ use Rattle.nv_driver.proofs.SerialLaws.{length-answers}
 
 -- ---- the beginning
 
-number_zero : (t : Setting) → t.start < 2 * t.depth → t.start ≡ number t 0
+pub number_zero : (t : Setting) → t.start < 2 * t.depth → t.start ≡ number t 0
 unfolding kept_number
 number_zero t h = let sum : t.start + 0 ≡ t.start = omega arith in sym (ap (λ n. n % (2 * t.depth)) sum ∙ mod-eq_of_lt h)
 

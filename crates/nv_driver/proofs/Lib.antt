@@ -1,5 +1,6 @@
 pub mod PageSetLaws
 pub mod SubmittingLaws
+pub mod ExchangeLaws
 pub mod SerialLaws
 pub mod CountLaws
 pub mod RegionLaws

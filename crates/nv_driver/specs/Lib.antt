@@ -9,3 +9,4 @@ pub mod Registers
 pub mod CommandPages
 pub mod Schedule
 pub mod Submitting
+pub mod Exchange

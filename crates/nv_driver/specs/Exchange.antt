@@ -1,0 +1,36 @@
+-- One command of a driver and its answer.
+use Rattle.std.specs.Prelude.{◌≡◌, ℕ, ◌-◌, ◌<◌, ◌≤◌, List, length}
+use Rattle.nv_host.specs.Bytes.{bytes_at}
+use Rattle.nv_prp.specs.Buffer.{IsApart}
+use Rattle.nv_queue.specs.Numbers.{next}
+use Rattle.nv_queue.specs.Slots.{HoldsTags}
+use Rattle.nv_subsystem.specs.Step.{next_serial}
+use Rattle.nv_controller.specs.Bus.{BusValue, IsBus, port_at}
+use Rattle.nv_driver.specs.Geometry.{IsGeometry}
+use Rattle.nv_driver.specs.Lane.{IsLaid, Lane, idle_port}
+use Rattle.nv_driver.specs.Quiet.{IsQuiet, lane_value}
+use Rattle.nv_driver.specs.Registers.{mps_of}
+use Rattle.nv_driver.specs.Settled.{end_of}
+use Rattle.nv_driver.specs.declared.geometry.Geometry.{Geometry}
+use Rattle.nv_driver.specs.declared.lane.Lane.{Lane as LaneFields}
+
+-- controller c of a bus and a quiet lane of it, in a memory that holds the tags that are due
+pub record IsReady (g : Geometry) (b : BusValue) (c : ℕ) (l : LaneFields) (now : ℕ) (bytes : List ℕ) : Type 0 where
+  pub geometry : IsGeometry g
+  pub page_size : now ≡ g.page_size
+  pub room : 4 ≤ l.pages.count
+  pub quiet : IsQuiet l
+  pub laid : IsLaid g.page_size (length bytes) (lane_value l)
+  pub tags : HoldsTags bytes l.completion.base l.submission.depth l.submission.submitted
+  pub controller : c < length b.ports
+  pub bus : IsBus b
+  pub port : port_at b.ports c ≡ idle_port (mps_of g.page_size) g.page_size (lane_value l)
+
+-- the lane after a command
+abbrev pub after_one : Lane → Lane
+after_one l = record l { number = next l.depth l.number; serial = next_serial l.serial }
+
+-- bytes outside the lane stay
+abbrev pub KeepsOthers : ℕ → Lane → List ℕ → List ℕ → Type 0
+KeepsOthers page_size l old new =
+    (from n : ℕ) → IsApart l.sq (end_of page_size l - l.sq) from n → bytes_at new from n ≡ bytes_at old from n
