@@ -116,3 +116,14 @@ entry_call t x old ready mem is fits cid prepared same =
 -- the data of a command by its way
 pub transfer_length : (k : Command) (m : Moves) → m ≡ transfer_by k → m ≡ identify_data
 transfer_length k m e = e ∙ transfer_by-page k
+
+-- the data pointer of a prepared command stays legal, and names the same places
+pub still_legal : (page_size : ℕ) (x : Sent) (old ready mem : List ℕ) → IsPageSize page_size → IsPrepared page_size x old ready → length mem ≡ length ready
+    → IsLegal (transfer page_size mem x.prp1 x.prp2 (data_length x))
+    × (transfer_places (transfer page_size mem x.prp1 x.prp2 (data_length x)) ≡ places page_size x)
+still_legal page_size x old ready mem is prepared same =
+    let page = data_page x in
+    let now = transfer page_size ready x.prp1 x.prp2 (data_length x) in (
+      legal_over now mem is page same prepared.legal,
+      sym (named_over now page_size x.pages x.offset mem is page prepared.places),
+    )

@@ -18,6 +18,7 @@ mod command_pages;
 mod driver;
 mod enabling;
 mod error;
+mod exchange;
 mod geometry;
 mod geometry_field;
 mod lane;

@@ -1,0 +1,55 @@
+//! One command and its answer.
+
+ghost use Rattle.std.specs.Prelude.{◌≡◌, length, slice_set};
+ghost use Rattle.nv_command.specs.Command.{CommandFits};
+ghost use Rattle.nv_subsystem.specs.Step.{step};
+ghost use Rattle.nv_controller.specs.Bus.{port_at};
+ghost use Rattle.nv_driver.specs.Exchange.{IsReady, KeepsOthers, after_one};
+ghost use Rattle.nv_driver.specs.Quiet.{lane_value};
+
+use crate::answering::{Answer, answer};
+use crate::geometry::Geometry;
+use crate::lane::Lane;
+use crate::submitting::submit;
+use nv_command::Command;
+use nv_controller::Bus;
+use nv_host::HostMemory;
+
+/// Offsets of the doorbells of the admin queues. Section "Controller Registers".
+const TAIL_DOORBELL: u32 = 0x1000;
+
+const HEAD_DOORBELL: u32 = 0x1004;
+
+/// Sends a command to a controller and awaits its answer. No command of its lane is outstanding,
+/// before and after.
+pub fn exchange<B: Bus, M: HostMemory>(
+    bus: &mut B,
+    ctrl: u16,
+    mem: &mut M,
+    lane: &mut Lane,
+    geometry: Geometry,
+    command: &Command,
+) -> Answer
+    requires ready { IsReady geometry (B.meaning bus.old) ctrl lane.old (M.page_len mem.old) (M.bytes mem.old) }
+    requires fits { CommandFits command.now }
+    ensures answer { result ≡ (step (B.meaning bus.old).state ctrl command.now lane.old.serial).answer }
+    ensures state { (B.meaning bus.new).state
+        ≡ (step (B.meaning bus.old).state ctrl command.now lane.old.serial).state }
+    ensures ready { IsReady geometry (B.meaning bus.new) ctrl lane.new (M.page_len mem.new) (M.bytes mem.new) }
+    ensures ports { (B.meaning bus.new).ports
+        ≡ slice_set (B.meaning bus.old).ports ctrl (port_at (B.meaning bus.new).ports ctrl) }
+    ensures lane { lane_value lane.new ≡ after_one (lane_value lane.old) }
+    ensures others { KeepsOthers geometry.page_size (lane_value lane.old) (M.bytes mem.old) (M.bytes mem.new) }
+    ensures len { length (M.bytes mem.new) ≡ length (M.bytes mem.old) }
+    ensures page { M.page_len mem.new ≡ M.page_len mem.old }
+{
+    let (outstanding, tail) = submit(mem, lane, geometry, command);
+    bus.write32(ctrl, TAIL_DOORBELL, u32::from(tail));
+    bus.turn(ctrl, mem, geometry.pace as u16);
+    let completion = lane.completion.poll(mem).unwrap();
+    lane.submission.freed(completion.sq_head);
+    let head = lane.completion.head_to_tell().unwrap();
+    bus.write32(ctrl, HEAD_DOORBELL, u32::from(head));
+    outstanding.pages.give(&mut lane.pages);
+    answer(mem, &outstanding, command, &completion)
+}
