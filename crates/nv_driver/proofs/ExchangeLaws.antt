@@ -1,27 +1,33 @@
 -- One command and its answer, as a schedule of one.
-use Rattle.std.specs.Prelude.{slice_set}
-use Rattle.std.proofs.lemmas.List.{get_or-set_same}
+use Rattle.std.specs.Prelude.{slice_set, IfSome, None, OnSome, Option, Some}
+use Rattle.nv_layout.specs.declared.cqe.Cqe.{Cqe}
+use Rattle.std.proofs.Math.ListN.{length-set}
+use Rattle.nv_queue.specs.NumberLaws.{above_cases}
+use Rattle.std.proofs.lemmas.List.{get_or-set_same, set-set}
+use Rattle.std.proofs.lemmas.Nat.{mod_below}
+use Rattle.nv_queue.specs.Rings.{CollectNumbers, SubmitNumbers, collected_one, known_to, submitted_one, told_all}
 use Rattle.std.proofs.Common.{◌≡◌, ◌≢◌, ◌∙◌, ◌⊎◌, ℕ, zero, suc, ◌+◌, ◌-◌, ◌*◌, ◌%◌, ◌==◌, ◌&&◌, ◌^◌, ◌<◌, ◌≤◌, not, Bool, true, false, List, [], ◌∷◌, ap, arith, get_or, inl, inr, length, refl, subst, sym}
 use Rattle.std.proofs.Math.Nat.{mul-le-mul_right}
 use Rattle.std.proofs.lemmas.Bool.{cases_lt}
 use Rattle.std.proofs.lemmas.Bool.Decides.{nat_tests}
 use Rattle.nv_host.specs.PageSets.{IsOf, Pages}
-use Rattle.nv_queue.specs.Numbers.{IsSlotBetween, above, first_in_slot, next, phase_of, slot_of, tag_below}
+use Rattle.nv_queue.specs.Numbers.{IsDepth, IsFull, IsSlotBetween, above, first_in_slot, next, phase_of, slot_of, tag_below}
 use Rattle.nv_queue.specs.KeptLaws.{between_kept, first_kept}
-use Rattle.nv_queue.specs.Slots.{HoldsTags, IsAwaitedThere, completion_at, with_submission}
+use Rattle.nv_queue.specs.Slots.{HoldsTags, IsAwaitedThere, awaited_completion, completion_at, with_submission}
 use Rattle.nv_queue.specs.TagLaws.{tag_below_next_same}
-use Rattle.nv_subsystem.specs.Step.{step}
+use Rattle.nv_subsystem.specs.Step.{next_serial, step}
 use Rattle.nv_command.specs.Command.{CommandFits}
 use Rattle.nv_command.specs.declared.command.Command.{Command}
 use Rattle.nv_register.specs.Port.{new_port, with_register_at}
 use Rattle.nv_register.specs.declared.port.Port.{Port}
 use Rattle.nv_register.specs.declared.rings.Rings.{Rings}
 use Rattle.nv_subsystem.specs.State.{State}
-use Rattle.nv_controller.specs.Bus.{BusValue, port_at}
+use Rattle.nv_controller.specs.Bus.{BusValue, IsBus, port_at}
 use Rattle.nv_controller.specs.Turn as T
 use Rattle.nv_controller.specs.Turn.{PortTurn, Site, can_take, site}
 use Rattle.nv_driver.specs.CommandPages.{AreTaken, all_pages, data_pages}
-use Rattle.nv_driver.specs.Exchange.{IsReady}
+use Rattle.nv_prp.specs.Buffer.{IsApart}
+use Rattle.nv_driver.specs.Exchange.{IsReady, KeepsOthers}
 use Rattle.nv_driver.specs.Lane.{IsLaid, Lane, idle_port}
 use Rattle.nv_driver.specs.Quiet.{IsQuiet, lane_value}
 use Rattle.nv_driver.specs.Registers.{mps_of}
@@ -220,17 +226,18 @@ turned t s w x mem port tail most count z is k before at some turn =
 
 -- what one command leaves before its answer is collected
 pub exchanged : (g : Geometry) (b b2 b3 : BusValue) (c : ℕ) (l l' : LaneFields) (now page : ℕ) (bytes mem mem' : List ℕ) (k : Command) (o : Outstanding)
-    (tail most count : ℕ) → IsReady g b c l now bytes → CommandFits k → IsSubmitted g k o l l' bytes mem
+    (tail value most count : ℕ) → IsReady g b c l now bytes → CommandFits k → IsSubmitted g k o l l' bytes mem
     → tail ≡ slot_of l.submission.depth (next l.submission.depth l.submission.submitted)
-    → b2.state ≡ b.state → b2.ports ≡ slice_set b.ports c (with_register_at (port_at b.ports c) 0x1000 tail)
-    → page ≡ g.page_size → 1 ≤ most → c < length b2.ports → T.Turn page c most count b2 mem b3 mem'
+    → b2.state ≡ b.state → value ≡ tail → b2.ports ≡ slice_set b.ports c (with_register_at (port_at b.ports c) 0x1000 value)
+    → page ≡ g.page_size → 1 ≤ most → T.Turn page c most count b2 mem b3 mem'
     → Keeps (setting g c bytes (lane_value l)) b.state
     (done_one (beginning (setting g c bytes (lane_value l)) b.state) (sent_by g k l.serial o) mem' b3.state (port_at b3.ports c))
-exchanged g b b2 b3 c l l' now page bytes mem mem' k o tail most count r fits sub at state ports size some below turn =
+exchanged g b b2 b3 c l l' now page bytes mem mem' k o tail value most count r fits sub at state told ports size some turn =
     let t = setting g c bytes (lane_value l) in
     let x = sent_by g k l.serial o in
     let port : port_at b2.ports c ≡ with_register_at t.port 0x1000 tail =
-        ap (λ ps. port_at ps c) ports ∙ port_set b.ports c _ r.controller ∙ ap (λ p. with_register_at p 0x1000 tail) r.port in
+        ap (λ ps. port_at ps c) ports ∙ port_set b.ports c _ r.controller ∙ ap (with_register_at (port_at b.ports c) 0x1000) told
+        ∙ ap (λ p. with_register_at p 0x1000 tail) r.port in
     let own = subst (λ s. PortTurn t.page_size c most count (site s (port_at b2.ports c) mem) (site b3.state (port_at b3.ports c) mem')) state
         (subst (λ p. PortTurn p c most count (site b2.state (port_at b2.ports c) mem) (site b3.state (port_at b3.ports c) mem')) size turn.own) in
     turned t b.state (beginning t b.state) x mem (port_at b2.ports c) tail most count (site b3.state (port_at b3.ports c) mem') refl
@@ -271,3 +278,168 @@ head_between t deep = between_kept t.depth (t.start + 0) 1 1 (t.start + 1) (t.st
 
 pub head_first : (t : Setting) → 1 < t.depth → first_in_slot t.depth (number t 0) (slot t 1) ≡ number t 1
 head_first t deep = first_kept t.depth (t.start + 1) (t.start + 0) 1 (omega arith) (omega arith)
+
+-- ---- the host's rings on the way
+
+pub ring_submitted : (g : Geometry) (c : ℕ) (bytes : List ℕ) (l : LaneFields) → IsQuiet l → l.submission.submitted < 2 * l.submission.depth
+    → submitted_one l.submission ≡ submit_ring (setting g c bytes (lane_value l)) 1 0
+ring_submitted g c bytes l quiet below =
+    let t = setting g c bytes (lane_value l) in
+    ap submitted_one (submit_ring_is g c bytes l quiet below) ∙ ap (λ n. record { base = t.sq; depth = t.depth; submitted = n; known = number t 0 }) (number_next t 0)
+
+-- the ring after the head of the completion was taken
+pub ring_freed : (t : Setting) (ring : SubmitNumbers) (head : ℕ) → 1 < t.depth → ring ≡ submit_ring t 1 0 → head ≡ slot t 1
+    → known_to ring head ≡ submit_ring t 1 1
+ring_freed t ring head deep is at =
+    ap (λ r. known_to r head) is ∙ ap (known_to (submit_ring t 1 0)) at
+    ∙ ap (λ n. record { base = t.sq; depth = t.depth; submitted = number t 1; known = n }) (head_first t deep)
+
+pub ring_collected : (t : Setting) (ring : CollectNumbers) → ring ≡ collect_ring t 0 0
+    → told_all (collected_one ring) ≡ record { base = t.cq; depth = t.depth; collected = number t 1; told = number t 1; untold = false }
+ring_collected t ring is =
+    ap (λ r. told_all (collected_one r)) is
+    ∙ ap (λ n. record { base = t.cq; depth = t.depth; collected = n; told = n; untold = false }) (number_next t 0)
+
+-- the lane after a command
+pub lane_after : (g : Geometry) (b b4 : BusValue) (c : ℕ) (l l4 : LaneFields) (now page : ℕ) (bytes mem : List ℕ)
+    → IsReady g b c l now bytes → page ≡ g.page_size → length mem ≡ length bytes
+    → l4.submission ≡ submit_ring (setting g c bytes (lane_value l)) 1 1
+    → l4.completion ≡ record { base = l.completion.base; depth = l.submission.depth; collected = number (setting g c bytes (lane_value l)) 1;
+          told = number (setting g c bytes (lane_value l)) 1; untold = false }
+    → l4.serial ≡ next_serial l.serial → l4.pages ≡ l.pages
+    → HoldsTags mem l.completion.base l.submission.depth (number (setting g c bytes (lane_value l)) 1)
+    → c < length b4.ports → IsBus b4
+    → port_at b4.ports c ≡ port_with (setting g c bytes (lane_value l)) (device_rings (setting g c bytes (lane_value l)) 1 1 1)
+    → IsReady g b4 c l4 page mem
+lane_after g b b4 c l l4 now page bytes mem r size len submission completion serial pages tags below bus port =
+    let t = setting g c bytes (lane_value l) in
+    let laid = r.laid in
+    let n = number t 1 in
+    let l1 : LaneFields = record {
+      submission = record { base = l.submission.base; depth = l.submission.depth; submitted = n; known = n };
+      completion = record { base = l.completion.base; depth = l.submission.depth; collected = n; told = n; untold = false };
+      serial = next_serial l.serial;
+      pages = l.pages;
+    } in
+    let is : l1 ≡ l4 = sym (ap (λ (q : SubmitNumbers). record l4 { submission = q }) submission
+        ∙ ap (λ (q : CollectNumbers). record l4 { submission = l1.submission; completion = q }) completion
+        ∙ ap (λ q. record l4 { submission = l1.submission; completion = l1.completion; serial = q }) serial
+        ∙ ap (λ (q : Pages). record { submission = l1.submission; completion = l1.completion; serial = l1.serial; pages = q }) pages) in
+    subst (λ q. IsReady g b4 c q page mem) is (record {
+      geometry = r.geometry;
+      page_size = size;
+      room = r.room;
+      quiet = record { depth = refl; known = refl; collected = refl; told = refl; untold = refl; free = r.quiet.free };
+      laid = record {
+        deep = laid.deep;
+        number = number_below t 1 (let d = laid.deep in omega (arith, d.0));
+        serial = mod_below (l.serial + 1) 65535 (omega arith);
+        rings = laid.rings;
+        pages = laid.pages;
+        inside = omega (arith, laid.inside, len);
+      };
+      tags = tags;
+      controller = below;
+      bus = bus;
+      port = port;
+    })
+
+-- each change of the ports was one of controller c
+pub ports_after : (ports one two three : List Port) (c : ℕ) (p q : Port) → c < length ports → one ≡ slice_set ports c p
+    → two ≡ slice_set one c q → (r : Port) → three ≡ slice_set two c r → three ≡ slice_set ports c (port_at three c)
+ports_after ports one two three c p q below first second r third =
+    let one_set : two ≡ slice_set ports c q = second ∙ ap (λ x. slice_set x c q) first ∙ set-set ports c p q in
+    let all : three ≡ slice_set ports c r = third ∙ ap (λ x. slice_set x c r) one_set ∙ set-set ports c q r in
+    let at : port_at three c ≡ r = ap (λ x. port_at x c) all ∙ port_set ports c r below in
+    all ∙ ap (slice_set ports c) (sym at)
+
+-- a part outside a lane lies in none of its rings and pages
+outside_lane : (s : Pages) (x : Sent) (page_size sq from n : ℕ) → ((i d : ℕ) → i < length (own_pages x) → IsOf s.first s.count (get_or (own_pages x) i d))
+    → sq ≤ s.first * page_size → sq ≤ (s.first + s.count) * page_size
+    → IsApart sq ((s.first + s.count) * page_size - sq) from n → AreOutside page_size x from n
+outside_lane s x page_size sq from n own low high (inl before) i d h =
+    let first : s.first ≤ get_or (own_pages x) i d = (own i d h).0 in
+    let times = mul-le-mul_right page_size first in inl (omega arith)
+outside_lane s x page_size sq from n own low high (inr behind) i d h =
+    let last : get_or (own_pages x) i d + 1 ≤ s.first + s.count = omega (arith, (own i d h).1) in
+    let times = mul-le-mul_right page_size last in inr (omega arith)
+
+pub others_after : (g : Geometry) (b : BusValue) (c : ℕ) (l l' : LaneFields) (now : ℕ) (bytes after mem : List ℕ) (k : Command) (o : Outstanding)
+    (s' : State) (p : Port) → IsReady g b c l now bytes → IsSubmitted g k o l l' bytes after
+    → Keeps (setting g c bytes (lane_value l)) b.state
+    (done_one (beginning (setting g c bytes (lane_value l)) b.state) (sent_by g k l.serial o) mem s' p)
+    → KeepsOthers g.page_size (lane_value l) bytes mem
+others_after g b c l l' now bytes after mem k o s' p r sub keeps from n apart =
+    let laid = r.laid in
+    let x = sent_by g k l.serial o in
+    let own = own_of_set l.pages x (all_pages o.pages) (pages_are o.pages sub.seven) sub.taken.own in
+    let least : l.pages.first ≤ l.pages.first + l.pages.count = omega arith in
+    let room = mul-le-mul_right g.page_size least in
+    keeps.others from n (record {
+      submissions = aside l.submission.base (64 * l.submission.depth) (omega (arith, laid.rings, laid.pages, room)) (omega arith);
+      completions = aside l.completion.base (16 * l.submission.depth) (omega (arith, laid.pages, room)) (omega (arith, laid.rings));
+      pages = λ i d h. subst (λ y. AreOutside g.page_size y from n) (only_one x i d h)
+          (outside_lane l.pages x g.page_size l.submission.base from n own (omega (arith, laid.rings, laid.pages)) (omega (arith, laid.rings, laid.pages, room)) apart);
+    })
+  where
+    only_one : (x : Sent) (i : ℕ) (d : Sent) → i < 1 → x ≡ get_or (x ∷ []) i d
+    only_one x zero d h = refl
+    only_one x (suc i) d h = absurd (omega arith)
+
+    aside : (base size : ℕ) → base + size ≤ (l.pages.first + l.pages.count) * g.page_size → l.submission.base ≤ base → IsApart base size from n
+    aside base size high low =
+        elim apart [
+          | inl before ↦ inl (omega arith)
+          | inr behind ↦ inr (omega (arith, r.laid.rings, r.laid.pages))
+        ]
+
+-- a quiet ring isn't full
+pub not_full : (l : LaneFields) → IsQuiet l → l.submission.submitted < 2 * l.submission.depth → IsDepth l.submission.depth
+    → IsFull l.submission.depth l.submission.known l.submission.submitted → ⊥
+not_full l quiet below deep full =
+    let same = subst (λ n. IsFull l.submission.depth n l.submission.submitted) quiet.known full in
+    let none = above_cases l.submission.depth l.submission.submitted l.submission.submitted below below in
+    grind (arith, same, none, deep.0)
+
+-- the completion ring after a submission is that of the schedule
+pub completion_ring : (g : Geometry) (b : BusValue) (c : ℕ) (l l' : LaneFields) (now : ℕ) (bytes mem : List ℕ) (k : Command) (o : Outstanding)
+    → IsReady g b c l now bytes → IsSubmitted g k o l l' bytes mem → l'.completion ≡ collect_ring (setting g c bytes (lane_value l)) 0 0
+completion_ring g b c l l' now bytes mem k o r sub = ap (λ (q : LaneFields). q.completion) sub.lane ∙ collect_ring_is g c bytes l r.quiet r.laid.number
+
+-- the submission ring after a submission is that of the schedule
+pub submission_ring : (g : Geometry) (b : BusValue) (c : ℕ) (l l' : LaneFields) (now : ℕ) (bytes mem : List ℕ) (k : Command) (o : Outstanding)
+    → IsReady g b c l now bytes → IsSubmitted g k o l l' bytes mem → l'.submission ≡ submit_ring (setting g c bytes (lane_value l)) 1 0
+submission_ring g b c l l' now bytes mem k o r sub = ap (λ (q : LaneFields). q.submission) sub.lane ∙ ring_submitted g c bytes l r.quiet r.laid.number
+
+-- what was polled is the completion of the command
+pub completion_is : (t : Setting) (found : Option Cqe) (q : Cqe) (mem : List ℕ) (ring : CollectNumbers) → found ≡ Some q
+    → IfSome found (λ x. x ≡ awaited_completion mem ring) → ring ≡ collect_ring t 0 0 → q ≡ completion_at mem t.cq (slot t 0)
+completion_is t found q mem ring is value same =
+    subst (λ (o : Option Cqe). IfSome o (λ x. x ≡ awaited_completion mem ring)) is value ∙ ap (awaited_completion mem) same
+
+pub in_some : {X : Type 0} {P : Type 0} (o : Option X) (x : X) → o ≡ Some x → OnSome o P → P
+in_some {P = P} o x is all = subst (λ q. OnSome q P) is all
+
+pub freed_between : (t : Setting) (ring : SubmitNumbers) (head : ℕ) → 1 < t.depth → ring ≡ submit_ring t 1 0 → head ≡ slot t 1
+    → IsSlotBetween ring.depth ring.known ring.submitted head
+freed_between t ring head deep is at =
+    subst (λ (q : SubmitNumbers). IsSlotBetween q.depth q.known q.submitted head) (sym is)
+    (subst (IsSlotBetween t.depth (number t 0) (number t 1)) (sym at) (head_between t deep))
+
+-- the head to tell is that after the command
+pub told_is : (t : Setting) (found : Option ℕ) (head : ℕ) (old ring : CollectNumbers) → found ≡ Some head
+    → IfSome found (λ h. h ≡ slot_of old.depth old.collected) → old ≡ collected_one ring → ring ≡ collect_ring t 0 0 → head ≡ slot t 1
+told_is t found head old ring is value more same =
+    subst (λ (o : Option ℕ). IfSome o (λ h. h ≡ slot_of old.depth old.collected)) is value
+    ∙ ap (λ (q : CollectNumbers). slot_of q.depth q.collected) (more ∙ ap collected_one same)
+    ∙ ap (slot_of t.depth) (number_next t 0)
+
+pub ports_long : (ports new : List Port) (c : ℕ) (p : Port) → c < length ports → new ≡ slice_set ports c p → c < length new
+ports_long ports new c p below is = let size = ap (λ (x : List Port). length x) is ∙ length-set ports c p in omega arith
+
+pub port_after : (t : Setting) (ports new : List Port) (c value head : ℕ) → c < length ports → value ≡ head → head ≡ slot t 1
+    → new ≡ slice_set ports c (with_register_at (port_at ports c) 0x1004 value)
+    → with_register_at (port_at ports c) 0x1004 (slot t 1) ≡ port_with t (device_rings t 1 1 1)
+    → port_at new c ≡ port_with t (device_rings t 1 1 1)
+port_after t ports new c value head below told at is after =
+    ap (λ x. port_at x c) is ∙ port_set ports c _ below ∙ ap (with_register_at (port_at ports c) 0x1004) (told ∙ at) ∙ after

@@ -248,3 +248,13 @@ taken_back s pages t =
     again q true false e f = refl
     again q false false e f = refl
     again q false true e f = absurd (let h = had q f in cc)
+
+-- a set has no page that was taken of it
+pub without_none : (s : Pages) (ps : List ℕ) (i d : ℕ) → i < length ps → set.contains (without s ps).members (get_or ps i d) ≡ false
+without_none s ps i d h =
+    difference_in s.members ps (get_or ps i d) ∙ gone (set.contains s.members (get_or ps i d)) (is_in ps (get_or ps i d)) (in_of ps i d (get_or ps i d) h refl)
+  where
+    gone : (a b : Bool) → b ≡ true → (a && not b) ≡ false
+    gone true true e = refl
+    gone false b e = refl
+    gone true false e = absurd (cc)

@@ -1,5 +1,4 @@
 use Rattle.nv_driver.proofs.ScheduleLaws.{every_schedule}
-use Rattle.nv_driver.proofs.ExchangeLaws.{setting}
 use Rattle.nv_driver.proofs.law.any_schedule.Goals as goal
 
 pub returns : goal.returns
