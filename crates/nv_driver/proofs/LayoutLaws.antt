@@ -1,5 +1,5 @@
 -- How many pages there can be, and how the lanes lie in them.
-use Rattle.std.proofs.Common.{◌≡◌, ℕ, ◌+◌, ◌*◌, ◌<◌, ◌≤◌, arith}
+use Rattle.std.proofs.Common.{ℕ, ◌*◌, ◌≤◌}
 use Rattle.std.proofs.Math.Nat.{mul-le-mul}
 
 -- the pages before a lane, and the bytes before a page
