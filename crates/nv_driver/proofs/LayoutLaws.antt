@@ -8,3 +8,5 @@ lane_times i l h k = mul-le-mul h k
 
 pub page_times : (n p : ℕ) → n ≤ 0x2000000 → p ≤ 0x10000 → n * p ≤ 0x20000000000
 page_times n p h k = mul-le-mul h k
+
+pub ruleset lay = (lane_times, page_times)

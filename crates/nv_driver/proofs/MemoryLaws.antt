@@ -1,5 +1,6 @@
 -- A memory of zeros with a lane for each controller.
-use Rattle.std.proofs.Common.{◌≡◌, ◌∙◌, ℕ, ◌+◌, ◌-◌, ◌*◌, ◌/◌, ◌<◌, ◌≤◌, ◌^◌, false, ap, sym, refl, arith, All, List, length, map, take}
+use Rattle.std.proofs.Common.{◌≡◌, ◌∙◌, ℕ, ◌+◌, ◌-◌, ◌*◌, ◌/◌, ◌<◌, ◌≤◌, ◌^◌, false, ap, sym, refl, arith}
+use Rattle.std.proofs.Common.{All, List, length, map, take}
 use Rattle.std.specs.Prelude.{replicate, slice_index_or}
 use Rattle.std.proofs.Math.Nat.{mul-div_cancel, mul-le-mul_right, zero-add}
 use Rattle.std.proofs.lemmas.Bool.Decides.{nat_tests}

@@ -1,5 +1,6 @@
 -- The registers of a controller as it is enabled.
-use Rattle.std.proofs.Common.{◌≡◌, ◌∙◌, ℕ, zero, suc, ◌+◌, ◌-◌, ◌*◌, ◌%◌, ◌^◌, ◌<◌, ◌≤◌, ◌⊎◌, inl, inr, Bool, true, false, ap, sym, refl, arith, List, length, fold, take, map, slice_set, None, Some}
+use Rattle.std.proofs.Common.{◌≡◌, ◌∙◌, ℕ, zero, suc, ◌+◌, ◌-◌, ◌*◌, ◌%◌, ◌^◌, ◌<◌, ◌≤◌, ◌⊎◌, inl, inr, ap, sym, refl, arith}
+use Rattle.std.proofs.Common.{Bool, true, false, List, length, fold, take, map, slice_set, None, Some}
 use Rattle.std.specs.Prelude.{◌≢◌, if◌then◌else◌, is_some, IsOk, MatchResult, Result, Ok, Err}
 use Rattle.std.proofs.Math.ListN.{get_or}
 use Rattle.std.proofs.Math.Nat.{mul-mod_left, zero-add}

@@ -38,7 +38,7 @@ impl Model for Driver {
 }
 
 impl Driver {
-    /// A driver of so many controllers, of which none is enabled yet. All bytes of its memory are 0.
+    /// A driver of so many controllers, of which none is enabled yet. Its memory is zeroed.
     fn new(alloc: Global, geometry: Geometry, controllers: u16) -> Result<Driver, Memory>
         requires geometry { IsGeometry geometry }
         requires controllers { controllers ≤ 16 }

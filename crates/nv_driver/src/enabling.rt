@@ -1,6 +1,7 @@
 //! How controllers are enabled.
 
-ghost use Rattle.std.specs.Prelude.{◌≡◌, ◌≢◌, ◌<◌, ◌≤◌, All, IfErr, IsOk, MatchResult, false, fold, is_some, length, slice_set};
+ghost use Rattle.std.specs.Prelude.{◌≡◌, ◌≢◌, ◌<◌, ◌≤◌, All, IfErr, IsOk, MatchResult, false};
+ghost use Rattle.std.specs.Prelude.{fold, is_some, length, slice_set};
 ghost use Rattle.nv_controller.specs.Bus.{IsBus, IsEnabledWhereReady, port_at};
 ghost use Rattle.nv_driver.specs.Geometry.{IsGeometry};
 ghost use Rattle.nv_driver.specs.Layout.{lane_of, lanes_of};
