@@ -55,8 +55,9 @@ impl Driver {
     }
 
     /// Makes the host's memory, and makes each controller ready with rings in it. After `Geometry`,
-    /// which has the first field out of its limits, and after `Memory` the bus is untouched.
-    /// A bus that keeps its contract never gives `NoReady`. Section "Controller Initialization".
+    /// which has the first field out of its limits, and after `Memory` the bus is untouched. A bus
+    /// that keeps its contract never gives `NoReady`. Section "Controller Initialization and
+    /// Shutdown Processing".
     pub fn bring_up<B: Bus>(
         alloc: Global,
         bus: &mut B,

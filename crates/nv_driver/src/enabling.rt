@@ -101,7 +101,8 @@ fn set_queues<B: Bus>(bus: &mut B, ctrl: u16, less_one: u32, sq: u64, cq: u64)
     );
 }
 
-/// Makes a controller ready with new rings at their places. Section "Controller Initialization".
+/// Makes a controller ready with new rings at their places. Section "Controller Initialization and
+/// Shutdown Processing".
 fn enable<B: Bus>(bus: &mut B, ctrl: u16, geometry: Geometry) -> Result<(), DriverError>
     requires geometry { IsGeometry geometry }
     requires ctrl { ctrl < length (B.meaning bus.old).ports }
