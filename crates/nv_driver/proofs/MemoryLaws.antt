@@ -1,5 +1,6 @@
 -- A memory of zeros with a lane for each controller.
-use Rattle.std.proofs.Common.{◌≡◌, ◌∙◌, ℕ, zero, suc, ◌+◌, ◌-◌, ◌*◌, ◌/◌, ◌<◌, ◌≤◌, ◌^◌, true, false, ap, sym, refl, arith, All, List, length, map, take, drop}
+use Rattle.std.proofs.Common.{◌≡◌, ◌∙◌, ℕ, ◌+◌, ◌-◌, ◌*◌, ◌/◌, ◌<◌, ◌≤◌, ◌^◌, false, ap, sym, refl, arith}
+use Rattle.std.proofs.Common.{All, List, length, map, take}
 use Rattle.std.specs.Prelude.{replicate, slice_index_or}
 use Rattle.std.proofs.Math.Nat.{mul-div_cancel, mul-le-mul_right, zero-add}
 use Rattle.std.proofs.lemmas.Bool.Decides.{nat_tests}
@@ -12,8 +13,8 @@ use Rattle.nv_host.specs.Pages.{PagedBytes}
 use Rattle.nv_layout.specs.Cqe.{cqe_of_bytes}
 use Rattle.nv_layout.specs.Parts.{number_at}
 use Rattle.nv_queue.specs.NumberLaws.{phase_low, slot_low}
-use Rattle.nv_queue.specs.Numbers.{phase_of, slot_of, tag_below}
-use Rattle.nv_queue.specs.Slots.{HoldsTags, completion_at}
+use Rattle.nv_queue.specs.Numbers.{tag_below}
+use Rattle.nv_queue.specs.Slots.{HoldsTags}
 use Rattle.nv_driver.specs.Driver.{IsDriver, driver_value, new_driver, page_count}
 use Rattle.nv_driver.specs.Geometry.{IsGeometry}
 use Rattle.nv_driver.specs.Lane.{IsLaid, Lane}

@@ -1,9 +1,9 @@
 -- The registers of a controller as it is enabled.
-use Rattle.std.proofs.Common.{◌≡◌, ◌∙◌, ℕ, zero, suc, ◌+◌, ◌-◌, ◌*◌, ◌%◌, ◌^◌, ◌==◌, ◌&&◌, nat_le, ◌<◌, ◌≤◌, ◌⊎◌, inl, inr, Bool, true, false, ap, sym, refl, arith, List, length, fold, take, map, slice_set, None, Some}
-use Rattle.std.specs.Prelude.{◌≢◌, if◌then◌else◌, is_some, IsOk, MatchResult, Result, Ok, Err, slice_index_or}
+use Rattle.std.proofs.Common.{◌≡◌, ◌∙◌, ℕ, zero, suc, ◌+◌, ◌-◌, ◌*◌, ◌%◌, ◌^◌, ◌<◌, ◌≤◌, ◌⊎◌, inl, inr, ap, sym, refl, arith}
+use Rattle.std.proofs.Common.{Bool, true, false, List, length, fold, take, map, slice_set, None, Some}
+use Rattle.std.specs.Prelude.{◌≢◌, if◌then◌else◌, is_some, IsOk, MatchResult, Result, Ok, Err}
 use Rattle.std.proofs.Math.ListN.{get_or}
 use Rattle.std.proofs.Math.Nat.{mul-mod_left, zero-add}
-use Rattle.std.proofs.lemmas.Bool.{cases_eq}
 use Rattle.std.proofs.lemmas.Bool.Decides.{nat_tests}
 use Rattle.std.proofs.lemmas.List.{get_or-map, get_or-set_same, get_or_default, length-map, same_lists, set-set}
 use Rattle.std.proofs.lemmas.List.FromFn.{get_or-map-range_with_len, length-map-range_with_len}

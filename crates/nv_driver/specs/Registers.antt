@@ -1,7 +1,6 @@
 -- What a driver's controllers have in their registers.
 use Rattle.std.specs.Prelude.{ℕ, ◌==◌, List, map, if◌then◌else◌}
 use Rattle.nv_register.specs.Port.{with_register_at}
-use Rattle.nv_register.specs.declared.admin_queue_attributes.AdminQueueAttributes.{AdminQueueAttributes}
 use Rattle.nv_register.specs.declared.port.Port.{Port}
 use Rattle.nv_driver.specs.Lane.{Lane, idle_port}
 use Rattle.nv_driver.specs.Settled.{DriverValue}

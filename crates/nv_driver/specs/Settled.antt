@@ -1,8 +1,7 @@
 -- What a driver stands for, and what its memory holds between two calls.
-use Rattle.std.specs.Prelude.{◌≡◌, ℕ, ◌+◌, ◌*◌, ◌<◌, ◌≤◌, List, length, map, slice_index_or}
+use Rattle.std.specs.Prelude.{ℕ, ◌+◌, ◌*◌, ◌<◌, ◌≤◌, List, length, slice_index_or}
 use Rattle.nv_queue.specs.Slots.{HoldsTags}
-use Rattle.nv_register.specs.declared.port.Port.{Port}
-use Rattle.nv_driver.specs.Lane.{IsLaid, Lane, idle_port}
+use Rattle.nv_driver.specs.Lane.{IsLaid, Lane}
 use Rattle.nv_driver.specs.declared.geometry.Geometry.{Geometry}
 
 -- its geometry, the number of its memory's pages, and each controller's lane

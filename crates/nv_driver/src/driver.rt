@@ -38,7 +38,7 @@ impl Model for Driver {
 }
 
 impl Driver {
-    /// A driver of so many controllers, of which none is enabled yet. All bytes of its memory are 0.
+    /// A driver of so many controllers, of which none is enabled yet. Its memory is zeroed.
     fn new(alloc: Global, geometry: Geometry, controllers: u16) -> Result<Driver, Memory>
         requires geometry { IsGeometry geometry }
         requires controllers { controllers ≤ 16 }
@@ -55,8 +55,9 @@ impl Driver {
     }
 
     /// Makes the host's memory, and makes each controller ready with rings in it. After `Geometry`,
-    /// which has the first field out of its limits, and after `Memory` the bus is untouched.
-    /// A bus that keeps its contract never gives `NoReady`. Section "Controller Initialization".
+    /// which has the first field out of its limits, and after `Memory` the bus is untouched. A bus
+    /// that keeps its contract never gives `NoReady`. Section "Controller Initialization and
+    /// Shutdown Processing".
     pub fn bring_up<B: Bus>(
         alloc: Global,
         bus: &mut B,

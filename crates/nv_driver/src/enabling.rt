@@ -1,6 +1,7 @@
 //! How controllers are enabled.
 
-ghost use Rattle.std.specs.Prelude.{◌≡◌, ◌≢◌, ◌<◌, ◌≤◌, All, IfErr, IsOk, MatchResult, false, fold, is_some, length, slice_set};
+ghost use Rattle.std.specs.Prelude.{◌≡◌, ◌≢◌, ◌<◌, ◌≤◌, All, IfErr, IsOk, MatchResult, false};
+ghost use Rattle.std.specs.Prelude.{fold, is_some, length, slice_set};
 ghost use Rattle.nv_controller.specs.Bus.{IsBus, IsEnabledWhereReady, port_at};
 ghost use Rattle.nv_driver.specs.Geometry.{IsGeometry};
 ghost use Rattle.nv_driver.specs.Layout.{lane_of, lanes_of};
@@ -100,7 +101,8 @@ fn set_queues<B: Bus>(bus: &mut B, ctrl: u16, less_one: u32, sq: u64, cq: u64)
     );
 }
 
-/// Makes a controller ready with new rings at their places. Section "Controller Initialization".
+/// Makes a controller ready with new rings at their places. Section "Controller Initialization and
+/// Shutdown Processing".
 fn enable<B: Bus>(bus: &mut B, ctrl: u16, geometry: Geometry) -> Result<(), DriverError>
     requires geometry { IsGeometry geometry }
     requires ctrl { ctrl < length (B.meaning bus.old).ports }

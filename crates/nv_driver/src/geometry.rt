@@ -2,7 +2,8 @@
 
 ghost use Rattle.std.specs.Prelude.{◌≡◌, ◌%◌, ◌<◌, ◌≤◌, ◌↔◌, IfOk, IsTrue, MatchResult, None, Some};
 ghost use Rattle.nv_host.specs.Pages.{IsPageSize};
-ghost use Rattle.nv_driver.specs.Geometry.{IsGeometry, fault_of, is_between, is_offset, is_page_size, is_window};
+ghost use Rattle.nv_driver.specs.Geometry.{IsGeometry, fault_of, is_between, is_offset};
+ghost use Rattle.nv_driver.specs.Geometry.{is_page_size, is_window};
 
 use crate::geometry_field::GeometryField;
 use nv_host::is_page_size;
@@ -30,7 +31,14 @@ pub struct Geometry {
 
 impl Default for Geometry {
     ghost is_default = { λ g. g
-        ≡ record { depth = 32; page_size = 4096; offset = 0; list_offset = 0; window = 1; pace = 1 } };
+        ≡ record {
+          depth = 32;
+          page_size = 4096;
+          offset = 0;
+          list_offset = 0;
+          window = 1;
+          pace = 1;
+        } };
 
     fn default() -> Geometry {
         Geometry {

@@ -46,7 +46,8 @@ pub fn new_lanes(alloc: Global, geometry: Geometry, controllers: u16) -> Result<
     requires geometry { IsGeometry geometry }
     requires controllers { controllers ≤ 16 }
     ensures quiet { IfOk result (λ lanes. All IsQuiet lanes.items) }
-    ensures lanes { IfOk result (λ lanes. map lane_value lanes.items ≡ lanes_of geometry controllers) }
+    ensures lanes { IfOk result
+        (λ lanes. map lane_value lanes.items ≡ lanes_of geometry controllers) }
 {
     let mut lanes = Vec::new(alloc);
     for ctrl in 0..controllers {

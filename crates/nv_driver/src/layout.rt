@@ -2,8 +2,8 @@
 
 ghost use Rattle.std.specs.Prelude.{◌≡◌, ◌+◌, ◌^◌, ◌<◌, ◌≤◌};
 ghost use Rattle.nv_driver.specs.Geometry.{IsGeometry};
-ghost use Rattle.nv_driver.specs.Layout.{completion_pages, lane_of, lane_pages, pages_of, set_pages};
-ghost use Rattle.nv_driver.specs.Layout.{submission_pages};
+ghost use Rattle.nv_driver.specs.Layout.{completion_pages, lane_of, lane_pages, pages_of};
+ghost use Rattle.nv_driver.specs.Layout.{set_pages, submission_pages};
 
 use crate::geometry::Geometry;
 
@@ -76,7 +76,7 @@ impl Geometry {
     }
 
     /// Where the rings and pages of a controller lie. The page behind them has a number too.
-    #[tactic(auto, using(crate::proofs::LayoutLaws::lane_times, crate::proofs::LayoutLaws::page_times))]
+    #[tactic(auto, using(crate::proofs::LayoutLaws::lay))]
     pub fn place(self, ctrl: u16) -> Place
         requires geometry { IsGeometry self }
         requires ctrl { ctrl < 16 }

@@ -1,4 +1,4 @@
-use Rattle.std.proofs.Common.{◌≢◌, ℕ, ◌<◌}
+use Rattle.std.proofs.Common.{◌≢◌, ◌<◌}
 use Rattle.std.specs.Prelude.{is_some}
 use Rattle.nv_controller.specs.Bus.{port_at}
 use Rattle.nv_driver.proofs.enabling.await_ready.Given as goal

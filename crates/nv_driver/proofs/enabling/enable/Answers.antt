@@ -1,5 +1,4 @@
-use Rattle.std.proofs.Common.{◌≡◌, arith}
-use Rattle.nv_controller.specs.Bus.{port_at}
+use Rattle.std.proofs.Common.{arith}
 use Rattle.nv_driver.proofs.RegisterLaws.{enabled_ports, is_enabled}
 use Rattle.nv_driver.proofs.enabling.enable.Goals as goal
 
