@@ -3,7 +3,7 @@
 ghost use Rattle.std.specs.Prelude.{◌≡◌, ◌<◌, length, slice_set};
 ghost use Rattle.nv_register.specs.Port.{value_at, with_register_at};
 ghost use Rattle.nv_controller.specs.Bus.{BusValue, IsBus, port_at};
-ghost use Rattle.nv_controller.specs.Turn.{Turn};
+ghost use Rattle.nv_controller.specs.Turn.{TakesCount, Turn};
 
 use nv_host::HostMemory;
 
@@ -36,6 +36,8 @@ pub trait Bus {
         requires ctrl { ctrl < length (meaning self.old).ports }
         requires bus { IsBus (meaning self.old) }
         ensures turn { Turn (M.page_len mem.old) ctrl most result (meaning self.old) (M.bytes mem.old) (meaning self.new) (M.bytes mem.new) }
+        ensures count { TakesCount (M.page_len mem.old) (length (M.bytes mem.old)) most
+            (port_at (meaning self.old).ports ctrl) result (port_at (meaning self.new).ports ctrl) }
         ensures bus { IsBus (meaning self.new) }
         ensures len { length (M.bytes mem.new) ≡ length (M.bytes mem.old) }
         ensures page { M.page_len mem.new ≡ M.page_len mem.old };
