@@ -9,7 +9,8 @@ use Rattle.nv_layout.specs.declared.status.Status.{Status}
 use Rattle.nv_prp.specs.PlaceLaws.{length-written_at}
 use Rattle.nv_command.specs.Reply.{data_of}
 use Rattle.nv_command.specs.declared.reply.Reply.{Reply}
-use Rattle.nv_queue.specs.Numbers.{IsWithinRing, above, next}
+use Rattle.nv_queue.specs.Numbers.{IsWithinRing, above, kept_number, next}
+use Rattle.nv_queue.specs.KeptLaws.{kept_next}
 use Rattle.nv_queue.specs.NumberLaws.{above_cases, above_next, above_none, next_above, slot_below, within_more, within_taken}
 use Rattle.nv_queue.specs.Rings.{fetched_one, posted_one}
 use Rattle.nv_queue.specs.Slots.{completion_place, put_as, submission_place}
@@ -188,3 +189,48 @@ port_turn_count page_size c most count old new turn r ready well is =
     let own : by false (Some r) = subst (λ (o : Option Rings). by false o) ready (subst (λ (b : Bool). by b old.port.rings) well turn) in
     let law = turn_count_is page_size c most count _ own.0 own.1 is own.2 in
     (law.0, ap (λ (s : Site). s.port.cfs) own.3 ∙ law.1)
+
+-- ---- the rings after a turn
+
+-- the rings after so many entries
+unfoldable pub rings_after : ℕ → Rings → Rings
+rings_after zero r = r
+rings_after (suc k) r = rings_after k (record r { submission = fetched_one r.submission; completion = posted_one r.completion })
+
+pub taken_rings : (count page_size c : ℕ) (old new : Scene) → Taken count page_size c old new → new.rings ≡ rings_after count old.rings
+unfolding rings_after
+taken_rings zero page_size c old new same = ap (λ (x : Scene). x.rings) same
+taken_rings (suc k) page_size c old new taken = taken_rings k page_size c taken.0 new taken.2 ∙ ap (rings_after k) taken.1.one.rings
+
+pub page_size_after : (k : ℕ) (r : Rings) → (rings_after k r).page_size ≡ r.page_size
+unfolding rings_after
+page_size_after zero r = refl
+page_size_after (suc k) r = page_size_after k (record r { submission = fetched_one r.submission; completion = posted_one r.completion })
+
+-- where n entries were taken before, n + k were
+pub submission_after : (k n : ℕ) (r : Rings) → r.submission.fetched ≡ kept_number r.submission.depth n
+    → (rings_after k r).submission ≡ record r.submission { fetched = kept_number r.submission.depth (n + k) }
+unfolding rings_after
+submission_after zero n r h =
+    let d = r.submission.depth in
+    let same : n ≡ n + 0 = omega arith in
+    ap (λ x. record r.submission { fetched = x }) (h ∙ ap (kept_number d) same)
+submission_after (suc k) n r h =
+    let d = r.submission.depth in
+    let same : n + 1 + k ≡ n + suc k = omega arith in
+    submission_after k (n + 1) (record r { submission = fetched_one r.submission; completion = posted_one r.completion }) (ap (next d) h ∙ kept_next d n)
+    ∙ ap (λ x. record r.submission { fetched = kept_number d x }) same
+
+-- where n completions were posted before, n + k were
+pub completion_after : (k n : ℕ) (r : Rings) → r.completion.posted ≡ kept_number r.completion.depth n
+    → (rings_after k r).completion ≡ record r.completion { posted = kept_number r.completion.depth (n + k) }
+unfolding rings_after
+completion_after zero n r h =
+    let d = r.completion.depth in
+    let same : n ≡ n + 0 = omega arith in
+    ap (λ x. record r.completion { posted = x }) (h ∙ ap (kept_number d) same)
+completion_after (suc k) n r h =
+    let d = r.completion.depth in
+    let same : n + 1 + k ≡ n + suc k = omega arith in
+    completion_after k (n + 1) (record r { submission = fetched_one r.submission; completion = posted_one r.completion }) (ap (next d) h ∙ kept_next d n)
+    ∙ ap (λ x. record r.completion { posted = kept_number d x }) same
