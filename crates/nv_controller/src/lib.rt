@@ -7,6 +7,8 @@ mod entry;
 mod machine;
 #[cfg(test)]
 mod tests;
+#[cfg(test)]
+mod tests_by_steps;
 mod turn;
 
 pub use bus::Bus;
