@@ -14,8 +14,9 @@ use Rattle.nv_queue.specs.KeptLaws.{kept_next}
 use Rattle.nv_queue.specs.NumberLaws.{above_cases, above_next, above_none, next_above, slot_below, within_more, within_taken}
 use Rattle.nv_queue.specs.Rings.{fetched_one, posted_one}
 use Rattle.nv_queue.specs.Slots.{completion_place, put_as, submission_place}
+use Rattle.nv_register.specs.declared.port.Port.{Port}
 use Rattle.nv_register.specs.declared.rings.Rings.{Rings}
-use Rattle.nv_controller.specs.Entry.{Moves, Scene, call_in, completion_in, entry_step, places_in}
+use Rattle.nv_controller.specs.Entry.{Moves, Scene, call_in, completion_in, entry_step, places_in, scene}
 use Rattle.nv_controller.specs.Turn.{PortTurn, RingsLie, RingsTurn, Site, Taken, Takes, TakesCount, TurnBy, can_take, free_slots, reaches, turn_count, waiting}
 
 -- ---- one ring
@@ -181,15 +182,6 @@ turn_count_is page_size c most count old new fatal is turn =
       not_true fatal well,
     )
 
--- the same of a controller
-pub port_turn_count : (page_size c most count : ℕ) (old new : Site) → PortTurn page_size c most count old new
-    → TakesCount page_size (length old.bytes) most old.port count new.port
-port_turn_count page_size c most count old new turn r ready well is =
-    let by = λ (b : Bool) (o : Option Rings). TurnBy b o page_size c most count old new in
-    let own : by false (Some r) = subst (λ (o : Option Rings). by false o) ready (subst (λ (b : Bool). by b old.port.rings) well turn) in
-    let law = turn_count_is page_size c most count _ own.0 own.1 is own.2 in
-    (law.0, ap (λ (s : Site). s.port.cfs) own.3 ∙ law.1)
-
 -- ---- the rings after a turn
 
 -- the rings after so many entries
@@ -234,3 +226,38 @@ completion_after (suc k) n r h =
     let same : n + 1 + k ≡ n + suc k = omega arith in
     completion_after k (n + 1) (record r { submission = fetched_one r.submission; completion = posted_one r.completion }) (ap (next d) h ∙ kept_next d n)
     ∙ ap (λ x. record r.completion { posted = kept_number d x }) same
+
+-- what a turn leaves of a ready controller with rings that lie in the memory
+pub record PortTakes (page_size most count : ℕ) (r : Rings) (old new : Site) : Type 0 where
+  pub number : count ≡ turn_count most r
+  pub port : new.port ≡ record old.port { cfs = false; rings = Some (rings_after count r) }
+  pub less : RingsLess count page_size (length new.bytes) r (rings_after count r)
+  pub len : length new.bytes ≡ length old.bytes
+
+pub port_takes : (page_size c most count : ℕ) (r : Rings) (old new : Site) → old.port.rings ≡ Some r → old.port.cfs ≡ false
+    → RingsLie r page_size (length old.bytes) → PortTurn page_size c most count old new → PortTakes page_size most count r old new
+port_takes page_size c most count r old new ready well is turn =
+    let by = λ (b : Bool) (o : Option Rings). TurnBy b o page_size c most count old new in
+    let own : by false (Some r) = subst (λ (o : Option Rings). by false o) ready (subst (λ (b : Bool). by b old.port.rings) well turn) in
+    let last = own.0 in
+    let first = scene old.state r old.bytes in
+    let law = turn_count_is page_size c most count first last own.1 is own.2 in
+    let less = taken_less count page_size c first last is own.2.entries in
+    let rings = taken_rings count page_size c first last own.2.entries in
+    let bytes : length new.bytes ≡ length last.bytes = ap (λ (s : Site). length s.bytes) own.3 in
+    record {
+      number = law.0;
+      port =
+          ap (λ (s : Site). s.port) own.3
+          ∙ ap (λ (b : Bool). record old.port { cfs = b; rings = Some last.rings }) law.1
+          ∙ ap (λ (x : Rings). record old.port { cfs = false; rings = Some x }) rings;
+      less = subst (λ (x : Rings). RingsLess count page_size (length new.bytes) r x) rings
+          (subst (λ n. RingsLess count page_size n r last.rings) (sym bytes) less.rings);
+      len = bytes ∙ less.len;
+    }
+
+pub port_turn_count : (page_size c most count : ℕ) (old new : Site) → PortTurn page_size c most count old new
+    → TakesCount page_size (length old.bytes) most old.port count new.port
+port_turn_count page_size c most count old new turn r ready well is =
+    let takes = port_takes page_size c most count r old new ready well is turn in
+    (takes.number, ap (λ (p : Port). p.cfs) takes.port)

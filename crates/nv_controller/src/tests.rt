@@ -34,7 +34,7 @@ pub fn identify(cid: u16, nsid: u32, cns: u32, prp1: u64) -> Sqe {
 }
 
 /// Enables controller 0 with rings of so many entries, less one, and a page size of 4,096 bytes.
-fn enable(machine: &mut Machine, less_one: u32, asq: u32)
+pub fn enable(machine: &mut Machine, less_one: u32, asq: u32)
     requires { IsBus machine.old }
     ensures { IsBus machine.new }
 {

@@ -44,13 +44,15 @@ enum Step {
     Posted(u64, u16, u16, bool, u16),
 }
 
-fn submit(rt: &impl Abort, mem: &mut FlatMemory, addr: u64, entry: &Sqe) {
+/// Puts an entry at an address.
+pub fn submit(rt: &impl Abort, mem: &mut FlatMemory, addr: u64, entry: &Sqe) {
     let mut bytes = [0; 64];
     entry.put(&mut bytes);
     assert!(rt; mem.store(addr, &bytes).is_ok());
 }
 
-fn posted(rt: &impl Abort, mem: &FlatMemory, addr: u64) -> Cqe {
+/// The completion at an address.
+pub fn posted(rt: &impl Abort, mem: &FlatMemory, addr: u64) -> Cqe {
     let mut bytes = [0; 16];
     assert!(rt; mem.load(addr, &mut bytes).is_ok());
     Cqe::get(&bytes)
