@@ -6,6 +6,27 @@ use crate::{Bus, Machine};
 use nv_layout::Sqe;
 use std::test::Fail;
 
+/// Entries of a submission ring, with their addresses. Each but the first asks for the list of
+/// active namespaces.
+fn mistakes() -> [(u64, Sqe); 5] {
+    let unknown = Sqe {
+        opcode: 0xff,
+        ..identify(1, 0, 0x02, 0x5000)
+    };
+    [
+        // An opcode that there isn't.
+        (0x00, unknown),
+        // Data outside the memory, which ends at 10000h.
+        (0x40, identify(2, 0, 0x02, 0x10000)),
+        // Data at an address that isn't a multiple of four.
+        (0x80, identify(3, 0, 0x02, 0x5002)),
+        // A list that is written over the submission ring.
+        (0xc0, identify(4, 0, 0x02, 0)),
+        // No mistake, but the list before has made zeros of it.
+        (0x100, identify(5, 0, 0x02, 0x5000)),
+    ]
+}
+
 #[test]
 fn answers_a_drivers_mistakes(rt: HostRuntime) -> Result<(), Fail> {
     // Controller 0 of the demonstration subsystem, with pages of 4,096 bytes, a submission ring of
@@ -13,47 +34,7 @@ fn answers_a_drivers_mistakes(rt: HostRuntime) -> Result<(), Fail> {
     let mut machine = machine(rt.alloc())?;
     enable(&mut machine, 7, 0);
     let mut mem = pages(&rt, rt.alloc())?;
-    // Each asks for the list of active namespaces.
-    let list = identify(1, 0, 0x02, 0x5000);
-    for (addr, entry) in [
-        // An opcode that there isn't.
-        (
-            0x00,
-            Sqe {
-                opcode: 0xff,
-                ..list
-            },
-        ),
-        // Data outside the memory, which ends at 10000h.
-        (
-            0x40,
-            Sqe {
-                cid: 2,
-                prp1: 0x10000,
-                ..list
-            },
-        ),
-        // Data at an address that isn't a multiple of four.
-        (
-            0x80,
-            Sqe {
-                cid: 3,
-                prp1: 0x5002,
-                ..list
-            },
-        ),
-        // A list that is written over the submission ring.
-        (
-            0xc0,
-            Sqe {
-                cid: 4,
-                prp1: 0,
-                ..list
-            },
-        ),
-        // No mistake, but the list before has made zeros of it.
-        (0x100, Sqe { cid: 5, ..list }),
-    ] {
+    for (addr, entry) in mistakes() {
         submit(&rt, &mut mem, addr, &entry);
     }
     assert!(rt; machine.controllers() > 0);
