@@ -29,13 +29,15 @@ pub trait Bus {
             (with_register_at (port_at (meaning self.old).ports ctrl) offset dword) }
         ensures bus { IsBus (meaning self.old) → IsBus (meaning self.new) };
 
-    /// Takes entries of a controller's submission ring, at most so many, and answers how many it took.
-    /// Each gets one completion; of the memory only the places of its data and its completion's slot
-    /// change. None is taken where the controller isn't ready or has a fatal status.
+    /// Takes entries of a controller's submission ring, at most so many, and answers how many it
+    /// took. Each gets one completion; of the memory only the places of its data and its
+    /// completion's slot change. None is taken where the controller isn't ready or has a fatal
+    /// status.
     fn turn<M: HostMemory>(&mut self, ctrl: u16, mem: &mut M, most: u16) -> u16
         requires ctrl { ctrl < length (meaning self.old).ports }
         requires bus { IsBus (meaning self.old) }
-        ensures turn { Turn (M.page_len mem.old) ctrl most result (meaning self.old) (M.bytes mem.old) (meaning self.new) (M.bytes mem.new) }
+        ensures turn { Turn (M.page_len mem.old) ctrl most result
+            (meaning self.old) (M.bytes mem.old) (meaning self.new) (M.bytes mem.new) }
         ensures count { TakesCount (M.page_len mem.old) (length (M.bytes mem.old)) most
             (port_at (meaning self.old).ports ctrl) result (port_at (meaning self.new).ports ctrl) }
         ensures bus { IsBus (meaning self.new) }

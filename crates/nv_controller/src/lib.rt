@@ -22,8 +22,8 @@
 //! let taken = machine.turn(0, &mut mem, 16);
 //! ```
 //!
-//! The test in `src/example.rt` is this example at full length, with a list that is written over the
-//! submission ring itself. `rt try --test` runs it.
+//! The test in `src/example.rt` is this example at full length, with a list that is written over
+//! the submission ring itself. `rt try --test` runs it.
 //!
 //! Sections are named as in the NVM Express Base Specification, revision 1.4.
 #![tactic(auto)]
