@@ -70,6 +70,10 @@ lying_rings_reach r page_size size is =
     let completion = is.completion in
     reaches_by _ _ _ _ size is.page (omega arith) (omega arith)
 
+-- the rings after one entry
+abbrev pub rings_one : Rings → Rings
+rings_one r = record r { submission = fetched_one r.submission; completion = posted_one r.completion }
+
 -- what so many entries leave of rings that lie in the memory
 pub record RingsLess (count page_size size : ℕ) (old new : Rings) : Type 0 where
   pub lie : RingsLie new page_size size
@@ -77,7 +81,7 @@ pub record RingsLess (count page_size size : ℕ) (old new : Rings) : Type 0 whe
   pub free : free_slots old ≡ free_slots new + count
 
 pub rings_one_less : (r : Rings) (page_size size : ℕ) → RingsLie r page_size size → can_take r ≡ true
-    → RingsLess 1 page_size size r (record r { submission = fetched_one r.submission; completion = posted_one r.completion })
+    → RingsLess 1 page_size size r (rings_one r)
 rings_one_less r page_size size is can =
     let means = can_means _ _ _ _ can in
     record {
@@ -139,7 +143,7 @@ one_less page_size c old new is t =
     record {
       len = len;
       rings = subst (λ (r : Rings). RingsLess 1 page_size (length new.bytes) old.rings r) (sym t.one.rings)
-          (subst (λ n. RingsLess 1 page_size n old.rings (record old.rings { submission = fetched_one old.rings.submission; completion = posted_one old.rings.completion })) (sym len) less);
+          (subst (λ n. RingsLess 1 page_size n old.rings (rings_one old.rings)) (sym len) less);
     }
 
 pub taken_less : (count page_size c : ℕ) (old new : Scene) → RingsLie old.rings page_size (length old.bytes) → Taken count page_size c old new → ScenesLess count page_size old new
@@ -187,7 +191,7 @@ turn_count_is page_size c most count old new fatal is turn =
 -- the rings after so many entries
 unfoldable pub rings_after : ℕ → Rings → Rings
 rings_after zero r = r
-rings_after (suc k) r = rings_after k (record r { submission = fetched_one r.submission; completion = posted_one r.completion })
+rings_after (suc k) r = rings_after k (rings_one r)
 
 pub taken_rings : (count page_size c : ℕ) (old new : Scene) → Taken count page_size c old new → new.rings ≡ rings_after count old.rings
 unfolding rings_after
@@ -197,7 +201,7 @@ taken_rings (suc k) page_size c old new taken = taken_rings k page_size c taken.
 pub page_size_after : (k : ℕ) (r : Rings) → (rings_after k r).page_size ≡ r.page_size
 unfolding rings_after
 page_size_after zero r = refl
-page_size_after (suc k) r = page_size_after k (record r { submission = fetched_one r.submission; completion = posted_one r.completion })
+page_size_after (suc k) r = page_size_after k (rings_one r)
 
 -- where n entries were taken before, n + k were
 pub submission_after : (k n : ℕ) (r : Rings) → r.submission.fetched ≡ kept_number r.submission.depth n
@@ -210,7 +214,7 @@ submission_after zero n r h =
 submission_after (suc k) n r h =
     let d = r.submission.depth in
     let same : n + 1 + k ≡ n + suc k = omega arith in
-    submission_after k (n + 1) (record r { submission = fetched_one r.submission; completion = posted_one r.completion }) (ap (next d) h ∙ kept_next d n)
+    submission_after k (n + 1) (rings_one r) (ap (next d) h ∙ kept_next d n)
     ∙ ap (λ x. record r.submission { fetched = kept_number d x }) same
 
 -- where n completions were posted before, n + k were
@@ -224,7 +228,7 @@ completion_after zero n r h =
 completion_after (suc k) n r h =
     let d = r.completion.depth in
     let same : n + 1 + k ≡ n + suc k = omega arith in
-    completion_after k (n + 1) (record r { submission = fetched_one r.submission; completion = posted_one r.completion }) (ap (next d) h ∙ kept_next d n)
+    completion_after k (n + 1) (rings_one r) (ap (next d) h ∙ kept_next d n)
     ∙ ap (λ x. record r.completion { posted = kept_number d x }) same
 
 -- what a turn leaves of a ready controller with rings that lie in the memory

@@ -54,7 +54,8 @@ fn find_data<M: HostMemory>(
 ) -> Result<(), StatusCode>
     requires room { HasRoom moves }
     requires fresh { spans.old ≡ [] }
-    ensures found { let found = data_places (M.page_len mem.now) (M.bytes mem.now) entry.now moves in
+    ensures found { let bytes = M.bytes mem.now in
+        let found = data_places (M.page_len mem.now) bytes entry.now moves in
         MatchResult result (λ _. found ≡ Ok (places spans.new)) (λ code. found ≡ Err code) }
     ensures inside { OnOk result (LieIn (length (M.bytes mem.now)) spans.new) }
     ensures len { OnOk result (length (places spans.new) ≡ length_of moves) }
