@@ -1,6 +1,5 @@
 -- Where the data of an entry lies.
-use Rattle.std.proofs.Common.{◌≡◌, ◌∙◌, ℕ, zero, suc, ◌<◌, ap, refl, subst, sym, arith, lit<, lit≤, List, [], length, Option, Some, None, Result, Ok, Err}
-use Rattle.std.specs.Prelude.{All}
+use Rattle.std.proofs.Common.{◌≡◌, ◌∙◌, ℕ, zero, suc, ◌<◌, ap, refl, subst, sym, arith, lit<, lit≤, List, [], Option, Some, None, Result, Ok, Err}
 use Rattle.std.specs.Option.{option_or}
 use Rattle.nv_layout.specs.declared.sqe.Sqe.{Sqe}
 use Rattle.nv_command.specs.Command.{transfer_by}
@@ -15,9 +14,9 @@ use Rattle.nv_command.specs.declared.status_code.StatusCode.{StatusCode}
 use Rattle.nv_command.specs.declared.transfer.Transfer.{Transfer as Moves}
 use Rattle.nv_command.specs.declared.transfer.Transfer.TheVariants.{NoData}
 use Rattle.nv_prp.specs.Place.{LieIn, places}
-use Rattle.nv_prp.specs.Transfer.{Transfer, IsLegal, fault_after_prp1, first_fault, first_qword_fault, prp1_fault, prp2_fault, qword_fault, qwords, transfer_places}
+use Rattle.nv_prp.specs.Transfer.{Transfer, IsLegal, fault_after_prp1, first_fault, first_qword_fault, qword_fault, qwords, transfer_places}
 use Rattle.nv_prp.specs.declared.error.PrpError.{PrpError}
-use Rattle.nv_controller.specs.Call.{HasRoom, data_places, length_of, places_of, places_unless, prp_status}
+use Rattle.nv_controller.specs.Call.{HasRoom, data_places, places_of, places_unless, prp_status}
 
 no_qword_fault : (t : Transfer) (n : ℕ) → ((k : ℕ) → k < n → qword_fault t k ≡ None) → first_qword_fault t n ≡ None
 no_qword_fault t zero h = refl

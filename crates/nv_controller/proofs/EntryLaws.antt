@@ -1,5 +1,5 @@
 -- The data of a reply.
-use Rattle.std.proofs.Common.{◌≡◌, ◌∙◌, ℕ, ap, List, length, Option, Some, None, Result, Ok, Err}
+use Rattle.std.proofs.Common.{◌≡◌, ◌∙◌, ℕ, ap, length, Option, Some, None, Ok}
 use Rattle.nv_command.specs.Command.{bytes_to_host}
 use Rattle.nv_command.specs.Reply.{data_of}
 use Rattle.nv_command.specs.TravelLaws.{replies_travel}

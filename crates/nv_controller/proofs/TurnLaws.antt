@@ -3,7 +3,8 @@ use Rattle.std.proofs.Common.{◌≡◌, ℕ, zero, suc, ◌+◌, refl, subst, s
 use Rattle.nv_register.specs.declared.rings.Rings.{Rings}
 use Rattle.nv_subsystem.specs.WellFormed.{IsWellFormed}
 use Rattle.nv_controller.specs.Entry.{Scene, scene}
-use Rattle.nv_controller.specs.Turn.{PortTurn, RingsTurn, Site, Taken, Takes, TurnBy, site}
+use Rattle.nv_controller.specs.Turn.{PortTurn, RingsTurn, Site, Taken, Takes, TakesCount, TurnBy, site}
+use Rattle.nv_controller.specs.TurnLaws.{port_turn_count}
 
 -- so many entries were taken, in a memory whose page size and length stay
 pub record Goes (count page_size now c : ℕ) (old new : Scene) : Type 0 where
@@ -29,3 +30,11 @@ turn_of_rings page_size c most count old rings last fatal well ready turn =
     let new = site last.state (record old.port { cfs = fatal; rings = Some last.rings }) last.bytes in
     subst (λ (b : Bool). TurnBy b old.port.rings page_size c most count old new) (sym well)
     (subst (λ (o : Option Rings). TurnBy false o page_size c most count old new) (sym ready) (last, fatal, turn, refl))
+
+-- and so is the number of entries that it takes
+pub count_of_rings : (page_size c most count : ℕ) (old : Site) (rings : Rings) (last : Scene) (fatal : Bool) → old.port.cfs ≡ false → old.port.rings ≡ Some rings
+    → RingsTurn page_size c most count (scene old.state rings old.bytes) last fatal
+    → TakesCount page_size (length old.bytes) most old.port count (record old.port { cfs = fatal; rings = Some last.rings })
+count_of_rings page_size c most count old rings last fatal well ready turn =
+    port_turn_count page_size c most count old (site last.state (record old.port { cfs = fatal; rings = Some last.rings }) last.bytes)
+    (turn_of_rings page_size c most count old rings last fatal well ready turn)

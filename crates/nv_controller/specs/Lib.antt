@@ -3,3 +3,4 @@ pub mod BusCode
 pub mod Call
 pub mod Entry
 pub mod Turn
+pub mod TurnLaws

@@ -1,6 +1,7 @@
 -- What a turn of a controller does.
-use Rattle.std.specs.Prelude.{◌≡◌, ℕ, zero, suc, ◌+◌, ◌-◌, ◌<◌, ◌≤◌, ◌==◌, ◌&&◌, not, nat_le, nat_lt, Bool, true, false, List, length, Option, Some, None, slice_set}
+use Rattle.std.specs.Prelude.{◌≡◌, ℕ, zero, suc, ◌+◌, ◌*◌, ◌-◌, ◌<◌, ◌≤◌, ◌==◌, ◌&&◌, min, not, nat_le, Bool, true, false, List, length, Option, Some, None, slice_set}
 use Rattle.nv_queue.specs.Numbers.{above}
+use Rattle.nv_queue.specs.Rings.{IsFetchRing, IsPostRing}
 use Rattle.nv_queue.specs.Slots.{completion_place, submission_place}
 use Rattle.nv_register.specs.declared.port.Port.{Port}
 use Rattle.nv_register.specs.declared.rings.Rings.{Rings}
@@ -70,3 +71,31 @@ PortTurn page_size c most count old new = TurnBy old.port.cfs old.port.rings pag
 pub record Turn (page_size c most count : ℕ) (b : BusValue) (bytes : List ℕ) (b' : BusValue) (bytes' : List ℕ) : Type 0 where
   pub own : PortTurn page_size c most count (site b.state (port_at b.ports c) bytes) (site b'.state (port_at b'.ports c) bytes')
   pub others : b'.ports ≡ slice_set b.ports c (port_at b'.ports c)
+
+-- ---- how many entries a turn takes
+
+-- both rings lie in a memory of this page size and length, and have the numbers of rings
+pub record RingsLie (r : Rings) (page_size size : ℕ) : Type 0 where
+  pub page : page_size ≡ r.page_size
+  pub submission : r.submission.base + 64 * r.submission.depth ≤ size
+  pub completion : r.completion.base + 16 * r.completion.depth ≤ size
+  pub fetch : IsFetchRing r.submission
+  pub post : IsPostRing r.completion
+
+-- how many entries wait
+abbrev pub waiting : Rings → ℕ
+waiting r = above r.submission.depth r.submission.rung r.submission.fetched
+
+-- how many completions find a free slot
+abbrev pub free_slots : Rings → ℕ
+free_slots r = r.completion.depth - 1 - above r.completion.depth r.completion.posted r.completion.told
+
+-- the least of the most that were asked for, the entries that wait, and the free slots
+abbrev pub turn_count : ℕ → Rings → ℕ
+turn_count most r = min most (min (waiting r) (free_slots r))
+
+-- a ready controller takes so many of rings that lie in the memory, and gets no fatal status
+abbrev pub TakesCount : ℕ → ℕ → ℕ → Port → ℕ → Port → Type 0
+TakesCount page_size size most old count new =
+    (r : Rings) → old.rings ≡ Some r → old.cfs ≡ false → RingsLie r page_size size
+    → (count ≡ turn_count most r) × (new.cfs ≡ false)

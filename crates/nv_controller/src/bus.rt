@@ -3,7 +3,7 @@
 ghost use Rattle.std.specs.Prelude.{◌≡◌, ◌<◌, length, slice_set};
 ghost use Rattle.nv_register.specs.Port.{value_at, with_register_at};
 ghost use Rattle.nv_controller.specs.Bus.{BusValue, IsBus, port_at};
-ghost use Rattle.nv_controller.specs.Turn.{Turn};
+ghost use Rattle.nv_controller.specs.Turn.{TakesCount, Turn};
 
 use nv_host::HostMemory;
 
@@ -29,13 +29,17 @@ pub trait Bus {
             (with_register_at (port_at (meaning self.old).ports ctrl) offset dword) }
         ensures bus { IsBus (meaning self.old) → IsBus (meaning self.new) };
 
-    /// Takes entries of a controller's submission ring, at most so many, and answers how many it took.
-    /// Each gets one completion; of the memory only the places of its data and its completion's slot
-    /// change. None is taken where the controller isn't ready or has a fatal status.
+    /// Takes entries of a controller's submission ring, at most so many, and answers how many it
+    /// took. Each gets one completion; of the memory only the places of its data and its
+    /// completion's slot change. None is taken where the controller isn't ready or has a fatal
+    /// status.
     fn turn<M: HostMemory>(&mut self, ctrl: u16, mem: &mut M, most: u16) -> u16
         requires ctrl { ctrl < length (meaning self.old).ports }
         requires bus { IsBus (meaning self.old) }
-        ensures turn { Turn (M.page_len mem.old) ctrl most result (meaning self.old) (M.bytes mem.old) (meaning self.new) (M.bytes mem.new) }
+        ensures turn { Turn (M.page_len mem.old) ctrl most result
+            (meaning self.old) (M.bytes mem.old) (meaning self.new) (M.bytes mem.new) }
+        ensures count { TakesCount (M.page_len mem.old) (length (M.bytes mem.old)) most
+            (port_at (meaning self.old).ports ctrl) result (port_at (meaning self.new).ports ctrl) }
         ensures bus { IsBus (meaning self.new) }
         ensures len { length (M.bytes mem.new) ≡ length (M.bytes mem.old) }
         ensures page { M.page_len mem.new ≡ M.page_len mem.old };

@@ -4,7 +4,8 @@ ghost use Rattle.std.specs.Prelude.{◌≡◌, ◌<◌, ◌≤◌, [], Ok, Err, 
 ghost use Rattle.nv_command.specs.Command.{transfer_by};
 ghost use Rattle.nv_prp.specs.Place.{LieIn, places};
 ghost use Rattle.nv_prp.specs.Transfer.{transfer};
-ghost use Rattle.nv_controller.specs.Call.{HasRoom, call_of, data_places, length_of, places_of, prp_status, sent_from};
+ghost use Rattle.nv_controller.specs.Call.{HasRoom, call_of, data_places, length_of, places_of};
+ghost use Rattle.nv_controller.specs.Call.{prp_status, sent_from};
 
 use nv_command::{Command, StatusCode, Transfer};
 use nv_host::HostMemory;
@@ -31,8 +32,10 @@ fn walk_data<M: HostMemory>(
 ) -> Result<(), StatusCode>
     requires some { 0 < len }
     requires limit { len ≤ 1048576 }
-    ensures found { let t = transfer (M.page_len mem.now) (M.bytes mem.now) entry.now.prp1 entry.now.prp2 len in
-        MatchResult result (λ _. places_of t ≡ Ok (places spans.new)) (λ code. places_of t ≡ Err code) }
+    ensures found { let bytes = M.bytes mem.now in
+        let t = transfer (M.page_len mem.now) bytes entry.now.prp1 entry.now.prp2 len in
+        MatchResult result (λ _. places_of t ≡ Ok (places spans.new))
+        (λ code. places_of t ≡ Err code) }
     ensures inside { OnOk result (LieIn (length (M.bytes mem.now)) spans.new) }
     ensures len { OnOk result (length (places spans.new) ≡ len) }
 {
@@ -51,7 +54,8 @@ fn find_data<M: HostMemory>(
 ) -> Result<(), StatusCode>
     requires room { HasRoom moves }
     requires fresh { spans.old ≡ [] }
-    ensures found { let found = data_places (M.page_len mem.now) (M.bytes mem.now) entry.now moves in
+    ensures found { let bytes = M.bytes mem.now in
+        let found = data_places (M.page_len mem.now) bytes entry.now moves in
         MatchResult result (λ _. found ≡ Ok (places spans.new)) (λ code. found ≡ Err code) }
     ensures inside { OnOk result (LieIn (length (M.bytes mem.now)) spans.new) }
     ensures len { OnOk result (length (places spans.new) ≡ length_of moves) }
@@ -94,10 +98,12 @@ pub fn read_call<M: HostMemory>(
 ) -> Result<Command, StatusCode>
     requires { spans.old ≡ [] }
     ensures found { let found = call_of (M.page_len mem.now) (M.bytes mem.now) entry.now in
-        MatchResult result (λ command. found ≡ Ok (record { command = command; places = places spans.new }))
+        MatchResult result
+        (λ command. found ≡ Ok (record { command = command; places = places spans.new }))
         (λ code. found ≡ Err code) }
     ensures inside { OnOk result (LieIn (length (M.bytes mem.now)) spans.new) }
-    ensures len { IfOk result (λ command. length (places spans.new) ≡ length_of (transfer_by command)) }
+    ensures len { IfOk result
+        (λ command. length (places spans.new) ≡ length_of (transfer_by command)) }
 {
     let moves = Transfer::of(entry)?;
     find_data(mem, entry, moves, spans)?;

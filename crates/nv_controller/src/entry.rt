@@ -63,7 +63,8 @@ fn deliver<M: HostMemory>(mem: &mut M, spans: &Spans, reply: &Reply)
     requires inside { LieIn (length (M.bytes mem.old)) spans.now }
     requires len { length (places spans.now) ≡ 4096 }
     requires page { length (data_of reply.now) ≡ 4096 }
-    ensures bytes { M.bytes mem.new ≡ written_at (M.bytes mem.old) (places spans.now) (data_of reply.now) }
+    ensures bytes { M.bytes mem.new
+        ≡ written_at (M.bytes mem.old) (places spans.now) (data_of reply.now) }
     ensures len { length (M.bytes mem.new) ≡ length (M.bytes mem.old) }
     ensures page_len { M.page_len mem.new ≡ M.page_len mem.old }
 {

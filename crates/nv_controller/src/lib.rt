@@ -1,12 +1,43 @@
-//! The controller of an NVM subsystem as a host meets it.
+//! The controllers of an NVM subsystem as a host meets them: their registers, and turns over the
+//! host's memory, whatever stands in it.
+//!
+//! A [`Bus`] is what a driver talks to, and a [`Machine`] is one over a subsystem. Any entry in any
+//! memory is answered: it does what its command says, or is refused by the first rule that it
+//! breaks. So a test bench can give a controller a driver's mistakes:
+//!
+//! ```
+//! let mut machine = Machine::new(alloc, subsystem)?;
+//! machine.write32(0, 0x24, 0x0007_0007); // AQA: eight entries each
+//! machine.write32(0, 0x28, 0x0000); // ASQ
+//! machine.write32(0, 0x30, 0x1000); // ACQ
+//! machine.write32(0, 0x14, 0x0046_0001); // CC: pages of 4,096 bytes, EN
+//!
+//! // An opcode that there isn't, and data outside a memory of sixteen pages.
+//! mem.store(0x00, &entry(0xff, 0x5000))?;
+//! mem.store(0x40, &entry(0x06, 0x10000))?;
+//! machine.write32(0, 0x1000, 2); // the tail
+//!
+//! // Both are taken. Their completions at 1000h and 1010h say Invalid Command Opcode and Data
+//! // Transfer Error, and the controller's error log has both.
+//! let taken = machine.turn(0, &mut mem, 16);
+//! ```
+//!
+//! The test in `src/example.rt` is this example at full length, with a list that is written over
+//! the submission ring itself. `rt try --test` runs it.
+//!
+//! Sections are named as in the NVM Express Base Specification, revision 1.4.
 #![tactic(auto)]
 
 mod bus;
 mod call;
 mod entry;
+#[cfg(test)]
+mod example;
 mod machine;
 #[cfg(test)]
 mod tests;
+#[cfg(test)]
+mod tests_by_steps;
 mod turn;
 
 pub use bus::Bus;

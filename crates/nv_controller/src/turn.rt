@@ -3,7 +3,8 @@
 ghost use Rattle.std.specs.Prelude.{◌≡◌, ◌<◌, length};
 ghost use Rattle.nv_subsystem.specs.WellFormed.{IsWellFormed};
 ghost use Rattle.nv_controller.specs.Entry.{scene};
-ghost use Rattle.nv_controller.specs.Turn.{PortTurn, RingsTurn, can_take, reaches, site};
+ghost use Rattle.nv_controller.specs.Turn.{PortTurn, RingsTurn, TakesCount, can_take, reaches};
+ghost use Rattle.nv_controller.specs.Turn.{site};
 
 use crate::entry::take_one;
 use nv_host::HostMemory;
@@ -69,6 +70,8 @@ pub fn turn_port<M: HostMemory>(
     ensures turn { PortTurn (M.page_len mem.old) ctrl most result
         (site subsystem.old port.old (M.bytes mem.old))
         (site subsystem.new port.new (M.bytes mem.new)) }
+    ensures count { TakesCount (M.page_len mem.old) (length (M.bytes mem.old)) most
+        port.old result port.new }
     ensures well_formed { IsWellFormed subsystem.new }
     ensures controllers { length subsystem.new.controllers ≡ length subsystem.old.controllers }
     ensures len { length (M.bytes mem.new) ≡ length (M.bytes mem.old) }

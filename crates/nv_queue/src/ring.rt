@@ -95,7 +95,7 @@ impl Ring {
         requires { IsToldAhead self.now }
         ensures { IsTrue result ↔ (self.now.own ≡ self.now.told) }
     {
-        self.own.slot == self.told.slot
+        self.told.slot == self.own.slot
     }
 
     /// The slot that a doorbell names, if the ring has it.

@@ -5,8 +5,8 @@ ghost use Rattle.nv_register.specs.Dwords.{aqa_dword, aqa_of_dword};
 
 use nv_layout::{bits_of, to_bits};
 
-/// Admin Queue Attributes (AQA): how many entries the queues have, each less one. Section "Admin Queue
-/// Attributes".
+/// Admin Queue Attributes (AQA): how many entries the queues have, each less one. Section "Admin
+/// Queue Attributes".
 #[derive(Clone, Copy, Debug, PartialEq, Eq)]
 pub struct AdminQueueAttributes {
     /// Admin Submission Queue Size, 12 bits.

@@ -1,7 +1,9 @@
 //! What a host reads and writes of one controller.
 
 ghost use Rattle.std.specs.Prelude.{◌≡◌, ◌≤◌, true, option_map};
-ghost use Rattle.nv_register.specs.Port.{can_start, is_queue, new_port, new_rings, start, stop, value_at, value_of, with_cc, with_head, with_high, with_low, with_register, with_register_at, with_tail};
+ghost use Rattle.nv_register.specs.Port.{can_start, is_queue, new_port, new_rings, start, stop};
+ghost use Rattle.nv_register.specs.Port.{value_at, value_of, with_cc, with_head, with_high};
+ghost use Rattle.nv_register.specs.Port.{with_low, with_register, with_register_at, with_tail};
 
 use crate::admin_queue_attributes::AdminQueueAttributes;
 use crate::controller_configuration::ControllerConfiguration;
@@ -10,8 +12,8 @@ use crate::register::Register;
 use crate::rings::Rings;
 use nv_queue::{Fetch, Post};
 
-/// CAP: queues of 4,096 entries at most, contiguous, doorbells side by side, the NVM command set, pages
-/// of 4,096 to 65,536 bytes. Section "Controller Capabilities".
+/// CAP: queues of 4,096 entries at most, contiguous, doorbells side by side, the NVM command set,
+/// pages of 4,096 to 65,536 bytes. Section "Controller Capabilities".
 const CAP_LOW: u32 = 0x0101_0fff;
 
 const CAP_HIGH: u32 = 0x0040_0020;
@@ -169,7 +171,8 @@ impl Port {
     }
 
     fn ring_tail(&mut self, tail: u32)
-        ensures { self.new ≡ record self.old { rings = option_map (with_tail tail) self.old.rings } }
+        ensures { self.new
+            ≡ record self.old { rings = option_map (with_tail tail) self.old.rings } }
     {
         if let Some(rings) = &mut self.rings {
             rings.ring_tail(tail);
@@ -177,7 +180,8 @@ impl Port {
     }
 
     fn ring_head(&mut self, head: u32)
-        ensures { self.new ≡ record self.old { rings = option_map (with_head head) self.old.rings } }
+        ensures { self.new
+            ≡ record self.old { rings = option_map (with_head head) self.old.rings } }
     {
         if let Some(rings) = &mut self.rings {
             rings.ring_head(head);
@@ -206,8 +210,8 @@ impl Port {
         }
     }
 
-    /// Writes the dword at an offset in bytes; ignored where no register begins, or where the register
-    /// takes no write.
+    /// Writes the dword at an offset in bytes; ignored where no register begins, or where the
+    /// register takes no write.
     pub fn write32(&mut self, offset: u32, dword: u32)
         ensures { self.new ≡ with_register_at self.old offset dword }
     {

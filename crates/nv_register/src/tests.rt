@@ -179,9 +179,7 @@ fn takes_pages_of_65536_bytes(rt: HostRuntime) {
 
 #[test]
 fn rings_by_doorbells(rt: HostRuntime) {
-    // Ignored: a tail while the controller isn't ready, one past the last slot, one of more than a slot's bits.
-    let mut port = Port::new();
-    port.write32(0x1000, 1);
+    // Ignored: a tail past the last slot, and one of more than a slot's bits.
     let mut port = ready();
     for (tail, is_empty) in [(4, true), (0x0001_0001, true), (3, false), (0, true)] {
         port.write32(0x1000, tail);
@@ -199,4 +197,88 @@ fn rings_by_doorbells(rt: HostRuntime) {
         Some(rings) => assert!(rt; rings.submission.is_empty()),
         None => assert!(rt; false),
     }
+}
+
+/// Writes AQA, ASQ and ACQ.
+fn write_queues(port: &mut Port, queues: [u32; 5]) {
+    let [aqa, asq_low, asq_high, acq_low, acq_high] = queues;
+    write_all(
+        port,
+        &[
+            (0x24, aqa),
+            (0x28, asq_low),
+            (0x2c, asq_high),
+            (0x30, acq_low),
+            (0x34, acq_high),
+        ],
+    );
+}
+
+/// What every register reads: CC, CSTS, and AQA, ASQ and ACQ.
+fn expect_all(rt: &impl Abort, port: &Port, cc: u32, csts: u32, queues: [u32; 5]) {
+    let [aqa, asq_low, asq_high, acq_low, acq_high] = queues;
+    expect(
+        rt,
+        port,
+        &[
+            (0x00, 0x0101_0fff),
+            (0x04, 0x0040_0020),
+            (0x08, 0x0001_0400),
+            (0x14, cc),
+            (0x1c, csts),
+            (0x24, aqa),
+            (0x28, asq_low),
+            (0x2c, asq_high),
+            (0x30, acq_low),
+            (0x34, acq_high),
+            (0x1000, 0),
+            (0x1004, 0),
+        ],
+    );
+}
+
+/// Writes the registers that take no write, and a doorbell.
+fn write_fixed(port: &mut Port) {
+    write_all(
+        port,
+        &[
+            (0x00, 0),
+            (0x04, 0xffff_ffff),
+            (0x08, 0),
+            (0x1c, 0xffff_ffff),
+            (0x1000, 1),
+            (0x1004, 1),
+        ],
+    );
+}
+
+#[test]
+fn reads_and_writes_at_each_stage(rt: HostRuntime) {
+    let good = [0x0007_0003, 0x1000, 1, 0x2000, 2];
+    let bad = [0x0007_0003, 0x1000, 1, 0x2004, 2];
+    let mut port = Port::new();
+    expect_all(&rt, &port, 0, 0, [0, 0, 0, 0, 0]);
+    write_queues(&mut port, good);
+    write_fixed(&mut port);
+    expect_all(&rt, &port, 0, 0, good);
+    // Ready: of all these writes none is taken.
+    port.write32(0x14, 0x0046_0001);
+    expect_all(&rt, &port, 0x0046_0001, 1, good);
+    write_queues(&mut port, bad);
+    write_fixed(&mut port);
+    port.write32(0x14, 0x00ff_0781);
+    expect_all(&rt, &port, 0x0046_0001, 1, good);
+    // Not enabled any more: EN alone has changed, and then all is written again.
+    port.write32(0x14, 0x00ff_0780);
+    expect_all(&rt, &port, 0x0046_0000, 0, good);
+    write_queues(&mut port, bad);
+    expect_all(&rt, &port, 0x0046_0000, 0, bad);
+    // A fatal status: EN is 1, and again none is taken.
+    port.write32(0x14, 0x0046_0001);
+    expect_all(&rt, &port, 0x0046_0001, 2, bad);
+    write_queues(&mut port, good);
+    write_fixed(&mut port);
+    expect_all(&rt, &port, 0x0046_0001, 2, bad);
+    port.write32(0x14, 0);
+    expect_all(&rt, &port, 0x0046_0000, 0, bad);
 }

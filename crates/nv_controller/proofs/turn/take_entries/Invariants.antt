@@ -1,5 +1,3 @@
-use Rattle.std.proofs.Common.{◌≡◌, length}
-use Rattle.nv_subsystem.specs.State.{State}
 use Rattle.nv_controller.specs.Entry.{scene}
 use Rattle.nv_controller.proofs.TurnLaws.{Goes}
 use Rattle.nv_controller.proofs.turn.take_entries.Given as goal
