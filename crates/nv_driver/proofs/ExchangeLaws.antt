@@ -221,7 +221,7 @@ turned t s w x mem port tail most count z is k before at some turn =
     let k2 : Keeps t s w2 = bell_keeps t s w1 w2 k1 (ap (λ p. record w1 { port = p; rung = 1 }) (before ∙ ap (with_register_at t.port 0x1000) at)) in
     let one = takes_one t s w2 most count z k2 refl refl refl some turn in
     let k3 : Keeps t s (record w2 { mem = z.bytes; state = z.state; port = z.port; done = 0 + count }) =
-        turn_keeps t s most w2 _ k2 (count, turn, refl) in
+    turn_keeps t s most w2 _ k2 (count, turn, refl) in
     subst (λ n. Keeps t s (record w2 { mem = z.bytes; state = z.state; port = z.port; done = n })) (let e : 0 + count ≡ 1 = omega arith in e) k3
 
 -- what one command leaves before its answer is collected
@@ -236,10 +236,10 @@ exchanged g b b2 b3 c l l' now page bytes mem mem' k o tail value most count r f
     let t = setting g c bytes (lane_value l) in
     let x = sent_by g k l.serial o in
     let port : port_at b2.ports c ≡ with_register_at t.port 0x1000 tail =
-        ap (λ ps. port_at ps c) ports ∙ port_set b.ports c _ r.controller ∙ ap (with_register_at (port_at b.ports c) 0x1000) told
-        ∙ ap (λ p. with_register_at p 0x1000 tail) r.port in
+    ap (λ ps. port_at ps c) ports ∙ port_set b.ports c _ r.controller ∙ ap (with_register_at (port_at b.ports c) 0x1000) told
+    ∙ ap (λ p. with_register_at p 0x1000 tail) r.port in
     let own = subst (λ s. PortTurn t.page_size c most count (site s (port_at b2.ports c) mem) (site b3.state (port_at b3.ports c) mem')) state
-        (subst (λ p. PortTurn p c most count (site b2.state (port_at b2.ports c) mem) (site b3.state (port_at b3.ports c) mem')) size turn.own) in
+    (subst (λ p. PortTurn p c most count (site b2.state (port_at b2.ports c) mem) (site b3.state (port_at b3.ports c) mem')) size turn.own) in
     turned t b.state (beginning t b.state) x mem (port_at b2.ports c) tail most count (site b3.state (port_at b3.ports c) mem') refl
     (submitted_keeps g b c l l' now bytes mem k o r fits sub) port
     (tail_is t l.submission.submitted tail (number_zero t r.laid.number) at) some own
@@ -304,8 +304,13 @@ ring_collected t ring is =
 pub lane_after : (g : Geometry) (b b4 : BusValue) (c : ℕ) (l l4 : LaneFields) (now page : ℕ) (bytes mem : List ℕ)
     → IsReady g b c l now bytes → page ≡ g.page_size → length mem ≡ length bytes
     → l4.submission ≡ submit_ring (setting g c bytes (lane_value l)) 1 1
-    → l4.completion ≡ record { base = l.completion.base; depth = l.submission.depth; collected = number (setting g c bytes (lane_value l)) 1;
-          told = number (setting g c bytes (lane_value l)) 1; untold = false }
+    → l4.completion ≡ record {
+      base = l.completion.base;
+      depth = l.submission.depth;
+      collected = number (setting g c bytes (lane_value l)) 1;
+      told = number (setting g c bytes (lane_value l)) 1;
+      untold = false;
+    }
     → l4.serial ≡ next_serial l.serial → l4.pages ≡ l.pages
     → HoldsTags mem l.completion.base l.submission.depth (number (setting g c bytes (lane_value l)) 1)
     → c < length b4.ports → IsBus b4
@@ -322,9 +327,9 @@ lane_after g b b4 c l l4 now page bytes mem r size len submission completion ser
       pages = l.pages;
     } in
     let is : l1 ≡ l4 = sym (ap (λ (q : SubmitNumbers). record l4 { submission = q }) submission
-        ∙ ap (λ (q : CollectNumbers). record l4 { submission = l1.submission; completion = q }) completion
-        ∙ ap (λ q. record l4 { submission = l1.submission; completion = l1.completion; serial = q }) serial
-        ∙ ap (λ (q : Pages). record { submission = l1.submission; completion = l1.completion; serial = l1.serial; pages = q }) pages) in
+    ∙ ap (λ (q : CollectNumbers). record l4 { submission = l1.submission; completion = q }) completion
+    ∙ ap (λ q. record l4 { submission = l1.submission; completion = l1.completion; serial = q }) serial
+    ∙ ap (λ (q : Pages). record { submission = l1.submission; completion = l1.completion; serial = l1.serial; pages = q }) pages) in
     subst (λ q. IsReady g b4 c q page mem) is (record {
       geometry = r.geometry;
       page_size = size;

@@ -1,6 +1,7 @@
 pub mod PageSetLaws
 pub mod SubmittingLaws
 pub mod ExchangeLaws
+pub mod AdminLaws
 pub mod SerialLaws
 pub mod CountLaws
 pub mod RegionLaws

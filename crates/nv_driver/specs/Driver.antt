@@ -1,6 +1,7 @@
 -- What a driver stands for, by its fields, and what holds of them between two calls.
-use Rattle.std.specs.Prelude.{◌≡◌, ℕ, ◌*◌, ◌/◌, ◌<◌, ◌^◌, All, List, length, map, slice_index_or}
+use Rattle.std.specs.Prelude.{◌≡◌, ℕ, ◌*◌, ◌/◌, ◌<◌, ◌^◌, All, List, length, map, slice_index_or, slice_set}
 use Rattle.nv_host.specs.Pages.{PagedBytes}
+use Rattle.nv_driver.specs.Exchange.{after_one}
 use Rattle.nv_driver.specs.Geometry.{IsGeometry}
 use Rattle.nv_driver.specs.Lane.{Lane}
 use Rattle.nv_driver.specs.Layout.{lane_of, lanes_of, pages_of}
@@ -33,3 +34,16 @@ pub record IsDriver (g : Geometry) (mem : PagedBytes) (lanes : List LaneFields) 
   pub quiet : All IsQuiet lanes
   pub placed : (i : ℕ) (d : Lane) → i < length lanes → IsPlaced g i (slice_index_or (map lane_value lanes) i d)
   pub settled : IsSettled mem.page_size mem.bytes (map lane_value lanes)
+
+-- ---- a command
+
+-- no lane of a driver
+abbrev pub no_lane : Lane
+no_lane = record { sq = 0; cq = 0; depth = 0; number = 0; serial = 0; first_page = 0; page_count = 0 }
+
+abbrev pub lane_at : List Lane → ℕ → Lane
+lane_at lanes c = slice_index_or lanes c no_lane
+
+-- the driver after a command of controller c: the next number and the next command identifier of its lane are due
+abbrev pub after_command : DriverValue → ℕ → DriverValue
+after_command d c = record d { lanes = slice_set d.lanes c (after_one (lane_at d.lanes c)) }

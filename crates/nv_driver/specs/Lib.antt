@@ -4,9 +4,9 @@ pub mod Lane
 pub mod Layout
 pub mod Quiet
 pub mod Settled
-pub mod Driver
 pub mod Registers
 pub mod CommandPages
 pub mod Schedule
 pub mod Submitting
 pub mod Exchange
+pub mod Driver

@@ -1,16 +1,21 @@
 //! The driver of the controllers of a bus.
 
-ghost use Rattle.std.specs.Prelude.{◌≡◌, ◌≢◌, ◌≤◌, ◌↔◌, All, Err, IfOk, OnErr, Some, length};
+ghost use Rattle.std.specs.Prelude.{◌≡◌, ◌≢◌, ◌<◌, ◌≤◌, ◌↔◌, All, Err, IfOk, OnErr, Some, length};
 ghost use Rattle.nv_controller.specs.Bus.{IsBus, IsEnabledWhereReady};
-ghost use Rattle.nv_driver.specs.Driver.{new_driver};
+ghost use Rattle.nv_command.specs.Command.{CommandFits};
+ghost use Rattle.nv_subsystem.specs.Step.{step};
+ghost use Rattle.nv_driver.specs.Driver.{after_command, lane_at, new_driver};
 ghost use Rattle.nv_driver.specs.Geometry.{IsGeometry, fault_of};
 ghost use Rattle.nv_driver.specs.Registers.{ports_of};
 
+use crate::answering::Answer;
 use crate::enabling::enable_all;
 use crate::error::DriverError;
+use crate::exchange::exchange;
 use crate::geometry::Geometry;
 use crate::geometry_field::GeometryField;
 use crate::lane::{Lane, new_lanes};
+use nv_command::Command;
 use nv_controller::Bus;
 use nv_host::{FlatMemory, HostMemory, Memory};
 use std::alloc::Global;
@@ -81,6 +86,26 @@ impl Driver {
         let driver = Driver::new(alloc, geometry, bus.controllers())?;
         enable_all(bus, geometry)?;
         Ok(driver)
+    }
+
+    /// Sends a command to a controller and awaits its answer: the reply, or the status of the
+    /// refusal. It takes no memory. The bus is as this driver left it; each field of the command
+    /// fits its bits. Section "Command Processing".
+    pub fn admin<B: Bus>(&mut self, bus: &mut B, ctrl: u16, command: &Command) -> Answer
+        requires ctrl { ctrl < length self.old.lanes }
+        requires bus { IsBus (B.meaning bus.old) }
+        requires left { (B.meaning bus.old).ports ≡ ports_of self.old }
+        requires fits { CommandFits command.now }
+        ensures answer { result ≡ (step (B.meaning bus.old).state
+            ctrl command.now (lane_at self.old.lanes ctrl).serial).answer }
+        ensures state { (B.meaning bus.new).state ≡ (step (B.meaning bus.old).state
+            ctrl command.now (lane_at self.old.lanes ctrl).serial).state }
+        ensures bus { IsBus (B.meaning bus.new) }
+        ensures driver { self.new ≡ after_command self.old ctrl }
+        ensures left { (B.meaning bus.new).ports ≡ ports_of self.new }
+    {
+        let lane = &mut self.lanes[ctrl as usize];
+        exchange(bus, ctrl, &mut self.mem, lane, self.geometry, command)
     }
 
     /// How many pages the host's memory has.

@@ -39,7 +39,7 @@ unwrap-completion-requires g c =
     let size = c.submit-tail.ensures.page ∙ r.page_size in
     let pace = r.geometry.pace in
     let k = exchanged _ _ _ _ _ _ _ _ _ _ _ _ _ _ _ _ _ _ r c.requires.fits sub c.submit-tail.ensures.tail c.write32.ensures.state c.from.ensures
-        c.write32.ensures.ports size pace.0 c.turn.ensures.turn in
+    c.write32.ensures.ports size pace.0 c.turn.ensures.turn in
     c.poll.ensures.awaited.1 (subst (IsAwaitedThere (g.M.HostMemory.bytes c.turn.new.mem))
     (sym (completion_ring _ _ _ _ _ _ _ _ _ _ r sub)) (is_there _ _ _ _ _ _ k))
 
@@ -50,7 +50,7 @@ freed-requires g c =
     let size = c.submit-tail.ensures.page ∙ r.page_size in
     let pace = r.geometry.pace in
     let k = exchanged _ _ _ _ _ _ _ _ _ _ _ _ _ _ _ _ _ _ r c.requires.fits sub c.submit-tail.ensures.tail c.write32.ensures.state c.from.ensures
-        c.write32.ensures.ports size pace.0 c.turn.ensures.turn in
+    c.write32.ensures.ports size pace.0 c.turn.ensures.turn in
     let t = setting c.args.geometry c.args.ctrl (g.M.HostMemory.bytes c.args.mem.now) (lane_value c.args.lane.now) in
     let there = completion_is t _ _ _ _ c.unwrap-completion.ensures c.poll.ensures.value (completion_ring _ _ _ _ _ _ _ _ _ _ r sub) in
     freed_between t _ _ r.laid.deep.0 (submission_ring _ _ _ _ _ _ _ _ _ _ r sub)
@@ -76,7 +76,7 @@ answer-requires g c =
     let same = c.turn.ensures.len ∙ c.submit-tail.ensures.len ∙ sym sub.prepared.len in
     let x = sent_by c.args.geometry c.args.command.now c.args.lane.now.serial c.submit-tail.result.0 in
     let still = still_legal c.args.geometry.page_size x (g.M.HostMemory.bytes c.args.mem.now) sub.ready (g.M.HostMemory.bytes c.turn.new.mem)
-        r.geometry.page_size sub.prepared same in
+    r.geometry.page_size sub.prepared same in
     let last = c.turn.ensures.page ∙ size in
     subst (λ p. IsLegal (transfer p (g.M.HostMemory.bytes c.turn.new.mem) x.prp1 x.prp2 (data_length x))) (sym last) still.0
 
@@ -87,16 +87,16 @@ returns-clause-answer g c =
     let size = c.submit-tail.ensures.page ∙ r.page_size in
     let pace = r.geometry.pace in
     let k = exchanged _ _ _ _ _ _ _ _ _ _ _ _ _ _ _ _ _ _ r c.requires.fits sub c.submit-tail.ensures.tail c.write32.ensures.state c.from.ensures
-        c.write32.ensures.ports size pace.0 c.turn.ensures.turn in
+    c.write32.ensures.ports size pace.0 c.turn.ensures.turn in
     let same = c.turn.ensures.len ∙ c.submit-tail.ensures.len ∙ sym sub.prepared.len in
     let x = sent_by c.args.geometry c.args.command.now c.args.lane.now.serial c.submit-tail.result.0 in
     let still = still_legal c.args.geometry.page_size x (g.M.HostMemory.bytes c.args.mem.now) sub.ready (g.M.HostMemory.bytes c.turn.new.mem)
-        r.geometry.page_size sub.prepared same in
+    r.geometry.page_size sub.prepared same in
     let last = c.turn.ensures.page ∙ size in
     let mem = g.M.HostMemory.bytes c.turn.new.mem in
     let q = c.unwrap-completion.result in
     let there = completion_is (setting c.args.geometry c.args.ctrl (g.M.HostMemory.bytes c.args.mem.now) (lane_value c.args.lane.now)) _ _ _ _
-        c.unwrap-completion.ensures c.poll.ensures.value (completion_ring _ _ _ _ _ _ _ _ _ _ r sub) in
+    c.unwrap-completion.ensures c.poll.ensures.value (completion_ring _ _ _ _ _ _ _ _ _ _ r sub) in
     c.answer.ensures
     ∙ ap (λ p. answer_from x.command q (read_at mem (transfer_places (transfer p mem x.prp1 x.prp2 (data_length x))))) last
     ∙ ap (λ ps. answer_from x.command q (read_at mem ps)) still.1
@@ -110,7 +110,7 @@ returns-clause-state g c =
     let size = c.submit-tail.ensures.page ∙ r.page_size in
     let pace = r.geometry.pace in
     let k = exchanged _ _ _ _ _ _ _ _ _ _ _ _ _ _ _ _ _ _ r c.requires.fits sub c.submit-tail.ensures.tail c.write32.ensures.state c.from.ensures
-        c.write32.ensures.ports size pace.0 c.turn.ensures.turn in
+    c.write32.ensures.ports size pace.0 c.turn.ensures.turn in
     c.write32-2.ensures.state ∙ state_is _ _ _ _ _ _ k
 
 pub returns-clause-ready : goal.returns-clause-ready
@@ -120,7 +120,7 @@ returns-clause-ready g c =
     let size = c.submit-tail.ensures.page ∙ r.page_size in
     let pace = r.geometry.pace in
     let k = exchanged _ _ _ _ _ _ _ _ _ _ _ _ _ _ _ _ _ _ r c.requires.fits sub c.submit-tail.ensures.tail c.write32.ensures.state c.from.ensures
-        c.write32.ensures.ports size pace.0 c.turn.ensures.turn in
+    c.write32.ensures.ports size pace.0 c.turn.ensures.turn in
     let t = setting c.args.geometry c.args.ctrl (g.M.HostMemory.bytes c.args.mem.now) (lane_value c.args.lane.now) in
     let ring = completion_ring _ _ _ _ _ _ _ _ _ _ r sub in
     let there = completion_is t _ _ _ _ c.unwrap-completion.ensures c.poll.ensures.value ring in
@@ -151,5 +151,5 @@ returns-clause-others g c =
     let size = c.submit-tail.ensures.page ∙ r.page_size in
     let pace = r.geometry.pace in
     let k = exchanged _ _ _ _ _ _ _ _ _ _ _ _ _ _ _ _ _ _ r c.requires.fits sub c.submit-tail.ensures.tail c.write32.ensures.state c.from.ensures
-        c.write32.ensures.ports size pace.0 c.turn.ensures.turn in
+    c.write32.ensures.ports size pace.0 c.turn.ensures.turn in
     others_after _ _ _ _ _ _ _ _ _ _ _ _ _ r sub k

@@ -1,0 +1,26 @@
+use Rattle.std.proofs.Common.{◌≡◌, ◌∙◌, ap, get_or, length, map, subst, sym}
+use Rattle.nv_driver.specs.Driver.{after_command}
+use Rattle.nv_driver.specs.Quiet.{lane_value}
+use Rattle.nv_driver.specs.Registers.{ports_of}
+use Rattle.nv_driver.specs.Settled.{DriverValue}
+use Rattle.nv_driver.proofs.AdminLaws.{driver_after, inside_of, ports_left, ready_at, value_after}
+use Rattle.nv_driver.proofs.driver.Driver.admin.Goals as goal
+
+pub exchange-requires-clause-ready : goal.exchange-requires-clause-ready
+exchange-requires-clause-ready g c =
+    ready_at _ _ _ _ _ _ c.self.invariant c.requires.bus (c.requires.left ∙ ap ports_of (sym c.self.view_is)) (inside_of _ _ _ _ _ c.requires.ctrl c.self.view_is) c.index_mut-lane.ensures.value
+
+pub invariant_of-self : goal.invariant_of-self
+invariant_of-self g c =
+    let e = c.exchange.ensures in
+    driver_after _ _ _ _ _ _ _ _ c.self.invariant (inside_of _ _ _ _ _ c.requires.ctrl c.self.view_is) c.index_mut-lane.ensures.value e.ready e.lane e.others e.len e.page
+
+pub returns-clause-driver : goal.returns-clause-driver
+returns-clause-driver g c =
+    let e = c.exchange.ensures in
+    value_after _ _ _ _ _ _ _ (inside_of _ _ _ _ _ c.requires.ctrl c.self.view_is) c.index_mut-lane.ensures.value e.lane e.len e.page ∙ ap (λ (d : DriverValue). after_command d c.args.ctrl) c.self.view_is
+
+pub returns-clause-left : goal.returns-clause-left
+returns-clause-left g c =
+    let e = c.exchange.ensures in
+    ports_left c.self.inside.geometry c.self.inside.lanes.items c.args.ctrl c.exchange.new.lane _ _ (c.requires.left ∙ ap ports_of (sym c.self.view_is)) e.ports e.ready.port
