@@ -1,7 +1,7 @@
 -- One command of a driver, over the lanes of its controllers.
 use Rattle.std.specs.Prelude.{slice_set}
 use Rattle.std.specs.Int.{div_ceil}
-use Rattle.std.proofs.Common.{◌≡◌, ◌≢◌, ◌∙◌, ◌⊎◌, ℕ, ◌+◌, ◌-◌, ◌*◌, ◌/◌, ◌^◌, ◌<◌, ◌≤◌, All, List, ap, arith, get_or, inl, inr, length, map, refl, subst, suc, sym, zero}
+use Rattle.std.proofs.Common.{◌≡◌, ◌≢◌, ◌∙◌, ◌⊎◌, ℕ, ◌+◌, ◌-◌, ◌*◌, ◌/◌, ◌^◌, ◌<◌, ◌≤◌, List, ap, arith, get_or, inl, inr, length, map, refl, subst, suc, sym, zero}
 use Rattle.std.proofs.Math.ListN.{length-set}
 use Rattle.std.proofs.Math.Nat.{mul-le-mul_left, mul-le-mul_right}
 use Rattle.std.proofs.lemmas.Bool.{cases_eq, cases_lt}
@@ -21,7 +21,7 @@ use Rattle.nv_driver.specs.Driver.{IsDriver, IsPlaced, after_command, driver_val
 use Rattle.nv_driver.specs.Exchange.{IsReady, KeepsOthers, after_one}
 use Rattle.nv_driver.specs.Geometry.{IsGeometry}
 use Rattle.nv_driver.specs.Lane.{IsLaid, Lane, idle_port}
-use Rattle.nv_driver.specs.Layout.{lane_of, set_pages}
+use Rattle.nv_driver.specs.Layout.{set_pages}
 use Rattle.nv_driver.specs.Quiet.{IsQuiet, lane_value}
 use Rattle.nv_driver.specs.Registers.{idle_ports, mps_of}
 use Rattle.nv_driver.specs.Settled.{DriverValue, IsSettled, end_of}
@@ -97,9 +97,9 @@ slots_stay page_size old new v u keeps laid own apart tags s below =
     let own_ends = mul-le-mul_right page_size own_least in
     let slot = u.cq + 16 * s in
     let aside : IsApart v.sq (end_of page_size v - v.sq) slot 16 = elim apart [
-        | inl before ↦ inl (omega (arith, laid.pages, ends))
-        | inr behind ↦ inr (omega (arith, laid.rings, own.rings, own.pages, own_ends))
-      ] in
+      | inl before ↦ inl (omega (arith, laid.pages, ends))
+      | inr behind ↦ inr (omega (arith, laid.rings, own.rings, own.pages, own_ends))
+    ] in
     ap (λ (q : Cqe). q.phase) (ap cqe_of_bytes (keeps slot 16 aside)) ∙ tags s below
 
 pub settled_after : (page_size : ℕ) (old new : List ℕ) (vs : List Lane) (c : ℕ) (v u : Lane) → IsSettled page_size old vs → c < length vs

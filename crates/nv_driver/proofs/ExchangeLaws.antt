@@ -1,17 +1,17 @@
 -- One command and its answer, as a schedule of one.
-use Rattle.std.specs.Prelude.{slice_set, IfSome, None, OnSome, Option, Some}
+use Rattle.std.specs.Prelude.{slice_set, IfSome, OnSome, Option, Some}
 use Rattle.nv_layout.specs.declared.cqe.Cqe.{Cqe}
 use Rattle.std.proofs.Math.ListN.{length-set}
 use Rattle.nv_queue.specs.NumberLaws.{above_cases}
 use Rattle.std.proofs.lemmas.List.{get_or-set_same, set-set}
 use Rattle.std.proofs.lemmas.Nat.{mod_below}
 use Rattle.nv_queue.specs.Rings.{CollectNumbers, SubmitNumbers, collected_one, known_to, submitted_one, told_all}
-use Rattle.std.proofs.Common.{◌≡◌, ◌≢◌, ◌∙◌, ◌⊎◌, ℕ, zero, suc, ◌+◌, ◌-◌, ◌*◌, ◌%◌, ◌==◌, ◌&&◌, ◌^◌, ◌<◌, ◌≤◌, not, Bool, true, false, List, [], ◌∷◌, ap, arith, get_or, inl, inr, length, refl, subst, sym}
+use Rattle.std.proofs.Common.{◌≡◌, ◌≢◌, ◌∙◌, ℕ, zero, suc, ◌+◌, ◌-◌, ◌*◌, ◌==◌, ◌&&◌, ◌<◌, ◌≤◌, not, Bool, true, false, List, [], ◌∷◌, ap, arith, get_or, inl, inr, length, refl, subst, sym}
 use Rattle.std.proofs.Math.Nat.{mul-le-mul_right}
 use Rattle.std.proofs.lemmas.Bool.{cases_lt}
 use Rattle.std.proofs.lemmas.Bool.Decides.{nat_tests}
 use Rattle.nv_host.specs.PageSets.{IsOf, Pages}
-use Rattle.nv_queue.specs.Numbers.{IsDepth, IsFull, IsSlotBetween, above, first_in_slot, next, phase_of, slot_of, tag_below}
+use Rattle.nv_queue.specs.Numbers.{IsDepth, IsFull, IsSlotBetween, above, first_in_slot, next, slot_of, tag_below}
 use Rattle.nv_queue.specs.KeptLaws.{between_kept, first_kept}
 use Rattle.nv_queue.specs.Slots.{HoldsTags, IsAwaitedThere, awaited_completion, completion_at, with_submission}
 use Rattle.nv_queue.specs.TagLaws.{tag_below_next_same}
@@ -20,18 +20,17 @@ use Rattle.nv_command.specs.Command.{CommandFits}
 use Rattle.nv_command.specs.declared.command.Command.{Command}
 use Rattle.nv_register.specs.Port.{new_port, with_register_at}
 use Rattle.nv_register.specs.declared.port.Port.{Port}
-use Rattle.nv_register.specs.declared.rings.Rings.{Rings}
 use Rattle.nv_subsystem.specs.State.{State}
 use Rattle.nv_controller.specs.Bus.{BusValue, IsBus, port_at}
 use Rattle.nv_controller.specs.Turn as T
 use Rattle.nv_controller.specs.Turn.{PortTurn, Site, can_take, site}
-use Rattle.nv_driver.specs.CommandPages.{AreTaken, all_pages, data_pages}
+use Rattle.nv_driver.specs.CommandPages.{all_pages, data_pages}
 use Rattle.nv_prp.specs.Buffer.{IsApart}
 use Rattle.nv_driver.specs.Exchange.{IsReady, KeepsOthers}
 use Rattle.nv_driver.specs.Lane.{IsLaid, Lane, idle_port}
 use Rattle.nv_driver.specs.Quiet.{IsQuiet, lane_value}
 use Rattle.nv_driver.specs.Registers.{mps_of}
-use Rattle.nv_driver.specs.Schedule.{AreOutside, IsIdle, MaySubmit, Sent, Setting, Turn, World, answer_read, collect_ring, device_rings, entry, number, own_pages, port_with, slot, submit_ring}
+use Rattle.nv_driver.specs.Schedule.{AreOutside, IsIdle, MaySubmit, Sent, Setting, World, answer_read, collect_ring, device_rings, entry, number, own_pages, port_with, slot, submit_ring}
 use Rattle.nv_driver.specs.Submitting.{IsSubmitted, sent_by}
 use Rattle.nv_driver.specs.declared.geometry.Geometry.{Geometry}
 use Rattle.nv_driver.specs.declared.lane.Lane.{Lane as LaneFields}

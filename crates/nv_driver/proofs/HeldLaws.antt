@@ -1,11 +1,10 @@
 -- Answers that are held while the memory and the schedule go on.
-use Rattle.std.proofs.Common.{◌≡◌, ◌∙◌, ℕ, Err, List, Ok, ap, get_or, if◌then◌else◌, sym}
+use Rattle.std.proofs.Common.{◌≡◌, ◌∙◌, ℕ, List, ap, get_or, sym}
 use Rattle.nv_layout.specs.declared.cqe.Cqe.{Cqe}
 use Rattle.nv_prp.specs.Place.{read_at}
 use Rattle.nv_queue.specs.Slots.{completion_at}
-use Rattle.nv_command.specs.Reply.{reply_in}
 use Rattle.nv_subsystem.specs.State.{State}
-use Rattle.nv_driver.specs.Schedule.{Answer, Holds, Sent, Setting, World, answer_from, answer_read, answers_to, is_success, places, slot}
+use Rattle.nv_driver.specs.Schedule.{Answer, Holds, Sent, Setting, World, answer_from, answer_read, answers_to, places, slot}
 
 pub answer_same : (t : Setting) (x : Sent) (old new : List ℕ) (c e : Cqe) → e ≡ c → read_at new (places t.page_size x) ≡ read_at old (places t.page_size x)
     → answer_read t.page_size x new e ≡ answer_read t.page_size x old c

@@ -1,7 +1,6 @@
 -- The pages of a command, as `build` wants them.
-use Rattle.std.proofs.Common.{◌≡◌, ◌≢◌, ◌∙◌, ℕ, zero, suc, ◌+◌, ◌*◌, ◌%◌, ◌^◌, ◌<◌, ◌≤◌, All, AllPairs, List, [], ◌∷◌, OnOk, Ok, Result, ap, arith, drop, get_or, length, length-drop, length-take, refl, slice_index, subst, sym, take}
+use Rattle.std.proofs.Common.{◌≡◌, ◌∙◌, ℕ, suc, ◌+◌, ◌*◌, ◌^◌, ◌<◌, ◌≤◌, All, List, [], ◌∷◌, OnOk, Ok, Result, ap, arith, drop, get_or, length, length-drop, length-take, slice_index, subst, sym, take}
 use Rattle.std.proofs.Math.Nat.{mul-le-mul_right}
-use Rattle.nv_host.specs.Bytes.{bytes_at}
 use Rattle.nv_host.specs.PageSets.{IsOf, Pages}
 use Rattle.nv_host.specs.Pages.{HasPage}
 use Rattle.nv_prp.specs.Buffer.{IsBuffer, IsListPlace, IsOutside, KeepsOutside, buffer_place}
@@ -10,7 +9,7 @@ use Rattle.nv_prp.specs.Transfer.{IsLegal, place_of, transfer}
 use Rattle.nv_command.specs.declared.command.Command.{Command}
 use Rattle.nv_driver.specs.CommandPages.{AreTaken, all_pages, data_pages}
 use Rattle.nv_driver.specs.Geometry.{IsGeometry}
-use Rattle.nv_driver.specs.Schedule.{IsPrepared, data_length, own_pages}
+use Rattle.nv_driver.specs.Schedule.{IsPrepared, data_length}
 use Rattle.nv_driver.specs.Submitting.{sent_by}
 use Rattle.nv_driver.specs.declared.command_pages.CommandPages.{CommandPages}
 use Rattle.nv_driver.specs.declared.geometry.Geometry.{Geometry}

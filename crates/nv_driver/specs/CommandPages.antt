@@ -1,5 +1,5 @@
 -- The pages of a command.
-use Rattle.std.specs.Prelude.{◌≡◌, ◌≢◌, ℕ, ◌+◌, All, AllPairs, List, drop, slice_index, take, true}
+use Rattle.std.specs.Prelude.{◌≡◌, ◌≢◌, ℕ, ◌+◌, All, AllPairs, List, drop, take, true}
 use Rattle.std.specs.FinSet as set
 use Rattle.nv_host.specs.PageSets.{IsOf, Pages}
 use Rattle.nv_driver.specs.declared.command_pages.CommandPages.{CommandPages}

@@ -1,21 +1,16 @@
-use Rattle.std.proofs.Common.{◌≡◌, ◌∙◌, ℕ, ◌+◌, ◌-◌, ◌*◌, ◌<◌, ◌≤◌, IfSome, Option, Some, ap, arith, get_or, length, subst, sym}
+use Rattle.std.proofs.Common.{◌∙◌, ℕ, ◌<◌, ap, arith, get_or, length, subst, sym}
 use Rattle.std.specs.FinSet as set
 use Rattle.nv_host.specs.PageSets.{IsOf, Pages}
 use Rattle.nv_layout.specs.declared.cqe.Cqe.{Cqe}
 use Rattle.nv_prp.specs.Place.{read_at}
 use Rattle.nv_prp.specs.Transfer.{IsLegal, transfer, transfer_places}
-use Rattle.nv_queue.specs.Numbers.{IsSlotBetween, above}
-use Rattle.nv_queue.specs.NumberLaws.{above_cases}
-use Rattle.nv_queue.specs.Rings.{CollectNumbers, SubmitNumbers, told_all}
-use Rattle.nv_queue.specs.Slots.{IsAwaitedThere, awaited_completion, completion_at}
-use Rattle.nv_driver.specs.CommandPages.{all_pages, with_pages, without}
+use Rattle.nv_queue.specs.Rings.{told_all}
+use Rattle.nv_queue.specs.Slots.{IsAwaitedThere}
+use Rattle.nv_driver.specs.CommandPages.{all_pages, with_pages}
 use Rattle.nv_driver.specs.Quiet.{lane_value}
-use Rattle.nv_driver.specs.Schedule.{answer_from, answer_read, data_length, places, slot}
+use Rattle.nv_driver.specs.Schedule.{answer_from, answer_read, data_length}
 use Rattle.nv_driver.specs.Submitting.{sent_by}
 use Rattle.nv_driver.specs.declared.lane.Lane.{Lane as LaneFields}
-use Rattle.std.specs.Prelude.{slice_set}
-use Rattle.nv_register.specs.Port.{with_register_at}
-use Rattle.nv_controller.specs.Bus.{port_at}
 use Rattle.nv_driver.proofs.ExchangeLaws.{answer_is, completion_is, completion_ring, exchanged, freed_between, head_is, in_some, is_there, lane_after, not_full, others_after, port_after, port_is, ports_after, ports_long, ring_collected, ring_freed, setting, state_is, submission_ring, tags_are, told_is}
 use Rattle.nv_driver.proofs.PageSetLaws.{full_length, taken_back, without_none}
 use Rattle.nv_driver.proofs.PointerLaws.{still_legal}

@@ -1,4 +1,4 @@
-use Rattle.std.proofs.Common.{◌+◌, ◌<◌, ◌≤◌, arith}
+use Rattle.std.proofs.Common.{arith}
 use Rattle.nv_host.specs.PageLaws.{page_size_bounds}
 use Rattle.nv_driver.proofs.PointerLaws.{two_pages}
 use Rattle.nv_driver.proofs.submitting.page_count.Goals as goal

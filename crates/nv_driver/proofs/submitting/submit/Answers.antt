@@ -9,7 +9,7 @@ use Rattle.nv_prp.specs.Place.{AreDistinct}
 use Rattle.nv_prp.specs.declared.builder.ListPlace.{ListPlace}
 use Rattle.nv_queue.specs.Slots.{with_submission}
 use Rattle.nv_command.specs.Entry.{with_pointer}
-use Rattle.nv_driver.proofs.SubmittingLaws.{Has, buffer_of, distinct_of, list_of, on_ok, prepared_by}
+use Rattle.nv_driver.proofs.SubmittingLaws.{buffer_of, distinct_of, list_of, on_ok, prepared_by}
 use Rattle.nv_driver.proofs.submitting.submit.Goals as goal
 
 pub build-prp1-requires-clause-buffer : goal.build-prp1-requires-clause-buffer

@@ -1,7 +1,6 @@
-use Rattle.std.proofs.Common.{◌≡◌, ◌+◌, ◌<◌, ◌≤◌, ◌∙◌, ap, arith, get_or, length, length-take, refl, subst, sym, take}
+use Rattle.std.proofs.Common.{◌≡◌, ◌+◌, ◌<◌, ◌∙◌, arith, length, length-take, refl, subst, sym, take}
 use Rattle.std.proofs.Math.ListN.{length-set}
 use Rattle.std.proofs.lemmas.List.{take_more_set}
-use Rattle.nv_driver.specs.CommandPages.{without}
 use Rattle.nv_driver.proofs.PageSetLaws.{Taking, has_one, some_taken, taking_next, taking_none}
 use Rattle.nv_driver.proofs.command_pages.CommandPages.take.Goals as goal
 

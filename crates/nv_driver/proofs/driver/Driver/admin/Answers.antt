@@ -1,6 +1,5 @@
-use Rattle.std.proofs.Common.{◌≡◌, ◌∙◌, ap, get_or, length, map, subst, sym}
+use Rattle.std.proofs.Common.{◌∙◌, ap, sym}
 use Rattle.nv_driver.specs.Driver.{after_command}
-use Rattle.nv_driver.specs.Quiet.{lane_value}
 use Rattle.nv_driver.specs.Registers.{ports_of}
 use Rattle.nv_driver.specs.Settled.{DriverValue}
 use Rattle.nv_driver.proofs.AdminLaws.{driver_after, inside_of, ports_left, ready_at, value_after}
