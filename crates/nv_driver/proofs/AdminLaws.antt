@@ -206,3 +206,7 @@ pub inside_of : (g : Geometry) (mem : PagedBytes) (ls : List LaneFields) (d : Dr
 inside_of g mem ls d c below is =
     let many = ap (λ (v : DriverValue). length v.lanes) is ∙ refl in
     let same = length-map ls lane_value in omega arith
+
+-- a lane for each
+pub lane_count : (ls : List LaneFields) → length ls ≡ length (map lane_value ls)
+lane_count ls = sym (length-map ls lane_value)

@@ -108,6 +108,14 @@ impl Driver {
         exchange(bus, ctrl, &mut self.mem, lane, self.geometry, command)
     }
 
+    /// How many controllers the driver has.
+    #[tactic(auto, using(crate::proofs::AdminLaws::lane_count))]
+    pub fn controllers(&self) -> usize
+        ensures { result ≡ length self.now.lanes }
+    {
+        self.lanes.len()
+    }
+
     /// How many pages the host's memory has.
     pub fn pages(&self) -> u64
         ensures { result ≡ self.now.pages }

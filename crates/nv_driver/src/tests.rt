@@ -1,7 +1,9 @@
-ghost use Rattle.std.specs.Prelude.{◌≡◌, All, IfOk, length};
+ghost use Rattle.std.specs.Prelude.{◌≡◌, ◌<◌, All, IfOk, length};
 ghost use Rattle.nv_controller.specs.Bus.{IsBus, IsEnabledWhereReady};
+ghost use Rattle.nv_driver.specs.Registers.{ports_of};
 
 use super::*;
+use nv_command::{Command, Reply};
 use nv_controller::{Bus, Machine};
 use nv_subsystem::{DEMO, Subsystem};
 use std::alloc::Global;
@@ -126,4 +128,74 @@ fn lays_the_greatest_rings_in_the_greatest_pages(rt: HostRuntime) -> Result<(), 
         ],
     );
     Ok(())
+}
+
+/// Asks for the NSIDs that are attached to a controller.
+fn expect_list(rt: &impl Abort, driver: &mut Driver, machine: &mut Machine, ctrl: u16, want: &[u32])
+    requires ctrl { ctrl < length driver.old.lanes }
+    requires bus { IsBus machine.old }
+    requires left { machine.old.ports ≡ ports_of driver.old }
+    ensures bus { IsBus machine.new }
+    ensures left { machine.new.ports ≡ ports_of driver.new }
+    ensures lanes { length driver.new.lanes ≡ length driver.old.lanes }
+{
+    match driver.admin(machine, ctrl, &Command::ActiveList { after: 0 }) {
+        Ok(Reply::List(list)) => assert_eq!(rt; list.as_slice(), want),
+        _ => assert!(rt; false),
+    }
+}
+
+/// Asks for a namespace that no controller can have.
+fn expect_refusal(rt: &impl Abort, driver: &mut Driver, machine: &mut Machine, ctrl: u16)
+    requires ctrl { ctrl < length driver.old.lanes }
+    requires bus { IsBus machine.old }
+    requires left { machine.old.ports ≡ ports_of driver.old }
+    ensures bus { IsBus machine.new }
+    ensures left { machine.new.ports ≡ ports_of driver.new }
+    ensures lanes { length driver.new.lanes ≡ length driver.old.lanes }
+{
+    match driver.admin(machine, ctrl, &Command::IdentifyNamespace { nsid: 0 }) {
+        Err(status) => assert_eq!(rt; status.number(), 0x600b),
+        Ok(_) => assert!(rt; false),
+    }
+}
+
+/// Commands of both controllers in turn, so many that rings of two slots wrap twice.
+fn expect_answers(rt: &impl Abort, alloc: Global, geometry: Geometry) -> Result<(), Fail> {
+    let mut machine = machine(alloc)?;
+    let Ok(mut driver) = Driver::bring_up(alloc, &mut machine, geometry) else {
+        assert!(rt; false);
+        return Ok(());
+    };
+    assert!(rt; driver.controllers() == 2);
+    expect_list(rt, &mut driver, &mut machine, 0, &[1, 3]);
+    expect_refusal(rt, &mut driver, &mut machine, 0);
+    expect_list(rt, &mut driver, &mut machine, 1, &[]);
+    expect_list(rt, &mut driver, &mut machine, 0, &[1, 3]);
+    expect_refusal(rt, &mut driver, &mut machine, 0);
+    expect_list(rt, &mut driver, &mut machine, 0, &[1, 3]);
+    Ok(())
+}
+
+#[test]
+fn answers_in_rings_of_two_slots(rt: HostRuntime) -> Result<(), Fail> {
+    let geometry = Geometry {
+        depth: 2,
+        offset: 4092,
+        ..Geometry::default()
+    };
+    expect_answers(&rt, rt.alloc(), geometry)
+}
+
+#[test]
+fn answers_in_the_largest_pages(rt: HostRuntime) -> Result<(), Fail> {
+    let geometry = Geometry {
+        depth: 4096,
+        page_size: 65536,
+        offset: 65532,
+        list_offset: 65528,
+        window: 16,
+        pace: 4096,
+    };
+    expect_answers(&rt, rt.alloc(), geometry)
 }
