@@ -13,7 +13,7 @@ use Rattle.nv_subsystem.specs.ReplyLaws.{reply_fits}
 use Rattle.nv_subsystem.specs.State.{State}
 use Rattle.nv_subsystem.specs.Step.{answer_by, answer_to}
 use Rattle.nv_subsystem.specs.WellFormed.{IsWellFormed}
-use Rattle.nv_controller.proofs.CallLaws.{transfer_by-page}
+use Rattle.nv_controller.specs.CallLaws.{transfer_by-page}
 
 accepted_reply : (o : Option Refusal) (r reply : Reply) → Ok r ≡ answer_by o reply → r ≡ reply
 accepted_reply None r reply e = cc

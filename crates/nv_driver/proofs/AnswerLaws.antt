@@ -19,7 +19,7 @@ use Rattle.nv_subsystem.specs.Step.{step, step_by}
 use Rattle.nv_subsystem.specs.StepLaws.{refusal_fits}
 use Rattle.nv_subsystem.specs.WellFormed.{IsWellFormed}
 use Rattle.nv_controller.specs.Entry.{completion_with}
-use Rattle.nv_controller.proofs.CallLaws.{transfer_by-page}
+use Rattle.nv_controller.specs.CallLaws.{transfer_by-page}
 use Rattle.nv_controller.specs.Call.{length_of}
 use Rattle.nv_command.specs.Command.{bytes_to_host}
 use Rattle.nv_queue.specs.Slots.{posted_as}

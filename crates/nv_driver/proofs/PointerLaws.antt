@@ -19,7 +19,7 @@ use Rattle.nv_command.specs.TravelLaws.{commands_travel}
 use Rattle.nv_command.specs.declared.command.Command.{Command}
 use Rattle.nv_command.specs.declared.transfer.Transfer.{Transfer as Moves}
 use Rattle.nv_controller.specs.Call.{call_of, length_of, places_of}
-use Rattle.nv_controller.proofs.CallLaws.{legal_places, transfer_by-page}
+use Rattle.nv_controller.specs.CallLaws.{legal_places, transfer_by-page}
 use Rattle.nv_driver.specs.Schedule.{IsPrepared, Sent, Setting, data_length, entry, places}
 
 -- ---- a page of data lies in two pages at most, and its transfer needs nothing of the memory but its size
