@@ -6,8 +6,18 @@
 //!
 //! ```
 //! let mut machine = Machine::new(alloc, subsystem)?;
-//! let driver = Driver::bring_up(alloc, &mut machine, Geometry::default())?;
+//! let mut driver = Driver::bring_up(alloc, &mut machine, Geometry::default())?;
 //! let pages = driver.pages(); // 9 for each controller
+//! ```
+//!
+//! [`Driver::admin`] sends a command through a controller's rings, with its data behind PRP entries
+//! in the driver's pages, and gives its answer: the reply, or the status of the refusal.
+//!
+//! ```
+//! match driver.admin(&mut machine, 0, &Command::ActiveList { after: 0 }) {
+//!     Ok(reply) => show(reply),
+//!     Err(status) => refused(status),
+//! }
 //! ```
 //!
 //! Sections are named as in the NVM Express Base Specification, revision 1.4.
