@@ -41,7 +41,7 @@ none_above d k n is e = grind (arith, above_cases d n k is.to is.from)
 
 -- ---- what the tests mean
 
-can_means : (a b c d : ℕ) → (not (a == b) && not (c == d)) ≡ true → (a ≢ b) × (c ≢ d)
+pub can_means : (a b c d : ℕ) → (not (a == b) && not (c == d)) ≡ true → (a ≢ b) × (c ≢ d)
 can_means a b c d h = (λ e. grind (arith, nat_tests), λ e. grind (arith, nat_tests))
 
 can_by : (a b c d : ℕ) → a ≢ b → c ≢ d → (not (a == b) && not (c == d)) ≡ true

@@ -6,10 +6,8 @@ use Rattle.nv_queue.specs.NumberLaws.{above_cases}
 use Rattle.std.proofs.lemmas.List.{get_or-set_same, set-set}
 use Rattle.std.proofs.lemmas.Nat.{mod_below}
 use Rattle.nv_queue.specs.Rings.{CollectNumbers, SubmitNumbers, collected_one, known_to, submitted_one, told_all}
-use Rattle.std.proofs.Common.{◌≡◌, ◌≢◌, ◌∙◌, ℕ, zero, suc, ◌+◌, ◌-◌, ◌*◌, ◌==◌, ◌&&◌, ◌<◌, ◌≤◌, not, Bool, true, false, List, [], ◌∷◌, ap, arith, get_or, inl, inr, length, refl, subst, sym}
+use Rattle.std.proofs.Common.{min, ◌≡◌, ◌∙◌, ℕ, zero, suc, ◌+◌, ◌-◌, ◌*◌, ◌<◌, ◌≤◌, false, List, [], ◌∷◌, ap, arith, get_or, inl, inr, length, refl, subst, sym}
 use Rattle.std.proofs.Math.Nat.{mul-le-mul_right}
-use Rattle.std.proofs.lemmas.Bool.{cases_lt}
-use Rattle.std.proofs.lemmas.Bool.Decides.{nat_tests}
 use Rattle.nv_host.specs.PageSets.{IsOf, Pages}
 use Rattle.nv_queue.specs.Numbers.{IsDepth, IsFull, IsSlotBetween, above, first_in_slot, next, slot_of, tag_below}
 use Rattle.nv_queue.specs.KeptLaws.{between_kept, first_kept}
@@ -35,7 +33,7 @@ use Rattle.nv_driver.specs.Submitting.{IsSubmitted, sent_by}
 use Rattle.nv_driver.specs.declared.geometry.Geometry.{Geometry}
 use Rattle.nv_driver.specs.declared.lane.Lane.{Lane as LaneFields}
 use Rattle.nv_driver.specs.declared.submitting.Outstanding.{Outstanding}
-use Rattle.nv_driver.proofs.CountLaws.{head_told, number_above, number_below, number_next, numbers_differ, slot_inside}
+use Rattle.nv_driver.proofs.CountLaws.{head_told, number_above, number_below, number_next, slot_inside}
 use Rattle.nv_driver.proofs.Keeping.{Keeps}
 use Rattle.nv_driver.proofs.KeptLaws.{bell_keeps, idle_keeps, number_zero}
 use Rattle.nv_driver.proofs.SubmitLaws.{submit_keeps}
@@ -167,37 +165,20 @@ tail_is t start tail zero_is is = is ∙ ap (λ n. slot_of t.depth (next t.depth
 
 -- ---- its turn takes it
 
--- a turn that takes at least one entry takes the one that is there
+-- a turn that may take an entry takes the one that is there
 takes_one : (t : Setting) (s : State) (w : World) (most count : ℕ) (z : Site) → Keeps t s w → w.rung ≡ 1 → w.done ≡ 0 → w.told ≡ 0 → 1 ≤ most
     → PortTurn t.page_size t.controller most count (site w.state w.port w.mem) z → count ≡ 1
 takes_one t s w most count z k rung done told some turn =
     let r = is_turn t s w most count z k turn in
     let deep = k.placed.deep in
-    let last = r.reached.keeps.counts in
-    elim (cases_lt count 1) [
-      | inl none ↦
-          let no : count ≡ 0 = omega arith in
-          let start : w.done + count ≡ 0 = omega arith in
-          let rings : r.last.rings ≡ device_rings t 1 0 0 = r.reached.rings ∙ same_rings w.rung 1 (w.done + count) 0 w.told 0 rung start told in
-          absurd (waits (can_take r.last.rings) (r.stop (omega arith)) (ap can_take rings ∙ can_go_on (omega (arith, deep.0))))
-      | inr one ↦ omega (arith, last.done)
-    ]
+    let more : 0 < t.depth = omega (arith, deep.0) in
+    let wait = number_above t w.done w.rung more (omega (arith, done)) (omega (arith, rung)) in
+    let held = number_above t w.told w.done more (omega (arith, told)) (omega (arith, done)) in
+    least (above t.depth (number t w.rung) (number t w.done)) (t.depth - 1 - above t.depth (number t w.done) (number t w.told))
+    (omega (arith, wait, rung, done)) (omega (arith, held, done, deep.0)) r.number
   where
-    same_rings : (a b d e h i : ℕ) → a ≡ b → d ≡ e → h ≡ i → device_rings t a d h ≡ device_rings t b e i
-    same_rings a b d e h i p q r = ap (λ n. device_rings t n d h) p ∙ ap (λ n. device_rings t b n h) q ∙ ap (λ n. device_rings t b e n) r
-
-    waits : (b : Bool) → b ≡ false → b ≡ true → ⊥
-    waits true e f = cc
-    waits false e f = cc
-
-    goes : (a b c d : ℕ) → a ≢ b → c ≢ d → (not (a == b) && not (c == d)) ≡ true
-    goes a b c d p q = grind (arith, nat_tests, p, q)
-
-    can_go_on : 1 < t.depth → can_take (device_rings t 1 0 0) ≡ true
-    can_go_on deep =
-        let far = number_above t 0 0 (omega arith) (omega arith) (omega arith) in
-        goes (number t 0) (number t 1) (above t.depth (number t 0) (number t 0)) (t.depth - 1)
-        (numbers_differ t 0 1 (omega arith) (omega arith)) (λ e. let far_off : t.depth - 1 ≡ 0 = sym e ∙ far in omega arith)
+    least : (waiting free : ℕ) → waiting ≡ 1 → 1 ≤ free → count ≡ min most (min waiting free) → count ≡ 1
+    least waiting free one slot is = omega arith
 
 -- ---- after its turn
 

@@ -1,8 +1,7 @@
 -- What taking one entry keeps of a schedule.
-use Rattle.std.proofs.Common.{◌≡◌, ◌≢◌, ◌∙◌, ℕ, ◌+◌, ◌-◌, ◌*◌, ◌==◌, ◌&&◌, ◌<◌, ◌≤◌, true, not, Err, List, Ok, Result, ap, arith, get_or, inl, inr, length, refl, subst}
+use Rattle.std.proofs.Common.{◌≡◌, ◌∙◌, ℕ, ◌+◌, ◌-◌, ◌*◌, ◌<◌, ◌≤◌, true, Err, List, Ok, Result, ap, arith, get_or, inl, inr, length, refl, subst}
 use Rattle.std.proofs.Math.Nat.{mul-le-mul_left}
 use Rattle.std.proofs.lemmas.Bool.{cases_lt}
-use Rattle.std.proofs.lemmas.Bool.Decides.{nat_tests}
 use Rattle.nv_host.specs.Bytes.{bytes_at}
 use Rattle.nv_layout.specs.Cqe.{cqe_of_bytes}
 use Rattle.nv_layout.specs.declared.sqe.Sqe.{Sqe}
@@ -17,6 +16,7 @@ use Rattle.nv_subsystem.specs.State.{State}
 use Rattle.nv_subsystem.specs.Step.{Step, step}
 use Rattle.nv_controller.specs.Call.{Call, call_of}
 use Rattle.nv_controller.specs.Entry.{Moves, One, Scene, completion_with, entry_in, entry_step, places_in, scene, step_unless}
+use Rattle.nv_controller.specs.TurnLaws.{can_means}
 use Rattle.nv_controller.specs.Turn.{can_take}
 use Rattle.nv_driver.specs.Schedule.{Answer, AreOutside, Sent, Setting, World, data_length, device_rings, entry, number, places, slot}
 use Rattle.nv_driver.proofs.AnswerLaws.{Delivers, IsAnswerTo, reply_length}
@@ -26,9 +26,6 @@ use Rattle.nv_driver.proofs.RegionLaws.{data_keeps, data_read, length-places, ou
 
 -- ---- which entry is taken
 
-waits : (a b c e : ℕ) → (not (a == b) && not (c == e)) ≡ true → (a ≢ b) × (c ≢ e)
-waits a b c e can = (λ same. grind (arith, nat_tests, can, same), λ same. grind (arith, nat_tests, can, same))
-
 abbrev pub now : Setting → World → Rings
 now t w = device_rings t w.rung w.done w.told
 
@@ -36,7 +33,7 @@ pub can_go : (t : Setting) (s : State) (w : World) → Keeps t s w → can_take 
 can_go t s w k can =
     let c = k.counts in
     let deep = k.placed.deep in
-    let far = waits (number t w.done) (number t w.rung) (above t.depth (number t w.done) (number t w.told)) (t.depth - 1) can in
+    let far = can_means (number t w.done) (number t w.rung) (above t.depth (number t w.done) (number t w.told)) (t.depth - 1) can in
     let distance = number_above t w.told w.done (omega (arith, deep.0)) (omega (arith, c.told, c.collected)) (omega (arith, c.free)) in (
       elim (cases_lt w.done w.rung) [
         | inl l ↦ l

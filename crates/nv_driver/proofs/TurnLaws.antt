@@ -1,16 +1,14 @@
 -- What a turn keeps.
-use Rattle.std.proofs.Common.{◌≡◌, ◌∙◌, ℕ, zero, suc, ◌+◌, ◌==◌, ◌&&◌, ◌<◌, ◌≤◌, Bool, true, false, [], Some, ap, arith, length, nat_le, refl, subst, sym}
-use Rattle.std.proofs.Math.Nat.{mul-le-mul_left}
-use Rattle.std.proofs.lemmas.Bool.Decides.{nat_tests}
+use Rattle.std.proofs.Common.{◌≡◌, ◌∙◌, ℕ, zero, suc, ◌+◌, ◌<◌, [], Some, ap, arith, length, refl, subst, sym}
 use Rattle.nv_command.specs.declared.command.Command.TheVariants.{ActiveList}
-use Rattle.nv_queue.specs.Slots.{completion_place, submission_place}
 use Rattle.nv_subsystem.specs.State.{State}
 use Rattle.nv_controller.specs.Entry.{Scene, scene}
-use Rattle.nv_controller.specs.Turn.{PortTurn, Site, Taken, can_take, reaches, site}
-use Rattle.nv_driver.specs.Schedule.{Happens, Sent, Setting, Turn, World, device_rings, number, port_with, slot}
-use Rattle.nv_driver.proofs.CountLaws.{slot_inside}
+use Rattle.nv_controller.specs.TurnLaws.{turn_count_is}
+use Rattle.nv_controller.specs.Turn.{PortTurn, RingsLie, Site, Taken, turn_count, site}
+use Rattle.nv_driver.specs.Schedule.{Happens, Sent, Setting, Turn, World, device_rings, port_with}
+use Rattle.nv_driver.proofs.CountLaws.{number_above, number_below}
 use Rattle.nv_driver.proofs.EntryLaws.{entry_keeps, world_after}
-use Rattle.nv_driver.proofs.Keeping.{IsPlaced, Keeps}
+use Rattle.nv_driver.proofs.Keeping.{Keeps}
 use Rattle.nv_driver.proofs.TakenLaws.{is_done, can_go, now}
 
 -- a command that stands for none
@@ -65,53 +63,40 @@ taken_keep t s (suc count) w y k taken =
     one_further t s w mid y count (taken_keep t s count (world_after t w mid) y (entry_keeps t s w mid no_command k taken.1)
     (subst (λ r. Taken count t.page_size t.controller (scene mid.state r mid.bytes) y) first.rings taken.2))
 
--- the memory reaches as far as the rings
-reaches_all : (t : Setting) (size rung done told : ℕ) → IsPlaced t size → reaches (device_rings t rung done told) t.page_size size ≡ true
-reaches_all t size rung done told p =
+-- the rings lie in the memory
+rings_lie : (t : Setting) (s : State) (w : World) → Keeps t s w → RingsLie (now t w) t.page_size (length w.mem)
+rings_lie t s w k =
+    let p = k.placed in
+    let c = k.counts in
     let deep = p.deep in
-    let low = slot_inside t done (omega (arith, deep.0)) in
-    let top : slot t done + 1 ≤ t.depth = omega arith in
-    let large = mul-le-mul_left 64 top in
-    let small = mul-le-mul_left 16 top in
-    let entry : submission_place t.sq t.depth (number t done) + 64 ≤ size = omega (arith, p.rings, p.inside) in
-    let completion : completion_place t.cq t.depth (number t done) + 16 ≤ size = omega (arith, p.inside) in
-    all_three t.page_size (submission_place t.sq t.depth (number t done) + 64) (completion_place t.cq t.depth (number t done) + 16) size entry completion
-  where
-    all_three : (p a b n : ℕ) → a ≤ n → b ≤ n → ((p == p) && (nat_le a n && nat_le b n)) ≡ true
-    all_three p a b n one other = grind (arith, nat_tests, one, other)
+    let some : 0 < t.depth = omega (arith, deep.0) in
+    let wait = number_above t w.done w.rung some c.done (omega (arith, c.rung, c.few, c.collected)) in
+    let held = number_above t w.told w.done some (omega (arith, c.told, c.collected)) (omega (arith, c.free)) in
+    record {
+      page = refl;
+      submission = omega (arith, p.rings, p.inside);
+      completion = p.inside;
+      fetch = record { deep = deep; from = number_below t w.done some; to = number_below t w.rung some; few = omega (arith, wait, c.rung, c.few, c.collected) };
+      post = record { deep = deep; from = number_below t w.told some; to = number_below t w.done some; few = omega (arith, held, c.free) };
+    }
 
--- a turn of a schedule takes entries until it has taken the most, or can take none
+-- a turn of a schedule, and how many entries it takes
 pub record IsTurn (t : Setting) (s : State) (w : World) (most count : ℕ) (z : Site) : Type 0 where
   pub last : Scene
   pub reached : Reaches t s w count last
   pub left : z ≡ site last.state (port_with t last.rings) last.bytes
-  pub few : count ≤ most
-  pub stop : count < most → can_take last.rings ≡ false
-
-not_fatal : (reached fatal : Bool) → (fatal ≡ true → reached ≡ false) → reached ≡ true → fatal ≡ false
-not_fatal reached true short far = absurd (let e = short refl in cc)
-not_fatal reached false short far = refl
-
-takes_none : (can fatal : Bool) → (can ≡ true → fatal ≡ true) → fatal ≡ false → can ≡ false
-takes_none true fatal only well = absurd (let e = only refl in cc)
-takes_none false fatal only well = refl
+  pub number : count ≡ turn_count most (now t w)
 
 by_rings : (t : Setting) (s : State) (w : World) (most count : ℕ) (z : Site) → Keeps t s w
     → PortTurn t.page_size t.controller most count (site w.state (port_with t (now t w)) w.mem) z → IsTurn t s w most count z
 by_rings t s w most count z k turn =
     let last = turn.0 in
-    let reached = taken_keep t s count w last k turn.2.entries in
-    let far : reaches last.rings t.page_size (length last.bytes) ≡ true =
-    ap (λ r. reaches r t.page_size (length last.bytes)) reached.rings
-    ∙ reaches_all t (length last.bytes) w.rung (w.done + count) w.told reached.keeps.placed in
-    let stop = turn.2.stop in
-    let well : turn.1 ≡ false = not_fatal (reaches last.rings t.page_size (length last.bytes)) turn.1 (λ e. (stop.2 e).1) far in
+    let counted = turn_count_is t.page_size t.controller most count (scene w.state (now t w) w.mem) last turn.1 (rings_lie t s w k) turn.2 in
     record {
       last = last;
-      reached = reached;
-      left = turn.3 ∙ ap (λ b. site last.state (record (port_with t (now t w)) { cfs = b; rings = Some last.rings }) last.bytes) well;
-      few = stop.0;
-      stop = λ l. takes_none (can_take last.rings) turn.1 (stop.1 l) well;
+      reached = taken_keep t s count w last k turn.2.entries;
+      left = turn.3 ∙ ap (λ b. site last.state (record (port_with t (now t w)) { cfs = b; rings = Some last.rings }) last.bytes) counted.1;
+      number = counted.0;
     }
 
 pub is_turn : (t : Setting) (s : State) (w : World) (most count : ℕ) (z : Site) → Keeps t s w
