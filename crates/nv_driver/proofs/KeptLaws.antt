@@ -10,10 +10,11 @@ use Rattle.nv_queue.specs.Slots.{HoldsTags, completion_at}
 use Rattle.nv_queue.specs.TagLaws.{tag_below_here}
 use Rattle.nv_subsystem.specs.State.{State}
 use Rattle.nv_register.specs.Port.{with_register_at}
-use Rattle.nv_driver.specs.Schedule.{Happens, IsIdle, Sent, Setting, World, answer_awaited, answers_to, number, slot}
+use Rattle.nv_register.specs.declared.port.Port.{Port}
+use Rattle.nv_driver.specs.Schedule.{Happens, IsIdle, Sent, Setting, World, answer_awaited, answers_to, device_rings, number, port_with, slot}
 use Rattle.nv_driver.specs.Schedule.{Bell, Collect, Tell}
 use Rattle.nv_driver.proofs.CountLaws.{head_told, number_below, slot_inside, tail_rung}
-use Rattle.nv_driver.proofs.Keeping.{Keeps}
+use Rattle.nv_driver.proofs.Keeping.{AreInOrder, Keeps}
 use Rattle.nv_driver.proofs.SerialLaws.{length-answers}
 
 -- ---- the beginning
@@ -52,45 +53,43 @@ idle_keeps t w i =
 
 -- ---- doorbells change a count and the registers
 
+told_otherwise : (t : Setting) (s : State) (w : World) (rung told : ℕ) (port : Port) → Keeps t s w
+    → AreInOrder t.depth (length w.answers) w.done rung (length w.sent) told → port ≡ port_with t (device_rings t rung w.done told)
+    → Keeps t s (record w { port = port; rung = rung; told = told })
+told_otherwise t s w rung told port k counts is = record {
+  placed = k.placed;
+  counts = counts;
+  port = is;
+  state = k.state;
+  well_formed = k.well_formed;
+  controller = k.controller;
+  own = k.own;
+  apart = k.apart;
+  waiting = k.waiting;
+  held = λ n d from below. let h = k.held n d from below in record { answer = h.answer; cid = h.cid; head = h.head };
+  tags = k.tags;
+  answers = k.answers;
+  others = k.others;
+}
+
 pub bell_keeps : (t : Setting) (s : State) (w w' : World) → Keeps t s w → Happens t Bell w w' → Keeps t s w'
 bell_keeps t s w w' k happens =
     let c = k.counts in
-    subst (Keeps t s) (sym happens) (record {
-      placed = k.placed;
-      counts = record { told = c.told; collected = c.collected; done = omega (arith, c.done, c.rung); rung = omega arith; few = c.few; free = c.free };
-      port = ap (λ p. with_register_at p 0x1000 (slot t (length w.sent))) k.port
-          ∙ tail_rung t w.rung w.done w.told (length w.sent) (omega (arith, c.done, c.rung)) (omega (arith, c.few, c.collected));
-      state = k.state;
-      well_formed = k.well_formed;
-      controller = k.controller;
-      own = k.own;
-      apart = k.apart;
-      waiting = k.waiting;
-      held = λ n d from below. let h = k.held n d from below in record { answer = h.answer; cid = h.cid; head = h.head };
-      tags = k.tags;
-      answers = k.answers;
-      others = k.others;
-    })
+    let m = length w.sent in
+    subst (Keeps t s) (sym happens)
+    (told_otherwise t s w m w.told _ k
+    (record { told = c.told; collected = c.collected; done = omega (arith, c.done, c.rung); rung = omega arith; few = c.few; free = c.free })
+    (ap (λ p. with_register_at p 0x1000 (slot t m)) k.port
+    ∙ tail_rung t w.rung w.done w.told m (omega (arith, c.done, c.rung)) (omega (arith, c.few, c.collected))))
 
 pub tell_keeps : (t : Setting) (s : State) (w w' : World) → Keeps t s w → Happens t Tell w w' → Keeps t s w'
 tell_keeps t s w w' k happens =
     let c = k.counts in
-    subst (Keeps t s) (sym happens) (record {
-      placed = k.placed;
-      counts = record { told = omega arith; collected = c.collected; done = c.done; rung = c.rung; few = c.few; free = omega (arith, c.free, c.few, c.done, c.rung, c.collected) };
-      port = ap (λ p. with_register_at p 0x1004 (slot t (length w.answers))) k.port
-          ∙ head_told t w.rung w.done w.told (length w.answers) c.told c.collected c.free;
-      state = k.state;
-      well_formed = k.well_formed;
-      controller = k.controller;
-      own = k.own;
-      apart = k.apart;
-      waiting = k.waiting;
-      held = λ n d from below. let h = k.held n d from below in record { answer = h.answer; cid = h.cid; head = h.head };
-      tags = k.tags;
-      answers = k.answers;
-      others = k.others;
-    })
+    let n = length w.answers in
+    subst (Keeps t s) (sym happens)
+    (told_otherwise t s w w.rung n _ k
+    (record { told = omega arith; collected = c.collected; done = c.done; rung = c.rung; few = c.few; free = omega (arith, c.few, c.done, c.rung) })
+    (ap (λ p. with_register_at p 0x1004 (slot t n)) k.port ∙ head_told t w.rung w.done w.told n c.told c.collected c.free))
 
 -- ---- an answer is collected
 
