@@ -5,7 +5,7 @@ use Rattle.nv_driver.specs.Schedule.{Event, Submit, Bell, Turn, Collect, Tell, E
 use Rattle.nv_driver.proofs.Keeping.{Keeps}
 use Rattle.nv_driver.proofs.KeptLaws.{bell_keeps, collect_keeps, idle_keeps, tell_keeps}
 use Rattle.nv_driver.proofs.SubmitLaws.{submit_keeps}
-use Rattle.nv_driver.proofs.TurnLaws.{turn_keeps}
+use Rattle.nv_driver.proofs.TurnLaws.{turn_keeps, turn_takes}
 
 event_keeps : (t : Setting) (s : State) (e : Event) (w w' : World) → Keeps t s w → Happens t e w w' → Keeps t s w'
 event_keeps t s (Submit x) w w' keeps happens = submit_keeps t s x w w' keeps happens
@@ -25,6 +25,7 @@ serial t s w keeps = record {
   collected = keeps.counts.collected;
   done = omega (arith, keeps.counts.done, keeps.counts.rung);
   held = keeps.held;
+  turns = λ most next happens. turn_takes t s most w next keeps happens;
   others = keeps.others;
 }
 

@@ -1,11 +1,12 @@
 -- What a turn keeps.
-use Rattle.std.proofs.Common.{◌≡◌, ◌∙◌, ℕ, zero, suc, ◌+◌, ◌<◌, [], Some, ap, arith, length, refl, subst, sym}
+use Rattle.std.proofs.Common.{◌≡◌, ◌∙◌, ℕ, zero, suc, ◌+◌, ◌-◌, ◌<◌, [], Some, ap, arith, length, min, refl, subst, sym}
+use Rattle.nv_queue.specs.Numbers.{above}
 use Rattle.nv_command.specs.declared.command.Command.TheVariants.{ActiveList}
 use Rattle.nv_subsystem.specs.State.{State}
 use Rattle.nv_controller.specs.Entry.{Scene, scene}
 use Rattle.nv_controller.specs.TurnLaws.{turn_count_is}
 use Rattle.nv_controller.specs.Turn.{PortTurn, RingsLie, Site, Taken, turn_count, site}
-use Rattle.nv_driver.specs.Schedule.{Happens, Sent, Setting, Turn, World, device_rings, port_with}
+use Rattle.nv_driver.specs.Schedule.{Happens, Sent, Setting, Turn, World, device_rings, least, number, port_with}
 use Rattle.nv_driver.proofs.CountLaws.{number_above, number_below}
 use Rattle.nv_driver.proofs.EntryLaws.{entry_keeps, world_after}
 use Rattle.nv_driver.proofs.Keeping.{Keeps}
@@ -113,3 +114,15 @@ turn_keeps t s most w w' k happens =
     (sym (happens.2 ∙ ap (λ (z : Site). record w { mem = z.bytes; state = z.state; port = z.port; done = w.done + count }) r.left
     ∙ ap (λ rings. record w { mem = last.bytes; state = last.state; port = port_with t rings; done = w.done + count }) r.reached.rings))
     r.reached.keeps
+
+-- the turn takes as many entries as the counts say
+pub turn_takes : (t : Setting) (s : State) (most : ℕ) (w w' : World) → Keeps t s w → Happens t (Turn most) w w' → w'.done ≡ w.done + least t w most
+turn_takes t s most w w' k happens =
+    let r = is_turn t s w most happens.0 (site w'.state w'.port w'.mem) k happens.1 in
+    let c = k.counts in
+    let some : 0 < t.depth = let deep = k.placed.deep in omega (arith, deep.0) in
+    let wait = number_above t w.done w.rung some c.done (omega (arith, c.rung, c.few, c.collected)) in
+    let held = number_above t w.told w.done some (omega (arith, c.told, c.collected)) (omega (arith, c.free)) in
+    ap (λ (v : World). v.done) happens.2 ∙ ap (λ n. w.done + n) (r.number
+    ∙ ap (λ n. min most (min n (t.depth - 1 - above t.depth (number t w.done) (number t w.told)))) wait
+    ∙ ap (λ n. min most (min (w.rung - w.done) (t.depth - 1 - n))) held)

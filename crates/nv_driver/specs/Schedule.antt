@@ -1,5 +1,5 @@
 -- Schedules of one controller's commands: submit, ring the doorbell, turn, collect, tell the head, in any order.
-use Rattle.std.specs.Prelude.{◌≡◌, ◌≢◌, ◌⊎◌, ℕ, ◌+◌, ◌*◌, ◌<◌, ◌≤◌, ◌^◌, ◌==◌, ◌&&◌, Bool, false, All, List, [], ◌∷◌, ◌++◌, if◌then◌else◌, length, not, slice_index_or, take, Some, Result, Ok, Err}
+use Rattle.std.specs.Prelude.{◌≡◌, ◌-◌, ◌≢◌, ◌⊎◌, ℕ, ◌+◌, ◌*◌, ◌<◌, ◌≤◌, ◌^◌, ◌==◌, ◌&&◌, Bool, false, All, List, [], ◌∷◌, ◌++◌, if◌then◌else◌, length, min, not, slice_index_or, take, Some, Result, Ok, Err}
 use Rattle.nv_host.specs.Bytes.{bytes_at}
 use Rattle.nv_host.specs.Pages.{IsPageSize}
 use Rattle.nv_layout.specs.declared.cqe.Cqe.{Cqe}
@@ -242,15 +242,20 @@ pub record AreOthers (t : Setting) (sent : List Sent) (from n : ℕ) : Type 0 wh
   pub completions : IsApart t.cq (16 * t.depth) from n
   pub pages : (i : ℕ) (d : Sent) → i < length sent → AreOutside t.page_size (slice_index_or sent i d) from n
 
+-- how many entries a turn takes: the least of the most, those that wait, and the free slots for completions
+abbrev pub least : Setting → World → ℕ → ℕ
+least t w most = min most (min (w.rung - w.done) (t.depth - 1 - (w.done - w.told)))
+
 -- The collected answers are the first of those that the commands have one at a time, and the subsystem is that after
--- the commands that were done. An answer is held from its command's turn on until it is collected. Bytes that lie in no
--- ring and in no page of a command stay.
+-- the commands that were done. An answer is held from its command's turn on until it is collected. A turn takes as many
+-- entries as it can. Bytes that lie in no ring and in no page of a command stay.
 pub record IsSerial (t : Setting) (s : State) (w : World) : Type 0 where
   pub answers : w.answers ≡ take (length w.answers) (answers_to t.controller s w.sent)
   pub state : w.state ≡ after t.controller s (take w.done w.sent)
   pub collected : length w.answers ≤ w.done
   pub done : w.done ≤ length w.sent
   pub held : (n : ℕ) (d : Sent) → length w.answers ≤ n → n < w.done → Holds t s w n (slice_index_or w.sent n d)
+  pub turns : (most : ℕ) (next : World) → Happens t (Turn most) w next → next.done ≡ w.done + least t w most
   pub others : (from n : ℕ) → AreOthers t w.sent from n → bytes_at w.mem from n ≡ bytes_at t.before from n
 
 abbrev pub EveryScheduleIsSerial : Type 0
