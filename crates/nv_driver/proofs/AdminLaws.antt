@@ -50,9 +50,9 @@ set_room g is =
 value_at : (ls : List LaneFields) (c : ℕ) (d : LaneFields) (e : Lane) → c < length ls → get_or (map lane_value ls) c e ≡ lane_value (get_or ls c d)
 value_at ls c d e below = get_or-map lane_value ls c d e below
 
-pub ready_at : (g : Geometry) (mem : PagedBytes) (ls : List LaneFields) (b : BusValue) (c : ℕ) (l : LaneFields) → IsDriver g mem ls → IsBus b
+pub ready_at : {g : Geometry} {mem : PagedBytes} {ls : List LaneFields} {b : BusValue} {c : ℕ} {l : LaneFields} → IsDriver g mem ls → IsBus b
     → b.ports ≡ idle_ports g.page_size (map lane_value ls) → c < length ls → l ≡ get_or ls c l → IsReady g b c l mem.page_size mem.bytes
-ready_at g mem ls b c l is bus ports below here =
+ready_at {g} {mem} {ls} {b} {c} {l} is bus ports below here =
     let many = length-map ls lane_value in
     let at : get_or (map lane_value ls) c no_lane ≡ lane_value l = value_at ls c l no_lane below ∙ ap lane_value (sym here) in
     let settled = is.settled in
@@ -145,11 +145,11 @@ settled_after page_size old new vs c v u s below here size keeps laid tags sq fi
 values_set : (ls : List LaneFields) (c : ℕ) (l : LaneFields) (v : Lane) → lane_value l ≡ v → map lane_value (slice_set ls c l) ≡ slice_set (map lane_value ls) c v
 values_set ls c l v is = map-set lane_value ls c l ∙ ap (slice_set (map lane_value ls) c) is
 
-pub driver_after : (g : Geometry) (mem new : PagedBytes) (ls : List LaneFields) (b : BusValue) (c : ℕ) (l l' : LaneFields) → IsDriver g mem ls
+pub driver_after : {g : Geometry} {mem new : PagedBytes} {ls : List LaneFields} {b : BusValue} {c : ℕ} {l l' : LaneFields} → IsDriver g mem ls
     → c < length ls → l ≡ get_or ls c l → IsReady g b c l' new.page_size new.bytes → lane_value l' ≡ after_one (lane_value l)
     → KeepsOthers g.page_size (lane_value l) mem.bytes new.bytes → length new.bytes ≡ length mem.bytes → new.page_size ≡ mem.page_size
     → IsDriver g new (slice_set ls c l')
-driver_after g mem new ls b c l l' is below here ready next keeps size page =
+driver_after {g} {mem} {new} {ls} {b} {c} {l} {l'} is below here ready next keeps size page =
     let many = length-map ls lane_value in
     let vs = map lane_value ls in
     let at : lane_value l ≡ get_or vs c (lane_value l) = sym (value_at ls c l (lane_value l) below ∙ ap lane_value (sym here)) in

@@ -205,14 +205,14 @@ turned t s w x mem port tail most count z is k before at some turn =
     subst (λ n. Keeps t s (record w2 { mem = z.bytes; state = z.state; port = z.port; done = n })) (let e : 0 + count ≡ 1 = omega arith in e) k3
 
 -- what one command leaves before its answer is collected
-pub exchanged : (g : Geometry) (b b2 b3 : BusValue) (c : ℕ) (l l' : LaneFields) (now page : ℕ) (bytes mem mem' : List ℕ) (k : Command) (o : Outstanding)
-    (tail value most count : ℕ) → IsReady g b c l now bytes → CommandFits k → IsSubmitted g k o l l' bytes mem
+pub exchanged : {g : Geometry} {b b2 b3 : BusValue} {c : ℕ} {l l' : LaneFields} {now page : ℕ} {bytes mem mem' : List ℕ} {k : Command} {o : Outstanding}
+    {tail value most count : ℕ} → IsReady g b c l now bytes → CommandFits k → IsSubmitted g k o l l' bytes mem
     → tail ≡ slot_of l.submission.depth (next l.submission.depth l.submission.submitted)
     → b2.state ≡ b.state → value ≡ tail → b2.ports ≡ slice_set b.ports c (with_register_at (port_at b.ports c) 0x1000 value)
     → page ≡ g.page_size → 1 ≤ most → T.Turn page c most count b2 mem b3 mem'
     → Keeps (setting g c bytes (lane_value l)) b.state
     (done_one (beginning (setting g c bytes (lane_value l)) b.state) (sent_by g k l.serial o) mem' b3.state (port_at b3.ports c))
-exchanged g b b2 b3 c l l' now page bytes mem mem' k o tail value most count r fits sub at state told ports size some turn =
+exchanged {g} {b} {b2} {b3} {c} {l} {l'} {now} {page} {bytes} {mem} {mem'} {k} {o} {tail} {value} {most} {count} r fits sub at state told ports size some turn =
     let t = setting g c bytes (lane_value l) in
     let x = sent_by g k l.serial o in
     let port : port_at b2.ports c ≡ with_register_at t.port 0x1000 tail =
@@ -226,7 +226,7 @@ exchanged g b b2 b3 c l l' now page bytes mem mem' k o tail value most count r f
 
 -- ---- what is collected
 
-module _ (t : Setting) (s : State) (x : Sent) (mem : List ℕ) (s' : State) (p : Port) (k : Keeps t s (done_one (beginning t s) x mem s' p)) where
+module _ {t : Setting} {s : State} {x : Sent} {mem : List ℕ} {s' : State} {p : Port} (k : Keeps t s (done_one (beginning t s) x mem s' p)) where
   deep : 1 < t.depth
   deep = k.placed.deep.0
 
@@ -281,7 +281,7 @@ ring_collected t ring is =
     ∙ ap (λ n. record { base = t.cq; depth = t.depth; collected = n; told = n; untold = false }) (number_next t 0)
 
 -- the lane after a command
-pub lane_after : (g : Geometry) (b b4 : BusValue) (c : ℕ) (l l4 : LaneFields) (now page : ℕ) (bytes mem : List ℕ)
+pub lane_after : {g : Geometry} {b b4 : BusValue} {c : ℕ} {l l4 : LaneFields} {now page : ℕ} {bytes mem : List ℕ}
     → IsReady g b c l now bytes → page ≡ g.page_size → length mem ≡ length bytes
     → l4.submission ≡ submit_ring (setting g c bytes (lane_value l)) 1 1
     → l4.completion ≡ record {
@@ -296,7 +296,7 @@ pub lane_after : (g : Geometry) (b b4 : BusValue) (c : ℕ) (l l4 : LaneFields) 
     → c < length b4.ports → IsBus b4
     → port_at b4.ports c ≡ port_with (setting g c bytes (lane_value l)) (device_rings (setting g c bytes (lane_value l)) 1 1 1)
     → IsReady g b4 c l4 page mem
-lane_after g b b4 c l l4 now page bytes mem r size len submission completion serial pages tags below bus port =
+lane_after {g} {b} {b4} {c} {l} {l4} {now} {page} {bytes} {mem} r size len submission completion serial pages tags below bus port =
     let t = setting g c bytes (lane_value l) in
     let laid = r.laid in
     let n = number t 1 in
@@ -349,12 +349,12 @@ outside_lane s x page_size sq from n own low high (inr behind) i d h =
     let last : get_or (own_pages x) i d + 1 ≤ s.first + s.count = omega (arith, (own i d h).1) in
     let times = mul-le-mul_right page_size last in inr (omega arith)
 
-pub others_after : (g : Geometry) (b : BusValue) (c : ℕ) (l l' : LaneFields) (now : ℕ) (bytes after mem : List ℕ) (k : Command) (o : Outstanding)
-    (s' : State) (p : Port) → IsReady g b c l now bytes → IsSubmitted g k o l l' bytes after
+pub others_after : {g : Geometry} {b : BusValue} {c : ℕ} {l l' : LaneFields} {now : ℕ} {bytes after mem : List ℕ} {k : Command} {o : Outstanding}
+    {s' : State} {p : Port} → IsReady g b c l now bytes → IsSubmitted g k o l l' bytes after
     → Keeps (setting g c bytes (lane_value l)) b.state
     (done_one (beginning (setting g c bytes (lane_value l)) b.state) (sent_by g k l.serial o) mem s' p)
     → KeepsOthers g.page_size (lane_value l) bytes mem
-others_after g b c l l' now bytes after mem k o s' p r sub keeps from n apart =
+others_after {g} {b} {c} {l} {l'} {now} {bytes} {after} {mem} {k} {o} {s'} {p} r sub keeps from n apart =
     let laid = r.laid in
     let x = sent_by g k l.serial o in
     let own = own_of_set l.pages x (all_pages o.pages) (pages_are o.pages sub.seven) sub.taken.own in
@@ -387,14 +387,14 @@ not_full l quiet below deep full =
     grind (arith, same, none, deep.0)
 
 -- the completion ring after a submission is that of the schedule
-pub completion_ring : (g : Geometry) (b : BusValue) (c : ℕ) (l l' : LaneFields) (now : ℕ) (bytes mem : List ℕ) (k : Command) (o : Outstanding)
+pub completion_ring : {g : Geometry} {b : BusValue} {c : ℕ} {l l' : LaneFields} {now : ℕ} {bytes mem : List ℕ} {k : Command} {o : Outstanding}
     → IsReady g b c l now bytes → IsSubmitted g k o l l' bytes mem → l'.completion ≡ collect_ring (setting g c bytes (lane_value l)) 0 0
-completion_ring g b c l l' now bytes mem k o r sub = ap (λ (q : LaneFields). q.completion) sub.lane ∙ collect_ring_is g c bytes l r.quiet r.laid.number
+completion_ring {g} {b} {c} {l} {l'} {now} {bytes} {mem} {k} {o} r sub = ap (λ (q : LaneFields). q.completion) sub.lane ∙ collect_ring_is g c bytes l r.quiet r.laid.number
 
 -- the submission ring after a submission is that of the schedule
-pub submission_ring : (g : Geometry) (b : BusValue) (c : ℕ) (l l' : LaneFields) (now : ℕ) (bytes mem : List ℕ) (k : Command) (o : Outstanding)
+pub submission_ring : {g : Geometry} {b : BusValue} {c : ℕ} {l l' : LaneFields} {now : ℕ} {bytes mem : List ℕ} {k : Command} {o : Outstanding}
     → IsReady g b c l now bytes → IsSubmitted g k o l l' bytes mem → l'.submission ≡ submit_ring (setting g c bytes (lane_value l)) 1 0
-submission_ring g b c l l' now bytes mem k o r sub = ap (λ (q : LaneFields). q.submission) sub.lane ∙ ring_submitted g c bytes l r.quiet r.laid.number
+submission_ring {g} {b} {c} {l} {l'} {now} {bytes} {mem} {k} {o} r sub = ap (λ (q : LaneFields). q.submission) sub.lane ∙ ring_submitted g c bytes l r.quiet r.laid.number
 
 -- what was polled is the completion of the command
 pub completion_is : (t : Setting) (found : Option Cqe) (q : Cqe) (mem : List ℕ) (ring : CollectNumbers) → found ≡ Some q

@@ -33,10 +33,10 @@ unwrap-completion-requires g c =
     let sub = c.submit-tail.ensures.submitted in
     let size = c.submit-tail.ensures.page ∙ r.page_size in
     let pace = r.geometry.pace in
-    let k = exchanged _ _ _ _ _ _ _ _ _ _ _ _ _ _ _ _ _ _ r c.requires.fits sub c.submit-tail.ensures.tail c.write32.ensures.state c.from.ensures
+    let k = exchanged r c.requires.fits sub c.submit-tail.ensures.tail c.write32.ensures.state c.from.ensures
     c.write32.ensures.ports size pace.0 c.turn.ensures.turn in
     c.poll.ensures.awaited.1 (subst (IsAwaitedThere (g.M.HostMemory.bytes c.turn.new.mem))
-    (sym (completion_ring _ _ _ _ _ _ _ _ _ _ r sub)) (is_there _ _ _ _ _ _ k))
+    (sym (completion_ring r sub)) (is_there k))
 
 pub freed-requires : goal.freed-requires
 freed-requires g c =
@@ -44,12 +44,12 @@ freed-requires g c =
     let sub = c.submit-tail.ensures.submitted in
     let size = c.submit-tail.ensures.page ∙ r.page_size in
     let pace = r.geometry.pace in
-    let k = exchanged _ _ _ _ _ _ _ _ _ _ _ _ _ _ _ _ _ _ r c.requires.fits sub c.submit-tail.ensures.tail c.write32.ensures.state c.from.ensures
+    let k = exchanged r c.requires.fits sub c.submit-tail.ensures.tail c.write32.ensures.state c.from.ensures
     c.write32.ensures.ports size pace.0 c.turn.ensures.turn in
     let t = setting c.args.geometry c.args.ctrl (g.M.HostMemory.bytes c.args.mem.now) (lane_value c.args.lane.now) in
-    let there = completion_is t _ _ _ _ c.unwrap-completion.ensures c.poll.ensures.value (completion_ring _ _ _ _ _ _ _ _ _ _ r sub) in
-    freed_between t _ _ r.laid.deep.0 (submission_ring _ _ _ _ _ _ _ _ _ _ r sub)
-    (ap (λ (q : Cqe). q.sq_head) there ∙ head_is _ _ _ _ _ _ k)
+    let there = completion_is t _ _ _ _ c.unwrap-completion.ensures c.poll.ensures.value (completion_ring r sub) in
+    freed_between t _ _ r.laid.deep.0 (submission_ring r sub)
+    (ap (λ (q : Cqe). q.sq_head) there ∙ head_is k)
 
 pub give-requires-clause-own : goal.give-requires-clause-own
 give-requires-clause-own g c =
@@ -81,7 +81,7 @@ returns-clause-answer g c =
     let sub = c.submit-tail.ensures.submitted in
     let size = c.submit-tail.ensures.page ∙ r.page_size in
     let pace = r.geometry.pace in
-    let k = exchanged _ _ _ _ _ _ _ _ _ _ _ _ _ _ _ _ _ _ r c.requires.fits sub c.submit-tail.ensures.tail c.write32.ensures.state c.from.ensures
+    let k = exchanged r c.requires.fits sub c.submit-tail.ensures.tail c.write32.ensures.state c.from.ensures
     c.write32.ensures.ports size pace.0 c.turn.ensures.turn in
     let same = c.turn.ensures.len ∙ c.submit-tail.ensures.len ∙ sym sub.prepared.len in
     let x = sent_by c.args.geometry c.args.command.now c.args.lane.now.serial c.submit-tail.result.0 in
@@ -91,12 +91,12 @@ returns-clause-answer g c =
     let mem = g.M.HostMemory.bytes c.turn.new.mem in
     let q = c.unwrap-completion.result in
     let there = completion_is (setting c.args.geometry c.args.ctrl (g.M.HostMemory.bytes c.args.mem.now) (lane_value c.args.lane.now)) _ _ _ _
-    c.unwrap-completion.ensures c.poll.ensures.value (completion_ring _ _ _ _ _ _ _ _ _ _ r sub) in
+    c.unwrap-completion.ensures c.poll.ensures.value (completion_ring r sub) in
     c.answer.ensures
     ∙ ap (λ p. answer_from x.command q (read_at mem (transfer_places (transfer p mem x.prp1 x.prp2 (data_length x))))) last
     ∙ ap (λ ps. answer_from x.command q (read_at mem ps)) still.1
     ∙ ap (answer_read c.args.geometry.page_size x mem) there
-    ∙ answer_is _ _ _ _ _ _ k
+    ∙ answer_is k
 
 pub returns-clause-state : goal.returns-clause-state
 returns-clause-state g c =
@@ -104,9 +104,9 @@ returns-clause-state g c =
     let sub = c.submit-tail.ensures.submitted in
     let size = c.submit-tail.ensures.page ∙ r.page_size in
     let pace = r.geometry.pace in
-    let k = exchanged _ _ _ _ _ _ _ _ _ _ _ _ _ _ _ _ _ _ r c.requires.fits sub c.submit-tail.ensures.tail c.write32.ensures.state c.from.ensures
+    let k = exchanged r c.requires.fits sub c.submit-tail.ensures.tail c.write32.ensures.state c.from.ensures
     c.write32.ensures.ports size pace.0 c.turn.ensures.turn in
-    c.write32-2.ensures.state ∙ state_is _ _ _ _ _ _ k
+    c.write32-2.ensures.state ∙ state_is k
 
 pub returns-clause-ready : goal.returns-clause-ready
 returns-clause-ready g c =
@@ -114,25 +114,25 @@ returns-clause-ready g c =
     let sub = c.submit-tail.ensures.submitted in
     let size = c.submit-tail.ensures.page ∙ r.page_size in
     let pace = r.geometry.pace in
-    let k = exchanged _ _ _ _ _ _ _ _ _ _ _ _ _ _ _ _ _ _ r c.requires.fits sub c.submit-tail.ensures.tail c.write32.ensures.state c.from.ensures
+    let k = exchanged r c.requires.fits sub c.submit-tail.ensures.tail c.write32.ensures.state c.from.ensures
     c.write32.ensures.ports size pace.0 c.turn.ensures.turn in
     let t = setting c.args.geometry c.args.ctrl (g.M.HostMemory.bytes c.args.mem.now) (lane_value c.args.lane.now) in
-    let ring = completion_ring _ _ _ _ _ _ _ _ _ _ r sub in
+    let ring = completion_ring r sub in
     let there = completion_is t _ _ _ _ c.unwrap-completion.ensures c.poll.ensures.value ring in
-    let at = ap (λ (q : Cqe). q.sq_head) there ∙ head_is _ _ _ _ _ _ k in
+    let at = ap (λ (q : Cqe). q.sq_head) there ∙ head_is k in
     let collected = in_some _ _ c.unwrap-completion.ensures c.poll.ensures.collected in
     let long = ports_long _ _ _ _ (ports_long _ _ _ _ r.controller c.write32.ensures.ports) c.turn.ensures.turn.others in
-    lane_after _ _ _ _ _ _ _ _ _ _ r (c.turn.ensures.page ∙ size) (c.turn.ensures.len ∙ c.submit-tail.ensures.len)
-    (c.freed.ensures ∙ ring_freed t _ _ r.laid.deep.0 (submission_ring _ _ _ _ _ _ _ _ _ _ r sub) at)
+    lane_after r (c.turn.ensures.page ∙ size) (c.turn.ensures.len ∙ c.submit-tail.ensures.len)
+    (c.freed.ensures ∙ ring_freed t _ _ r.laid.deep.0 (submission_ring r sub) at)
     (c.head_to_tell.ensures.told ∙ ap told_all collected ∙ ring_collected t _ ring)
     (ap (λ (l : LaneFields). l.serial) sub.lane)
     (c.give.ensures ∙ ap (λ (l : LaneFields). with_pages l.pages (all_pages c.submit-tail.result.0.pages)) sub.lane
     ∙ taken_back c.args.lane.now.pages (all_pages c.submit-tail.result.0.pages) sub.taken)
-    (tags_are _ _ _ _ _ _ k)
+    (tags_are k)
     (ports_long _ _ _ _ long c.write32-2.ensures.ports)
     (c.write32-2.ensures.bus c.turn.ensures.bus)
     (port_after t _ _ _ _ _ long c.from-2.ensures (told_is t _ _ _ _ c.unwrap-head.ensures c.head_to_tell.ensures.head collected ring)
-    c.write32-2.ensures.ports (port_is _ _ _ _ _ _ k))
+    c.write32-2.ensures.ports (port_is k))
 
 pub returns-clause-ports : goal.returns-clause-ports
 returns-clause-ports g c =
@@ -145,6 +145,6 @@ returns-clause-others g c =
     let sub = c.submit-tail.ensures.submitted in
     let size = c.submit-tail.ensures.page ∙ r.page_size in
     let pace = r.geometry.pace in
-    let k = exchanged _ _ _ _ _ _ _ _ _ _ _ _ _ _ _ _ _ _ r c.requires.fits sub c.submit-tail.ensures.tail c.write32.ensures.state c.from.ensures
+    let k = exchanged r c.requires.fits sub c.submit-tail.ensures.tail c.write32.ensures.state c.from.ensures
     c.write32.ensures.ports size pace.0 c.turn.ensures.turn in
-    others_after _ _ _ _ _ _ _ _ _ _ _ _ _ r sub k
+    others_after r sub k

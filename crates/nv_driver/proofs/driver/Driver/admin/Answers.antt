@@ -7,12 +7,12 @@ use Rattle.nv_driver.proofs.driver.Driver.admin.Goals as goal
 
 pub exchange-requires-clause-ready : goal.exchange-requires-clause-ready
 exchange-requires-clause-ready g c =
-    ready_at _ _ _ _ _ _ c.self.invariant c.requires.bus (c.requires.left ∙ ap ports_of (sym c.self.view_is)) (inside_of _ _ _ _ _ c.requires.ctrl c.self.view_is) c.index_mut-lane.ensures.value
+    ready_at c.self.invariant c.requires.bus (c.requires.left ∙ ap ports_of (sym c.self.view_is)) (inside_of _ _ _ _ _ c.requires.ctrl c.self.view_is) c.index_mut-lane.ensures.value
 
 pub invariant_of-self : goal.invariant_of-self
 invariant_of-self g c =
     let e = c.exchange.ensures in
-    driver_after _ _ _ _ _ _ _ _ c.self.invariant (inside_of _ _ _ _ _ c.requires.ctrl c.self.view_is) c.index_mut-lane.ensures.value e.ready e.lane e.others e.len e.page
+    driver_after c.self.invariant (inside_of _ _ _ _ _ c.requires.ctrl c.self.view_is) c.index_mut-lane.ensures.value e.ready e.lane e.others e.len e.page
 
 pub returns-clause-driver : goal.returns-clause-driver
 returns-clause-driver g c =
