@@ -36,8 +36,8 @@ fn read_data<M: HostMemory>(
     copy_in(mem, &spans, page);
 }
 
-/// The answer to a command, from its completion and the data in its pages. Section "Completion Queue
-/// Entry".
+/// The answer to a command, from its completion and the data in its pages. Section "Completion
+/// Queue Entry".
 pub fn answer<M: HostMemory>(
     mem: &M,
     outstanding: &Outstanding,

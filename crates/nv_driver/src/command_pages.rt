@@ -3,7 +3,8 @@
 ghost use Rattle.std.specs.Prelude.{◌≡◌, ◌≢◌, ◌+◌, ◌≤◌, All, AllPairs, false, length, slice_index};
 ghost use Rattle.std.specs.FinSet as set;
 ghost use Rattle.nv_host.specs.PageSets.{IsOf};
-ghost use Rattle.nv_driver.specs.CommandPages.{AreTaken, all_pages, data_pages, with_pages, without};
+ghost use Rattle.nv_driver.specs.CommandPages.{AreTaken, all_pages, data_pages};
+ghost use Rattle.nv_driver.specs.CommandPages.{with_pages, without};
 
 use nv_host::{PageNo, PageSet};
 use nv_prp::ListPlace;

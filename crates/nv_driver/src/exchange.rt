@@ -30,16 +30,20 @@ pub fn exchange<B: Bus, M: HostMemory>(
     geometry: Geometry,
     command: &Command,
 ) -> Answer
-    requires ready { IsReady geometry (B.meaning bus.old) ctrl lane.old (M.page_len mem.old) (M.bytes mem.old) }
+    requires ready { IsReady geometry (B.meaning bus.old) ctrl
+        lane.old (M.page_len mem.old) (M.bytes mem.old) }
     requires fits { CommandFits command.now }
-    ensures answer { result ≡ (step (B.meaning bus.old).state ctrl command.now lane.old.serial).answer }
+    ensures answer { result
+        ≡ (step (B.meaning bus.old).state ctrl command.now lane.old.serial).answer }
     ensures state { (B.meaning bus.new).state
         ≡ (step (B.meaning bus.old).state ctrl command.now lane.old.serial).state }
-    ensures ready { IsReady geometry (B.meaning bus.new) ctrl lane.new (M.page_len mem.new) (M.bytes mem.new) }
+    ensures ready { IsReady geometry (B.meaning bus.new) ctrl
+        lane.new (M.page_len mem.new) (M.bytes mem.new) }
     ensures ports { (B.meaning bus.new).ports
         ≡ slice_set (B.meaning bus.old).ports ctrl (port_at (B.meaning bus.new).ports ctrl) }
     ensures lane { lane_value lane.new ≡ after_one (lane_value lane.old) }
-    ensures others { KeepsOthers geometry.page_size (lane_value lane.old) (M.bytes mem.old) (M.bytes mem.new) }
+    ensures others { KeepsOthers geometry.page_size (lane_value lane.old)
+        (M.bytes mem.old) (M.bytes mem.new) }
     ensures len { length (M.bytes mem.new) ≡ length (M.bytes mem.old) }
     ensures page { M.page_len mem.new ≡ M.page_len mem.old }
 {
