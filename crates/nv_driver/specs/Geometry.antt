@@ -1,8 +1,7 @@
 -- The limits of a driver's geometry.
 use Rattle.std.specs.Prelude.{◌≡◌, ℕ, ◌%◌, ◌<◌, ◌≤◌, ◌==◌, ◌&&◌, nat_le, nat_lt, if◌then◌else◌}
 use Rattle.std.specs.Prelude.{Bool, List, [], ◌∷◌, Option, Some, None}
-use Rattle.std.specs.List.{list_any}
-use Rattle.nv_host.specs.Pages.{IsPageSize}
+use Rattle.nv_host.specs.Pages.{IsPageSize, is_page_size}
 use Rattle.nv_queue.specs.Numbers.{IsDepth}
 use Rattle.nv_driver.specs.declared.geometry.Geometry.{Geometry}
 use Rattle.nv_driver.specs.declared.geometry_field.GeometryField.{GeometryField}
@@ -14,9 +13,6 @@ is_between low high x = nat_le low x && nat_le x high
 -- a multiple of `unit` in a page
 unfoldable pub is_offset : ℕ → ℕ → ℕ → Bool
 is_offset unit page_size x = x % unit == 0 && nat_lt x page_size
-
-unfoldable pub is_page_size : ℕ → Bool
-is_page_size size = list_any (λ one. one == size) (4096 ∷ 8192 ∷ 16384 ∷ 32768 ∷ 65536 ∷ [])
 
 -- fewer outstanding commands than slots
 unfoldable pub is_window : ℕ → ℕ → Bool

@@ -1,9 +1,8 @@
 //! How many commands a driver has outstanding, and how their entries and data lie.
 
 ghost use Rattle.std.specs.Prelude.{◌≡◌, ◌%◌, ◌<◌, ◌≤◌, ◌↔◌, IfOk, IsTrue, MatchResult, None, Some};
-ghost use Rattle.nv_host.specs.Pages.{IsPageSize};
 ghost use Rattle.nv_driver.specs.Geometry.{IsGeometry, fault_of, is_between, is_offset};
-ghost use Rattle.nv_driver.specs.Geometry.{is_page_size, is_window};
+ghost use Rattle.nv_driver.specs.Geometry.{is_window};
 
 use crate::geometry_field::GeometryField;
 use nv_host::is_page_size;
@@ -60,14 +59,6 @@ fn is_between(low: u32, high: u32, x: u32) -> bool
     low <= x && x <= high
 }
 
-/// Whether these bytes are a page's.
-fn is_size_of_page(size: u32) -> bool
-    ensures value { result ≡ is_page_size size }
-    ensures meaning { IsTrue result ↔ IsPageSize size }
-{
-    is_page_size(size)
-}
-
 /// Whether a multiple of `unit` lies in a page.
 #[tactic(auto, unfolding(crate::specs::Geometry::is_offset))]
 fn is_offset(unit: u32, page_size: u32, x: u32) -> bool
@@ -98,7 +89,7 @@ impl Geometry {
         if !is_between(2, 4096, self.depth) {
             return Err(GeometryField::Depth);
         }
-        if !is_size_of_page(self.page_size) {
+        if !is_page_size(self.page_size) {
             return Err(GeometryField::PageSize);
         }
         if !is_offset(4, self.page_size, self.offset) {

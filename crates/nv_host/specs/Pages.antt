@@ -1,10 +1,13 @@
 -- A memory in pages.
-use Rattle.std.specs.Prelude.{ℕ, ◌==◌, ◌+◌, ◌*◌, ◌≤◌, IsTrue, List, [], ◌∷◌, length}
+use Rattle.std.specs.Prelude.{ℕ, ◌==◌, ◌+◌, ◌*◌, ◌≤◌, Bool, IsTrue, List, [], ◌∷◌, length}
 use Rattle.std.specs.List.{list_any}
 
 -- the five sizes that a page can have
+abbrev pub is_page_size : ℕ → Bool
+is_page_size size = list_any (λ one. one == size) (4096 ∷ 8192 ∷ 16384 ∷ 32768 ∷ 65536 ∷ [])
+
 unfoldable pub IsPageSize : ℕ → Type 0
-IsPageSize size = IsTrue (list_any (λ one. one == size) (4096 ∷ 8192 ∷ 16384 ∷ 32768 ∷ 65536 ∷ []))
+IsPageSize size = IsTrue (is_page_size size)
 
 -- page n lies in the memory
 abbrev pub HasPage : List ℕ → ℕ → ℕ → Type 0

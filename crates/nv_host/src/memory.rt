@@ -3,7 +3,7 @@
 ghost use Rattle.std.specs.Prelude.{◌≡◌, ◌+◌, ◌*◌, ◌≤◌, ◌↔◌, ℕ, IsOk, IsTrue, List, OnErr, OnOk, length};
 ghost use Rattle.std.specs.Borrow.{sem, Array, Lends, u8 as byte};
 ghost use Rattle.nv_host.specs.Bytes.{bytes_at, with_bytes};
-ghost use Rattle.nv_host.specs.Pages.{HasPage, IsPageSize};
+ghost use Rattle.nv_host.specs.Pages.{HasPage, IsPageSize, is_page_size};
 
 use crate::OutOfMemoryRange;
 
@@ -63,7 +63,8 @@ pub trait HostMemory {
 /// Whether a page can have this many bytes.
 #[tactic(auto, unfolding(crate::specs::Pages::IsPageSize))]
 pub fn is_page_size(size: u32) -> bool
-    ensures { IsTrue result ↔ IsPageSize size }
+    ensures value { result ≡ is_page_size size }
+    ensures meaning { IsTrue result ↔ IsPageSize size }
 {
     [4096, 8192, 16384, 32768, 65536].contains(&size)
 }
