@@ -11,21 +11,7 @@ ghost use Rattle.nv_driver.specs.Registers.{idle_ports, mps_of, with_dword, with
 use crate::error::DriverError;
 use crate::geometry::Geometry;
 use nv_controller::Bus;
-
-/// Offsets of registers. Section "Controller Registers".
-const CC: u32 = 0x14;
-
-const CSTS: u32 = 0x1c;
-
-const AQA: u32 = 0x24;
-
-const ASQ_LOW: u32 = 0x28;
-
-const ASQ_HIGH: u32 = 0x2c;
-
-const ACQ_LOW: u32 = 0x30;
-
-const ACQ_HIGH: u32 = 0x34;
+use nv_register::offset;
 
 /// CC.EN, and the entry sizes of I/O queues: 64 and 16 bytes. Section "Controller Configuration".
 const ENABLE: u32 = 0x0046_0001;
@@ -55,8 +41,8 @@ fn write_all<B: Bus>(bus: &mut B, ctrl: u16, writes: &[(u32, u32)])
         (fold with_dword (port_at (B.meaning bus.old).ports ctrl) writes.now) }
     ensures bus { IsBus (B.meaning bus.old) → IsBus (B.meaning bus.new) }
 {
-    for (offset, dword) in writes {
-        bus.write32(ctrl, *offset, *dword);
+    for (address, dword) in writes {
+        bus.write32(ctrl, *address, *dword);
     }
 }
 
@@ -69,7 +55,7 @@ fn await_ready<B: Bus>(bus: &B, ctrl: u16, ready: bool) -> Result<(), DriverErro
     ensures no_ready { IfErr result (λ e. e ≡ DriverError.NoReady) }
 {
     for _ in 0..READS {
-        if (bus.read32(ctrl, CSTS) % 2 == 1) == ready {
+        if (bus.read32(ctrl, offset::CSTS) % 2 == 1) == ready {
             return Ok(());
         }
     }
@@ -92,11 +78,11 @@ fn set_queues<B: Bus>(bus: &mut B, ctrl: u16, less_one: u32, sq: u64, cq: u64)
         bus,
         ctrl,
         &[
-            (AQA, (less_one << 16) + less_one),
-            (ASQ_LOW, (sq % (1 << 32)) as u32),
-            (ASQ_HIGH, (sq >> 32) as u32),
-            (ACQ_LOW, (cq % (1 << 32)) as u32),
-            (ACQ_HIGH, (cq >> 32) as u32),
+            (offset::AQA, (less_one << 16) + less_one),
+            (offset::ASQ_LOW, (sq % (1 << 32)) as u32),
+            (offset::ASQ_HIGH, (sq >> 32) as u32),
+            (offset::ACQ_LOW, (cq % (1 << 32)) as u32),
+            (offset::ACQ_HIGH, (cq >> 32) as u32),
         ],
     );
 }
@@ -114,11 +100,11 @@ fn enable<B: Bus>(bus: &mut B, ctrl: u16, geometry: Geometry) -> Result<(), Driv
         (idle_port (mps_of geometry.page_size) geometry.page_size (lane_of geometry ctrl)) }
     ensures bus { IsBus (B.meaning bus.old) → IsBus (B.meaning bus.new) }
 {
-    bus.write32(ctrl, CC, 0);
+    bus.write32(ctrl, offset::CC, 0);
     await_ready(bus, ctrl, false)?;
     let place = geometry.place(ctrl);
     set_queues(bus, ctrl, geometry.depth - 1, place.sq, place.cq);
-    bus.write32(ctrl, CC, ENABLE + (mps(geometry.page_size) << 7));
+    bus.write32(ctrl, offset::CC, ENABLE + (mps(geometry.page_size) << 7));
     await_ready(bus, ctrl, true)
 }
 

@@ -14,11 +14,7 @@ use crate::submitting::submit;
 use nv_command::Command;
 use nv_controller::Bus;
 use nv_host::HostMemory;
-
-/// Offsets of the doorbells of the admin queues. Section "Controller Registers".
-const TAIL_DOORBELL: u32 = 0x1000;
-
-const HEAD_DOORBELL: u32 = 0x1004;
+use nv_register::offset;
 
 /// Sends a command to a controller and awaits its answer. No command of its lane is outstanding,
 /// before and after.
@@ -48,12 +44,12 @@ pub fn exchange<B: Bus, M: HostMemory>(
     ensures page { M.page_len mem.new ≡ M.page_len mem.old }
 {
     let (outstanding, tail) = submit(mem, lane, geometry, command);
-    bus.write32(ctrl, TAIL_DOORBELL, u32::from(tail));
+    bus.write32(ctrl, offset::TAIL_DOORBELL, u32::from(tail));
     bus.turn(ctrl, mem, geometry.pace as u16);
     let completion = lane.completion.poll(mem).unwrap();
     lane.submission.freed(completion.sq_head);
     let head = lane.completion.head_to_tell().unwrap();
-    bus.write32(ctrl, HEAD_DOORBELL, u32::from(head));
+    bus.write32(ctrl, offset::HEAD_DOORBELL, u32::from(head));
     outstanding.pages.give(&mut lane.pages);
     answer(mem, &outstanding, command, &completion)
 }

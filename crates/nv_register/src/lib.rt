@@ -20,6 +20,7 @@
 mod admin_queue_attributes;
 mod controller_configuration;
 mod controller_status;
+pub mod offset;
 mod port;
 mod register;
 mod rings;

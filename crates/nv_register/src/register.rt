@@ -3,6 +3,8 @@
 ghost use Rattle.std.specs.Prelude.{◌≡◌};
 ghost use Rattle.nv_register.specs.Register.{register_at};
 
+use crate::offset;
+
 /// A dword of a controller's registers. Section "Register Definition".
 #[derive(Clone, Copy, Debug, PartialEq, Eq)]
 pub enum Register {
@@ -34,22 +36,22 @@ pub enum Register {
 
 impl Register {
     /// The register that begins at an offset in bytes; none where no dword of these does.
-    pub fn at(offset: u32) -> Option<Register>
-        ensures { result ≡ register_at offset }
+    pub fn at(address: u32) -> Option<Register>
+        ensures { result ≡ register_at address }
     {
-        match offset {
-            0x00 => Some(Register::CapLow),
-            0x04 => Some(Register::CapHigh),
-            0x08 => Some(Register::Vs),
-            0x14 => Some(Register::Cc),
-            0x1c => Some(Register::Csts),
-            0x24 => Some(Register::Aqa),
-            0x28 => Some(Register::AsqLow),
-            0x2c => Some(Register::AsqHigh),
-            0x30 => Some(Register::AcqLow),
-            0x34 => Some(Register::AcqHigh),
-            0x1000 => Some(Register::TailDoorbell),
-            0x1004 => Some(Register::HeadDoorbell),
+        match address {
+            offset::CAP_LOW => Some(Register::CapLow),
+            offset::CAP_HIGH => Some(Register::CapHigh),
+            offset::VS => Some(Register::Vs),
+            offset::CC => Some(Register::Cc),
+            offset::CSTS => Some(Register::Csts),
+            offset::AQA => Some(Register::Aqa),
+            offset::ASQ_LOW => Some(Register::AsqLow),
+            offset::ASQ_HIGH => Some(Register::AsqHigh),
+            offset::ACQ_LOW => Some(Register::AcqLow),
+            offset::ACQ_HIGH => Some(Register::AcqHigh),
+            offset::TAIL_DOORBELL => Some(Register::TailDoorbell),
+            offset::HEAD_DOORBELL => Some(Register::HeadDoorbell),
             _ => None,
         }
     }
