@@ -109,7 +109,7 @@ none_can r page_size size is cannot =
 
 -- ---- the memory keeps its length
 
-length_moved : (answer : Result Reply Status) (places old new : List ℕ) → Moves answer places old new → length new ≡ length old
+pub length_moved : (answer : Result Reply Status) (places old new : List ℕ) → Moves answer places old new → length new ≡ length old
 length_moved (Ok reply) places old new h = ap length h ∙ length-written_at old places (data_of reply)
 length_moved (Err status) places old new h = ap length h
 

@@ -21,6 +21,7 @@ use Rattle.nv_subsystem.specs.Step.{step}
 use Rattle.nv_subsystem.specs.StepLaws.{step_controllers, step_keeps}
 use Rattle.nv_controller.specs.Entry.{Scene, completion_with, scene}
 use Rattle.nv_controller.specs.Turn.{Takes}
+use Rattle.nv_controller.specs.TurnLaws.{length_moved}
 use Rattle.nv_driver.specs.Schedule.{Answer, AreApart, Holds, Sent, Setting, World, after, answer_read, device_rings, number, places, port_with, slot}
 use Rattle.nv_driver.proofs.AnswerLaws.{IsAnswerTo, answer_back, answer_sound, completion_fits}
 use Rattle.nv_driver.proofs.CountLaws.{number_below, number_next, slot_inside, slots_differ}
@@ -28,7 +29,7 @@ use Rattle.nv_driver.proofs.HeldLaws.{holds_on}
 use Rattle.nv_driver.proofs.Keeping.{IsOwn, Keeps}
 use Rattle.nv_driver.proofs.RegionLaws.{ChangesOnlyAt, completion_keeps, data_stays, length-places, outside_part, place_beside, read_keeps}
 use Rattle.nv_driver.proofs.SerialLaws.{after_more, answer_at}
-use Rattle.nv_driver.proofs.TakenLaws.{IsDone, can_go, delivered, is_done, moved_keeps, moved_length, moved_slot, now}
+use Rattle.nv_driver.proofs.TakenLaws.{IsDone, can_go, delivered, is_done, moved_keeps, moved_slot, now}
 
 place_apart : (place from n : ℕ) → (place < from) ⊎ (from + n ≤ place) → IsApart from n place 1
 place_apart place from n (inl before) = inl (omega arith)
@@ -71,7 +72,7 @@ one_more t s w y d k waits free one =
     let posted = completion_with x.cid (slot t (n + 1)) a in
     let head = slot_inside t (n + 1) (omega (arith, deep.0)) in
     let fits : CqeFits posted = completion_fits x.command x.cid (slot t (n + 1)) a own.cid (omega (arith, deep.1)) sound in
-    let size : length one.moved ≡ length w.mem = moved_length t x a w.mem one.moved one.moves in
+    let size : length one.moved ≡ length w.mem = length_moved a (places t.page_size x) w.mem one.moved one.moves in
     let inside : t.cq + 16 * t.depth ≤ length one.moved = omega (arith, p.inside) in
     let len : length y.bytes ≡ length w.mem =
     ap (λ (m : List ℕ). length m) one.bytes ∙ length-with_completion one.moved ring posted (omega (arith, deep.0)) inside ∙ size in

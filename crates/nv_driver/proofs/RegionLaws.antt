@@ -1,9 +1,9 @@
 -- Parts of the memory that a command's pages, or a slot of a ring, do not reach.
-use Rattle.std.proofs.Common.{◌≡◌, ◌≢◌, ◌∙◌, ◌⊎◌, ℕ, suc, ◌+◌, ◌*◌, ◌/◌, ◌<◌, ◌≤◌, List, ap, arith, drop, get_or, inl, inr, length, sym}
+use Rattle.std.proofs.Common.{◌≡◌, ◌≢◌, ◌∙◌, ◌⊎◌, ℕ, suc, ◌+◌, ◌*◌, ◌/◌, ◌<◌, ◌≤◌, List, ap, arith, get_or, inl, inr, length, sym}
 use Rattle.std.proofs.Math.Nat.{mul-le-mul_right}
 use Rattle.std.proofs.lemmas.Bool.{cases_lt}
 use Rattle.std.proofs.lemmas.Grind.{same_number_lists}
-use Rattle.std.proofs.lemmas.List.{get_or-drop, get_or-map, get_or-take}
+use Rattle.std.proofs.lemmas.List.{get_or-map}
 use Rattle.std.proofs.lemmas.Nat.{div_below, mod_below}
 use Rattle.nv_host.specs.Bytes.{bytes_at}
 use Rattle.nv_host.specs.BytesLaws.{bytes_at-with_after, bytes_at-with_before}
@@ -13,8 +13,8 @@ use Rattle.nv_layout.specs.Sqe.{bytes_of_sqe}
 use Rattle.nv_layout.specs.declared.cqe.Cqe.{Cqe}
 use Rattle.nv_layout.specs.declared.sqe.Sqe.{Sqe}
 use Rattle.nv_prp.specs.Buffer.{IsApart, IsOutside, buffer_place, buffer_places}
-use Rattle.nv_prp.specs.Place.{AreDistinct, read_at, written_at}
-use Rattle.nv_prp.specs.PlaceLaws.{get_or-table, later_stays, length-read_at, length-table, part_stays}
+use Rattle.nv_prp.specs.Place.{read_at, written_at}
+use Rattle.nv_prp.specs.PlaceLaws.{get_or-bytes_at, get_or-table, length-read_at, length-table, part_stays}
 use Rattle.nv_queue.specs.Rings.{PostNumbers, SubmitNumbers}
 use Rattle.nv_queue.specs.Slots.{completion_place, put_as, submission_place, with_completion, with_submission}
 use Rattle.nv_queue.specs.SlotLaws.{slot_within}
@@ -126,9 +126,7 @@ submission_keeps bytes ring c from n some inside apart =
 -- ---- what is read
 
 byte_at : (bytes : List ℕ) (from : ℕ) → get_or (bytes_at bytes from 1) 0 0 ≡ get_or bytes from 0
-unfolding bytes_at
-byte_at bytes from =
-    get_or-take 1 (drop from bytes) 0 0 (omega arith) ∙ get_or-drop from bytes 0 0 ∙ ap (λ k. get_or bytes k 0) (let e : from + 0 ≡ from = omega arith in e)
+byte_at bytes from = get_or-bytes_at bytes from 1 0 (omega arith) ∙ ap (λ k. get_or bytes k 0) (let e : from + 0 ≡ from = omega arith in e)
 
 -- bytes that stay are read as before
 pub read_keeps : (old new at : List ℕ)
@@ -141,17 +139,6 @@ read_keeps old new at same =
     get_or-map (λ p. get_or new p 0) at k 0 0 below
     ∙ (sym (byte_at new (get_or at k 0)) ∙ ap (λ bytes. get_or bytes 0 0) (same k below) ∙ byte_at old (get_or at k 0))
     ∙ sym (get_or-map (λ p. get_or old p 0) at k 0 0 below))
-
--- data that was written to distinct places is read from them
-pub data_read : (bytes at written : List ℕ) → length at ≡ length written
-    → ((k : ℕ) → k < length at → get_or at k 0 < length bytes) → AreDistinct at → read_at (written_at bytes at written) at ≡ written
-unfolding read_at
-data_read bytes at written same inside distinct =
-    let size = length-read_at (written_at bytes at written) at in
-    same_number_lists _ _ (size ∙ same)
-    (λ k h. let below : k < length at = omega (arith, size) in
-    get_or-map (λ p. get_or (written_at bytes at written) p 0) at k 0 0 below
-    ∙ later_stays bytes at written k same below (inside k below) (λ j later more e. distinct k j 0 later more (sym e)))
 
 -- ---- what a command's pages and one ring change
 

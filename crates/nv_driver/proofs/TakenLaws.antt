@@ -6,7 +6,7 @@ use Rattle.nv_host.specs.Bytes.{bytes_at}
 use Rattle.nv_layout.specs.Cqe.{cqe_of_bytes}
 use Rattle.nv_layout.specs.declared.sqe.Sqe.{Sqe}
 use Rattle.nv_prp.specs.Place.{read_at}
-use Rattle.nv_prp.specs.PlaceLaws.{length-written_at}
+use Rattle.nv_prp.specs.PlaceLaws.{read_written}
 use Rattle.nv_queue.specs.Numbers.{above, slot_of}
 use Rattle.nv_queue.specs.Slots.{completion_at, with_completion}
 use Rattle.nv_command.specs.Reply.{data_of}
@@ -22,7 +22,7 @@ use Rattle.nv_driver.specs.Schedule.{Answer, AreOutside, Sent, Setting, World, d
 use Rattle.nv_driver.proofs.AnswerLaws.{Delivers, IsAnswerTo, reply_length}
 use Rattle.nv_driver.proofs.CountLaws.{number_above, number_next}
 use Rattle.nv_driver.proofs.Keeping.{IsOwn, Keeps}
-use Rattle.nv_driver.proofs.RegionLaws.{data_keeps, data_read, length-places, outside_part}
+use Rattle.nv_driver.proofs.RegionLaws.{data_keeps, length-places, outside_part}
 
 -- ---- which entry is taken
 
@@ -93,10 +93,6 @@ is_done t s w y d k below one =
 -- ---- the memory
 
 -- the places of a command's data, and what is moved there
-pub moved_length : (t : Setting) (x : Sent) (a : Answer) (old moved : List ℕ) → Moves a (places t.page_size x) old moved → length moved ≡ length old
-moved_length t x (Ok r) old moved moves = ap (λ (m : List ℕ). length m) moves ∙ length-written_at old (places t.page_size x) (data_of r)
-moved_length t x (Err status) old moved moves = ap (λ (m : List ℕ). length m) moves
-
 pub moved_keeps : (t : Setting) (x : Sent) (a : Answer) (old moved : List ℕ) (from n : ℕ) → 0 < t.page_size
     → x.offset + data_length x ≤ length x.pages * t.page_size → Moves a (places t.page_size x) old moved → AreOutside t.page_size x from n
     → bytes_at moved from n ≡ bytes_at old from n
@@ -118,5 +114,5 @@ pub delivered : (t : Setting) (x : Sent) (a : Answer) (old moved new : List ℕ)
 delivered t x (Ok r) old moved new is moves own same =
     let size = length-places t x in
     same ∙ ap (λ m. read_at m (places t.page_size x)) moves
-    ∙ data_read old (places t.page_size x) (data_of r) (size ∙ reply_length x r is) (λ i below. own.inside i (omega arith)) own.distinct
+    ∙ read_written old (places t.page_size x) (data_of r) (size ∙ reply_length x r is) (λ i below. own.inside i (omega arith)) own.distinct
 delivered t x (Err status) old moved new is moves own same = tt

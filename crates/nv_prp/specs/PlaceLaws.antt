@@ -114,20 +114,24 @@ later_stays bytes (p ∷ at) (b ∷ written) (suc i) same below inside last =
     (let size = length-set bytes p b in omega arith)
     (λ k h j. let next : get_or at k 0 ≢ get_or at i 0 = last (suc k) (omega arith) (omega arith) in next)
 
--- what is written to distinct places is read from them
-pub written_is_read : (bytes : List ℕ) (spans : List Span) (written : List ℕ) → LieIn (length bytes) spans
-    → length (places spans) ≡ length written → AreDistinct (places spans)
-    → read_at (written_at bytes (places spans) written) (places spans) ≡ written
+-- what is written to distinct places of a memory is read from them
+pub read_written : (bytes at written : List ℕ) → length at ≡ length written
+    → ((k : ℕ) → k < length at → get_or at k 0 < length bytes) → AreDistinct at → read_at (written_at bytes at written) at ≡ written
 unfolding read_at
-written_is_read bytes spans written inside same distinct =
-    let at = places spans in
+read_written bytes at written same inside distinct =
     let size = length-read_at (written_at bytes at written) at in
     same_number_lists _ _ (size ∙ same)
     (λ k h. let below : k < length at = omega (arith, size) in
     get_or-map (λ p. get_or (written_at bytes at written) p 0) at k 0 0 below
-    ∙ later_stays bytes at written k same below (places_inside _ spans inside k below) (λ j later more e. distinct k j 0 later more (sym e)))
+    ∙ later_stays bytes at written k same below (inside k below) (λ j later more e. distinct k j 0 later more (sym e)))
 
-get_or-bytes_at : (bytes : List ℕ) (from n k : ℕ) → k < n → get_or (bytes_at bytes from n) k 0 ≡ get_or bytes (from + k) 0
+pub written_is_read : (bytes : List ℕ) (spans : List Span) (written : List ℕ) → LieIn (length bytes) spans
+    → length (places spans) ≡ length written → AreDistinct (places spans)
+    → read_at (written_at bytes (places spans) written) (places spans) ≡ written
+written_is_read bytes spans written inside same distinct =
+    read_written bytes (places spans) written same (places_inside _ spans inside) distinct
+
+pub get_or-bytes_at : (bytes : List ℕ) (from n k : ℕ) → k < n → get_or (bytes_at bytes from n) k 0 ≡ get_or bytes (from + k) 0
 unfolding bytes_at
 get_or-bytes_at bytes from n k below = get_or-take n (drop from bytes) k 0 below ∙ get_or-drop from bytes k 0
 
