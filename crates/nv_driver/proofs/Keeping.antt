@@ -12,7 +12,7 @@ use Rattle.nv_controller.specs.Call.{call_of}
 use Rattle.nv_driver.specs.Schedule.{AreApart, AreOthers, AreOutside, Holds, Sent, Setting, World, after, answers_to, data_length, device_rings, entry, number, places, port_with, slot}
 
 -- the rings lie in a memory of this size, the submission ring first
-pub record IsPlaced (t : Setting) (size : ℕ) : Type 0 where
+pub record HasRings (t : Setting) (size : ℕ) : Type 0 where
   pub page_size : IsPageSize t.page_size
   pub deep : IsDepth t.depth
   pub rings : t.sq + 64 * t.depth ≤ t.cq
@@ -41,7 +41,7 @@ pub record AreInOrder (depth k d r m h : ℕ) : Type 0 where
 
 -- from commands of controller c on over a well-formed subsystem s
 pub record Keeps (t : Setting) (s : State) (w : World) : Type 0 where
-  pub placed : IsPlaced t (length w.mem)
+  pub placed : HasRings t (length w.mem)
   pub counts : AreInOrder t.depth (length w.answers) w.done w.rung (length w.sent) w.told
   pub port : w.port ≡ port_with t (device_rings t w.rung w.done w.told)
   pub state : w.state ≡ after t.controller s (take w.done w.sent)
