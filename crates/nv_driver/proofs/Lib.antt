@@ -15,7 +15,6 @@ pub mod TakenLaws
 pub mod EntryLaws
 pub mod TurnLaws
 pub mod ScheduleLaws
-pub mod GeometryLaws
 pub mod LaneLaws
 pub mod LayoutLaws
 pub mod MemoryLaws
