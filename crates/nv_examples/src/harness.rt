@@ -1,8 +1,10 @@
 //! A run of a script in memory.
 
-use nv_script::{OverRead, OverWrite, RunEnd, Straight, run};
-use nv_subsystem::{Subsystem, SubsystemError};
+use nv_controller::Machine;
+use nv_script::{Geometry, OverRead, OverWrite, RunEnd, run};
+use nv_subsystem::Subsystem;
 use std::alloc::Global;
+use std::test::Fail;
 
 /// What a run left.
 #[derive(Drop)]
@@ -10,22 +12,39 @@ pub struct Outcome {
     pub end: RunEnd,
     pub out: Vec<u8>,
     pub messages: Vec<u8>,
-    /// What serves the commands, as the run left it.
-    pub direct: Straight,
+    /// The controllers, as the run left them.
+    pub machine: Machine,
 }
 
-/// Runs a script on the subsystem of a file.
-pub fn run_script(alloc: Global, file: &str, script: &[u8]) -> Result<Outcome, SubsystemError> {
+/// Runs a script on the subsystem of a file, by a driver of this geometry.
+pub fn run_at(
+    alloc: Global,
+    file: &str,
+    geometry: Geometry,
+    script: &[u8],
+) -> Result<Outcome, Fail> {
     let subsystem = Subsystem::from_toml(alloc, file.as_bytes())?;
-    let mut direct = Straight::new(subsystem);
+    let mut machine = Machine::new(alloc, subsystem)?;
     let mut script = OverRead::new(script);
     let mut out = OverWrite::new(Vec::new(alloc));
     let mut messages = OverWrite::new(Vec::new(alloc));
-    let end = run(alloc, &mut direct, &mut script, &mut out, &mut messages);
+    let end = run(
+        alloc,
+        &mut machine,
+        geometry,
+        &mut script,
+        &mut out,
+        &mut messages,
+    );
     Ok(Outcome {
         end,
         out: out.into_inner(),
         messages: messages.into_inner(),
-        direct,
+        machine,
     })
+}
+
+/// Runs a script on the subsystem of a file, by a driver of the default geometry.
+pub fn run_script(alloc: Global, file: &str, script: &[u8]) -> Result<Outcome, Fail> {
+    run_at(alloc, file, Geometry::default(), script)
 }

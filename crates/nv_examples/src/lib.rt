@@ -3,12 +3,14 @@
 
 mod harness;
 
-pub use harness::{Outcome, run_script};
+pub use harness::{Outcome, run_at, run_script};
 
 #[cfg(test)]
 mod file_ranges;
 #[cfg(test)]
 mod files;
+#[cfg(test)]
+mod geometries;
 #[cfg(test)]
 mod largest;
 #[cfg(test)]

@@ -3,7 +3,8 @@
 
 ghost use Rattle.std.specs.Prelude.{◌≤◌, length};
 
-use nv_script::{OverRead, OverWrite, RunEnd, Straight, run};
+use nv_controller::Machine;
+use nv_script::{Geometry, OverRead, OverWrite, RunEnd, run};
 use nv_subsystem::{DEMO, Subsystem};
 use std::cmp;
 use std::io::{self, ErrorKind, Read, Write};
@@ -105,11 +106,18 @@ fn reads_short_pieces_up_to_the_first_empty_one(rt: HostRuntime) -> Result<(), F
         calls: 0,
     };
     let subsystem = Subsystem::from_toml(alloc, DEMO.as_bytes())?;
-    let mut direct = Straight::new(subsystem);
+    let mut machine = Machine::new(alloc, subsystem)?;
     let mut script = OverRead::new(&mut reader);
     let mut out = OverWrite::new(Vec::new(alloc));
     let mut messages = OverWrite::new(Vec::new(alloc));
-    let end = run(alloc, &mut direct, &mut script, &mut out, &mut messages);
+    let end = run(
+        alloc,
+        &mut machine,
+        Geometry::default(),
+        &mut script,
+        &mut out,
+        &mut messages,
+    );
     assert!(rt; end == RunEnd::Status(1));
     assert!(rt; reader.calls == 4);
     assert!(rt; out.into_inner().as_slice() == "[   0]:0x3\n".as_bytes());
@@ -130,11 +138,18 @@ fn tries_no_failing_read_again(rt: HostRuntime) -> Result<(), Fail> {
         calls: 0,
     };
     let subsystem = Subsystem::from_toml(alloc, DEMO.as_bytes())?;
-    let mut direct = Straight::new(subsystem);
+    let mut machine = Machine::new(alloc, subsystem)?;
     let mut script = OverRead::new(&mut reader);
     let mut out = OverWrite::new(Vec::new(alloc));
     let mut messages = OverWrite::new(Vec::new(alloc));
-    let end = run(alloc, &mut direct, &mut script, &mut out, &mut messages);
+    let end = run(
+        alloc,
+        &mut machine,
+        Geometry::default(),
+        &mut script,
+        &mut out,
+        &mut messages,
+    );
     assert!(rt; end == RunEnd::Read);
     assert!(rt; reader.calls == 2);
     assert!(rt; out.into_inner().as_slice() == "[   0]:0x3\n".as_bytes());
@@ -146,11 +161,18 @@ fn tries_no_failing_read_again(rt: HostRuntime) -> Result<(), Fail> {
 fn writes_the_rest_after_a_short_write(rt: HostRuntime) -> Result<(), Fail> {
     let alloc = rt.alloc();
     let subsystem = Subsystem::from_toml(alloc, DEMO.as_bytes())?;
-    let mut direct = Straight::new(subsystem);
+    let mut machine = Machine::new(alloc, subsystem)?;
     let mut script = OverRead::new(b"list-ns /dev/nvme0\nbogus\n".as_slice());
     let mut out = OverWrite::new(TurnWriter::new(&[Turn::Takes(1), Turn::Takes(11)]));
     let mut messages = OverWrite::new(TurnWriter::new(&[Turn::Takes(3)]));
-    let end = run(alloc, &mut direct, &mut script, &mut out, &mut messages);
+    let end = run(
+        alloc,
+        &mut machine,
+        Geometry::default(),
+        &mut script,
+        &mut out,
+        &mut messages,
+    );
     let out = out.into_inner();
     let messages = messages.into_inner();
     assert!(rt; end == RunEnd::Status(1));
@@ -167,11 +189,18 @@ fn tries_no_failing_write_again(rt: HostRuntime) -> Result<(), Fail> {
     for fault in [Turn::Fails, Turn::Takes(0)] {
         let turns = [Turn::Takes(7), fault];
         let subsystem = Subsystem::from_toml(alloc, DEMO.as_bytes())?;
-        let mut direct = Straight::new(subsystem);
+        let mut machine = Machine::new(alloc, subsystem)?;
         let mut script = OverRead::new(b"list-ns /dev/nvme0\nbogus\n".as_slice());
         let mut out = OverWrite::new(TurnWriter::new(&turns));
         let mut messages = OverWrite::new(TurnWriter::new(&[]));
-        let end = run(alloc, &mut direct, &mut script, &mut out, &mut messages);
+        let end = run(
+            alloc,
+            &mut machine,
+            Geometry::default(),
+            &mut script,
+            &mut out,
+            &mut messages,
+        );
         let out = out.into_inner();
         assert!(rt; end == RunEnd::OutWrite);
         assert!(rt; out.calls == 2 && out.len == 7);

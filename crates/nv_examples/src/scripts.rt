@@ -115,7 +115,7 @@ fn books_refusals_on_their_controller(rt: HostRuntime) -> Result<(), Fail> {
         left.messages.as_slice()
             == "line 1: NVMe status: Invalid Namespace or Format (0x600b)\nline 2: NVMe status: Invalid Namespace or Format (0x600b)\n".as_bytes()
     );
-    let subsystem = left.direct.subsystem();
+    let subsystem = left.machine.subsystem();
     if subsystem.controllers() != 2 {
         panic!(rt; "the demonstration has two controllers");
     }

@@ -3,7 +3,8 @@
 ghost use Rattle.std.specs.Prelude.{◌≡◌, None, false};
 ghost use Rattle.nv_script.specs.Streams.{IsFresh};
 
-use nv_script::{OverRead, OverWrite, RunEnd, Sink, Source, Straight, run};
+use nv_controller::Machine;
+use nv_script::{Geometry, OverRead, OverWrite, RunEnd, Sink, Source, run};
 use nv_subsystem::{DEMO, Subsystem};
 use std::cmp;
 use std::test::Fail;
@@ -99,12 +100,19 @@ impl Sink for CutSink {
 fn runs_only_the_lines_before_a_failing_read(rt: HostRuntime) -> Result<(), Fail> {
     let alloc = rt.alloc();
     let subsystem = Subsystem::from_toml(alloc, DEMO.as_bytes())?;
-    let mut direct = Straight::new(subsystem);
+    let mut machine = Machine::new(alloc, subsystem)?;
     let pieces: [&[u8]; 2] = [b"list-ns /dev/nvme0\nlist-", b"ns /dev/nvme0"];
     let mut script = PieceSource::new(&pieces);
     let mut out = OverWrite::new(Vec::new(alloc));
     let mut messages = OverWrite::new(Vec::new(alloc));
-    let end = run(alloc, &mut direct, &mut script, &mut out, &mut messages);
+    let end = run(
+        alloc,
+        &mut machine,
+        Geometry::default(),
+        &mut script,
+        &mut out,
+        &mut messages,
+    );
     assert!(rt; end == RunEnd::Read);
     assert!(rt; script.calls == 3);
     assert!(rt; out.into_inner().as_slice() == "[   0]:0x1\n[   1]:0x3\n".as_bytes());
@@ -116,12 +124,19 @@ fn runs_only_the_lines_before_a_failing_read(rt: HostRuntime) -> Result<(), Fail
 fn reads_no_more_after_the_end(rt: HostRuntime) -> Result<(), Fail> {
     let alloc = rt.alloc();
     let subsystem = Subsystem::from_toml(alloc, DEMO.as_bytes())?;
-    let mut direct = Straight::new(subsystem);
+    let mut machine = Machine::new(alloc, subsystem)?;
     let pieces: [&[u8]; 4] = [b"list-ns /dev/nvme0 ", b"-n 3", b"", b"\nbogus\n"];
     let mut script = PieceSource::new(&pieces);
     let mut out = OverWrite::new(Vec::new(alloc));
     let mut messages = OverWrite::new(Vec::new(alloc));
-    let end = run(alloc, &mut direct, &mut script, &mut out, &mut messages);
+    let end = run(
+        alloc,
+        &mut machine,
+        Geometry::default(),
+        &mut script,
+        &mut out,
+        &mut messages,
+    );
     assert!(rt; end == RunEnd::Status(0));
     assert!(rt; script.calls == 3);
     assert!(rt; out.into_inner().as_slice() == "[   0]:0x3\n".as_bytes());
@@ -134,11 +149,18 @@ fn leaves_a_beginning_of_the_output(rt: HostRuntime) -> Result<(), Fail> {
     let alloc = rt.alloc();
     for takes_none in [false, true] {
         let subsystem = Subsystem::from_toml(alloc, DEMO.as_bytes())?;
-        let mut direct = Straight::new(subsystem);
+        let mut machine = Machine::new(alloc, subsystem)?;
         let mut script = OverRead::new(b"list-ns /dev/nvme0\nbogus\n".as_slice());
         let mut out = CutSink::new(takes_none);
         let mut messages = OverWrite::new(Vec::new(alloc));
-        let end = run(alloc, &mut direct, &mut script, &mut out, &mut messages);
+        let end = run(
+            alloc,
+            &mut machine,
+            Geometry::default(),
+            &mut script,
+            &mut out,
+            &mut messages,
+        );
         assert!(rt; end == RunEnd::OutWrite);
         assert!(rt; out.calls == 8);
         assert!(rt; out.bytes.as_slice() == "[   0]:".as_bytes());
@@ -152,13 +174,20 @@ fn leaves_a_beginning_of_the_messages(rt: HostRuntime) -> Result<(), Fail> {
     let alloc = rt.alloc();
     for takes_none in [false, true] {
         let subsystem = Subsystem::from_toml(alloc, DEMO.as_bytes())?;
-        let mut direct = Straight::new(subsystem);
+        let mut machine = Machine::new(alloc, subsystem)?;
         let mut script = OverRead::new(
             b"list-ns /dev/nvme0 -n 3\nbogus\nlist-ns /dev/nvme0\n".as_slice(),
         );
         let mut out = OverWrite::new(Vec::new(alloc));
         let mut messages = CutSink::new(takes_none);
-        let end = run(alloc, &mut direct, &mut script, &mut out, &mut messages);
+        let end = run(
+            alloc,
+            &mut machine,
+            Geometry::default(),
+            &mut script,
+            &mut out,
+            &mut messages,
+        );
         assert!(rt; end == RunEnd::MessageWrite);
         assert!(rt; messages.calls == 8);
         assert!(rt; messages.bytes.as_slice() == "line 2:".as_bytes());

@@ -21,5 +21,6 @@ mod word;
 
 pub use fault::LineFault;
 pub use line::{LINE_LIMIT, Line, read_line};
+pub use number::parse_number;
 pub use option::OptionName;
 pub use request::{Ask, Request};

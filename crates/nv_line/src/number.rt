@@ -42,8 +42,9 @@ fn within(least: u64, most: u64, value: u64) -> Option<u64>
     }
 }
 
-/// A number from `least` to `most`.
-pub fn number(text: &str, least: u64, most: u64) -> Option<u64>
+/// A number from `least` to `most`: decimal, hexadecimal after `0x` or `0X`, or octal after `0`,
+/// without a sign.
+pub fn parse_number(text: &str, least: u64, most: u64) -> Option<u64>
     ensures { result ≡ number_in least most text.now }
 {
     within(least, most, numeral(text)?)

@@ -8,7 +8,7 @@ ghost use Rattle.nv_line.specs.OptionValue.{flag_in, number_option_in};
 use crate::clap_rule::text_of;
 use crate::device::Device;
 use crate::fault::LineFault;
-use crate::number::number;
+use crate::number::parse_number;
 use crate::option::{FlagOption, NumberOption};
 use clap::ArgMatches;
 
@@ -23,7 +23,9 @@ pub fn read_number(
     ensures in_range { IfOk result (λ n. (option.least ≤ n) × (n ≤ option.most)) }
 {
     match text_of(matches, option.name.text()) {
-        Some(text) => number(text, option.least, option.most).ok_or(LineFault::Number(option.name)),
+        Some(text) => parse_number(text, option.least, option.most).ok_or(LineFault::Number(
+            option.name,
+        )),
         None => option.fallback(device).ok_or(LineFault::Usage),
     }
 }

@@ -1,4 +1,3 @@
-pub mod AskingLaws
 pub mod OutcomeLaws
 pub mod RequestLaws
 pub mod Padding
@@ -7,4 +6,5 @@ pub mod Taking
 pub mod LineLaws
 pub mod PieceSteps
 pub mod PieceLaws
+pub mod LinkLaws
 pub mod RunLaws

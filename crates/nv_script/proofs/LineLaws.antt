@@ -10,7 +10,7 @@ use Rattle.nv_line.specs.LineFault.{IsUnlessMemory}
 use Rattle.nv_script.specs.Outcomes.{commands_of, outcome_of}
 use Rattle.nv_line.specs.Line.{reading}
 use Rattle.nv_script.specs.Results.{LineResult, Progress, line_result, request_result, result_at, said_at}
-use Rattle.nv_script.specs.Session.{serials_of}
+use Rattle.nv_script.specs.Link.{serials_of}
 use Rattle.nv_script.specs.declared.ends.RunEnd.{RunEnd}
 use Rattle.nv_script.specs.declared.ends.RunEnd.TheVariants.{OutWrite, MessageWrite}
 use Rattle.nv_script.specs.declared.session.Session.{Session}
@@ -29,7 +29,7 @@ took_same : (a b c : Option (List ℕ)) (x : List ℕ) → c ≡ b → Appends a
 took_same a b c x e h = subst (λ t. Appends a t x) (sym e) h
 
 module _ {A E Z : Type 0} (p : Progress) (text : List ℕ) (lr : LineResult) (k : ℕ) (old : Left) (new : State) (session : Session)
-    (same : result_at p text ≡ lr) (held : Holds old p.output p.messages p.state) (reached : new ≡ lr.state) (next : serials_of session ≡ lr.serials)
+    (same : result_at p text ≡ lr) (held : Holds old p.output p.messages p.state) (reached : new ≡ lr.state) (next : serials_of session.driver ≡ lr.serials)
     (number : session.number ≡ p.number + 1) (status : session.status ≡ unwrap_or lr.status p.status) (all : lr.state ≡ state_amid p.state p.serials (said_at p text) k) where
   pub message_leaves : (r : Result A RunEnd) (t : Result (String Z) E) (messages : Option (List ℕ)) (failed : Bool) → lr.output ≡ [] → IfOk t (λ t. string_bytes t ≡ lr.message) → PrintLeaves r MessageWrite t old.messages messages failed
       → LineLeaves r p text (left_at old.out_before old.out old.messages_before messages new) session

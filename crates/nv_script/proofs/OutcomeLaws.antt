@@ -3,7 +3,7 @@ use Rattle.std.proofs.Common.{◌≡◌, ◌∙◌, ℕ, ap, sym, refl, List, []
 use Rattle.nv_layout.specs.declared.status.Status.{Status}
 use Rattle.nv_subsystem.specs.State.{State}
 use Rattle.nv_command.specs.declared.reply.Reply.{Reply}
-use Rattle.nv_script.specs.Asking.{Exchange, exchange_of}
+use Rattle.nv_script.specs.Exchange.{Exchange, exchange_of}
 use Rattle.nv_script.specs.Outcomes.{Outcome, outcome_after, outcome_of}
 use Rattle.nv_script.specs.declared.order.Order.{Order}
 

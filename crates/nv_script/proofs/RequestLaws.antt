@@ -10,7 +10,7 @@ use Rattle.nv_command.specs.declared.reply.Reply.{Reply}
 use Rattle.nv_line.specs.declared.request.Ask.{Ask}
 use Rattle.nv_line.specs.declared.request.Ask.TheVariants as ask
 use Rattle.nv_line.specs.declared.request.Request.{Request}
-use Rattle.nv_script.specs.Asking.{Exchange, exchange_of}
+use Rattle.nv_script.specs.Exchange.{Exchange, exchange_of}
 use Rattle.nv_script.specs.Outcomes.{Outcome, commands_at, commands_of, outcome_of}
 use Rattle.nv_script.specs.Performing.{IsReached, RequestLeaves}
 use Rattle.nv_script.specs.Texts.{text_of}
@@ -29,9 +29,11 @@ below_at s c n (ask.ListNs first all) (suc i) d h inside = absurd (omega arith)
 below_at s c n (ask.IdNs nsid force) zero d h inside = h
 below_at s c n (ask.IdNs nsid force) (suc i) d h inside = absurd (omega arith)
 
-pub controller_known : (s : State) (r : Request) (n : ℕ) (orders : List Order) (i : ℕ) (d : Order) → orders ≡ commands_of s r → r.controller < n → i < length orders → (get_or orders i d).controller < n
-controller_known s r n orders i d e h inside =
-    rw e (below_at s r.controller n r.ask i d h (subst (λ (x : List Order). i < length x) e inside))
+pub controller_known : (s : State) (r : Request) (n m : ℕ) (orders : List Order) (i : ℕ) (d : Order) → orders ≡ commands_of s r → r.controller < n → m ≡ n → i < length orders
+    → (get_or orders i d).controller < m
+controller_known s r n m orders i d e h same inside =
+    let known : (get_or orders i d).controller < n = rw e (below_at s r.controller n r.ask i d h (subst (λ (x : List Order). i < length x) e inside)) in
+    subst (λ k. (get_or orders i d).controller < k) (sym same) known
 
 -- ---- where an outcome leads
 

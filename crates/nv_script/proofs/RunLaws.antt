@@ -1,21 +1,23 @@
 -- How the pieces of a run make the whole run.
-use Rattle.std.proofs.Common.{◌≡◌, ◌∙◌, ℕ, ◌+◌, ◌<◌, ◌≤◌, List, [], ◌∷◌, ◌++◌, length, take, sym, ap, subst, append-nil, arith, Option, None, Some, Err}
+use Rattle.std.proofs.Common.{◌≡◌, ◌∙◌, ℕ, ◌+◌, ◌<◌, ◌≤◌, List, [], ◌∷◌, ◌++◌, length, take, sym, ap, subst, append-nil, arith, inl, inr, ◌≢◌, ◌↔◌, refl, Option, None, Some, Result, Ok, Err}
 use Rattle.std.specs.Prelude.{IfSome, replicate}
 use Rattle.std.specs.Io.KnownBytes.{Appends, Consumes, IsAtEnd, Keeps}
-use Rattle.std.proofs.lemmas.List.{length-append, length-replicate, length-take-le}
-use Rattle.std.proofs.lemmas.List.Elements.{All-replicate}
+use Rattle.std.proofs.lemmas.List.{length-append, length-take-le}
 use Rattle.nv_subsystem.specs.State.{State}
-use Rattle.nv_subsystem.specs.WellFormed.{IsWellFormed}
-use Rattle.nv_script.specs.Asking.{IsReady}
 use Rattle.nv_script.specs.Cuts.{IsCutShort, Holds, Left}
-use Rattle.nv_script.specs.Ends.{Headline, IsEndOf, Leaves, RunState, RunsWithin, WasRead, left_by}
+use Rattle.nv_driver.specs.Geometry.{fault_of}
+use Rattle.nv_driver.specs.declared.error.DriverError.{DriverError}
+use Rattle.nv_driver.specs.declared.error.DriverError.TheVariants as error
+use Rattle.nv_driver.specs.declared.geometry.Geometry.{Geometry as DriverGeometry}
+use Rattle.nv_driver.specs.declared.geometry_field.GeometryField.{GeometryField}
+use Rattle.nv_script.specs.Ends.{Headline, IsEndOf, IsEndWithout, Leaves, RunState, Runs, RunsWithin, WasRead, end_without, left_by}
 use Rattle.nv_script.specs.Feeding.{IsFailureOf, LastLeaves, PieceLeaves, Stands}
 use Rattle.nv_script.specs.Results.{Progress, whole}
 use Rattle.nv_script.specs.ScriptLines.{as_line, pieces, script_lines}
-use Rattle.nv_script.specs.Session.{serials_of}
+use Rattle.nv_script.specs.Link.{serials_of}
 use Rattle.nv_script.specs.Streams.{SourceState}
 use Rattle.nv_script.specs.declared.ends.RunEnd.{RunEnd}
-use Rattle.nv_script.specs.declared.ends.RunEnd.TheVariants.{Status, Read, OutWrite, MessageWrite, Memory}
+use Rattle.nv_script.specs.declared.ends.RunEnd.TheVariants.{Status, Geometry, NoReady, Read, OutWrite, MessageWrite, Memory}
 use Rattle.nv_script.specs.declared.session.Session.{Session}
 use Rattle.nv_script.specs.declared.streams.TheConstants.{READ_SIZE}
 use Rattle.nv_script.proofs.PieceLaws.{as_line-some, length-joined, length-pieces, piece-among}
@@ -35,18 +37,11 @@ pub ends_whole : (s : State) (bytes : List ℕ) (q : Progress) (left : Left) (se
 ends_whole s bytes q left session e h =
     (h.status ∙ ap (λ (x : Progress). x.status) (sym e), subst (λ (x : Progress). Holds left x.output x.messages x.state) (sym e) h.holds)
 
-pub ready_first : (s : State) (serials : List ℕ) → IsWellFormed s → serials ≡ replicate (length s.controllers) 0 → IsReady s serials
-ready_first s serials well_formed e = subst (IsReady s) (sym e) (record {
-  well_formed = well_formed;
-  each = length-replicate (length s.controllers) 0;
-  below = All-replicate (λ n. n < 65535) (length s.controllers) 0 (omega arith);
-})
-
--- and nothing is read
+-- nothing is read
 pub read_first : (script : SourceState) → script.given ≡ 0 → WasRead script script []
 read_first script e = record { first = Consumes-same script.to_come; count = sym e }
 
-pub stands_first : (s : State) (left : Left) (session : Session) → left.out ≡ left.out_before → left.messages ≡ left.messages_before → left.state ≡ s → serials_of session ≡ replicate (length s.controllers) 0 → session.number ≡ 0 → session.status ≡ 0
+pub stands_first : (s : State) (left : Left) (session : Session) → left.out ≡ left.out_before → left.messages ≡ left.messages_before → left.state ≡ s → serials_of session.driver ≡ replicate (length s.controllers) 0 → session.number ≡ 0 → session.status ≡ 0
     → Stands (whole s (pieces []).ended) left session
 stands_first s left session eo em es er en et = record {
   holds = record {
@@ -74,6 +69,8 @@ headline reads end old new h status e =
 -- cut short: what is left
 pub cut_leaves : (end : RunEnd) (s : State) (bytes : List ℕ) (left : Left) → IsCutShort end s bytes left → Leaves end s bytes left
 cut_leaves (Status status) s bytes left h = absurd h.beginning
+cut_leaves (Geometry field) s bytes left h = absurd h.beginning
+cut_leaves NoReady s bytes left h = absurd h.beginning
 cut_leaves Read s bytes left h = absurd h.beginning
 cut_leaves OutWrite s bytes left h = h
 cut_leaves MessageWrite s bytes left h = h
@@ -81,6 +78,8 @@ cut_leaves Memory s bytes left h = h
 
 pub cut_ends : (end : RunEnd) (reads : ℕ) (now : RunState) → IsFailureOf {A = Unit {0}} (Err end) now.out.has_failed now.messages.has_failed → IsEndOf end reads now
 cut_ends (Status status) reads now h = absurd h
+cut_ends (Geometry field) reads now h = absurd h
+cut_ends NoReady reads now h = absurd h
 cut_ends Read reads now h = absurd h
 cut_ends OutWrite reads now h = h
 cut_ends MessageWrite reads now h = h
@@ -135,3 +134,44 @@ read_fault old mid new bytes h k e = record {
   first = subst (Consumes old.to_come new.to_come) (append-nil bytes) (Consumes-join old.to_come mid.to_come new.to_come bytes [] h.first (Consumes-nothing mid.to_come new.to_come k));
   count = omega (arith, h.count);
 }
+
+-- ---- with or without a driver
+
+none_by : {F : Type 0} (o : Option F) → ((f : F) → o ≢ Some f) → o ≡ None
+none_by None h = refl
+none_by (Some f) h = absurd (h f refl)
+
+-- what a driver's geometry and its readiness make of how it was brought up
+abbrev IsBrought : {D : Type 0} → DriverGeometry → Result D DriverError → Type 0
+IsBrought {D = D} g r =
+    ((field : GeometryField) → ◌≡◌ {A = Result D DriverError} r (Err (error.Geometry field)) ↔ (fault_of g ≡ Some field))
+    × (◌≢◌ {A = Result D DriverError} r (Err error.NoReady))
+
+pub without : {D : Type 0} (g : DriverGeometry) (e : DriverError) → IsBrought {D = D} g (Err e) → IsEndWithout g (end_without e)
+without g (error.Geometry field) h = (h.0 field).0 refl
+without g error.Memory h = none_by (fault_of g) (λ field k. let same = (h.0 field).1 k in absurd (cc))
+without g error.NoReady h = absurd (h.1 refl)
+
+pub with_driver : {D : Type 0} (g : DriverGeometry) (d : D) (reads : ℕ) (end : RunEnd) (old mid new : RunState) → IsBrought g (Ok d) → mid ≡ old
+    → RunsWithin reads end mid new → Runs g reads end old new
+with_driver g d reads end old mid new h same runs =
+    inr (none_by (fault_of g) (λ field k. let never = (h.0 field).1 k in absurd (cc)), subst (λ (x : RunState). RunsWithin reads end x new) same runs)
+
+pub runs_headline : (g : DriverGeometry) (reads : ℕ) (end : RunEnd) (old new : RunState) → Runs g reads end old new → Headline end old new
+runs_headline g reads end old new (inl h) status e = absurd (subst (IsEndWithout g) e h.0)
+runs_headline g reads end old new (inr h) status e = headline reads end old new h.1 status e
+
+geometry_without : (g : DriverGeometry) (end : RunEnd) (field : GeometryField) → IsEndWithout g end → (end ≡ Geometry field) ↔ (fault_of g ≡ Some field)
+geometry_without g (Geometry f) field h = (λ e. let same : f ≡ field = cc in h ∙ ap Some same, λ k. let same : f ≡ field = cc in ap Geometry same)
+geometry_without g Memory field h = (λ e. absurd (cc), λ k. absurd (cc))
+geometry_without g (Status s) field h = absurd h
+geometry_without g NoReady field h = absurd h
+geometry_without g Read field h = absurd h
+geometry_without g OutWrite field h = absurd h
+geometry_without g MessageWrite field h = absurd h
+
+pub runs_geometry : (g : DriverGeometry) (reads : ℕ) (end : RunEnd) (old new : RunState) (field : GeometryField) → Runs g reads end old new
+    → (end ≡ Geometry field) ↔ (fault_of g ≡ Some field)
+runs_geometry g reads end old new field (inl h) = geometry_without g end field h.0
+runs_geometry g reads end old new field (inr h) =
+    (λ e. absurd (subst (λ x. IsEndOf x reads new) e h.1.end_of), λ k. let is = h.0 in absurd (cc))

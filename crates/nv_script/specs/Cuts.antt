@@ -7,7 +7,7 @@ use Rattle.nv_script.specs.Results.{Progress, result_at, said_at, whole}
 use Rattle.nv_script.specs.ScriptLines.{script_lines}
 use Rattle.nv_script.specs.Streams.{IsBeginning}
 use Rattle.nv_script.specs.declared.ends.RunEnd.{RunEnd}
-use Rattle.nv_script.specs.declared.ends.RunEnd.TheVariants.{Status, Read, OutWrite, MessageWrite, Memory}
+use Rattle.nv_script.specs.declared.ends.RunEnd.TheVariants.{Status, Geometry, NoReady, Read, OutWrite, MessageWrite, Memory}
 use Rattle.nv_line.specs.declared.fault.LineFault.{LineFault}
 use Rattle.nv_line.specs.declared.line.Line.{Line}
 use Rattle.nv_line.specs.declared.line.Line.TheVariants as line
@@ -72,6 +72,8 @@ IsCutIn OutWrite p line left = IsOutputBeginning p line left
 IsCutIn MessageWrite p line left = IsMessageBeginning p line left
 IsCutIn Memory p line left = IsMemoryBeginning p line left
 IsCutIn (Status s) p line left = ⊥
+IsCutIn (Geometry field) p line left = ⊥
+IsCutIn NoReady p line left = ⊥
 IsCutIn Read p line left = ⊥
 
 -- the bytes of these lines, with the newlines that ended them

@@ -1,13 +1,17 @@
 -- What a run promises: how it ends, and what each of its ends leaves.
-use Rattle.std.specs.Prelude.{◌≡◌, ℕ, ◌≤◌, ◌==◌, ◌||◌, Bool, true, false, List, length, IfSome}
+use Rattle.std.specs.Prelude.{◌≡◌, ◌⊎◌, ℕ, ◌≤◌, ◌==◌, ◌||◌, Bool, true, false, List, length, IfSome, Some, None}
 use Rattle.std.specs.Io.KnownBytes.{Consumes, IsAtEnd}
 use Rattle.nv_subsystem.specs.State.{State}
+use Rattle.nv_driver.specs.Geometry.{fault_of}
+use Rattle.nv_driver.specs.declared.error.DriverError.{DriverError}
+use Rattle.nv_driver.specs.declared.error.DriverError.TheVariants as error
+use Rattle.nv_driver.specs.declared.geometry.Geometry.{Geometry as DriverGeometry}
 use Rattle.nv_script.specs.Cuts.{IsCutShort, HoldsWhole, Left, left_at}
 use Rattle.nv_script.specs.Results.{whole}
 use Rattle.nv_script.specs.ScriptLines.{pieces, script_lines}
 use Rattle.nv_script.specs.Streams.{SinkState, SourceState}
 use Rattle.nv_script.specs.declared.ends.RunEnd.{RunEnd}
-use Rattle.nv_script.specs.declared.ends.RunEnd.TheVariants.{Status, Read, OutWrite, MessageWrite, Memory}
+use Rattle.nv_script.specs.declared.ends.RunEnd.TheVariants.{Status, Geometry, NoReady, Read, OutWrite, MessageWrite, Memory}
 
 -- what a run works on
 pub record RunState : Type 0 where
@@ -31,11 +35,13 @@ pub record WasRead (old new : SourceState) (bytes : List ℕ) : Type 0 where
   pub first : Consumes old.to_come new.to_come bytes
   pub count : length bytes ≡ new.given
 
--- What each end leaves, where a run began at s and read these bytes. A status: all lines, and the
+-- What each end of a run with a driver leaves, where it began at s and read these bytes. A status: all lines, and the
 -- status is that of the last line that has one. A read fault: the lines whose newline was read.
 abbrev pub Leaves : RunEnd → State → List ℕ → Left → Type 0
 Leaves (Status status) s bytes left =
     (status ≡ (whole s (script_lines bytes)).status) × HoldsWhole s (script_lines bytes) left
+Leaves (Geometry field) s bytes left = ⊥
+Leaves NoReady s bytes left = ⊥
 Leaves Read s bytes left = HoldsWhole s (pieces bytes).ended left
 Leaves OutWrite s bytes left = IsCutShort OutWrite s bytes left
 Leaves MessageWrite s bytes left = IsCutShort MessageWrite s bytes left
@@ -51,6 +57,8 @@ abbrev pub IsEndOf : RunEnd → ℕ → RunState → Type 0
 IsEndOf (Status status) reads now = (has_stopped reads now.script ≡ false)
     × (now.out.has_failed ≡ false) × (now.messages.has_failed ≡ false)
     × (now.script.has_ended ≡ true) × IsAtEnd now.script.to_come
+IsEndOf (Geometry field) reads now = ⊥
+IsEndOf NoReady reads now = ⊥
 IsEndOf Read reads now = (has_stopped reads now.script ≡ true)
     × (now.out.has_failed ≡ false) × (now.messages.has_failed ≡ false)
 IsEndOf OutWrite reads now = (now.out.has_failed ≡ true) × (now.messages.has_failed ≡ false)
@@ -64,6 +72,25 @@ pub record RunsWithin (reads : ℕ) (end : RunEnd) (old new : RunState) : Type 0
   pub left : Leaves end old.subsystem bytes (left_by old new)
   pub end_of : IsEndOf end reads new
   pub calls : new.script.calls ≤ reads
+
+-- the end of a run that got no driver
+abbrev pub end_without : DriverError → RunEnd
+end_without (error.Geometry field) = Geometry field
+end_without error.Memory = Memory
+end_without error.NoReady = NoReady
+
+-- A run that got no driver ends by the first field of the geometry that is out of its limits, or, where no field is,
+-- by want of memory.
+abbrev pub IsEndWithout : DriverGeometry → RunEnd → Type 0
+IsEndWithout g (Geometry field) = fault_of g ≡ Some field
+IsEndWithout g Memory = fault_of g ≡ None
+IsEndWithout g _ = ⊥
+
+-- A run without a driver changes nothing. One with a driver is in a geometry within its limits, which occurs nowhere
+-- else.
+abbrev pub Runs : DriverGeometry → ℕ → RunEnd → RunState → RunState → Type 0
+Runs g reads end old new =
+    (IsEndWithout g end × (new ≡ old)) ⊎ ((fault_of g ≡ None) × RunsWithin reads end old new)
 
 -- the headline: a script that is told and was read to its end leaves what the fold over its lines
 -- says

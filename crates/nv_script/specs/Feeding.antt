@@ -7,16 +7,16 @@ use Rattle.nv_script.specs.Cuts.{IsCutIn, Holds, Left}
 use Rattle.nv_script.specs.Ends.{Leaves}
 use Rattle.nv_script.specs.Results.{Progress, after, whole}
 use Rattle.nv_script.specs.ScriptLines.{buffer_of, pieces, script_lines}
-use Rattle.nv_script.specs.Session.{serials_of}
+use Rattle.nv_script.specs.Link.{serials_of}
 use Rattle.nv_script.specs.Streams.{IsBeginning}
 use Rattle.nv_script.specs.declared.ends.RunEnd.{RunEnd}
-use Rattle.nv_script.specs.declared.ends.RunEnd.TheVariants.{Status, Read, OutWrite, MessageWrite, Memory}
+use Rattle.nv_script.specs.declared.ends.RunEnd.TheVariants.{Status, Geometry, NoReady, Read, OutWrite, MessageWrite, Memory}
 use Rattle.nv_script.specs.declared.session.Session.{Session}
 
 -- a run stands after p
 pub record Stands (p : Progress) (left : Left) (session : Session) : Type 0 where
   pub holds : Holds left p.output p.messages p.state
-  pub next : serials_of session ≡ p.serials
+  pub next : serials_of session.driver ≡ p.serials
   pub number : session.number ≡ p.number
   pub status : session.status ≡ p.status
 
@@ -44,6 +44,8 @@ IsFailureOf (Err OutWrite) out messages = (out ≡ true) × (messages ≡ false)
 IsFailureOf (Err MessageWrite) out messages = (out ≡ false) × (messages ≡ true)
 IsFailureOf (Err Memory) out messages = (out ≡ false) × (messages ≡ false)
 IsFailureOf (Err (Status s)) out messages = ⊥
+IsFailureOf (Err (Geometry field)) out messages = ⊥
+IsFailureOf (Err NoReady) out messages = ⊥
 IsFailureOf (Err Read) out messages = ⊥
 
 -- what a further piece of a script leaves, after some bytes: its ended lines are done and its last

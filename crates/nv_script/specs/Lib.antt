@@ -1,13 +1,12 @@
 pub use Rattle.nv_line.specs.LineFault
 pub use Rattle.nv_line.specs.Line
 pub mod Streams
-pub mod Serving
-pub mod Asking
+pub mod Link
+pub mod Exchange
 pub mod Outcomes
 pub mod Texts
 pub mod Performing
 pub mod ScriptLines
-pub mod Session
 pub mod Results
 pub mod Cuts
 pub mod Ends

@@ -5,7 +5,7 @@ use Rattle.nv_subsystem.specs.State.{State}
 use Rattle.nv_command.specs.declared.command.Command.{Command}
 use Rattle.nv_command.specs.declared.command.Command.TheVariants.{IdentifyNamespace, AllocatedNamespace, ActiveList, AllocatedList}
 use Rattle.nv_command.specs.declared.reply.Reply.{Reply}
-use Rattle.nv_script.specs.Asking.{exchange_of}
+use Rattle.nv_script.specs.Exchange.{exchange_of}
 use Rattle.nv_script.specs.declared.order.Order.{Order}
 use Rattle.nv_line.specs.declared.request.Ask.{Ask}
 use Rattle.nv_line.specs.declared.request.Ask.TheVariants as ask

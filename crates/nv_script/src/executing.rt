@@ -2,22 +2,21 @@
 
 ghost use Rattle.std.specs.Prelude.{◌≡◌, ◌+◌, ◌<◌, ◌^◌, ℕ, List, Option, false, not, IfOk, length};
 ghost use Rattle.std.specs.Option.{option_copied};
-ghost use Rattle.nv_script.specs.Asking.{IsReady};
 ghost use Rattle.nv_script.specs.Cuts.{left_at};
 ghost use Rattle.nv_script.specs.Feeding.{IsFailureOf, LineLeaves, PrintLeaves, Stands};
 ghost use Rattle.nv_line.specs.LineFault.{IsUnlessMemory};
 ghost use Rattle.nv_line.specs.Line.{IsKnown, reading};
 ghost use Rattle.nv_script.specs.Results.{Progress};
 ghost use Rattle.nv_script.specs.ScriptLines.{buffer_of};
-ghost use Rattle.nv_script.specs.Session.{IsSessionOf};
+ghost use Rattle.nv_script.specs.Link.{IsLinked};
 ghost use Rattle.nv_script.specs.Streams.{WritesAll};
 
 use crate::ends::RunEnd;
 use crate::performing::{Stop, perform};
-use crate::serving::Direct;
 use crate::session::Session;
 use crate::streams::Sink;
 use crate::texts::{fault_message, refusal_message};
+use nv_controller::Bus;
 use nv_line::{Line, LineFault, read_line};
 use std::alloc::{AllocError, Global};
 
@@ -73,9 +72,9 @@ fn read_buffer(alloc: Global, line: Option<&[u8]>, controllers: u16) -> Result<L
 }
 
 /// Executes one line; `None` is a line above 4,095 bytes.
-pub fn execute_line<D: Direct, O: Sink, M: Sink>(
+pub fn execute_line<B: Bus, O: Sink, M: Sink>(
     alloc: Global,
-    direct: &mut D,
+    bus: &mut B,
     session: &mut Session,
     out: &mut O,
     messages: &mut M,
@@ -83,24 +82,24 @@ pub fn execute_line<D: Direct, O: Sink, M: Sink>(
 ) -> Result<(), RunEnd>
     requires out_ready { (O.state out.old).has_failed ≡ false }
     requires messages_ready { (M.state messages.old).has_failed ≡ false }
-    requires ready { IsSessionOf (D.state direct.old) session.old }
+    requires linked { IsLinked (B.meaning bus.old) session.old.driver }
     requires number { session.old.number + 1 < 2 ^ 64 }
     // Where the run stood after p, it then stands after p and this line, or is cut short in it.
     ensures left { (text : List ℕ) (p : Progress) (o m : Option (List ℕ))
         → option_copied line.entry ≡ buffer_of text
         → Stands p
-        (left_at o (O.state out.old).taken m (M.state messages.old).taken (D.state direct.old))
+        (left_at o (O.state out.old).taken m (M.state messages.old).taken (B.meaning bus.old).state)
         session.old
         → LineLeaves result p text
-        (left_at o (O.state out.new).taken m (M.state messages.new).taken (D.state direct.new))
+        (left_at o (O.state out.new).taken m (M.state messages.new).taken (B.meaning bus.new).state)
         session.new }
     ensures failure { IsFailureOf result
         (O.state out.new).has_failed (M.state messages.new).has_failed }
-    ensures ready { IsSessionOf (D.state direct.new) session.new }
+    ensures linked { IsLinked (B.meaning bus.new) session.new.driver }
     ensures number { session.new.number ≡ session.old.number + 1 }
 {
     session.number += 1;
-    let said = match read_buffer(alloc, line, direct.controllers()) {
+    let said = match read_buffer(alloc, line, bus.controllers()) {
         Ok(said) => said,
         Err(fault) => match fault {
             LineFault::Memory => return Err(RunEnd::Memory),
@@ -113,12 +112,7 @@ pub fn execute_line<D: Direct, O: Sink, M: Sink>(
     };
     match said {
         Line::Skipped => Ok(()),
-        Line::Request(request) => match perform(
-            alloc,
-            direct,
-            &mut session.serials[..session.controllers],
-            request,
-        ) {
+        Line::Request(request) => match perform(alloc, bus, &mut session.driver, request) {
             Ok(text) => {
                 session.status = 0;
                 print(out, Ok(text), RunEnd::OutWrite)

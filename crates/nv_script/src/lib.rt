@@ -1,20 +1,18 @@
 //! Scripts of command lines: what a line says, and what a run of a script leaves.
 #![tactic(auto)]
 
-mod asking;
 mod ends;
 mod executing;
 mod line_buffer;
 mod order;
 mod performing;
 mod running;
-mod serving;
 mod session;
 mod streams;
 mod texts;
 
 pub use ends::RunEnd;
-pub use nv_line::{Ask, LINE_LIMIT, Line, LineFault, OptionName, Request, read_line};
+pub use nv_driver::{Geometry, GeometryField};
+pub use nv_line::{Ask, LINE_LIMIT, Line, LineFault, OptionName, Request, parse_number, read_line};
 pub use running::{READ_LIMIT, run};
-pub use serving::{Direct, Straight};
 pub use streams::{OverRead, OverWrite, READ_SIZE, Sink, Source};

@@ -1,6 +1,7 @@
 //! The commands that a request stands for.
 
-ghost use Rattle.std.specs.Prelude.{◌≡◌, IfOk};
+ghost use Rattle.std.specs.Prelude.{◌≡◌, All, IfOk};
+ghost use Rattle.nv_command.specs.Command.{CommandFits};
 ghost use Rattle.nv_subsystem.specs.State.{State};
 ghost use Rattle.nv_script.specs.Outcomes.{commands_of, list_command, namespace_command};
 
@@ -17,7 +18,8 @@ pub struct Order {
 
 /// The command for the NSIDs above one: those attached to the controller, or all allocated ones.
 fn list_command(all: bool, after: u32) -> Command
-    ensures { result ≡ list_command all after }
+    ensures command { result ≡ list_command all after }
+    ensures fits { CommandFits result }
 {
     if all {
         Command::AllocatedList { after }
@@ -28,7 +30,8 @@ fn list_command(all: bool, after: u32) -> Command
 
 /// The command for what a namespace is: one attached to the controller, or any allocated one.
 fn namespace_command(force: bool, nsid: u32) -> Command
-    ensures { result ≡ namespace_command force nsid }
+    ensures command { result ≡ namespace_command force nsid }
+    ensures fits { CommandFits result }
 {
     if force {
         Command::AllocatedNamespace { nsid }
@@ -40,7 +43,8 @@ fn namespace_command(force: bool, nsid: u32) -> Command
 /// The commands of a request, in order. They are known from the request alone, before the first
 /// reply.
 pub fn commands_of(alloc: Global, request: Request) -> Result<Vec<Order>, AllocError>
-    ensures { IfOk result (λ orders. (s : State) → orders.items ≡ commands_of s request) }
+    ensures orders { IfOk result (λ orders. (s : State) → orders.items ≡ commands_of s request) }
+    ensures fits { IfOk result (λ orders. All (λ o. CommandFits o.command) orders.items) }
 {
     let Request { controller, ask } = request;
     let command = match ask {

@@ -1,14 +1,14 @@
 //! One request: its commands, and the text of their replies.
 
 ghost use Rattle.std.specs.Prelude.{◌≡◌, ◌<◌, length};
-ghost use Rattle.nv_script.specs.Asking.{IsReady};
+ghost use Rattle.nv_script.specs.Link.{IsLinked, serials_of};
 ghost use Rattle.nv_script.specs.Performing.{RequestLeaves};
 ghost use Rattle.nv_script.specs.declared.performing.Stop.TheVariants.{Refused, Memory};
 
-use crate::asking::ask;
 use crate::order::commands_of;
-use crate::serving::Direct;
 use crate::texts::text_of;
+use nv_controller::Bus;
+use nv_driver::Driver;
 use nv_layout::Status;
 use nv_line::Request;
 use std::alloc::{AllocError, AllocFailed, Global};
@@ -47,22 +47,23 @@ impl<T: Drop> From<AllocFailed<T>> for Stop {
 }
 
 /// Sends the commands of a request, up to the first refusal, and makes the text of their replies.
-pub fn perform<D: Direct>(
+pub fn perform<B: Bus>(
     alloc: Global,
-    direct: &mut D,
-    serials: &mut [u16],
+    bus: &mut B,
+    driver: &mut Driver,
     request: Request,
 ) -> Result<String, Stop>
-    requires ready { IsReady (D.state direct.old) serials.old }
-    requires controller { request.controller < length serials.old }
+    requires linked { IsLinked (B.meaning bus.old) driver.old }
+    requires controller { request.controller < length driver.old.lanes }
     ensures left { RequestLeaves result request
-        (D.state direct.old) serials.old (D.state direct.new) serials.new }
-    ensures ready { IsReady (D.state direct.new) serials.new }
+        (B.meaning bus.old).state (serials_of driver.old)
+        (B.meaning bus.new).state (serials_of driver.new) }
+    ensures linked { IsLinked (B.meaning bus.new) driver.new }
 {
     let orders = commands_of(alloc, request)?;
     let mut replies = Vec::new(alloc);
     for order in &orders {
-        let reply = ask(direct, serials, order)?;
+        let reply = driver.admin(bus, order.controller, &order.command)?;
         replies.push(reply)?;
     }
     Ok(text_of(alloc, request.ask, &replies)?)

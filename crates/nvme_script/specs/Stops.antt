@@ -13,6 +13,8 @@ abbrev pub exit_status : Stop → ℕ
 exit_status stop.Arguments = 3
 exit_status stop.Unreadable = 3
 exit_status (stop.Subsystem e) = 3
+exit_status (stop.Geometry field) = 3
+exit_status stop.NoReady = 3
 exit_status stop.Read = 4
 exit_status stop.Write = 5
 exit_status stop.Memory = 6
@@ -30,6 +32,8 @@ of_file e = stop.Subsystem e
 -- the status of a run that came to the end of its script, or why it stopped
 abbrev pub ended : RunEnd → Result ℕ Stop
 ended (end.Status status) = Ok status
+ended (end.Geometry field) = Err (stop.Geometry field)
+ended end.NoReady = Err stop.NoReady
 ended end.Read = Err stop.Read
 ended end.OutWrite = Err stop.Write
 ended end.MessageWrite = Err stop.Write

@@ -7,8 +7,9 @@ ghost use Rattle.nv_subsystem.specs.WellFormed.{IsWellFormed};
 mod arguments;
 mod stop;
 
-use arguments::subsystem_file;
-use nv_script::{OverRead, OverWrite, Straight, run};
+use arguments::Arguments;
+use nv_controller::Machine;
+use nv_script::{Geometry, OverRead, OverWrite, run};
 use nv_subsystem::{DEMO, Subsystem};
 use std::alloc::Global;
 use std::io::{self, BufWriter, Read, Write};
@@ -52,31 +53,41 @@ fn read_subsystem(rt: &HostRuntime, path: Option<&str>) -> Result<Subsystem, Sto
     }
 }
 
-/// The subsystem that the arguments ask for.
-fn subsystem(rt: &HostRuntime) -> Result<Subsystem, Stop>
-    ensures { IfOk result IsWellFormed }
+/// The subsystem and the geometry that the arguments ask for.
+fn asked(rt: &HostRuntime) -> Result<(Subsystem, Geometry), Stop>
+    ensures { IfOk result (λ asked. IsWellFormed asked.0) }
 {
     let alloc = rt.alloc();
     let arguments = env::args(rt).map_err(|error| Stop::of_fault(error, Stop::Arguments))?;
     let texts: Vec<String> = arguments.collect(alloc)?;
     let words: Vec<&str> = texts.iter().map(|text| text.as_str()).collect(alloc)?;
-    let path = subsystem_file(alloc, words.as_slice())?;
-    read_subsystem(rt, path)
+    let arguments = Arguments::read(alloc, words.as_slice())?;
+    let subsystem = read_subsystem(rt, arguments.subsystem)?;
+    Ok((subsystem, arguments.geometry))
 }
 
 /// Runs the script on standard input.
-fn run_script(rt: &HostRuntime, subsystem: Subsystem) -> Result<u8, Stop>
+fn run_script(rt: &HostRuntime, subsystem: Subsystem, geometry: Geometry) -> Result<u8, Stop>
     requires { IsWellFormed subsystem }
 {
     let alloc = rt.alloc();
     let Ok(buffered) = BufWriter::new(alloc, io::writer(rt)) else {
         return Err(Stop::Memory);
     };
-    let mut direct = Straight::new(subsystem);
+    let Ok(mut machine) = Machine::new(alloc, subsystem) else {
+        return Err(Stop::Memory);
+    };
     let mut script = OverRead::new(rt.reader());
     let mut out = OverWrite::new(buffered);
     let mut messages = OverWrite::new(rt.stderr());
-    let end = run(alloc, &mut direct, &mut script, &mut out, &mut messages);
+    let end = run(
+        alloc,
+        &mut machine,
+        geometry,
+        &mut script,
+        &mut out,
+        &mut messages,
+    );
     let flushed = out.into_inner().flush();
     let status = status_of(end)?;
     match flushed {
@@ -86,8 +97,8 @@ fn run_script(rt: &HostRuntime, subsystem: Subsystem) -> Result<u8, Stop>
 }
 
 fn main(rt: HostRuntime) -> ExitCode {
-    let done = match subsystem(&rt) {
-        Ok(subsystem) => run_script(&rt, subsystem),
+    let done = match asked(&rt) {
+        Ok((subsystem, geometry)) => run_script(&rt, subsystem, geometry),
         Err(stop) => Err(stop),
     };
     match done {

@@ -5,7 +5,7 @@ ghost use Rattle.std.specs.IoError.{error_kind};
 ghost use Rattle.nvme_script.specs.Stops.{ended, exit_status, of_file, unless_memory};
 ghost use Rattle.nvme_script.specs.declared.stop.Stop.TheVariants.{Memory};
 
-use nv_script::RunEnd;
+use nv_script::{GeometryField, RunEnd};
 use nv_subsystem::SubsystemError;
 use std::alloc::AllocError;
 use std::io::{self, ErrorKind};
@@ -23,6 +23,11 @@ pub enum Stop {
     /// The subsystem file was refused.
     #[error("subsystem: {0}")]
     Subsystem(SubsystemError),
+    /// The first field of the geometry that is out of its limits.
+    #[error("geometry: {0}")]
+    Geometry(GeometryField),
+    #[error("no ready")]
+    NoReady,
     #[error("read fault")]
     Read,
     #[error("write fault")]
@@ -38,6 +43,7 @@ impl Stop {
     {
         match self {
             Stop::Arguments | Stop::Unreadable | Stop::Subsystem(_) => 3,
+            Stop::Geometry(_) | Stop::NoReady => 3,
             Stop::Read => 4,
             Stop::Write => 5,
             Stop::Memory => 6,
@@ -80,6 +86,8 @@ pub fn status_of(end: RunEnd) -> Result<u8, Stop>
 {
     match end {
         RunEnd::Status(status) => Ok(status),
+        RunEnd::Geometry(field) => Err(Stop::Geometry(field)),
+        RunEnd::NoReady => Err(Stop::NoReady),
         RunEnd::Read => Err(Stop::Read),
         RunEnd::OutWrite | RunEnd::MessageWrite => Err(Stop::Write),
         RunEnd::Memory => Err(Stop::Memory),

@@ -1,18 +1,18 @@
-use Rattle.std.proofs.Common.{◌∙◌, ◌≤◌, ◌++◌, [], arith, length, refl, take, ap, replicate}
+use Rattle.std.proofs.Common.{◌∙◌, ◌≤◌, ◌++◌, [], arith, length, refl, take}
 use Rattle.std.proofs.lemmas.Bool.Decides.{nat_tests}
 use Rattle.std.proofs.lemmas.List.{length-take-le}
 use Rattle.nv_script.specs.declared.streams.TheConstants.{READ_SIZE}
-use Rattle.nv_script.proofs.RunLaws.{cut_ends, cut_leaves, last_cut, piece_cut, read_first, read_more, read_none, ready_first, stands_first}
+use Rattle.nv_script.proofs.RunLaws.{cut_ends, cut_leaves, last_cut, piece_cut, read_first, read_more, read_none, stands_first}
 use Rattle.nv_script.proofs.running.run_within.Goals as goal
 
-pub returns-in-Ok : goal.returns-in-Ok
-returns-in-Ok g c =
+pub returns-in-Ok-clause-runs : goal.returns-in-Ok-clause-runs
+returns-in-Ok-clause-runs g c =
     let run = c.loop-call.invariant.run in
     let read = read_none _ _ _ run.0 c.read.new.buf c.in-Some.count run.1 c.in-Some.ensures.bytes.0 c.if-count-eq0.true c.in-Some.ensures.count in
     record {
       bytes = run.0;
       was_read = read;
-      left = c.in-Ok.ensures.left (g.D.Direct.state c.args.direct.now) run.0 _ _ run.2 run.3;
+      left = c.in-Ok.ensures.left (g.B.Bus.meaning c.args.bus.now).state run.0 _ _ run.2 run.3;
       end_of = (
         grind (arith, nat_tests, c.in-Some.ensures.failure, c.in-Some.ensures.call, c.loop-call.invariant.calls, c.if-call-reads.false),
         c.in-Ok.ensures.failure.0,
@@ -23,10 +23,10 @@ returns-in-Ok g c =
       calls = omega (arith, c.in-Some.ensures.call, c.loop-call.invariant.calls, c.loop-call-test.true);
     }
 
-pub returns-in-Err : goal.returns-in-Err
-returns-in-Err g c =
+pub returns-in-Err-clause-runs : goal.returns-in-Err-clause-runs
+returns-in-Err-clause-runs g c =
     let run = c.loop-call.invariant.run in
-    let s = g.D.Direct.state c.args.direct.now in
+    let s = (g.B.Bus.meaning c.args.bus.now).state in
     let read = read_none _ _ _ run.0 c.read.new.buf c.in-Some.count run.1 c.in-Some.ensures.bytes.0 c.if-count-eq0.true c.in-Some.ensures.count in
     record {
       bytes = run.0;
@@ -36,10 +36,10 @@ returns-in-Err g c =
       calls = omega (arith, c.in-Some.ensures.call, c.loop-call.invariant.calls, c.loop-call-test.true);
     }
 
-pub returns-in-Err-feed : goal.returns-in-Err-feed
-returns-in-Err-feed g c =
+pub returns-in-Err-feed-clause-runs : goal.returns-in-Err-feed-clause-runs
+returns-in-Err-feed-clause-runs g c =
     let run = c.loop-call.invariant.run in
-    let s = g.D.Direct.state c.args.direct.now in
+    let s = (g.B.Bus.meaning c.args.bus.now).state in
     let piece = take c.in-Some.count c.read.new.buf in
     let small : length piece ≤ READ_SIZE = omega (arith, length-take-le c.in-Some.count c.read.new.buf c.in-Some.ensures.bound, c.in-Some.ensures.bound, c.read.auto.buf, c.loop-call.invariant.room) in
     let cut = piece_cut c.in-Err-feed.end s run.0 piece c.feed.new.line _ c.feed.new.session small (c.in-Err-feed.ensures.left s run.0 _ _ run.2 run.3) in
@@ -56,7 +56,7 @@ loop-call-preserved g c =
     let inv = c.loop-call.invariant in
     let run = inv.run in
     let piece = take c.in-Some.count c.read.new.buf in
-    let fed = c.in_default-feed.ensures.left (g.D.Direct.state c.args.direct.now) run.0 _ _ run.2 run.3 in
+    let fed = c.in_default-feed.ensures.left (g.B.Bus.meaning c.args.bus.now).state run.0 _ _ run.2 run.3 in
     record {
       not_failed = c.in-Some.ensures.failure;
       not_ended = grind (arith, nat_tests, c.in-Some.ensures.end, c.if-count-eq0.false);
@@ -66,7 +66,7 @@ loop-call-preserved g c =
       numbered = omega (arith, c.in_default-feed.ensures.number, inv.numbered, c.in-Some.ensures.count, length-take-le c.in-Some.count c.read.new.buf c.in-Some.ensures.bound);
       out_ready = c.in_default-feed.ensures.failure.0;
       messages_ready = c.in_default-feed.ensures.failure.1;
-      ready = c.feed.ensures.ready;
+      linked = c.feed.ensures.linked;
       run = (
         run.0 ++ piece,
         read_more _ _ _ run.0 c.read.new.buf c.in-Some.count run.1 c.in-Some.ensures.bytes.0 c.in-Some.ensures.bound c.in-Some.ensures.count,
@@ -77,17 +77,16 @@ loop-call-preserved g c =
 
 pub loop-call-init : goal.loop-call-init
 loop-call-init g c =
-    let s = g.D.Direct.state c.args.direct.now in
-    let serials = c.new-session.ensures.serials ∙ ap (λ n. replicate n 0) c.controllers.ensures in
+    let s = (g.B.Bus.meaning c.args.bus.now).state in
     record {
       not_failed = c.requires.fresh_script.not_failed;
       not_ended = c.requires.fresh_script.not_ended;
       calls = c.requires.fresh_script.no_call;
       few = omega (arith, c.requires.fresh_script.no_byte);
       room = refl;
-      numbered = omega arith;
+      numbered = omega (arith, c.requires.first.number);
       out_ready = c.requires.fresh_out;
       messages_ready = c.requires.fresh_messages;
-      ready = record { ready = ready_first s _ c.requires.well_formed serials; room = c.new-session.ensures.room };
-      run = ([], read_first (g.R.Source.state c.args.script.now) c.requires.fresh_script.no_byte, c.new-line.ensures, stands_first s _ _ refl refl refl serials c.new-session.ensures.number c.new-session.ensures.status);
+      linked = c.requires.linked;
+      run = ([], read_first (g.R.Source.state c.args.script.now) c.requires.fresh_script.no_byte, c.new-line.ensures, stands_first s _ _ refl refl refl c.requires.first.next c.requires.first.number c.requires.first.status);
     }

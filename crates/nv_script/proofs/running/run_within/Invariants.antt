@@ -4,7 +4,7 @@ use Rattle.nv_script.specs.Ends.{WasRead}
 use Rattle.nv_script.specs.Feeding.{Stands}
 use Rattle.nv_script.specs.Results.{whole}
 use Rattle.nv_script.specs.ScriptLines.{buffer_of, pieces}
-use Rattle.nv_script.specs.Session.{IsSessionOf}
+use Rattle.nv_script.specs.Link.{IsLinked}
 use Rattle.nv_script.specs.declared.streams.TheConstants.{READ_SIZE}
 use Rattle.nv_script.proofs.running.run_within.Given as goal
 
@@ -18,9 +18,9 @@ invariant-loop-call g l = record {
   numbered : l.session.number ≤ (g.R.Source.state l.script).given;
   out_ready : (g.O.Sink.state l.out).has_failed ≡ false;
   messages_ready : (g.M.Sink.state l.messages).has_failed ≡ false;
-  ready : IsSessionOf (g.D.Direct.state l.direct) l.session;
+  linked : IsLinked (g.B.Bus.meaning l.bus) l.session.driver;
   run : (bytes : List ℕ)
       × WasRead (g.R.Source.state l.initial.script) (g.R.Source.state l.script) bytes
       × (l.line ≡ buffer_of (pieces bytes).last)
-      × Stands (whole (g.D.Direct.state l.initial.direct) (pieces bytes).ended) (left_at (g.O.Sink.state l.initial.out).taken (g.O.Sink.state l.out).taken (g.M.Sink.state l.initial.messages).taken (g.M.Sink.state l.messages).taken (g.D.Direct.state l.direct)) l.session;
+      × Stands (whole (g.B.Bus.meaning l.initial.bus).state (pieces bytes).ended) (left_at (g.O.Sink.state l.initial.out).taken (g.O.Sink.state l.out).taken (g.M.Sink.state l.initial.messages).taken (g.M.Sink.state l.messages).taken (g.B.Bus.meaning l.bus).state) l.session;
 }

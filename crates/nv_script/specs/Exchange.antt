@@ -1,10 +1,8 @@
 -- One command of a controller, under that controller's next command identifier.
-use Rattle.std.specs.Prelude.{◌≡◌, ℕ, ◌<◌, All, List, length, Result, slice_index, slice_set}
+use Rattle.std.specs.Prelude.{ℕ, List, Result, slice_index, slice_set}
 use Rattle.nv_layout.specs.declared.status.Status.{Status}
-use Rattle.nv_subsystem.specs.declared.origin.TheConstants.{SERIALS}
 use Rattle.nv_subsystem.specs.State.{State}
 use Rattle.nv_subsystem.specs.Step.{next_serial, step}
-use Rattle.nv_subsystem.specs.WellFormed.{IsWellFormed}
 use Rattle.nv_command.specs.declared.reply.Reply.{Reply}
 use Rattle.nv_script.specs.declared.order.Order.{Order}
 
@@ -23,9 +21,3 @@ exchange_of s serials o =
       state = step.state;
       serials = slice_set serials o.controller (next_serial serial);
     }
-
--- a subsystem that can be asked: each of its controllers has a serial, and FFFFh is none
-pub record IsReady (s : State) (serials : List ℕ) : Type 0 where
-  pub well_formed : IsWellFormed s
-  pub each : length serials ≡ length s.controllers
-  pub below : All (λ n. n < SERIALS) serials

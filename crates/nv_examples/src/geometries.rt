@@ -1,0 +1,181 @@
+//! Scripts at geometries of every kind: the same bytes, whatever the rings and pages are.
+
+use crate::harness::{Outcome, run_at, run_script};
+use nv_script::{Geometry, GeometryField, RunEnd};
+use nv_subsystem::DEMO;
+use std::process::Abort;
+use std::test::Fail;
+
+/// A script, and what it writes and ends with.
+struct Row {
+    script: &'static str,
+    out: &'static str,
+    messages: &'static str,
+    status: u8,
+}
+
+const ROWS: [Row; 6] = [
+    Row {
+        script: "",
+        out: "",
+        messages: "",
+        status: 0,
+    },
+    Row {
+        script: "list-ns /dev/nvme0",
+        out: "[   0]:0x1\n[   1]:0x3\n",
+        messages: "",
+        status: 0,
+    },
+    Row {
+        script: "# c\n\nbogus\n",
+        out: "",
+        messages: "line 3: usage error\n",
+        status: 1,
+    },
+    Row {
+        script: "list-ns /dev/nvme0 -n 3\nlist-ns /dev/nvme0 -n 4\nlist-ns /dev/nvme0 -n 4294967295\n",
+        out: "[   0]:0x3\n",
+        messages: "line 3: NVMe status: Invalid Namespace or Format (0x600b)\n",
+        status: 2,
+    },
+    Row {
+        script: "id-ns /dev/nvme0n3\n",
+        out: "nsze                : 0x9
+ncap                : 0x9
+nuse                : 0x0
+nsfeat              : 0x0
+nlbaf               : 2
+flbas               : 0x0
+mc                  : 0x1
+dpc                 : 0x0
+dps                 : 0x0
+nmic                : 0x0
+nvmcap              : 4608
+lbaf  0             : ms:0 lbads:9 rp:0 (in use)
+lbaf  1             : ms:0 lbads:12 rp:0
+lbaf  2             : ms:8 lbads:9 rp:1
+",
+        messages: "",
+        status: 0,
+    },
+    Row {
+        script: "id-ns /dev/nvme1 -n 0\nlist-ns /dev/nvme1\nlist-ns /dev/nvme1 -a\n",
+        out: "[   0]:0x1\n[   1]:0x3\n",
+        messages: "line 1: NVMe status: Invalid Namespace or Format (0x600b)\n",
+        status: 0,
+    },
+];
+
+/// What a run left is what the row says.
+fn expect(rt: &impl Abort, left: &Outcome, row: &Row) {
+    assert!(rt; left.end == RunEnd::Status(row.status));
+    assert!(rt; left.out.as_slice() == row.out.as_bytes());
+    assert!(rt; left.messages.as_slice() == row.messages.as_bytes());
+}
+
+#[test]
+fn the_geometry_shows_in_no_byte(rt: HostRuntime) -> Result<(), Fail> {
+    for page_size in [4096, 8192, 16384, 32768, 65536] {
+        for depth in [2, 4096] {
+            for offset in [0, 4, page_size - 4] {
+                let geometry = Geometry {
+                    depth,
+                    page_size,
+                    offset,
+                    ..Geometry::default()
+                };
+                for row in &ROWS {
+                    let left = run_at(rt.alloc(), DEMO, geometry, row.script.as_bytes())?;
+                    expect(&rt, &left, row);
+                }
+            }
+        }
+    }
+    Ok(())
+}
+
+#[test]
+fn tells_the_first_field_out_of_its_limits(rt: HostRuntime) -> Result<(), Fail> {
+    let plain = Geometry::default();
+    for (geometry, field) in [
+        (
+            Geometry {
+                depth: 1,
+                page_size: 1,
+                ..plain
+            },
+            GeometryField::Depth,
+        ),
+        (
+            Geometry {
+                page_size: 4095,
+                ..plain
+            },
+            GeometryField::PageSize,
+        ),
+        (Geometry { offset: 6, ..plain }, GeometryField::Offset),
+        (
+            Geometry {
+                list_offset: 4,
+                ..plain
+            },
+            GeometryField::ListOffset,
+        ),
+        (
+            Geometry {
+                depth: 2,
+                window: 2,
+                ..plain
+            },
+            GeometryField::Window,
+        ),
+        (Geometry { pace: 0, ..plain }, GeometryField::Pace),
+    ] {
+        let left = run_at(rt.alloc(), DEMO, geometry, b"list-ns /dev/nvme0\nbogus\n")?;
+        assert!(rt; left.end == RunEnd::Geometry(field));
+        assert!(rt; left.out.is_empty() && left.messages.is_empty());
+    }
+    Ok(())
+}
+
+#[test]
+fn command_identifiers_begin_anew_after_65535_commands(rt: HostRuntime) -> Result<(), Fail> {
+    let mut script = Vec::new(rt.alloc());
+    for _ in 0..65536u32 {
+        script.extend_from_slice(b"list-ns /dev/nvme0 -n 3\n")?;
+    }
+    script.extend_from_slice(b"id-ns /dev/nvme0 -n 0\n")?;
+    let left = run_script(rt.alloc(), DEMO, &script)?;
+    assert!(rt; left.end == RunEnd::Status(2));
+    assert!(rt; left.out.len() == 65536 * 11);
+    let subsystem = left.machine.subsystem();
+    assert!(rt; subsystem.controllers() == 2);
+    assert!(rt; subsystem.counts(0) == (1, 65537));
+    match subsystem.log_entry(0, 0) {
+        None => panic!(rt; "an entry is missing"),
+        Some(entry) => assert!(rt; entry.cid == 1),
+    }
+    Ok(())
+}
+
+#[test]
+fn controllers_take_turns(rt: HostRuntime) -> Result<(), Fail> {
+    let script =
+        "list-ns /dev/nvme0 -n 3\nid-ns /dev/nvme1 -n 0\nid-ns /dev/nvme0 -n 0\nid-ns /dev/nvme1 -n 5\n";
+    let geometry = Geometry {
+        depth: 2,
+        ..Geometry::default()
+    };
+    let left = run_at(rt.alloc(), DEMO, geometry, script.as_bytes())?;
+    assert!(rt; left.end == RunEnd::Status(2));
+    let subsystem = left.machine.subsystem();
+    assert!(rt; subsystem.controllers() == 2);
+    for (ctrl, index, cid, nsid) in [(0, 0, 1, 0), (1, 0, 1, 5)] {
+        match subsystem.log_entry(ctrl, index) {
+            None => panic!(rt; "an entry is missing"),
+            Some(entry) => assert!(rt; entry.cid == cid && entry.nsid == nsid),
+        }
+    }
+    Ok(())
+}
