@@ -1,46 +1,54 @@
 //! Scripts at geometries of every kind: the same bytes, whatever the rings and pages are.
 
-use crate::harness::{Outcome, run_at, run_script};
-use nv_script::{Geometry, GeometryField, RunEnd};
-use nv_subsystem::DEMO;
+use crate::harness::{Outcome, geometries, run_at, run_script};
+use crate::watch::Watch;
+use nv_controller::{Bus, Machine};
+use nv_script::{Geometry, GeometryField, OverRead, OverWrite, RunEnd, run};
+use nv_subsystem::{DEMO, Subsystem};
 use std::process::Abort;
 use std::test::Fail;
 
 /// A script, and what it writes and ends with.
 struct Row {
-    script: &'static str,
+    script: &'static [u8],
     out: &'static str,
     messages: &'static str,
     status: u8,
 }
 
-const ROWS: [Row; 6] = [
+const ROWS: [Row; 9] = [
     Row {
-        script: "",
+        script: b"",
         out: "",
         messages: "",
         status: 0,
     },
     Row {
-        script: "list-ns /dev/nvme0",
+        script: b"list-ns /dev/nvme0\n",
         out: "[   0]:0x1\n[   1]:0x3\n",
         messages: "",
         status: 0,
     },
     Row {
-        script: "# c\n\nbogus\n",
+        script: b"list-ns /dev/nvme0",
+        out: "[   0]:0x1\n[   1]:0x3\n",
+        messages: "",
+        status: 0,
+    },
+    Row {
+        script: b"# c\n\nbogus\n",
         out: "",
         messages: "line 3: usage error\n",
         status: 1,
     },
     Row {
-        script: "list-ns /dev/nvme0 -n 3\nlist-ns /dev/nvme0 -n 4\nlist-ns /dev/nvme0 -n 4294967295\n",
+        script: b"list-ns /dev/nvme0 -n 3\nlist-ns /dev/nvme0 -n 4\nlist-ns /dev/nvme0 -n 4294967295\nlist-ns /dev/nvme0 -n 0\n",
         out: "[   0]:0x3\n",
-        messages: "line 3: NVMe status: Invalid Namespace or Format (0x600b)\n",
-        status: 2,
+        messages: "line 3: NVMe status: Invalid Namespace or Format (0x600b)\nline 4: bad number for --namespace-id\n",
+        status: 1,
     },
     Row {
-        script: "id-ns /dev/nvme0n3\n",
+        script: b"id-ns /dev/nvme0n3\n",
         out: "nsze                : 0x9
 ncap                : 0x9
 nuse                : 0x0
@@ -60,10 +68,34 @@ lbaf  2             : ms:8 lbads:9 rp:1
         status: 0,
     },
     Row {
-        script: "id-ns /dev/nvme1 -n 0\nlist-ns /dev/nvme1\nlist-ns /dev/nvme1 -a\n",
+        script: b"id-ns /dev/nvme1 -n 1\n",
+        out: "nsze                : 0x0
+ncap                : 0x0
+nuse                : 0x0
+nsfeat              : 0x0
+nlbaf               : 0
+flbas               : 0x0
+mc                  : 0x0
+dpc                 : 0x0
+dps                 : 0x0
+nmic                : 0x0
+nvmcap              : 0
+lbaf  0             : ms:0 lbads:0 rp:0 (in use)
+",
+        messages: "",
+        status: 0,
+    },
+    Row {
+        script: b"id-ns /dev/nvme1 -n 0\nlist-ns /dev/nvme1\nlist-ns /dev/nvme1 -a\n",
         out: "[   0]:0x1\n[   1]:0x3\n",
         messages: "line 1: NVMe status: Invalid Namespace or Format (0x600b)\n",
         status: 0,
+    },
+    Row {
+        script: b"\xff",
+        out: "",
+        messages: "line 1: not UTF-8 text\n",
+        status: 1,
     },
 ];
 
@@ -76,21 +108,14 @@ fn expect(rt: &impl Abort, left: &Outcome, row: &Row) {
 
 #[test]
 fn the_geometry_shows_in_no_byte(rt: HostRuntime) -> Result<(), Fail> {
-    for page_size in [4096, 8192, 16384, 32768, 65536] {
-        for depth in [2, 4096] {
-            for offset in [0, 4, page_size - 4] {
-                let geometry = Geometry {
-                    depth,
-                    page_size,
-                    offset,
-                    ..Geometry::default()
-                };
-                for row in &ROWS {
-                    let left = run_at(rt.alloc(), DEMO, geometry, row.script.as_bytes())?;
-                    expect(&rt, &left, row);
-                }
-            }
+    for geometry in &geometries(rt.alloc())? {
+        for row in &ROWS {
+            let left = run_at(rt.alloc(), DEMO, *geometry, row.script)?;
+            expect(&rt, &left, row);
         }
+        let left = run_at(rt.alloc(), DEMO, *geometry, &[b'a'; 4096])?;
+        assert!(rt; left.end == RunEnd::Status(1) && left.out.is_empty());
+        assert!(rt; left.messages.as_slice() == "line 1: line too long\n".as_bytes());
     }
     Ok(())
 }
@@ -176,6 +201,47 @@ fn controllers_take_turns(rt: HostRuntime) -> Result<(), Fail> {
             None => panic!(rt; "an entry is missing"),
             Some(entry) => assert!(rt; entry.cid == cid && entry.nsid == nsid),
         }
+    }
+    Ok(())
+}
+
+#[test]
+fn data_begins_at_the_offset(rt: HostRuntime) -> Result<(), Fail> {
+    let alloc = rt.alloc();
+    for (page_size, offset, second) in [
+        (4096, 0, false),
+        (4096, 4, true),
+        (4096, 4092, true),
+        (65536, 61440, false),
+        (65536, 61444, true),
+    ] {
+        let geometry = Geometry {
+            depth: 2,
+            page_size,
+            offset,
+            ..Geometry::default()
+        };
+        let subsystem = Subsystem::from_toml(alloc, DEMO.as_bytes())?;
+        let mut watch = Watch::new(Machine::new(alloc, subsystem)?, 2);
+        let mut script = OverRead::new(
+            b"list-ns /dev/nvme0\nid-ns /dev/nvme0n3\nlist-ns /dev/nvme0".as_slice(),
+        );
+        let mut out = OverWrite::new(Vec::new(alloc));
+        let mut messages = OverWrite::new(Vec::new(alloc));
+        let end = run(
+            alloc,
+            &mut watch,
+            geometry,
+            &mut script,
+            &mut out,
+            &mut messages,
+        );
+        assert!(rt; end == RunEnd::Status(0) && watch.taken == 3);
+        assert!(rt; watch.entry.cid == 2);
+        assert!(rt; watch.entry.prp1 % u64::from(page_size) == u64::from(offset));
+        assert!(rt; watch.entry.prp2 % u64::from(page_size) == 0);
+        assert!(rt; (watch.entry.prp2 != 0) == second);
+        assert!(rt; watch.controllers() == 2 && watch.read32(0, 0x24) == 0x0001_0001);
     }
     Ok(())
 }

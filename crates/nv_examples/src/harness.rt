@@ -3,7 +3,7 @@
 use nv_controller::Machine;
 use nv_script::{Geometry, OverRead, OverWrite, RunEnd, run};
 use nv_subsystem::Subsystem;
-use std::alloc::Global;
+use std::alloc::{AllocError, Global};
 use std::test::Fail;
 
 /// What a run left.
@@ -47,4 +47,23 @@ pub fn run_at(
 /// Runs a script on the subsystem of a file, by a driver of the default geometry.
 pub fn run_script(alloc: Global, file: &str, script: &[u8]) -> Result<Outcome, Fail> {
     run_at(alloc, file, Geometry::default(), script)
+}
+
+/// Geometries of every kind: the least and the greatest depth, each page size, and data from the
+/// first, the second and the last place of a page on.
+pub fn geometries(alloc: Global) -> Result<Vec<Geometry>, AllocError> {
+    let mut geometries = Vec::new(alloc);
+    for page_size in [4096, 8192, 16384, 32768, 65536] {
+        for depth in [2, 4096] {
+            for offset in [0, 4, page_size - 4] {
+                geometries.push(Geometry {
+                    depth,
+                    page_size,
+                    offset,
+                    ..Geometry::default()
+                })?;
+            }
+        }
+    }
+    Ok(geometries)
 }

@@ -3,7 +3,7 @@
 
 mod harness;
 
-pub use harness::{Outcome, run_at, run_script};
+pub use harness::{Outcome, geometries, run_at, run_script};
 
 #[cfg(test)]
 mod file_ranges;
@@ -11,6 +11,8 @@ mod file_ranges;
 mod files;
 #[cfg(test)]
 mod geometries;
+#[cfg(test)]
+mod identify;
 #[cfg(test)]
 mod largest;
 #[cfg(test)]
@@ -21,3 +23,5 @@ mod over_streams;
 mod scripts;
 #[cfg(test)]
 mod streams;
+#[cfg(test)]
+mod watch;

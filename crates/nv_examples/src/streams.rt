@@ -3,10 +3,13 @@
 ghost use Rattle.std.specs.Prelude.{◌≡◌, None, false};
 ghost use Rattle.nv_script.specs.Streams.{IsFresh};
 
+use crate::harness::geometries;
 use nv_controller::Machine;
 use nv_script::{Geometry, OverRead, OverWrite, RunEnd, Sink, Source, run};
 use nv_subsystem::{DEMO, Subsystem};
+use std::alloc::Global;
 use std::cmp;
+use std::process::Abort;
 use std::test::Fail;
 
 /// A source that gives one piece a read, and fails after the last. An empty piece is an end.
@@ -99,24 +102,26 @@ impl Sink for CutSink {
 #[test]
 fn runs_only_the_lines_before_a_failing_read(rt: HostRuntime) -> Result<(), Fail> {
     let alloc = rt.alloc();
-    let subsystem = Subsystem::from_toml(alloc, DEMO.as_bytes())?;
-    let mut machine = Machine::new(alloc, subsystem)?;
-    let pieces: [&[u8]; 2] = [b"list-ns /dev/nvme0\nlist-", b"ns /dev/nvme0"];
-    let mut script = PieceSource::new(&pieces);
-    let mut out = OverWrite::new(Vec::new(alloc));
-    let mut messages = OverWrite::new(Vec::new(alloc));
-    let end = run(
-        alloc,
-        &mut machine,
-        Geometry::default(),
-        &mut script,
-        &mut out,
-        &mut messages,
-    );
-    assert!(rt; end == RunEnd::Read);
-    assert!(rt; script.calls == 3);
-    assert!(rt; out.into_inner().as_slice() == "[   0]:0x1\n[   1]:0x3\n".as_bytes());
-    assert!(rt; messages.into_inner().is_empty());
+    for geometry in &geometries(alloc)? {
+        let subsystem = Subsystem::from_toml(alloc, DEMO.as_bytes())?;
+        let mut machine = Machine::new(alloc, subsystem)?;
+        let pieces: [&[u8]; 2] = [b"list-ns /dev/nvme0\nlist-", b"ns /dev/nvme0"];
+        let mut script = PieceSource::new(&pieces);
+        let mut out = OverWrite::new(Vec::new(alloc));
+        let mut messages = OverWrite::new(Vec::new(alloc));
+        let end = run(
+            alloc,
+            &mut machine,
+            *geometry,
+            &mut script,
+            &mut out,
+            &mut messages,
+        );
+        assert!(rt; end == RunEnd::Read);
+        assert!(rt; script.calls == 3);
+        assert!(rt; out.into_inner().as_slice() == "[   0]:0x1\n[   1]:0x3\n".as_bytes());
+        assert!(rt; messages.into_inner().is_empty());
+    }
     Ok(())
 }
 
@@ -144,27 +149,39 @@ fn reads_no_more_after_the_end(rt: HostRuntime) -> Result<(), Fail> {
     Ok(())
 }
 
+/// A run whose output fails leaves a beginning of it.
+fn expect_cut_output(
+    rt: &impl Abort,
+    alloc: Global,
+    geometry: Geometry,
+    takes_none: bool,
+) -> Result<(), Fail> {
+    let subsystem = Subsystem::from_toml(alloc, DEMO.as_bytes())?;
+    let mut machine = Machine::new(alloc, subsystem)?;
+    let mut script = OverRead::new(b"list-ns /dev/nvme0\nbogus\n".as_slice());
+    let mut out = CutSink::new(takes_none);
+    let mut messages = OverWrite::new(Vec::new(alloc));
+    let end = run(
+        alloc,
+        &mut machine,
+        geometry,
+        &mut script,
+        &mut out,
+        &mut messages,
+    );
+    assert!(rt; end == RunEnd::OutWrite);
+    assert!(rt; out.calls == 8);
+    assert!(rt; out.bytes.as_slice() == "[   0]:".as_bytes());
+    assert!(rt; messages.into_inner().is_empty());
+    Ok(())
+}
+
 #[test]
 fn leaves_a_beginning_of_the_output(rt: HostRuntime) -> Result<(), Fail> {
-    let alloc = rt.alloc();
-    for takes_none in [false, true] {
-        let subsystem = Subsystem::from_toml(alloc, DEMO.as_bytes())?;
-        let mut machine = Machine::new(alloc, subsystem)?;
-        let mut script = OverRead::new(b"list-ns /dev/nvme0\nbogus\n".as_slice());
-        let mut out = CutSink::new(takes_none);
-        let mut messages = OverWrite::new(Vec::new(alloc));
-        let end = run(
-            alloc,
-            &mut machine,
-            Geometry::default(),
-            &mut script,
-            &mut out,
-            &mut messages,
-        );
-        assert!(rt; end == RunEnd::OutWrite);
-        assert!(rt; out.calls == 8);
-        assert!(rt; out.bytes.as_slice() == "[   0]:".as_bytes());
-        assert!(rt; messages.into_inner().is_empty());
+    for geometry in &geometries(rt.alloc())? {
+        for takes_none in [false, true] {
+            expect_cut_output(&rt, rt.alloc(), *geometry, takes_none)?;
+        }
     }
     Ok(())
 }
