@@ -10,7 +10,7 @@ mod file_ranges;
 #[cfg(test)]
 mod files;
 #[cfg(test)]
-mod geometries;
+mod every_geometry;
 #[cfg(test)]
 mod identify;
 #[cfg(test)]
