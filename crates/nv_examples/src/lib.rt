@@ -6,11 +6,11 @@ mod harness;
 pub use harness::{Outcome, geometries, run_at, run_script};
 
 #[cfg(test)]
+mod every_geometry;
+#[cfg(test)]
 mod file_ranges;
 #[cfg(test)]
 mod files;
-#[cfg(test)]
-mod every_geometry;
 #[cfg(test)]
 mod identify;
 #[cfg(test)]

@@ -18,7 +18,7 @@ pub struct Watch {
     /// How many entries were taken.
     pub taken: u64,
     /// How many slots the submission ring has.
-    depth: u64,
+    depth: u32,
     ghost deep: { 0 < depth },
 }
 
@@ -32,7 +32,7 @@ impl Watch {
             machine,
             entry: Sqe::get(&[0; 64]),
             taken: 0,
-            depth: u64::from(depth),
+            depth,
         }
     }
 
@@ -41,7 +41,7 @@ impl Watch {
         ensures { self.new.machine ≡ self.old.machine }
     {
         let mut bytes = [0; 64];
-        let address = u64::from(asq) + 64 * (self.taken % self.depth);
+        let address = u64::from(asq) + 64 * (self.taken % u64::from(self.depth));
         if mem.load(address, &mut bytes).is_ok() {
             self.entry = Sqe::get(&bytes);
         }
