@@ -7,7 +7,7 @@ use Rattle.std.proofs.lemmas.List.{get_or-drop, get_or-take}
 use Rattle.std.proofs.lemmas.Nat.{from_le_bytes-to_le_bytes_8}
 use Rattle.nv_host.specs.Bytes.{bytes_at, with_bytes}
 use Rattle.nv_host.specs.BytesLaws.{bytes_at-with_after, bytes_at-with_before, bytes_at-with_same}
-use Rattle.nv_prp.specs.Buffer.{ChangesOnly, IsApart, IsOutside, NamesPages}
+use Rattle.nv_prp.specs.Buffer.{ChangesOnly, IsApart, NamesPages}
 use Rattle.nv_prp.specs.Transfer.{list_place, naming_number, qword}
 use Rattle.nv_prp.proofs.ListLaws.{naming_in_first, naming_in_second}
 

@@ -28,6 +28,7 @@ mod entry;
 mod error;
 mod law;
 mod pointer;
+mod range;
 mod run;
 mod spans;
 #[cfg(test)]

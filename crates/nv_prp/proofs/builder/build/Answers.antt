@@ -1,9 +1,9 @@
-use Rattle.std.proofs.Common.{◌≡◌, ◌∙◌, ℕ, ◌+◌, ◌*◌, ◌%◌, ◌/◌, ◌-◌, List, ap, arith, get_or, length, subst, sym}
+use Rattle.std.proofs.Common.{◌≡◌, ◌∙◌, ℕ, ◌+◌, ◌*◌, ◌%◌, ◌/◌, ◌-◌, List, arith, get_or, subst, sym}
 use Rattle.nv_host.specs.Pages.{IsPageSize}
 use Rattle.nv_host.specs.PageLaws.{page_size_bounds}
 use Rattle.nv_prp.specs.Buffer.{IsBuffer, NamesPages}
 use Rattle.nv_prp.specs.BufferLaws.{buffer_kept, list_place_kept}
-use Rattle.nv_prp.specs.Transfer.{data_pages, transfer}
+use Rattle.nv_prp.specs.Transfer.{transfer}
 use Rattle.nv_prp.proofs.BuiltLaws.{Begins, IsFor, many_pages, one_page, pages_enough, two_pages}
 use Rattle.nv_prp.proofs.PageLaws.{at_least_one, at_most_257}
 use Rattle.nv_prp.proofs.builder.build.Given.{Over}

@@ -1,4 +1,4 @@
-use Rattle.std.proofs.Common.{◌≡◌, ◌∙◌, ◌+◌, ◌*◌, ◌%◌, ap}
+use Rattle.std.proofs.Common.{◌∙◌, ◌+◌, ◌%◌, ap}
 use Rattle.std.proofs.lemmas.Nat.{mod-mul-add}
 use Rattle.nv_host.specs.PageLaws.{page_size_bounds, page_size_in_qwords}
 use Rattle.nv_prp.proofs.EntryLaws.{multiple_stays}

@@ -1,4 +1,4 @@
-use Rattle.std.proofs.Common.{◌≡◌, ◌∙◌, ◌+◌, ◌-◌, ◌*◌, ◌%◌, ◌/◌, ap, arith, drop, get_or, inl, inr, subst, take}
+use Rattle.std.proofs.Common.{◌∙◌, ◌-◌, ◌*◌, ◌%◌, ◌/◌, ap, arith, drop, get_or, inl, inr, subst, take}
 use Rattle.nv_prp.specs.Buffer.{IsApart, NamesPages}
 use Rattle.nv_prp.proofs.WriteLaws.{names_in_one, names_in_two, pages_apart}
 use Rattle.nv_prp.proofs.builder.write_list.Goals as goal

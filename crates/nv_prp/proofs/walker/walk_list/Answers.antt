@@ -2,7 +2,7 @@ use Rattle.std.proofs.Common.{◌≡◌, ◌∙◌, ◌+◌, ◌-◌, ◌*◌, a
 use Rattle.std.specs.Prelude.{OnOk}
 use Rattle.std.proofs.lemmas.Result.{err_from_is_err_and}
 use Rattle.nv_prp.specs.Place.{table}
-use Rattle.nv_prp.specs.Transfer.{HasFault, data_pages, first_qword_fault, span_of, spans_of, transfer_of}
+use Rattle.nv_prp.specs.Transfer.{HasFault, data_pages, span_of, spans_of, transfer_of}
 use Rattle.nv_prp.proofs.FaultLaws.{fault_at_prp2, fault_stays}
 use Rattle.nv_prp.proofs.ListLaws.{chain, fault_in_one, fault_in_two, first_run, second_run}
 use Rattle.nv_prp.proofs.walker.walk_list.Goals as goal
