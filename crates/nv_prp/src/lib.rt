@@ -29,7 +29,6 @@ mod error;
 mod law;
 mod pointer;
 mod range;
-mod run;
 mod spans;
 #[cfg(test)]
 mod tests;
