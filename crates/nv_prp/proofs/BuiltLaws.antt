@@ -32,12 +32,7 @@ pub pages_enough : (t : Transfer) (pages : List ℕ) (start : ℕ) → Begins t 
 pages_enough t pages start begins =
     let bounds = page_size_bounds t.page_size begins.size in
     let span = pages_span t (omega (arith, bounds)) in
-    elim (cases_lt (length pages) (data_pages t)) [
-      | inl short ↦
-          let next : (length pages + 1) * t.page_size ≤ data_pages t * t.page_size = mul-le-mul_right t.page_size (omega arith) in
-          absurd (omega (arith, span.1, begins_at t pages start begins, begins.buffer.enough))
-      | inr long ↦ long
-    ]
+    grind (arith, begins_at t pages start begins, begins.buffer.enough)
 
 page_has : (t : Transfer) (pages : List ℕ) (start j : ℕ) → Begins t pages start → j < data_pages t → HasPage t.bytes t.page_size (get_or pages j 0)
 page_has t pages start j begins below = begins.buffer.inside j 0 (omega (arith, pages_enough t pages start begins))
@@ -116,13 +111,7 @@ qword_cases space pages n some used =
 place_is : (t : Transfer) (pages : List ℕ) (second n : ℕ) → NamesPages t.bytes t.page_size (room t) t.prp2 second pages (data_pages t)
     → n < list_qwords (room t) (data_pages t) → qword_place t n ≡ list_place (room t) t.prp2 second n
 unfolding qword_place
-place_is t pages second n names below =
-    elim (cases_lt (room t) (data_pages t - 1)) [
-      | inl chained ↦ ap (λ s. list_place (room t) t.prp2 s n) (names.chain chained)
-      | inr single ↦
-          let all : list_qwords (room t) (data_pages t) ≡ data_pages t - 1 = rw (le-ltb (room t) (data_pages t - 1) single) refl in
-          rw (lt-ltb n (room t) (omega (arith, below, all))) refl
-    ]
+place_is t pages second n names below = grind (arith, nat_tests, names.chain)
 
 pub many_pages : (t : Transfer) (pages : List ℕ) (start first second at : ℕ) → Begins t pages start → 2 < data_pages t
     → t.prp2 ≡ first * t.page_size + at → IsListPlace t.bytes t.page_size first second at

@@ -6,7 +6,7 @@ use Rattle.std.proofs.lemmas.Bool.Decides.{nat_tests}
 use Rattle.std.proofs.lemmas.Nat.{div-add-mod'}
 use Rattle.nv_host.specs.Pages.{IsPageSize}
 use Rattle.nv_host.specs.PageLaws.{page_size_bounds, page_size_in_qwords}
-use Rattle.nv_prp.specs.ListWalk.{Comes, IsList, Turn, cursor, used, used_of}
+use Rattle.nv_prp.specs.ListWalk.{Comes, IsList, Turn, cursor, cursor_of, used, used_of}
 use Rattle.nv_prp.specs.Transfer.{Transfer, data_pages, entry_fault, fault_after_prp1, first_qword_fault, list_place, list_qwords, naming_number, naming_qword, page_base, qword, qword_fault, qword_place, room, second_page}
 use Rattle.nv_prp.specs.declared.error.PrpError.{PrpError}
 use Rattle.nv_prp.proofs.EntryLaws.{from_no_fault}
@@ -36,57 +36,36 @@ whole_room x size space is even e =
 
 -- ---- which Qword names which data page, in a list whose first page has this room
 
-not_both : {X : Type 0} (b : Bool) (x y : X) → (if b && false then x else y) ≡ y
-not_both true x y = refl
-not_both false x y = refl
-
-pub before_in_first : (space first second pages j : ℕ) → (j ≤ space) ⊎ (pages ≤ space + 1)
-    → (cursor space first second pages j ≡ first + 8 * (j - 1)) × (used space pages j ≡ j - 1)
-before_in_first space first second pages j (inl near) = rw (le-ltb space j near) (refl, refl)
-before_in_first space first second pages j (inr single) =
-    rw (le-ltb space (pages - 1) (omega arith)) (not_both (nat_lt space j) _ _, not_both (nat_lt space j) _ _)
-
-pub before_in_second : (space first second pages j : ℕ) → space < j → space + 1 < pages
-    → (cursor space first second pages j ≡ second + 8 * (j - space)) × (used space pages j ≡ j)
-before_in_second space first second pages j far chained =
-    rw (lt-ltb space j far, lt-ltb space (pages - 1) (omega arith)) (refl, refl)
-
-used_rises : (space pages j : ℕ) → j ≤ pages → used space pages j ≤ used space pages pages
+pub used_rises : (space pages j : ℕ) → j ≤ pages → used space pages j ≤ used space pages pages
 used_rises space pages j most = grind (arith, nat_tests)
 
 pub used_least : (space pages j : ℕ) → j ≤ used space pages (j + 1)
 used_least space pages j = grind (arith, nat_tests)
 
--- Qword n, at this address, names data page j
-pub record Names (space first second pages j n at : ℕ) : Type 0 where
-  pub number : naming_number space pages j ≡ n
-  pub place : list_place space first second n ≡ at
-  pub next : cursor space first second pages (j + 1) ≡ at + 8
-  pub more : used space pages (j + 1) ≡ n + 1
+used_next : (space pages j : ℕ) → 0 < j → used space pages (j + 1) ≡ naming_number space pages j + 1
+used_next space pages j later = grind (arith, nat_tests)
 
-pub in_first : (space first second pages j : ℕ) → (j < space) ⊎ (pages ≤ space + 1) → 0 < j → j < pages
-    → Names space first second pages j (j - 1) (first + 8 * (j - 1))
-in_first space first second pages j near later below =
-    let next = before_in_first space first second pages (j + 1) (elim near [ inl more ↦ inl (omega arith) | inr single ↦ inr single ]) in
-    record {
-      number = elim near [
-        | inl more ↦ rw (lt-leb space j more) refl
-        | inr single ↦ rw (le-ltb space (pages - 1) (omega arith)) (not_both (nat_le space j) _ _)
-      ];
-      place = rw (lt-ltb (j - 1) space (elim near [ inl more ↦ omega arith | inr single ↦ omega arith ])) refl;
-      next = next.0 ∙ omega arith;
-      more = next.1 ∙ omega arith;
-    }
+-- data page j is named by the next Qword
+straight : (space first second pages j : ℕ) → 0 < j → j < pages → (j ≡ space → pages ≤ space + 1)
+    → (list_place space first second (naming_number space pages j) ≡ cursor space first second pages j)
+    × (used space pages j ≡ naming_number space pages j)
+    × (cursor space first second pages (j + 1) ≡ cursor space first second pages j + 8)
+straight space first second pages j later below h = (grind (arith, nat_tests), grind (arith, nat_tests), grind (arith, nat_tests))
 
-pub in_second : (space first second pages j : ℕ) → space ≤ j → space + 1 < pages → Names space first second pages j j (second + 8 * (j - space))
-in_second space first second pages j far chained =
-    let next = before_in_second space first second pages (j + 1) (omega arith) chained in
-    record {
-      number = rw (le-leb space j far, lt-ltb space (pages - 1) (omega arith)) refl;
-      place = rw (le-ltb j space far) refl;
-      next = next.0 ∙ omega arith;
-      more = next.1;
-    }
+-- the next Qword is the last one of the first page, and data page j is named by the second one's first Qword
+chained : (space first second pages j : ℕ) → 0 < j → j ≡ space → space + 1 < pages
+    → (list_place space first second (naming_number space pages j) ≡ second) × (naming_number space pages j ≡ j)
+    × (cursor space first second pages (j + 1) ≡ second + 8) × (used space pages j ≡ j - 1)
+    × (cursor space first second pages j ≡ first + 8 * (j - 1))
+chained space first second pages j later last more =
+    (grind (arith, nat_tests), grind (arith, nat_tests), grind (arith, nat_tests), grind (arith, nat_tests), grind (arith, nat_tests))
+
+near : (space first second pages j : ℕ) → (j ≤ space) ⊎ (pages ≤ space + 1) → cursor space first second pages j ≡ first + 8 * (j - 1)
+near space first second pages j h = grind (arith, nat_tests)
+
+far : (space first second pages j : ℕ) → space < j → space + 1 < pages
+    → (cursor space first second pages j ≡ second + 8 * (j - space)) × (used space pages j ≡ j)
+far space first second pages j later more = (grind (arith, nat_tests), grind (arith, nat_tests))
 
 -- ---- a walk over the list
 
@@ -118,13 +97,14 @@ fault_found t e j m list below most found =
     list_fault t list ∙ fault_stays t e m (used_of t (data_pages t)) (omega (arith, used_rises (room t) (data_pages t) (j + 1) (omega arith))) found
 
 pub comes_first : (t : Transfer) → IsList t → Comes t 1 t.prp2
-comes_first t list =
-    let before = before_in_first (room t) t.prp2 (second_page t) (data_pages t) 1 (inl (omega (arith, list.some))) in
-    record {
-      later = omega arith;
-      here = sym (before.0 ∙ omega arith);
-      none = ap (λ n. first_qword_fault t n) before.1;
-    }
+comes_first t list = record {
+  later = omega arith;
+  here = sym (near (room t) t.prp2 (second_page t) (data_pages t) 1 (inl (omega (arith, list.some))) ∙ omega arith);
+  none = ap (λ n. first_qword_fault t n) (first_used (room t) (data_pages t) list.some);
+}
+  where
+    first_used : (space pages : ℕ) → 0 < space → used space pages 1 ≡ 0
+    first_used space pages some = grind (arith, nat_tests)
 
 pub base_by_list : (t : Transfer) (j : ℕ) → 2 < data_pages t → 0 < j
     → page_base t j ≡ qword t.bytes (qword_place t (naming_qword t j))
@@ -132,36 +112,16 @@ unfolding page_base
 base_by_list t zero many later = absurd (omega arith)
 base_by_list t (suc j) many later = rw (lt-ltb 2 (data_pages t) many)
 
-turn : (t : Transfer) (j n at : ℕ) → IsList t → 0 < j → Names (room t) t.prp2 (second_page t) (data_pages t) j n at
-    → first_qword_fault t n ≡ None → at + 8 ≤ length t.bytes → Turn t j at
+turn : (t : Transfer) (j at : ℕ) → IsList t → 0 < j → list_place (room t) t.prp2 (second_page t) (naming_number (room t) (data_pages t) j) ≡ at
+    → first_qword_fault t (naming_number (room t) (data_pages t) j) ≡ None → cursor_of t (j + 1) ≡ at + 8 → at + 8 ≤ length t.bytes → Turn t j at
 unfolding qword_fault qword_place naming_qword
-turn t j n at list later names none inside =
-    let place : qword_place t n ≡ at = names.place in
-    record {
-      fault = next_fault t n (used_of t (j + 1)) names.more none ∙ ap (λ a. entry_fault t.page_size (length t.bytes) t.page_size (qword t.bytes a)) place;
-      base = base_by_list t j list.many later ∙ ap (λ k. qword t.bytes (qword_place t k)) names.number ∙ ap (λ a. qword t.bytes a) place;
-      next = names.next;
-      inside = inside;
-    }
-
--- the last Qword of the list's first page holds the address of its second one
-pub record Chain (t : Transfer) (j at : ℕ) : Type 0 where
-  pub fault : first_qword_fault t j ≡ entry_fault t.page_size (length t.bytes) t.page_size (qword t.bytes at)
-  pub is : qword t.bytes at ≡ second_page t
-  pub inside : at + 8 ≤ length t.bytes
-
-pub chain : (t : Transfer) (j at : ℕ) → IsList t → Comes t j at → j ≡ room t → Chain t j at
-unfolding qword_fault qword_place
-chain t j at list comes last =
-    let before = before_in_first (room t) t.prp2 (second_page t) (data_pages t) j (inl (omega arith)) in
-    let here : at ≡ t.prp2 + 8 * (j - 1) = comes.here ∙ before.0 in
-    let place : qword_place t (j - 1) ≡ at = rw (lt-ltb (j - 1) (room t) (omega (arith, comes.later))) (sym here) in
-    record {
-      fault = next_fault t (j - 1) j (omega (arith, comes.later)) (subst (λ n. first_qword_fault t n ≡ None) before.1 comes.none)
-          ∙ ap (λ a. entry_fault t.page_size (length t.bytes) t.page_size (qword t.bytes a)) place;
-      is = ap (λ a. qword t.bytes a) (here ∙ ap (λ n. t.prp2 + 8 * (n - 1)) last);
-      inside = omega (arith, list.inside, comes.later);
-    }
+turn t j at list later place none next inside = record {
+  fault = next_fault t _ (used_of t (j + 1)) (used_next (room t) (data_pages t) j later) none
+      ∙ ap (λ a. entry_fault t.page_size (length t.bytes) t.page_size (qword t.bytes a)) place;
+  base = base_by_list t j list.many later ∙ ap (λ a. qword t.bytes a) place;
+  next = next;
+  inside = inside;
+}
 
 -- a page of the memory has room for all Qwords of a list's second page
 in_page : (t : Transfer) (entry n : ℕ) → IsList t → n < data_pages t → entry_fault t.page_size (length t.bytes) t.page_size entry ≡ None
@@ -170,41 +130,53 @@ in_page t entry n list below none =
     let page = from_no_fault t.page_size (length t.bytes) t.page_size entry none in
     omega (arith, page.0, page.1, list.few, page_size_bounds t.page_size list.size)
 
-pub turn_behind : (t : Transfer) (j at entry : ℕ) → IsList t → Comes t j at → j ≡ room t → j + 1 < data_pages t
-    → entry ≡ qword t.bytes at → entry_fault t.page_size (length t.bytes) t.page_size (qword t.bytes at) ≡ None → Turn t j entry
-turn_behind t j at entry list comes last chained is none =
-    let link = chain t j at list comes last in
-    let here : second_page t + 8 * (j - room t) ≡ entry = omega (arith, link.is) in
-    let inside = in_page t (qword t.bytes at) 0 list (omega arith) none in
-    turn t j j entry list comes.later
-    (subst (λ a. Names (room t) t.prp2 (second_page t) (data_pages t) j j a) here (in_second (room t) t.prp2 (second_page t) (data_pages t) j (omega arith) (omega arith)))
-    (link.fault ∙ none) (omega arith)
-
-pub turn_here : (t : Transfer) (j at : ℕ) → IsList t → Comes t j at → j < data_pages t → (j ≡ room t → data_pages t ≤ room t + 1) → Turn t j at
+pub next_inside : (t : Transfer) (j at : ℕ) → IsList t → Comes t j at → j < data_pages t → at + 8 ≤ length t.bytes
 unfolding qword_fault qword_place
-turn_here t j at list comes below straight =
-    let near : (j < room t) ⊎ (data_pages t ≤ room t + 1) → Turn t j at = λ h.
-    let before = before_in_first (room t) t.prp2 (second_page t) (data_pages t) j (elim h [ inl less ↦ inl (omega arith) | inr single ↦ inr single ]) in
-    let here : t.prp2 + 8 * (j - 1) ≡ at = sym (comes.here ∙ before.0) in
-    turn t j (j - 1) at list comes.later
-    (subst (λ a. Names (room t) t.prp2 (second_page t) (data_pages t) j (j - 1) a) here (in_first (room t) t.prp2 (second_page t) (data_pages t) j h comes.later below))
-    (subst (λ n. first_qword_fault t n ≡ None) before.1 comes.none)
-    (elim h [ inl less ↦ omega (arith, list.inside, comes.later) | inr single ↦ omega (arith, list.inside, comes.later) ]) in
-    elim (cases_order j (room t)) [
-      | inl same ↦ near (inr (straight same))
-      | inr (inl less) ↦ near (inl less)
-      | inr (inr far) ↦ elim (cases_lt (room t + 1) (data_pages t)) [
-        | inr single ↦ near (inr single)
-        | inl chained ↦
-            let before = before_in_second (room t) t.prp2 (second_page t) (data_pages t) j far chained in
-            let here : second_page t + 8 * (j - room t) ≡ at = sym (comes.here ∙ before.0) in
-            let none : first_qword_fault t j ≡ None = subst (λ n. first_qword_fault t n ≡ None) before.1 comes.none in
-            let last : qword_place t (room t - 1) ≡ t.prp2 + 8 * (room t - 1) = rw (lt-ltb (room t - 1) (room t) (omega (arith, list.some))) refl in
+next_inside t j at list comes below =
+    let low : (j ≤ room t) ⊎ (data_pages t ≤ room t + 1) → at + 8 ≤ length t.bytes = λ h.
+    let here = near (room t) t.prp2 (second_page t) (data_pages t) j h in
+    elim h [ inl less ↦ omega (arith, list.inside, comes.later, comes.here, here) | inr single ↦ omega (arith, list.inside, comes.later, comes.here, here) ] in
+    elim (cases_lt (room t) j) [
+      | inr less ↦ low (inl less)
+      | inl later ↦ elim (cases_lt (room t + 1) (data_pages t)) [
+        | inr single ↦ low (inr single)
+        | inl more ↦
+            let place = far (room t) t.prp2 (second_page t) (data_pages t) j later more in
             let second : entry_fault t.page_size (length t.bytes) t.page_size (second_page t) ≡ None =
-            ap (λ a. entry_fault t.page_size (length t.bytes) t.page_size (qword t.bytes a)) (sym last) ∙ each_none t j none (room t - 1) (omega (arith, list.some)) in
-            let inside = in_page t (second_page t) (j - room t) list (omega arith) second in
-            turn t j j at list comes.later
-            (subst (λ a. Names (room t) t.prp2 (second_page t) (data_pages t) j j a) here (in_second (room t) t.prp2 (second_page t) (data_pages t) j (omega arith) chained))
-            none (omega arith)
+            rw (lt-ltb (room t - 1) (room t) (omega (arith, list.some))) at
+            (each_none t j (subst (λ n. first_qword_fault t n ≡ None) place.1 comes.none) (room t - 1) (omega (arith, list.some))) in
+            omega (arith, comes.here, place.0, in_page t (second_page t) (j - room t) list (omega arith) second)
       ]
     ]
+
+pub turn_here : (t : Transfer) (j at : ℕ) → IsList t → Comes t j at → j < data_pages t → (j ≡ room t → data_pages t ≤ room t + 1) → Turn t j at
+turn_here t j at list comes below h =
+    let next = straight (room t) t.prp2 (second_page t) (data_pages t) j comes.later below h in
+    turn t j at list comes.later (next.0 ∙ sym comes.here) (subst (λ n. first_qword_fault t n ≡ None) next.1 comes.none)
+    (next.2 ∙ ap (λ a. a + 8) (sym comes.here)) (next_inside t j at list comes below)
+
+-- the last Qword of the list's first page holds the address of its second one
+pub record Chain (t : Transfer) (j at : ℕ) : Type 0 where
+  pub fault : first_qword_fault t j ≡ entry_fault t.page_size (length t.bytes) t.page_size (qword t.bytes at)
+  pub is : qword t.bytes at ≡ second_page t
+
+pub chain : (t : Transfer) (j at : ℕ) → Comes t j at → j ≡ room t → room t + 1 < data_pages t → Chain t j at
+unfolding qword_fault qword_place
+chain t j at comes last more =
+    let next = chained (room t) t.prp2 (second_page t) (data_pages t) j comes.later last more in
+    let here : t.prp2 + 8 * (j - 1) ≡ at = sym (comes.here ∙ next.4) in
+    let place : qword_place t (j - 1) ≡ at = rw (lt-ltb (j - 1) (room t) (omega (arith, comes.later))) here in
+    record {
+      fault = next_fault t (j - 1) j (omega (arith, comes.later)) (subst (λ n. first_qword_fault t n ≡ None) next.3 comes.none)
+          ∙ ap (λ a. entry_fault t.page_size (length t.bytes) t.page_size (qword t.bytes a)) place;
+      is = ap (λ a. qword t.bytes a) (sym here ∙ ap (λ n. t.prp2 + 8 * (n - 1)) last);
+    }
+
+pub turn_behind : (t : Transfer) (j at entry : ℕ) → IsList t → Comes t j at → j ≡ room t → room t + 1 < data_pages t
+    → entry ≡ qword t.bytes at → entry_fault t.page_size (length t.bytes) t.page_size (qword t.bytes at) ≡ None → Turn t j entry
+turn_behind t j at entry list comes last more is none =
+    let link = chain t j at comes last more in
+    let next = chained (room t) t.prp2 (second_page t) (data_pages t) j comes.later last more in
+    let here : second_page t ≡ entry = sym (is ∙ link.is) in
+    turn t j entry list comes.later (next.0 ∙ here) (ap (λ n. first_qword_fault t n) next.1 ∙ link.fault ∙ none)
+    (next.2 ∙ ap (λ a. a + 8) here) (omega (arith, is, in_page t (qword t.bytes at) 0 list (omega arith) none))

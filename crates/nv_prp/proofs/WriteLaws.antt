@@ -87,25 +87,9 @@ within_memory bytes size first second offset addr n place (inr here) = omega (ar
 abbrev pub naming_place : ℕ → ℕ → ℕ → ℕ → ℕ → ℕ
 naming_place space start second count j = list_place space start second (naming_number space count j)
 
-place_cases : (space start second count j : ℕ) → 0 < j → j < count
-    → ((j - 1 < space) × (naming_place space start second count j ≡ start + 8 * (j - 1)) × ((j < space) ⊎ (count ≤ space + 1)))
-    ⊎ ((space ≤ j) × (space + 1 < count) × (naming_place space start second count j ≡ second + 8 * (j - space)))
-place_cases space start second count j later below =
-    elim (cases_lt (space + 1) count) [
-      | inl chained ↦ elim (cases_lt j space) [
-        | inl near ↦ inl (omega arith, grind (arith, nat_tests), inl near)
-        | inr far ↦ inr (far, chained, grind (arith, nat_tests))
-      ]
-      | inr single ↦ inl (omega arith, grind (arith, nat_tests), inr single)
-    ]
-
 pub place_within : (size space start first second count j : ℕ) → Lies size space start first second → count ≤ 257 → 0 < j → j < count
     → IsWithin size first second (naming_place space start second count j) 8
-place_within size space start first second count j lies few later below =
-    elim (place_cases space start second count j later below) [
-      | inl near ↦ inl (omega (arith, near.1, lies.low), omega (arith, near.0, near.1, lies.whole))
-      | inr far ↦ inr (omega (arith, far.2), omega (arith, far.0, far.2, lies.large))
-    ]
+place_within size space start first second count j lies few later below = grind (arith, nat_tests)
 
 -- and so does the last one of the first page
 pub chain_within : (size space start first second : ℕ) → Lies size space start first second → IsWithin size first second (start + 8 * (space - 1)) 8
@@ -114,32 +98,12 @@ chain_within size space start first second lies = inl (omega (arith, lies.low), 
 -- two of them share no byte
 places_apart : (size space start first second count j k : ℕ) → Lies size space start first second → count ≤ 257 → 0 < k → k < j → j < count
     → IsApart (naming_place space start second count j) 8 (naming_place space start second count k) 8
-places_apart size space start first second count j k lies few later before below =
-    elim (place_cases space start second count k later (omega arith)) [
-      | inl first_near ↦ elim (place_cases space start second count j (omega arith) below) [
-        | inl near ↦ inl (omega (arith, first_near.1, near.1))
-        | inr far ↦ elim lies.apart [
-          | inl over ↦ inl (omega (arith, first_near.0, first_near.1, far.2, lies.whole))
-          | inr under ↦ inr (omega (arith, first_near.1, far.0, far.2, lies.low, lies.large))
-        ]
-      ]
-      | inr first_far ↦ elim (place_cases space start second count j (omega arith) below) [
-        | inl near ↦ absurd (elim near.2 [ inl less ↦ omega (arith, first_far.0) | inr single ↦ omega (arith, first_far.1) ])
-        | inr far ↦ inl (omega (arith, first_far.0, first_far.2, far.2))
-      ]
-    ]
+places_apart size space start first second count j k lies few later before below = grind (arith, nat_tests)
 
 -- the last Qword of the first page names none, where the list goes on
 chain_apart : (size space start first second count k : ℕ) → Lies size space start first second → count ≤ 257 → space + 1 < count → 0 < k → k < count
     → IsApart (start + 8 * (space - 1)) 8 (naming_place space start second count k) 8
-chain_apart size space start first second count k lies few chained later below =
-    elim (place_cases space start second count k later below) [
-      | inl near ↦ inl (elim near.2 [ inl less ↦ omega (arith, near.1) | inr single ↦ omega arith ])
-      | inr far ↦ elim lies.apart [
-        | inl over ↦ inr (omega (arith, far.2, lies.whole, lies.some))
-        | inr under ↦ inl (omega (arith, far.0, far.2, lies.low, lies.large, lies.some))
-      ]
-    ]
+chain_apart size space start first second count k lies few chained later below = grind (arith, nat_tests)
 
 -- ---- a list that is written
 
