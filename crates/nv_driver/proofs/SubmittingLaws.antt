@@ -3,9 +3,9 @@ use Rattle.std.proofs.Common.{◌≡◌, ◌∙◌, ℕ, suc, ◌+◌, ◌*◌, 
 use Rattle.std.proofs.Math.Nat.{mul-le-mul_right}
 use Rattle.nv_host.specs.PageSets.{IsOf, Pages}
 use Rattle.nv_host.specs.Pages.{HasPage}
-use Rattle.nv_prp.specs.Buffer.{IsBuffer, IsListPlace, IsOutside, KeepsOutside, buffer_place}
+use Rattle.nv_prp.specs.Buffer.{IsBuffer, IsListPlace, IsOutside, KeepsOutside, StaysFor}
 use Rattle.nv_prp.specs.Place.{AreDistinct}
-use Rattle.nv_prp.specs.Transfer.{IsLegal, place_of, transfer}
+use Rattle.nv_prp.specs.Transfer.{transfer}
 use Rattle.nv_command.specs.declared.command.Command.{Command}
 use Rattle.nv_driver.specs.CommandPages.{AreTaken, all_pages, data_pages}
 use Rattle.nv_driver.specs.Geometry.{IsGeometry}
@@ -80,12 +80,13 @@ distinct_of s p pages seven taken same =
 pub prepared_by : (g : Geometry) (k : Command) (cid : ℕ) (o : Outstanding) (old new : List ℕ) (page_size now : ℕ) (pages : List ℕ) (len : ℕ)
     → page_size ≡ g.page_size → now ≡ page_size → pages ≡ data_pages o.pages → len ≡ data_length (sent_by g k cid o)
     → o.prp1 < 2 ^ 64 → o.prp2 < 2 ^ 64
-    → IsLegal (transfer now new o.prp1 o.prp2 len)
-    → ((i : ℕ) → i < len → place_of (transfer now new o.prp1 o.prp2 len) i ≡ buffer_place now pages g.offset i)
+    → StaysFor (transfer now new o.prp1 o.prp2 len) pages g.offset (slice_index o.pages.numbers 0) (slice_index o.pages.numbers 1)
     → KeepsOutside page_size (slice_index o.pages.numbers 0) (slice_index o.pages.numbers 1) old new → length new ≡ length old
     → IsPrepared g.page_size (sent_by g k cid o) old new
-prepared_by g k cid o old new page_size now pages len page after same is_len first second legal places others size =
+prepared_by g k cid o old new page_size now pages len page after same is_len first second stays others size =
     let goes = after ∙ page in
+    let Stays : ℕ → List ℕ → ℕ → Type 0 = λ size ps n.
+    StaysFor (transfer size new o.prp1 o.prp2 n) ps g.offset (slice_index o.pages.numbers 0) (slice_index o.pages.numbers 1) in
     record {
       others = λ from n outside. others from n
           (subst (λ p. IsOutside p (slice_index o.pages.numbers 0) from n) (sym page) (outside 0 0 (omega arith)))
@@ -93,16 +94,9 @@ prepared_by g k cid o old new page_size now pages len page after same is_len fir
       len = size;
       prp1 = first;
       prp2 = second;
-      legal = subst (λ n. IsLegal (transfer g.page_size new o.prp1 o.prp2 n)) is_len (subst (λ p. IsLegal (transfer p new o.prp1 o.prp2 len)) goes legal);
-      places = by_pages;
+      stays = subst (λ n. Stays g.page_size (data_pages o.pages) n) is_len
+          (subst (λ p. Stays p (data_pages o.pages) len) goes (subst (λ ps. Stays now ps len) same stays));
     }
-  where
-    by_pages : (i : ℕ) → i < data_length (sent_by g k cid o)
-        → place_of (transfer g.page_size new o.prp1 o.prp2 (data_length (sent_by g k cid o))) i ≡ buffer_place g.page_size (data_pages o.pages) g.offset i
-    by_pages =
-        subst (λ n. (i : ℕ) → i < n → place_of (transfer g.page_size new o.prp1 o.prp2 n) i ≡ buffer_place g.page_size (data_pages o.pages) g.offset i) is_len
-        (subst (λ p. (i : ℕ) → i < len → place_of (transfer p new o.prp1 o.prp2 len) i ≡ buffer_place p (data_pages o.pages) g.offset i) (after ∙ page)
-        (subst (λ ps. (i : ℕ) → i < len → place_of (transfer now new o.prp1 o.prp2 len) i ≡ buffer_place now ps g.offset i) same places))
 
 pub on_ok : {X E : Type 0} {P : Type 0} (r : Result X E) (x : X) → r ≡ Ok x → OnOk r P → P
 on_ok {P = P} r x is all = subst (λ q. OnOk q P) is all

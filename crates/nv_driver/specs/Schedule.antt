@@ -5,9 +5,9 @@ use Rattle.nv_host.specs.Pages.{IsPageSize}
 use Rattle.nv_layout.specs.declared.cqe.Cqe.{Cqe}
 use Rattle.nv_layout.specs.declared.sqe.Sqe.{Sqe}
 use Rattle.nv_layout.specs.declared.status.Status.{Status}
-use Rattle.nv_prp.specs.Buffer.{IsApart, IsBuffer, IsListPlace, IsOutside, buffer_place, buffer_places}
+use Rattle.nv_prp.specs.Buffer.{IsApart, IsBuffer, IsListPlace, IsOutside, StaysFor, buffer_places}
 use Rattle.nv_prp.specs.Place.{AreDistinct, read_at}
-use Rattle.nv_prp.specs.Transfer.{IsLegal, place_of, transfer}
+use Rattle.nv_prp.specs.Transfer.{transfer}
 use Rattle.nv_queue.specs.Numbers.{IsDepth, kept_number, slot_of}
 use Rattle.nv_queue.specs.Rings.{CollectNumbers, SubmitNumbers}
 use Rattle.nv_queue.specs.Slots.{HoldsTags, IsAwaitedThere, awaited_completion, completion_at, with_submission}
@@ -144,15 +144,13 @@ pub record MaySubmit (t : Setting) (w : World) (x : Sent) : Type 0 where
   pub completions : AreOutside t.page_size x t.cq (16 * t.depth)
   pub apart : (n : ℕ) (d : Sent) → length w.answers ≤ n → n < length w.sent → AreApart (slice_index_or w.sent n d) x
 
--- the command's pages were made ready, and its data pointer names the places of its data
+-- the command's pages were made ready, and its data pointer names the places of its data while its list stays
 pub record IsPrepared (page_size : ℕ) (x : Sent) (old new : List ℕ) : Type 0 where
   pub others : (from n : ℕ) → AreOutside page_size x from n → bytes_at new from n ≡ bytes_at old from n
   pub len : length new ≡ length old
   pub prp1 : x.prp1 < 2 ^ 64
   pub prp2 : x.prp2 < 2 ^ 64
-  pub legal : IsLegal (transfer page_size new x.prp1 x.prp2 (data_length x))
-  pub places : (i : ℕ) → i < data_length x
-      → place_of (transfer page_size new x.prp1 x.prp2 (data_length x)) i ≡ buffer_place page_size x.pages x.offset i
+  pub stays : StaysFor (transfer page_size new x.prp1 x.prp2 (data_length x)) x.pages x.offset x.first x.second
 
 -- ---- collecting
 

@@ -3,19 +3,19 @@ use Rattle.std.proofs.Common.{◌≡◌, ◌∙◌, ◌⊎◌, ℕ, ◌+◌, ◌
 use Rattle.std.proofs.Math.Nat.{mul-le-mul_right}
 use Rattle.std.proofs.lemmas.Bool.{cases_lt, cases_order, eq-eqb, le-ltb, lt-ltb, ne_eqb}
 use Rattle.std.proofs.lemmas.Nat.{div_below, mod-mul-add}
+use Rattle.std.specs.Int.{from_le_bytes, w64}
+use Rattle.std.proofs.lemmas.Bool.Decides.{nat_tests}
+use Rattle.nv_host.specs.Bytes.{bytes_at}
+use Rattle.nv_host.specs.BytesLaws.{bytes_at-bytes_at}
 use Rattle.nv_host.specs.Pages.{HasPage, IsPageSize}
 use Rattle.nv_host.specs.PageLaws.{page_size_bounds, page_size_in_qwords}
-use Rattle.nv_prp.specs.Buffer.{IsBuffer, IsListPlace, NamesPages, buffer_place}
-use Rattle.nv_prp.specs.Transfer.{IsLegal, Transfer, data_pages, entry_fault, list_place, list_qwords, naming_number, naming_qword, offset, page_base, place_of, prp1_fault, prp2_fault, qword, qword_fault, qword_place, qwords, room}
+use Rattle.nv_prp.specs.Buffer.{IsBuffer, IsFor, IsListPlace, KeepsList, NamesPages, buffer_place}
+use Rattle.nv_prp.specs.Transfer.{IsLegal, Transfer, data_pages, entry_fault, list_place, list_qwords, naming_number, naming_qword, offset, page_base, place_of, prp2_fault, qword, qword_fault, qword_place, qwords, room}
 use Rattle.nv_prp.proofs.EntryLaws.{multiple_stays, no_fault_at, no_fault_of_page}
-use Rattle.nv_prp.proofs.ListLaws.{base_by_list, naming_in_first, naming_in_second, place_in_first, whole_room}
+use Rattle.nv_prp.proofs.ListLaws.{base_by_list, whole_room}
 use Rattle.nv_prp.proofs.PageLaws.{base_of_two, pages_span}
 use Rattle.nv_prp.proofs.SpanLaws.{naming_used}
-
--- a legal transfer of a buffer's first bytes
-pub record IsFor (t : Transfer) (pages : List ℕ) (start : ℕ) : Type 0 where
-  pub legal : IsLegal t
-  pub places : (i : ℕ) → i < t.len → place_of t i ≡ buffer_place t.page_size pages start i
+use Rattle.nv_prp.proofs.WriteLaws.{IsWithin, Lies, chain_within, list_even, place_within}
 
 -- the entries for a buffer, as far as PRP1
 pub record Begins (t : Transfer) (pages : List ℕ) (start : ℕ) : Type 0 where
@@ -32,12 +32,7 @@ pub pages_enough : (t : Transfer) (pages : List ℕ) (start : ℕ) → Begins t 
 pages_enough t pages start begins =
     let bounds = page_size_bounds t.page_size begins.size in
     let span = pages_span t (omega (arith, bounds)) in
-    elim (cases_lt (length pages) (data_pages t)) [
-      | inl short ↦
-          let next : (length pages + 1) * t.page_size ≤ data_pages t * t.page_size = mul-le-mul_right t.page_size (omega arith) in
-          absurd (omega (arith, span.1, begins_at t pages start begins, begins.buffer.enough))
-      | inr long ↦ long
-    ]
+    grind (arith, begins_at t pages start begins, begins.buffer.enough)
 
 page_has : (t : Transfer) (pages : List ℕ) (start j : ℕ) → Begins t pages start → j < data_pages t → HasPage t.bytes t.page_size (get_or pages j 0)
 page_has t pages start j begins below = begins.buffer.inside j 0 (omega (arith, pages_enough t pages start begins))
@@ -104,41 +99,30 @@ qword_cases : (space pages n : ℕ) → 0 < space → n < list_qwords space page
     → ((space < pages - 1) × (n + 1 ≡ space)) ⊎ ((j : ℕ) × (0 < j) × (j < pages) × (naming_number space pages j ≡ n))
 qword_cases space pages n some used =
     elim (cases_lt space (pages - 1)) [
-      | inl chained ↦
-          let all : list_qwords space pages ≡ pages = rw (lt-ltb space (pages - 1) chained) in
-          elim (cases_order (n + 1) space) [
-            | inl last ↦ inl (chained, last)
-            | inr (inl near) ↦ inr (n + 1, omega arith, omega arith, naming_in_first space pages n (inl near))
-            | inr (inr far) ↦ inr (n, omega arith, omega (arith, used, all), naming_in_second space pages n (omega arith) (omega arith))
-          ]
-      | inr single ↦
-          let all : list_qwords space pages ≡ pages - 1 = rw (le-ltb space (pages - 1) single) in
-          inr (n + 1, omega arith, omega (arith, used, all), naming_in_first space pages n (inr (omega arith)))
+      | inl chained ↦ elim (cases_order (n + 1) space) [
+        | inl last ↦ inl (chained, last)
+        | inr (inl near) ↦ inr (n + 1, omega arith, omega arith, grind (arith, nat_tests))
+        | inr (inr far) ↦ inr (n, omega arith, grind (arith, nat_tests), grind (arith, nat_tests))
+      ]
+      | inr single ↦ inr (n + 1, omega arith, grind (arith, nat_tests), grind (arith, nat_tests))
     ]
 
 -- the place of a Qword of the list, by the pages that were given to it
 place_is : (t : Transfer) (pages : List ℕ) (second n : ℕ) → NamesPages t.bytes t.page_size (room t) t.prp2 second pages (data_pages t)
     → n < list_qwords (room t) (data_pages t) → qword_place t n ≡ list_place (room t) t.prp2 second n
 unfolding qword_place
-place_is t pages second n names used =
-    elim (cases_lt (room t) (data_pages t - 1)) [
-      | inl chained ↦ ap (λ s. list_place (room t) t.prp2 s n) (names.chain chained)
-      | inr single ↦
-          let all : list_qwords (room t) (data_pages t) ≡ data_pages t - 1 = rw (le-ltb (room t) (data_pages t - 1) single) in
-          let near : n < room t = omega (arith, used, all) in
-          place_in_first t n near ∙ rw (lt-ltb n (room t) near)
-    ]
+place_is t pages second n names below = grind (arith, nat_tests, names.chain)
 
 pub many_pages : (t : Transfer) (pages : List ℕ) (start first second at : ℕ) → Begins t pages start → 2 < data_pages t
     → t.prp2 ≡ first * t.page_size + at → IsListPlace t.bytes t.page_size first second at
     → NamesPages t.bytes t.page_size (room t) t.prp2 (second * t.page_size) pages (data_pages t) → IsFor t pages start
-unfolding qword_fault prp2_fault qwords naming_qword
+unfolding qword_fault prp2_fault qwords naming_qword qword_place
 many_pages t pages start first second at begins many prp2 place names =
     let size = t.page_size in
     let some : 0 < size = omega (arith, page_size_bounds size begins.size) in
-    let even : (first * size + at) % 8 ≡ 0 = multiple_stays first size at 8 (page_size_in_qwords size begins.size) ∙ place.aligned in
-    let space : 0 < room t = (whole_room t.prp2 size (room t) begins.size (ap (λ n. n % 8) prp2 ∙ even) refl).0 in
-    let all : qwords t ≡ list_qwords (room t) (data_pages t) = rw (lt-ltb 2 (data_pages t) many) in
+    let even : t.prp2 % 8 ≡ 0 = list_even t.bytes size first second at t.prp2 begins.size place prp2 in
+    let space : 0 < room t = (whole_room t.prp2 size (room t) begins.size even refl).0 in
+    let all : qwords t ≡ list_qwords (room t) (data_pages t) = rw (lt-ltb 2 (data_pages t) many) refl in
     let holds : (j : ℕ) → 0 < j → j < data_pages t → qword t.bytes (qword_place t (naming_qword t j)) ≡ get_or pages j 0 * size = λ j later below.
     ap (λ a. qword t.bytes a) (place_is t pages (second * size) (naming_qword t j) names (naming_used (room t) (data_pages t) j many later below))
     ∙ names.each j later below in
@@ -146,14 +130,43 @@ many_pages t pages start first second at begins many prp2 place names =
     ap (λ e. entry_fault size (length t.bytes) size e) is ∙ no_fault_of_page t.bytes page size some has in
     is_for t pages start begins (omega arith)
     (rw (lt-ltb 2 (data_pages t) many)
-    (ap (λ n. entry_fault size (length t.bytes) 8 n) prp2 ∙ no_fault_at t.bytes first size at 8 place.below place.has_first even))
-    (λ n used. elim (qword_cases (room t) (data_pages t) n space (subst (λ m. n < m) all used)) [
+    (ap (λ n. entry_fault size (length t.bytes) 8 n) prp2 ∙ no_fault_at t.bytes first size at 8 place.below place.has_first (ap (λ n. n % 8) (sym prp2) ∙ even)))
+    (λ n below. elim (qword_cases (room t) (data_pages t) n space (subst (λ m. n < m) all below)) [
       | inl chained ↦
           let last : n ≡ room t - 1 = omega (arith, chained.1) in
           no_fault n second place.has_second
-          (ap (λ a. qword t.bytes a) (place_in_first t n (omega (arith, chained.1)) ∙ ap (λ k. t.prp2 + 8 * k) last) ∙ names.chain chained.0)
-      | inr (j, later, below, is) ↦
-          no_fault n (get_or pages j 0) (page_has t pages start j begins below)
-          (ap (λ k. qword t.bytes (qword_place t k)) (sym is) ∙ holds j later below)
+          (rw (lt-ltb n (room t) (omega (arith, chained.1))) (ap (λ k. qword t.bytes (t.prp2 + 8 * k)) last ∙ names.chain chained.0))
+      | inr (j, later, within, is) ↦
+          no_fault n (get_or pages j 0) (page_has t pages start j begins within)
+          (ap (λ k. qword t.bytes (qword_place t k)) (sym is) ∙ holds j later within)
     ])
     (λ j later below. base_by_list t j many later ∙ holds j later below)
+
+-- ---- over a later memory
+
+pub keeps_itself : (t : Transfer) (first second : ℕ) → KeepsList t first second t.bytes
+keeps_itself t first second = record { len = refl; in_first = λ _. refl; in_second = λ _. refl }
+
+qword_of_page : (old new : List ℕ) (q p addr : ℕ) → bytes_at new q p ≡ bytes_at old q p → q ≤ addr → addr + 8 ≤ q + p → qword new addr ≡ qword old addr
+unfolding qword
+qword_of_page old new q p addr same low high =
+    let at : q + (addr - q) ≡ addr = omega arith in
+    let part : (m : List ℕ) → bytes_at (bytes_at m q p) (addr - q) 8 ≡ bytes_at m addr 8 = λ m.
+    bytes_at-bytes_at m q p (addr - q) 8 (omega arith) ∙ ap (λ a. bytes_at m a 8) at in
+    ap (λ l. from_le_bytes w64 l) (sym (part new) ∙ ap (λ l. bytes_at l (addr - q) 8) same ∙ part old)
+
+-- a list whose pages stay names the same data pages
+pub names_kept : (t : Transfer) (pages : List ℕ) (first second : ℕ) (later : List ℕ) → 2 < data_pages t → data_pages t ≤ 257
+    → Lies t.page_size (room t) t.prp2 (first * t.page_size) (second * t.page_size) → KeepsList t first second later
+    → NamesPages t.bytes t.page_size (room t) t.prp2 (second * t.page_size) pages (data_pages t)
+    → NamesPages later t.page_size (room t) t.prp2 (second * t.page_size) pages (data_pages t)
+names_kept t pages first second later many few lies keeps names =
+    let kept : (addr : ℕ) → IsWithin t.page_size (first * t.page_size) (second * t.page_size) addr 8 → qword later addr ≡ qword t.bytes addr = λ addr within.
+    elim within [
+      | inl here ↦ qword_of_page t.bytes later (first * t.page_size) t.page_size addr (keeps.in_first many) here.0 here.1
+      | inr here ↦ qword_of_page t.bytes later (second * t.page_size) t.page_size addr (keeps.in_second many) here.0 here.1
+    ] in
+    record {
+      chain = λ chained. kept (t.prp2 + 8 * (room t - 1)) (chain_within _ _ _ _ _ lies) ∙ names.chain chained;
+      each = λ j after below. kept _ (place_within _ _ _ _ _ (data_pages t) j lies few after below) ∙ names.each j after below;
+    }

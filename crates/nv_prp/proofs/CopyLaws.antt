@@ -1,11 +1,12 @@
 -- Copies span by span are copies byte by byte.
-use Rattle.std.proofs.Common.{◌≡◌, ◌∙◌, ℕ, zero, suc, ◌+◌, ◌-◌, ◌<◌, ◌≤◌, List, [], ◌∷◌, ◌++◌, append_assoc, ap, arith, drop, get_or, length, length-append, refl, set, subst, sym, take}
+use Rattle.std.proofs.Common.{add-one, ◌≡◌, ◌∙◌, ℕ, zero, suc, ◌+◌, ◌<◌, ◌≤◌, List, [], ◌∷◌, ◌++◌, ap, arith, drop, get_or, length, length-append, refl, set, subst, sym, take}
 use Rattle.std.specs.List.{flat_map}
 use Rattle.std.proofs.Math.Seq.{take-suc}
 use Rattle.std.proofs.lemmas.Grind.{same_number_lists}
-use Rattle.std.proofs.lemmas.List.{drop_more, get_or-drop, get_or-map, get_or-take, length-take-le, map-append, set_at, take-append-drop}
+use Rattle.std.proofs.lemmas.List.{drop_more, get_or-drop, get_or-map, get_or-take, length-take-le, map-append, set_split, take-append-drop}
 use Rattle.nv_host.specs.Bytes.{bytes_at, with_bytes}
-use Rattle.nv_host.specs.BytesLaws.{length-bytes_at}
+use Rattle.nv_host.specs.BytesLaws.{length-bytes_at, length-with_bytes}
+use Rattle.nv_prp.proofs.RangeLaws.{none_written, with_more}
 use Rattle.nv_prp.specs.Place.{LieIn, places, read_at, span_places, table, written_at}
 use Rattle.nv_prp.specs.PlaceLaws.{get_or-table, length-read_at, length-span_places, length-table}
 use Rattle.nv_prp.specs.declared.spans.Span.{Span}
@@ -59,32 +60,24 @@ written_at-append bytes [] qs (x ∷ xs) ys e = absurd (omega arith)
 written_at-append bytes (p ∷ ps) qs [] ys e = absurd (omega arith)
 written_at-append bytes (p ∷ ps) qs (x ∷ xs) ys e = written_at-append (set bytes p x) ps qs xs ys (omega arith)
 
-with_bytes_more : (bytes : List ℕ) (a : ℕ) (written : List ℕ) (b : ℕ) → a + length written < length bytes
-    → set (with_bytes bytes a written) (a + length written) b ≡ with_bytes bytes a (written ++ b ∷ [])
+one_written : (bytes : List ℕ) (a b : ℕ) → a < length bytes → set bytes a b ≡ with_bytes bytes a (b ∷ [])
 unfolding with_bytes
-with_bytes_more bytes a written b inside =
-    let size : length (take a bytes) ≡ a = length-take-le a bytes (omega arith) in
-    let k = a + length written in
-    let longer : k + 1 ≡ a + length (written ++ b ∷ []) = omega (arith, length-append written (b ∷ [])) in
-    ap (λ l. set l k b) (sym (append_assoc (take a bytes) written (drop k bytes)) ∙ ap (λ l. (take a bytes ++ written) ++ l) (drop_more bytes k 0 inside))
-    ∙ set_at (take a bytes ++ written) (get_or bytes k 0) (drop (k + 1) bytes) b k (length-append (take a bytes) written ∙ ap (λ n. n + length written) size)
-    ∙ append_assoc (take a bytes) written (b ∷ drop (k + 1) bytes)
-    ∙ ap (λ l. take a bytes ++ l) (sym (append_assoc written (b ∷ []) (drop (k + 1) bytes)) ∙ ap (λ n. (written ++ b ∷ []) ++ drop n bytes) longer)
+one_written bytes a b inside = set_split bytes a b inside ∙ ap (λ n. take a bytes ++ b ∷ drop n bytes) (sym (add-one a))
 
 written_range : (bytes : List ℕ) (a n : ℕ) (xs : List ℕ) → n ≤ length xs → a + n ≤ length bytes
     → written_at bytes (table n (λ k. a + k)) (take n xs) ≡ with_bytes bytes a (take n xs)
-unfolding written_at with_bytes
-written_range bytes a zero xs few inside =
-    let none : a + 0 ≡ a = omega arith in
-    sym (ap (λ n. take a bytes ++ drop n bytes) none ∙ take-append-drop a bytes)
+unfolding written_at
+written_range bytes a zero xs few inside = sym (none_written bytes a)
 written_range bytes a (suc n) xs few inside =
-    let size : length (take n xs) ≡ n = length-take-le n xs (omega arith) in
-    let more : take (suc n) xs ≡ take n xs ++ get_or xs n 0 ∷ [] = take-suc xs n 0 (omega arith) in
+    let ys = take n xs in
+    let b = get_or xs n 0 in
+    let size : length ys ≡ n = length-take-le n xs (omega arith) in
+    let more : take (suc n) xs ≡ ys ++ b ∷ [] = take-suc xs n 0 (omega arith) in
     ap (λ l. written_at bytes (table n (λ k. a + k) ++ (a + n) ∷ []) l) more
-    ∙ written_at-append bytes (table n (λ k. a + k)) ((a + n) ∷ []) (take n xs) (get_or xs n 0 ∷ []) (length-table n (λ k. a + k) ∙ sym size)
-    ∙ ap (λ l. set l (a + n) (get_or xs n 0)) (written_range bytes a n xs (omega arith) (omega arith))
-    ∙ ap (λ k. set (with_bytes bytes a (take n xs)) (a + k) (get_or xs n 0)) (sym size)
-    ∙ with_bytes_more bytes a (take n xs) (get_or xs n 0) (omega arith)
+    ∙ written_at-append bytes (table n (λ k. a + k)) ((a + n) ∷ []) ys (b ∷ []) (length-table n (λ k. a + k) ∙ sym size)
+    ∙ (λ i. set (written_range bytes a n xs (omega arith) (omega arith) i) (a + sym size i) b)
+    ∙ one_written (with_bytes bytes a ys) (a + length ys) b (omega (arith, length-with_bytes bytes a ys (omega arith)))
+    ∙ with_more bytes a ys (b ∷ []) (omega arith)
     ∙ sym (ap (λ l. with_bytes bytes a l) more)
 
 -- what is written to a span, and then to the places behind it

@@ -1,35 +1,17 @@
 -- The Qwords of a list, by their numbers.
-use Rattle.std.proofs.Common.{◌≡◌, ◌∙◌, ◌⊎◌, ℕ, zero, suc, ◌+◌, ◌-◌, ◌*◌, ◌/◌, ◌%◌, ◌<◌, ◌≤◌, ◌^◌, ◌&&◌, Bool, true, false, None, ap, arith, if◌then◌else◌, inl, inr, length, nat_lt, refl, sym}
+use Rattle.std.proofs.Common.{◌≡◌, ◌≢◌, ◌∙◌, ◌⊎◌, ℕ, zero, suc, ◌+◌, ◌-◌, ◌*◌, ◌/◌, ◌%◌, ◌<◌, ◌≤◌, ◌^◌, ◌&&◌, Bool, true, false, None, Some, ap, arith, if◌then◌else◌, inl, inr, length, nat_le, nat_lt, refl, subst, sym}
 use Rattle.std.specs.Option.{option_or}
-use Rattle.std.proofs.lemmas.Bool.{cases_lt, le-leb, le-ltb, lt-leb, lt-ltb}
+use Rattle.std.proofs.lemmas.Bool.{cases_lt, cases_order, le-leb, le-ltb, lt-leb, lt-ltb}
+use Rattle.std.proofs.lemmas.Bool.Decides.{nat_tests}
 use Rattle.std.proofs.lemmas.Nat.{div-add-mod'}
 use Rattle.nv_host.specs.Pages.{IsPageSize}
 use Rattle.nv_host.specs.PageLaws.{page_size_bounds, page_size_in_qwords}
-use Rattle.nv_prp.specs.Transfer.{HasList, IsRun, Transfer, data_pages, entry_fault, fault_after_prp1, first_qword_fault, list_qwords, naming_number, naming_qword, page_base, qword, qword_fault, qword_place, room, second_page}
-use Rattle.nv_prp.specs.declared.run.Run.{Run}
+use Rattle.nv_prp.specs.ListWalk.{Comes, IsList, Turn, cursor, cursor_of, used, used_of}
+use Rattle.nv_prp.specs.Transfer.{Transfer, data_pages, entry_fault, fault_after_prp1, first_qword_fault, list_place, list_qwords, naming_number, naming_qword, page_base, qword, qword_fault, qword_place, room, second_page}
+use Rattle.nv_prp.specs.declared.error.PrpError.{PrpError}
 use Rattle.nv_prp.proofs.EntryLaws.{from_no_fault}
-use Rattle.nv_prp.proofs.FaultLaws.{fault_of_list, next_fault}
-
--- ---- which Qword names which data page, in a list whose first page has this room
-
-pub naming_in_first : (space pages n : ℕ) → (n + 1 < space) ⊎ (pages ≤ space + 1) → naming_number space pages (n + 1) ≡ n
-naming_in_first space pages n (inl near) = rw (lt-leb space (n + 1) near) (not_both (nat_lt space (pages - 1)) n)
-  where
-    not_both : (b : Bool) (n : ℕ) → (if b && false then n + 1 else n + 1 - 1) ≡ n
-    not_both true n = omega arith
-    not_both false n = omega arith
-naming_in_first space pages n (inr single) = rw (le-ltb space (pages - 1) (omega arith)) (omega arith)
-
-pub naming_in_second : (space pages n : ℕ) → space + 1 < pages → space ≤ n → naming_number space pages n ≡ n
-naming_in_second space pages n chained far = rw (lt-ltb space (pages - 1) (omega arith), le-leb space n far)
-
-pub place_in_first : (t : Transfer) (n : ℕ) → n < room t → qword_place t n ≡ t.prp2 + 8 * n
-unfolding qword_place
-place_in_first t n near = rw (lt-ltb n (room t) near)
-
-place_in_second : (t : Transfer) (n : ℕ) → room t ≤ n → qword_place t n ≡ second_page t + 8 * (n - room t)
-unfolding qword_place
-place_in_second t n far = rw (le-ltb n (room t) far)
+use Rattle.nv_prp.proofs.FaultLaws.{each_none, fault_of_list, fault_stays, next_fault}
+use Rattle.nv_prp.proofs.PageLaws.{at_most_257}
 
 -- ---- how many Qwords there are up to the page's end
 
@@ -52,49 +34,77 @@ whole_room x size space is even e =
     let below : x % size < size = omega (arith, bounds) in
     (omega arith, omega arith)
 
--- ---- the runs of a list
+-- ---- which Qword names which data page, in a list whose first page has this room
 
-pub first_run : (t : Transfer) (space end : ℕ) → HasList t space → end ≤ space → end + 1 ≤ data_pages t → (end < space) ⊎ (data_pages t ≤ space + 1)
-    → IsRun t record { at = t.prp2; first = 0; end = end; ahead = 1 }
-unfolding naming_qword
-first_run t space end list near below single =
+pub used_rises : (space pages j : ℕ) → j ≤ pages → used space pages j ≤ used space pages pages
+used_rises space pages j most = grind (arith, nat_tests)
+
+pub used_least : (space pages j : ℕ) → j ≤ used space pages (j + 1)
+used_least space pages j = grind (arith, nat_tests)
+
+used_next : (space pages j : ℕ) → 0 < j → used space pages (j + 1) ≡ naming_number space pages j + 1
+used_next space pages j later = grind (arith, nat_tests)
+
+-- data page j is named by the next Qword
+straight : (space first second pages j : ℕ) → 0 < j → j < pages → (j ≡ space → pages ≤ space + 1)
+    → (list_place space first second (naming_number space pages j) ≡ cursor space first second pages j)
+    × (used space pages j ≡ naming_number space pages j)
+    × (cursor space first second pages (j + 1) ≡ cursor space first second pages j + 8)
+straight space first second pages j later below h = (grind (arith, nat_tests), grind (arith, nat_tests), grind (arith, nat_tests))
+
+-- the next Qword is the last one of the first page, and data page j is named by the second one's first Qword
+chained : (space first second pages j : ℕ) → 0 < j → j ≡ space → space + 1 < pages
+    → (list_place space first second (naming_number space pages j) ≡ second) × (naming_number space pages j ≡ j)
+    × (cursor space first second pages (j + 1) ≡ second + 8) × (used space pages j ≡ j - 1)
+    × (cursor space first second pages j ≡ first + 8 * (j - 1))
+chained space first second pages j later last more =
+    (grind (arith, nat_tests), grind (arith, nat_tests), grind (arith, nat_tests), grind (arith, nat_tests), grind (arith, nat_tests))
+
+near : (space first second pages j : ℕ) → (j ≤ space) ⊎ (pages ≤ space + 1) → cursor space first second pages j ≡ first + 8 * (j - 1)
+near space first second pages j h = grind (arith, nat_tests)
+
+far : (space first second pages j : ℕ) → space < j → space + 1 < pages
+    → (cursor space first second pages j ≡ second + 8 * (j - space)) × (used space pages j ≡ j)
+far space first second pages j later more = (grind (arith, nat_tests), grind (arith, nat_tests))
+
+-- ---- a walk over the list
+
+pub is_list : (t : Transfer) → 2 < data_pages t → IsPageSize t.page_size → t.len ≤ 1048576
+    → entry_fault t.page_size (length t.bytes) 8 t.prp2 ≡ None → IsList t
+is_list t many size limit none =
+    let entry = from_no_fault t.page_size (length t.bytes) 8 t.prp2 none in
+    let space = whole_room t.prp2 t.page_size (room t) size entry.0 refl in
     record {
-      many = list.many;
-      some = omega (arith, page_size_bounds t.page_size list.size);
-      later = omega arith;
-      order = omega arith;
-      below = below;
-      few = omega (arith, list.few);
-      inside = omega (arith, list.inside);
-      fits = list.fits;
-      place = λ n _ k. place_in_first t n (omega (arith, list.is_room)) ∙ omega arith;
-      named = λ n _ k. naming_in_first (room t) (data_pages t) n
-          (elim single [ inl more ↦ inl (omega (arith, list.is_room)) | inr one ↦ inr (omega (arith, list.is_room)) ]);
+      many = many;
+      few = at_most_257 t size limit;
+      size = size;
+      some = space.0;
+      prp2 = none;
+      inside = omega (arith, entry.1, space.1);
     }
 
-pub second_run : (t : Transfer) (space second end : ℕ) → HasList t space → space + 1 < data_pages t → second ≡ second_page t → end ≡ data_pages t
-    → entry_fault t.page_size (length t.bytes) t.page_size second ≡ None → IsRun t record { at = second; first = space; end = end; ahead = 0 }
-unfolding naming_qword
-second_run t space second end list chained is all none =
-    let bounds = page_size_bounds t.page_size list.size in
-    let page = from_no_fault t.page_size (length t.bytes) t.page_size second none in
-    record {
-      many = list.many;
-      some = omega (arith, bounds);
-      later = omega (arith, list.some);
-      order = omega arith;
-      below = omega arith;
-      few = omega (arith, list.few);
-      inside = omega (arith, page.0, page.1, list.few, bounds.0);
-      fits = list.fits;
-      place = λ n far _. place_in_second t n (omega (arith, list.is_room)) ∙ omega (arith, is, list.is_room);
-      named = λ n far _.
-          let same : n + 0 ≡ n = omega arith in
-          ap (λ k. naming_number (room t) (data_pages t) k) same
-          ∙ naming_in_second (room t) (data_pages t) n (omega (arith, list.is_room)) (omega (arith, list.is_room));
-    }
+-- the faults of all Qwords are those of the list
+pub list_fault : (t : Transfer) → IsList t → fault_after_prp1 t ≡ first_qword_fault t (used_of t (data_pages t))
+list_fault t list =
+    let all : list_qwords (room t) (data_pages t) ≡ used_of t (data_pages t) = grind (arith, nat_tests) in
+    fault_of_list t list.many ∙ ap (λ o. option_or o (first_qword_fault t (list_qwords (room t) (data_pages t)))) list.prp2
+    ∙ ap (λ n. first_qword_fault t n) all
 
--- ---- from one Qword of a run to the next
+-- a fault at a Qword before data page j's or at it is the list's
+pub fault_found : (t : Transfer) (e : PrpError) (j m : ℕ) → IsList t → j < data_pages t → m ≤ used_of t (j + 1) → first_qword_fault t m ≡ Some e
+    → fault_after_prp1 t ≡ Some e
+fault_found t e j m list below most found =
+    list_fault t list ∙ fault_stays t e m (used_of t (data_pages t)) (omega (arith, used_rises (room t) (data_pages t) (j + 1) (omega arith))) found
+
+pub comes_first : (t : Transfer) → IsList t → Comes t 1 t.prp2
+comes_first t list = record {
+  later = omega arith;
+  here = sym (near (room t) t.prp2 (second_page t) (data_pages t) 1 (inl (omega (arith, list.some))) ∙ omega arith);
+  none = ap (λ n. first_qword_fault t n) (first_used (room t) (data_pages t) list.some);
+}
+  where
+    first_used : (space pages : ℕ) → 0 < space → used space pages 1 ≡ 0
+    first_used space pages some = grind (arith, nat_tests)
 
 pub base_by_list : (t : Transfer) (j : ℕ) → 2 < data_pages t → 0 < j
     → page_base t j ≡ qword t.bytes (qword_place t (naming_qword t j))
@@ -102,43 +112,71 @@ unfolding page_base
 base_by_list t zero many later = absurd (omega arith)
 base_by_list t (suc j) many later = rw (lt-ltb 2 (data_pages t) many)
 
--- Qword n has the next fault and names the next data page
-pub record Step (t : Transfer) (run : Run) (n : ℕ) (entry : ℕ) : Type 0 where
-  pub fault : first_qword_fault t (n + 1) ≡ entry_fault t.page_size (length t.bytes) t.page_size entry
-  pub base : page_base t (n + run.ahead) ≡ entry
+turn : (t : Transfer) (j at : ℕ) → IsList t → 0 < j → list_place (room t) t.prp2 (second_page t) (naming_number (room t) (data_pages t) j) ≡ at
+    → first_qword_fault t (naming_number (room t) (data_pages t) j) ≡ None → cursor_of t (j + 1) ≡ at + 8 → at + 8 ≤ length t.bytes → Turn t j at
+unfolding qword_fault qword_place naming_qword
+turn t j at list later place none next inside = record {
+  fault = next_fault t _ (used_of t (j + 1)) (used_next (room t) (data_pages t) j later) none
+      ∙ ap (λ a. entry_fault t.page_size (length t.bytes) t.page_size (qword t.bytes a)) place;
+  base = base_by_list t j list.many later ∙ ap (λ a. qword t.bytes a) place;
+  next = next;
+  inside = inside;
+}
 
-pub step : (t : Transfer) (run : Run) (n addr : ℕ) → IsRun t run → run.first ≤ n → n < run.end → addr ≡ run.at + 8 * (n - run.first)
-    → first_qword_fault t n ≡ None → Step t run n (qword t.bytes addr)
-unfolding qword_fault
-step t run n addr is low below here none =
-    let place = ap (λ a. qword t.bytes a) (is.place n low below ∙ sym here) in
+-- a page of the memory has room for all Qwords of a list's second page
+in_page : (t : Transfer) (entry n : ℕ) → IsList t → n < data_pages t → entry_fault t.page_size (length t.bytes) t.page_size entry ≡ None
+    → entry + 8 * n + 8 ≤ length t.bytes
+in_page t entry n list below none =
+    let page = from_no_fault t.page_size (length t.bytes) t.page_size entry none in
+    omega (arith, page.0, page.1, list.few, page_size_bounds t.page_size list.size)
+
+pub next_inside : (t : Transfer) (j at : ℕ) → IsList t → Comes t j at → j < data_pages t → at + 8 ≤ length t.bytes
+unfolding qword_fault qword_place
+next_inside t j at list comes below =
+    let low : (j ≤ room t) ⊎ (data_pages t ≤ room t + 1) → at + 8 ≤ length t.bytes = λ h.
+    let here = near (room t) t.prp2 (second_page t) (data_pages t) j h in
+    elim h [ inl less ↦ omega (arith, list.inside, comes.later, comes.here, here) | inr single ↦ omega (arith, list.inside, comes.later, comes.here, here) ] in
+    elim (cases_lt (room t) j) [
+      | inr less ↦ low (inl less)
+      | inl later ↦ elim (cases_lt (room t + 1) (data_pages t)) [
+        | inr single ↦ low (inr single)
+        | inl more ↦
+            let place = far (room t) t.prp2 (second_page t) (data_pages t) j later more in
+            let second : entry_fault t.page_size (length t.bytes) t.page_size (second_page t) ≡ None =
+            rw (lt-ltb (room t - 1) (room t) (omega (arith, list.some))) at
+            (each_none t j (subst (λ n. first_qword_fault t n ≡ None) place.1 comes.none) (room t - 1) (omega (arith, list.some))) in
+            omega (arith, comes.here, place.0, in_page t (second_page t) (j - room t) list (omega arith) second)
+      ]
+    ]
+
+pub turn_here : (t : Transfer) (j at : ℕ) → IsList t → Comes t j at → j < data_pages t → (j ≡ room t → data_pages t ≤ room t + 1) → Turn t j at
+turn_here t j at list comes below h =
+    let next = straight (room t) t.prp2 (second_page t) (data_pages t) j comes.later below h in
+    turn t j at list comes.later (next.0 ∙ sym comes.here) (subst (λ n. first_qword_fault t n ≡ None) next.1 comes.none)
+    (next.2 ∙ ap (λ a. a + 8) (sym comes.here)) (next_inside t j at list comes below)
+
+-- the last Qword of the list's first page holds the address of its second one
+pub record Chain (t : Transfer) (j at : ℕ) : Type 0 where
+  pub fault : first_qword_fault t j ≡ entry_fault t.page_size (length t.bytes) t.page_size (qword t.bytes at)
+  pub is : qword t.bytes at ≡ second_page t
+
+pub chain : (t : Transfer) (j at : ℕ) → Comes t j at → j ≡ room t → room t + 1 < data_pages t → Chain t j at
+unfolding qword_fault qword_place
+chain t j at comes last more =
+    let next = chained (room t) t.prp2 (second_page t) (data_pages t) j comes.later last more in
+    let here : t.prp2 + 8 * (j - 1) ≡ at = sym (comes.here ∙ next.4) in
+    let place : qword_place t (j - 1) ≡ at = rw (lt-ltb (j - 1) (room t) (omega (arith, comes.later))) here in
     record {
-      fault = next_fault t n (n + 1) refl none ∙ ap (λ e. entry_fault t.page_size (length t.bytes) t.page_size e) place;
-      base = base_by_list t (n + run.ahead) is.many (omega (arith, is.later)) ∙ ap (λ k. qword t.bytes (qword_place t k)) (is.named n low below) ∙ place;
+      fault = next_fault t (j - 1) j (omega (arith, comes.later)) (subst (λ n. first_qword_fault t n ≡ None) next.3 comes.none)
+          ∙ ap (λ a. entry_fault t.page_size (length t.bytes) t.page_size (qword t.bytes a)) place;
+      is = ap (λ a. qword t.bytes a) (sym here ∙ ap (λ n. t.prp2 + 8 * (n - 1)) last);
     }
 
--- the last Qword of the first list page has the next fault and holds the second one's address
-pub chain : (t : Transfer) (space addr : ℕ) → HasList t space → addr ≡ t.prp2 + 8 * (space - 1) → first_qword_fault t (space - 1) ≡ None
-    → (first_qword_fault t space ≡ entry_fault t.page_size (length t.bytes) t.page_size (qword t.bytes addr)) × (qword t.bytes addr ≡ second_page t)
-unfolding qword_fault
-chain t space addr list here none =
-    let same : t.prp2 + 8 * (space - 1) ≡ t.prp2 + 8 * (room t - 1) = ap (λ n. t.prp2 + 8 * (n - 1)) list.is_room in
-    let place = place_in_first t (space - 1) (omega (arith, list.is_room, list.some)) ∙ sym here in (
-      next_fault t (space - 1) space (omega (arith, list.some)) none
-          ∙ ap (λ a. entry_fault t.page_size (length t.bytes) t.page_size (qword t.bytes a)) place,
-      ap (λ a. qword t.bytes a) (here ∙ same),
-    )
-
--- ---- the fault of a list
-
-fault_of_qwords : (t : Transfer) (space : ℕ) → HasList t space → fault_after_prp1 t ≡ first_qword_fault t (list_qwords (room t) (data_pages t))
-fault_of_qwords t space list = fault_of_list t list.many ∙ ap (λ o. option_or o (first_qword_fault t (list_qwords (room t) (data_pages t)))) list.address
-
-pub fault_in_one : (t : Transfer) (space n : ℕ) → HasList t space → data_pages t ≤ space + 1 → n + 1 ≡ data_pages t → fault_after_prp1 t ≡ first_qword_fault t n
-fault_in_one t space n list single e =
-    let all : data_pages t - 1 ≡ n = omega arith in
-    fault_of_qwords t space list ∙ rw (le-ltb (room t) (data_pages t - 1) (omega (arith, list.is_room))) (ap (λ k. first_qword_fault t k) all)
-
-pub fault_in_two : (t : Transfer) (space n : ℕ) → HasList t space → space + 1 < data_pages t → n ≡ data_pages t → fault_after_prp1 t ≡ first_qword_fault t n
-fault_in_two t space n list chained e =
-    fault_of_qwords t space list ∙ rw (lt-ltb (room t) (data_pages t - 1) (omega (arith, list.is_room))) (ap (λ k. first_qword_fault t k) (sym e))
+pub turn_behind : (t : Transfer) (j at entry : ℕ) → IsList t → Comes t j at → j ≡ room t → room t + 1 < data_pages t
+    → entry ≡ qword t.bytes at → entry_fault t.page_size (length t.bytes) t.page_size (qword t.bytes at) ≡ None → Turn t j entry
+turn_behind t j at entry list comes last more is none =
+    let link = chain t j at comes last more in
+    let next = chained (room t) t.prp2 (second_page t) (data_pages t) j comes.later last more in
+    let here : second_page t ≡ entry = sym (is ∙ link.is) in
+    turn t j entry list comes.later (next.0 ∙ here) (ap (λ n. first_qword_fault t n) next.1 ∙ link.fault ∙ none)
+    (next.2 ∙ ap (λ a. a + 8) here) (omega (arith, is, in_page t (qword t.bytes at) 0 list (omega arith) none))

@@ -24,26 +24,13 @@ page_begins t j some below =
     omega arith
 
 pub at_least_one : (t : Transfer) → 0 < t.page_size → 0 < t.len → 0 < data_pages t
-at_least_one t some bytes =
-    let span = pages_span t some in
-    elim (cases_lt 0 (data_pages t)) [
-      | inl above ↦ above
-      | inr none ↦
-          let least : data_pages t * t.page_size ≤ 0 * t.page_size = mul-le-mul_right t.page_size none in
-          absurd (omega (arith, span.0))
-    ]
+at_least_one t some bytes = let span = pages_span t some in grind arith
 
 pub at_most_257 : (t : Transfer) → IsPageSize t.page_size → t.len ≤ 1048576 → data_pages t ≤ 257
 at_most_257 t size limit =
     let bounds = page_size_bounds t.page_size size in
     let span = pages_span t (omega (arith, bounds)) in
-    elim (cases_lt 257 (data_pages t)) [
-      | inl many ↦
-          let whole : 258 * t.page_size ≤ data_pages t * t.page_size = mul-le-mul_right t.page_size (omega arith) in
-          let low : offset t < t.page_size = omega (arith, bounds) in
-          absurd (omega (arith, span.1, bounds.0))
-      | inr few ↦ few
-    ]
+    grind arith
 
 -- the place of a byte of page j
 place_in_page : (t : Transfer) (j x : ℕ) → j * t.page_size ≤ offset t + x → offset t + x < j * t.page_size + t.page_size

@@ -1,33 +1,17 @@
 -- The spans of a legal transfer.
 use Rattle.std.proofs.Common.{◌≡◌, ◌∙◌, ℕ, ◌+◌, ◌-◌, ◌*◌, ◌%◌, ◌<◌, ◌≤◌, ap, arith, inl, inr, length, refl, subst, sym}
+use Rattle.std.proofs.lemmas.Bool.Decides.{nat_tests}
 use Rattle.std.proofs.lemmas.Bool.{cases_lt, eq-eqb, le-ltb, lt-ltb}
 use Rattle.nv_prp.specs.Place.{LieIn}
 use Rattle.nv_prp.specs.PlaceLaws.{All-table}
 use Rattle.nv_prp.specs.Transfer.{IsLegal, Transfer, data_pages, list_qwords, naming_number, naming_qword, page_base, prp2_fault, qword, qword_fault, qword_place, qwords, room, span_of, spans_of}
 use Rattle.nv_prp.proofs.EntryLaws.{from_no_fault}
-use Rattle.nv_prp.proofs.ListLaws.{base_by_list, naming_in_first, naming_in_second}
+use Rattle.nv_prp.proofs.ListLaws.{base_by_list}
 use Rattle.nv_prp.proofs.PageLaws.{base_of_two, first_span, later_span}
 
 -- each data page but the first is named by a Qword that is used
 pub naming_used : (space pages j : ℕ) → 2 < pages → 0 < j → j < pages → naming_number space pages j < list_qwords space pages
-naming_used space pages j many later below =
-    let next : j - 1 + 1 ≡ j = omega arith in
-    elim (cases_lt space (pages - 1)) [
-      | inl chained ↦
-          let all : list_qwords space pages ≡ pages = rw (lt-ltb space (pages - 1) chained) in
-          elim (cases_lt j space) [
-            | inl near ↦
-                let is : naming_number space pages j ≡ j - 1 = ap (λ k. naming_number space pages k) (sym next) ∙ naming_in_first space pages (j - 1) (inl (omega arith)) in
-                omega (arith, is, all)
-            | inr far ↦
-                let is : naming_number space pages j ≡ j = naming_in_second space pages j (omega arith) far in
-                omega (arith, is, all)
-          ]
-      | inr single ↦
-          let all : list_qwords space pages ≡ pages - 1 = rw (le-ltb space (pages - 1) single) in
-          let is : naming_number space pages j ≡ j - 1 = ap (λ k. naming_number space pages k) (sym next) ∙ naming_in_first space pages (j - 1) (inr (omega arith)) in
-          omega (arith, is, all)
-    ]
+naming_used space pages j many later below = grind (arith, nat_tests)
 
 -- and is a page of the memory
 later_base : (t : Transfer) (j : ℕ) → IsLegal t → 0 < j → j < data_pages t

@@ -1,15 +1,19 @@
 -- Qwords that are written, and lists of them.
-use Rattle.std.proofs.Common.{◌≡◌, ◌≢◌, ◌∙◌, ◌⊎◌, ℕ, ◌+◌, ◌-◌, ◌*◌, ◌<◌, ◌≤◌, ◌^◌, List, ap, arith, below_more, drop, get_or, inl, inr, length, length-drop, length-take, refl, sym, take}
+use Rattle.std.proofs.Common.{◌≡◌, ◌≢◌, ◌∙◌, ◌⊎◌, ℕ, ◌+◌, ◌-◌, ◌*◌, ◌/◌, ◌%◌, ◌<◌, ◌≤◌, ◌^◌, List, ap, arith, below_more, drop, get_or, inl, inr, length, length-drop, length-take, refl, subst, sym, take}
 use Rattle.std.specs.Int.{from_le_bytes, to_le_bytes, w64}
 use Rattle.std.proofs.Math.Nat.{mul-le-mul_right}
+use Rattle.std.proofs.lemmas.Bool.Decides.{nat_tests}
 use Rattle.std.proofs.lemmas.Bool.{cases_lt, cases_order, le-ltb, lt-ltb}
 use Rattle.std.proofs.lemmas.List.{get_or-drop, get_or-take}
-use Rattle.std.proofs.lemmas.Nat.{from_le_bytes-to_le_bytes_8}
+use Rattle.std.proofs.lemmas.Nat.{from_le_bytes-to_le_bytes_8, mod-mul-add}
 use Rattle.nv_host.specs.Bytes.{bytes_at, with_bytes}
 use Rattle.nv_host.specs.BytesLaws.{bytes_at-with_after, bytes_at-with_before, bytes_at-with_same}
-use Rattle.nv_prp.specs.Buffer.{ChangesOnly, IsApart, IsOutside, NamesPages}
+use Rattle.nv_host.specs.Pages.{IsPageSize}
+use Rattle.nv_host.specs.PageLaws.{page_size_bounds, page_size_in_qwords}
+use Rattle.nv_prp.specs.Buffer.{ChangesOnly, IsApart, IsListPlace, NamesPages}
+use Rattle.nv_prp.proofs.EntryLaws.{multiple_stays}
+use Rattle.nv_prp.proofs.ListLaws.{whole_room}
 use Rattle.nv_prp.specs.Transfer.{list_place, naming_number, qword}
-use Rattle.nv_prp.proofs.ListLaws.{naming_in_first, naming_in_second}
 
 -- ---- one Qword
 
@@ -32,86 +36,115 @@ qword_kept : (addr n other : ℕ) (old new : List ℕ) → ChangesOnly addr n ol
 unfolding qword
 qword_kept addr n other old new others apart = ap (λ l. from_le_bytes w64 l) (others other 8 apart)
 
--- ---- a run of them
+-- ---- where the Qwords of a list lie
 
--- the Qwords from an address on hold the addresses of pages
-abbrev pub HoldsPages : List ℕ → ℕ → List ℕ → ℕ → ℕ → Type 0
-HoldsPages bytes at pages size n = (k : ℕ) → k < n → qword bytes (at + 8 * k) ≡ get_or pages k 0 * size
-
--- one more
-pub one_more : (first old new pages : List ℕ) (at size i addr : ℕ) → addr ≡ at + 8 * i → qword new addr ≡ get_or pages i 0 * size
-    → ChangesOnly addr 8 old new → HoldsPages old at pages size i → ChangesOnly at (8 * i) first old
-    → HoldsPages new at pages size (i + 1) × ChangesOnly at (8 * (i + 1)) first new
-one_more first old new pages at size i addr is here change holds others = (
-  below_more (λ k. qword new (at + 8 * k) ≡ get_or pages k 0 * size) i
-      (λ k below. qword_kept addr 8 (at + 8 * k) old new change (inl (omega arith)) ∙ holds k below)
-      (ap (λ a. qword new a) (sym is) ∙ here),
-  λ from k apart.
-      change from k (elim apart [ inl before ↦ inl (omega arith) | inr after ↦ inr (omega arith) ])
-      ∙ others from k (elim apart [ inl before ↦ inl before | inr after ↦ inr (omega arith) ]),
-)
-
--- ---- a whole list
-
--- part of the pages, from one of them on
-of_part : (bytes : List ℕ) (at a n : ℕ) (pages : List ℕ) (size k : ℕ) → a + n ≤ length pages
-    → HoldsPages bytes at (take n (drop a pages)) size (length (take n (drop a pages))) → k < n → qword bytes (at + 8 * k) ≡ get_or pages (a + k) 0 * size
-of_part bytes at a n pages size k enough holds below =
-    holds k (simp (length-take, length-drop) (omega arith))
-    ∙ ap (λ x. x * size) (get_or-take n (drop a pages) k 0 below ∙ get_or-drop a pages k 0)
-
-pub names_in_one : (bytes : List ℕ) (size room at second : ℕ) (pages : List ℕ) (count : ℕ) → 2 < count → count ≤ room + 1 → count ≤ length pages
-    → HoldsPages bytes at (take (count - 1) (drop 1 pages)) size (length (take (count - 1) (drop 1 pages)))
-    → NamesPages bytes size room at second pages count
-names_in_one bytes size room at second pages count many single enough holds = record {
-  chain = λ chained. absurd (omega arith);
-  each = λ j later below.
-      let next : j - 1 + 1 ≡ j = omega arith in
-      let number : naming_number room count j ≡ j - 1 = ap (λ k. naming_number room count k) (sym next) ∙ naming_in_first room count (j - 1) (inr single) in
-      let turned : 1 + (j - 1) ≡ j = omega arith in
-      ap (λ n. qword bytes (list_place room at second n)) number
-      ∙ rw (lt-ltb (j - 1) room (omega arith)) (of_part bytes at 1 (count - 1) pages size (j - 1) (omega arith) holds (omega arith)
-      ∙ ap (λ k. get_or pages k 0 * size) turned);
-}
-
-pub names_in_two : (b1 b2 b3 : List ℕ) (size room at second : ℕ) (pages : List ℕ) (count : ℕ) → 0 < room → room + 1 < count → count ≤ length pages
-    → IsApart second (8 * (count - room)) at (8 * room)
-    → HoldsPages b1 at (take (room - 1) (drop 1 pages)) size (length (take (room - 1) (drop 1 pages)))
-    → qword b2 (at + 8 * (room - 1)) ≡ second → ChangesOnly (at + 8 * (room - 1)) 8 b1 b2
-    → HoldsPages b3 second (take (count - room) (drop room pages)) size (length (take (count - room) (drop room pages)))
-    → ChangesOnly second (8 * length (take (count - room) (drop room pages))) b2 b3 → NamesPages b3 size room at second pages count
-names_in_two b1 b2 b3 size room at second pages count some chained enough apart first chain between rest after =
-    let part : length (take (count - room) (drop room pages)) ≡ count - room = simp (length-take, length-drop) (omega arith) in
-    let kept : (n : ℕ) → n < room → qword b3 (at + 8 * n) ≡ qword b2 (at + 8 * n) = λ n below.
-    qword_kept second (8 * length (take (count - room) (drop room pages))) (at + 8 * n) b2 b3 after (elim apart [ inl before ↦ inl (omega arith) | inr behind ↦ inr (omega arith) ]) in
-    record {
-      chain = λ _. kept (room - 1) (omega arith) ∙ chain;
-      each = λ j later below. elim (cases_lt j room) [
-        | inl near ↦
-            let next : j - 1 + 1 ≡ j = omega arith in
-            let number : naming_number room count j ≡ j - 1 = ap (λ k. naming_number room count k) (sym next)
-            ∙ naming_in_first room count (j - 1) (inl (omega arith)) in
-            let turned : 1 + (j - 1) ≡ j = omega arith in
-            ap (λ n. qword b3 (list_place room at second n)) number
-            ∙ rw (lt-ltb (j - 1) room (omega arith)) (kept (j - 1) (omega arith)
-            ∙ qword_kept (at + 8 * (room - 1)) 8 (at + 8 * (j - 1)) b1 b2 between (inl (omega arith))
-            ∙ of_part b1 at 1 (room - 1) pages size (j - 1) (omega arith) first (omega arith)
-            ∙ ap (λ k. get_or pages k 0 * size) turned)
-        | inr far ↦
-            let turned : room + (j - room) ≡ j = omega arith in
-            ap (λ n. qword b3 (list_place room at second n)) (naming_in_second room count j chained far)
-            ∙ rw (le-ltb j room far) (of_part b3 second room (count - room) pages size (j - room) (omega arith) rest (omega arith)
-            ∙ ap (λ k. get_or pages k 0 * size) turned)
-      ];
-    }
-
--- ---- bytes of pages
+-- a list in two pages, by their addresses
+pub record Lies (size space start first second : ℕ) : Type 0 where
+  pub low : first ≤ start
+  pub whole : start + 8 * space ≡ first + size
+  pub some : 0 < space
+  pub large : 4096 ≤ size
+  pub apart : (first + size ≤ second) ⊎ (second + size ≤ first)
 
 -- two pages share no byte
-pub pages_apart : (size a b : ℕ) → a ≢ b → (a * size + size ≤ b * size) ⊎ (b * size + size ≤ a * size)
+pages_apart : (size a b : ℕ) → a ≢ b → (a * size + size ≤ b * size) ⊎ (b * size + size ≤ a * size)
 pages_apart size a b other =
     elim (cases_order a b) [
       | inl same ↦ absurd (other same)
       | inr (inl below) ↦ let next : (a + 1) * size ≤ b * size = mul-le-mul_right size (omega arith) in inl (omega arith)
       | inr (inr above) ↦ let next : (b + 1) * size ≤ a * size = mul-le-mul_right size (omega arith) in inr (omega arith)
     ]
+
+-- a list's address is a multiple of 8
+pub list_even : (bytes : List ℕ) (size first second offset start : ℕ) → IsPageSize size → IsListPlace bytes size first second offset
+    → start ≡ first * size + offset → start % 8 ≡ 0
+list_even bytes size first second offset start is place at =
+    ap (λ n. n % 8) at ∙ multiple_stays first size offset 8 (page_size_in_qwords size is) ∙ place.aligned
+
+pub lies_at : (bytes : List ℕ) (size first second offset start space : ℕ) → IsPageSize size → IsListPlace bytes size first second offset
+    → first ≢ second → start ≡ first * size + offset → space ≡ (size - start % size) / 8 → Lies size space start (first * size) (second * size)
+lies_at bytes size first second offset start space is place other at room =
+    let rest : start % size ≡ offset = ap (λ n. n % size) at ∙ mod-mul-add first size offset place.below in
+    let ends = whole_room start size space is (list_even bytes size first second offset start is place at) room in
+    record {
+      low = omega arith;
+      whole = omega (arith, ends.1, rest);
+      some = ends.0;
+      large = (page_size_bounds size is).0;
+      apart = pages_apart size first second other;
+    }
+
+-- n bytes lie in one of the pages
+abbrev pub IsWithin : ℕ → ℕ → ℕ → ℕ → ℕ → Type 0
+IsWithin size first second addr n = ((first ≤ addr) × (addr + n ≤ first + size)) ⊎ ((second ≤ addr) × (addr + n ≤ second + size))
+
+pub within_memory : (bytes : List ℕ) (size first second offset addr n : ℕ) → IsListPlace bytes size first second offset
+    → IsWithin size (first * size) (second * size) addr n → addr + n ≤ length bytes
+within_memory bytes size first second offset addr n place (inl here) = omega (arith, here.1, place.has_first)
+within_memory bytes size first second offset addr n place (inr here) = omega (arith, here.1, place.has_second)
+
+-- the Qword that names data page j
+abbrev pub naming_place : ℕ → ℕ → ℕ → ℕ → ℕ → ℕ
+naming_place space start second count j = list_place space start second (naming_number space count j)
+
+pub place_within : (size space start first second count j : ℕ) → Lies size space start first second → count ≤ 257 → 0 < j → j < count
+    → IsWithin size first second (naming_place space start second count j) 8
+place_within size space start first second count j lies few later below = grind (arith, nat_tests)
+
+-- and so does the last one of the first page
+pub chain_within : (size space start first second : ℕ) → Lies size space start first second → IsWithin size first second (start + 8 * (space - 1)) 8
+chain_within size space start first second lies = inl (omega (arith, lies.low), omega (arith, lies.whole, lies.some))
+
+-- two of them share no byte
+places_apart : (size space start first second count j k : ℕ) → Lies size space start first second → count ≤ 257 → 0 < k → k < j → j < count
+    → IsApart (naming_place space start second count j) 8 (naming_place space start second count k) 8
+places_apart size space start first second count j k lies few later before below = grind (arith, nat_tests)
+
+-- the last Qword of the first page names none, where the list goes on
+chain_apart : (size space start first second count k : ℕ) → Lies size space start first second → count ≤ 257 → space + 1 < count → 0 < k → k < count
+    → IsApart (start + 8 * (space - 1)) 8 (naming_place space start second count k) 8
+chain_apart size space start first second count k lies few chained later below = grind (arith, nat_tests)
+
+-- ---- a list that is written
+
+-- the first Qwords name their data pages
+abbrev pub HasNamed : List ℕ → ℕ → ℕ → ℕ → ℕ → List ℕ → ℕ → ℕ → Type 0
+HasNamed bytes size space start second pages count n = (j : ℕ) → 0 < j → j < n → qword bytes (naming_place space start second count j) ≡ get_or pages j 0 * size
+
+pub one_named : (old new : List ℕ) (size space start first second : ℕ) (pages : List ℕ) (count j at : ℕ) → Lies size space start first second
+    → count ≤ 257 → 0 < j → j < count → at ≡ naming_place space start second count j → HasNamed old size space start second pages count j
+    → qword new at ≡ get_or pages j 0 * size → ChangesOnly at 8 old new → HasNamed new size space start second pages count (j + 1)
+one_named old new size space start first second pages count j at lies few later below is named here others k after before =
+    let place = naming_place space start second count in
+    elim (cases_lt k j) [
+      | inl less ↦
+          qword_kept (place j) 8 (place k) old new (subst (λ a. ChangesOnly a 8 old new) is others)
+          (places_apart size space start first second count j k lies few after less below)
+          ∙ named k after less
+      | inr last ↦
+          let same : k ≡ j = omega arith in
+          ap (λ i. qword new (place i)) same ∙ ap (λ a. qword new a) (sym is) ∙ here ∙ ap (λ i. get_or pages i 0 * size) (sym same)
+    ]
+
+pub chain_names : (old new : List ℕ) (size space start first second : ℕ) (pages : List ℕ) (count at : ℕ) → Lies size space start first second
+    → count ≤ 257 → space + 1 < count → at ≡ start + 8 * (space - 1) → HasNamed old size space start second pages count count
+    → qword new at ≡ second → ChangesOnly at 8 old new → NamesPages new size space start second pages count
+chain_names old new size space start first second pages count at lies few chained is named here others = record {
+  chain = λ _. ap (λ a. qword new a) (sym is) ∙ here;
+  each = λ j later below.
+      qword_kept at 8 (naming_place space start second count j) old new others
+      (subst (λ a. IsApart a 8 (naming_place space start second count j) 8) (sym is) (chain_apart size space start first second count j lies few chained later below))
+      ∙ named j later below;
+}
+
+-- bytes outside of the pages stay, where only bytes in them change
+pub outside_kept : (size first second addr n : ℕ) (all old new : List ℕ) → IsWithin size first second addr n
+    → ((from k : ℕ) → IsApart first size from k → IsApart second size from k → bytes_at old from k ≡ bytes_at all from k)
+    → ChangesOnly addr n old new
+    → (from k : ℕ) → IsApart first size from k → IsApart second size from k → bytes_at new from k ≡ bytes_at all from k
+outside_kept size first second addr n all old new within kept others from k apart behind =
+    others from k (elim within [
+      | inl in_first ↦ elim apart [ inl before ↦ inl (omega (arith, in_first.0)) | inr after ↦ inr (omega (arith, in_first.1)) ]
+      | inr in_second ↦ elim behind [ inl before ↦ inl (omega (arith, in_second.0)) | inr after ↦ inr (omega (arith, in_second.1)) ]
+    ])
+    ∙ kept from k apart behind

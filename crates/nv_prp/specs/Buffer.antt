@@ -3,7 +3,7 @@ use Rattle.std.specs.Prelude.{◌≡◌, ℕ, ◌+◌, ◌-◌, ◌*◌, ◌/◌
 use Rattle.nv_host.specs.Bytes.{bytes_at}
 use Rattle.nv_host.specs.Pages.{HasPage}
 use Rattle.nv_prp.specs.Place.{AreDistinct, table}
-use Rattle.nv_prp.specs.Transfer.{Transfer, list_place, naming_number, place_of, qword, transfer_places}
+use Rattle.nv_prp.specs.Transfer.{IsLegal, Transfer, data_pages, list_place, naming_number, place_of, qword, transfer_places}
 
 -- the place of byte i of a buffer: its pages by their numbers, and where it begins in the first one
 unfoldable pub buffer_place : ℕ → List ℕ → ℕ → ℕ → ℕ
@@ -55,6 +55,23 @@ pub record NamesPages (bytes : List ℕ) (page_size room first second : ℕ) (pa
   pub chain : room < count - 1 → qword bytes (first + 8 * (room - 1)) ≡ second
   pub each : (j : ℕ) → 0 < j → j < count
       → qword bytes (list_place room first second (naming_number room count j)) ≡ slice_index pages j * page_size
+
+-- ---- what a transfer that was built is
+
+-- a legal transfer of a buffer's bytes
+pub record IsFor (t : Transfer) (pages : List ℕ) (start : ℕ) : Type 0 where
+  pub legal : IsLegal t
+  pub places : (i : ℕ) → i < t.len → place_of t i ≡ buffer_place t.page_size pages start i
+
+-- a later memory is as large, and has the same bytes in the list's pages where the transfer has a list
+pub record KeepsList (t : Transfer) (first second : ℕ) (later : List ℕ) : Type 0 where
+  pub len : length later ≡ length t.bytes
+  pub in_first : 2 < data_pages t → bytes_at later (first * t.page_size) t.page_size ≡ bytes_at t.bytes (first * t.page_size) t.page_size
+  pub in_second : 2 < data_pages t → bytes_at later (second * t.page_size) t.page_size ≡ bytes_at t.bytes (second * t.page_size) t.page_size
+
+-- over each such memory it is a legal transfer of the buffer's bytes
+abbrev pub StaysFor : Transfer → List ℕ → ℕ → ℕ → ℕ → Type 0
+StaysFor t pages start first second = (later : List ℕ) → KeepsList t first second later → IsFor (record t { bytes = later }) pages start
 
 -- ---- laws
 

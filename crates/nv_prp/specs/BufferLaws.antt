@@ -1,11 +1,11 @@
 -- What buffers and lists keep while a memory changes, and the places of a buffer.
-use Rattle.std.proofs.Common.{◌≡◌, ◌∙◌, ◌⊎◌, ℕ, suc, ◌+◌, ◌-◌, ◌*◌, ◌/◌, ◌%◌, ◌<◌, ◌≤◌, List, ◌∷◌, ap, arith, get_or, inl, inr, length, subst, sym}
+use Rattle.std.proofs.Common.{◌≡◌, ℕ, suc, ◌+◌, ◌*◌, ◌/◌, ◌%◌, ◌<◌, ◌≤◌, List, ◌∷◌, arith, get_or, inl, inr, length, subst, sym}
 use Rattle.std.proofs.Math.Nat.{mul-le-mul_right}
 use Rattle.std.proofs.lemmas.Bool.{cases_lt}
 use Rattle.std.proofs.lemmas.Nat.{div-add-mod', div_below, same_from_place}
 use Rattle.nv_host.specs.Pages.{HasPage}
 use Rattle.nv_prp.specs.Buffer.{IsBuffer, IsListPlace, buffer_place, buffer_places}
-use Rattle.nv_prp.specs.Place.{AreDistinct, table}
+use Rattle.nv_prp.specs.Place.{AreDistinct}
 use Rattle.nv_prp.specs.PlaceLaws.{table-same, table_distinct}
 use Rattle.nv_prp.specs.Transfer.{Transfer, place_of, transfer_places}
 

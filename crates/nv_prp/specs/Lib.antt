@@ -1,5 +1,6 @@
 pub mod Place
 pub mod PlaceLaws
 pub mod Transfer
+pub mod ListWalk
 pub mod Buffer
 pub mod BufferLaws

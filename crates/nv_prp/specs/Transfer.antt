@@ -9,7 +9,6 @@ use Rattle.nv_prp.specs.declared.error.PrpError.{PrpError}
 use Rattle.nv_prp.specs.declared.error.PrpError.TheVariants.{Offset, Outside}
 use Rattle.nv_prp.specs.declared.pointer.DataPointer.{DataPointer}
 use Rattle.nv_prp.specs.declared.spans.Span.{Span}
-use Rattle.nv_prp.specs.declared.run.Run.{Run}
 
 pub record Transfer : Type 0 where
   pub page_size : ℕ
@@ -47,7 +46,7 @@ list_qwords room pages = if nat_lt room (pages - 1) then pages else pages - 1
 -- the Qword of a list that holds data page j's address, j from 1 on: in a list of two pages the last Qword of the
 -- first one holds the second one's address, and those after it are one number ahead
 abbrev pub naming_number : ℕ → ℕ → ℕ → ℕ
-naming_number room pages j = if nat_lt room (pages - 1) && nat_le room j then j else j - 1
+naming_number room pages j = if nat_le room j && nat_lt room (pages - 1) then j else j - 1
 
 -- the place of Qword n of a list that goes on in a second page where the first one's room ends
 abbrev pub list_place : ℕ → ℕ → ℕ → ℕ → ℕ
@@ -137,6 +136,10 @@ pub record IsLegal (t : Transfer) : Type 0 where
 abbrev pub HasFault : {X : Type 0} → Result X PrpError → Option PrpError → Type 0
 HasFault result fault = MatchResult result (λ _. fault ≡ None) (λ e. fault ≡ Some e)
 
+-- a walk ended with the fault, or without one and with the spans of all data pages
+abbrev pub HasWalked : {X : Type 0} → Transfer → Option PrpError → Result X PrpError → List Span → Type 0
+HasWalked t fault result spans = MatchResult result (λ _. (fault ≡ None) × (spans ≡ spans_of t)) (λ e. fault ≡ Some e)
+
 -- the fault at the first of the n Qwords that has one
 abbrev pub first_qword_fault : Transfer → ℕ → Option PrpError
 first_qword_fault t zero = None
@@ -149,31 +152,3 @@ fault_after_prp1 t = option_or (prp2_fault t) (first_qword_fault t (qwords t))
 -- the fault at the first place, in the order PRP1, PRP2, then the Qwords in the order of use
 unfoldable pub first_fault : Transfer → Option PrpError
 first_fault t = option_or (prp1_fault t) (fault_after_prp1 t)
-
--- ---- the list of more than two data pages
-
--- the list's address has no fault, and there are so many Qwords from it to the end of its page
-pub record HasList (t : Transfer) (space : ℕ) : Type 0 where
-  pub many : 2 < data_pages t
-  pub few : data_pages t ≤ 257
-  pub size : IsPageSize t.page_size
-  pub is_room : space ≡ room t
-  pub some : 0 < space
-  pub address : entry_fault t.page_size (length t.bytes) 8 t.prp2 ≡ None
-  pub inside : t.prp2 + 8 * space ≤ length t.bytes
-  pub fits : length t.bytes < 2 ^ 64
-
--- ---- a run: Qwords of the list that follow one another in one page
-
--- Qword n of the run holds the address of data page n + ahead
-pub record IsRun (t : Transfer) (run : Run) : Type 0 where
-  pub many : 2 < data_pages t
-  pub some : 0 < t.page_size
-  pub later : 0 < run.first + run.ahead
-  pub order : run.first ≤ run.end
-  pub below : run.end + run.ahead ≤ data_pages t
-  pub few : run.end + run.ahead ≤ 257
-  pub inside : run.at + 8 * (run.end - run.first) ≤ length t.bytes
-  pub fits : length t.bytes < 2 ^ 64
-  pub place : (n : ℕ) → run.first ≤ n → n < run.end → qword_place t n ≡ run.at + 8 * (n - run.first)
-  pub named : (n : ℕ) → run.first ≤ n → n < run.end → naming_qword t (n + run.ahead) ≡ n

@@ -1,13 +1,12 @@
 //! Transfers built for a buffer in pages.
 
 ghost use Rattle.std.specs.Prelude.{◌≡◌, ◌≢◌, ℕ, ◌+◌, ◌-◌, ◌*◌, ◌/◌, ◌%◌, ◌<◌, ◌≤◌, ◌^◌, ◌∷◌, length};
-ghost use Rattle.nv_prp.specs.Buffer.{IsBuffer, IsListPlace, KeepsOutside, NamesPages, buffer_place};
+ghost use Rattle.nv_prp.specs.Buffer.{IsBuffer, IsListPlace, KeepsOutside, NamesPages, StaysFor, buffer_place};
 ghost use Rattle.nv_prp.specs.Place.{AreDistinct};
 ghost use Rattle.nv_prp.specs.Transfer.{IsLegal, data_pages as pages_of, place_of, transfer};
 
 use crate::entry::store_qword;
-use crate::pointer::{DataPointer, qwords_in_page};
-use crate::run::{page_address, write_run};
+use crate::pointer::{DataPointer, ListShape, page_address, qwords_in_page};
 use nv_host::{HostMemory, PageNo};
 
 /// A buffer in pages of the memory.
@@ -34,7 +33,8 @@ pub struct ListPlace {
 /// 1 to 1,048,576 of them. Section "Physical Region Page Entry and List".
 ///
 /// PRP2 is 0 for one data page, the second page's address for two, and the list's address for more.
-/// Then the list is written, and bytes outside its two pages stay.
+/// Then the list is written, and bytes outside its two pages stay. While the bytes in these pages
+/// stay, the transfer does, whatever else of the memory changes.
 ///
 /// All pages lie in the memory, those of the list too, whether a list is written or not; no two of
 /// them are one. The offsets are multiples of 4 (the buffer) and 8 (the list) below the page size,
@@ -53,6 +53,8 @@ pub fn build<M: HostMemory>(mem: &mut M, buffer: &Buffer, list: &ListPlace, len:
         (M.bytes mem.new) result.0 result.1 len in
         (i : ℕ) → i < len → place_of t i ≡ buffer_place
         (M.page_len mem.new) buffer.now.pages.now buffer.now.offset i }
+    ensures stays { StaysFor (transfer (M.page_len mem.new) (M.bytes mem.new) result.0 result.1 len)
+        buffer.now.pages.now buffer.now.offset list.now.first list.now.second }
     // of one data page PRP2 has no meaning
     ensures no_prp2 { let t = transfer (M.page_len mem.new)
         (M.bytes mem.new) result.0 result.1 len in
@@ -69,13 +71,13 @@ pub fn build<M: HostMemory>(mem: &mut M, buffer: &Buffer, list: &ListPlace, len:
     match pointer.data_pages(mem) {
         1 => (prp1, 0),
         2 => (prp1, page_address(mem, buffer.pages[1])),
-        count => (prp1, write_list(mem, buffer.pages, list, count as usize)),
+        count => (prp1, write_list(mem, buffer.pages, list, count)),
     }
 }
 
 /// Writes the addresses of a buffer's data pages but the first, and that of the second list page
 /// where there is one. The result is the list's address.
-fn write_list<M: HostMemory>(mem: &mut M, pages: &[PageNo], list: &ListPlace, count: usize) -> u64
+fn write_list<M: HostMemory>(mem: &mut M, pages: &[PageNo], list: &ListPlace, count: u32) -> u64
     requires few { count ≤ 257 }
     requires many { 2 < count }
     requires enough { count ≤ length pages.now }
@@ -91,28 +93,18 @@ fn write_list<M: HostMemory>(mem: &mut M, pages: &[PageNo], list: &ListPlace, co
     ensures len { length (M.bytes mem.new) ≡ length (M.bytes mem.old) }
     ensures page { M.page_len mem.new ≡ M.page_len mem.old }
 {
-    let at = list_address(mem, list);
-    let room = qwords_in_page(mem, at) as usize;
-    if count <= room + 1 {
-        write_run(mem, at, &pages[1..count]);
-    } else {
-        let second = page_address(mem, list.second);
-        write_run(mem, at, &pages[1..room]);
-        store_qword(mem, at + 8 * (room - 1) as u64, second);
-        write_run(mem, second, &pages[room..count]);
+    let start = page_address(mem, list.first) + u64::from(list.offset);
+    let second = page_address(mem, list.second);
+    let shape = ListShape {
+        room: qwords_in_page(mem, start),
+        pages: count,
+    };
+    for page in 1..count {
+        let address = page_address(mem, pages[page as usize]);
+        store_qword(mem, shape.naming_qword(start, second, page), address);
     }
-    at
-}
-
-/// The address of a list's first Qword.
-fn list_address<M: HostMemory>(mem: &M, list: &ListPlace) -> u64
-    requires { IsListPlace (M.bytes mem.now) (M.page_len mem.now) list.now.first list.now.second
-        list.now.offset }
-    ensures value { result ≡ list.now.first * M.page_len mem.now + list.now.offset }
-    ensures rest { result % M.page_len mem.now ≡ list.now.offset }
-    ensures aligned { result % 8 ≡ 0 }
-    ensures small { result ≤ 2 ^ 49 }
-    ensures size { 4096 ≤ M.page_len mem.now }
-{
-    page_address(mem, list.first) + u64::from(list.offset)
+    if shape.has_second_page() {
+        store_qword(mem, start + 8 * u64::from(shape.room - 1), second);
+    }
+    start
 }

@@ -5,7 +5,8 @@ ghost use Rattle.std.specs.Prelude.{◌≡◌, length};
 ghost use Rattle.nv_prp.specs.Place.{LieIn, places, read_at, written_at};
 
 use crate::Spans;
-use nv_host::{HostMemory, load_inside, store_inside};
+use crate::range::{read_range, write_range};
+use nv_host::HostMemory;
 
 /// Data from the controller to the host: writes the source's bytes to the memory's spans. Of two
 /// bytes for one place the later one stays.
@@ -21,7 +22,7 @@ pub fn copy_out<M: HostMemory>(mem: &mut M, spans: &Spans, source: &[u8])
     let mut at = 0;
     for span in spans.as_slice() {
         let end = at + span.len as usize;
-        store_inside(mem, span.address, &source[at..end]);
+        write_range(mem, span.address, &source[at..end]);
         at = end;
     }
 }
@@ -37,7 +38,7 @@ pub fn copy_in<M: HostMemory>(mem: &M, spans: &Spans, out: &mut [u8])
     let mut at = 0;
     for span in spans.as_slice() {
         let end = at + span.len as usize;
-        load_inside(mem, span.address, &mut out[at..end]);
+        read_range(mem, span.address, &mut out[at..end]);
         at = end;
     }
 }

@@ -28,7 +28,7 @@ mod entry;
 mod error;
 mod law;
 mod pointer;
-mod run;
+mod range;
 mod spans;
 #[cfg(test)]
 mod tests;

@@ -332,3 +332,28 @@ fn spans_and_errors_are_printed(rt: HostRuntime) {
     };
     assert_eq!(rt; shown.as_str(), "PRP offset invalid, outside the memory");
 }
+
+#[test]
+#[tactic(auto, unfolding(nv_host::specs::Pages::IsPageSize))]
+fn spans_of_large_pages_are_cut_at_the_ends_of_small_ones(rt: HostRuntime) {
+    let Ok(large) = FlatMemory::new(rt.alloc(), 8192, 2) else {
+        assert!(rt; false, "out of memory");
+        return;
+    };
+    let Ok(mut small) = FlatMemory::new(rt.alloc(), 4096, 4) else {
+        assert!(rt; false, "out of memory");
+        return;
+    };
+    let mut spans = Spans::new();
+    let Ok(()) = walk(&large, 0x0ffc, 0, 8, &mut spans) else {
+        assert!(rt; false, "a legal transfer");
+        return;
+    };
+    copy_out(&mut small, &spans, &[1, 2, 3, 4, 5, 6, 7, 8]);
+    let mut around = [9; 12];
+    assert_eq!(rt; small.load(0x0ffa, &mut around), Ok(()));
+    assert_eq!(rt; around, [0, 0, 1, 2, 3, 4, 5, 6, 7, 8, 0, 0]);
+    let mut read = [0; 8];
+    copy_in(&small, &spans, &mut read);
+    assert_eq!(rt; read, [1, 2, 3, 4, 5, 6, 7, 8]);
+}

@@ -1,13 +1,13 @@
 //! The walk over a transfer's entries.
 
-ghost use Rattle.std.specs.Prelude.{◌≡◌, ◌+◌, ◌-◌, ◌%◌, ◌/◌, ◌*◌, ◌<◌, ◌≤◌, ◌↔◌, ◌∷◌, [], IfErr, IfOk, IsOk, OnErr, OnOk, length};
+ghost use Rattle.std.specs.Prelude.{◌≡◌, ◌+◌, ◌-◌, ◌%◌, ◌/◌, ◌*◌, ◌<◌, ◌≤◌, ◌↔◌, ◌∷◌, [], IfErr, IfOk, IsOk, OnErr, OnOk, Some, length};
 ghost use Rattle.nv_host.specs.Pages.{IsPageSize};
+ghost use Rattle.nv_prp.specs.ListWalk.{Comes, IsList, Turn};
 ghost use Rattle.nv_prp.specs.Place.{LieIn, places, table};
-ghost use Rattle.nv_prp.specs.Transfer.{HasFault, HasList, IsLegal, data_pages as pages_of, entry_fault, fault_after_prp1, first_fault, span_of, spans_of, transfer, transfer_of, transfer_places};
+ghost use Rattle.nv_prp.specs.Transfer.{HasWalked, IsLegal, data_pages as pages_of, fault_after_prp1, first_fault, room, span_of, spans_of, transfer, transfer_of, transfer_places};
 
 use crate::entry::{check, check_page, load_page_address};
-use crate::pointer::{DataPointer, qwords_in_page};
-use crate::run::{Run, walk_run};
+use crate::pointer::{DataPointer, ListShape, qwords_in_page};
 use crate::{PrpError, Spans};
 use nv_host::HostMemory;
 
@@ -61,11 +61,8 @@ fn walk_entries<M: HostMemory>(
     requires limit { pointer.len ≤ 1048576 }
     requires empty { spans.old ≡ [] }
     ensures size { OnOk result (IsPageSize (M.page_len mem.now)) }
-    ensures fault { let fault = first_fault (transfer_of (M.page_len mem.now)
-        (M.bytes mem.now) pointer) in
-        HasFault result fault }
-    ensures spans { OnOk result (spans.new ≡ spans_of (transfer_of (M.page_len mem.now)
-        (M.bytes mem.now) pointer)) }
+    ensures walked { let t = transfer_of (M.page_len mem.now) (M.bytes mem.now) pointer in
+        HasWalked t (first_fault t) result spans.new }
 {
     check(mem, 4, pointer.prp1)?;
     spans.push(pointer.span(mem, 0, pointer.prp1));
@@ -92,62 +89,46 @@ fn walk_list<M: HostMemory>(
     requires many { 2 < pages }
     requires first { let t = transfer_of (M.page_len mem.now) (M.bytes mem.now) pointer in
         spans.old ≡ table 1 (span_of t) }
-    ensures fault { let fault = fault_after_prp1 (transfer_of (M.page_len mem.now)
-        (M.bytes mem.now) pointer) in
-        HasFault result fault }
-    ensures spans { OnOk result (spans.new ≡ spans_of (transfer_of (M.page_len mem.now)
-        (M.bytes mem.now) pointer)) }
-{
-    let room = list_room(mem, pointer)?;
-    if pages <= room + 1 {
-        return walk_run(
-            mem,
-            pointer,
-            Run {
-                at: pointer.prp2,
-                first: 0,
-                end: pages - 1,
-                ahead: 1,
-            },
-            spans,
-        );
-    }
-    let chain = room - 1;
-    walk_run(
-        mem,
-        pointer,
-        Run {
-            at: pointer.prp2,
-            first: 0,
-            end: chain,
-            ahead: 1,
-        },
-        spans,
-    )?;
-    let second = load_page_address(mem, pointer.prp2 + 8 * u64::from(chain))?;
-    walk_run(
-        mem,
-        pointer,
-        Run {
-            at: second,
-            first: room,
-            end: pages,
-            ahead: 0,
-        },
-        spans,
-    )
-}
-
-/// How many Qwords there are from the list's address to the end of its page.
-fn list_room<M: HostMemory>(mem: &M, pointer: DataPointer) -> Result<u32, PrpError>
-    requires limit { pointer.len ≤ 1048576 }
-    requires many { 2 < pages_of (transfer_of (M.page_len mem.now) (M.bytes mem.now) pointer) }
-    ensures list { IfOk result (λ room. HasList (transfer_of (M.page_len mem.now)
-        (M.bytes mem.now) pointer) room) }
-    ensures fault { let fault = entry_fault (M.page_len mem.now) (length
-        (M.bytes mem.now)) 8 pointer.prp2 in
-        HasFault result fault }
+    ensures { let t = transfer_of (M.page_len mem.now) (M.bytes mem.now) pointer in
+        HasWalked t (fault_after_prp1 t) result spans.new }
 {
     check(mem, 8, pointer.prp2)?;
-    Ok(qwords_in_page(mem, pointer.prp2))
+    let list = ListShape {
+        room: qwords_in_page(mem, pointer.prp2),
+        pages,
+    };
+    let mut next = pointer.prp2;
+    for page in 1..pages {
+        let at = naming_qword(mem, pointer, list, page, next)?;
+        let address = load_page_address(mem, at)?;
+        spans.push(pointer.span(mem, page, address));
+        next = at + 8;
+    }
+    Ok(())
+}
+
+/// Where the Qword lies that names a data page. `next` is where the Qword lies that follows those
+/// that were used.
+fn naming_qword<M: HostMemory>(
+    mem: &M,
+    pointer: DataPointer,
+    list: ListShape,
+    page: u32,
+    next: u64,
+) -> Result<u64, PrpError>
+    requires list { IsList (transfer_of (M.page_len mem.now) (M.bytes mem.now) pointer) }
+    requires room { list.room ≡ room (transfer_of (M.page_len mem.now) (M.bytes mem.now) pointer) }
+    requires pages { list.pages ≡ pages_of (transfer_of (M.page_len mem.now) (M.bytes mem.now) pointer) }
+    requires below { page < list.pages }
+    requires comes { Comes (transfer_of (M.page_len mem.now) (M.bytes mem.now) pointer) page next }
+    ensures turn { let t = transfer_of (M.page_len mem.now) (M.bytes mem.now) pointer in
+        IfOk result (λ at. Turn t page at) }
+    ensures fault { let t = transfer_of (M.page_len mem.now) (M.bytes mem.now) pointer in
+        IfErr result (λ e. fault_after_prp1 t ≡ Some e) }
+{
+    if list.chains_before(page) {
+        let second = load_page_address(mem, next)?;
+        return Ok(second);
+    }
+    Ok(next)
 }

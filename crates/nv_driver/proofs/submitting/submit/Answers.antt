@@ -1,7 +1,8 @@
 use Rattle.std.proofs.Common.{rules, ◌≡◌, ◌∙◌, ◌+◌, ◌*◌, ◌%◌, ◌≤◌, ◌∷◌, ap, arith, subst, sym}
 use Rattle.nv_layout.specs.declared.sqe.Sqe.{Sqe}
 use Rattle.nv_host.specs.PageSets.{Pages}
-use Rattle.nv_prp.specs.Buffer.{IsListPlace, KeepsOutside}
+use Rattle.nv_prp.specs.Buffer.{IsListPlace, KeepsOutside, StaysFor}
+use Rattle.nv_prp.specs.Transfer.{transfer}
 use Rattle.nv_queue.specs.Rings.{SubmitNumbers, submitted_one}
 use Rattle.nv_driver.specs.declared.submitting.Outstanding.{Outstanding}
 use Rattle.std.specs.FinSet as set
@@ -56,7 +57,9 @@ returns-clause-submitted g c =
       ready = after;
       prepared = prepared_by c.args.geometry c.args.command.now lane.serial o before after (g.M.HostMemory.page_len c.args.mem.now)
           (g.M.HostMemory.page_len c.build-prp1.new.mem) c.data.result.now c.data_length-len.result c.requires.page b.page c.data.ensures
-          c.data_length-len.ensures.length (search rules) (search rules) b.legal b.places
+          c.data_length-len.ensures.length (search rules) (search rules)
+          (subst (λ (l : ListPlace). StaysFor (transfer (g.M.HostMemory.page_len c.build-prp1.new.mem) after c.build-prp1.result.0 c.build-prp1.result.1 c.data_length-len.result)
+          c.data.result.now c.args.geometry.offset l.first l.second) c.list-list.ensures b.stays)
           (subst (λ (l : ListPlace). KeepsOutside (g.M.HostMemory.page_len c.args.mem.now) l.first l.second before after) c.list-list.ensures b.others)
           b.len;
       mem = on_ok c.push.result c.unwrap-tail.result ok c.push.ensures.bytes

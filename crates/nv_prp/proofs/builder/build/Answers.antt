@@ -1,11 +1,12 @@
-use Rattle.std.proofs.Common.{◌≡◌, ◌∙◌, ℕ, ◌+◌, ◌*◌, ◌%◌, ◌/◌, ◌-◌, List, ap, arith, get_or, length, subst, sym}
+use Rattle.std.proofs.Common.{◌≡◌, ◌∙◌, ℕ, ◌+◌, ◌*◌, ◌%◌, ◌/◌, ◌-◌, ◌<◌, List, arith, get_or, subst, sym, refl}
 use Rattle.nv_host.specs.Pages.{IsPageSize}
 use Rattle.nv_host.specs.PageLaws.{page_size_bounds}
-use Rattle.nv_prp.specs.Buffer.{IsBuffer, NamesPages}
+use Rattle.nv_prp.specs.Buffer.{IsBuffer, NamesPages, StaysFor}
 use Rattle.nv_prp.specs.BufferLaws.{buffer_kept, list_place_kept}
-use Rattle.nv_prp.specs.Transfer.{data_pages, transfer}
-use Rattle.nv_prp.proofs.BuiltLaws.{Begins, IsFor, many_pages, one_page, pages_enough, two_pages}
+use Rattle.nv_prp.specs.Transfer.{data_pages, room, transfer}
+use Rattle.nv_prp.proofs.BuiltLaws.{Begins, keeps_itself, many_pages, names_kept, one_page, pages_enough, two_pages}
 use Rattle.nv_prp.proofs.PageLaws.{at_least_one, at_most_257}
+use Rattle.nv_prp.proofs.WriteLaws.{lies_at}
 use Rattle.nv_prp.proofs.builder.build.Given.{Over}
 use Rattle.nv_prp.proofs.builder.build.Goals as goal
 
@@ -34,45 +35,60 @@ write_list-requires-clause-apart g c = c.requires.distinct 0 1 0 (omega arith) (
 
 -- ---- one data page, two, and more
 
-one : (g : Over) (c : goal.In-1 g) → IsFor (transfer (g.M.HostMemory.page_len c.args.mem.now) (g.M.HostMemory.bytes c.args.mem.now) (c.page_address.result + c.from.result) 0 c.args.len) c.args.buffer.now.pages.now c.args.buffer.now.offset
-one g c =
-    one_page _ _ _ (begins 0 c.page_address.ensures.size c.requires.buffer c.page_address.ensures.value c.from.ensures) (sym c.data_pages.ensures ∙ c.in-1.is)
+one : (g : Over) (c : goal.In-1 g) → StaysFor (transfer (g.M.HostMemory.page_len c.args.mem.now) (g.M.HostMemory.bytes c.args.mem.now) (c.page_address.result + c.from.result) 0 c.args.len)
+    c.args.buffer.now.pages.now c.args.buffer.now.offset c.args.list.now.first c.args.list.now.second
+one g c later keeps =
+    one_page _ _ _ (begins 0 c.page_address.ensures.size (buffer_kept _ later _ _ _ _ keeps.len c.requires.buffer) c.page_address.ensures.value c.from.ensures) (sym c.data_pages.ensures ∙ c.in-1.is)
 
 pub returns-in-1-clause-legal : goal.returns-in-1-clause-legal
-returns-in-1-clause-legal g c = (one g c).legal
+returns-in-1-clause-legal g c = (one g c _ (keeps_itself _ _ _)).legal
 
 pub returns-in-1-clause-places : goal.returns-in-1-clause-places
-returns-in-1-clause-places g c = (one g c).places
+returns-in-1-clause-places g c = (one g c _ (keeps_itself _ _ _)).places
 
-two : (g : Over) (c : goal.After-page_address-in-2 g) → IsFor (transfer (g.M.HostMemory.page_len c.args.mem.now) (g.M.HostMemory.bytes c.args.mem.now) (c.page_address.result + c.from.result) c.page_address-in-2.result c.args.len) c.args.buffer.now.pages.now c.args.buffer.now.offset
-two g c =
-    two_pages _ _ _ (begins _ c.page_address.ensures.size c.requires.buffer c.page_address.ensures.value c.from.ensures)
+pub returns-in-1-clause-stays : goal.returns-in-1-clause-stays
+returns-in-1-clause-stays g c = one g c
+
+two : (g : Over) (c : goal.After-page_address-in-2 g) → StaysFor (transfer (g.M.HostMemory.page_len c.args.mem.now) (g.M.HostMemory.bytes c.args.mem.now) (c.page_address.result + c.from.result) c.page_address-in-2.result c.args.len)
+    c.args.buffer.now.pages.now c.args.buffer.now.offset c.args.list.now.first c.args.list.now.second
+two g c later keeps =
+    two_pages _ _ _ (begins _ c.page_address.ensures.size (buffer_kept _ later _ _ _ _ keeps.len c.requires.buffer) c.page_address.ensures.value c.from.ensures)
     (sym c.data_pages.ensures ∙ c.in-2.is) c.page_address-in-2.ensures.value
 
 pub returns-in-2-clause-legal : goal.returns-in-2-clause-legal
-returns-in-2-clause-legal g c = (two g c).legal
+returns-in-2-clause-legal g c = (two g c _ (keeps_itself _ _ _)).legal
 
 pub returns-in-2-clause-places : goal.returns-in-2-clause-places
-returns-in-2-clause-places g c = (two g c).places
+returns-in-2-clause-places g c = (two g c _ (keeps_itself _ _ _)).places
 
-more : (g : Over) (c : goal.After-write_list g) → IsFor (transfer (g.M.HostMemory.page_len c.write_list.new.mem) (g.M.HostMemory.bytes c.write_list.new.mem) (c.page_address.result + c.from.result) c.write_list.result c.args.len) c.args.buffer.now.pages.now c.args.buffer.now.offset
+pub returns-in-2-clause-stays : goal.returns-in-2-clause-stays
+returns-in-2-clause-stays g c = two g c
+
+more : (g : Over) (c : goal.After-write_list g) → StaysFor (transfer (g.M.HostMemory.page_len c.write_list.new.mem) (g.M.HostMemory.bytes c.write_list.new.mem) (c.page_address.result + c.from.result) c.write_list.result c.args.len)
+    c.args.buffer.now.pages.now c.args.buffer.now.offset c.args.list.now.first c.args.list.now.second
 more g c =
     let buffer = c.args.buffer.now in
     let list = c.args.list.now in
     let size = g.M.HostMemory.page_len c.args.mem.now in
     let after = g.M.HostMemory.bytes c.write_list.new.mem in
     let t = transfer size after (c.page_address.result + c.from.result) c.write_list.result c.args.len in
-    let some = at_least_one t (omega (arith, page_size_bounds size c.page_address.ensures.size)) c.requires.some in
-    let many = many_pages t buffer.pages.now buffer.offset list.first list.second list.offset
-    (begins c.write_list.result c.page_address.ensures.size (buffer_kept _ after size buffer.pages.now buffer.offset c.args.len c.write_list.ensures.len c.requires.buffer)
-    c.page_address.ensures.value c.from.ensures)
-    (omega (arith, c.data_pages.ensures, some)) c.write_list.ensures.value
-    (list_place_kept _ after size list.first list.second list.offset c.write_list.ensures.len c.requires.list)
-    (subst (λ n. NamesPages after size ((size - c.write_list.result % size) / 8) c.write_list.result (list.second * size) buffer.pages.now n) c.data_pages.ensures c.write_list.ensures.names) in
-    subst (λ p. IsFor (transfer p after (c.page_address.result + c.from.result) c.write_list.result c.args.len) buffer.pages.now buffer.offset) (sym c.write_list.ensures.page) many
+    let is = c.page_address.ensures.size in
+    let many : 2 < data_pages t = omega (arith, c.data_pages.ensures, at_least_one t (omega (arith, page_size_bounds size is)) c.requires.some) in
+    let lies = lies_at _ size list.first list.second list.offset t.prp2 (room t) is c.requires.list (c.requires.distinct 0 1 0 (omega arith) (omega arith)) c.write_list.ensures.value refl in
+    let names = subst (λ n. NamesPages after size (room t) t.prp2 (list.second * size) buffer.pages.now n) c.data_pages.ensures c.write_list.ensures.names in
+    let stays : StaysFor t buffer.pages.now buffer.offset list.first list.second = λ later keeps.
+    let same = keeps.len ∙ c.write_list.ensures.len in
+    many_pages (transfer size later t.prp1 t.prp2 t.len) buffer.pages.now buffer.offset list.first list.second list.offset
+    (begins t.prp2 is (buffer_kept _ later _ _ _ _ same c.requires.buffer) c.page_address.ensures.value c.from.ensures)
+    many c.write_list.ensures.value (list_place_kept _ later size list.first list.second list.offset same c.requires.list)
+    (names_kept t buffer.pages.now list.first list.second later many (at_most_257 t is c.requires.limit) lies keeps names) in
+    subst (λ p. StaysFor (transfer p after t.prp1 t.prp2 t.len) buffer.pages.now buffer.offset list.first list.second) (sym c.write_list.ensures.page) stays
 
 pub returns-in_default-clause-legal : goal.returns-in_default-clause-legal
-returns-in_default-clause-legal g c = (more g c).legal
+returns-in_default-clause-legal g c = (more g c _ (keeps_itself _ _ _)).legal
 
 pub returns-in_default-clause-places : goal.returns-in_default-clause-places
-returns-in_default-clause-places g c = (more g c).places
+returns-in_default-clause-places g c = (more g c _ (keeps_itself _ _ _)).places
+
+pub returns-in_default-clause-stays : goal.returns-in_default-clause-stays
+returns-in_default-clause-stays g c = more g c

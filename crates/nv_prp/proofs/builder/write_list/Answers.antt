@@ -1,36 +1,76 @@
-use Rattle.std.proofs.Common.{◌≡◌, ◌∙◌, ◌+◌, ◌-◌, ◌*◌, ◌%◌, ◌/◌, ap, arith, drop, get_or, inl, inr, subst, take}
-use Rattle.nv_prp.specs.Buffer.{IsApart, NamesPages}
-use Rattle.nv_prp.proofs.WriteLaws.{names_in_one, names_in_two, pages_apart}
+use Rattle.std.proofs.Common.{◌≡◌, ◌∙◌, ◌*◌, ◌+◌, ap, arith, get_or, refl, subst, sym}
+use Rattle.nv_prp.specs.Buffer.{NamesPages}
+use Rattle.nv_prp.proofs.WriteLaws.{HasNamed, IsWithin, chain_names, chain_within, lies_at, list_even, naming_place, one_named, outside_kept, place_within, within_memory}
 use Rattle.nv_prp.proofs.builder.write_list.Goals as goal
 
-pub returns-then-count-room-clause-names : goal.returns-then-count-room-clause-names
-returns-then-count-room-clause-names g c =
-    let size = g.M.HostMemory.page_len c.args.mem.now in
-    let bytes = g.M.HostMemory.bytes c.write_run.new.mem in
-    let second = c.args.list.now.second * size in
-    subst (λ r. NamesPages bytes size r c.list_address-at.result second c.args.pages.now c.args.count) c.qwords_in_page-room.ensures.value
-    (names_in_one bytes size c.qwords_in_page-room.result c.list_address-at.result second c.args.pages.now c.args.count
-    c.requires.many (omega arith) c.requires.enough c.write_run.ensures.values)
+pub qwords_in_page-requires : goal.qwords_in_page-requires
+qwords_in_page-requires g c =
+    let list = c.args.list.now in
+    list_even _ _ list.first list.second list.offset _ c.page_address.ensures.size c.requires.list (λ i. c.page_address.ensures.value i + c.from.ensures i)
 
-pub returns-else-count-room-clause-names : goal.returns-else-count-room-clause-names
-returns-else-count-room-clause-names g c =
+pub loop-page-init : goal.loop-page-init
+loop-page-init g c =
+    let list = c.args.list.now in
+    record {
+      lies = lies_at _ _ list.first list.second list.offset _ c.qwords_in_page.result c.page_address.ensures.size c.requires.list c.requires.apart
+          (λ i. c.page_address.ensures.value i + c.from.ensures i) c.qwords_in_page.ensures.value;
+      named = λ j later below. absurd (omega arith);
+      others = λ from n _ _. refl;
+      len = refl;
+      page = refl;
+    }
+
+pub store_qword-requires : goal.store_qword-requires
+store_qword-requires g c =
     let size = g.M.HostMemory.page_len c.args.mem.now in
-    let b1 = g.M.HostMemory.bytes c.write_run-else-count-room.new.mem in
-    let b2 = g.M.HostMemory.bytes c.store_qword.new.mem in
-    let b3 = g.M.HostMemory.bytes c.write_run-else-count-room-2.new.mem in
-    let room = c.qwords_in_page-room.result in
-    let at = c.list_address-at.result in
-    let second = c.page_address-second.result in
-    let pages = c.args.pages.now in
-    let apart : IsApart second (8 * (c.args.count - room)) at (8 * room) =
-    elim (pages_apart size c.args.list.now.first c.args.list.now.second c.requires.apart) [
-      | inl before ↦ inl (omega (arith, c.qwords_in_page-room.ensures.whole, c.list_address-at.ensures.rest, c.list_address-at.ensures.value, c.page_address-second.ensures.value))
-      | inr after ↦ inr (omega (arith, c.list_address-at.ensures.value, c.page_address-second.ensures.value, c.list_address-at.ensures.size))
-    ] in
-    subst (λ s. NamesPages b3 size ((size - at % size) / 8) at s pages c.args.count) c.page_address-second.ensures.value
-    (subst (λ r. NamesPages b3 size r at second pages c.args.count) c.qwords_in_page-room.ensures.value
-    (names_in_two b1 b2 b3 size room at second pages c.args.count c.qwords_in_page-room.ensures.some (omega arith) c.requires.enough apart
-    c.write_run-else-count-room.ensures.values c.store_qword.ensures.value c.store_qword.ensures.others
-    (λ k below. c.write_run-else-count-room-2.ensures.values k below
-    ∙ ap (λ p. get_or (take (c.args.count - room) (drop room pages)) k 0 * p) (c.store_qword.ensures.page ∙ c.write_run-else-count-room.ensures.page))
-    c.write_run-else-count-room-2.ensures.others))
+    let now = c.loop-page.invariant in
+    let place = naming_place c.qwords_in_page.result (c.page_address.result + c.from.result) (c.args.list.now.second * size) c.args.count c.loop-page.page in
+    let at : c.naming_qword.result ≡ place = c.naming_qword.ensures
+    ∙ ap (λ s. naming_place c.qwords_in_page.result (c.page_address.result + c.from.result) s c.args.count c.loop-page.page) c.page_address-second.ensures.value in
+    omega (arith, within_memory _ _ _ _ _ _ 8 c.requires.list (place_within _ _ _ _ _ _ c.loop-page.page now.lies c.requires.few (omega arith) (omega arith)), at, now.len)
+
+pub loop-page-preserved : goal.loop-page-preserved
+loop-page-preserved g c =
+    let size = g.M.HostMemory.page_len c.args.mem.now in
+    let now = c.loop-page.invariant in
+    let place = naming_place c.qwords_in_page.result (c.page_address.result + c.from.result) (c.args.list.now.second * size) c.args.count c.loop-page.page in
+    let at : c.naming_qword.result ≡ place = c.naming_qword.ensures
+    ∙ ap (λ s. naming_place c.qwords_in_page.result (c.page_address.result + c.from.result) s c.args.count c.loop-page.page) c.page_address-second.ensures.value in
+    record {
+      lies = now.lies;
+      named = one_named _ _ size c.qwords_in_page.result _ _ _ c.args.pages.now c.args.count c.loop-page.page c.naming_qword.result now.lies c.requires.few (omega arith) (omega arith) at now.named
+          (c.store_qword.ensures.value ∙ c.page_address-address.ensures.value ∙ ap (λ p. get_or c.args.pages.now c.loop-page.page 0 * p) now.page) c.store_qword.ensures.others;
+      others = outside_kept size _ _ c.naming_qword.result 8 _ _ _
+          (subst (λ a. IsWithin size (c.args.list.now.first * size) (c.args.list.now.second * size) a 8) (sym at) (place_within _ _ _ _ _ _ c.loop-page.page now.lies c.requires.few (omega arith) (omega arith)))
+          now.others c.store_qword.ensures.others;
+      len = c.store_qword.ensures.len ∙ now.len;
+      page = c.store_qword.ensures.page ∙ now.page;
+    }
+
+-- ---- the address of the second page
+
+pub store_qword-requires-then-has_second_page : goal.store_qword-requires-then-has_second_page
+store_qword-requires-then-has_second_page g c =
+    let now = c.loop-page.invariant in
+    omega (arith, within_memory _ _ _ _ _ _ 8 c.requires.list (chain_within _ _ _ _ _ now.lies), c.from-then-has_second_page.ensures, now.len)
+
+pub returns-then-has_second_page-clause-names : goal.returns-then-has_second_page-clause-names
+returns-then-has_second_page-clause-names g c =
+    let size = g.M.HostMemory.page_len c.args.mem.now in
+    let now = c.loop-page.invariant in
+    let start = c.page_address.result + c.from.result in
+    let all : c.loop-page.page ≡ c.args.count = omega arith in
+    subst (λ r. NamesPages (g.M.HostMemory.bytes c.store_qword-then-has_second_page.new.mem) size r start (c.args.list.now.second * size) c.args.pages.now c.args.count) c.qwords_in_page.ensures.value
+    (chain_names _ _ size c.qwords_in_page.result start _ _ c.args.pages.now c.args.count _ now.lies c.requires.few c.if-has_second_page.ensures
+    (ap (λ n. start + 8 * n) c.from-then-has_second_page.ensures)
+    (subst (λ n. HasNamed (g.M.HostMemory.bytes c.loop-page.mem) size c.qwords_in_page.result start (c.args.list.now.second * size) c.args.pages.now c.args.count n) all now.named)
+    (c.store_qword-then-has_second_page.ensures.value ∙ c.page_address-second.ensures.value) c.store_qword-then-has_second_page.ensures.others)
+
+pub returns-then-has_second_page-clause-others : goal.returns-then-has_second_page-clause-others
+returns-then-has_second_page-clause-others g c =
+    let size = g.M.HostMemory.page_len c.args.mem.now in
+    let now = c.loop-page.invariant in
+    outside_kept size _ _ _ 8 _ _ _
+    (subst (λ n. IsWithin size (c.args.list.now.first * size) (c.args.list.now.second * size) (c.page_address.result + c.from.result + 8 * n) 8)
+    (sym c.from-then-has_second_page.ensures) (chain_within _ _ _ _ _ now.lies))
+    now.others c.store_qword-then-has_second_page.ensures.others

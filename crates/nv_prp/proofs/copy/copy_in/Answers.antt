@@ -11,14 +11,14 @@ use Rattle.nv_prp.proofs.copy.copy_in.Goals as goal
 abbrev none : Span
 none = record { address = 0; len = 0 }
 
-pub slice_bounds-load_inside-end : goal.slice_bounds-load_inside-end
-slice_bounds-load_inside-end g c =
+pub slice_bounds-read_range-end : goal.slice_bounds-read_range-end
+slice_bounds-read_range-end g c =
     let more = next (length (g.M.HostMemory.bytes c.args.mem.now)) c.args.spans.now c.as_slice-span-items.result.now c.loop-span.span-index none
     c.as_slice-span-items.ensures.spans c.loop-span-test.true c.requires.inside in
     omega (arith, more.count, c.loop-span.invariant.left)
 
-pub load_inside-requires : goal.load_inside-requires
-load_inside-requires g c =
+pub read_range-requires : goal.read_range-requires
+read_range-requires g c =
     let more = next (length (g.M.HostMemory.bytes c.args.mem.now)) c.args.spans.now c.as_slice-span-items.result.now c.loop-span.span-index none
     c.as_slice-span-items.ensures.spans c.loop-span-test.true c.requires.inside in
     simp (length-take, length-drop) (omega (arith, more.count, more.inside, c.loop-span.invariant.left))
@@ -33,13 +33,13 @@ loop-span-preserved g c =
     let at = c.loop-span.at in
     let rest = places (drop (c.loop-span.span-index + 1) c.args.spans.now) in
     let part : length (take (at + s.len - at) (drop at c.loop-span.out)) ≡ s.len = simp (length-take, length-drop) (omega (arith, more.count, now.left)) in
-    let read : c.load_inside.new.out ≡ bytes_at bytes s.address s.len = c.load_inside.ensures ∙ ap (λ n. bytes_at bytes s.address n) part in
-    let count : length c.load_inside.new.out ≡ s.len = ap length read ∙ length-bytes_at bytes s.address s.len more.inside in
+    let read : c.read_range.new.out ≡ bytes_at bytes s.address s.len = c.read_range.ensures ∙ ap (λ n. bytes_at bytes s.address n) part in
+    let count : length c.read_range.new.out ≡ s.len = ap length read ∙ length-bytes_at bytes s.address s.len more.inside in
     record {
       left = omega (arith, more.count, now.left, c.loop-span.auto.out, c.type_inv.out);
-      read = ap (λ l. l ++ read_at bytes rest) (take-put_mid at (at + s.len - at) c.loop-span.out c.load_inside.new.out (at + s.len)
+      read = ap (λ l. l ++ read_at bytes rest) (take-put_mid at (at + s.len - at) c.loop-span.out c.read_range.new.out (at + s.len)
           (omega (arith, count)) (omega (arith, more.count, now.left)))
-          ∙ append_assoc (take at c.loop-span.out) c.load_inside.new.out (read_at bytes rest)
+          ∙ append_assoc (take at c.loop-span.out) c.read_range.new.out (read_at bytes rest)
           ∙ ap (λ l. take at c.loop-span.out ++ l) (ap (λ l. l ++ read_at bytes rest) read ∙ sym (read_next bytes s rest more.inside) ∙ ap (λ l. read_at bytes l) (sym more.split))
           ∙ now.read;
     }

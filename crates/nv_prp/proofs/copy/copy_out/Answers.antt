@@ -9,14 +9,14 @@ use Rattle.nv_prp.proofs.copy.copy_out.Goals as goal
 abbrev none : Span
 none = record { address = 0; len = 0 }
 
-pub slice_bounds-store_inside-end : goal.slice_bounds-store_inside-end
-slice_bounds-store_inside-end g c =
+pub slice_bounds-write_range-end : goal.slice_bounds-write_range-end
+slice_bounds-write_range-end g c =
     let more = next (length (g.M.HostMemory.bytes c.args.mem.now)) c.args.spans.now c.as_slice-span-items.result.now c.loop-span.span-index none
     c.as_slice-span-items.ensures.spans c.loop-span-test.true c.requires.inside in
     omega (arith, more.count, c.loop-span.invariant.left)
 
-pub store_inside-requires : goal.store_inside-requires
-store_inside-requires g c =
+pub write_range-requires : goal.write_range-requires
+write_range-requires g c =
     let more = next (length (g.M.HostMemory.bytes c.args.mem.now)) c.args.spans.now c.as_slice-span-items.result.now c.loop-span.span-index none
     c.as_slice-span-items.ensures.spans c.loop-span-test.true c.requires.inside in
     simp (length-take, length-drop) (omega (arith, more.count, more.inside, c.loop-span.invariant.left, c.loop-span.invariant.len))
@@ -33,13 +33,13 @@ loop-span-preserved g c =
     let same : at + s.len - at ≡ s.len = omega arith in
     record {
       left = omega (arith, more.count, now.left);
-      bytes = (λ i. written_at ((c.store_inside.ensures.bytes ∙ ap (λ n. with_bytes (g.M.HostMemory.bytes c.loop-span.mem) s.address (take n (drop at source))) same) i)
+      bytes = (λ i. written_at ((c.write_range.ensures.bytes ∙ ap (λ n. with_bytes (g.M.HostMemory.bytes c.loop-span.mem) s.address (take n (drop at source))) same) i)
           rest (sym (drop-drop s.len at source) i))
           ∙ write_next (g.M.HostMemory.bytes c.loop-span.mem) s rest (drop at source) (simp length-drop (omega (arith, more.count, now.left))) (omega (arith, more.inside, now.len))
           ∙ ap (λ l. written_at (g.M.HostMemory.bytes c.loop-span.mem) l (drop at source)) (sym more.split)
           ∙ now.bytes;
-      len = c.store_inside.ensures.len ∙ now.len;
-      page = c.store_inside.ensures.page ∙ now.page;
+      len = c.write_range.ensures.len ∙ now.len;
+      page = c.write_range.ensures.page ∙ now.page;
     }
 
 pub returns-clause-bytes : goal.returns-clause-bytes

@@ -1,7 +1,7 @@
 use Rattle.std.proofs.Common.{◌*◌, ◌≤◌, arith}
 use Rattle.std.proofs.Math.Nat.{mul-le-mul}
 use Rattle.nv_host.specs.PageLaws.{page_size_bounds}
-use Rattle.nv_prp.proofs.run.page_address.Goals as goal
+use Rattle.nv_prp.proofs.pointer.page_address.Goals as goal
 
 pub returns-clause-small : goal.returns-clause-small
 returns-clause-small g c =
