@@ -17,8 +17,8 @@ use Rattle.nv_queue.specs.Slots.{HoldsTags}
 use Rattle.nv_register.specs.Port.{new_port}
 use Rattle.nv_register.specs.declared.port.Port.{Port}
 use Rattle.nv_controller.specs.Bus.{BusValue, IsBus, port_at}
-use Rattle.nv_driver.specs.Driver.{IsDriver, IsPlaced, after_command, driver_value, lane_at, no_lane, page_count}
-use Rattle.nv_driver.specs.Exchange.{IsReady, KeepsOthers, after_one}
+use Rattle.nv_driver.specs.Driver.{IsDriver, IsPlaced, driver_value, lane_at, no_lane, page_count}
+use Rattle.nv_driver.specs.Exchange.{IsReady, KeepsOthers}
 use Rattle.nv_driver.specs.Geometry.{IsGeometry}
 use Rattle.nv_driver.specs.Lane.{IsLaid, Lane, idle_port}
 use Rattle.nv_driver.specs.Layout.{set_pages}
@@ -30,22 +30,20 @@ use Rattle.nv_driver.specs.declared.lane.Lane.{Lane as LaneFields}
 
 -- ---- before the command
 
--- a page set has room for a command
-set_room : (g : Geometry) → IsGeometry g → 4 ≤ set_pages g
+-- a page set has room for four pages of each command
+set_room : (g : Geometry) → IsGeometry g → 4 * g.window ≤ set_pages g
 unfolding set_pages
 set_room g is =
     let bounds = page_size_bounds g.page_size is.page_size in
     let times = div_ceil_times 16384 g.page_size (omega (arith, bounds)) in
-    four g.window (div_ceil 16384 g.page_size) (is.window.0) (some (div_ceil 16384 g.page_size) times.0)
+    let each : 4 ≤ div_ceil 16384 g.page_size + 3 = some (div_ceil 16384 g.page_size) times.0 in
+    let all = mul-le-mul_left g.window each in
+    let turned : 4 * g.window ≡ g.window * 4 = omega arith in
+    omega (arith, all, turned)
   where
-    some : (n : ℕ) → 16384 ≤ n * g.page_size → 1 ≤ n
+    some : (n : ℕ) → 16384 ≤ n * g.page_size → 4 ≤ n + 3
     some zero h = absurd (omega arith)
     some (suc n) h = omega arith
-
-    four : (window n : ℕ) → 1 ≤ window → 1 ≤ n → 4 ≤ window * (n + 3)
-    four window n w h =
-        let least = mul-le-mul_right (n + 3) w in
-        let one : 1 * (n + 3) ≡ n + 3 = omega arith in omega arith
 
 value_at : (ls : List LaneFields) (c : ℕ) (d : LaneFields) (e : Lane) → c < length ls → get_or (map lane_value ls) c e ≡ lane_value (get_or ls c d)
 value_at ls c d e below = get_or-map lane_value ls c d e below
@@ -59,7 +57,8 @@ ready_at {g} {mem} {ls} {b} {c} {l} is bus ports below here =
     record {
       geometry = is.geometry;
       page_size = is.page_size;
-      room = subst (λ n. 4 ≤ n) (sym (ap (λ (v : Lane). v.page_count) (sym at ∙ is.placed c no_lane below))) (set_room g is.geometry);
+      depth = ap (λ (v : Lane). v.depth) (sym at ∙ is.placed c no_lane below);
+      room = subst (λ n. 4 * g.window ≤ n) (sym (ap (λ (v : Lane). v.page_count) (sym at ∙ is.placed c no_lane below))) (set_room g is.geometry);
       quiet = subst IsQuiet (sym here) (is.quiet c l below);
       laid = subst (λ p. IsLaid p (length mem.bytes) (lane_value l)) is.page_size
           (subst (IsLaid mem.page_size (length mem.bytes)) at (settled.laid c no_lane (omega arith)));
@@ -145,11 +144,13 @@ settled_after page_size old new vs c v u s below here size keeps laid tags sq fi
 values_set : (ls : List LaneFields) (c : ℕ) (l : LaneFields) (v : Lane) → lane_value l ≡ v → map lane_value (slice_set ls c l) ≡ slice_set (map lane_value ls) c v
 values_set ls c l v is = map-set lane_value ls c l ∙ ap (slice_set (map lane_value ls) c) is
 
-pub driver_after : {g : Geometry} {mem new : PagedBytes} {ls : List LaneFields} {b : BusValue} {c : ℕ} {l l' : LaneFields} → IsDriver g mem ls
-    → c < length ls → l ≡ get_or ls c l → IsReady g b c l' new.page_size new.bytes → lane_value l' ≡ after_one (lane_value l)
+-- where the number and the serial of a lane change
+pub driver_after : {g : Geometry} {mem new : PagedBytes} {ls : List LaneFields} {b : BusValue} {c : ℕ} {l l' : LaneFields} {n serial : ℕ} → IsDriver g mem ls
+    → c < length ls → l ≡ get_or ls c l → IsReady g b c l' new.page_size new.bytes
+    → lane_value l' ≡ record (lane_value l) { number = n; serial = serial }
     → KeepsOthers g.page_size (lane_value l) mem.bytes new.bytes → length new.bytes ≡ length mem.bytes → new.page_size ≡ mem.page_size
     → IsDriver g new (slice_set ls c l')
-driver_after {g} {mem} {new} {ls} {b} {c} {l} {l'} is below here ready next keeps size page =
+driver_after {g} {mem} {new} {ls} {b} {c} {l} {l'} {n} {serial} is below here ready next keeps size page =
     let many = length-map ls lane_value in
     let vs = map lane_value ls in
     let at : lane_value l ≡ get_or vs c (lane_value l) = sym (value_at ls c l (lane_value l) below ∙ ap lane_value (sym here)) in
@@ -175,19 +176,17 @@ driver_after {g} {mem} {new} {ls} {b} {c} {l} {l'} is below here ready next keep
           (ap (λ (v : Lane). v.sq) next) (ap (λ (v : Lane). v.first_page) next) (ap (λ (v : Lane). v.page_count) next));
     }
   where
-    stays_placed : (g : Geometry) (i : ℕ) (v u : Lane) → IsPlaced g i v → u ≡ after_one v → IsPlaced g i u
-    stays_placed g i v u placed is =
-        subst (IsPlaced g i) (sym is)
-        (ap (λ (q : Lane). record q { number = (after_one v).number; serial = (after_one v).serial }) placed)
+    stays_placed : (g : Geometry) (i : ℕ) (v u : Lane) → IsPlaced g i v → u ≡ record v { number = n; serial = serial } → IsPlaced g i u
+    stays_placed g i v u placed is = subst (IsPlaced g i) (sym is) (ap (λ (q : Lane). record q { number = n; serial = serial }) placed)
 
 -- what the driver stands for
-pub value_after : (g : Geometry) (mem new : PagedBytes) (ls : List LaneFields) (c : ℕ) (l l' : LaneFields) → c < length ls → l ≡ get_or ls c l
-    → lane_value l' ≡ after_one (lane_value l) → length new.bytes ≡ length mem.bytes → new.page_size ≡ mem.page_size
-    → driver_value g new (slice_set ls c l') ≡ after_command (driver_value g mem ls) c
-value_after g mem new ls c l l' below here next size page =
+pub value_after : (f : Lane → Lane) (g : Geometry) (mem new : PagedBytes) (ls : List LaneFields) (c : ℕ) (l l' : LaneFields) → c < length ls → l ≡ get_or ls c l
+    → lane_value l' ≡ f (lane_value l) → length new.bytes ≡ length mem.bytes → new.page_size ≡ mem.page_size
+    → driver_value g new (slice_set ls c l') ≡ record (driver_value g mem ls) { lanes = slice_set (map lane_value ls) c (f (lane_at (map lane_value ls) c)) }
+value_after f g mem new ls c l l' below here next size page =
     let pages : page_count new ≡ page_count mem = ap (λ n. n / new.page_size) size ∙ ap (λ p. length mem.bytes / p) page in
     let at : lane_value l ≡ lane_at (map lane_value ls) c = sym (value_at ls c l no_lane below ∙ ap lane_value (sym here)) in
-    let lanes = values_set ls c l' (after_one (lane_at (map lane_value ls) c)) (next ∙ ap after_one at) in
+    let lanes = values_set ls c l' (f (lane_at (map lane_value ls) c)) (next ∙ ap f at) in
     ap (λ n. record { geometry = g; pages = n; lanes = map lane_value (slice_set ls c l') }) pages
     ∙ ap (λ vs. record { geometry = g; pages = page_count mem; lanes = vs }) lanes
 

@@ -26,7 +26,7 @@ use Rattle.nv_driver.specs.Schedule.{Answer, AreApart, Holds, Sent, Setting, Wor
 use Rattle.nv_driver.proofs.AnswerLaws.{IsAnswerTo, answer_back, answer_sound, completion_fits}
 use Rattle.nv_driver.proofs.CountLaws.{number_below, number_next, slot_inside, slots_differ}
 use Rattle.nv_driver.proofs.HeldLaws.{holds_on}
-use Rattle.nv_driver.proofs.Keeping.{IsOwn, Keeps}
+use Rattle.nv_driver.specs.Keeping.{IsOwn, Keeps}
 use Rattle.nv_driver.proofs.RegionLaws.{ChangesOnlyAt, completion_keeps, data_stays, length-places, outside_part, place_beside, read_keeps}
 use Rattle.nv_driver.proofs.SerialLaws.{after_more, answer_at}
 use Rattle.nv_driver.proofs.TakenLaws.{IsDone, can_go, delivered, is_done, moved_keeps, moved_slot, now}

@@ -4,16 +4,15 @@ use Rattle.nv_layout.specs.declared.cqe.Cqe.{Cqe}
 use Rattle.std.proofs.Math.ListN.{length-set}
 use Rattle.nv_queue.specs.NumberLaws.{above_cases}
 use Rattle.std.proofs.lemmas.List.{get_or-set_same, set-set}
-use Rattle.std.proofs.lemmas.Nat.{mod_below}
 use Rattle.nv_queue.specs.Rings.{CollectNumbers, SubmitNumbers, collected_one, known_to, submitted_one, told_all}
-use Rattle.std.proofs.Common.{min, ◌≡◌, ◌∙◌, ℕ, zero, suc, ◌+◌, ◌-◌, ◌*◌, ◌<◌, ◌≤◌, false, List, [], ◌∷◌, ap, arith, get_or, inl, inr, length, refl, subst, sym}
+use Rattle.std.proofs.Common.{All, min, ◌≡◌, ◌∙◌, ℕ, zero, suc, ◌+◌, ◌-◌, ◌*◌, ◌<◌, ◌≤◌, false, List, [], ◌∷◌, ap, arith, get_or, inl, inr, length, refl, subst, sym}
 use Rattle.std.proofs.Math.Nat.{mul-le-mul_right}
 use Rattle.nv_host.specs.PageSets.{IsOf, Pages}
 use Rattle.nv_queue.specs.Numbers.{IsDepth, IsFull, IsSlotBetween, above, first_in_slot, next, slot_of, tag_below}
 use Rattle.nv_queue.specs.KeptLaws.{between_kept, first_kept}
 use Rattle.nv_queue.specs.Slots.{HoldsTags, IsAwaitedThere, awaited_completion, completion_at, with_submission}
 use Rattle.nv_queue.specs.TagLaws.{tag_below_next_same}
-use Rattle.nv_subsystem.specs.Step.{next_serial, step}
+use Rattle.nv_subsystem.specs.Step.{step}
 use Rattle.nv_command.specs.Command.{CommandFits}
 use Rattle.nv_command.specs.declared.command.Command.{Command}
 use Rattle.nv_register.specs.Port.{new_port, with_register_at}
@@ -25,16 +24,16 @@ use Rattle.nv_controller.specs.Turn.{PortTurn, Site, can_take, site}
 use Rattle.nv_driver.specs.CommandPages.{all_pages, data_pages}
 use Rattle.nv_prp.specs.Buffer.{IsApart}
 use Rattle.nv_driver.specs.Exchange.{IsReady, KeepsOthers}
-use Rattle.nv_driver.specs.Lane.{IsLaid, Lane, idle_port}
+use Rattle.nv_driver.specs.Lane.{IsLaid}
 use Rattle.nv_driver.specs.Quiet.{IsQuiet, lane_value}
-use Rattle.nv_driver.specs.Registers.{mps_of}
 use Rattle.nv_driver.specs.Schedule.{AreOutside, IsIdle, MaySubmit, Sent, Setting, World, answer_read, collect_ring, device_rings, entry, number, own_pages, port_with, slot, submit_ring}
 use Rattle.nv_driver.specs.Submitting.{IsSubmitted, sent_by}
+use Rattle.nv_driver.specs.UnderWay.{setting}
 use Rattle.nv_driver.specs.declared.geometry.Geometry.{Geometry}
 use Rattle.nv_driver.specs.declared.lane.Lane.{Lane as LaneFields}
 use Rattle.nv_driver.specs.declared.submitting.Outstanding.{Outstanding}
 use Rattle.nv_driver.proofs.CountLaws.{head_told, number_above, number_below, number_next, slot_inside}
-use Rattle.nv_driver.proofs.Keeping.{Keeps}
+use Rattle.nv_driver.specs.Keeping.{Keeps}
 use Rattle.nv_driver.proofs.KeptLaws.{bell_keeps, idle_keeps, number_zero}
 use Rattle.nv_driver.proofs.SubmitLaws.{submit_keeps}
 use Rattle.nv_driver.proofs.SubmittingLaws.{Has, buffer_of, distinct_of, list_of, pages_are}
@@ -42,22 +41,10 @@ use Rattle.nv_driver.proofs.TurnLaws.{is_turn, turn_keeps}
 
 -- ---- the beginning
 
-abbrev pub setting : Geometry → ℕ → List ℕ → Lane → Setting
-setting g c bytes l = record {
-  controller = c;
-  before = bytes;
-  page_size = g.page_size;
-  sq = l.sq;
-  cq = l.cq;
-  depth = l.depth;
-  start = l.number;
-  port = idle_port (mps_of g.page_size) g.page_size l;
-}
-
 abbrev pub beginning : Setting → State → World
 beginning t s = record { mem = t.before; state = s; port = t.port; sent = []; rung = 0; done = 0; told = 0; answers = [] }
 
-is_idle : (g : Geometry) (b : BusValue) (c : ℕ) (l : LaneFields) (now : ℕ) (bytes : List ℕ) → IsReady g b c l now bytes
+pub is_idle : (g : Geometry) (b : BusValue) (c : ℕ) (l : LaneFields) (now : ℕ) (bytes : List ℕ) → IsReady g b c l now bytes
     → IsIdle (setting g c bytes (lane_value l)) (beginning (setting g c bytes (lane_value l)) b.state)
 is_idle g b c l now bytes r =
     let laid = r.laid in
@@ -97,7 +84,7 @@ before_pages s x page_size from n own low i d h =
     let first : s.first ≤ get_or (own_pages x) i d = (own i d h).0 in
     let times = mul-le-mul_right page_size first in inl (omega arith)
 
-own_of_set : (s : Pages) (x : Sent) (pages : List ℕ) → pages ≡ own_pages x → ((i d : ℕ) → i < length pages → IsOf s.first s.count (get_or pages i d))
+pub own_of_set : (s : Pages) (x : Sent) (pages : List ℕ) → pages ≡ own_pages x → ((i d : ℕ) → i < length pages → IsOf s.first s.count (get_or pages i d))
     → (i d : ℕ) → i < length (own_pages x) → IsOf s.first s.count (get_or (own_pages x) i d)
 own_of_set s x pages same = subst (λ ps. (i d : ℕ) → i < length ps → IsOf s.first s.count (get_or ps i d)) same
 
@@ -110,7 +97,7 @@ may_submit g b c l l' now bytes after k o r fits sub =
     let x = sent_by g k l.serial o in
     let own = own_of_set l.pages x (all_pages o.pages) (pages_are o.pages sub.seven) sub.taken.own in
     let has : Has l.pages o.pages g.page_size (length bytes) =
-    record { seven = sub.seven; few = sub.few; taken = sub.taken; inside = laid.inside } in
+    record { seven = sub.seven; few = omega (arith, sub.few); taken = sub.taken; inside = laid.inside } in
     record {
       free = omega (arith, deep.0);
       fits = fits;
@@ -129,7 +116,7 @@ abbrev pub sent_one : World → Sent → List ℕ → World
 sent_one w x mem = record w { mem = mem; sent = x ∷ [] }
 
 -- the host's rings of a quiet lane are those of a schedule that begins
-submit_ring_is : (g : Geometry) (c : ℕ) (bytes : List ℕ) (l : LaneFields) → IsQuiet l → l.submission.submitted < 2 * l.submission.depth
+pub submit_ring_is : (g : Geometry) (c : ℕ) (bytes : List ℕ) (l : LaneFields) → IsQuiet l → l.submission.submitted < 2 * l.submission.depth
     → l.submission ≡ submit_ring (setting g c bytes (lane_value l)) 0 0
 submit_ring_is g c bytes l quiet below =
     let t = setting g c bytes (lane_value l) in
@@ -280,45 +267,45 @@ ring_collected t ring is =
     ap (λ r. told_all (collected_one r)) is
     ∙ ap (λ n. record { base = t.cq; depth = t.depth; collected = n; told = n; untold = false }) (number_next t 0)
 
--- the lane after a command
-pub lane_after : {g : Geometry} {b b4 : BusValue} {c : ℕ} {l l4 : LaneFields} {now page : ℕ} {bytes mem : List ℕ}
+-- the lane after so many commands
+pub lane_after : {g : Geometry} {b b4 : BusValue} {c : ℕ} {l l4 : LaneFields} {now page : ℕ} {bytes mem : List ℕ} (n : ℕ)
     → IsReady g b c l now bytes → page ≡ g.page_size → length mem ≡ length bytes
-    → l4.submission ≡ submit_ring (setting g c bytes (lane_value l)) 1 1
+    → l4.submission ≡ submit_ring (setting g c bytes (lane_value l)) n n
     → l4.completion ≡ record {
       base = l.completion.base;
       depth = l.submission.depth;
-      collected = number (setting g c bytes (lane_value l)) 1;
-      told = number (setting g c bytes (lane_value l)) 1;
+      collected = number (setting g c bytes (lane_value l)) n;
+      told = number (setting g c bytes (lane_value l)) n;
       untold = false;
     }
-    → l4.serial ≡ next_serial l.serial → l4.pages ≡ l.pages
-    → HoldsTags mem l.completion.base l.submission.depth (number (setting g c bytes (lane_value l)) 1)
+    → l4.serial < 65535 → l4.pages ≡ l.pages
+    → HoldsTags mem l.completion.base l.submission.depth (number (setting g c bytes (lane_value l)) n)
     → c < length b4.ports → IsBus b4
-    → port_at b4.ports c ≡ port_with (setting g c bytes (lane_value l)) (device_rings (setting g c bytes (lane_value l)) 1 1 1)
+    → port_at b4.ports c ≡ port_with (setting g c bytes (lane_value l)) (device_rings (setting g c bytes (lane_value l)) n n n)
     → IsReady g b4 c l4 page mem
-lane_after {g} {b} {b4} {c} {l} {l4} {now} {page} {bytes} {mem} r size len submission completion serial pages tags below bus port =
+lane_after {g} {b} {b4} {c} {l} {l4} {now} {page} {bytes} {mem} n r size len submission completion serial pages tags below bus port =
     let t = setting g c bytes (lane_value l) in
     let laid = r.laid in
-    let n = number t 1 in
+    let k = number t n in
     let l1 : LaneFields = record {
-      submission = record { base = l.submission.base; depth = l.submission.depth; submitted = n; known = n };
-      completion = record { base = l.completion.base; depth = l.submission.depth; collected = n; told = n; untold = false };
-      serial = next_serial l.serial;
+      submission = record { base = l.submission.base; depth = l.submission.depth; submitted = k; known = k };
+      completion = record { base = l.completion.base; depth = l.submission.depth; collected = k; told = k; untold = false };
+      serial = l4.serial;
       pages = l.pages;
     } in
     let is : l1 ≡ l4 = sym (ap (λ (q : SubmitNumbers). record l4 { submission = q }) submission
     ∙ ap (λ (q : CollectNumbers). record l4 { submission = l1.submission; completion = q }) completion
-    ∙ ap (λ q. record l4 { submission = l1.submission; completion = l1.completion; serial = q }) serial
-    ∙ ap (λ (q : Pages). record { submission = l1.submission; completion = l1.completion; serial = l1.serial; pages = q }) pages) in
+    ∙ ap (λ (q : Pages). record { submission = l1.submission; completion = l1.completion; serial = l4.serial; pages = q }) pages) in
     subst (λ q. IsReady g b4 c q page mem) is (record {
       geometry = r.geometry;
       page_size = size;
+      depth = r.depth;
       room = r.room;
       quiet = record { depth = refl; known = refl; collected = refl; told = refl; untold = refl; free = r.quiet.free };
       laid = record {
         deep = laid.deep;
-        number = number_below t 1 (let d = laid.deep in omega (arith, d.0));
-        serial = mod_below (l.serial + 1) 65535 (omega arith);
+        number = number_below t n (let d = laid.deep in omega (arith, d.0));
+        serial = serial;
         rings = laid.rings;
         pages = laid.pages;
         inside = omega (arith, laid.inside, len);
@@ -339,7 +326,7 @@ ports_after ports one two three c p q below first second r third =
     all ∙ ap (slice_set ports c) (sym at)
 
 -- a part outside a lane lies in none of its rings and pages
-outside_lane : (s : Pages) (x : Sent) (page_size sq from n : ℕ) → ((i d : ℕ) → i < length (own_pages x) → IsOf s.first s.count (get_or (own_pages x) i d))
+pub outside_lane : (s : Pages) (x : Sent) (page_size sq from n : ℕ) → ((i d : ℕ) → i < length (own_pages x) → IsOf s.first s.count (get_or (own_pages x) i d))
     → sq ≤ s.first * page_size → sq ≤ (s.first + s.count) * page_size
     → IsApart sq ((s.first + s.count) * page_size - sq) from n → AreOutside page_size x from n
 outside_lane s x page_size sq from n own low high (inl before) i d h =
@@ -349,34 +336,43 @@ outside_lane s x page_size sq from n own low high (inr behind) i d h =
     let last : get_or (own_pages x) i d + 1 ≤ s.first + s.count = omega (arith, (own i d h).1) in
     let times = mul-le-mul_right page_size last in inr (omega arith)
 
-pub others_after : {g : Geometry} {b : BusValue} {c : ℕ} {l l' : LaneFields} {now : ℕ} {bytes after mem : List ℕ} {k : Command} {o : Outstanding}
-    {s' : State} {p : Port} → IsReady g b c l now bytes → IsSubmitted g k o l l' bytes after
-    → Keeps (setting g c bytes (lane_value l)) b.state
-    (done_one (beginning (setting g c bytes (lane_value l)) b.state) (sent_by g k l.serial o) mem s' p)
-    → KeepsOthers g.page_size (lane_value l) bytes mem
-others_after {g} {b} {c} {l} {l'} {now} {bytes} {after} {mem} {k} {o} {s'} {p} r sub keeps from n apart =
+-- where each command's pages were of the lane's set
+pub others_kept : {g : Geometry} {b : BusValue} {c : ℕ} {l : LaneFields} {now : ℕ} {bytes : List ℕ} {s : State} {w : World} → IsReady g b c l now bytes
+    → Keeps (setting g c bytes (lane_value l)) s w
+    → ((i : ℕ) (d : Sent) → i < length w.sent → All (λ p. IsOf l.pages.first l.pages.count p) (own_pages (get_or w.sent i d)))
+    → KeepsOthers g.page_size (lane_value l) bytes w.mem
+others_kept {g} {b} {c} {l} {now} {bytes} {s} {w} r keeps own from n apart =
     let laid = r.laid in
-    let x = sent_by g k l.serial o in
-    let own = own_of_set l.pages x (all_pages o.pages) (pages_are o.pages sub.seven) sub.taken.own in
     let least : l.pages.first ≤ l.pages.first + l.pages.count = omega arith in
     let room = mul-le-mul_right g.page_size least in
     keeps.others from n (record {
       submissions = aside l.submission.base (64 * l.submission.depth) (omega (arith, laid.rings, laid.pages, room)) (omega arith);
       completions = aside l.completion.base (16 * l.submission.depth) (omega (arith, laid.pages, room)) (omega (arith, laid.rings));
-      pages = λ i d h. subst (λ y. AreOutside g.page_size y from n) (only_one x i d h)
-          (outside_lane l.pages x g.page_size l.submission.base from n own (omega (arith, laid.rings, laid.pages)) (omega (arith, laid.rings, laid.pages, room)) apart);
+      pages = λ i d h.
+          outside_lane l.pages (get_or w.sent i d) g.page_size l.submission.base from n (own i d h)
+          (omega (arith, laid.rings, laid.pages)) (omega (arith, laid.rings, laid.pages, room)) apart;
     })
   where
-    only_one : (x : Sent) (i : ℕ) (d : Sent) → i < 1 → x ≡ get_or (x ∷ []) i d
-    only_one x zero d h = refl
-    only_one x (suc i) d h = absurd (omega arith)
-
     aside : (base size : ℕ) → base + size ≤ (l.pages.first + l.pages.count) * g.page_size → l.submission.base ≤ base → IsApart base size from n
     aside base size high low =
         elim apart [
           | inl before ↦ inl (omega arith)
           | inr behind ↦ inr (omega (arith, r.laid.rings, r.laid.pages))
         ]
+
+pub others_after : {g : Geometry} {b : BusValue} {c : ℕ} {l l' : LaneFields} {now : ℕ} {bytes after mem : List ℕ} {k : Command} {o : Outstanding}
+    {s' : State} {p : Port} → IsReady g b c l now bytes → IsSubmitted g k o l l' bytes after
+    → Keeps (setting g c bytes (lane_value l)) b.state
+    (done_one (beginning (setting g c bytes (lane_value l)) b.state) (sent_by g k l.serial o) mem s' p)
+    → KeepsOthers g.page_size (lane_value l) bytes mem
+others_after {g} {b} {c} {l} {l'} {now} {bytes} {after} {mem} {k} {o} {s'} {p} r sub keeps =
+    let x = sent_by g k l.serial o in
+    let own = own_of_set l.pages x (all_pages o.pages) (pages_are o.pages sub.seven) sub.taken.own in
+    others_kept r keeps (λ i d h. subst (λ y. All (λ q. IsOf l.pages.first l.pages.count q) (own_pages y)) (only_one x i d h) own)
+  where
+    only_one : (x : Sent) (i : ℕ) (d : Sent) → i < 1 → x ≡ get_or (x ∷ []) i d
+    only_one x zero d h = refl
+    only_one x (suc i) d h = absurd (omega arith)
 
 -- a quiet ring isn't full
 pub not_full : (l : LaneFields) → IsQuiet l → l.submission.submitted < 2 * l.submission.depth → IsDepth l.submission.depth

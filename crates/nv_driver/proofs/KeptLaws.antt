@@ -14,7 +14,7 @@ use Rattle.nv_register.specs.declared.port.Port.{Port}
 use Rattle.nv_driver.specs.Schedule.{Happens, IsIdle, Sent, Setting, World, answer_awaited, answers_to, device_rings, number, port_with, slot}
 use Rattle.nv_driver.specs.Schedule.{Bell, Collect, Tell}
 use Rattle.nv_driver.proofs.CountLaws.{head_told, number_below, slot_inside, tail_rung}
-use Rattle.nv_driver.proofs.Keeping.{AreInOrder, Keeps}
+use Rattle.nv_driver.specs.Keeping.{AreInOrder, Keeps}
 use Rattle.nv_driver.proofs.SerialLaws.{length-answers}
 
 -- ---- the beginning

@@ -14,12 +14,12 @@ use Rattle.std.specs.List.{list_any}
 use Rattle.nv_host.specs.PageSets.{IsOf, Pages, consecutive, contains_of_insert, contains_of_remove}
 use Rattle.nv_driver.specs.CommandPages.{AreTaken, with_pages, without}
 
-abbrev Numbers : Type 0
+abbrev pub Numbers : Type 0
 Numbers = set.FinSet nat_cmp
 
 -- ---- members of sets
 
-abbrev is_in : List ℕ → ℕ → Bool
+abbrev pub is_in : List ℕ → ℕ → Bool
 is_in ps q = list_any (λ y. nat_eq y q) ps
 
 in_push : (ps : List ℕ) (p q : ℕ) → is_in (ps ++ p ∷ []) q ≡ (is_in ps q || (q == p))
@@ -30,7 +30,7 @@ in_push (x ∷ ps) p q = ap (λ b. nat_eq x q || b) (in_push ps p q) ∙ or_asso
     or_assoc true b c = refl
     or_assoc false b c = refl
 
-in_of : (ps : List ℕ) (i d q : ℕ) → i < length ps → get_or ps i d ≡ q → is_in ps q ≡ true
+pub in_of : (ps : List ℕ) (i d q : ℕ) → i < length ps → get_or ps i d ≡ q → is_in ps q ≡ true
 in_of [] i d q h e = absurd (omega arith)
 in_of (x ∷ ps) zero d q h e = grind (arith, nat_tests, e)
 in_of (x ∷ ps) (suc i) d q h e = ap (λ b. nat_eq x q || b) (in_of ps i d q (omega arith) e) ∙ or_true (nat_eq x q)
@@ -39,16 +39,16 @@ in_of (x ∷ ps) (suc i) d q h e = ap (λ b. nat_eq x q || b) (in_of ps i d q (o
     or_true true = refl
     or_true false = refl
 
-not_in : (ps : List ℕ) (q : ℕ) → ((i d : ℕ) → i < length ps → get_or ps i d ≢ q) → is_in ps q ≡ false
+pub not_in : (ps : List ℕ) (q : ℕ) → ((i d : ℕ) → i < length ps → get_or ps i d ≢ q) → is_in ps q ≡ false
 not_in ps q each = list_any_none (λ y. nat_eq y q) ps (λ i d h. grind (arith, nat_tests, each i d h))
 
-difference_in : (s : Numbers) (ps : List ℕ) (q : ℕ) → set.contains (set.difference s (set.from_list ps)) q ≡ (set.contains s q && not (is_in ps q))
+pub difference_in : (s : Numbers) (ps : List ℕ) (q : ℕ) → set.contains (set.difference s (set.from_list ps)) q ≡ (set.contains s q && not (is_in ps q))
 difference_in s ps q = set.contains-difference nat_cmp_total s (set.from_list ps) q ∙ ap (λ b. set.contains s q && not b) (set.contains-from_list_nat ps q)
 
-union_in : (s : Numbers) (ps : List ℕ) (q : ℕ) → set.contains (set.union s (set.from_list ps)) q ≡ (set.contains s q || is_in ps q)
+pub union_in : (s : Numbers) (ps : List ℕ) (q : ℕ) → set.contains (set.union s (set.from_list ps)) q ≡ (set.contains s q || is_in ps q)
 union_in s ps q = set.contains-union nat_cmp_total s (set.from_list ps) q ∙ ap (λ b. set.contains s q || b) (set.contains-from_list_nat ps q)
 
-same_numbers : (a b : Numbers) → ((q : ℕ) → set.contains a q ≡ set.contains b q) → a ≡ b
+pub same_numbers : (a b : Numbers) → ((q : ℕ) → set.contains a q ≡ set.contains b q) → a ≡ b
 same_numbers a b each = set.same_set nat_cmp_total nat_cmp-IsAntisymmetric a b each
 
 -- ---- taking
@@ -223,7 +223,7 @@ full_length first (suc count) =
     one_more false n e l = omega arith
 
 -- what holds of each element holds of one that is in the list
-in_all : (P : ℕ → Type 0) (pages : List ℕ) (q : ℕ) → All P pages → is_in pages q ≡ true → P q
+pub in_all : (P : ℕ → Type 0) (pages : List ℕ) (q : ℕ) → All P pages → is_in pages q ≡ true → P q
 in_all P [] q each e = absurd (cc)
 in_all P (x ∷ pages) q each e = first_or (λ f. in_all P pages q (λ i d h. each (suc i) d (omega arith)) f) (nat_eq x q) (is_in pages q) refl refl e
   where

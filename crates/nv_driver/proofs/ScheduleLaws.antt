@@ -2,7 +2,7 @@
 use Rattle.std.proofs.Common.{List, [], ◌∷◌, arith, subst, sym}
 use Rattle.nv_subsystem.specs.State.{State}
 use Rattle.nv_driver.specs.Schedule.{Event, Submit, Bell, Turn, Collect, Tell, EveryScheduleIsSerial, Happens, IsSerial, Runs, Setting, World}
-use Rattle.nv_driver.proofs.Keeping.{Keeps}
+use Rattle.nv_driver.specs.Keeping.{Keeps}
 use Rattle.nv_driver.proofs.KeptLaws.{bell_keeps, collect_keeps, idle_keeps, tell_keeps}
 use Rattle.nv_driver.proofs.SubmitLaws.{submit_keeps}
 use Rattle.nv_driver.proofs.TurnLaws.{turn_keeps, turn_takes}

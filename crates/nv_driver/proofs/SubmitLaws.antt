@@ -14,7 +14,7 @@ use Rattle.nv_subsystem.specs.State.{State}
 use Rattle.nv_driver.specs.Schedule.{AreApart, AreOutside, Happens, Holds, IsPrepared, MaySubmit, Sent, Setting, Submit, World, after, answers_to, data_length, entry, places, slot, submit_ring}
 use Rattle.nv_driver.proofs.CountLaws.{slot_inside, slots_differ}
 use Rattle.nv_driver.proofs.HeldLaws.{holds_on}
-use Rattle.nv_driver.proofs.Keeping.{IsOwn, Keeps}
+use Rattle.nv_driver.specs.Keeping.{IsOwn, Keeps}
 use Rattle.nv_driver.proofs.PointerLaws.{entry_call}
 use Rattle.nv_driver.proofs.RegionLaws.{ChangesOnlyAt, InPage, data_stays, outside_part, place_page, submission_keeps}
 use Rattle.nv_driver.proofs.SerialLaws.{answers-append, length-answers}
@@ -90,7 +90,7 @@ own_of t s w x ready k may prepared =
 
 -- ---- the schedule goes on
 
-each_more : (P : ℕ → Sent → Type 0) (low : ℕ) (xs : List Sent) (x : Sent) → ((n : ℕ) (d : Sent) → low ≤ n → n < length xs → P n (get_or xs n d))
+pub each_more : (P : ℕ → Sent → Type 0) (low : ℕ) (xs : List Sent) (x : Sent) → ((n : ℕ) (d : Sent) → low ≤ n → n < length xs → P n (get_or xs n d))
     → P (length xs) x → (n : ℕ) (d : Sent) → low ≤ n → n < length (xs ++ x ∷ []) → P n (get_or (xs ++ x ∷ []) n d)
 each_more P low xs x each last n d from below =
     let more : length (xs ++ x ∷ []) ≡ length xs + 1 = length-append xs (x ∷ []) in

@@ -21,7 +21,7 @@ use Rattle.nv_controller.specs.Turn.{can_take}
 use Rattle.nv_driver.specs.Schedule.{Answer, AreOutside, Sent, Setting, World, data_length, device_rings, entry, number, places, slot}
 use Rattle.nv_driver.proofs.AnswerLaws.{Delivers, IsAnswerTo, reply_length}
 use Rattle.nv_driver.proofs.CountLaws.{number_above, number_next}
-use Rattle.nv_driver.proofs.Keeping.{IsOwn, Keeps}
+use Rattle.nv_driver.specs.Keeping.{IsOwn, Keeps}
 use Rattle.nv_driver.proofs.RegionLaws.{data_keeps, length-places, outside_part}
 
 -- ---- which entry is taken

@@ -9,11 +9,11 @@ use Rattle.nv_controller.specs.Turn.{PortTurn, RingsLie, Site, Taken, turn_count
 use Rattle.nv_driver.specs.Schedule.{Happens, Sent, Setting, Turn, World, device_rings, least, number, port_with}
 use Rattle.nv_driver.proofs.CountLaws.{number_above, number_below}
 use Rattle.nv_driver.proofs.EntryLaws.{entry_keeps, world_after}
-use Rattle.nv_driver.proofs.Keeping.{Keeps}
+use Rattle.nv_driver.specs.Keeping.{Keeps}
 use Rattle.nv_driver.proofs.TakenLaws.{is_done, can_go, now}
 
 -- a command that stands for none
-no_command : Sent
+abbrev pub no_command : Sent
 no_command = record { command = ActiveList 0; cid = 0; pages = []; offset = 0; first = 0; second = 0; list_offset = 0; prp1 = 0; prp2 = 0 }
 
 -- the schedule after so many entries

@@ -1,7 +1,7 @@
 -- What a driver stands for, by its fields, and what holds of them between two calls.
 use Rattle.std.specs.Prelude.{◌≡◌, ℕ, ◌*◌, ◌/◌, ◌<◌, ◌^◌, All, List, length, map, slice_index_or, slice_set}
 use Rattle.nv_host.specs.Pages.{PagedBytes}
-use Rattle.nv_driver.specs.Exchange.{after_one}
+use Rattle.nv_driver.specs.Exchange.{after_one, after_some}
 use Rattle.nv_driver.specs.Geometry.{IsGeometry}
 use Rattle.nv_driver.specs.Lane.{Lane}
 use Rattle.nv_driver.specs.Layout.{lane_of, lanes_of, pages_of}
@@ -47,3 +47,7 @@ lane_at lanes c = slice_index_or lanes c no_lane
 -- the driver after a command of controller c: the next number and the next command identifier of its lane are due
 abbrev pub after_command : DriverValue → ℕ → DriverValue
 after_command d c = record d { lanes = slice_set d.lanes c (after_one (lane_at d.lanes c)) }
+
+-- and after so many commands
+abbrev pub after_commands : DriverValue → ℕ → ℕ → DriverValue
+after_commands d c n = record d { lanes = slice_set d.lanes c (after_some n (lane_at d.lanes c)) }

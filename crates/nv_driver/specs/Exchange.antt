@@ -1,10 +1,11 @@
 -- One command of a driver and its answer.
-use Rattle.std.specs.Prelude.{◌≡◌, ℕ, ◌-◌, ◌<◌, ◌≤◌, List, length}
+use Rattle.std.specs.Prelude.{◌≡◌, ℕ, ◌+◌, ◌-◌, ◌*◌, ◌%◌, ◌<◌, ◌≤◌, List, length}
 use Rattle.nv_host.specs.Bytes.{bytes_at}
 use Rattle.nv_prp.specs.Buffer.{IsApart}
-use Rattle.nv_queue.specs.Numbers.{next}
+use Rattle.nv_queue.specs.Numbers.{kept_number, next}
 use Rattle.nv_queue.specs.Slots.{HoldsTags}
 use Rattle.nv_subsystem.specs.Step.{next_serial}
+use Rattle.nv_subsystem.specs.declared.origin.TheConstants.{SERIALS}
 use Rattle.nv_controller.specs.Bus.{BusValue, IsBus, port_at}
 use Rattle.nv_driver.specs.Geometry.{IsGeometry}
 use Rattle.nv_driver.specs.Lane.{IsLaid, Lane, idle_port}
@@ -14,11 +15,13 @@ use Rattle.nv_driver.specs.Settled.{end_of}
 use Rattle.nv_driver.specs.declared.geometry.Geometry.{Geometry}
 use Rattle.nv_driver.specs.declared.lane.Lane.{Lane as LaneFields}
 
--- controller c of a bus and a quiet lane of it, in a memory that holds the tags that are due
+-- controller c of a bus and a quiet lane of it, with four pages or more for each command of the window, in a memory
+-- that holds the tags that are due
 pub record IsReady (g : Geometry) (b : BusValue) (c : ℕ) (l : LaneFields) (now : ℕ) (bytes : List ℕ) : Type 0 where
   pub geometry : IsGeometry g
   pub page_size : now ≡ g.page_size
-  pub room : 4 ≤ l.pages.count
+  pub depth : l.submission.depth ≡ g.depth
+  pub room : 4 * g.window ≤ l.pages.count
   pub quiet : IsQuiet l
   pub laid : IsLaid g.page_size (length bytes) (lane_value l)
   pub tags : HoldsTags bytes l.completion.base l.submission.depth l.submission.submitted
@@ -29,6 +32,10 @@ pub record IsReady (g : Geometry) (b : BusValue) (c : ℕ) (l : LaneFields) (now
 -- the lane after a command
 abbrev pub after_one : Lane → Lane
 after_one l = record l { number = next l.depth l.number; serial = next_serial l.serial }
+
+-- and after so many
+abbrev pub after_some : ℕ → Lane → Lane
+after_some n l = record l { number = kept_number l.depth (l.number + n); serial = (l.serial + n) % SERIALS }
 
 -- bytes outside the lane stay
 abbrev pub KeepsOthers : ℕ → Lane → List ℕ → List ℕ → Type 0

@@ -7,6 +7,9 @@ pub mod Settled
 pub mod Registers
 pub mod CommandPages
 pub mod Schedule
+pub mod Keeping
 pub mod Submitting
 pub mod Exchange
+pub mod Batch
+pub mod UnderWay
 pub mod Driver

@@ -27,7 +27,7 @@ sent_by g k cid o = record {
 
 -- it took its pages, they were made ready, and its entry was put in the ring
 pub record IsSubmitted (g : Geometry) (k : Command) (o : Outstanding) (old new : LaneFields) (before after : List ℕ) : Type 0 where
-  pub few : o.pages.data_pages ≤ 5
+  pub few : o.pages.data_pages ≤ 2
   pub seven : length o.pages.numbers ≡ 7
   pub taken : AreTaken old.pages (all_pages o.pages)
   pub enough : g.offset + data_length (sent_by g k old.serial o) ≤ o.pages.data_pages * g.page_size

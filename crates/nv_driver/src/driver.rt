@@ -4,11 +4,13 @@ ghost use Rattle.std.specs.Prelude.{◌≡◌, ◌≢◌, ◌<◌, ◌≤◌, �
 ghost use Rattle.nv_controller.specs.Bus.{IsBus, IsEnabledWhereReady};
 ghost use Rattle.nv_command.specs.Command.{CommandFits};
 ghost use Rattle.nv_subsystem.specs.Step.{step};
-ghost use Rattle.nv_driver.specs.Driver.{after_command, lane_at, new_driver};
+ghost use Rattle.nv_driver.specs.Batch.{answers_of, state_after};
+ghost use Rattle.nv_driver.specs.Driver.{after_command, after_commands, lane_at, new_driver};
 ghost use Rattle.nv_driver.specs.Geometry.{IsGeometry, fault_of};
 ghost use Rattle.nv_driver.specs.Registers.{ports_of};
 
 use crate::answering::Answer;
+use crate::batch::exchange_all;
 use crate::enabling::enable_all;
 use crate::error::DriverError;
 use crate::exchange::exchange;
@@ -106,6 +108,43 @@ impl Driver {
     {
         let lane = &mut self.lanes[ctrl as usize];
         exchange(bus, ctrl, &mut self.mem, lane, self.geometry, command)
+    }
+
+    /// Sends commands to a controller and awaits their answers, one for each. As many commands are
+    /// outstanding at a time as the geometry's window allows, and they go on after a refusal; the
+    /// answers and the subsystem are those of one command at a time. It takes no memory. The bus is
+    /// as this driver left it; each field of each command fits its bits. Section "Command
+    /// Processing".
+    pub fn admin_all<B: Bus>(
+        &mut self,
+        bus: &mut B,
+        ctrl: u16,
+        commands: &[Command],
+        answers: &mut [Answer],
+    )
+        requires ctrl { ctrl < length self.old.lanes }
+        requires bus { IsBus (B.meaning bus.old) }
+        requires left { (B.meaning bus.old).ports ≡ ports_of self.old }
+        requires fits { All CommandFits commands.now }
+        requires len { length answers.old ≡ length commands.now }
+        ensures answers { answers.new ≡ answers_of ctrl (B.meaning bus.old).state
+            (lane_at self.old.lanes ctrl).serial commands.now }
+        ensures state { (B.meaning bus.new).state ≡ state_after ctrl (B.meaning bus.old).state
+            (lane_at self.old.lanes ctrl).serial commands.now }
+        ensures bus { IsBus (B.meaning bus.new) }
+        ensures driver { self.new ≡ after_commands self.old ctrl (length commands.now) }
+        ensures left { (B.meaning bus.new).ports ≡ ports_of self.new }
+    {
+        let lane = &mut self.lanes[ctrl as usize];
+        exchange_all(
+            bus,
+            ctrl,
+            &mut self.mem,
+            lane,
+            self.geometry,
+            commands,
+            answers,
+        );
     }
 
     /// How many controllers the driver has.

@@ -24,6 +24,7 @@
 #![tactic(auto)]
 
 mod answering;
+mod batch;
 mod command_pages;
 mod driver;
 mod enabling;

@@ -1,5 +1,6 @@
-use Rattle.std.proofs.Common.{◌∙◌, ℕ, ◌<◌, ap, arith, get_or, length, subst, sym}
+use Rattle.std.proofs.Common.{◌∙◌, ℕ, ◌+◌, ◌<◌, ap, arith, get_or, length, subst, sym}
 use Rattle.std.specs.FinSet as set
+use Rattle.std.proofs.lemmas.Nat.{mod_below}
 use Rattle.nv_host.specs.PageSets.{IsOf, Pages}
 use Rattle.nv_layout.specs.declared.cqe.Cqe.{Cqe}
 use Rattle.nv_prp.specs.Place.{read_at}
@@ -10,8 +11,9 @@ use Rattle.nv_driver.specs.CommandPages.{all_pages, with_pages}
 use Rattle.nv_driver.specs.Quiet.{lane_value}
 use Rattle.nv_driver.specs.Schedule.{answer_from, answer_read, data_length}
 use Rattle.nv_driver.specs.Submitting.{sent_by}
+use Rattle.nv_driver.specs.UnderWay.{setting}
 use Rattle.nv_driver.specs.declared.lane.Lane.{Lane as LaneFields}
-use Rattle.nv_driver.proofs.ExchangeLaws.{answer_is, completion_is, completion_ring, exchanged, freed_between, head_is, in_some, is_there, lane_after, not_full, others_after, port_after, port_is, ports_after, ports_long, ring_collected, ring_freed, setting, state_is, submission_ring, tags_are, told_is}
+use Rattle.nv_driver.proofs.ExchangeLaws.{answer_is, completion_is, completion_ring, exchanged, freed_between, head_is, in_some, is_there, lane_after, not_full, others_after, port_after, port_is, ports_after, ports_long, ring_collected, ring_freed, state_is, submission_ring, tags_are, told_is}
 use Rattle.nv_driver.proofs.PageSetLaws.{full_length, taken_back, without_none}
 use Rattle.nv_driver.proofs.PointerLaws.{still_legal}
 use Rattle.nv_driver.proofs.exchange.exchange.Goals as goal
@@ -21,7 +23,7 @@ submit-tail-requires-clause-pages g c =
     let r = c.requires.ready in
     let pages = c.args.lane.now.pages in
     let many = ap (λ (m : Pages). set.len m.members) (ap (λ m. record pages { members = m }) r.quiet.free) ∙ full_length pages.first pages.count in
-    omega (arith, many, r.room)
+    omega (arith, many, r.room, r.geometry.window.0)
 
 pub submit-tail-requires-clause-free : goal.submit-tail-requires-clause-free
 submit-tail-requires-clause-free g c =
@@ -122,10 +124,10 @@ returns-clause-ready g c =
     let at = ap (λ (q : Cqe). q.sq_head) there ∙ head_is k in
     let collected = in_some _ _ c.unwrap-completion.ensures c.poll.ensures.collected in
     let long = ports_long _ _ _ _ (ports_long _ _ _ _ r.controller c.write32.ensures.ports) c.turn.ensures.turn.others in
-    lane_after r (c.turn.ensures.page ∙ size) (c.turn.ensures.len ∙ c.submit-tail.ensures.len)
+    lane_after 1 r (c.turn.ensures.page ∙ size) (c.turn.ensures.len ∙ c.submit-tail.ensures.len)
     (c.freed.ensures ∙ ring_freed t _ _ r.laid.deep.0 (submission_ring r sub) at)
     (c.head_to_tell.ensures.told ∙ ap told_all collected ∙ ring_collected t _ ring)
-    (ap (λ (l : LaneFields). l.serial) sub.lane)
+    (let is = ap (λ (l : LaneFields). l.serial) sub.lane in let below = mod_below (c.args.lane.now.serial + 1) 65535 (omega arith) in omega (arith, is, below))
     (c.give.ensures ∙ ap (λ (l : LaneFields). with_pages l.pages (all_pages c.submit-tail.result.0.pages)) sub.lane
     ∙ taken_back c.args.lane.now.pages (all_pages c.submit-tail.result.0.pages) sub.taken)
     (tags_are k)

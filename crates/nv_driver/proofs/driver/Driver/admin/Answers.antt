@@ -1,5 +1,6 @@
 use Rattle.std.proofs.Common.{◌∙◌, ap, sym}
 use Rattle.nv_driver.specs.Driver.{after_command}
+use Rattle.nv_driver.specs.Exchange.{after_one}
 use Rattle.nv_driver.specs.Registers.{ports_of}
 use Rattle.nv_driver.specs.Settled.{DriverValue}
 use Rattle.nv_driver.proofs.AdminLaws.{driver_after, inside_of, ports_left, ready_at, value_after}
@@ -17,7 +18,7 @@ invariant_of-self g c =
 pub returns-clause-driver : goal.returns-clause-driver
 returns-clause-driver g c =
     let e = c.exchange.ensures in
-    value_after _ _ _ _ _ _ _ (inside_of _ _ _ _ _ c.requires.ctrl c.self.view_is) c.index_mut-lane.ensures.value e.lane e.len e.page ∙ ap (λ (d : DriverValue). after_command d c.args.ctrl) c.self.view_is
+    value_after after_one _ _ _ _ _ _ _ (inside_of _ _ _ _ _ c.requires.ctrl c.self.view_is) c.index_mut-lane.ensures.value e.lane e.len e.page ∙ ap (λ (d : DriverValue). after_command d c.args.ctrl) c.self.view_is
 
 pub returns-clause-left : goal.returns-clause-left
 returns-clause-left g c =

@@ -1,0 +1,290 @@
+-- A list of commands on its way: its answers are collected.
+use Rattle.std.specs.Prelude.{IfSome, IsSome, Option, Some, set}
+use Rattle.std.proofs.Common.{◌≡◌, ◌∙◌, ℕ, ◌+◌, ◌-◌, ◌%◌, ◌<◌, ◌≤◌, All, AllPairs, List, [], ◌∷◌, ◌++◌, add-one, ap, arith, drop, false, get_or, inl, length, length-append, not, refl, subst, sym, take, true, ◌==◌, ◌≢◌}
+use Rattle.std.proofs.Math.Seq.{drop-cons}
+use Rattle.std.proofs.Math.ListN.{length-set}
+use Rattle.std.proofs.lemmas.List.{take_more, take_more_set}
+use Rattle.std.proofs.lemmas.Bool.Decides.{nat_tests}
+use Rattle.std.proofs.lemmas.Nat.{mod_below}
+use Rattle.std.specs.FinSet as set
+use Rattle.nv_host.specs.PageSets.{IsOf, Pages}
+use Rattle.nv_layout.specs.declared.cqe.Cqe.{Cqe}
+use Rattle.nv_prp.specs.Place.{read_at}
+use Rattle.nv_prp.specs.Transfer.{IsLegal, transfer, transfer_places}
+use Rattle.nv_queue.specs.KeptLaws.{between_kept, first_kept}
+use Rattle.nv_queue.specs.Numbers.{IsSlotBetween, first_in_slot}
+use Rattle.nv_queue.specs.Rings.{CollectNumbers, SubmitNumbers, collected_one, known_to}
+use Rattle.nv_queue.specs.Slots.{IsAwaitedThere, awaited_completion, completion_at}
+use Rattle.nv_queue.specs.TagLaws.{tag_there}
+use Rattle.nv_command.specs.Command.{transfer_by}
+use Rattle.nv_command.specs.declared.command.Command.{Command}
+use Rattle.nv_controller.specs.Call.{length_of}
+use Rattle.nv_driver.specs.CommandPages.{AreTaken, all_pages, with_pages, without}
+use Rattle.nv_driver.specs.Schedule.{Answer, Sent, World, answer_from, answer_read, answers_to, awaited, collect_ring, data_length, number, own_pages, places, slot, submit_ring}
+use Rattle.nv_driver.specs.Submitting.{sent_by}
+use Rattle.nv_driver.specs.UnderWay.{HasAnswers, IsKept, IsUnderWay, Run, kept_at, pages_of_all, serial_at, setting_of}
+use Rattle.nv_driver.specs.declared.batch.Batch.{Batch}
+use Rattle.nv_driver.specs.declared.lane.Lane.{Lane as LaneFields}
+use Rattle.nv_driver.specs.declared.submitting.Outstanding.{Outstanding}
+use Rattle.nv_driver.proofs.BatchLaws.{answers_are, distance_is}
+use Rattle.nv_driver.proofs.CountLaws.{number_above, number_below, number_next, numbers_differ, slot_inside}
+use Rattle.nv_driver.proofs.KeptLaws.{collect_keeps}
+use Rattle.nv_driver.proofs.SerialLaws.{length-answers}
+use Rattle.nv_driver.proofs.SubmittingLaws.{pages_are}
+use Rattle.nv_driver.proofs.TurnLaws.{no_command}
+use Rattle.nv_driver.proofs.UnderWayLaws.{held, pages_left, those}
+use Rattle.nv_driver.proofs.WindowPageLaws.{given_back, gone, taken_first, taken_rest}
+
+-- a command that was sent with these
+pub record IsOne (r : Run) (o : Outstanding) (x : Sent) : Type 0 where
+  pub sent : x ≡ sent_by r.geometry x.command x.cid o
+  pub few : o.pages.data_pages ≤ 2
+  pub pages : all_pages o.pages ≡ own_pages x
+  pub legal : (mem : List ℕ) → length mem ≡ length r.bytes
+      → IsLegal (transfer r.geometry.page_size mem o.prp1 o.prp2 (data_length x))
+      × (transfer_places (transfer r.geometry.page_size mem o.prp1 o.prp2 (data_length x)) ≡ places r.geometry.page_size x)
+
+is_one : (r : Run) (found : Option Outstanding) (o : Outstanding) (x : Sent) → IsKept r found x → found ≡ Some o → IsOne r o x
+is_one r found o x k is =
+    let same : k.one ≡ o = let both = sym k.is_one ∙ is in cc in
+    let as_sent = k.sent ∙ ap (sent_by r.geometry x.command x.cid) same in
+    record {
+      sent = as_sent;
+      few = omega (arith, k.few, ap (λ (q : Outstanding). q.pages.data_pages) same);
+      pages = ap (λ (q : Outstanding). all_pages q.pages) (sym same) ∙ pages_are k.one.pages k.seven ∙ ap own_pages (sym k.sent);
+      legal = λ mem size.
+          subst (λ (a : ℕ). IsLegal (transfer r.geometry.page_size mem a o.prp2 (data_length x))
+          × (transfer_places (transfer r.geometry.page_size mem a o.prp2 (data_length x)) ≡ places r.geometry.page_size x)) (ap (λ (y : Sent). y.prp1) as_sent)
+          (subst (λ (a : ℕ). IsLegal (transfer r.geometry.page_size mem x.prp1 a (data_length x))
+          × (transfer_places (transfer r.geometry.page_size mem x.prp1 a (data_length x)) ≡ places r.geometry.page_size x)) (ap (λ (y : Sent). y.prp2) as_sent)
+          (k.legal mem size));
+    }
+
+-- more was collected than was told
+above_told : (h k : ℕ) → h ≤ k → true ≡ not (h == k + 1)
+above_told h k low = grind (arith, nat_tests)
+
+abbrev lane_by : SubmitNumbers → CollectNumbers → ℕ → Pages → LaneFields
+lane_by a c n p = record { submission = a; completion = c; serial = n; pages = p }
+
+lanes_same : {a a' : SubmitNumbers} {c c' : CollectNumbers} {n n' : ℕ} {p p' : Pages} → a ≡ a' → c ≡ c' → n ≡ n' → p ≡ p' → lane_by a c n p ≡ lane_by a' c' n' p'
+lanes_same e f g h = cc
+
+module _ {r : Run} {bells turns : ℕ} {b : Batch} {l : LaneFields} {now : ℕ} {bytes : List ℕ} (u : IsUnderWay r bells turns b l now bytes) where
+  pub no_more : (b.collected ≤ b.sent) × (turns ≤ b.sent)
+  no_more =
+      let c = u.keeps.counts in
+      (omega (arith, c.collected, c.done, c.rung, u.sent, u.collected), omega (arith, c.done, c.rung, u.sent, u.done))
+
+  -- the command whose answer is awaited
+  abbrev pub next_one : Sent
+  next_one = get_or u.world.sent b.collected no_command
+
+  there : b.collected < turns → IsAwaitedThere u.world.mem (awaited (setting_of r) u.world)
+  there more =
+      let t = setting_of r in
+      let w = u.world in
+      let c = u.keeps.counts in
+      let deep = u.keeps.placed.deep in
+      let n = length w.answers in
+      let far = number_above t n w.done (omega (arith, deep.0)) c.collected (omega (arith, c.done, c.rung, c.few)) in
+      u.keeps.tags (slot t n) (slot_inside t n (omega (arith, deep.0)))
+      ∙ tag_there t.depth (number t w.done) (number t n) (number_below t w.done (omega (arith, deep.0))) (number_below t n (omega (arith, deep.0)))
+      (omega (arith, far, c.done, c.rung, c.few))
+      (λ same. numbers_differ t n w.done (omega (arith, more, u.collected, u.done)) (omega (arith, c.done, c.rung, c.few)) (sym same))
+
+  ring_is : awaited (setting_of r) u.world ≡ l.completion
+  ring_is =
+      ap (λ n. collect_ring (setting_of r) n u.world.told) u.collected ∙ ap (collect_ring (setting_of r) b.collected) u.told
+      ∙ ap (λ (q : LaneFields). q.completion) (sym u.lane)
+
+  pub is_there : b.collected < turns → IsAwaitedThere bytes l.completion
+  is_there more = subst (λ q. IsAwaitedThere bytes q) ring_is (subst (λ m. IsAwaitedThere m (awaited (setting_of r) u.world)) u.mem (there more))
+
+  -- it has its place in the window
+  pub is_some : b.collected < turns → {found : Option Outstanding} → kept_at b b.collected ≡ found → IsSome found
+  is_some more same = let k = u.kept b.collected no_command (omega arith) (omega (arith, no_more, more)) in
+      subst IsSome (sym k.is_one ∙ same) refl
+
+  module _ (more : b.collected < turns) {found : Option Cqe} {q : Cqe} (some : found ≡ Some q) (value : IfSome found (λ c. c ≡ awaited_completion bytes l.completion)) where
+    pub completion_is : q ≡ completion_at u.world.mem (setting_of r).cq (slot (setting_of r) b.collected)
+    completion_is =
+        subst (λ (o : Option Cqe). IfSome o (λ c. c ≡ awaited_completion bytes l.completion)) some value
+        ∙ ap (awaited_completion bytes) (ap (λ (o : LaneFields). o.completion) u.lane)
+        ∙ ap (λ m. completion_at m (setting_of r).cq (slot (setting_of r) b.collected)) (sym u.mem)
+
+    pub cid_is : q.cid ≡ serial_at r b.collected
+    cid_is =
+        let held = u.keeps.held b.collected no_command (omega (arith, u.collected)) (omega (arith, more, u.done)) in
+        ap (λ (c : Cqe). c.cid) completion_is ∙ held.cid ∙ (u.commands b.collected no_command (omega (arith, no_more, more))).cid
+
+    pub head_is : q.sq_head ≡ slot (setting_of r) (b.collected + 1)
+    head_is =
+        let held = u.keeps.held b.collected no_command (omega (arith, u.collected)) (omega (arith, more, u.done)) in
+        ap (λ (c : Cqe). c.sq_head) completion_is ∙ held.head
+
+    pub cid_below : q.cid < 65535
+    cid_below = let below = mod_below (r.lane.serial + b.collected) 65535 (omega arith) in omega (arith, cid_is, below)
+
+    -- by its command identifier it is the awaited one
+    pub distance_to : (n : ℕ) → n ≡ (l.serial + 65535 - q.cid) % 65535 → n ≡ b.sent - b.collected
+    distance_to n is =
+        is ∙ ap (λ c. (l.serial + 65535 - c) % 65535) cid_is ∙ ap (λ (o : LaneFields). (o.serial + 65535 - serial_at r b.collected) % 65535) u.lane
+        ∙ distance_is r.lane.serial b.collected b.sent (no_more.0) (omega (arith, u.window, u.begun.geometry.window.1))
+
+    pub number_is : {n : ℕ} → n ≡ (l.serial + 65535 - q.cid) % 65535 → b.sent - n ≡ b.collected
+    number_is {n} is = omega (arith, distance_to n is, no_more)
+
+    pub freed_between : IsSlotBetween l.submission.depth l.submission.known l.submission.submitted q.sq_head
+    freed_between =
+        let t = setting_of r in
+        let window = u.begun.geometry.window in
+        subst (λ (o : LaneFields). IsSlotBetween o.submission.depth o.submission.known o.submission.submitted q.sq_head) (sym u.lane)
+        (subst (IsSlotBetween t.depth (number t b.collected) (number t b.sent)) (sym head_is)
+        (between_kept t.depth (t.start + b.collected) 1 (b.sent - b.collected) (t.start + (b.collected + 1)) (t.start + b.sent)
+        (omega (arith, no_more, more)) (omega (arith, u.window, window.2, u.begun.depth)) (omega arith) (omega (arith, no_more))))
+
+    freed_to : first_in_slot (setting_of r).depth (number (setting_of r) b.collected) q.sq_head ≡ number (setting_of r) (b.collected + 1)
+    freed_to =
+        let t = setting_of r in
+        let deep = u.keeps.placed.deep in
+        ap (first_in_slot t.depth (number t b.collected)) head_is
+        ∙ first_kept t.depth (t.start + (b.collected + 1)) (t.start + b.collected) 1 (omega arith) (omega (arith, deep.0))
+
+    -- ---- its pages
+
+    held_is : held u ≡ own_pages next_one ++ pages_of_all (drop (b.collected + 1) u.world.sent)
+    held_is = ap pages_of_all (drop-cons u.world.sent b.collected no_command (omega (arith, no_more, more, u.sent)))
+        ∙ ap (λ n. own_pages next_one ++ pages_of_all (drop n u.world.sent)) (sym (add-one b.collected))
+
+    module _ {kept : Option Outstanding} {o : Outstanding} (place : kept_at b b.collected ≡ kept) (here : kept ≡ Some o) where
+      pub one_is : IsOne r o next_one
+      one_is = is_one r (kept_at b b.collected) o next_one (u.kept b.collected no_command (omega arith) (omega (arith, no_more, more))) (place ∙ here)
+
+      all_is : held u ≡ all_pages o.pages ++ pages_of_all (drop (b.collected + 1) u.world.sent)
+      all_is = held_is ∙ ap (λ ps. ps ++ pages_of_all (drop (b.collected + 1) u.world.sent)) (sym one_is.pages)
+
+      pub give_own : All (λ p. IsOf l.pages.first l.pages.count p) (all_pages o.pages)
+      give_own =
+          subst (λ (s : Pages). All (λ p. IsOf s.first s.count p) (all_pages o.pages)) (sym (pages_left u))
+          (taken_first r.lane.pages (all_pages o.pages) _ (subst (AreTaken r.lane.pages) all_is u.taken)).own
+
+      pub give_none : All (λ p. set.contains l.pages.members p ≡ false) (all_pages o.pages)
+      give_none =
+          subst (λ (s : Pages). All (λ p. set.contains s.members p ≡ false) (all_pages o.pages))
+          (sym (pages_left u ∙ ap (without r.lane.pages) all_is))
+          (λ i d h. gone r.lane.pages (all_pages o.pages) (pages_of_all (drop (b.collected + 1) u.world.sent)) i d h)
+
+      pub give_distinct : AllPairs (λ p q. p ≢ q) (all_pages o.pages)
+      give_distinct = (taken_first r.lane.pages (all_pages o.pages) _ (subst (AreTaken r.lane.pages) all_is u.taken)).distinct
+
+      taken_left : AreTaken r.lane.pages (pages_of_all (drop (b.collected + 1) u.world.sent))
+      taken_left = taken_rest r.lane.pages (all_pages o.pages) _ (subst (AreTaken r.lane.pages) all_is u.taken)
+
+      pages_back : with_pages l.pages (all_pages o.pages) ≡ without r.lane.pages (pages_of_all (drop (b.collected + 1) u.world.sent))
+      pages_back = ap (λ s. with_pages s (all_pages o.pages)) (pages_left u ∙ ap (without r.lane.pages) all_is)
+          ∙ given_back r.lane.pages (all_pages o.pages) (pages_of_all (drop (b.collected + 1) u.world.sent)) (subst (AreTaken r.lane.pages) all_is u.taken)
+
+      -- ---- what is left
+
+      lane_left : lane_by (known_to l.submission q.sq_head) (collected_one l.completion) l.serial (with_pages l.pages (all_pages o.pages))
+          ≡ lane_by (submit_ring (setting_of r) b.sent (b.collected + 1)) (collect_ring (setting_of r) (b.collected + 1) b.told)
+          (serial_at r b.sent) (without r.lane.pages (pages_of_all (drop (b.collected + 1) u.world.sent)))
+      lane_left =
+          let t = setting_of r in
+          let c = u.keeps.counts in
+          let serial = ap (λ (x : LaneFields). x.serial) u.lane in
+          let untold : true ≡ not (b.told == b.collected + 1) = above_told b.told b.collected (omega (arith, c.told, u.told, u.collected)) in
+          let submission : known_to l.submission q.sq_head ≡ submit_ring t b.sent (b.collected + 1) =
+          ap (λ (x : LaneFields). known_to x.submission q.sq_head) u.lane
+          ∙ ap (λ n. record { base = t.sq; depth = t.depth; submitted = number t b.sent; known = n }) freed_to in
+          let completion : collected_one l.completion ≡ collect_ring t (b.collected + 1) b.told =
+          ap (λ (x : LaneFields). collected_one x.completion) u.lane
+          ∙ ap (λ n. record { base = t.cq; depth = t.depth; collected = n; told = number t b.told; untold = true }) (number_next t b.collected)
+          ∙ ap (λ a. record { base = t.cq; depth = t.depth; collected = number t (b.collected + 1); told = number t b.told; untold = a }) untold in
+          lanes_same submission completion serial pages_back
+
+      pub collects : {a : SubmitNumbers} {p : CollectNumbers} {s : Pages} → a ≡ known_to l.submission q.sq_head → p ≡ collected_one l.completion
+          → s ≡ with_pages l.pages (all_pages o.pages) → IsUnderWay r bells turns (record b { collected = b.collected + 1 }) (lane_by a p l.serial s) now bytes
+      collects submission completion pages =
+          let t = setting_of r in
+          let w = u.world in
+          let a = answer_read t.page_size next_one w.mem (awaited_completion w.mem (awaited t w)) in
+          let at : get_or w.sent (length w.answers) no_command ≡ next_one = ap (λ n. get_or w.sent n no_command) u.collected in
+          let w' : World = record w { answers = w.answers ++ a ∷ [] } in
+          record {
+            begun = u.begun;
+            fits = u.fits;
+            geometry = u.geometry;
+            controller = u.controller;
+            page_size = u.page_size;
+            size = u.size;
+            window = omega (arith, u.window);
+            some = u.some;
+            room = u.room;
+            world = w';
+            keeps = collect_keeps t r.bus.state w w' u.keeps (inl (
+              there more,
+              no_command,
+              ap (λ y. record w { answers = w.answers ++ answer_read t.page_size y w.mem (awaited_completion w.mem (awaited t w)) ∷ [] }) (sym at),
+            ));
+            mem = u.mem;
+            rung = u.rung;
+            done = u.done;
+            told = u.told;
+            sent = u.sent;
+            collected = length-append w.answers (a ∷ []) ∙ ap (λ n. n + 1) u.collected;
+            commands = u.commands;
+            kept = λ n d from h. u.kept n d (omega (arith, from)) h;
+            lane = lanes_same submission completion refl pages ∙ lane_left;
+            taken = taken_left;
+            own = u.own;
+          }
+
+      -- ---- the answer
+
+      module _ {k : Command} (same : k ≡ next_one.command) where
+        pub answer_legal : IsLegal (transfer now bytes o.prp1 o.prp2 (length_of (transfer_by k)))
+        answer_legal =
+            subst (λ c. IsLegal (transfer now bytes o.prp1 o.prp2 (length_of (transfer_by c)))) (sym same)
+            (subst (λ p. IsLegal (transfer p bytes o.prp1 o.prp2 (data_length next_one))) (sym u.page_size) (one_is.legal bytes u.size).0)
+
+        answer_is : (d : Answer) → answer_from k q (read_at bytes (transfer_places (transfer now bytes o.prp1 o.prp2 (length_of (transfer_by k)))))
+            ≡ get_or (answers_to r.controller r.bus.state u.world.sent) b.collected d
+        answer_is d =
+            let t = setting_of r in
+            let held = u.keeps.held b.collected no_command (omega (arith, u.collected)) (omega (arith, more, u.done)) in
+            ap (λ c. answer_from c q (read_at bytes (transfer_places (transfer now bytes o.prp1 o.prp2 (length_of (transfer_by c)))))) same
+            ∙ ap (λ p. answer_from next_one.command q (read_at bytes (transfer_places (transfer p bytes o.prp1 o.prp2 (data_length next_one))))) u.page_size
+            ∙ ap (λ ps. answer_from next_one.command q (read_at bytes ps)) (one_is.legal bytes u.size).1
+            ∙ ap (λ m. answer_read t.page_size next_one m q) (sym u.mem)
+            ∙ ap (answer_read t.page_size next_one u.world.mem) completion_is
+            ∙ held.answer d
+
+        pub answers_more : {answers : List Answer} {a : Answer} {n : ℕ} → n ≡ b.collected → HasAnswers r b.collected answers
+            → a ≡ answer_from k q (read_at bytes (transfer_places (transfer now bytes o.prp1 o.prp2 (length_of (transfer_by k)))))
+            → HasAnswers r (b.collected + 1) (set answers n a)
+        answers_more {answers} {a} {n} at has is =
+            let c = r.controller in
+            let s = r.bus.state in
+            let serial = r.lane.serial in
+            let xs = u.world.sent in
+            let below = u.begun.laid.serial in
+            let size = length-answers c s xs in
+            let few = no_more in
+            let all = answers_are c s serial r.commands xs in
+            record {
+              len = length-set answers n a ∙ has.len;
+              first = ap (λ i. take (b.collected + 1) (set answers i a)) at
+                  ∙ take_more_set answers b.collected a (omega (arith, has.len, few, more, u.some))
+                  ∙ ap (λ ys. ys ++ a ∷ []) (has.first ∙ sym (all b.collected below (omega (arith, u.sent, u.some)) (omega (arith, u.sent, few)) (those u)))
+                  ∙ ap (λ y. take b.collected (answers_to c s xs) ++ y ∷ []) (is ∙ answer_is a)
+                  ∙ sym (take_more (answers_to c s xs) b.collected a (omega (arith, size, u.sent, few, more)))
+                  ∙ all (b.collected + 1) below (omega (arith, u.sent, u.some)) (omega (arith, u.sent, few, more)) (those u);
+            }
+
+  -- the command by its number
+  pub command_at : {k : Command} {ks : List Command} {n : ℕ} (e : Command) → b.collected < b.sent → n ≡ b.collected → ks ≡ r.commands → k ≡ get_or ks n e
+      → k ≡ next_one.command
+  command_at {k} {ks} {n} e more at same is =
+      is ∙ ap (λ xs. get_or xs n e) same ∙ ap (λ i. get_or r.commands i e) at ∙ sym ((u.commands b.collected no_command more).command e)

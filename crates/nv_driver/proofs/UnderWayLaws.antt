@@ -1,0 +1,341 @@
+-- A list of commands on its way: its beginning, submissions, doorbells and turns.
+use Rattle.std.specs.Prelude.{None, Some, set}
+use Rattle.std.proofs.Common.{◌≡◌, ◌≢◌, ◌∙◌, ℕ, ◌+◌, ◌-◌, ◌*◌, ◌%◌, ◌<◌, ◌≤◌, All, List, [], ◌∷◌, ◌++◌, ap, arith, drop, get_or, length, length-append, length-drop, refl, subst, sym, true}
+use Rattle.std.proofs.Math.ListN.{length-set}
+use Rattle.std.proofs.Math.Nat.{mod-eq_of_lt, mul-le-mul_left}
+use Rattle.std.proofs.lemmas.List.{drop-append-le, get_or-drop, get_or-set_other, get_or-set_same, get_or_default}
+use Rattle.std.proofs.lemmas.Nat.{mod_below}
+use Rattle.std.specs.FinSet as set
+use Rattle.nv_host.specs.PageSets.{IsOf, Pages}
+use Rattle.nv_queue.specs.KeptLaws.{slots_apart}
+use Rattle.nv_queue.specs.Numbers.{next, slot_of}
+use Rattle.nv_queue.specs.Rings.{CollectNumbers, IsSubmitFull, SubmitNumbers, submitted_one}
+use Rattle.nv_queue.specs.Slots.{with_submission}
+use Rattle.nv_command.specs.Command.{CommandFits}
+use Rattle.nv_command.specs.declared.command.Command.{Command}
+use Rattle.nv_subsystem.specs.Step.{next_serial}
+use Rattle.nv_driver.specs.CommandPages.{AreTaken, all_pages, data_pages, without}
+use Rattle.nv_driver.specs.Exchange.{IsReady}
+use Rattle.nv_driver.specs.Keeping.{Keeps}
+use Rattle.nv_driver.specs.Schedule.{IsPrepared, MaySubmit, Sent, collect_ring, entry, number, own_pages, slot, submit_ring}
+use Rattle.nv_driver.specs.Submitting.{IsSubmitted, sent_by}
+use Rattle.nv_driver.specs.UnderWay.{IsCommand, IsKept, IsUnderWay, Run, kept_at, pages_of_all, serial_at, setting_of}
+use Rattle.nv_driver.specs.declared.batch.Batch.{Batch}
+use Rattle.nv_driver.specs.declared.geometry.Geometry.{Geometry}
+use Rattle.nv_driver.specs.declared.lane.Lane.{Lane as LaneFields}
+use Rattle.nv_driver.specs.declared.submitting.Outstanding.{Outstanding}
+use Rattle.nv_driver.proofs.BatchLaws.{AreThose, serial_next}
+use Rattle.nv_driver.proofs.CountLaws.{number_above, number_next}
+use Rattle.nv_driver.proofs.ExchangeLaws.{before_pages, beginning, collect_ring_is, is_idle, own_of_set, submit_ring_is}
+use Rattle.nv_driver.proofs.KeptLaws.{idle_keeps}
+use Rattle.nv_driver.proofs.PageSetLaws.{full_length, in_of, is_in}
+use Rattle.nv_driver.proofs.PointerLaws.{still_legal}
+use Rattle.nv_driver.proofs.SubmitLaws.{each_more, submit_keeps}
+use Rattle.nv_driver.proofs.SubmittingLaws.{Has, buffer_of, distinct_of, list_of, pages_are, length-data_pages}
+use Rattle.nv_driver.proofs.WindowPageLaws.{differ, few_pages, fresh, page_of_one, pages-append, taken_also, taken_len, taken_none, without_also}
+
+-- ---- the beginning
+
+serial_first : (r : Run) → r.lane.serial < 65535 → r.lane.serial ≡ serial_at r 0
+serial_first r below = let sum : r.lane.serial + 0 ≡ r.lane.serial = omega arith in sym (ap (λ n. n % 65535) sum ∙ mod-eq_of_lt below)
+
+lane_first : (r : Run) → IsReady r.geometry r.bus r.controller r.lane r.geometry.page_size r.bytes
+    → r.lane ≡ record {
+      submission = submit_ring (setting_of r) 0 0;
+      completion = collect_ring (setting_of r) 0 0;
+      serial = serial_at r 0;
+      pages = without r.lane.pages [];
+    }
+lane_first r ready =
+    let l = r.lane in
+    let laid = ready.laid in
+    ap (λ (q : SubmitNumbers). record l { submission = q }) (submit_ring_is r.geometry r.controller r.bytes l ready.quiet laid.number)
+    ∙ ap (λ (q : CollectNumbers). record l { submission = submit_ring (setting_of r) 0 0; completion = q })
+    (collect_ring_is r.geometry r.controller r.bytes l ready.quiet laid.number)
+    ∙ ap (λ n. record l { submission = submit_ring (setting_of r) 0 0; completion = collect_ring (setting_of r) 0 0; serial = n }) (serial_first r laid.serial)
+    ∙ ap (λ (p : Pages). record l {
+      submission = submit_ring (setting_of r) 0 0;
+      completion = collect_ring (setting_of r) 0 0;
+      serial = serial_at r 0;
+      pages = p;
+    }) (sym (taken_none l.pages).1)
+
+pub begins : (r : Run) (b : Batch) (now : ℕ) → IsReady r.geometry r.bus r.controller r.lane r.geometry.page_size r.bytes
+    → All CommandFits r.commands → b.geometry ≡ r.geometry → b.ctrl ≡ r.controller → now ≡ r.geometry.page_size → length b.outstanding ≡ 16
+    → b.sent ≡ 0 → b.collected ≡ 0 → b.told ≡ 0 → IsUnderWay r b.sent b.collected b r.lane now r.bytes
+begins r b now ready fits geometry controller page room sent collected told =
+    let t = setting_of r in
+    let w = beginning t r.bus.state in
+    record {
+      begun = ready;
+      fits = fits;
+      geometry = geometry;
+      controller = controller;
+      page_size = page;
+      size = refl;
+      window = omega arith;
+      some = omega arith;
+      room = room;
+      world = w;
+      keeps = idle_keeps t w (is_idle r.geometry r.bus r.controller r.lane r.geometry.page_size r.bytes ready);
+      mem = refl;
+      rung = sym sent;
+      done = sym collected;
+      told = sym told;
+      sent = sym sent;
+      collected = sym collected;
+      commands = λ n d h. absurd (omega arith);
+      kept = λ n d from h. absurd (omega arith);
+      lane = rw (sent, collected, told) (lane_first r ready);
+      taken = rw collected (taken_none r.lane.pages).0;
+      own = λ n d h. absurd (omega arith);
+    }
+
+-- ---- what is known on the way
+
+-- the pages that the outstanding commands have
+abbrev pub held : {r : Run} {bells turns : ℕ} {b : Batch} {l : LaneFields} {now : ℕ} {bytes : List ℕ} → IsUnderWay r bells turns b l now bytes → List ℕ
+held {r} {bells} {turns} {b} u = pages_of_all (drop b.collected u.world.sent)
+
+pub own_length : (r : Run) (b : Batch) (n : ℕ) (x : Sent) → IsKept r (kept_at b n) x → length (own_pages x) ≤ 4
+own_length r b n x k =
+    let size = length-data_pages k.one.pages k.seven (omega (arith, k.few)) in
+    let same = ap (λ (y : Sent). length (own_pages y)) k.sent in omega (arith, size, same, k.few)
+
+module _ {r : Run} {bells turns : ℕ} {b : Batch} {l : LaneFields} {now : ℕ} {bytes : List ℕ} (u : IsUnderWay r bells turns b l now bytes) where
+  pub those : AreThose r.lane.serial r.commands u.world.sent
+  those = record {
+    command = λ n d e h. (u.commands n d (omega (arith, u.sent))).command e;
+    cid = λ n d h. (u.commands n d (omega (arith, u.sent))).cid;
+  }
+
+  pub pages_left : l.pages ≡ without r.lane.pages (held u)
+  pages_left = ap (λ (q : LaneFields). q.pages) u.lane
+
+  pub still_inside : (l.pages.first + l.pages.count) * r.geometry.page_size ≤ length bytes
+  still_inside =
+      let same = ap (λ (p : Pages). (p.first + p.count) * r.geometry.page_size) pages_left in
+      let laid = u.begun.laid in omega (arith, same, laid.inside, u.size)
+
+  pub set_has : b.sent < b.collected + r.geometry.window → 4 ≤ set.len l.pages.members
+  set_has more =
+      let pages = r.lane.pages in
+      let quiet = u.begun.quiet in
+      let all = ap (λ (m : Pages). set.len m.members) (ap (λ m. record pages { members = m }) quiet.free) ∙ full_length pages.first pages.count in
+      let rest = taken_len pages (held u) u.taken in
+      let now_has = ap (λ (p : Pages). set.len p.members) pages_left in
+      let many = length-drop b.collected u.world.sent in
+      let few = few_pages (drop b.collected u.world.sent) (λ n d h.
+      subst (λ (x : Sent). length (own_pages x) ≤ 4) (sym (get_or-drop b.collected u.world.sent n d))
+      (own_length r b (b.collected + n) _ (u.kept (b.collected + n) d (omega arith) (omega (arith, u.sent))))) in
+      let times = mul-le-mul_left 4 more in
+      omega (arith, all, rest, now_has, many, few, u.begun.room, u.sent, more)
+
+  pub serial_below : l.serial < 65535
+  serial_below =
+      let is = ap (λ (q : LaneFields). q.serial) u.lane in
+      let below = mod_below (r.lane.serial + b.sent) 65535 (omega arith) in omega (arith, is, below)
+
+  pub ring_inside : l.submission.base + 64 * l.submission.depth ≤ length bytes
+  ring_inside =
+      let same = ap (λ (q : LaneFields). q.submission.base + 64 * q.submission.depth) u.lane in
+      let placed = u.keeps.placed in
+      let size = ap (λ (m : List ℕ). length m) u.mem in
+      omega (arith, same, placed.rings, placed.inside, size)
+
+  pub collects_inside : l.completion.base + 16 * l.completion.depth ≤ length bytes
+  collects_inside =
+      let same = ap (λ (q : LaneFields). q.completion.base + 16 * q.completion.depth) u.lane in
+      let placed = u.keeps.placed in
+      let size = ap (λ (m : List ℕ). length m) u.mem in
+      omega (arith, same, placed.inside, size)
+
+  pub has_slot : b.sent < b.collected + r.geometry.window → ¬ IsSubmitFull l.submission
+  has_slot more full =
+      let t = setting_of r in
+      let window = u.begun.geometry.window in
+      let c = u.keeps.counts in
+      let order : b.collected ≤ b.sent = omega (arith, c.collected, c.done, c.rung, u.sent, u.collected) in
+      let far = number_above t b.collected b.sent (omega (arith, window.2, u.begun.depth)) order (omega (arith, window.2, u.begun.depth)) in
+      let is = subst IsSubmitFull (ap (λ (q : LaneFields). q.submission) u.lane) full in
+      omega (arith, far, is, order, window.2, u.begun.depth)
+
+-- the tail after one command more
+pub tail_after : {r : Run} {bells turns : ℕ} {b : Batch} {l : LaneFields} {now : ℕ} {bytes : List ℕ} (u : IsUnderWay r bells turns b l now bytes) (n tail : ℕ)
+    → n ≡ b.sent → tail ≡ slot_of l.submission.depth (next l.submission.depth l.submission.submitted) → tail ≡ slot (setting_of r) (n + 1)
+tail_after {r} {bells} {turns} {b} u n tail sent is =
+    is ∙ ap (λ (q : LaneFields). slot_of q.submission.depth (next q.submission.depth q.submission.submitted)) u.lane
+    ∙ ap (slot_of (setting_of r).depth) (number_next (setting_of r) b.sent) ∙ ap (λ i. slot (setting_of r) (i + 1)) (sym sent)
+
+-- ---- a submission
+
+-- the pages of the outstanding commands, with one command more
+held_more : (xs : List Sent) (x : Sent) (n : ℕ) → n ≤ length xs → pages_of_all (drop n (xs ++ x ∷ [])) ≡ pages_of_all (drop n xs) ++ own_pages x
+held_more xs x n low = ap pages_of_all (drop-append-le n xs (x ∷ []) low) ∙ pages-append (drop n xs) x
+
+-- commands fewer than sixteen apart have two places in the window
+two_places : (n m : ℕ) → n < m → m < n + 16 → n % 16 ≢ m % 16
+unfolding slot_of
+two_places n m l h = λ same. slots_apart 16 m n l h (sym same)
+
+-- a command that is submitted while others are outstanding
+module _ {r : Run} {bells turns : ℕ} {b : Batch} {l l' : LaneFields} {now : ℕ} {bytes mem : List ℕ} {k : Command} {o : Outstanding}
+    (u : IsUnderWay r bells turns b l now bytes) (more : b.sent < b.collected + r.geometry.window) (sub : IsSubmitted r.geometry k o l l' bytes mem) where
+  own_new : (i d : ℕ) → i < length (own_pages (sent_by r.geometry k l.serial o))
+      → IsOf r.lane.pages.first r.lane.pages.count (get_or (own_pages (sent_by r.geometry k l.serial o)) i d)
+  own_new i d h =
+      subst (λ (s : Pages). IsOf s.first s.count (get_or (own_pages (sent_by r.geometry k l.serial o)) i d)) (pages_left u)
+      (own_of_set l.pages (sent_by r.geometry k l.serial o) (all_pages o.pages) (pages_are o.pages sub.seven) sub.taken.own i d h)
+
+  taken_new : AreTaken (without r.lane.pages (held u)) (own_pages (sent_by r.geometry k l.serial o))
+  taken_new = subst (λ s. AreTaken s (own_pages (sent_by r.geometry k l.serial o))) (pages_left u)
+      (subst (AreTaken l.pages) (pages_are o.pages sub.seven) sub.taken)
+
+  may : (fits : CommandFits k) → MaySubmit (setting_of r) u.world (sent_by r.geometry k l.serial o)
+  may fits =
+      let x = sent_by r.geometry k l.serial o in
+      let g = r.geometry in
+      let laid = u.begun.laid in
+      let mem_is = u.mem in
+      let inside = subst (λ m. (l.pages.first + l.pages.count) * g.page_size ≤ length m) (sym mem_is) (still_inside u) in
+      let has : Has l.pages o.pages g.page_size (length u.world.mem) =
+      record { seven = sub.seven; few = omega (arith, sub.few); taken = sub.taken; inside = inside } in
+      record {
+        free = omega (arith, more, u.sent, u.collected, u.begun.geometry.window.2, u.begun.depth);
+        fits = fits;
+        cid = omega (arith, serial_below u);
+        buffer = buffer_of g l.pages o.pages u.world.mem (data_pages o.pages) g.page_size _ u.begun.geometry refl has refl sub.enough;
+        list = list_of g l.pages o.pages u.world.mem g.page_size u.begun.geometry refl has;
+        distinct = distinct_of l.pages o.pages (data_pages o.pages) sub.seven sub.taken refl;
+        submissions = before_pages r.lane.pages x g.page_size r.lane.submission.base (64 * r.lane.submission.depth) own_new (omega (arith, laid.rings, laid.pages));
+        completions = before_pages r.lane.pages x g.page_size r.lane.completion.base (16 * r.lane.submission.depth) own_new laid.pages;
+        apart = λ n d from below i e h j f low same.
+            let xs = u.world.sent in
+            let p = get_or (own_pages (get_or xs n d)) i e in
+            let at : b.collected + (n - b.collected) ≡ n = omega (arith, from, u.collected) in
+            let one = subst (λ (y : Sent). is_in (own_pages y) p ≡ true) (ap (λ m. get_or xs m d) (sym at) ∙ sym (get_or-drop b.collected xs (n - b.collected) d))
+            (in_of (own_pages (get_or xs n d)) i e p h refl) in
+            let size = length-drop b.collected xs in
+            let there = page_of_one (drop b.collected xs) (n - b.collected) d p (omega (arith, size, from, below, u.collected)) one in
+            differ (is_in (held u) p) there (ap (is_in (held u)) same ∙ fresh r.lane.pages (held u) (own_pages x) taken_new j f low);
+      }
+
+  submitted_keeps : CommandFits k
+      → Keeps (setting_of r) r.bus.state (record u.world { mem = mem; sent = u.world.sent ++ sent_by r.geometry k l.serial o ∷ [] })
+  submitted_keeps fits =
+      let t = setting_of r in
+      let x = sent_by r.geometry k l.serial o in
+      let w = u.world in
+      let ring : l.submission ≡ submit_ring t (length w.sent) (length w.answers) =
+      ap (λ (q : LaneFields). q.submission) u.lane ∙ ap (λ n. submit_ring t n b.collected) (sym u.sent) ∙ ap (submit_ring t (length w.sent)) (sym u.collected) in
+      let put = sub.mem ∙ ap (λ q. with_submission sub.ready q (entry x)) ring in
+      submit_keeps t r.bus.state x w _ u.keeps
+      (may fits, sub.ready, subst (λ m. IsPrepared r.geometry.page_size x m sub.ready) (sym u.mem) sub.prepared, ap (λ m. record w { mem = m; sent = w.sent ++ x ∷ [] }) put)
+
+  -- the window keeps the places of the others
+  kept_on : (n : ℕ) (d : Sent) → b.collected ≤ n → n < b.sent
+      → IsKept r (kept_at (record b { outstanding = set b.outstanding (b.sent % 16) (Some o); sent = b.sent + 1 }) n) (get_or u.world.sent n d)
+  kept_on n d from below =
+      subst (λ q. IsKept r q (get_or u.world.sent n d))
+      (sym (get_or-set_other b.outstanding (b.sent % 16) (n % 16) (Some o) None (two_places n b.sent below (omega (arith, from, more, u.begun.geometry.window.1)))))
+      (u.kept n d from below)
+
+  kept_new : length mem ≡ length bytes → (n : ℕ) → n ≡ b.sent
+      → IsKept r (kept_at (record b { outstanding = set b.outstanding (b.sent % 16) (Some o); sent = b.sent + 1 }) n) (sent_by r.geometry k l.serial o)
+  kept_new size n is = record {
+    one = o;
+    is_one = ap (λ i. get_or (set b.outstanding (b.sent % 16) (Some o)) (i % 16) None) is
+        ∙ get_or-set_same b.outstanding (b.sent % 16) (Some o) None (omega (arith, u.room, mod_below b.sent 16 (omega arith)));
+    sent = refl;
+    few = sub.few;
+    seven = sub.seven;
+    legal = λ m same.
+        still_legal r.geometry.page_size (sent_by r.geometry k l.serial o) bytes sub.ready m u.begun.geometry.page_size sub.prepared
+        (same ∙ sym u.size ∙ sym sub.prepared.len);
+  }
+
+  lane_new : l' ≡ record {
+    submission = submit_ring (setting_of r) (b.sent + 1) b.collected;
+    completion = collect_ring (setting_of r) b.collected b.told;
+    serial = serial_at r (b.sent + 1);
+    pages = without r.lane.pages (pages_of_all (drop b.collected (u.world.sent ++ sent_by r.geometry k l.serial o ∷ [])));
+  }
+  lane_new =
+      let t = setting_of r in
+      let x = sent_by r.geometry k l.serial o in
+      let xs = u.world.sent in
+      let c = u.keeps.counts in
+      let pages : without (without r.lane.pages (held u)) (all_pages o.pages) ≡ without r.lane.pages (pages_of_all (drop b.collected (xs ++ x ∷ []))) =
+      without_also r.lane.pages (held u) (all_pages o.pages) ∙ ap (λ ps. without r.lane.pages (held u ++ ps)) (pages_are o.pages sub.seven)
+      ∙ ap (without r.lane.pages) (sym (held_more xs x b.collected (omega (arith, c.collected, c.done, c.rung, u.sent, u.collected)))) in
+      sub.lane
+      ∙ ap (λ (q : LaneFields). record q { submission = submitted_one q.submission; serial = next_serial q.serial; pages = without q.pages (all_pages o.pages) }) u.lane
+      ∙ ap (λ n. record {
+        submission = record { base = t.sq; depth = t.depth; submitted = n; known = number t b.collected };
+        completion = collect_ring t b.collected b.told;
+        serial = next_serial (serial_at r b.sent);
+        pages = without (without r.lane.pages (held u)) (all_pages o.pages);
+      }) (number_next t b.sent)
+      ∙ ap (λ n. record {
+        submission = submit_ring t (b.sent + 1) b.collected;
+        completion = collect_ring t b.collected b.told;
+        serial = n;
+        pages = without (without r.lane.pages (held u)) (all_pages o.pages);
+      }) (serial_next r.lane.serial b.sent)
+      ∙ ap (λ (p : Pages). record {
+        submission = submit_ring t (b.sent + 1) b.collected;
+        completion = collect_ring t b.collected b.told;
+        serial = serial_at r (b.sent + 1);
+        pages = p;
+      }) pages
+
+  pub submits : (now' : ℕ) → b.sent < length r.commands → ((d : Command) → k ≡ get_or r.commands b.sent d) → length mem ≡ length bytes → now' ≡ now
+      → IsUnderWay r bells turns (record b { outstanding = set b.outstanding (b.sent % 16) (Some o); sent = b.sent + 1 }) l' now' mem
+  submits now' below is size page =
+      let x = sent_by r.geometry k l.serial o in
+      let w = u.world in
+      let c = u.keeps.counts in
+      let fits = subst CommandFits (sym (is k)) (u.fits b.sent k below) in
+      let serial = ap (λ (q : LaneFields). q.serial) u.lane in
+      record {
+        begun = u.begun;
+        fits = u.fits;
+        geometry = u.geometry;
+        controller = u.controller;
+        page_size = page ∙ u.page_size;
+        size = size ∙ u.size;
+        window = omega (arith, more);
+        some = omega (arith, below);
+        room = length-set b.outstanding (b.sent % 16) (Some o) ∙ u.room;
+        world = record w { mem = mem; sent = w.sent ++ x ∷ [] };
+        keeps = submitted_keeps fits;
+        mem = refl;
+        rung = u.rung;
+        done = u.done;
+        told = u.told;
+        sent = length-append w.sent (x ∷ []) ∙ ap (λ n. n + 1) u.sent;
+        collected = u.collected;
+        commands = λ n d h. each_more (λ i y. IsCommand r i y) 0 w.sent x (λ i e from low. u.commands i e (omega (arith, u.sent)))
+            (record { command = λ e. is e ∙ ap (λ i. get_or r.commands i e) (sym u.sent); cid = serial ∙ ap (serial_at r) (sym u.sent) })
+            n d (omega arith) (omega (arith, h, u.sent, length-append w.sent (x ∷ [])));
+        kept = λ n d from h. each_more
+            (λ i y. IsKept r (kept_at (record b { outstanding = set b.outstanding (b.sent % 16) (Some o); sent = b.sent + 1 }) i) y) b.collected w.sent x
+            (λ i e above low. kept_on i e above (omega (arith, u.sent))) (kept_new size (length w.sent) u.sent)
+            n d from (omega (arith, h, u.sent, length-append w.sent (x ∷ [])));
+        lane = lane_new;
+        taken = subst (AreTaken r.lane.pages) (sym (held_more w.sent x b.collected (omega (arith, c.collected, c.done, c.rung, u.sent, u.collected))))
+            (taken_also r.lane.pages (held u) (own_pages x) u.taken taken_new);
+        own = λ n d h. each_more (λ i y. All (λ p. IsOf r.lane.pages.first r.lane.pages.count p) (own_pages y)) 0 w.sent x
+            (λ i e from low. u.own i e (omega (arith, u.sent))) own_new n d (omega arith) (omega (arith, h, u.sent, length-append w.sent (x ∷ [])));
+      }
+
+-- the same by the number that a loop has come to
+pub submits_at : {r : Run} {bells turns : ℕ} {b : Batch} {l l' : LaneFields} {now now' n : ℕ} {bytes mem : List ℕ} {g : Geometry} {k : Command} {ks : List Command}
+    {o : Outstanding} (u : IsUnderWay r bells turns b l now bytes) (e : Command) → b.sent ≡ n → b.sent < b.collected + r.geometry.window → g ≡ r.geometry
+    → IsSubmitted g k o l l' bytes mem → ks ≡ r.commands → k ≡ get_or ks n e → n < length ks → length mem ≡ length bytes → now' ≡ now
+    → IsUnderWay r bells turns (record b { outstanding = set b.outstanding (n % 16) (Some o); sent = b.sent + 1 }) l' now' mem
+submits_at {r} {bells} {turns} {b} {l} {l'} {now} {now'} {n} {bytes} {mem} {g} {k} {ks} {o} u e at more is sub same one below size page =
+    let many = ap (λ (xs : List Command). length xs) same in
+    subst (λ i. IsUnderWay r bells turns (record b { outstanding = set b.outstanding (i % 16) (Some o); sent = b.sent + 1 }) l' now' mem) at
+    (submits u more (subst (λ q. IsSubmitted q k o l l' bytes mem) is sub) now' (omega (arith, many))
+    (λ d. one ∙ get_or_default ks n e d below ∙ ap (λ xs. get_or xs n d) same ∙ ap (λ i. get_or r.commands i d) (sym at)) size page)

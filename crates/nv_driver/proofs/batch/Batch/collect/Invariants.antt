@@ -1,0 +1,15 @@
+use Rattle.std.proofs.Common.{◌≡◌, ◌+◌}
+use Rattle.nv_driver.specs.UnderWay.{HasAnswers, IsBusOf, IsUnderWay}
+use Rattle.nv_driver.proofs.batch.Batch.collect.Given as goal
+
+abbrev pub ghost-collect_one : goal.ghost-collect_one
+ghost-collect_one g a = g.at
+
+abbrev pub invariant-loop : goal.invariant-loop
+invariant-loop g l = record {
+  under_way : IsUnderWay g.at.run l.self.sent g.at.done l.self l.lane (g.M.HostMemory.page_len l.mem) (g.M.HostMemory.bytes l.mem);
+  bus : IsBusOf g.at.run l.self.sent g.at.done l.self.told (g.B.Bus.meaning l.bus);
+  answers : HasAnswers g.at.run l.self.collected l.answers;
+  collected : l.self.collected ≡ l.fn.self.collected + l.counter;
+  told : l.counter ≡ 0 → l.self.told ≡ l.fn.self.told;
+}

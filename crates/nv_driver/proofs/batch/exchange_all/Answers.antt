@@ -1,0 +1,45 @@
+use Rattle.std.proofs.Common.{◌≤◌, arith, length, refl}
+use Rattle.nv_driver.proofs.EndLaws.{all_collected, answers_all, begins_all, ends_all}
+use Rattle.nv_driver.proofs.RoundLaws.{tells_on}
+use Rattle.nv_driver.proofs.batch.exchange_all.Goals as goal
+
+pub loop-batch-init : goal.loop-batch-init
+loop-batch-init g c =
+    let asked = c.requires.1.1 in
+    let b = c.new-batch.ensures in
+    let begun = begins_all asked.0 asked.1.0 asked.1.1.0 asked.1.1.1 b.ctrl b.geometry b.outstanding b.sent b.collected b.told in
+    record { under_way = begun.under_way; bus = begun.bus_is; answers = begun.answers_are }
+
+pub returns-clause-answers : goal.returns-clause-answers
+returns-clause-answers g c =
+    let run = c.requires.1.1.0 in
+    let i = c.loop-batch.invariant in
+    let enough : length c.args.commands.now ≤ c.loop-batch.batch.collected = omega (arith, c.loop-batch-test.false) in
+    answers_all run i.answers (all_collected run i.under_way enough).1
+
+pub returns-clause-ready : goal.returns-clause-ready
+returns-clause-ready g c =
+    let run = c.requires.1.1.0 in
+    let i = c.loop-batch.invariant in
+    let t = c.tell.ensures in
+    let enough : length c.args.commands.now ≤ c.loop-batch.batch.collected = omega (arith, c.loop-batch-test.false) in
+    let told = tells_on i.under_way i.bus refl t.lane t.state t.bus t.told t.silent in
+    (ends_all run told.0 told.1 (all_collected run i.under_way enough).0 refl).ready
+
+pub returns-clause-ports : goal.returns-clause-ports
+returns-clause-ports g c =
+    let run = c.requires.1.1.0 in
+    let i = c.loop-batch.invariant in
+    let t = c.tell.ensures in
+    let enough : length c.args.commands.now ≤ c.loop-batch.batch.collected = omega (arith, c.loop-batch-test.false) in
+    let told = tells_on i.under_way i.bus refl t.lane t.state t.bus t.told t.silent in
+    (ends_all run told.0 told.1 (all_collected run i.under_way enough).0 refl).ports
+
+pub returns-clause-others : goal.returns-clause-others
+returns-clause-others g c =
+    let run = c.requires.1.1.0 in
+    let i = c.loop-batch.invariant in
+    let t = c.tell.ensures in
+    let enough : length c.args.commands.now ≤ c.loop-batch.batch.collected = omega (arith, c.loop-batch-test.false) in
+    let told = tells_on i.under_way i.bus refl t.lane t.state t.bus t.told t.silent in
+    (ends_all run told.0 told.1 (all_collected run i.under_way enough).0 refl).others

@@ -1,0 +1,6 @@
+use Rattle.nv_driver.specs.UnderWay.{run_of}
+use Rattle.nv_driver.proofs.driver.Driver.admin_all.Given as goal
+
+abbrev pub ghost-exchange_all : goal.ghost-exchange_all
+ghost-exchange_all g a =
+    run_of a.geometry a.ctrl (g.B.Bus.meaning a.bus.now) a.lane.now a.mem.now.bytes a.commands.now

@@ -1,0 +1,131 @@
+-- A list of commands of one controller on its way, of which several are outstanding.
+use Rattle.std.specs.Prelude.{◌≡◌, ℕ, ◌+◌, ◌-◌, ◌*◌, ◌%◌, ◌<◌, ◌≤◌, All, List, [], ◌++◌, ◌∷◌, Option, None, Some, drop, length, min, slice_index_or, slice_set, take}
+use Rattle.nv_host.specs.PageSets.{IsOf}
+use Rattle.nv_prp.specs.Transfer.{IsLegal, transfer, transfer_places}
+use Rattle.nv_command.specs.Command.{CommandFits}
+use Rattle.nv_command.specs.declared.command.Command.{Command}
+use Rattle.nv_subsystem.specs.declared.origin.TheConstants.{SERIALS}
+use Rattle.nv_controller.specs.Bus.{BusValue, IsBus, port_at}
+use Rattle.nv_driver.specs.Batch.{answers_of, state_after}
+use Rattle.nv_driver.specs.CommandPages.{AreTaken, without}
+use Rattle.nv_driver.specs.Exchange.{IsReady}
+use Rattle.nv_driver.specs.Keeping.{Keeps}
+use Rattle.nv_driver.specs.Lane.{Lane, idle_port}
+use Rattle.nv_driver.specs.Quiet.{lane_value}
+use Rattle.nv_driver.specs.Registers.{mps_of}
+use Rattle.nv_driver.specs.Schedule.{Answer, Sent, Setting, World, collect_ring, data_length, device_rings, own_pages, places, port_with, submit_ring}
+use Rattle.nv_driver.specs.Submitting.{sent_by}
+use Rattle.nv_driver.specs.declared.batch.Batch.{Batch}
+use Rattle.nv_driver.specs.declared.geometry.Geometry.{Geometry}
+use Rattle.nv_driver.specs.declared.lane.Lane.{Lane as LaneFields}
+use Rattle.nv_driver.specs.declared.submitting.Outstanding.{Outstanding}
+
+-- the schedule of a lane's controller from its next command on
+abbrev pub setting : Geometry → ℕ → List ℕ → Lane → Setting
+setting g c bytes l = record {
+  controller = c;
+  before = bytes;
+  page_size = g.page_size;
+  sq = l.sq;
+  cq = l.cq;
+  depth = l.depth;
+  start = l.number;
+  port = idle_port (mps_of g.page_size) g.page_size l;
+}
+
+-- what a run begins with: the controller's bus, its lane and the memory, and the commands
+pub record Run : Type 0 where
+  pub geometry : Geometry
+  pub controller : ℕ
+  pub bus : BusValue
+  pub lane : LaneFields
+  pub bytes : List ℕ
+  pub commands : List Command
+
+abbrev pub run_of : Geometry → ℕ → BusValue → LaneFields → List ℕ → List Command → Run
+run_of g c b l bytes commands =
+    record { geometry = g; controller = c; bus = b; lane = l; bytes = bytes; commands = commands }
+
+abbrev pub setting_of : Run → Setting
+setting_of r = setting r.geometry r.controller r.bytes (lane_value r.lane)
+
+-- the command identifier of command n
+abbrev pub serial_at : Run → ℕ → ℕ
+serial_at r n = (r.lane.serial + n) % SERIALS
+
+-- the pages of commands, one after the other
+abbrev pub pages_of_all : List Sent → List ℕ
+pages_of_all [] = []
+pages_of_all (x ∷ xs) = own_pages x ++ pages_of_all xs
+
+-- an outstanding command in its place of the window
+pub record IsKept (r : Run) (o : Option Outstanding) (x : Sent) : Type 0 where
+  pub one : Outstanding
+  pub is_one : o ≡ Some one
+  pub sent : x ≡ sent_by r.geometry x.command x.cid one
+  pub few : one.pages.data_pages ≤ 2
+  pub seven : length one.pages.numbers ≡ 7
+  pub legal : (mem : List ℕ) → length mem ≡ length r.bytes
+      → IsLegal (transfer r.geometry.page_size mem x.prp1 x.prp2 (data_length x))
+      × (transfer_places (transfer r.geometry.page_size mem x.prp1 x.prp2 (data_length x)) ≡ places r.geometry.page_size x)
+
+-- command n of the run, under its command identifier
+pub record IsCommand (r : Run) (n : ℕ) (x : Sent) : Type 0 where
+  pub command : (d : Command) → x.command ≡ slice_index_or r.commands n d
+  pub cid : x.cid ≡ serial_at r n
+
+-- the places of the window, by the numbers of the commands modulo 16
+abbrev pub kept_at : Batch → ℕ → Option Outstanding
+kept_at b n = slice_index_or b.outstanding (n % 16) None
+
+-- of its commands so many were told by the tail doorbell, and so many were done by turns
+pub record IsUnderWay (r : Run) (bells turns : ℕ) (b : Batch) (l : LaneFields) (now : ℕ) (bytes : List ℕ) : Type 0 where
+  pub begun : IsReady r.geometry r.bus r.controller r.lane r.geometry.page_size r.bytes
+  pub fits : All CommandFits r.commands
+  pub geometry : b.geometry ≡ r.geometry
+  pub controller : b.ctrl ≡ r.controller
+  pub page_size : now ≡ r.geometry.page_size
+  pub size : length bytes ≡ length r.bytes
+  pub window : b.sent ≤ b.collected + r.geometry.window
+  pub some : b.sent ≤ length r.commands
+  pub room : length b.outstanding ≡ 16
+  pub world : World
+  pub keeps : Keeps (setting_of r) r.bus.state world
+  pub mem : world.mem ≡ bytes
+  pub rung : world.rung ≡ bells
+  pub done : world.done ≡ turns
+  pub told : world.told ≡ b.told
+  pub sent : length world.sent ≡ b.sent
+  pub collected : length world.answers ≡ b.collected
+  pub commands : (n : ℕ) (d : Sent) → n < b.sent → IsCommand r n (slice_index_or world.sent n d)
+  pub kept : (n : ℕ) (d : Sent) → b.collected ≤ n → n < b.sent → IsKept r (kept_at b n) (slice_index_or world.sent n d)
+  pub lane : l ≡ record {
+    submission = submit_ring (setting_of r) b.sent b.collected;
+    completion = collect_ring (setting_of r) b.collected b.told;
+    serial = serial_at r b.sent;
+    pages = without r.lane.pages (pages_of_all (drop b.collected world.sent));
+  }
+  pub taken : AreTaken r.lane.pages (pages_of_all (drop b.collected world.sent))
+  pub own : (n : ℕ) (d : Sent) → n < b.sent → All (λ p. IsOf r.lane.pages.first r.lane.pages.count p) (own_pages (slice_index_or world.sent n d))
+
+-- the bus where so many commands were told, done, and told to be collected
+pub record IsBusOf (r : Run) (rung done told : ℕ) (b : BusValue) : Type 0 where
+  pub bus : IsBus b
+  pub state : b.state ≡ state_after r.controller r.bus.state r.lane.serial (take done r.commands)
+  pub port : port_at b.ports r.controller ≡ port_with (setting_of r) (device_rings (setting_of r) rung done told)
+  pub ports : b.ports ≡ slice_set r.bus.ports r.controller (port_at b.ports r.controller)
+
+-- the first answers are those of one command at a time
+pub record HasAnswers (r : Run) (collected : ℕ) (answers : List Answer) : Type 0 where
+  pub len : length answers ≡ length r.commands
+  pub first : take collected answers
+      ≡ take collected (answers_of r.controller r.bus.state r.lane.serial r.commands)
+
+-- what is to do yet, of so many commands
+abbrev pub left_of : ℕ → Batch → ℕ
+left_of n b = 2 * (n - b.collected) + min 1 (b.collected - b.told)
+
+-- a run, and of how many of its commands the completions were posted
+pub record Moment : Type 0 where
+  pub run : Run
+  pub done : ℕ

@@ -1,0 +1,312 @@
+//! A list of commands and their answers, with several commands outstanding.
+
+ghost use Rattle.std.specs.Prelude.{◌≡◌, ◌+◌, ◌-◌, ◌%◌, ◌<◌, ◌≤◌, All, MatchOption, false, length};
+ghost use Rattle.std.specs.Prelude.{None, set, slice_set, true};
+ghost use Rattle.nv_command.specs.Command.{CommandFits};
+ghost use Rattle.nv_controller.specs.Bus.{IsBus, port_at};
+ghost use Rattle.nv_queue.specs.Numbers.{slot_of};
+ghost use Rattle.nv_queue.specs.Rings.{told_all};
+ghost use Rattle.nv_register.specs.Port.{with_register_at};
+ghost use Rattle.nv_subsystem.specs.declared.origin.TheConstants.{SERIALS};
+ghost use Rattle.nv_driver.specs.Batch.{answers_of, state_after};
+ghost use Rattle.nv_driver.specs.Exchange.{IsReady, KeepsOthers, after_some};
+ghost use Rattle.nv_driver.specs.Quiet.{lane_value};
+ghost use Rattle.nv_driver.specs.Schedule.{slot};
+ghost use Rattle.nv_driver.specs.UnderWay.{HasAnswers, IsBusOf, IsUnderWay, Moment, Run};
+ghost use Rattle.nv_driver.specs.UnderWay.{left_of, run_of, setting_of};
+
+use crate::answering::{Answer, answer};
+use crate::geometry::Geometry;
+use crate::lane::Lane;
+use crate::submitting::{Outstanding, submit};
+use nv_command::Command;
+use nv_controller::Bus;
+use nv_host::HostMemory;
+use nv_register::offset;
+use nv_subsystem::SERIALS;
+
+/// The most commands that are outstanding at a time.
+const MOST: usize = 16;
+
+/// How far a list of commands of one controller has come: how many were sent, how many answers were
+/// collected, and of how many the controller was told. The outstanding commands stand at their
+/// numbers modulo 16.
+#[derive(Drop)]
+pub struct Batch {
+    ctrl: u16,
+    geometry: Geometry,
+    outstanding: [Option<Outstanding>; MOST],
+    sent: usize,
+    collected: usize,
+    told: usize,
+}
+
+/// How many commands after the one with identifier `cid` the one with `next` comes. Section
+/// "Submission Queue Entry", Command Identifier.
+fn distance(cid: u16, next: u16) -> usize
+    requires cid { cid < SERIALS }
+    ensures { result ≡ (next + SERIALS - cid) % SERIALS }
+{
+    ((u32::from(next) + u32::from(SERIALS) - u32::from(cid)) % u32::from(SERIALS)) as usize
+}
+
+impl Batch {
+    /// Nothing was sent yet.
+    fn new(ctrl: u16, geometry: Geometry) -> Batch
+        ensures ctrl { result.ctrl ≡ ctrl }
+        ensures geometry { result.geometry ≡ geometry }
+        ensures outstanding { length result.outstanding ≡ 16 }
+        ensures sent { result.sent ≡ 0 }
+        ensures collected { result.collected ≡ 0 }
+        ensures told { result.told ≡ 0 }
+    {
+        Batch {
+            ctrl,
+            geometry,
+            outstanding: [None; MOST],
+            sent: 0,
+            collected: 0,
+            told: 0,
+        }
+    }
+
+    /// Submits commands until as many as the geometry allows are outstanding, or none is left.
+    /// Answers the new tail where it submitted one.
+    fn fill<M: HostMemory>(
+        &mut self,
+        mem: &mut M,
+        lane: &mut Lane,
+        commands: &[Command],
+    ) -> Option<u16>
+        ghost run: { Run }
+        requires commands { commands.now ≡ run.commands }
+        requires under_way { IsUnderWay run self.old.sent self.old.collected
+            self.old lane.old (M.page_len mem.old) (M.bytes mem.old) }
+        ensures under_way { IsUnderWay run self.old.sent self.old.collected
+            self.new lane.new (M.page_len mem.new) (M.bytes mem.new) }
+        ensures tail { MatchOption result (self.new.sent ≡ self.old.sent)
+            (λ tail. tail ≡ slot (setting_of run) self.new.sent) }
+        ensures some { self.old.collected < length commands.now
+            → self.old.collected < self.new.sent }
+        ensures collected { self.new.collected ≡ self.old.collected }
+        ensures told { self.new.told ≡ self.old.told }
+    {
+        let room = self.geometry.window as usize - (self.sent - self.collected);
+        let end = self.sent + room.min(commands.len() - self.sent);
+        let mut tail = None;
+        for number in self.sent..end {
+            let (one, next) = submit(mem, lane, self.geometry, &commands[number]);
+            self.outstanding[number % MOST] = Some(one);
+            self.sent += 1;
+            tail = Some(next);
+        }
+        tail
+    }
+
+    /// Submits what can be submitted, and rings the tail doorbell where something was. Section
+    /// "Submission Queue y Tail Doorbell".
+    fn send<B: Bus, M: HostMemory>(
+        &mut self,
+        bus: &mut B,
+        mem: &mut M,
+        lane: &mut Lane,
+        commands: &[Command],
+    )
+        ghost run: { Run }
+        requires commands { commands.now ≡ run.commands }
+        requires under_way { IsUnderWay run self.old.sent self.old.collected
+            self.old lane.old (M.page_len mem.old) (M.bytes mem.old) }
+        requires bus { IsBusOf run self.old.sent self.old.collected self.old.told
+            (B.meaning bus.old) }
+        ensures under_way { IsUnderWay run self.new.sent self.new.collected
+            self.new lane.new (M.page_len mem.new) (M.bytes mem.new) }
+        ensures bus { IsBusOf run self.new.sent self.new.collected self.new.told
+            (B.meaning bus.new) }
+        ensures some { self.old.collected < length commands.now
+            → self.old.collected < self.new.sent }
+        ensures collected { self.new.collected ≡ self.old.collected }
+        ensures told { self.new.told ≡ self.old.told }
+    {
+        if let Some(tail) = self.fill(mem, lane, commands) {
+            bus.write32(self.ctrl, offset::TAIL_DOORBELL, u32::from(tail));
+        }
+    }
+
+    /// Tells the controller how many answers were collected, where it doesn't know. Section
+    /// "Completion Queue y Head Doorbell".
+    fn tell<B: Bus>(&mut self, bus: &mut B, lane: &mut Lane)
+        requires ctrl { self.old.ctrl < length (B.meaning bus.old).ports }
+        ensures batch { self.new ≡ record self.old { told = self.old.collected } }
+        ensures lane { lane.new ≡ record lane.old {
+          completion = told_all lane.old.completion;
+        } }
+        ensures state { (B.meaning bus.new).state ≡ (B.meaning bus.old).state }
+        ensures bus { IsBus (B.meaning bus.old) → IsBus (B.meaning bus.new) }
+        ensures told { lane.old.completion.untold ≡ true → (B.meaning bus.new).ports
+            ≡ slice_set (B.meaning bus.old).ports self.old.ctrl (with_register_at
+            (port_at (B.meaning bus.old).ports self.old.ctrl) 0x1004
+            (slot_of lane.old.completion.depth lane.old.completion.collected)) }
+        ensures silent { lane.old.completion.untold ≡ false
+            → (B.meaning bus.new).ports ≡ (B.meaning bus.old).ports }
+    {
+        if let Some(head) = lane.completion.head_to_tell() {
+            bus.write32(self.ctrl, offset::HEAD_DOORBELL, u32::from(head));
+        }
+        self.told = self.collected;
+    }
+
+    /// Gives the controller a turn, and answers how many commands it did. Where it did none, the
+    /// head is told.
+    fn turn<B: Bus, M: HostMemory>(&mut self, bus: &mut B, mem: &mut M, lane: &mut Lane) -> u16
+        ghost run: { Run }
+        requires under_way { IsUnderWay run self.old.sent self.old.collected
+            self.old lane.old (M.page_len mem.old) (M.bytes mem.old) }
+        requires bus { IsBusOf run self.old.sent self.old.collected self.old.told
+            (B.meaning bus.old) }
+        requires some { self.old.collected < self.old.sent }
+        ensures under_way { IsUnderWay run self.new.sent (self.new.collected + result)
+            self.new lane.new (M.page_len mem.new) (M.bytes mem.new) }
+        ensures bus { IsBusOf run self.new.sent (self.new.collected + result) self.new.told
+            (B.meaning bus.new) }
+        ensures collected { self.new.collected ≡ self.old.collected }
+        ensures none { result ≡ 0
+            → (self.old.told < self.old.collected) × (self.new.told ≡ self.old.collected) }
+    {
+        let posted = bus.turn(self.ctrl, mem, self.geometry.pace as u16);
+        if posted == 0 {
+            self.tell(bus, lane);
+        }
+        posted
+    }
+
+    /// Collects the next answer, of the command that its completion names by its identifier, and
+    /// gives back the command's pages. Section "Completion Queue Entry".
+    fn collect_one<M: HostMemory>(
+        &mut self,
+        mem: &M,
+        lane: &mut Lane,
+        commands: &[Command],
+        answers: &mut [Answer],
+    )
+        ghost at: { Moment }
+        requires commands { commands.now ≡ at.run.commands }
+        requires under_way { IsUnderWay at.run self.old.sent at.done
+            self.old lane.old (M.page_len mem.now) (M.bytes mem.now) }
+        requires answers { HasAnswers at.run self.old.collected answers.old }
+        requires posted { self.old.collected < at.done }
+        ensures under_way { IsUnderWay at.run self.new.sent at.done
+            self.new lane.new (M.page_len mem.now) (M.bytes mem.now) }
+        ensures answers { HasAnswers at.run self.new.collected answers.new }
+        ensures batch { self.new ≡ record self.old { collected = self.old.collected + 1 } }
+    {
+        let completion = lane.completion.poll(mem).unwrap();
+        lane.submission.freed(completion.sq_head);
+        let number = self.sent - distance(completion.cid, lane.serial);
+        let one = self.outstanding[number % MOST].unwrap();
+        one.pages.give(&mut lane.pages);
+        answers[number] = answer(mem, &one, &commands[number], &completion);
+        self.collected += 1;
+    }
+
+    /// Collects so many answers, and tells the head each time that the geometry's pace is reached.
+    fn collect<B: Bus, M: HostMemory>(
+        &mut self,
+        bus: &mut B,
+        mem: &M,
+        lane: &mut Lane,
+        commands: &[Command],
+        answers: &mut [Answer],
+        posted: u16,
+    )
+        ghost at: { Moment }
+        requires commands { commands.now ≡ at.run.commands }
+        requires under_way { IsUnderWay at.run self.old.sent at.done
+            self.old lane.old (M.page_len mem.now) (M.bytes mem.now) }
+        requires bus { IsBusOf at.run self.old.sent at.done self.old.told (B.meaning bus.old) }
+        requires answers { HasAnswers at.run self.old.collected answers.old }
+        requires posted { self.old.collected + posted ≡ at.done }
+        ensures under_way { IsUnderWay at.run self.new.sent at.done
+            self.new lane.new (M.page_len mem.now) (M.bytes mem.now) }
+        ensures bus { IsBusOf at.run self.new.sent at.done self.new.told (B.meaning bus.new) }
+        ensures answers { HasAnswers at.run self.new.collected answers.new }
+        ensures collected { self.new.collected ≡ at.done }
+        ensures told { posted ≡ 0 → self.new.told ≡ self.old.told }
+    {
+        for _ in 0..posted {
+            self.collect_one(mem, lane, commands, answers);
+            if self.collected - self.told == self.geometry.pace as usize {
+                self.tell(bus, lane);
+            }
+        }
+    }
+
+    /// Submits what can be submitted, gives the controller a turn, and collects the answers.
+    fn round<B: Bus, M: HostMemory>(
+        &mut self,
+        bus: &mut B,
+        mem: &mut M,
+        lane: &mut Lane,
+        commands: &[Command],
+        answers: &mut [Answer],
+    )
+        ghost run: { Run }
+        requires commands { commands.now ≡ run.commands }
+        requires under_way { IsUnderWay run self.old.sent self.old.collected
+            self.old lane.old (M.page_len mem.old) (M.bytes mem.old) }
+        requires bus { IsBusOf run self.old.sent self.old.collected self.old.told
+            (B.meaning bus.old) }
+        requires answers { HasAnswers run self.old.collected answers.old }
+        requires some { self.old.collected < length commands.now }
+        ensures under_way { IsUnderWay run self.new.sent self.new.collected
+            self.new lane.new (M.page_len mem.new) (M.bytes mem.new) }
+        ensures bus { IsBusOf run self.new.sent self.new.collected self.new.told
+            (B.meaning bus.new) }
+        ensures answers { HasAnswers run self.new.collected answers.new }
+        ensures further { left_of (length commands.now) self.new
+            < left_of (length commands.now) self.old }
+    {
+        self.send(bus, mem, lane, commands);
+        let posted = self.turn(bus, mem, lane);
+        self.collect(bus, mem, lane, commands, answers, posted);
+    }
+}
+
+/// Sends commands to a controller, several at a time, and awaits their answers. No command of its
+/// lane is outstanding, before and after.
+pub fn exchange_all<B: Bus, M: HostMemory>(
+    bus: &mut B,
+    ctrl: u16,
+    mem: &mut M,
+    lane: &mut Lane,
+    geometry: Geometry,
+    commands: &[Command],
+    answers: &mut [Answer],
+)
+    ghost run: { Run }
+    requires run { run
+        ≡ run_of geometry ctrl (B.meaning bus.old) lane.old (M.bytes mem.old) commands.now }
+    requires ready { IsReady geometry (B.meaning bus.old) ctrl
+        lane.old (M.page_len mem.old) (M.bytes mem.old) }
+    requires fits { All CommandFits commands.now }
+    requires len { length answers.old ≡ length commands.now }
+    ensures answers { answers.new
+        ≡ answers_of ctrl (B.meaning bus.old).state lane.old.serial commands.now }
+    ensures state { (B.meaning bus.new).state
+        ≡ state_after ctrl (B.meaning bus.old).state lane.old.serial commands.now }
+    ensures ready { IsReady geometry (B.meaning bus.new) ctrl
+        lane.new (M.page_len mem.new) (M.bytes mem.new) }
+    ensures ports { (B.meaning bus.new).ports
+        ≡ slice_set (B.meaning bus.old).ports ctrl (port_at (B.meaning bus.new).ports ctrl) }
+    ensures lane { lane_value lane.new
+        ≡ after_some (length commands.now) (lane_value lane.old) }
+    ensures others { KeepsOthers geometry.page_size (lane_value lane.old)
+        (M.bytes mem.old) (M.bytes mem.new) }
+    ensures len { length (M.bytes mem.new) ≡ length (M.bytes mem.old) }
+    ensures page { M.page_len mem.new ≡ M.page_len mem.old }
+{
+    let mut batch = Batch::new(ctrl, geometry);
+    while batch.collected < commands.len() {
+        batch.round(bus, mem, lane, commands, answers);
+    }
+    batch.tell(bus, lane);
+}
