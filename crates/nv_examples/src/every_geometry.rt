@@ -238,6 +238,7 @@ fn data_begins_at_the_offset(rt: HostRuntime) -> Result<(), Fail> {
         );
         assert!(rt; end == RunEnd::Status(0) && watch.taken == 3);
         assert!(rt; watch.entry.cid == 2);
+        assert!(rt; page_size != 0);
         assert!(rt; watch.entry.prp1 % u64::from(page_size) == u64::from(offset));
         assert!(rt; watch.entry.prp2 % u64::from(page_size) == 0);
         assert!(rt; (watch.entry.prp2 != 0) == second);
