@@ -1,7 +1,8 @@
 -- A single entry's fault.
-use Rattle.std.proofs.Common.{◌≡◌, ◌≢◌, ◌∙◌, ℕ, ◌+◌, ◌-◌, ◌*◌, ◌/◌, ◌%◌, ◌<◌, ◌≤◌, List, None, Some, ap, arith, inl, inr, length, sym}
+use Rattle.std.proofs.Common.{◌≡◌, ◌≢◌, ◌∙◌, ℕ, ◌+◌, ◌-◌, ◌*◌, ◌/◌, ◌%◌, ◌<◌, ◌≤◌, List, None, Some, ap, arith, length}
 use Rattle.std.proofs.Math.Nat.{mul-add-mod_self_left, mul-le-mul_right, mul-mod_left}
-use Rattle.std.proofs.lemmas.Bool.{cases_eq, cases_lt, eq-eqb, le-leb, lt-leb, ne_eqb}
+use Rattle.std.proofs.lemmas.Bool.Decides.{nat_tests}
+use Rattle.std.proofs.lemmas.Bool.{eq-eqb, le-leb, lt-leb, ne_eqb}
 use Rattle.std.proofs.lemmas.Nat.{div_below, div-add-mod', mod-mul-add}
 use Rattle.nv_host.specs.Pages.{HasPage}
 use Rattle.nv_prp.specs.Transfer.{entry_fault}
@@ -42,14 +43,8 @@ fault_none page_size size alignment entry even inside =
 -- what an entry without a fault is
 pub from_no_fault : (page_size size alignment entry : ℕ) → entry_fault page_size size alignment entry ≡ None
     → (entry % alignment ≡ 0) × (entry - entry % page_size + page_size ≤ size)
-from_no_fault page_size size alignment entry none =
-    elim (cases_eq (entry % alignment) 0) [
-      | inl even ↦ elim (cases_lt size (entry - entry % page_size + page_size)) [
-        | inl outside ↦ absurd (let e = sym none ∙ fault_outside page_size size alignment entry even outside in cc)
-        | inr inside ↦ (even, inside)
-      ]
-      | inr odd ↦ absurd (let e = sym none ∙ fault_offset page_size size alignment entry odd in cc)
-    ]
+unfolding entry_fault
+from_no_fault page_size size alignment entry none = (grind (arith, nat_tests), grind (arith, nat_tests))
 
 -- ---- entries that are addresses in a page of the memory
 
