@@ -10,7 +10,7 @@ use Rattle.nv_host.specs.Pages.{HasPage, IsPageSize}
 use Rattle.nv_host.specs.PageLaws.{page_size_bounds, page_size_in_qwords}
 use Rattle.nv_prp.specs.Buffer.{IsBuffer, IsFor, IsListPlace, KeepsList, NamesPages, buffer_place}
 use Rattle.nv_prp.specs.Transfer.{Transfer, data_pages, entry_fault, list_place, list_qwords, naming_number, naming_qword, offset, page_base, place_of, prp2_fault, qword, qword_fault, qword_place, qwords, room}
-use Rattle.nv_prp.proofs.EntryLaws.{multiple_stays, no_fault_at, no_fault_of_page}
+use Rattle.nv_prp.proofs.FaultLaws.{multiple_stays, no_fault_at, no_fault_of_page}
 use Rattle.nv_prp.proofs.ListLaws.{base_by_list, whole_room}
 use Rattle.nv_prp.proofs.PageLaws.{base_of_two, pages_span}
 use Rattle.nv_prp.proofs.SpanLaws.{naming_used}

@@ -9,8 +9,7 @@ use Rattle.nv_host.specs.PageLaws.{page_size_bounds, page_size_in_qwords}
 use Rattle.nv_prp.specs.ListWalk.{Comes, IsList, Turn, cursor, cursor_of, used, used_of}
 use Rattle.nv_prp.specs.Transfer.{Transfer, data_pages, entry_fault, fault_after_prp1, first_qword_fault, list_place, list_qwords, naming_number, naming_qword, page_base, qword, qword_fault, qword_place, room, second_page}
 use Rattle.nv_prp.specs.declared.error.PrpError.{PrpError}
-use Rattle.nv_prp.proofs.EntryLaws.{from_no_fault}
-use Rattle.nv_prp.proofs.FaultLaws.{each_none, fault_of_list, fault_stays, next_fault}
+use Rattle.nv_prp.proofs.FaultLaws.{from_no_fault, each_none, fault_of_list, fault_stays, next_fault}
 use Rattle.nv_prp.proofs.PageLaws.{at_most_257}
 
 -- ---- how many Qwords there are up to the page's end

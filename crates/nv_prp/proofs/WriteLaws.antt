@@ -10,7 +10,7 @@ use Rattle.nv_host.specs.BytesLaws.{bytes_at-with_after, bytes_at-with_before, b
 use Rattle.nv_host.specs.Pages.{IsPageSize}
 use Rattle.nv_host.specs.PageLaws.{page_size_bounds, page_size_in_qwords}
 use Rattle.nv_prp.specs.Buffer.{ChangesOnly, IsApart, IsListPlace, NamesPages}
-use Rattle.nv_prp.proofs.EntryLaws.{multiple_stays}
+use Rattle.nv_prp.proofs.FaultLaws.{multiple_stays}
 use Rattle.nv_prp.proofs.ListLaws.{whole_room}
 use Rattle.nv_prp.specs.Transfer.{list_place, naming_number, qword}
 
