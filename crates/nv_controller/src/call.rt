@@ -2,6 +2,7 @@
 
 ghost use Rattle.std.specs.Prelude.{◌≡◌, ◌<◌, ◌≤◌, [], Ok, Err, IfOk, MatchResult, OnOk, length};
 ghost use Rattle.nv_command.specs.Command.{transfer_by};
+ghost use Rattle.nv_command.specs.Decoding.{command_of};
 ghost use Rattle.nv_prp.specs.Place.{LieIn, places};
 ghost use Rattle.nv_prp.specs.Transfer.{transfer};
 ghost use Rattle.nv_controller.specs.Call.{HasRoom, call_of, data_places, length_of, places_of};
@@ -67,24 +68,25 @@ fn find_data<M: HostMemory>(
     }
 }
 
-/// The bytes that the host sends, read into the front of a page.
-fn sent_data<'a, M: HostMemory>(
+/// The command of an entry, with the bytes that the host sends where it sends any.
+fn read_command<M: HostMemory>(
     mem: &M,
+    entry: &Sqe,
     moves: Transfer,
     spans: &Spans,
-    page: &'a mut [u8; 4096],
-) -> &'a [u8]
+) -> Result<Command, StatusCode>
     requires room { HasRoom moves }
     requires inside { LieIn (length (M.bytes mem.now)) spans.now }
     requires len { length (places spans.now) ≡ length_of moves }
-    ensures { result.now ≡ sent_from moves (M.bytes mem.now) (places spans.now) }
+    ensures { result ≡ command_of entry.now (sent_from moves (M.bytes mem.now) (places spans.now)) }
 {
     match moves {
-        Transfer::NoData | Transfer::ToHost(_) => &[],
+        Transfer::NoData | Transfer::ToHost(_) => Command::of(entry, &[]),
         Transfer::FromHost(len) => {
+            let mut page = [0; 4096];
             let sent = &mut page[..len as usize];
             copy_in(mem, spans, sent);
-            sent
+            Command::of(entry, sent)
         }
     }
 }
@@ -107,8 +109,6 @@ pub fn read_call<M: HostMemory>(
 {
     let moves = Transfer::of(entry)?;
     find_data(mem, entry, moves, spans)?;
-    let mut page = [0; 4096];
-    let sent = sent_data(mem, moves, spans, &mut page);
-    let command = Command::of(entry, sent)?;
+    let command = read_command(mem, entry, moves, spans)?;
     Ok(command)
 }

@@ -1,7 +1,6 @@
 -- Transfers whose entries are those of a buffer.
 use Rattle.std.proofs.Common.{◌≡◌, ◌∙◌, ◌⊎◌, ℕ, ◌+◌, ◌-◌, ◌*◌, ◌/◌, ◌%◌, ◌<◌, ◌≤◌, List, None, ap, arith, get_or, inl, inr, length, refl, subst, sym}
-use Rattle.std.proofs.Math.Nat.{mul-le-mul_right}
-use Rattle.std.proofs.lemmas.Bool.{cases_lt, cases_order, eq-eqb, le-ltb, lt-ltb, ne_eqb}
+use Rattle.std.proofs.lemmas.Bool.{cases_eq, cases_lt, cases_order, eq-eqb, le-ltb, lt-ltb, ne_eqb}
 use Rattle.std.proofs.lemmas.Nat.{div_below, mod-mul-add}
 use Rattle.std.specs.Int.{from_le_bytes, w64}
 use Rattle.std.proofs.lemmas.Bool.Decides.{nat_tests}
@@ -10,8 +9,8 @@ use Rattle.nv_host.specs.BytesLaws.{bytes_at-bytes_at}
 use Rattle.nv_host.specs.Pages.{HasPage, IsPageSize}
 use Rattle.nv_host.specs.PageLaws.{page_size_bounds, page_size_in_qwords}
 use Rattle.nv_prp.specs.Buffer.{IsBuffer, IsFor, IsListPlace, KeepsList, NamesPages, buffer_place}
-use Rattle.nv_prp.specs.Transfer.{IsLegal, Transfer, data_pages, entry_fault, list_place, list_qwords, naming_number, naming_qword, offset, page_base, place_of, prp2_fault, qword, qword_fault, qword_place, qwords, room}
-use Rattle.nv_prp.proofs.EntryLaws.{multiple_stays, no_fault_at, no_fault_of_page}
+use Rattle.nv_prp.specs.Transfer.{Transfer, data_pages, entry_fault, list_place, list_qwords, naming_number, naming_qword, offset, page_base, place_of, prp2_fault, qword, qword_fault, qword_place, qwords, room}
+use Rattle.nv_prp.proofs.FaultLaws.{multiple_stays, no_fault_at, no_fault_of_page}
 use Rattle.nv_prp.proofs.ListLaws.{base_by_list, whole_room}
 use Rattle.nv_prp.proofs.PageLaws.{base_of_two, pages_span}
 use Rattle.nv_prp.proofs.SpanLaws.{naming_used}
@@ -68,29 +67,25 @@ is_for t pages start begins more prp2 list bases =
           ∙ ap (λ o. get_or pages ((o + i) / size) 0 * size + (o + i) % size) at;
     }
 
--- ---- one data page, and two
+-- ---- one data page, or two
 
-pub one_page : (t : Transfer) (pages : List ℕ) (start : ℕ) → Begins t pages start → data_pages t ≡ 1 → IsFor t pages start
+pub few_pages : (t : Transfer) (pages : List ℕ) (start : ℕ) → Begins t pages start → 0 < data_pages t → data_pages t ≤ 2
+    → (data_pages t ≡ 2 → t.prp2 ≡ get_or pages 1 0 * t.page_size) → IsFor t pages start
 unfolding prp2_fault qwords
-one_page t pages start begins one =
-    let none : qwords t ≡ 0 = rw (le-ltb 2 (data_pages t) (omega arith)) in
-    is_for t pages start begins (omega arith) (rw (le-ltb 2 (data_pages t) (omega arith), ne_eqb (data_pages t) 2 (λ two. omega arith)))
-    (λ n used. absurd (omega (arith, none))) (λ j later below. absurd (omega arith))
-
-pub two_pages : (t : Transfer) (pages : List ℕ) (start : ℕ) → Begins t pages start → data_pages t ≡ 2
-    → t.prp2 ≡ get_or pages 1 0 * t.page_size → IsFor t pages start
-unfolding prp2_fault qwords
-two_pages t pages start begins two second =
-    let none : qwords t ≡ 0 = rw (le-ltb 2 (data_pages t) (omega arith)) in
+few_pages t pages start begins more few second =
+    let none : qwords t ≡ 0 = rw (le-ltb 2 (data_pages t) few) refl in
     let some : 0 < t.page_size = omega (arith, page_size_bounds t.page_size begins.size) in
-    is_for t pages start begins (omega arith)
-    (rw (le-ltb 2 (data_pages t) (omega arith), eq-eqb (data_pages t) 2 two)
-    (ap (λ n. entry_fault t.page_size (length t.bytes) t.page_size n) second
-    ∙ no_fault_of_page t.bytes (get_or pages 1 0) t.page_size some (page_has t pages start 1 begins (omega arith))))
+    is_for t pages start begins more
+    (rw (le-ltb 2 (data_pages t) few) (elim (cases_eq (data_pages t) 2) [
+      | inl two ↦ rw (eq-eqb (data_pages t) 2 two) (ap (λ n. entry_fault t.page_size (length t.bytes) t.page_size n) (second two)
+          ∙ no_fault_of_page t.bytes (get_or pages 1 0) t.page_size some (page_has t pages start 1 begins (omega arith)))
+      | inr one ↦ rw (ne_eqb (data_pages t) 2 one) refl
+    ]))
     (λ n used. absurd (omega (arith, none)))
     (λ j later below.
     let is : 1 ≡ j = omega arith in
-    subst (λ k. page_base t k ≡ get_or pages k 0 * t.page_size) is (base_of_two t two ∙ second))
+    let two : data_pages t ≡ 2 = omega arith in
+    subst (λ k. page_base t k ≡ get_or pages k 0 * t.page_size) is (base_of_two t two ∙ second two))
 
 -- ---- more
 

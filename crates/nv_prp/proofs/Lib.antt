@@ -1,7 +1,5 @@
-pub mod EntryLaws
 pub mod PageLaws
 pub mod CopyLaws
-pub mod RangeLaws
 pub mod FaultLaws
 pub mod ListLaws
 pub mod WriteLaws

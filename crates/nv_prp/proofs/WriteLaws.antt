@@ -1,17 +1,16 @@
 -- Qwords that are written, and lists of them.
-use Rattle.std.proofs.Common.{◌≡◌, ◌≢◌, ◌∙◌, ◌⊎◌, ℕ, ◌+◌, ◌-◌, ◌*◌, ◌/◌, ◌%◌, ◌<◌, ◌≤◌, ◌^◌, List, ap, arith, below_more, drop, get_or, inl, inr, length, length-drop, length-take, refl, subst, sym, take}
+use Rattle.std.proofs.Common.{◌≡◌, ◌≢◌, ◌∙◌, ◌⊎◌, ℕ, ◌+◌, ◌-◌, ◌*◌, ◌/◌, ◌%◌, ◌<◌, ◌≤◌, ◌^◌, List, ap, arith, get_or, inl, inr, length, refl, subst, sym}
 use Rattle.std.specs.Int.{from_le_bytes, to_le_bytes, w64}
 use Rattle.std.proofs.Math.Nat.{mul-le-mul_right}
 use Rattle.std.proofs.lemmas.Bool.Decides.{nat_tests}
-use Rattle.std.proofs.lemmas.Bool.{cases_lt, cases_order, le-ltb, lt-ltb}
-use Rattle.std.proofs.lemmas.List.{get_or-drop, get_or-take}
+use Rattle.std.proofs.lemmas.Bool.{cases_lt, cases_order}
 use Rattle.std.proofs.lemmas.Nat.{from_le_bytes-to_le_bytes_8, mod-mul-add}
 use Rattle.nv_host.specs.Bytes.{bytes_at, with_bytes}
 use Rattle.nv_host.specs.BytesLaws.{bytes_at-with_after, bytes_at-with_before, bytes_at-with_same}
 use Rattle.nv_host.specs.Pages.{IsPageSize}
 use Rattle.nv_host.specs.PageLaws.{page_size_bounds, page_size_in_qwords}
 use Rattle.nv_prp.specs.Buffer.{ChangesOnly, IsApart, IsListPlace, NamesPages}
-use Rattle.nv_prp.proofs.EntryLaws.{multiple_stays}
+use Rattle.nv_prp.proofs.FaultLaws.{multiple_stays}
 use Rattle.nv_prp.proofs.ListLaws.{whole_room}
 use Rattle.nv_prp.specs.Transfer.{list_place, naming_number, qword}
 

@@ -1,9 +1,8 @@
 -- A transfer between a memory and a controller, described by two PRP entries: which byte lies where.
-use Rattle.std.specs.Prelude.{◌≡◌, ℕ, zero, suc, ◌==◌, ◌+◌, ◌-◌, ◌*◌, ◌/◌, ◌%◌, ◌&&◌, ◌<◌, ◌≤◌, ◌^◌, List, MatchResult, None, Option, Result, Some, if◌then◌else◌, length, min, nat_le, nat_lt}
+use Rattle.std.specs.Prelude.{◌≡◌, ℕ, zero, suc, ◌==◌, ◌+◌, ◌-◌, ◌*◌, ◌/◌, ◌%◌, ◌&&◌, ◌<◌, List, MatchResult, None, Option, Result, Some, if◌then◌else◌, length, min, nat_le, nat_lt}
 use Rattle.std.specs.Int.{div_ceil, from_le_bytes, w64}
 use Rattle.std.specs.Option.{option_or}
 use Rattle.nv_host.specs.Bytes.{bytes_at}
-use Rattle.nv_host.specs.Pages.{IsPageSize}
 use Rattle.nv_prp.specs.Place.{table}
 use Rattle.nv_prp.specs.declared.error.PrpError.{PrpError}
 use Rattle.nv_prp.specs.declared.error.PrpError.TheVariants.{Offset, Outside}

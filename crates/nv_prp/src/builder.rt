@@ -1,12 +1,14 @@
 //! Transfers built for a buffer in pages.
 
-ghost use Rattle.std.specs.Prelude.{◌≡◌, ◌≢◌, ℕ, ◌+◌, ◌-◌, ◌*◌, ◌/◌, ◌%◌, ◌<◌, ◌≤◌, ◌^◌, ◌∷◌, length};
-ghost use Rattle.nv_prp.specs.Buffer.{IsBuffer, IsListPlace, KeepsOutside, NamesPages, StaysFor, buffer_place};
+ghost use Rattle.std.specs.Prelude.{◌≡◌, ◌≢◌, ℕ, ◌+◌, ◌-◌, ◌*◌, ◌/◌, ◌%◌, ◌<◌, ◌≤◌, ◌∷◌, length};
+ghost use Rattle.nv_prp.specs.Buffer.{IsBuffer, IsListPlace, KeepsOutside, NamesPages, StaysFor};
+ghost use Rattle.nv_prp.specs.Buffer.{buffer_place};
 ghost use Rattle.nv_prp.specs.Place.{AreDistinct};
 ghost use Rattle.nv_prp.specs.Transfer.{IsLegal, data_pages as pages_of, place_of, transfer};
 
 use crate::entry::store_qword;
-use crate::pointer::{DataPointer, ListShape, page_address, qwords_in_page};
+use crate::list_shape::ListShape;
+use crate::pointer::{DataPointer, page_address, qwords_in_page};
 use nv_host::{HostMemory, PageNo};
 
 /// A buffer in pages of the memory.

@@ -27,6 +27,7 @@ mod copy;
 mod entry;
 mod error;
 mod law;
+mod list_shape;
 mod pointer;
 mod range;
 mod spans;

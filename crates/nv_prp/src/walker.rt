@@ -1,13 +1,17 @@
 //! The walk over a transfer's entries.
 
-ghost use Rattle.std.specs.Prelude.{◌≡◌, ◌+◌, ◌-◌, ◌%◌, ◌/◌, ◌*◌, ◌<◌, ◌≤◌, ◌↔◌, ◌∷◌, [], IfErr, IfOk, IsOk, OnErr, OnOk, Some, length};
+ghost use Rattle.std.specs.Prelude.{◌≡◌, ◌+◌, ◌-◌, ◌/◌, ◌<◌, ◌≤◌, ◌↔◌, [], IfErr, IfOk, IsOk};
+ghost use Rattle.std.specs.Prelude.{OnErr, OnOk, Some, length};
 ghost use Rattle.nv_host.specs.Pages.{IsPageSize};
 ghost use Rattle.nv_prp.specs.ListWalk.{Comes, IsList, Turn};
 ghost use Rattle.nv_prp.specs.Place.{LieIn, places, table};
-ghost use Rattle.nv_prp.specs.Transfer.{HasWalked, IsLegal, data_pages as pages_of, fault_after_prp1, first_fault, room, span_of, spans_of, transfer, transfer_of, transfer_places};
+ghost use Rattle.nv_prp.specs.Transfer.{HasWalked, IsLegal, data_pages as pages_of};
+ghost use Rattle.nv_prp.specs.Transfer.{fault_after_prp1, first_fault, room, span_of, spans_of};
+ghost use Rattle.nv_prp.specs.Transfer.{transfer, transfer_of, transfer_places};
 
 use crate::entry::{check, check_page, load_page_address};
-use crate::pointer::{DataPointer, ListShape, qwords_in_page};
+use crate::list_shape::ListShape;
+use crate::pointer::{DataPointer, qwords_in_page};
 use crate::{PrpError, Spans};
 use nv_host::HostMemory;
 
@@ -118,7 +122,8 @@ fn naming_qword<M: HostMemory>(
 ) -> Result<u64, PrpError>
     requires list { IsList (transfer_of (M.page_len mem.now) (M.bytes mem.now) pointer) }
     requires room { list.room ≡ room (transfer_of (M.page_len mem.now) (M.bytes mem.now) pointer) }
-    requires pages { list.pages ≡ pages_of (transfer_of (M.page_len mem.now) (M.bytes mem.now) pointer) }
+    requires pages { let t = transfer_of (M.page_len mem.now) (M.bytes mem.now) pointer in
+        list.pages ≡ pages_of t }
     requires below { page < list.pages }
     requires comes { Comes (transfer_of (M.page_len mem.now) (M.bytes mem.now) pointer) page next }
     ensures turn { let t = transfer_of (M.page_len mem.now) (M.bytes mem.now) pointer in

@@ -1,10 +1,10 @@
-use Rattle.std.proofs.Common.{◌≡◌, ◌∙◌, ℕ, ◌+◌, ◌*◌, ◌%◌, ◌/◌, ◌-◌, ◌<◌, List, arith, get_or, subst, sym, refl}
+use Rattle.std.proofs.Common.{◌≡◌, ◌∙◌, ℕ, ◌+◌, ◌*◌, ◌<◌, List, arith, get_or, subst, sym, refl}
 use Rattle.nv_host.specs.Pages.{IsPageSize}
 use Rattle.nv_host.specs.PageLaws.{page_size_bounds}
 use Rattle.nv_prp.specs.Buffer.{IsBuffer, NamesPages, StaysFor}
 use Rattle.nv_prp.specs.BufferLaws.{buffer_kept, list_place_kept}
 use Rattle.nv_prp.specs.Transfer.{data_pages, room, transfer}
-use Rattle.nv_prp.proofs.BuiltLaws.{Begins, keeps_itself, many_pages, names_kept, one_page, pages_enough, two_pages}
+use Rattle.nv_prp.proofs.BuiltLaws.{Begins, keeps_itself, many_pages, names_kept, few_pages, pages_enough}
 use Rattle.nv_prp.proofs.PageLaws.{at_least_one, at_most_257}
 use Rattle.nv_prp.proofs.WriteLaws.{lies_at}
 use Rattle.nv_prp.proofs.builder.build.Given.{Over}
@@ -38,7 +38,8 @@ write_list-requires-clause-apart g c = c.requires.distinct 0 1 0 (omega arith) (
 one : (g : Over) (c : goal.In-1 g) → StaysFor (transfer (g.M.HostMemory.page_len c.args.mem.now) (g.M.HostMemory.bytes c.args.mem.now) (c.page_address.result + c.from.result) 0 c.args.len)
     c.args.buffer.now.pages.now c.args.buffer.now.offset c.args.list.now.first c.args.list.now.second
 one g c later keeps =
-    one_page _ _ _ (begins 0 c.page_address.ensures.size (buffer_kept _ later _ _ _ _ keeps.len c.requires.buffer) c.page_address.ensures.value c.from.ensures) (sym c.data_pages.ensures ∙ c.in-1.is)
+    few_pages _ _ _ (begins 0 c.page_address.ensures.size (buffer_kept _ later _ _ _ _ keeps.len c.requires.buffer) c.page_address.ensures.value c.from.ensures)
+    (omega (arith, c.data_pages.ensures, c.in-1.is)) (omega (arith, c.data_pages.ensures, c.in-1.is)) (λ two. absurd (omega (arith, c.data_pages.ensures, c.in-1.is)))
 
 pub returns-in-1-clause-legal : goal.returns-in-1-clause-legal
 returns-in-1-clause-legal g c = (one g c _ (keeps_itself _ _ _)).legal
@@ -52,8 +53,8 @@ returns-in-1-clause-stays g c = one g c
 two : (g : Over) (c : goal.After-page_address-in-2 g) → StaysFor (transfer (g.M.HostMemory.page_len c.args.mem.now) (g.M.HostMemory.bytes c.args.mem.now) (c.page_address.result + c.from.result) c.page_address-in-2.result c.args.len)
     c.args.buffer.now.pages.now c.args.buffer.now.offset c.args.list.now.first c.args.list.now.second
 two g c later keeps =
-    two_pages _ _ _ (begins _ c.page_address.ensures.size (buffer_kept _ later _ _ _ _ keeps.len c.requires.buffer) c.page_address.ensures.value c.from.ensures)
-    (sym c.data_pages.ensures ∙ c.in-2.is) c.page_address-in-2.ensures.value
+    few_pages _ _ _ (begins _ c.page_address.ensures.size (buffer_kept _ later _ _ _ _ keeps.len c.requires.buffer) c.page_address.ensures.value c.from.ensures)
+    (omega (arith, c.data_pages.ensures, c.in-2.is)) (omega (arith, c.data_pages.ensures, c.in-2.is)) (λ _. c.page_address-in-2.ensures.value)
 
 pub returns-in-2-clause-legal : goal.returns-in-2-clause-legal
 returns-in-2-clause-legal g c = (two g c _ (keeps_itself _ _ _)).legal

@@ -1,6 +1,6 @@
 use Rattle.std.proofs.Common.{◌∙◌, ◌%◌, ap, arith, sym}
 use Rattle.nv_host.specs.PageLaws.{page_size_bounds}
-use Rattle.nv_prp.proofs.EntryLaws.{fault_none, fault_offset, fault_outside, page_inside, page_outside}
+use Rattle.nv_prp.proofs.FaultLaws.{fault_none, fault_offset, fault_outside, page_inside, page_outside}
 use Rattle.nv_prp.proofs.entry.check.Goals as goal
 
 pub returns-then-entry-from-ne0-clause-fault : goal.returns-then-entry-from-ne0-clause-fault

@@ -1,6 +1,6 @@
 use Rattle.std.proofs.Common.{◌∙◌, ◌-◌, ◌+◌, ◌*◌, ap, arith, drop, refl, take}
 use Rattle.nv_host.specs.Bytes.{bytes_at}
-use Rattle.nv_prp.proofs.RangeLaws.{read_step}
+use Rattle.nv_prp.proofs.CopyLaws.{read_step}
 use Rattle.nv_prp.proofs.range.read_range.Goals as goal
 
 pub loop-done-init : goal.loop-done-init

@@ -1,8 +1,8 @@
 use Rattle.std.proofs.Common.{◌≡◌, ◌∙◌, ◌+◌, ◌-◌, ◌*◌, ap, arith, drop, length, length-drop, length-take, refl, sym, take}
 use Rattle.nv_host.specs.BytesLaws.{length-with_bytes}
-use Rattle.nv_prp.proofs.RangeLaws.{none_written, page_length, write_step}
-use Rattle.nv_prp.proofs.range.write_range.Goals as goal
+use Rattle.nv_prp.proofs.CopyLaws.{none_written, page_length, write_step}
 use borrow.Rule.Slice.PartMut.{put_mid}
+use Rattle.nv_prp.proofs.range.write_range.Goals as goal
 
 pub loop-done-preserved : goal.loop-done-preserved
 loop-done-preserved g c =

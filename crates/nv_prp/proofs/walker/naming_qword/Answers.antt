@@ -1,4 +1,4 @@
-use Rattle.std.proofs.Common.{◌∙◌, arith, sym}
+use Rattle.std.proofs.Common.{◌∙◌, arith}
 use Rattle.std.proofs.lemmas.Result.{err_from_is_err_and}
 use Rattle.nv_prp.proofs.ListLaws.{chain, fault_found, next_inside, turn_behind, turn_here, used_least}
 use Rattle.nv_prp.proofs.walker.naming_qword.Goals as goal

@@ -4,8 +4,7 @@ use Rattle.nv_prp.specs.ListWalk.{used_of}
 use Rattle.nv_prp.specs.Place.{table}
 use Rattle.nv_prp.specs.PlaceLaws.{length-table}
 use Rattle.nv_prp.specs.Transfer.{data_pages, first_qword_fault, span_of, spans_of, transfer_of}
-use Rattle.nv_prp.proofs.EntryLaws.{from_no_fault}
-use Rattle.nv_prp.proofs.FaultLaws.{fault_at_prp2}
+use Rattle.nv_prp.proofs.FaultLaws.{from_no_fault, fault_at_prp2}
 use Rattle.nv_prp.proofs.ListLaws.{comes_first, fault_found, is_list, list_fault}
 use Rattle.nv_prp.proofs.PageLaws.{more_spans}
 use Rattle.nv_prp.proofs.walker.walk_list.Goals as goal
