@@ -26,7 +26,7 @@ fn main(rt: HostRuntime) -> ExitCode {
     match measure_all(&rt) {
         Ok(()) => ExitCode::from(0),
         Err(error) => {
-            let _ = eprintln!(&rt; "nv_prp_speed: {error}");
+            let _ = eprintln!(&rt; "nv_speed: {error}");
             ExitCode::from(1)
         }
     }
