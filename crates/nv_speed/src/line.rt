@@ -8,7 +8,7 @@ ghost use Rattle.nv_subsystem.specs.WellFormed.{IsWellFormed};
 
 use crate::counting_sink::CountingSink;
 use crate::line_kind::LineKind;
-use crate::line_times::{LINES, LineTimes, ROUNDS};
+use crate::line_times::{LINES, LineTimes};
 use nv_command::Command;
 use nv_controller::Machine;
 use nv_driver::{Driver, Geometry};
@@ -54,23 +54,15 @@ fn demo_machine(alloc: Global) -> io::Result<Machine>
     Ok(machine)
 }
 
-/// Measures a line at a geometry: the least times of several rounds.
+/// Measures a line at a geometry: its run and each part of it alone.
 pub fn measure_line(
     rt: &HostRuntime,
     geometry: Geometry,
     kind: LineKind,
 ) -> io::Result<MeasuredLine> {
-    let mut measured = measure_once(rt, geometry, kind)?;
-    for round in 1..ROUNDS {
-        let again = measure_once(rt, geometry, kind)?;
-        measured.times = measured.times.least(again.times);
-    }
-    Ok(measured)
-}
-
-/// Measures a line once: its run and each part of it alone.
-fn measure_once(rt: &HostRuntime, geometry: Geometry, kind: LineKind) -> io::Result<MeasuredLine> {
     let script = kind.line().repeat(rt.alloc(), LINES as usize)?;
+    // The run before the first that counts, so that each finds the memory in the same caches.
+    let _ = time_run(rt, geometry, b"")?;
     let (_, empty_run) = time_run(rt, geometry, b"")?;
     let (written, run) = time_run(rt, geometry, script.as_bytes())?;
     let reading = time_readings(rt, kind.line())?;

@@ -6,9 +6,6 @@ use std::time::Duration;
 /// How many lines are measured together.
 pub const LINES: u32 = 1_000;
 
-/// How often they are measured; the least time counts.
-pub const ROUNDS: u32 = 20;
-
 /// What so many lines of a kind took together.
 #[derive(Clone, Copy)]
 pub struct LineTimes {

@@ -1,43 +1,36 @@
-//! How fast it is: lines of each kind at several geometries, and transfers of 1 MiB at each page size. Each is done
-//! so many times; the times go to standard error.
+//! How fast it is: lines of each kind at several geometries, and transfers of 1 MiB at each page
+//! size. Each is done so many times; the times go to standard error.
 #![tactic(auto)]
 
 mod counting_sink;
 mod line;
 mod line_kind;
 mod line_times;
+mod row;
 mod shape;
 mod transfer;
 mod transfer_times;
 
-use line::{MeasuredLine, measure_line};
-use line_kind::LINE_KINDS;
+use line::MeasuredLine;
 use line_times::HEADS;
 use nv_host::is_page_size;
-use shape::{Shape, shapes};
+use row::measure_rows;
 use std::io;
 use std::process::ExitCode;
 use transfer::{Measured, measure};
 
-/// Measures a line of each kind at a geometry.
-fn measure_kinds(rt: &HostRuntime, shape: Shape) -> io::Result<()> {
-    for kind in LINE_KINDS {
-        let MeasuredLine { written, times } = measure_line(rt, shape.geometry, kind)?;
-        let label = format!(in rt.alloc(); "{:<14}{:<14}", shape.name, kind.name())?;
+/// Measures lines of each kind at each geometry.
+fn measure_lines(rt: &HostRuntime) -> io::Result<()> {
+    let rows = measure_rows(rt)?;
+    eprintln!(rt; "{:<28} {HEADS}", "nanoseconds a line")?;
+    for row in &rows {
+        let MeasuredLine { written, times } = row.measured;
+        let label = format!(in rt.alloc(); "{:<14}{:<14}", row.shape.name(), row.kind.name())?;
         println!(rt;
             "{label} {} bytes, {} of messages",
             written.out, written.messages
         )?;
         eprintln!(rt; "{label} {times}")?;
-    }
-    Ok(())
-}
-
-/// Measures lines at each geometry.
-fn measure_lines(rt: &HostRuntime) -> io::Result<()> {
-    eprintln!(rt; "{:<28} {HEADS}", "nanoseconds a line")?;
-    for shape in shapes() {
-        measure_kinds(rt, shape)?;
     }
     Ok(())
 }
