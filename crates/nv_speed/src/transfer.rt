@@ -5,7 +5,7 @@ ghost use Rattle.nv_host.specs.Pages.{IsPageSize};
 ghost use Rattle.nv_prp.specs.Buffer.{IsBuffer, IsListPlace};
 ghost use Rattle.nv_prp.specs.Place.{AreDistinct, LieIn, places, table};
 
-use crate::times::{LENGTH, ROUNDS, Times};
+use crate::transfer_times::{LENGTH, ROUNDS, TransferTimes};
 use nv_host::{FlatMemory, HostMemory, PageNo};
 use nv_prp::{Buffer, ListPlace, Spans, build, copy_in, copy_out, walk};
 use std::alloc::{AllocError, Global};
@@ -19,7 +19,7 @@ const MOST_PAGES: u32 = 257;
 #[derive(Clone, Copy)]
 pub struct Measured {
     pub spans: usize,
-    pub times: Times,
+    pub times: TransferTimes,
 }
 
 /// So many pages, from page 2 on: pages 0 and 1 are left for the list.
@@ -77,7 +77,7 @@ fn measure_calls<M: HostMemory>(
     };
     let copy_out_time = time_copies_out(rt, mem, &spans, &source)?;
     let copy_in_time = time_copies_in(rt, mem, &spans, &mut read)?;
-    let times = Times {
+    let times = TransferTimes {
         build: build_time,
         walk: walk_time,
         copy_out: copy_out_time,

@@ -11,7 +11,7 @@ pub const ROUNDS: u32 = 64;
 
 /// What the calls of each kind took together.
 #[derive(Clone, Copy)]
-pub struct Times {
+pub struct TransferTimes {
     pub build: Duration,
     pub walk: Duration,
     pub copy_out: Duration,
@@ -24,7 +24,7 @@ fn bytes_per_second(time: Duration) -> u128 {
     bytes * 1_000_000_000 / time.as_nanos().max(1)
 }
 
-impl fmt::Display for Times {
+impl fmt::Display for TransferTimes {
     fn fmt<W: fmt::Write>(&self, f: &mut fmt::Formatter<W>) -> fmt::Result {
         let build = bytes_per_second(self.build);
         let walk = bytes_per_second(self.walk);

@@ -1,6 +1,6 @@
 use Rattle.std.proofs.Common.{◌∙◌}
-use Rattle.nv_prp_speed.proofs.BufferLaws.{are_distinct, is_buffer, is_list_place, made_size}
-use Rattle.nv_prp_speed.proofs.transfer.measure.Goals as goal
+use Rattle.nv_speed.proofs.BufferLaws.{are_distinct, is_buffer, is_list_place, made_size}
+use Rattle.nv_speed.proofs.transfer.measure.Goals as goal
 
 pub measure_calls-requires-clause-buffer : goal.measure_calls-requires-clause-buffer
 measure_calls-requires-clause-buffer c =

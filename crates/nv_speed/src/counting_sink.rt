@@ -1,0 +1,20 @@
+//! A sink that holds nothing.
+
+ghost use Rattle.std.specs.Prelude.{None, false};
+
+use nv_script::Sink;
+
+/// Takes any bytes, and counts them.
+#[derive(Drop)]
+pub struct CountingSink {
+    pub bytes: u64,
+}
+
+impl Sink for CountingSink {
+    ghost state = { λ _. record { taken = None; has_failed = false } };
+
+    fn write(&mut self, bytes: &[u8]) -> Option<usize> {
+        self.bytes = self.bytes.saturating_add(bytes.len() as u64);
+        Some(bytes.len())
+    }
+}

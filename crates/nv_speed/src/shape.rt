@@ -1,0 +1,46 @@
+//! The geometries at which lines are measured.
+
+use nv_driver::Geometry;
+
+/// A geometry.
+#[derive(Clone, Copy)]
+pub enum Shape {
+    Default,
+    /// Rings of the least depth.
+    Shallow,
+    /// Rings of the greatest depth.
+    Deep,
+    /// Data that begins with the last dword of the greatest page.
+    PageEnd,
+}
+
+/// Each of these geometries.
+pub const SHAPES: [Shape; 4] = [Shape::Default, Shape::Shallow, Shape::Deep, Shape::PageEnd];
+
+impl Shape {
+    pub fn name(self) -> &'static str {
+        match self {
+            Shape::Default => "default",
+            Shape::Shallow => "depth 2",
+            Shape::Deep => "depth 4096",
+            Shape::PageEnd => "offset 65532",
+        }
+    }
+
+    pub fn geometry(self) -> Geometry {
+        let plain = Geometry::default();
+        match self {
+            Shape::Default => plain,
+            Shape::Shallow => Geometry { depth: 2, ..plain },
+            Shape::Deep => Geometry {
+                depth: 4096,
+                ..plain
+            },
+            Shape::PageEnd => Geometry {
+                page_size: 65536,
+                offset: 65532,
+                ..plain
+            },
+        }
+    }
+}
