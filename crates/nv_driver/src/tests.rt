@@ -5,6 +5,8 @@ ghost use Rattle.nv_driver.specs.Registers.{ports_of};
 use super::*;
 use nv_command::{Command, Reply};
 use nv_controller::{Bus, Machine};
+use nv_host::HostMemory;
+use nv_layout::Status;
 use nv_subsystem::{DEMO, Subsystem};
 use std::alloc::Global;
 use std::process::Abort;
@@ -198,4 +200,120 @@ fn answers_in_the_largest_pages(rt: HostRuntime) -> Result<(), Fail> {
         pace: 4096,
     };
     expect_answers(&rt, rt.alloc(), geometry)
+}
+
+/// A machine that keeps how many entries its first turns took.
+#[derive(Drop)]
+struct Counted {
+    machine: Machine,
+    taken: [u16; 8],
+    turns: usize,
+}
+
+impl Bus for Counted {
+    ghost meaning = { λ c. c.machine };
+
+    fn controllers(&self) -> u16 {
+        self.machine.controllers()
+    }
+
+    fn read32(&self, ctrl: u16, offset: u32) -> u32 {
+        self.machine.read32(ctrl, offset)
+    }
+
+    fn write32(&mut self, ctrl: u16, offset: u32, dword: u32) {
+        self.machine.write32(ctrl, offset, dword);
+    }
+
+    fn turn<M: HostMemory>(&mut self, ctrl: u16, mem: &mut M, most: u16) -> u16 {
+        let count = self.machine.turn(ctrl, mem, most);
+        if self.turns < 8 {
+            self.taken[self.turns] = count;
+            self.turns += 1;
+        }
+        count
+    }
+}
+
+/// An answer is a list of these NSIDs.
+fn expect_ids(rt: &impl Abort, answer: &Answer, want: &[u32]) {
+    match answer {
+        Ok(Reply::List(list)) => assert_eq!(rt; list.as_slice(), want),
+        _ => assert!(rt; false),
+    }
+}
+
+/// Sends six commands, of which the second is refused. Answers how many entries the turns took.
+fn expect_six(rt: &impl Abort, alloc: Global, geometry: Geometry) -> Result<[u16; 8], Fail> {
+    let mut bus = Counted {
+        machine: machine(alloc)?,
+        taken: [0; 8],
+        turns: 0,
+    };
+    let Ok(mut driver) = Driver::bring_up(alloc, &mut bus, geometry) else {
+        assert!(rt; false);
+        return Ok([0; 8]);
+    };
+    assert!(rt; driver.controllers() == 2);
+    let commands = [
+        Command::IdentifyNamespace { nsid: 1 },
+        Command::IdentifyNamespace { nsid: 0 },
+        Command::IdentifyNamespace { nsid: 3 },
+        Command::ActiveList { after: 0 },
+        Command::ActiveList { after: 1 },
+        Command::AllocatedList { after: 3 },
+    ];
+    let none = Status::from_number(0);
+    let mut answers = [
+        Err(none),
+        Err(none),
+        Err(none),
+        Err(none),
+        Err(none),
+        Err(none),
+    ];
+    driver.admin_all(&mut bus, 0, &commands, &mut answers);
+    assert!(rt; answers[0].is_ok());
+    match &answers[1] {
+        Err(status) => assert_eq!(rt; status.number(), 0x600b),
+        Ok(_) => assert!(rt; false),
+    }
+    assert!(rt; answers[2].is_ok());
+    expect_ids(rt, &answers[3], &[1, 3]);
+    expect_ids(rt, &answers[4], &[3]);
+    assert!(rt; answers[5].is_ok());
+    Ok(bus.taken)
+}
+
+#[test]
+fn sends_one_command_at_a_time(rt: HostRuntime) -> Result<(), Fail> {
+    let taken = expect_six(&rt, rt.alloc(), Geometry::default())?;
+    assert_eq!(rt; taken, [1, 1, 1, 1, 1, 1, 0, 0]);
+    Ok(())
+}
+
+#[test]
+fn sends_several_commands_at_a_time(rt: HostRuntime) -> Result<(), Fail> {
+    let geometry = Geometry {
+        depth: 5,
+        window: 4,
+        pace: 4,
+        ..Geometry::default()
+    };
+    let taken = expect_six(&rt, rt.alloc(), geometry)?;
+    assert_eq!(rt; taken, [4, 2, 0, 0, 0, 0, 0, 0]);
+    Ok(())
+}
+
+#[test]
+fn tells_the_head_where_a_turn_took_nothing(rt: HostRuntime) -> Result<(), Fail> {
+    let geometry = Geometry {
+        depth: 4,
+        window: 3,
+        pace: 16,
+        ..Geometry::default()
+    };
+    let taken = expect_six(&rt, rt.alloc(), geometry)?;
+    assert_eq!(rt; taken, [3, 0, 3, 0, 0, 0, 0, 0]);
+    Ok(())
 }
