@@ -1,9 +1,8 @@
 //! A line of a script: what it takes to run it, and each of its parts alone.
 
-ghost use Rattle.std.specs.Prelude.{◌<◌, All, IfOk, length};
+ghost use Rattle.std.specs.Prelude.{All, IfOk};
 ghost use Rattle.nv_command.specs.Command.{CommandFits};
 ghost use Rattle.nv_controller.specs.Bus.{IsBus, IsEnabledWhereReady};
-ghost use Rattle.nv_script.specs.Link.{IsLinked};
 ghost use Rattle.nv_subsystem.specs.WellFormed.{IsWellFormed};
 
 use crate::counting_sink::CountingSink;
@@ -17,6 +16,9 @@ use nv_subsystem::{DEMO, Origin, Subsystem};
 use std::alloc::Global;
 use std::io::{self, ErrorKind};
 use std::time::{Duration, Instant};
+
+/// The number of controllers of the demonstration subsystem.
+const CONTROLLERS: u16 = 2;
 
 /// What was measured of a line.
 #[derive(Clone, Copy)]
@@ -119,7 +121,7 @@ fn time_readings(rt: &HostRuntime, line: &str) -> io::Result<Duration> {
     let line = line.trim_end().as_bytes();
     let start = Instant::now(rt)?;
     for round in 0..LINES {
-        let _ = read_line(rt.alloc(), line, 2);
+        let _ = read_line(rt.alloc(), line, CONTROLLERS);
     }
     start.elapsed(rt)
 }
