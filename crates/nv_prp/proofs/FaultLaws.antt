@@ -13,12 +13,7 @@ use Rattle.nv_prp.specs.declared.error.PrpError.{PrpError}
 -- the page of an entry lies in a memory of whole pages where the entry does
 pub page_inside : (pages page_size size entry : ℕ) → pages * page_size ≡ size → 0 < page_size → entry < size
     → entry - entry % page_size + page_size ≤ size
-page_inside pages page_size size entry whole some inside =
-    let q = entry / page_size in
-    let split = div-add-mod' entry page_size in
-    let below : q < pages = div_below entry page_size pages some (omega arith) in
-    let next : (q + 1) * page_size ≤ pages * page_size = mul-le-mul_right page_size (omega arith) in
-    omega arith
+page_inside pages page_size size entry whole some inside = grind (arith, nat_tests)
 
 pub page_outside : (pages page_size size entry : ℕ) → pages * page_size ≡ size → 0 < page_size → size ≤ entry
     → size < entry - entry % page_size + page_size
@@ -94,9 +89,7 @@ no_qword_fault t (suc n) none =
     ap (λ o. option_or o (qword_fault t n)) (no_qword_fault t n (λ k h. none k (omega arith))) ∙ none n (omega arith)
 
 pub next_fault : (t : Transfer) (n m : ℕ) → m ≡ n + 1 → first_qword_fault t n ≡ None → first_qword_fault t m ≡ qword_fault t n
-next_fault t n m e none =
-    let is : m ≡ suc n = omega arith in
-    ap (λ k. first_qword_fault t k) is ∙ ap (λ o. option_or o (qword_fault t n)) none
+next_fault t n m e none = grind (arith, nat_tests)
 
 -- a fault stays the first one
 pub fault_stays : (t : Transfer) (e : PrpError) (m n : ℕ) → m ≤ n → first_qword_fault t m ≡ Some e → first_qword_fault t n ≡ Some e

@@ -161,15 +161,7 @@ pub record Chain (t : Transfer) (j at : ℕ) : Type 0 where
 
 pub chain : (t : Transfer) (j at : ℕ) → Comes t j at → j ≡ room t → room t + 1 < data_pages t → Chain t j at
 unfolding qword_fault qword_place
-chain t j at comes last more =
-    let next = chained (room t) t.prp2 (second_page t) (data_pages t) j comes.later last more in
-    let here : t.prp2 + 8 * (j - 1) ≡ at = sym (comes.here ∙ next.4) in
-    let place : qword_place t (j - 1) ≡ at = rw (lt-ltb (j - 1) (room t) (omega (arith, comes.later))) here in
-    record {
-      fault = next_fault t (j - 1) j (omega (arith, comes.later)) (subst (λ n. first_qword_fault t n ≡ None) next.3 comes.none)
-          ∙ ap (λ a. entry_fault t.page_size (length t.bytes) t.page_size (qword t.bytes a)) place;
-      is = ap (λ a. qword t.bytes a) (sym here ∙ ap (λ n. t.prp2 + 8 * (n - 1)) last);
-    }
+chain t j at comes last more = grind (arith, nat_tests)
 
 pub turn_behind : (t : Transfer) (j at entry : ℕ) → IsList t → Comes t j at → j ≡ room t → room t + 1 < data_pages t
     → entry ≡ qword t.bytes at → entry_fault t.page_size (length t.bytes) t.page_size (qword t.bytes at) ≡ None → Turn t j entry

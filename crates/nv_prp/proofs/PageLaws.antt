@@ -1,4 +1,5 @@
 -- Data pages by their numbers.
+use Rattle.std.proofs.lemmas.Bool.Decides.{nat_tests}
 use Rattle.std.proofs.Common.{◌≡◌, ◌∙◌, ℕ, zero, suc, ◌+◌, ◌-◌, ◌*◌, ◌/◌, ◌%◌, ◌<◌, ◌≤◌, List, ◌++◌, ◌∷◌, [], append-nil, ap, arith, refl, sym}
 use Rattle.std.proofs.Math.Nat.{mul-le-mul_right}
 use Rattle.std.proofs.lemmas.Bool.{le-ltb}
@@ -18,10 +19,7 @@ pages_span t some = div_ceil_times (offset t + t.len) t.page_size some
 
 -- page j of them begins in the transfer
 page_begins : (t : Transfer) (j : ℕ) → 0 < t.page_size → j < data_pages t → j * t.page_size < offset t + t.len
-page_begins t j some below =
-    let span = pages_span t some in
-    let next : (j + 1) * t.page_size ≤ data_pages t * t.page_size = mul-le-mul_right t.page_size (omega arith) in
-    omega arith
+page_begins t j some below = grind (arith, nat_tests)
 
 pub at_least_one : (t : Transfer) → 0 < t.page_size → 0 < t.len → 0 < data_pages t
 at_least_one t some bytes = let span = pages_span t some in grind arith

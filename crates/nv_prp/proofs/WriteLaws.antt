@@ -141,9 +141,4 @@ pub outside_kept : (size first second addr n : ℕ) (all old new : List ℕ) →
     → ((from k : ℕ) → IsApart first size from k → IsApart second size from k → bytes_at old from k ≡ bytes_at all from k)
     → ChangesOnly addr n old new
     → (from k : ℕ) → IsApart first size from k → IsApart second size from k → bytes_at new from k ≡ bytes_at all from k
-outside_kept size first second addr n all old new within kept others from k apart behind =
-    others from k (elim within [
-      | inl in_first ↦ elim apart [ inl before ↦ inl (omega (arith, in_first.0)) | inr after ↦ inr (omega (arith, in_first.1)) ]
-      | inr in_second ↦ elim behind [ inl before ↦ inl (omega (arith, in_second.0)) | inr after ↦ inr (omega (arith, in_second.1)) ]
-    ])
-    ∙ kept from k apart behind
+outside_kept size first second addr n all old new within kept others from k apart behind = grind (arith, nat_tests)
