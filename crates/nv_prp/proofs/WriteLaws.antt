@@ -79,8 +79,7 @@ IsWithin size first second addr n = ((first ≤ addr) × (addr + n ≤ first + s
 
 pub within_memory : (bytes : List ℕ) (size first second offset addr n : ℕ) → IsListPlace bytes size first second offset
     → IsWithin size (first * size) (second * size) addr n → addr + n ≤ length bytes
-within_memory bytes size first second offset addr n place (inl here) = omega (arith, here.1, place.has_first)
-within_memory bytes size first second offset addr n place (inr here) = omega (arith, here.1, place.has_second)
+within_memory bytes size first second offset addr n place within = grind (arith, place.has_first, place.has_second)
 
 -- the Qword that names data page j
 abbrev pub naming_place : ℕ → ℕ → ℕ → ℕ → ℕ → ℕ
