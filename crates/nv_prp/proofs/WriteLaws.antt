@@ -93,16 +93,6 @@ place_within size space start first second count j lies few later below = grind 
 pub chain_within : (size space start first second : ℕ) → Lies size space start first second → IsWithin size first second (start + 8 * (space - 1)) 8
 chain_within size space start first second lies = inl (omega (arith, lies.low), omega (arith, lies.whole, lies.some))
 
--- two of them share no byte
-places_apart : (size space start first second count j k : ℕ) → Lies size space start first second → count ≤ 257 → 0 < k → k < j → j < count
-    → IsApart (naming_place space start second count j) 8 (naming_place space start second count k) 8
-places_apart size space start first second count j k lies few later before below = grind (arith, nat_tests)
-
--- the last Qword of the first page names none, where the list goes on
-chain_apart : (size space start first second count k : ℕ) → Lies size space start first second → count ≤ 257 → space + 1 < count → 0 < k → k < count
-    → IsApart (start + 8 * (space - 1)) 8 (naming_place space start second count k) 8
-chain_apart size space start first second count k lies few chained later below = grind (arith, nat_tests)
-
 -- ---- a list that is written
 
 -- the first Qwords name their data pages
@@ -113,15 +103,11 @@ pub one_named : (old new : List ℕ) (size space start first second : ℕ) (page
     → count ≤ 257 → 0 < j → j < count → at ≡ naming_place space start second count j → HasNamed old size space start second pages count j
     → qword new at ≡ get_or pages j 0 * size → ChangesOnly at 8 old new → HasNamed new size space start second pages count (j + 1)
 one_named old new size space start first second pages count j at lies few later below is named here others k after before =
-    let place = naming_place space start second count in
     elim (cases_lt k j) [
-      | inl less ↦
-          qword_kept (place j) 8 (place k) old new (subst (λ a. ChangesOnly a 8 old new) is others)
-          (places_apart size space start first second count j k lies few after less below)
-          ∙ named k after less
+      | inl less ↦ qword_kept at 8 (naming_place space start second count k) old new others (grind (arith, nat_tests)) ∙ named k after less
       | inr last ↦
           let same : k ≡ j = omega arith in
-          ap (λ i. qword new (place i)) same ∙ ap (λ a. qword new a) (sym is) ∙ here ∙ ap (λ i. get_or pages i 0 * size) (sym same)
+          ap (λ i. qword new (naming_place space start second count i)) same ∙ ap (λ a. qword new a) (sym is) ∙ here ∙ ap (λ i. get_or pages i 0 * size) (sym same)
     ]
 
 pub chain_names : (old new : List ℕ) (size space start first second : ℕ) (pages : List ℕ) (count at : ℕ) → Lies size space start first second
@@ -130,8 +116,7 @@ pub chain_names : (old new : List ℕ) (size space start first second : ℕ) (pa
 chain_names old new size space start first second pages count at lies few chained is named here others = record {
   chain = λ _. ap (λ a. qword new a) (sym is) ∙ here;
   each = λ j later below.
-      qword_kept at 8 (naming_place space start second count j) old new others
-      (subst (λ a. IsApart a 8 (naming_place space start second count j) 8) (sym is) (chain_apart size space start first second count j lies few chained later below))
+      qword_kept at 8 (naming_place space start second count j) old new others (grind (arith, nat_tests))
       ∙ named j later below;
 }
 
