@@ -1,12 +1,12 @@
 -- The Qwords of a list, by their numbers.
-use Rattle.std.proofs.Common.{◌≡◌, ◌∙◌, ◌⊎◌, ℕ, zero, suc, ◌+◌, ◌-◌, ◌*◌, ◌/◌, ◌%◌, ◌<◌, ◌≤◌, None, Some, ap, arith, inl, inr, length, refl, subst, sym}
+use Rattle.std.proofs.Common.{◌≡◌, ◌∙◌, ℕ, zero, suc, ◌+◌, ◌-◌, ◌*◌, ◌/◌, ◌%◌, ◌<◌, ◌≤◌, None, Some, ap, arith, length, refl}
 use Rattle.std.specs.Option.{option_or}
-use Rattle.std.proofs.lemmas.Bool.{cases_lt, lt-ltb}
+use Rattle.std.proofs.lemmas.Bool.{lt-ltb}
 use Rattle.std.proofs.lemmas.Bool.Decides.{nat_tests}
 use Rattle.std.proofs.lemmas.Nat.{div-add-mod'}
 use Rattle.nv_host.specs.Pages.{IsPageSize}
 use Rattle.nv_host.specs.PageLaws.{page_size_bounds, page_size_in_qwords}
-use Rattle.nv_prp.specs.ListWalk.{Comes, IsList, Turn, cursor, cursor_of, used, used_of}
+use Rattle.nv_prp.specs.ListWalk.{Comes, IsList, Turn, cursor_of, used_of}
 use Rattle.nv_prp.specs.Transfer.{Transfer, data_pages, entry_fault, fault_after_prp1, first_qword_fault, list_place, list_qwords, naming_number, naming_qword, page_base, qword, qword_fault, qword_place, room, second_page}
 use Rattle.nv_prp.specs.declared.error.PrpError.{PrpError}
 use Rattle.nv_prp.proofs.FaultLaws.{from_no_fault, each_none, fault_of_list, fault_stays, next_fault}
