@@ -73,15 +73,11 @@ pub few_pages : (t : Transfer) (pages : List ℕ) (start : ℕ) → Begins t pag
     → (data_pages t ≡ 2 → t.prp2 ≡ get_or pages 1 0 * t.page_size) → IsFor t pages start
 unfolding prp2_fault qwords
 few_pages t pages start begins more few second =
-    let none : qwords t ≡ 0 = rw (le-ltb 2 (data_pages t) few) refl in
     let some : 0 < t.page_size = omega (arith, page_size_bounds t.page_size begins.size) in
-    is_for t pages start begins more
-    (rw (le-ltb 2 (data_pages t) few) (elim (cases_eq (data_pages t) 2) [
-      | inl two ↦ rw (eq-eqb (data_pages t) 2 two) (ap (λ n. entry_fault t.page_size (length t.bytes) t.page_size n) (second two)
-          ∙ no_fault_of_page t.bytes (get_or pages 1 0) t.page_size some (page_has t pages start 1 begins (omega arith)))
-      | inr one ↦ rw (ne_eqb (data_pages t) 2 one) refl
-    ]))
-    (λ n used. absurd (omega (arith, none)))
+    let two_fits : data_pages t ≡ 2 → entry_fault t.page_size (length t.bytes) t.page_size t.prp2 ≡ None = λ two.
+    ap (λ n. entry_fault t.page_size (length t.bytes) t.page_size n) (second two)
+    ∙ no_fault_of_page t.bytes (get_or pages 1 0) t.page_size some (page_has t pages start 1 begins (omega arith)) in
+    is_for t pages start begins more (grind (arith, nat_tests)) (λ n used. absurd (grind (arith, nat_tests)))
     (λ j later below.
     let is : 1 ≡ j = omega arith in
     let two : data_pages t ≡ 2 = omega arith in
