@@ -50,8 +50,7 @@ is_for t pages start begins more prp2 list bases =
       | inl later ↦ bases j later below
       | inr first ↦
           let is : 0 ≡ j = omega arith in
-          let first_is : page_base t 0 ≡ get_or pages 0 0 * size = omega (arith, begins.prp1, at) in
-          subst (λ k. page_base t k ≡ get_or pages k 0 * size) is first_is
+          subst (λ k. page_base t k ≡ get_or pages k 0 * size) is (omega (arith, begins.prp1, at))
     ] in
     record {
       legal = record {

@@ -75,9 +75,8 @@ turn : (t : Transfer) (j at : ℕ) → IsList t → 0 < j → list_place (room t
     → first_qword_fault t (naming_number (room t) (data_pages t) j) ≡ None → cursor_of t (j + 1) ≡ at + 8 → at + 8 ≤ length t.bytes → Turn t j at
 unfolding qword_fault qword_place naming_qword
 turn t j at list later place none next inside = record {
-  fault = next_fault t _ (used_of t (j + 1)) (grind (arith, nat_tests)) none
-      ∙ ap (λ a. entry_fault t.page_size (length t.bytes) t.page_size (qword t.bytes a)) place;
-  base = base_by_list t j list.many later ∙ ap (λ a. qword t.bytes a) place;
+  fault = grind (arith, nat_tests, next_fault t (naming_number (room t) (data_pages t) j) (used_of t (j + 1)));
+  base = grind (arith, base_by_list t j list.many later);
   next = next;
   inside = inside;
 }

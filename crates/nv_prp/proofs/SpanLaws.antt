@@ -16,18 +16,7 @@ naming_used space pages j many later below = grind (arith, nat_tests)
 -- and is a page of the memory
 later_fault : (t : Transfer) (j : ℕ) → IsLegal t → 0 < j → j < data_pages t → entry_fault t.page_size (length t.bytes) t.page_size (page_base t j) ≡ None
 unfolding qword_fault prp2_fault qwords naming_qword
-later_fault t j legal later below =
-    elim (cases_lt 2 (data_pages t)) [
-      | inl many ↦
-          let all : qwords t ≡ list_qwords (room t) (data_pages t) = rw (lt-ltb 2 (data_pages t) many) in
-          ap (λ e. entry_fault t.page_size (length t.bytes) t.page_size e) (base_by_list t j many later)
-          ∙ legal.list (naming_qword t j) (subst (λ n. naming_qword t j < n) (sym all) (naming_used (room t) (data_pages t) j many later below))
-      | inr few ↦
-          let two : data_pages t ≡ 2 = omega arith in
-          let one : j ≡ 1 = omega arith in
-          ap (λ e. entry_fault t.page_size (length t.bytes) t.page_size e) (ap (λ n. page_base t n) one ∙ base_of_two t two)
-          ∙ (rw (le-ltb 2 (data_pages t) few, eq-eqb (data_pages t) 2 two) at legal.prp2)
-    ]
+later_fault t j legal later below = grind (arith, nat_tests, base_by_list t j, base_of_two t, legal.list (naming_qword t j), legal.prp2)
 
 pub spans_lie_in : (t : Transfer) → IsLegal t → 0 < t.page_size → 0 < t.len → LieIn (length t.bytes) (spans_of t)
 unfolding LieIn spans_of
