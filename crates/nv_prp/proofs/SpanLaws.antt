@@ -1,10 +1,10 @@
 -- The spans of a legal transfer.
 use Rattle.std.proofs.Common.{None, ◌≡◌, ◌∙◌, ℕ, ◌+◌, ◌*◌, ◌<◌, ◌≤◌, ap, arith, inl, inr, length, refl, subst, sym}
 use Rattle.std.proofs.lemmas.Bool.Decides.{nat_tests}
-use Rattle.std.proofs.lemmas.Bool.{cases_lt, eq-eqb, le-ltb, lt-ltb}
+use Rattle.std.proofs.lemmas.Bool.{cases_lt}
 use Rattle.nv_prp.specs.Place.{LieIn}
 use Rattle.nv_prp.specs.PlaceLaws.{All-table}
-use Rattle.nv_prp.specs.Transfer.{IsLegal, Transfer, data_pages, entry_fault, list_qwords, naming_number, naming_qword, page_base, prp2_fault, qword_fault, qwords, room, span_of, spans_of}
+use Rattle.nv_prp.specs.Transfer.{IsLegal, Transfer, data_pages, entry_fault, list_qwords, naming_number, naming_qword, page_base, prp2_fault, qword_fault, qwords, span_of, spans_of}
 use Rattle.nv_prp.proofs.FaultLaws.{from_no_fault}
 use Rattle.nv_prp.proofs.ListLaws.{base_by_list}
 use Rattle.nv_prp.proofs.PageLaws.{base_of_two, first_span, later_span}
