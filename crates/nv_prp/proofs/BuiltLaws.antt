@@ -1,6 +1,6 @@
 -- Transfers whose entries are those of a buffer.
 use Rattle.std.proofs.Common.{◌≡◌, ◌∙◌, ◌⊎◌, ℕ, ◌+◌, ◌-◌, ◌*◌, ◌/◌, ◌%◌, ◌<◌, ◌≤◌, List, None, ap, arith, get_or, inl, inr, length, refl, subst, sym}
-use Rattle.std.proofs.lemmas.Bool.{cases_eq, cases_lt, cases_order, eq-eqb, le-ltb, lt-ltb, ne_eqb}
+use Rattle.std.proofs.lemmas.Bool.{cases_lt, cases_order, lt-ltb}
 use Rattle.std.proofs.lemmas.Nat.{div_below, mod-mul-add}
 use Rattle.std.specs.Int.{from_le_bytes, w64}
 use Rattle.std.proofs.lemmas.Bool.Decides.{nat_tests}
@@ -9,11 +9,10 @@ use Rattle.nv_host.specs.BytesLaws.{bytes_at-bytes_at}
 use Rattle.nv_host.specs.Pages.{HasPage, IsPageSize}
 use Rattle.nv_host.specs.PageLaws.{page_size_bounds, page_size_in_qwords}
 use Rattle.nv_prp.specs.Buffer.{IsBuffer, IsFor, IsListPlace, KeepsList, NamesPages, buffer_place}
-use Rattle.nv_prp.specs.Transfer.{Transfer, data_pages, entry_fault, list_place, list_qwords, naming_number, naming_qword, offset, page_base, place_of, prp2_fault, qword, qword_fault, qword_place, qwords, room}
+use Rattle.nv_prp.specs.Transfer.{Transfer, data_pages, entry_fault, list_qwords, naming_number, naming_qword, offset, page_base, place_of, prp2_fault, qword, qword_fault, qword_place, qwords, room}
 use Rattle.nv_prp.proofs.FaultLaws.{multiple_stays, no_fault_at, no_fault_of_page}
 use Rattle.nv_prp.proofs.ListLaws.{base_by_list, whole_room}
 use Rattle.nv_prp.proofs.PageLaws.{base_of_two, pages_span}
-use Rattle.nv_prp.proofs.SpanLaws.{naming_used}
 use Rattle.nv_prp.proofs.WriteLaws.{IsWithin, Lies, chain_within, list_even, place_within}
 
 -- the entries for a buffer, as far as PRP1
@@ -50,8 +49,7 @@ is_for t pages start begins more prp2 list bases =
       | inl later ↦ bases j later below
       | inr first ↦
           let is : 0 ≡ j = omega arith in
-          let first_is : page_base t 0 ≡ get_or pages 0 0 * size = omega (arith, begins.prp1, at) in
-          subst (λ k. page_base t k ≡ get_or pages k 0 * size) is first_is
+          subst (λ k. page_base t k ≡ get_or pages k 0 * size) is (omega (arith, begins.prp1, at))
     ] in
     record {
       legal = record {
@@ -73,15 +71,11 @@ pub few_pages : (t : Transfer) (pages : List ℕ) (start : ℕ) → Begins t pag
     → (data_pages t ≡ 2 → t.prp2 ≡ get_or pages 1 0 * t.page_size) → IsFor t pages start
 unfolding prp2_fault qwords
 few_pages t pages start begins more few second =
-    let none : qwords t ≡ 0 = rw (le-ltb 2 (data_pages t) few) refl in
     let some : 0 < t.page_size = omega (arith, page_size_bounds t.page_size begins.size) in
-    is_for t pages start begins more
-    (rw (le-ltb 2 (data_pages t) few) (elim (cases_eq (data_pages t) 2) [
-      | inl two ↦ rw (eq-eqb (data_pages t) 2 two) (ap (λ n. entry_fault t.page_size (length t.bytes) t.page_size n) (second two)
-          ∙ no_fault_of_page t.bytes (get_or pages 1 0) t.page_size some (page_has t pages start 1 begins (omega arith)))
-      | inr one ↦ rw (ne_eqb (data_pages t) 2 one) refl
-    ]))
-    (λ n used. absurd (omega (arith, none)))
+    let two_fits : data_pages t ≡ 2 → entry_fault t.page_size (length t.bytes) t.page_size t.prp2 ≡ None = λ two.
+    ap (λ n. entry_fault t.page_size (length t.bytes) t.page_size n) (second two)
+    ∙ no_fault_of_page t.bytes (get_or pages 1 0) t.page_size some (page_has t pages start 1 begins (omega arith)) in
+    is_for t pages start begins more (grind (arith, nat_tests)) (λ n used. absurd (grind (arith, nat_tests)))
     (λ j later below.
     let is : 1 ≡ j = omega arith in
     let two : data_pages t ≡ 2 = omega arith in
@@ -102,12 +96,6 @@ qword_cases space pages n some used =
       | inr single ↦ inr (n + 1, omega arith, grind (arith, nat_tests), grind (arith, nat_tests))
     ]
 
--- the place of a Qword of the list, by the pages that were given to it
-place_is : (t : Transfer) (pages : List ℕ) (second n : ℕ) → NamesPages t.bytes t.page_size (room t) t.prp2 second pages (data_pages t)
-    → n < list_qwords (room t) (data_pages t) → qword_place t n ≡ list_place (room t) t.prp2 second n
-unfolding qword_place
-place_is t pages second n names below = grind (arith, nat_tests, names.chain)
-
 pub many_pages : (t : Transfer) (pages : List ℕ) (start first second at : ℕ) → Begins t pages start → 2 < data_pages t
     → t.prp2 ≡ first * t.page_size + at → IsListPlace t.bytes t.page_size first second at
     → NamesPages t.bytes t.page_size (room t) t.prp2 (second * t.page_size) pages (data_pages t) → IsFor t pages start
@@ -119,21 +107,15 @@ many_pages t pages start first second at begins many prp2 place names =
     let space : 0 < room t = (whole_room t.prp2 size (room t) begins.size even refl).0 in
     let all : qwords t ≡ list_qwords (room t) (data_pages t) = rw (lt-ltb 2 (data_pages t) many) refl in
     let holds : (j : ℕ) → 0 < j → j < data_pages t → qword t.bytes (qword_place t (naming_qword t j)) ≡ get_or pages j 0 * size = λ j later below.
-    ap (λ a. qword t.bytes a) (place_is t pages (second * size) (naming_qword t j) names (naming_used (room t) (data_pages t) j many later below))
-    ∙ names.each j later below in
+    grind (arith, nat_tests, names.each j later below, names.chain) in
     let no_fault : (n page : ℕ) → HasPage t.bytes size page → qword t.bytes (qword_place t n) ≡ page * size → qword_fault t n ≡ None = λ n page has is.
     ap (λ e. entry_fault size (length t.bytes) size e) is ∙ no_fault_of_page t.bytes page size some has in
     is_for t pages start begins (omega arith)
     (rw (lt-ltb 2 (data_pages t) many)
     (ap (λ n. entry_fault size (length t.bytes) 8 n) prp2 ∙ no_fault_at t.bytes first size at 8 place.below place.has_first (ap (λ n. n % 8) (sym prp2) ∙ even)))
     (λ n below. elim (qword_cases (room t) (data_pages t) n space (subst (λ m. n < m) all below)) [
-      | inl chained ↦
-          let last : n ≡ room t - 1 = omega (arith, chained.1) in
-          no_fault n second place.has_second
-          (rw (lt-ltb n (room t) (omega (arith, chained.1))) (ap (λ k. qword t.bytes (t.prp2 + 8 * k)) last ∙ names.chain chained.0))
-      | inr (j, later, within, is) ↦
-          no_fault n (get_or pages j 0) (page_has t pages start j begins within)
-          (ap (λ k. qword t.bytes (qword_place t k)) (sym is) ∙ holds j later within)
+      | inl chained ↦ no_fault n second place.has_second (grind (arith, nat_tests, names.chain))
+      | inr (j, later, within, is) ↦ no_fault n (get_or pages j 0) (page_has t pages start j begins within) (grind (arith, holds j later within))
     ])
     (λ j later below. base_by_list t j many later ∙ holds j later below)
 

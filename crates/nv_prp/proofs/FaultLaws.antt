@@ -1,46 +1,18 @@
 -- A single entry's fault, and which fault of a transfer is the first.
-use Rattle.std.proofs.Common.{◌≡◌, ◌≢◌, ◌∙◌, ℕ, ◌+◌, ◌-◌, ◌*◌, ◌/◌, ◌%◌, ◌<◌, ◌≤◌, List, None, Some, ap, arith, length, zero, suc, Option, inl, inr, refl}
-use Rattle.std.proofs.Math.Nat.{mul-add-mod_self_left, mul-le-mul_right, mul-mod_left}
+use Rattle.std.proofs.Common.{◌≡◌, ◌∙◌, ℕ, ◌+◌, ◌-◌, ◌*◌, ◌/◌, ◌%◌, ◌<◌, ◌≤◌, List, None, Some, ap, arith, length, zero, suc, Option, inl, inr, refl}
+use Rattle.std.proofs.Math.Nat.{mul-add-mod_self_left, mul-mod_left}
 use Rattle.std.proofs.lemmas.Bool.Decides.{nat_tests}
-use Rattle.std.proofs.lemmas.Bool.{eq-eqb, le-leb, lt-leb, ne_eqb, cases_lt, le-ltb, lt-ltb}
-use Rattle.std.proofs.lemmas.Nat.{div_below, div-add-mod', mod-mul-add}
+use Rattle.std.proofs.lemmas.Bool.{eq-eqb, ne_eqb, cases_lt, le-ltb, lt-ltb}
+use Rattle.std.proofs.lemmas.Nat.{mod-mul-add}
 use Rattle.nv_host.specs.Pages.{HasPage}
 use Rattle.nv_prp.specs.Transfer.{entry_fault, IsLegal, Transfer, data_pages, fault_after_prp1, first_fault, first_qword_fault, list_qwords, prp1_fault, prp2_fault, qword_fault, qwords, room}
-use Rattle.nv_prp.specs.declared.error.PrpError.TheVariants.{Offset, Outside}
 use Rattle.std.specs.Option.{option_or}
 use Rattle.nv_prp.specs.declared.error.PrpError.{PrpError}
 
 -- the page of an entry lies in a memory of whole pages where the entry does
 pub page_inside : (pages page_size size entry : ℕ) → pages * page_size ≡ size → 0 < page_size → entry < size
     → entry - entry % page_size + page_size ≤ size
-page_inside pages page_size size entry whole some inside =
-    let q = entry / page_size in
-    let split = div-add-mod' entry page_size in
-    let below : q < pages = div_below entry page_size pages some (omega arith) in
-    let next : (q + 1) * page_size ≤ pages * page_size = mul-le-mul_right page_size (omega arith) in
-    omega arith
-
-pub page_outside : (pages page_size size entry : ℕ) → pages * page_size ≡ size → 0 < page_size → size ≤ entry
-    → size < entry - entry % page_size + page_size
-page_outside pages page_size size entry whole some outside = omega arith
-
-pub fault_offset : (page_size size alignment entry : ℕ) → entry % alignment ≢ 0
-    → entry_fault page_size size alignment entry ≡ Some Offset
-unfolding entry_fault
-fault_offset page_size size alignment entry odd =
-    rw (ne_eqb (entry % alignment) 0 odd)
-
-pub fault_outside : (page_size size alignment entry : ℕ) → entry % alignment ≡ 0 → size < entry - entry % page_size + page_size
-    → entry_fault page_size size alignment entry ≡ Some Outside
-unfolding entry_fault
-fault_outside page_size size alignment entry even outside =
-    rw (eq-eqb (entry % alignment) 0 even, lt-leb (entry - entry % page_size + page_size) size outside)
-
-pub fault_none : (page_size size alignment entry : ℕ) → entry % alignment ≡ 0 → entry - entry % page_size + page_size ≤ size
-    → entry_fault page_size size alignment entry ≡ None
-unfolding entry_fault
-fault_none page_size size alignment entry even inside =
-    rw (eq-eqb (entry % alignment) 0 even, le-leb (entry - entry % page_size + page_size) size inside)
+page_inside pages page_size size entry whole some inside = grind (arith, nat_tests)
 
 -- what an entry without a fault is
 pub from_no_fault : (page_size size alignment entry : ℕ) → entry_fault page_size size alignment entry ≡ None
@@ -59,14 +31,16 @@ multiple_stays page size x k whole =
 
 pub no_fault_at : (bytes : List ℕ) (page size x alignment : ℕ) → x < size → HasPage bytes size page
     → (page * size + x) % alignment ≡ 0 → entry_fault size (length bytes) alignment (page * size + x) ≡ None
+unfolding entry_fault
 no_fault_at bytes page size x alignment below has even =
     let rest : (page * size + x) % size ≡ x = mod-mul-add page size x below in
-    fault_none size (length bytes) alignment (page * size + x) even (omega (arith, rest))
+    grind (arith, nat_tests)
 
 pub no_fault_of_page : (bytes : List ℕ) (page size : ℕ) → 0 < size → HasPage bytes size page → entry_fault size (length bytes) size (page * size) ≡ None
+unfolding entry_fault
 no_fault_of_page bytes page size some has =
     let rest : (page * size) % size ≡ 0 = mul-mod_left page size in
-    fault_none size (length bytes) size (page * size) rest (omega (arith, rest))
+    grind (arith, nat_tests)
 
 or_none : (a b : Option PrpError) → option_or a b ≡ None → (a ≡ None) × (b ≡ None)
 or_none None b h = (refl, h)
@@ -94,9 +68,7 @@ no_qword_fault t (suc n) none =
     ap (λ o. option_or o (qword_fault t n)) (no_qword_fault t n (λ k h. none k (omega arith))) ∙ none n (omega arith)
 
 pub next_fault : (t : Transfer) (n m : ℕ) → m ≡ n + 1 → first_qword_fault t n ≡ None → first_qword_fault t m ≡ qword_fault t n
-next_fault t n m e none =
-    let is : m ≡ suc n = omega arith in
-    ap (λ k. first_qword_fault t k) is ∙ ap (λ o. option_or o (qword_fault t n)) none
+next_fault t n m e none = grind (arith, nat_tests)
 
 -- a fault stays the first one
 pub fault_stays : (t : Transfer) (e : PrpError) (m n : ℕ) → m ≤ n → first_qword_fault t m ≡ Some e → first_qword_fault t n ≡ Some e

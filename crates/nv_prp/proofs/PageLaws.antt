@@ -1,4 +1,5 @@
 -- Data pages by their numbers.
+use Rattle.std.proofs.lemmas.Bool.Decides.{nat_tests}
 use Rattle.std.proofs.Common.{◌≡◌, ◌∙◌, ℕ, zero, suc, ◌+◌, ◌-◌, ◌*◌, ◌/◌, ◌%◌, ◌<◌, ◌≤◌, List, ◌++◌, ◌∷◌, [], append-nil, ap, arith, refl, sym}
 use Rattle.std.proofs.Math.Nat.{mul-le-mul_right}
 use Rattle.std.proofs.lemmas.Bool.{le-ltb}
@@ -18,10 +19,7 @@ pages_span t some = div_ceil_times (offset t + t.len) t.page_size some
 
 -- page j of them begins in the transfer
 page_begins : (t : Transfer) (j : ℕ) → 0 < t.page_size → j < data_pages t → j * t.page_size < offset t + t.len
-page_begins t j some below =
-    let span = pages_span t some in
-    let next : (j + 1) * t.page_size ≤ data_pages t * t.page_size = mul-le-mul_right t.page_size (omega arith) in
-    omega arith
+page_begins t j some below = grind (arith, nat_tests)
 
 pub at_least_one : (t : Transfer) → 0 < t.page_size → 0 < t.len → 0 < data_pages t
 at_least_one t some bytes = let span = pages_span t some in grind arith
@@ -54,11 +52,8 @@ place_after_first : (t : Transfer) (j k : ℕ) → 0 < t.page_size → j < data_
     → place_of t (first_byte t j + k) ≡ place_of t (first_byte t j) + k
 place_after_first t j k some below h =
     let begins = page_begins t j some below in
-    let low : offset t < t.page_size = omega arith in
     let next = next_page j t.page_size in
-    let here = place_in_page t j (first_byte t j + k) (omega arith) (omega arith) in
-    let first = place_in_page t j (first_byte t j) (omega arith) (omega arith) in
-    omega (arith, here, first)
+    grind (arith, place_in_page t j (first_byte t j + k), place_in_page t j (first_byte t j))
 
 -- data page 1 of two
 pub base_of_two : (t : Transfer) → data_pages t ≡ 2 → page_base t 1 ≡ t.prp2
@@ -75,19 +70,14 @@ span_with t j address e = λ i. record { address = e i; len = first_byte t (j + 
 pub first_span : (t : Transfer) → 0 < t.page_size → 0 < t.len
     → span_of t 0 ≡ record { address = t.prp1; len = first_byte t 1 - first_byte t 0 }
 unfolding page_base
-first_span t some bytes =
-    let low : offset t < t.page_size = omega arith in
-    let start = place_in_page t 0 (first_byte t 0) (omega arith) (omega arith) in
-    span_with t 0 t.prp1 (start ∙ omega arith)
+first_span t some bytes = span_with t 0 t.prp1 (grind (arith, place_in_page t 0 (first_byte t 0)))
 
 pub later_span : (t : Transfer) (j base : ℕ) → 0 < t.page_size → 0 < j → j < data_pages t → page_base t j ≡ base
     → span_of t j ≡ record { address = base; len = first_byte t (j + 1) - first_byte t j }
 later_span t j base some later below is =
-    let low : offset t < t.page_size = omega arith in
     let begins = page_begins t j some below in
     let one : 1 * t.page_size ≤ j * t.page_size = mul-le-mul_right t.page_size (omega arith) in
-    let start = place_in_page t j (first_byte t j) (omega arith) (omega arith) in
-    span_with t j base (start ∙ omega (arith, is))
+    span_with t j base (grind (arith, place_in_page t j (first_byte t j)))
 
 -- one more span
 pub first_spans : (t : Transfer) (old new : List Span) (s : Span) → 0 < t.page_size → 0 < t.len → old ≡ []

@@ -1,10 +1,10 @@
 -- The spans of a legal transfer.
-use Rattle.std.proofs.Common.{◌≡◌, ◌∙◌, ℕ, ◌+◌, ◌*◌, ◌%◌, ◌<◌, ◌≤◌, ap, arith, inl, inr, length, refl, subst, sym}
+use Rattle.std.proofs.Common.{None, ◌≡◌, ◌∙◌, ℕ, ◌+◌, ◌*◌, ◌<◌, ◌≤◌, ap, arith, inl, inr, length, refl, subst, sym}
 use Rattle.std.proofs.lemmas.Bool.Decides.{nat_tests}
-use Rattle.std.proofs.lemmas.Bool.{cases_lt, eq-eqb, le-ltb, lt-ltb}
+use Rattle.std.proofs.lemmas.Bool.{cases_lt}
 use Rattle.nv_prp.specs.Place.{LieIn}
 use Rattle.nv_prp.specs.PlaceLaws.{All-table}
-use Rattle.nv_prp.specs.Transfer.{IsLegal, Transfer, data_pages, list_qwords, naming_number, naming_qword, page_base, prp2_fault, qword, qword_fault, qword_place, qwords, room, span_of, spans_of}
+use Rattle.nv_prp.specs.Transfer.{IsLegal, Transfer, data_pages, entry_fault, list_qwords, naming_number, naming_qword, page_base, prp2_fault, qword_fault, qwords, span_of, spans_of}
 use Rattle.nv_prp.proofs.FaultLaws.{from_no_fault}
 use Rattle.nv_prp.proofs.ListLaws.{base_by_list}
 use Rattle.nv_prp.proofs.PageLaws.{base_of_two, first_span, later_span}
@@ -14,25 +14,9 @@ pub naming_used : (space pages j : ℕ) → 2 < pages → 0 < j → j < pages �
 naming_used space pages j many later below = grind (arith, nat_tests)
 
 -- and is a page of the memory
-later_base : (t : Transfer) (j : ℕ) → IsLegal t → 0 < j → j < data_pages t
-    → (page_base t j % t.page_size ≡ 0) × (page_base t j + t.page_size ≤ length t.bytes)
+later_fault : (t : Transfer) (j : ℕ) → IsLegal t → 0 < j → j < data_pages t → entry_fault t.page_size (length t.bytes) t.page_size (page_base t j) ≡ None
 unfolding qword_fault prp2_fault qwords naming_qword
-later_base t j legal later below =
-    elim (cases_lt 2 (data_pages t)) [
-      | inl many ↦
-          let base = base_by_list t j many later in
-          let all : qwords t ≡ list_qwords (room t) (data_pages t) = rw (lt-ltb 2 (data_pages t) many) in
-          let facts = from_no_fault t.page_size (length t.bytes) t.page_size (qword t.bytes (qword_place t (naming_qword t j)))
-          (legal.list (naming_qword t j) (subst (λ n. naming_qword t j < n) (sym all) (naming_used (room t) (data_pages t) j many later below))) in
-          (ap (λ n. n % t.page_size) base ∙ facts.0, omega (arith, facts.0, facts.1, base))
-      | inr few ↦
-          let two : data_pages t ≡ 2 = omega arith in
-          let one : j ≡ 1 = omega arith in
-          let base : page_base t j ≡ t.prp2 = ap (λ n. page_base t n) one ∙ base_of_two t two in
-          let facts = from_no_fault t.page_size (length t.bytes) t.page_size t.prp2
-          (rw (le-ltb 2 (data_pages t) few, eq-eqb (data_pages t) 2 two) at legal.prp2) in
-          (ap (λ n. n % t.page_size) base ∙ facts.0, omega (arith, facts.0, facts.1, base))
-    ]
+later_fault t j legal later below = grind (arith, nat_tests, base_by_list t j, base_of_two t, legal.list (naming_qword t j), legal.prp2)
 
 pub spans_lie_in : (t : Transfer) → IsLegal t → 0 < t.page_size → 0 < t.len → LieIn (length t.bytes) (spans_of t)
 unfolding LieIn spans_of
@@ -40,9 +24,9 @@ spans_lie_in t legal some bytes =
     All-table (λ s. s.address + s.len ≤ length t.bytes) (data_pages t) (span_of t)
     (λ j below. elim (cases_lt 0 j) [
       | inl later ↦
-          let base = later_base t j legal later below in
+          let base = from_no_fault t.page_size (length t.bytes) t.page_size (page_base t j) (later_fault t j legal later below) in
           let next : (j + 1) * t.page_size ≡ j * t.page_size + t.page_size = grind arith in
-          subst (λ s. s.address + s.len ≤ length t.bytes) (sym (later_span t j (page_base t j) some later below refl)) (omega (arith, base.1))
+          subst (λ s. s.address + s.len ≤ length t.bytes) (sym (later_span t j (page_base t j) some later below refl)) (omega (arith, base.0, base.1))
       | inr first ↦
           let is : 0 ≡ j = omega arith in
           let span = sym (ap (λ n. span_of t n) is) ∙ first_span t some bytes in

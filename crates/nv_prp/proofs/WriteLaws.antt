@@ -1,5 +1,5 @@
 -- Qwords that are written, and lists of them.
-use Rattle.std.proofs.Common.{◌≡◌, ◌≢◌, ◌∙◌, ◌⊎◌, ℕ, ◌+◌, ◌-◌, ◌*◌, ◌/◌, ◌%◌, ◌<◌, ◌≤◌, ◌^◌, List, ap, arith, get_or, inl, inr, length, refl, subst, sym}
+use Rattle.std.proofs.Common.{◌≡◌, ◌≢◌, ◌∙◌, ◌⊎◌, ℕ, ◌+◌, ◌-◌, ◌*◌, ◌/◌, ◌%◌, ◌<◌, ◌≤◌, ◌^◌, List, ap, arith, get_or, inl, inr, length, refl, sym}
 use Rattle.std.specs.Int.{from_le_bytes, to_le_bytes, w64}
 use Rattle.std.proofs.Math.Nat.{mul-le-mul_right}
 use Rattle.std.proofs.lemmas.Bool.Decides.{nat_tests}
@@ -79,8 +79,7 @@ IsWithin size first second addr n = ((first ≤ addr) × (addr + n ≤ first + s
 
 pub within_memory : (bytes : List ℕ) (size first second offset addr n : ℕ) → IsListPlace bytes size first second offset
     → IsWithin size (first * size) (second * size) addr n → addr + n ≤ length bytes
-within_memory bytes size first second offset addr n place (inl here) = omega (arith, here.1, place.has_first)
-within_memory bytes size first second offset addr n place (inr here) = omega (arith, here.1, place.has_second)
+within_memory bytes size first second offset addr n place within = grind (arith, place.has_first, place.has_second)
 
 -- the Qword that names data page j
 abbrev pub naming_place : ℕ → ℕ → ℕ → ℕ → ℕ → ℕ
@@ -94,16 +93,6 @@ place_within size space start first second count j lies few later below = grind 
 pub chain_within : (size space start first second : ℕ) → Lies size space start first second → IsWithin size first second (start + 8 * (space - 1)) 8
 chain_within size space start first second lies = inl (omega (arith, lies.low), omega (arith, lies.whole, lies.some))
 
--- two of them share no byte
-places_apart : (size space start first second count j k : ℕ) → Lies size space start first second → count ≤ 257 → 0 < k → k < j → j < count
-    → IsApart (naming_place space start second count j) 8 (naming_place space start second count k) 8
-places_apart size space start first second count j k lies few later before below = grind (arith, nat_tests)
-
--- the last Qword of the first page names none, where the list goes on
-chain_apart : (size space start first second count k : ℕ) → Lies size space start first second → count ≤ 257 → space + 1 < count → 0 < k → k < count
-    → IsApart (start + 8 * (space - 1)) 8 (naming_place space start second count k) 8
-chain_apart size space start first second count k lies few chained later below = grind (arith, nat_tests)
-
 -- ---- a list that is written
 
 -- the first Qwords name their data pages
@@ -114,15 +103,11 @@ pub one_named : (old new : List ℕ) (size space start first second : ℕ) (page
     → count ≤ 257 → 0 < j → j < count → at ≡ naming_place space start second count j → HasNamed old size space start second pages count j
     → qword new at ≡ get_or pages j 0 * size → ChangesOnly at 8 old new → HasNamed new size space start second pages count (j + 1)
 one_named old new size space start first second pages count j at lies few later below is named here others k after before =
-    let place = naming_place space start second count in
     elim (cases_lt k j) [
-      | inl less ↦
-          qword_kept (place j) 8 (place k) old new (subst (λ a. ChangesOnly a 8 old new) is others)
-          (places_apart size space start first second count j k lies few after less below)
-          ∙ named k after less
+      | inl less ↦ qword_kept at 8 (naming_place space start second count k) old new others (grind (arith, nat_tests)) ∙ named k after less
       | inr last ↦
           let same : k ≡ j = omega arith in
-          ap (λ i. qword new (place i)) same ∙ ap (λ a. qword new a) (sym is) ∙ here ∙ ap (λ i. get_or pages i 0 * size) (sym same)
+          ap (λ i. qword new (naming_place space start second count i)) same ∙ ap (λ a. qword new a) (sym is) ∙ here ∙ ap (λ i. get_or pages i 0 * size) (sym same)
     ]
 
 pub chain_names : (old new : List ℕ) (size space start first second : ℕ) (pages : List ℕ) (count at : ℕ) → Lies size space start first second
@@ -131,8 +116,7 @@ pub chain_names : (old new : List ℕ) (size space start first second : ℕ) (pa
 chain_names old new size space start first second pages count at lies few chained is named here others = record {
   chain = λ _. ap (λ a. qword new a) (sym is) ∙ here;
   each = λ j later below.
-      qword_kept at 8 (naming_place space start second count j) old new others
-      (subst (λ a. IsApart a 8 (naming_place space start second count j) 8) (sym is) (chain_apart size space start first second count j lies few chained later below))
+      qword_kept at 8 (naming_place space start second count j) old new others (grind (arith, nat_tests))
       ∙ named j later below;
 }
 
@@ -141,9 +125,4 @@ pub outside_kept : (size first second addr n : ℕ) (all old new : List ℕ) →
     → ((from k : ℕ) → IsApart first size from k → IsApart second size from k → bytes_at old from k ≡ bytes_at all from k)
     → ChangesOnly addr n old new
     → (from k : ℕ) → IsApart first size from k → IsApart second size from k → bytes_at new from k ≡ bytes_at all from k
-outside_kept size first second addr n all old new within kept others from k apart behind =
-    others from k (elim within [
-      | inl in_first ↦ elim apart [ inl before ↦ inl (omega (arith, in_first.0)) | inr after ↦ inr (omega (arith, in_first.1)) ]
-      | inr in_second ↦ elim behind [ inl before ↦ inl (omega (arith, in_second.0)) | inr after ↦ inr (omega (arith, in_second.1)) ]
-    ])
-    ∙ kept from k apart behind
+outside_kept size first second addr n all old new within kept others from k apart behind = grind (arith, nat_tests)

@@ -29,6 +29,7 @@ fn first_part<M: HostMemory>(mem: &M, addr: u64, len: usize) -> Part
     ensures fits { addr + result.len < 2 ^ 64 }
 {
     let page_size = u64::from(mem.page_size());
+    // the range lies in the memory, so that its first page is at most the last one
     let last = u64::from(mem.pages()) - 1;
     let start = (addr % page_size) as usize;
     Part {
@@ -38,7 +39,7 @@ fn first_part<M: HostMemory>(mem: &M, addr: u64, len: usize) -> Part
     }
 }
 
-/// Reads the bytes from an address on.
+/// Reads the bytes from an address on, a page at a time.
 pub fn read_range<M: HostMemory>(mem: &M, addr: u64, out: &mut [u8])
     requires { addr + length out.old ≤ length (M.bytes mem.now) }
     ensures { out.new ≡ bytes_at (M.bytes mem.now) addr (length out.old) }
@@ -54,7 +55,7 @@ pub fn read_range<M: HostMemory>(mem: &M, addr: u64, out: &mut [u8])
     }
 }
 
-/// Writes the bytes from an address on.
+/// Writes the bytes from an address on, a page at a time.
 pub fn write_range<M: HostMemory>(mem: &mut M, addr: u64, source: &[u8])
     requires { addr + length source.now ≤ length (M.bytes mem.old) }
     ensures bytes { M.bytes mem.new ≡ with_bytes (M.bytes mem.old) addr source.now }

@@ -1,6 +1,6 @@
-use Rattle.std.proofs.Common.{◌≡◌, ◌∙◌, ◌*◌, ◌+◌, ap, arith, get_or, refl, subst, sym}
+use Rattle.std.proofs.Common.{ℕ, ◌<◌, ◌≤◌, ◌≡◌, ◌∙◌, ◌*◌, ◌+◌, ap, arith, get_or, refl, subst, sym}
 use Rattle.nv_prp.specs.Buffer.{NamesPages}
-use Rattle.nv_prp.proofs.WriteLaws.{HasNamed, IsWithin, chain_names, chain_within, lies_at, list_even, naming_place, one_named, outside_kept, place_within, within_memory}
+use Rattle.nv_prp.proofs.WriteLaws.{HasNamed, IsWithin, Lies, chain_names, chain_within, lies_at, list_even, naming_place, one_named, outside_kept, place_within, within_memory}
 use Rattle.nv_prp.proofs.builder.write_list.Goals as goal
 
 pub qwords_in_page-requires : goal.qwords_in_page-requires
@@ -20,29 +20,28 @@ loop-page-init g c =
       page = refl;
     }
 
+-- where the Qword of the data page lies
+placed : (size space start first second at : ℕ) (s count j : ℕ) → Lies size space start first second → count ≤ 257 → 0 < j → j < count
+    → s ≡ second → at ≡ naming_place space start s count j → (at ≡ naming_place space start second count j) × IsWithin size first second at 8
+placed size space start first second at s count j lies few later below same is =
+    let here : at ≡ naming_place space start second count j = is ∙ ap (λ x. naming_place space start x count j) same in
+    (here, subst (λ a. IsWithin size first second a 8) (sym here) (place_within size space start first second count j lies few later below))
+
 pub store_qword-requires : goal.store_qword-requires
 store_qword-requires g c =
-    let size = g.M.HostMemory.page_len c.args.mem.now in
     let now = c.loop-page.invariant in
-    let place = naming_place c.qwords_in_page.result (c.page_address.result + c.from.result) (c.args.list.now.second * size) c.args.count c.loop-page.page in
-    let at : c.naming_qword.result ≡ place = c.naming_qword.ensures
-    ∙ ap (λ s. naming_place c.qwords_in_page.result (c.page_address.result + c.from.result) s c.args.count c.loop-page.page) c.page_address-second.ensures.value in
-    omega (arith, within_memory _ _ _ _ _ _ 8 c.requires.list (place_within _ _ _ _ _ _ c.loop-page.page now.lies c.requires.few (omega arith) (omega arith)), at, now.len)
+    let at = placed _ _ _ _ _ c.naming_qword.result _ _ _ now.lies c.requires.few (omega arith) c.loop-page-test.true c.page_address-second.ensures.value c.naming_qword.ensures in
+    omega (arith, within_memory _ _ _ _ _ _ 8 c.requires.list at.1, now.len)
 
 pub loop-page-preserved : goal.loop-page-preserved
 loop-page-preserved g c =
-    let size = g.M.HostMemory.page_len c.args.mem.now in
     let now = c.loop-page.invariant in
-    let place = naming_place c.qwords_in_page.result (c.page_address.result + c.from.result) (c.args.list.now.second * size) c.args.count c.loop-page.page in
-    let at : c.naming_qword.result ≡ place = c.naming_qword.ensures
-    ∙ ap (λ s. naming_place c.qwords_in_page.result (c.page_address.result + c.from.result) s c.args.count c.loop-page.page) c.page_address-second.ensures.value in
+    let at = placed _ _ _ _ _ c.naming_qword.result _ _ _ now.lies c.requires.few (omega arith) c.loop-page-test.true c.page_address-second.ensures.value c.naming_qword.ensures in
     record {
       lies = now.lies;
-      named = one_named _ _ size c.qwords_in_page.result _ _ _ c.args.pages.now c.args.count c.loop-page.page c.naming_qword.result now.lies c.requires.few (omega arith) (omega arith) at now.named
+      named = one_named _ _ _ _ _ _ _ c.args.pages.now c.args.count c.loop-page.page c.naming_qword.result now.lies c.requires.few (omega arith) c.loop-page-test.true at.0 now.named
           (c.store_qword.ensures.value ∙ c.page_address-address.ensures.value ∙ ap (λ p. get_or c.args.pages.now c.loop-page.page 0 * p) now.page) c.store_qword.ensures.others;
-      others = outside_kept size _ _ c.naming_qword.result 8 _ _ _
-          (subst (λ a. IsWithin size (c.args.list.now.first * size) (c.args.list.now.second * size) a 8) (sym at) (place_within _ _ _ _ _ _ c.loop-page.page now.lies c.requires.few (omega arith) (omega arith)))
-          now.others c.store_qword.ensures.others;
+      others = outside_kept _ _ _ c.naming_qword.result 8 _ _ _ at.1 now.others c.store_qword.ensures.others;
       len = c.store_qword.ensures.len ∙ now.len;
       page = c.store_qword.ensures.page ∙ now.page;
     }

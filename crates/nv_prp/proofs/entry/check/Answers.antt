@@ -1,25 +1,22 @@
-use Rattle.std.proofs.Common.{◌∙◌, ◌%◌, ap, arith, sym}
+use Rattle.std.proofs.Common.{arith}
+use Rattle.std.proofs.lemmas.Bool.Decides.{nat_tests}
 use Rattle.nv_host.specs.PageLaws.{page_size_bounds}
-use Rattle.nv_prp.proofs.FaultLaws.{fault_none, fault_offset, fault_outside, page_inside, page_outside}
+use Rattle.nv_prp.specs.Transfer.{entry_fault}
+use Rattle.nv_prp.proofs.FaultLaws.{page_inside}
 use Rattle.nv_prp.proofs.entry.check.Goals as goal
 
 pub returns-then-entry-from-ne0-clause-fault : goal.returns-then-entry-from-ne0-clause-fault
-returns-then-entry-from-ne0-clause-fault g c =
-    fault_offset _ _ c.args.alignment c.args.entry
-    (λ e. c.if-entry-from-ne0.true (ap (λ n. c.args.entry % n) c.from.ensures ∙ e))
+unfolding entry_fault
+returns-then-entry-from-ne0-clause-fault g c = grind (arith, nat_tests, c.from.ensures)
 
 pub returns-then-entry-size_of_memory-clause-fault : goal.returns-then-entry-size_of_memory-clause-fault
-returns-then-entry-size_of_memory-clause-fault g c =
-    let whole = c.size_of_memory.ensures.whole in
-    fault_outside _ _ c.args.alignment c.args.entry
-    (sym (ap (λ n. c.args.entry % n) c.from.ensures) ∙ c.if-entry-from-ne0.false)
-    (page_outside whole.0 _ _ c.args.entry whole.1
-    (omega (arith, page_size_bounds _ c.size_of_memory.ensures.page)) (omega (arith, c.size_of_memory.ensures.value)))
+unfolding entry_fault
+returns-then-entry-size_of_memory-clause-fault g c = grind (arith, nat_tests, c.from.ensures, page_size_bounds _ c.size_of_memory.ensures.page)
 
 pub returns-clause-fault : goal.returns-clause-fault
+unfolding entry_fault
 returns-clause-fault g c =
     let whole = c.size_of_memory.ensures.whole in
-    fault_none _ _ c.args.alignment c.args.entry
-    (sym (ap (λ n. c.args.entry % n) c.from.ensures) ∙ c.if-entry-from-ne0.false)
-    (page_inside whole.0 _ _ c.args.entry whole.1
-    (omega (arith, page_size_bounds _ c.size_of_memory.ensures.page)) (omega (arith, c.size_of_memory.ensures.value)))
+    let bounds = page_size_bounds _ c.size_of_memory.ensures.page in
+    let inside = page_inside whole.0 _ _ c.args.entry whole.1 (omega arith) (omega (arith, c.size_of_memory.ensures.value)) in
+    grind (arith, nat_tests, c.from.ensures)
