@@ -57,7 +57,7 @@ fn demo_machine(alloc: Global) -> io::Result<Machine>
 }
 
 /// Measures a line at a geometry: its run and each part of it alone.
-pub fn measure_line(
+pub(crate) fn measure_line(
     rt: &HostRuntime,
     geometry: Geometry,
     kind: LineKind,

@@ -27,7 +27,7 @@ pub const LINE_KINDS: [LineKind; 5] = [
 ];
 
 impl LineKind {
-    pub fn name(self) -> &'static str {
+    pub(crate) fn name(self) -> &'static str {
         match self {
             LineKind::ListNs => "list-ns",
             LineKind::IdNs => "id-ns",
@@ -38,7 +38,7 @@ impl LineKind {
     }
 
     /// A line of this kind, with its newline.
-    pub fn line(self) -> &'static str {
+    pub(crate) fn line(self) -> &'static str {
         match self {
             LineKind::ListNs => "list-ns /dev/nvme0\n",
             LineKind::IdNs => "id-ns /dev/nvme0 -n 1\n",
@@ -49,7 +49,7 @@ impl LineKind {
     }
 
     /// The command that the line sends to the first controller, if it sends one.
-    pub fn command(self) -> Option<Command>
+    pub(crate) fn command(self) -> Option<Command>
         ensures { IfSome result CommandFits }
     {
         match self {

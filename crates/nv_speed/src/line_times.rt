@@ -26,7 +26,7 @@ pub const HEADS: &str = "  whole  reading  transport  command  printing";
 
 impl LineTimes {
     /// The least of each time.
-    pub fn least(self, other: LineTimes) -> LineTimes {
+    pub(crate) fn least(self, other: LineTimes) -> LineTimes {
         LineTimes {
             run: self.run.min(other.run),
             empty_run: self.empty_run.min(other.empty_run),

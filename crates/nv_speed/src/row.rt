@@ -49,7 +49,7 @@ fn next_round(rt: &HostRuntime, rows: &mut [Row]) -> io::Result<()> {
 }
 
 /// Measures each row in several rounds, so that the machine's slow moments fall on all rows alike.
-pub fn measure_rows(rt: &HostRuntime) -> io::Result<Vec<Row>> {
+pub(crate) fn measure_rows(rt: &HostRuntime) -> io::Result<Vec<Row>> {
     let mut rows = first_round(rt)?;
     for round in 1..ROUNDS {
         next_round(rt, &mut rows)?;

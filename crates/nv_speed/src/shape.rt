@@ -18,7 +18,7 @@ pub enum Shape {
 pub const SHAPES: [Shape; 4] = [Shape::Default, Shape::Shallow, Shape::Deep, Shape::PageEnd];
 
 impl Shape {
-    pub fn name(self) -> &'static str {
+    pub(crate) fn name(self) -> &'static str {
         match self {
             Shape::Default => "default",
             Shape::Shallow => "depth 2",
@@ -27,7 +27,7 @@ impl Shape {
         }
     }
 
-    pub fn geometry(self) -> Geometry {
+    pub(crate) fn geometry(self) -> Geometry {
         let plain = Geometry::default();
         match self {
             Shape::Default => plain,

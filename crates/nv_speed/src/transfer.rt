@@ -35,7 +35,7 @@ fn buffer_pages(alloc: Global, count: u32) -> Result<Vec<PageNo>, AllocError>
 }
 
 /// Measures a transfer of 1 MiB that begins 4 bytes after a page's first one.
-pub fn measure(rt: &HostRuntime, page_size: u32) -> io::Result<Measured>
+pub(crate) fn measure(rt: &HostRuntime, page_size: u32) -> io::Result<Measured>
     requires { IsPageSize page_size }
 {
     let alloc = rt.alloc();
