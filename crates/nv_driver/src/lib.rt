@@ -20,6 +20,9 @@
 //! }
 //! ```
 //!
+//! [`Driver::admin_all`] sends a list of commands, as many outstanding at a time as the geometry's
+//! window allows. The answers are those of one command at a time, and it goes on after a refusal.
+//!
 //! Sections are named as in the NVM Express Base Specification, revision 1.4.
 #![tactic(auto)]
 
