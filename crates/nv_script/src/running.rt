@@ -142,7 +142,7 @@ pub const READ_LIMIT: u32 = u32::MAX;
 /// executed as soon as its newline is read, with the texts of what they ask on `out` and the
 /// messages of faults and refusals on `messages`. At most 4,294,967,295 reads are made, and none
 /// after one that gave no byte or failed. Where the geometry is out of its limits, nothing is read
-/// or written and the bus is untouched.
+/// or written and the subsystem stays.
 pub fn run<B: Bus, R: Source, O: Sink, M: Sink>(
     alloc: Global,
     bus: &mut B,
