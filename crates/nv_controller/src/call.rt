@@ -93,7 +93,7 @@ fn read_command<M: HostMemory>(
 
 /// The command of an entry, or the status of the first rule that the entry or its data breaks;
 /// `spans`, empty before, get the places of its data.
-pub fn read_call<M: HostMemory>(
+pub(crate) fn read_call<M: HostMemory>(
     mem: &M,
     entry: &Sqe,
     spans: &mut Spans,

@@ -93,7 +93,12 @@ fn completion(cid: u16, sq_head: u16, answer: &Result<Reply, Status>) -> Cqe
 
 /// Takes the next entry of a controller's submission ring: its command is executed or the entry is
 /// refused, the data of its reply is written, and then its completion.
-pub fn take_one<M: HostMemory>(subsystem: &mut Subsystem, rings: &mut Rings, ctrl: u16, mem: &mut M)
+pub(crate) fn take_one<M: HostMemory>(
+    subsystem: &mut Subsystem,
+    rings: &mut Rings,
+    ctrl: u16,
+    mem: &mut M,
+)
     requires ctrl { ctrl < length subsystem.old.controllers }
     requires well_formed { IsWellFormed subsystem.old }
     requires can { can_take rings.old ≡ true }

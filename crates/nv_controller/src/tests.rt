@@ -14,7 +14,7 @@ use std::test::Fail;
 const ACQ: u32 = 0x1000;
 
 /// An Identify entry, of this Controller or Namespace Structure.
-pub fn identify(cid: u16, nsid: u32, cns: u32, prp1: u64) -> Sqe {
+pub(crate) fn identify(cid: u16, nsid: u32, cns: u32, prp1: u64) -> Sqe {
     Sqe {
         opcode: 0x06,
         fuse: 0,
@@ -34,7 +34,7 @@ pub fn identify(cid: u16, nsid: u32, cns: u32, prp1: u64) -> Sqe {
 }
 
 /// Enables controller 0 with rings of so many entries, less one, and a page size of 4,096 bytes.
-pub fn enable(machine: &mut Machine, less_one: u32, asq: u32)
+pub(crate) fn enable(machine: &mut Machine, less_one: u32, asq: u32)
     requires { IsBus machine.old }
     ensures { IsBus machine.new }
 {
@@ -49,7 +49,7 @@ pub fn enable(machine: &mut Machine, less_one: u32, asq: u32)
 }
 
 /// The machine of the demonstration subsystem, with rings of four entries.
-pub fn machine(alloc: Global) -> Result<Machine, Fail>
+pub(crate) fn machine(alloc: Global) -> Result<Machine, Fail>
     ensures { IfOk result IsBus }
 {
     let subsystem = Subsystem::from_toml(alloc, DEMO.as_bytes())?;
@@ -73,14 +73,14 @@ fn completion(rt: &impl Abort, mem: &FlatMemory, slot: u64) -> Cqe {
 }
 
 /// Sixteen pages of so many bytes.
-pub fn memory(rt: &impl Abort, alloc: Global, page_size: u32) -> Result<FlatMemory, Fail> {
+pub(crate) fn memory(rt: &impl Abort, alloc: Global, page_size: u32) -> Result<FlatMemory, Fail> {
     assert!(rt; is_page_size(page_size));
     let mem = FlatMemory::new(alloc, page_size, 16)?;
     Ok(mem)
 }
 
 /// Sixteen pages of 4,096 bytes.
-pub fn pages(rt: &impl Abort, alloc: Global) -> Result<FlatMemory, Fail> {
+pub(crate) fn pages(rt: &impl Abort, alloc: Global) -> Result<FlatMemory, Fail> {
     memory(rt, alloc, 4096)
 }
 

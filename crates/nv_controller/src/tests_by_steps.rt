@@ -45,14 +45,14 @@ enum Step {
 }
 
 /// Puts an entry at an address.
-pub fn submit(rt: &impl Abort, mem: &mut FlatMemory, addr: u64, entry: &Sqe) {
+pub(crate) fn submit(rt: &impl Abort, mem: &mut FlatMemory, addr: u64, entry: &Sqe) {
     let mut bytes = [0; 64];
     entry.put(&mut bytes);
     assert!(rt; mem.store(addr, &bytes).is_ok());
 }
 
 /// The completion at an address.
-pub fn posted(rt: &impl Abort, mem: &FlatMemory, addr: u64) -> Cqe {
+pub(crate) fn posted(rt: &impl Abort, mem: &FlatMemory, addr: u64) -> Cqe {
     let mut bytes = [0; 16];
     assert!(rt; mem.load(addr, &mut bytes).is_ok());
     Cqe::get(&bytes)

@@ -58,7 +58,7 @@ fn take_entries<M: HostMemory>(
 }
 
 /// A turn of one controller, over its registers and rings.
-pub fn turn_port<M: HostMemory>(
+pub(crate) fn turn_port<M: HostMemory>(
     subsystem: &mut Subsystem,
     port: &mut Port,
     ctrl: u16,

@@ -10,6 +10,8 @@ mod every_geometry;
 #[cfg(test)]
 mod file_ranges;
 #[cfg(test)]
+mod file_values;
+#[cfg(test)]
 mod files;
 #[cfg(test)]
 mod identify;

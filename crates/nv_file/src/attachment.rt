@@ -62,7 +62,7 @@ fn all_attach(controllers: &[ControllerEntry], namespaces: &[NamespaceEntry]) ->
 /// Whether each namespace is attached to controllers of the file, to none twice, and a private one
 /// to one at most.
 #[tactic(auto, using(crate::proofs::Fused::all_attach), unfolding(crate::specs::File::attaches))]
-pub fn attaches(controllers: &[ControllerEntry], namespaces: &[NamespaceEntry]) -> bool
+pub(crate) fn attaches(controllers: &[ControllerEntry], namespaces: &[NamespaceEntry]) -> bool
     ensures { result ≡
         attaches (map controller_entry_view controllers.now) (map namespace_entry_view namespaces.now) }
 {

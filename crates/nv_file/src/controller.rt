@@ -59,7 +59,7 @@ fn controller_entry_of(
 }
 
 /// The controllers that some tables give.
-pub fn controller_entries_of(
+pub(crate) fn controller_entries_of(
     alloc: Global,
     tables: &[&Table],
 ) -> Result<Vec<ControllerEntry>, SubsystemError>

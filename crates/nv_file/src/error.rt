@@ -49,7 +49,7 @@ impl<T: Drop> From<AllocFailed<T>> for SubsystemError {
 
 /// The fault, unless the rule holds.
 #[tactic(auto, unfolding(crate::specs::Fault::ensure))]
-pub fn ensure(holds: bool, fault: SubsystemError) -> Result<(), SubsystemError>
+pub(crate) fn ensure(holds: bool, fault: SubsystemError) -> Result<(), SubsystemError>
     ensures exact { result ≡ ensure holds fault }
     ensures sound { IfOk result (λ _. holds ≡ true) }
 {

@@ -42,7 +42,7 @@ fn format_of(table: &Table) -> Result<Format, SubsystemError>
 }
 
 /// The formats that some tables give.
-pub fn formats_of(alloc: Global, tables: &[&Table]) -> Result<Vec<Format>, SubsystemError>
+pub(crate) fn formats_of(alloc: Global, tables: &[&Table]) -> Result<Vec<Format>, SubsystemError>
     ensures exact { IsUnlessMemory (λ v. v.items) result
         (readings (λ _. format_of) [] (tables_view tables.now)) }
     ensures count { IfOk result (λ v. length v.items ≡ length tables.now) }

@@ -96,7 +96,7 @@ fn has_cntlid(controllers: &[ControllerEntry], cntlid: u16) -> bool
 
 /// What a controller says of itself, with the controllers before it at hand.
 #[tactic(auto, using(crate::proofs::Fused::cntlids), unfolding(crate::specs::Tables::identity_of))]
-pub fn identity_of(
+pub(crate) fn identity_of(
     alloc: Global,
     before: &[ControllerEntry],
     table: &Table,

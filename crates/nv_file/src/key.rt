@@ -65,7 +65,7 @@ pub enum Key {
 impl Key {
     /// As the file and the faults spell it.
     #[tactic(auto, unfolding(crate::specs::Names::key_text))]
-    pub fn text(self) -> &'static str
+    pub(crate) fn text(self) -> &'static str
         ensures { result.now ≡ key_text self }
     {
         match self {

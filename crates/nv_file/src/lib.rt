@@ -26,8 +26,6 @@ mod demo;
 mod error;
 mod feature_rule;
 mod file;
-#[cfg(test)]
-mod file_tests;
 mod format;
 mod identity;
 mod key;

@@ -134,7 +134,7 @@ fn namespace_entry_of(
 }
 
 /// The namespaces that some tables give, in a subsystem with `nn`, `mc` and the formats.
-pub fn namespace_entries_of(
+pub(crate) fn namespace_entries_of(
     alloc: Global,
     nn: u32,
     mc: u8,

@@ -55,7 +55,7 @@ impl<'a> Section<'a> {
     }
 
     /// The fault of a value that its key doesn't allow.
-    pub fn out_of_range(&self, key: Key) -> SubsystemError
+    pub(crate) fn out_of_range(&self, key: Key) -> SubsystemError
         ensures { result ≡ SubsystemError.Range self.now.name key }
     {
         SubsystemError::Range {
@@ -65,7 +65,7 @@ impl<'a> Section<'a> {
     }
 
     /// The fault of a value that a row before has.
-    pub fn repeated(&self, key: Key) -> SubsystemError
+    pub(crate) fn repeated(&self, key: Key) -> SubsystemError
         ensures { result ≡ SubsystemError.Repeated self.now.name key }
     {
         SubsystemError::Repeated {
@@ -108,7 +108,7 @@ impl<'a> Section<'a> {
 
     /// A required integer from `low` to `high`.
     #[tactic(auto, unfolding(crate::specs::Section::integer))]
-    pub fn integer(&self, key: Key, low: u64, high: u64) -> Result<u64, SubsystemError>
+    pub(crate) fn integer(&self, key: Key, low: u64, high: u64) -> Result<u64, SubsystemError>
         ensures exact { IsUnlessMemory (λ n. n) result
             (integer self.now.name key low high (table_view self.now.table.now)) }
         ensures range { IfOk result (λ n. (low ≤ n) × (n ≤ high)) }
@@ -119,7 +119,7 @@ impl<'a> Section<'a> {
 
     /// An optional integer from `low` to `high`.
     #[tactic(auto, unfolding(crate::specs::Section::integer_or))]
-    pub fn integer_or(
+    pub(crate) fn integer_or(
         &self,
         key: Key,
         default: u64,
@@ -140,7 +140,7 @@ impl<'a> Section<'a> {
 
     /// An optional true or false.
     #[tactic(auto, unfolding(crate::specs::Section::flag_or))]
-    pub fn flag_or(&self, key: Key, default: bool) -> Result<bool, SubsystemError>
+    pub(crate) fn flag_or(&self, key: Key, default: bool) -> Result<bool, SubsystemError>
         ensures { IsUnlessMemory (λ b. b) result
             (flag_or self.now.name key default (table_view self.now.table.now)) }
     {
@@ -152,7 +152,12 @@ impl<'a> Section<'a> {
 
     /// A required text of 1 to `most` bytes.
     #[tactic(auto, unfolding(crate::specs::Section::text))]
-    pub fn text(&self, alloc: Global, key: Key, most: usize) -> Result<String, SubsystemError>
+    pub(crate) fn text(
+        &self,
+        alloc: Global,
+        key: Key,
+        most: usize,
+    ) -> Result<String, SubsystemError>
         ensures exact { IsUnlessMemory string_bytes result
             (text self.now.name key most (table_view self.now.table.now)) }
         ensures sound { IfOk result (λ s. is_text most (string_bytes s) ≡ true) }
@@ -186,7 +191,7 @@ impl<'a> Section<'a> {
 
     /// A required list of 1 to `most` tables.
     #[tactic(auto, unfolding(crate::specs::Section::tables))]
-    pub fn tables(
+    pub(crate) fn tables(
         &self,
         alloc: Global,
         key: Key,
@@ -207,7 +212,11 @@ impl<'a> Section<'a> {
 
     /// An optional list of tables, of any length.
     #[tactic(auto, unfolding(crate::specs::Section::tables_or_none))]
-    pub fn tables_or_none(&self, alloc: Global, key: Key) -> Result<Vec<&'a Table>, SubsystemError>
+    pub(crate) fn tables_or_none(
+        &self,
+        alloc: Global,
+        key: Key,
+    ) -> Result<Vec<&'a Table>, SubsystemError>
         ensures { IsUnlessMemory (λ v. tables_view v.items) result
             (tables_or_none self.now.name key (table_view self.now.table.now)) }
     {
@@ -219,7 +228,7 @@ impl<'a> Section<'a> {
 
     /// An optional table.
     #[tactic(auto, unfolding(crate::specs::Section::table_or_none))]
-    pub fn table_or_none(&self, key: Key) -> Result<Option<&'a Table>, SubsystemError>
+    pub(crate) fn table_or_none(&self, key: Key) -> Result<Option<&'a Table>, SubsystemError>
         ensures { IsUnlessMemory (λ o. option_map (λ t. table_view t.now) o) result
             (table_or_none self.now.name key (table_view self.now.table.now)) }
     {
@@ -252,7 +261,11 @@ impl<'a> Section<'a> {
 
     /// An optional list of integers, of any size.
     #[tactic(auto, unfolding(crate::specs::Section::integers_or_none))]
-    pub fn integers_or_none(&self, alloc: Global, key: Key) -> Result<Vec<i64>, SubsystemError>
+    pub(crate) fn integers_or_none(
+        &self,
+        alloc: Global,
+        key: Key,
+    ) -> Result<Vec<i64>, SubsystemError>
         ensures { IsUnlessMemory (λ v. v.items) result
             (integers_or_none self.now.name key (table_view self.now.table.now)) }
     {
@@ -283,7 +296,7 @@ impl<'a> Section<'a> {
 
     /// An optional list of at most `most` integers from 0 to `high`.
     #[tactic(auto, unfolding(crate::specs::Section::integers_in_range_or_none))]
-    pub fn integers_in_range_or_none(
+    pub(crate) fn integers_in_range_or_none(
         &self,
         alloc: Global,
         key: Key,
@@ -299,7 +312,7 @@ impl<'a> Section<'a> {
     }
 
     /// That the table has no other keys than those of its name.
-    pub fn only_known(&self) -> Result<(), SubsystemError>
+    pub(crate) fn only_known(&self) -> Result<(), SubsystemError>
         ensures { result ≡ only_known self.now.name (table_view self.now.table.now) }
     {
         let unknown = SubsystemError::Unknown { table: self.name };

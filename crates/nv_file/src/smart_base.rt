@@ -165,7 +165,10 @@ fn zero_smart() -> SmartBase
 }
 
 /// The health log that a table gives, or all zeros where there is none.
-pub fn smart_or_zero(alloc: Global, table: Option<&Table>) -> Result<SmartBase, SubsystemError>
+pub(crate) fn smart_or_zero(
+    alloc: Global,
+    table: Option<&Table>,
+) -> Result<SmartBase, SubsystemError>
     ensures exact { IsUnlessMemory (λ s. s) result
         (smart_or_zero (option_map (λ t. table_view t.now) table.entry)) }
     ensures sound { IfOk result IsSmart }

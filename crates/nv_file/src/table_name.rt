@@ -19,7 +19,7 @@ pub enum TableName {
 impl TableName {
     /// As the file and the faults spell it.
     #[tactic(auto, unfolding(crate::specs::Names::table_text))]
-    pub fn text(self) -> &'static str
+    pub(crate) fn text(self) -> &'static str
         ensures { result.now ≡ table_text self }
     {
         match self {
@@ -34,7 +34,7 @@ impl TableName {
 
     /// The keys that the table may have.
     #[tactic(auto, unfolding(crate::specs::Names::keys_of))]
-    pub fn keys(self) -> &'static [Key]
+    pub(crate) fn keys(self) -> &'static [Key]
         ensures { result.now ≡ keys_of self }
     {
         match self {

@@ -27,7 +27,7 @@ pub struct Top<'a> {
 
 /// What the top table holds.
 #[tactic(auto, unfolding(crate::specs::File::top_of))]
-pub fn top_of<'a>(alloc: Global, table: &'a Table) -> Result<Top<'a>, SubsystemError>
+pub(crate) fn top_of<'a>(alloc: Global, table: &'a Table) -> Result<Top<'a>, SubsystemError>
     ensures exact { IsUnlessMemory top_view result (top_of (table_view table.now)) }
     ensures sound { IfOk result (λ t. IsTop (top_view t)) }
 {

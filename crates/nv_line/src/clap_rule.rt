@@ -53,7 +53,7 @@ fn clap_command<'a>(alloc: Global, verb: Verb) -> Result<Command<'a>, AllocError
 }
 
 /// What `clap` finds in the words, of which the first is the command word.
-pub fn clap_matches<'a>(
+pub(crate) fn clap_matches<'a>(
     alloc: Global,
     verb: Verb,
     words: &'a [&'a str],
@@ -72,7 +72,7 @@ pub fn clap_matches<'a>(
 }
 
 /// The text that an argument was given.
-pub fn text_of<'a>(matches: &ArgMatches<'a>, id: &str) -> Option<&'a str>
+pub(crate) fn text_of<'a>(matches: &ArgMatches<'a>, id: &str) -> Option<&'a str>
     ensures { option_map (λ s. s.now) result ≡ first_of id.now (rows_of (found_of matches.now)) }
 {
     matches.get_str(id)

@@ -53,7 +53,7 @@ fn address(text: &str, controllers: u16) -> Option<Device>
 }
 
 /// `/dev/nvmeX`, or `/dev/nvmeXnY`.
-pub fn read_device(text: &str, controllers: u16) -> Option<Device>
+pub(crate) fn read_device(text: &str, controllers: u16) -> Option<Device>
     ensures value { result ≡ device_of controllers text.now }
     ensures known { IfSome result (λ d. d.controller < controllers) }
 {

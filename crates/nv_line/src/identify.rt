@@ -12,7 +12,7 @@ use crate::verb::{ALL, FIRST_NSID, FORCE, NSID};
 use clap::ArgMatches;
 
 /// A list of NSIDs.
-pub fn list_ns(matches: &ArgMatches<'_>, device: Device) -> Result<Ask, LineFault>
+pub(crate) fn list_ns(matches: &ArgMatches<'_>, device: Device) -> Result<Ask, LineFault>
     ensures { result ≡ list_ns_of (rows_of (found_of matches.now)) device }
 {
     let first = read_number(matches, FIRST_NSID, device)? as u32;
@@ -21,7 +21,7 @@ pub fn list_ns(matches: &ArgMatches<'_>, device: Device) -> Result<Ask, LineFaul
 }
 
 /// A namespace.
-pub fn id_ns(matches: &ArgMatches<'_>, device: Device) -> Result<Ask, LineFault>
+pub(crate) fn id_ns(matches: &ArgMatches<'_>, device: Device) -> Result<Ask, LineFault>
     ensures { result ≡ id_ns_of (rows_of (found_of matches.now)) device }
 {
     let nsid = read_number(matches, NSID, device)? as u32;

@@ -51,7 +51,7 @@ pub fn parse_number(text: &str, least: u64, most: u64) -> Option<u64>
 }
 
 /// A number from `least` to `most`, in decimal and without leading zeros.
-pub fn plain(text: &str, least: u64, most: u64) -> Option<u64>
+pub(crate) fn plain(text: &str, least: u64, most: u64) -> Option<u64>
     ensures { result ≡ option_and_then (within least most) (plain_number text.now) }
 {
     let bytes = text.as_bytes();

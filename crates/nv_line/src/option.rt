@@ -17,7 +17,7 @@ pub enum OptionName {
 
 impl OptionName {
     /// The long name.
-    pub fn text<'a>(self) -> &'a str
+    pub(crate) fn text<'a>(self) -> &'a str
         ensures { result.now ≡ name_of self }
     {
         match self {
@@ -61,14 +61,14 @@ pub struct NumberOption {
 
 impl NumberOption {
     /// Whether nothing can stand in, so that `clap` tells where the option is missing.
-    pub fn is_required(&self) -> bool
+    pub(crate) fn is_required(&self) -> bool
         ensures { result ≡ is_required self.now }
     {
         !self.takes_path && self.default.is_none()
     }
 
     /// The number where the option isn't written.
-    pub fn fallback(&self, device: Device) -> Option<u64>
+    pub(crate) fn fallback(&self, device: Device) -> Option<u64>
         requires { IsSound self.now }
         ensures value { result ≡ fallback_of self.now device }
         ensures in_range { IfSome result (λ n. (self.now.least ≤ n) × (n ≤ self.now.most)) }

@@ -13,7 +13,7 @@ use crate::option::{FlagOption, NumberOption};
 use clap::ArgMatches;
 
 /// The number of an option, or what stands in where it isn't written.
-pub fn read_number(
+pub(crate) fn read_number(
     matches: &ArgMatches<'_>,
     option: NumberOption,
     device: Device,
@@ -31,7 +31,7 @@ pub fn read_number(
 }
 
 /// Whether a flag was written.
-pub fn is_set(matches: &ArgMatches<'_>, flag: FlagOption) -> bool
+pub(crate) fn is_set(matches: &ArgMatches<'_>, flag: FlagOption) -> bool
     ensures { result ≡ flag_in (rows_of (found_of matches.now)) flag }
 {
     match text_of(matches, flag.name.text()) {

@@ -51,7 +51,7 @@ fn read_ask(matches: &ArgMatches<'_>, verb: Verb, device: Device) -> Result<Ask,
 }
 
 /// What the words of a command line ask for.
-pub fn read_request<'a>(
+pub(crate) fn read_request<'a>(
     alloc: Global,
     words: &'a [&'a str],
     controllers: u16,

@@ -53,7 +53,7 @@ pub enum Verb {
 
 impl Verb {
     /// As a script writes it.
-    pub fn word<'a>(self) -> &'a str
+    pub(crate) fn word<'a>(self) -> &'a str
         ensures { result.now ≡ word_of self }
     {
         match self {
@@ -63,7 +63,7 @@ impl Verb {
     }
 
     /// Its options in order.
-    pub fn options(self) -> &'static [CommandOption]
+    pub(crate) fn options(self) -> &'static [CommandOption]
         ensures { result.now ≡ options_of self }
     {
         match self {
@@ -73,7 +73,7 @@ impl Verb {
     }
 
     /// The command word that a word is.
-    pub fn of(word: &str) -> Option<Verb>
+    pub(crate) fn of(word: &str) -> Option<Verb>
         ensures { result ≡ verb_of word.now }
     {
         VERBS.iter().copied().find(|verb| word == verb.word())

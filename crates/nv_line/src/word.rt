@@ -6,7 +6,7 @@ ghost use Rattle.nv_line.specs.Word.{is_skipped, without_nvme, words_of};
 use std::alloc::{AllocError, Global};
 
 /// Whether a line is blank, or begins with # after its spaces and tabs.
-pub fn is_skipped_line(line: &[u8]) -> bool
+pub(crate) fn is_skipped_line(line: &[u8]) -> bool
     ensures { result ≡ is_skipped line.now }
 {
     match line.iter().find(|b| !(**b == b' ' || **b == b'\t')) {
@@ -16,7 +16,7 @@ pub fn is_skipped_line(line: &[u8]) -> bool
 }
 
 /// The words of a line, between spaces and tabs.
-pub fn split_words<'a>(alloc: Global, text: &'a str) -> Result<Vec<&'a str>, AllocError>
+pub(crate) fn split_words<'a>(alloc: Global, text: &'a str) -> Result<Vec<&'a str>, AllocError>
     ensures { IfOk result (λ v. map (λ w. w.now) v.items ≡ words_of text.now) }
 {
     text.split(' ')
@@ -26,7 +26,7 @@ pub fn split_words<'a>(alloc: Global, text: &'a str) -> Result<Vec<&'a str>, All
 }
 
 /// The words without a first word `nvme`.
-pub fn without_program<'a>(words: &'a [&'a str]) -> &'a [&'a str]
+pub(crate) fn without_program<'a>(words: &'a [&'a str]) -> &'a [&'a str]
     ensures { map (λ w. w.now) result.now ≡ without_nvme (map (λ w. w.now) words.now) }
 {
     if !words.is_empty() && words[0] == "nvme" {

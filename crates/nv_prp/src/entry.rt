@@ -9,7 +9,7 @@ use crate::PrpError;
 use nv_host::{HostMemory, load_inside, size_of_memory, store_inside};
 
 /// Whether an entry is a multiple of its alignment and its page lies in the memory.
-pub fn check<M: HostMemory>(mem: &M, alignment: u32, entry: u64) -> Result<(), PrpError>
+pub(crate) fn check<M: HostMemory>(mem: &M, alignment: u32, entry: u64) -> Result<(), PrpError>
     requires { 0 < alignment }
     ensures fault { let fault = entry_fault (M.page_len mem.now) (length
         (M.bytes mem.now)) alignment entry in
@@ -28,7 +28,7 @@ pub fn check<M: HostMemory>(mem: &M, alignment: u32, entry: u64) -> Result<(), P
 
 /// Whether an entry is the address of a page of the memory.
 #[tactic(auto, using(nv_host::specs::PageLaws::page_size_bounds))]
-pub fn check_page<M: HostMemory>(mem: &M, entry: u64) -> Result<(), PrpError>
+pub(crate) fn check_page<M: HostMemory>(mem: &M, entry: u64) -> Result<(), PrpError>
     ensures { let fault = entry_fault (M.page_len mem.now) (length (M.bytes mem.now))
         (M.page_len mem.now) entry in
         HasFault result fault }
@@ -37,7 +37,7 @@ pub fn check_page<M: HostMemory>(mem: &M, entry: u64) -> Result<(), PrpError>
 }
 
 /// The page's address that the Qword at an address of the memory holds.
-pub fn load_page_address<M: HostMemory>(mem: &M, addr: u64) -> Result<u64, PrpError>
+pub(crate) fn load_page_address<M: HostMemory>(mem: &M, addr: u64) -> Result<u64, PrpError>
     requires { addr + 8 ≤ length (M.bytes mem.now) }
     ensures value { IfOk result (λ entry. entry ≡ qword (M.bytes mem.now) addr) }
     ensures fault { let entry = qword (M.bytes mem.now) addr in
@@ -62,7 +62,7 @@ fn load_qword<M: HostMemory>(mem: &M, addr: u64) -> u64
 }
 
 /// Writes a Qword to an address.
-pub fn store_qword<M: HostMemory>(mem: &mut M, addr: u64, value: u64)
+pub(crate) fn store_qword<M: HostMemory>(mem: &mut M, addr: u64, value: u64)
     requires { addr + 8 ≤ length (M.bytes mem.old) }
     ensures value { qword (M.bytes mem.new) addr ≡ value }
     ensures others { ChangesOnly addr 8 (M.bytes mem.old) (M.bytes mem.new) }

@@ -15,7 +15,7 @@ pub struct ListShape {
 impl ListShape {
     /// Whether the list goes on in a second page, whose address the last Qword of the first one
     /// holds.
-    pub fn has_second_page(self) -> bool
+    pub(crate) fn has_second_page(self) -> bool
         ensures { MatchBool result (self.room + 1 < self.pages) (self.pages ≤ self.room + 1) }
     {
         self.room < self.pages.saturating_sub(1)
@@ -23,7 +23,7 @@ impl ListShape {
 
     /// Whether the address of the second page stands between those of a data page and of the one
     /// before it.
-    pub fn chains_before(self, page: u32) -> bool
+    pub(crate) fn chains_before(self, page: u32) -> bool
         ensures { MatchBool result ((page ≡ self.room) × (self.room + 1 < self.pages))
             (page ≡ self.room → self.pages ≤ self.room + 1) }
     {
@@ -33,7 +33,7 @@ impl ListShape {
     /// The address of the Qword that names a data page, but the first one, in a list that begins at
     /// `first` and goes on at `second`.
     #[tactic(auto, using(std::proofs::lemmas::Bool::Decides::nat_tests))]
-    pub fn naming_qword(self, first: u64, second: u64, page: u32) -> u64
+    pub(crate) fn naming_qword(self, first: u64, second: u64, page: u32) -> u64
         requires later { 0 < page }
         requires below { page < self.pages }
         requires small { first + 8 * self.pages < 2 ^ 64 }

@@ -20,7 +20,7 @@ pub struct DataPointer {
 
 /// Where an address lies in its page.
 #[tactic(auto, using(nv_host::specs::PageLaws::page_size_bounds))]
-pub fn offset_in_page<M: HostMemory>(mem: &M, addr: u64) -> u32
+pub(crate) fn offset_in_page<M: HostMemory>(mem: &M, addr: u64) -> u32
     ensures value { result ≡ addr % M.page_len mem.now }
     ensures inside { result < M.page_len mem.now }
 {
@@ -29,7 +29,7 @@ pub fn offset_in_page<M: HostMemory>(mem: &M, addr: u64) -> u32
 
 /// How many Qwords there are from an address, a multiple of 8, to the end of its page.
 #[tactic(auto, using(nv_host::specs::PageLaws::page_size_bounds))]
-pub fn qwords_in_page<M: HostMemory>(mem: &M, addr: u64) -> u32
+pub(crate) fn qwords_in_page<M: HostMemory>(mem: &M, addr: u64) -> u32
     requires { addr % 8 ≡ 0 }
     ensures value { result ≡ (M.page_len mem.now - addr % M.page_len mem.now) / 8 }
     ensures some { 0 < result }
@@ -39,7 +39,7 @@ pub fn qwords_in_page<M: HostMemory>(mem: &M, addr: u64) -> u32
 }
 
 /// The address of a page.
-pub fn page_address<M: HostMemory>(mem: &M, page: PageNo) -> u64
+pub(crate) fn page_address<M: HostMemory>(mem: &M, page: PageNo) -> u64
     ensures value { result ≡ page * M.page_len mem.now }
     ensures small { result ≤ 2 ^ 48 }
     ensures size { IsPageSize (M.page_len mem.now) }
@@ -50,7 +50,7 @@ pub fn page_address<M: HostMemory>(mem: &M, page: PageNo) -> u64
 impl DataPointer {
     /// In how many pages the bytes lie.
     #[tactic(auto, using(nv_host::specs::PageLaws::page_size_bounds))]
-    pub fn data_pages<M: HostMemory>(self, mem: &M) -> u32
+    pub(crate) fn data_pages<M: HostMemory>(self, mem: &M) -> u32
         requires { self.len ≤ 1048576 }
         ensures { result ≡ div_ceil (self.prp1 % M.page_len mem.now + self.len)
             (M.page_len mem.now) }
@@ -71,7 +71,7 @@ impl DataPointer {
 
     /// The bytes of a data page, the first of which lies at this address.
     #[tactic(auto, using(crate::proofs::PageLaws::first_bytes_rise))]
-    pub fn span<M: HostMemory>(self, mem: &M, page: u32, address: u64) -> Span
+    pub(crate) fn span<M: HostMemory>(self, mem: &M, page: u32, address: u64) -> Span
         requires { page < 257 }
         ensures { let t = transfer_of (M.page_len mem.now) (M.bytes mem.now) self in
             result ≡ record {

@@ -40,7 +40,7 @@ fn first_part<M: HostMemory>(mem: &M, addr: u64, len: usize) -> Part
 }
 
 /// Reads the bytes from an address on, a page at a time.
-pub fn read_range<M: HostMemory>(mem: &M, addr: u64, out: &mut [u8])
+pub(crate) fn read_range<M: HostMemory>(mem: &M, addr: u64, out: &mut [u8])
     requires { addr + length out.old ≤ length (M.bytes mem.now) }
     ensures { out.new ≡ bytes_at (M.bytes mem.now) addr (length out.old) }
 {
@@ -56,7 +56,7 @@ pub fn read_range<M: HostMemory>(mem: &M, addr: u64, out: &mut [u8])
 }
 
 /// Writes the bytes from an address on, a page at a time.
-pub fn write_range<M: HostMemory>(mem: &mut M, addr: u64, source: &[u8])
+pub(crate) fn write_range<M: HostMemory>(mem: &mut M, addr: u64, source: &[u8])
     requires { addr + length source.now ≤ length (M.bytes mem.old) }
     ensures bytes { M.bytes mem.new ≡ with_bytes (M.bytes mem.old) addr source.now }
     ensures len { length (M.bytes mem.new) ≡ length (M.bytes mem.old) }

@@ -13,7 +13,7 @@ pub struct Place {
 
 impl Place {
     /// The place of number 0.
-    pub fn first() -> Place
+    pub(crate) fn first() -> Place
         ensures { result ≡ record { slot = 0; second = false } }
     {
         Place {
@@ -24,7 +24,7 @@ impl Place {
 
     /// The place of the next number.
     #[tactic(auto, using(crate::proofs::PlaceLaws::steps))]
-    pub fn step(self, depth: u16) -> Place
+    pub(crate) fn step(self, depth: u16) -> Place
         requires depth { IsDepth depth }
         requires within { self.slot < depth }
         ensures number { number_of depth result.slot result.second
@@ -47,7 +47,7 @@ impl Place {
     /// Whether a slot is met on the way from here to a place less than the depth ahead, ends
     /// included.
     #[tactic(auto, using(crate::proofs::PlaceLaws::places, crate::proofs::PlaceLaws::ahead_place))]
-    pub fn meets(self, slot: u16, end: Place, depth: u16) -> bool
+    pub(crate) fn meets(self, slot: u16, end: Place, depth: u16) -> bool
         requires depth { IsDepth depth }
         requires within { self.slot < depth }
         requires end { end.slot < depth }
@@ -76,7 +76,7 @@ impl Place {
 
     /// The next place in a slot, this one included.
     #[tactic(auto, using(crate::proofs::PlaceLaws::firsts))]
-    pub fn reach(self, slot: u16, depth: u16) -> Place
+    pub(crate) fn reach(self, slot: u16, depth: u16) -> Place
         requires depth { IsDepth depth }
         requires within { self.slot < depth }
         requires slot { slot < depth }

@@ -39,7 +39,7 @@ impl Model for Ring {
 
 impl Ring {
     /// A ring whose places are those of number 0.
-    pub fn new(base: u64, depth: u16) -> Ring
+    pub(crate) fn new(base: u64, depth: u16) -> Ring
         requires { IsDepth depth }
         ensures { result ≡ record { base = base; depth = depth; own = 0; told = 0 } }
     {
@@ -53,7 +53,7 @@ impl Ring {
 
     /// The slot of the own place.
     #[tactic(auto, using(crate::proofs::PlaceLaws::places))]
-    pub fn slot(&self) -> u16
+    pub(crate) fn slot(&self) -> u16
         ensures ring { IsRing self.now }
         ensures slot { result ≡ slot_of self.now.depth self.now.own }
     {
@@ -62,7 +62,7 @@ impl Ring {
 
     /// The phase tag that is due at the own place.
     #[tactic(auto, using(crate::proofs::PlaceLaws::places))]
-    pub fn phase(&self) -> bool
+    pub(crate) fn phase(&self) -> bool
         ensures ring { IsRing self.now }
         ensures phase { result ≡ phase_of self.now.depth self.now.own }
     {
@@ -71,7 +71,7 @@ impl Ring {
 
     /// Moves the own place to the next number.
     #[tactic(auto, using(crate::proofs::PlaceLaws::rings))]
-    pub fn step(&mut self)
+    pub(crate) fn step(&mut self)
         ensures behind { IsToldBehind self.old → ¬ IsFull self.old.depth self.old.told self.old.own
             → IsToldBehind self.new }
         ensures ahead { IsToldAhead self.old → self.old.own ≢ self.old.told → IsToldAhead self.new }
@@ -82,7 +82,7 @@ impl Ring {
 
     /// Whether the own place is as far above the told one as it may come.
     #[tactic(auto, using(crate::proofs::PlaceLaws::places, crate::specs::NumberLaws::full_slots))]
-    pub fn is_full(&self) -> bool
+    pub(crate) fn is_full(&self) -> bool
         requires { IsToldBehind self.now }
         ensures { IsTrue result ↔ IsFull self.now.depth self.now.told self.now.own }
     {
@@ -91,7 +91,7 @@ impl Ring {
 
     /// Whether the own place has come to the told one.
     #[tactic(auto, using(crate::proofs::PlaceLaws::places, crate::specs::NumberLaws::empty_slots))]
-    pub fn is_empty(&self) -> bool
+    pub(crate) fn is_empty(&self) -> bool
         requires { IsToldAhead self.now }
         ensures { IsTrue result ↔ (self.now.own ≡ self.now.told) }
     {
@@ -99,7 +99,7 @@ impl Ring {
     }
 
     /// The slot that a doorbell names, if the ring has it.
-    pub fn named_slot(&self, value: u32) -> Option<u16>
+    pub(crate) fn named_slot(&self, value: u32) -> Option<u16>
         ensures none { IsNone result ↔ (self.now.depth ≤ value) }
         ensures slot { IfSome result (λ slot. slot ≡ value) }
     {
@@ -111,7 +111,7 @@ impl Ring {
 
     /// Whether a slot is met on the way from the told place to the own one, ends included.
     #[tactic(auto, using(crate::proofs::PlaceLaws::places, crate::specs::NumberLaws::ahead_slot))]
-    pub fn may_free(&self, slot: u16) -> bool
+    pub(crate) fn may_free(&self, slot: u16) -> bool
         requires { IsToldBehind self.now }
         ensures { IsTrue result ↔ IsSlotBetween self.now.depth self.now.told self.now.own slot }
     {
@@ -120,7 +120,7 @@ impl Ring {
 
     /// Moves the told place forward to a slot.
     #[tactic(auto, using(crate::proofs::PlaceLaws::rings))]
-    pub fn free_to(&mut self, slot: u16)
+    pub(crate) fn free_to(&mut self, slot: u16)
         requires behind { IsToldBehind self.old }
         requires between { IsSlotBetween self.old.depth self.old.told self.old.own slot }
         ensures behind { IsToldBehind self.new }
@@ -132,7 +132,7 @@ impl Ring {
 
     /// Sets the told place to a slot, at the own place or above it.
     #[tactic(auto, using(crate::proofs::PlaceLaws::rings))]
-    pub fn fill_to(&mut self, slot: u16)
+    pub(crate) fn fill_to(&mut self, slot: u16)
         requires ahead { IsToldAhead self.old }
         requires slot { slot < self.old.depth }
         ensures ahead { IsToldAhead self.new }
@@ -143,7 +143,7 @@ impl Ring {
     }
 
     /// Sets the told place to the own one.
-    pub fn tell(&mut self)
+    pub(crate) fn tell(&mut self)
         ensures { self.new ≡ record self.old { told = self.old.own } }
     {
         self.told = self.own;
@@ -151,7 +151,7 @@ impl Ring {
 
     /// Whether the memory has the slot of the own place, where a slot has `size` bytes.
     #[tactic(auto, using(crate::proofs::PlaceLaws::places))]
-    pub fn fits<M: HostMemory>(&self, mem: &M, size: u16) -> bool
+    pub(crate) fn fits<M: HostMemory>(&self, mem: &M, size: u16) -> bool
         ensures { IsTrue result
             ↔ (self.now.base + size * slot_of self.now.depth self.now.own + size
             ≤ length (M.bytes mem.now)) }
@@ -163,7 +163,7 @@ impl Ring {
 
     /// The address of that slot.
     #[tactic(auto, using(crate::proofs::PlaceLaws::places))]
-    pub fn address<M: HostMemory>(&self, mem: &M, size: u16) -> u64
+    pub(crate) fn address<M: HostMemory>(&self, mem: &M, size: u16) -> u64
         requires { self.now.base + size * slot_of self.now.depth self.now.own + size
             ≤ length (M.bytes mem.now) }
         ensures { result ≡ self.now.base + size * slot_of self.now.depth self.now.own }

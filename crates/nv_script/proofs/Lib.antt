@@ -1,7 +1,5 @@
 pub mod OutcomeLaws
 pub mod RequestLaws
-pub mod Padding
-pub mod NumberedLines
 pub mod Taking
 pub mod LineLaws
 pub mod PieceSteps

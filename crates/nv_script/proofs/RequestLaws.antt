@@ -13,7 +13,7 @@ use Rattle.nv_line.specs.declared.request.Request.{Request}
 use Rattle.nv_script.specs.Exchange.{Exchange, exchange_of}
 use Rattle.nv_script.specs.Outcomes.{Outcome, commands_at, commands_of, outcome_of}
 use Rattle.nv_script.specs.Performing.{IsReached, RequestLeaves}
-use Rattle.nv_script.specs.Texts.{text_of}
+use Rattle.nv_print.specs.Texts.{text_of}
 use Rattle.nv_script.specs.declared.order.Order.{Order}
 use Rattle.nv_script.proofs.OutcomeLaws.{accepted_with, outcome_accepted, outcome_refused}
 

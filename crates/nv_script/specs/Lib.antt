@@ -4,7 +4,6 @@ pub mod Streams
 pub mod Link
 pub mod Exchange
 pub mod Outcomes
-pub mod Texts
 pub mod Performing
 pub mod ScriptLines
 pub mod Results

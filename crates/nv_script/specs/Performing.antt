@@ -4,7 +4,7 @@ use Rattle.std.specs.declared.string.String.{String}
 use Rattle.nv_subsystem.specs.State.{State}
 use Rattle.nv_line.specs.declared.request.Request.{Request}
 use Rattle.nv_script.specs.Outcomes.{Outcome, commands_of, outcome_of}
-use Rattle.nv_script.specs.Texts.{text_of}
+use Rattle.nv_print.specs.Texts.{text_of}
 use Rattle.nv_script.specs.declared.performing.Stop.{Stop}
 use Rattle.nv_script.specs.declared.performing.Stop.TheVariants as stop
 

@@ -5,7 +5,7 @@ use Rattle.nv_subsystem.specs.State.{State}
 use Rattle.nv_line.specs.LineFault.{fault_text}
 use Rattle.nv_script.specs.Outcomes.{Outcome, commands_of, outcome_of}
 use Rattle.nv_line.specs.Line.{reading}
-use Rattle.nv_script.specs.Texts.{message_of, refusal_text, text_of}
+use Rattle.nv_print.specs.Texts.{message_of, refusal_text, text_of}
 use Rattle.nv_line.specs.declared.fault.LineFault.{LineFault}
 use Rattle.nv_line.specs.declared.line.Line.{Line}
 use Rattle.nv_line.specs.declared.line.Line.TheVariants as line

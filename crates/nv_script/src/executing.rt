@@ -15,7 +15,7 @@ use crate::ends::RunEnd;
 use crate::performing::{Stop, perform};
 use crate::session::Session;
 use crate::streams::Sink;
-use crate::texts::{fault_message, refusal_message};
+use nv_print::{fault_message, refusal_message};
 use nv_controller::Bus;
 use nv_line::{Line, LineFault, read_line};
 use std::alloc::{AllocError, Global};
@@ -72,7 +72,7 @@ fn read_buffer(alloc: Global, line: Option<&[u8]>, controllers: u16) -> Result<L
 }
 
 /// Executes one line; `None` is a line above 4,095 bytes.
-pub fn execute_line<B: Bus, O: Sink, M: Sink>(
+pub(crate) fn execute_line<B: Bus, O: Sink, M: Sink>(
     alloc: Global,
     bus: &mut B,
     session: &mut Session,

@@ -9,7 +9,6 @@ mod performing;
 mod running;
 mod session;
 mod streams;
-mod texts;
 
 pub use ends::RunEnd;
 pub use nv_driver::{Geometry, GeometryField};

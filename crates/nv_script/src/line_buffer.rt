@@ -25,7 +25,7 @@ impl Model for LineBuffer {
 }
 
 impl LineBuffer {
-    pub fn new() -> Self
+    pub(crate) fn new() -> Self
         ensures { result ≡ Some [] }
     {
         LineBuffer {
@@ -35,7 +35,7 @@ impl LineBuffer {
         }
     }
 
-    pub fn push(&mut self, byte: u8)
+    pub(crate) fn push(&mut self, byte: u8)
         ensures { self.new ≡ buffer_with self.old byte }
     {
         if self.len < LINE_LIMIT {
@@ -46,7 +46,7 @@ impl LineBuffer {
         }
     }
 
-    pub fn clear(&mut self)
+    pub(crate) fn clear(&mut self)
         ensures { self.new ≡ Some [] }
     {
         self.len = 0;
@@ -54,7 +54,7 @@ impl LineBuffer {
     }
 
     /// The line; `None` where it is too long.
-    pub fn line(&self) -> Option<&[u8]>
+    pub(crate) fn line(&self) -> Option<&[u8]>
         ensures { option_copied result ≡ self.now }
     {
         if self.is_too_long {
@@ -64,7 +64,7 @@ impl LineBuffer {
         }
     }
 
-    pub fn is_empty(&self) -> bool
+    pub(crate) fn is_empty(&self) -> bool
         ensures { IsTrue result ↔ (self.now ≡ Some []) }
     {
         !self.is_too_long && self.len == 0

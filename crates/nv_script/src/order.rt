@@ -42,7 +42,7 @@ fn namespace_command(force: bool, nsid: u32) -> Command
 
 /// The commands of a request, in order. They are known from the request alone, before the first
 /// reply.
-pub fn commands_of(alloc: Global, request: Request) -> Result<Vec<Order>, AllocError>
+pub(crate) fn commands_of(alloc: Global, request: Request) -> Result<Vec<Order>, AllocError>
     ensures orders { IfOk result (λ orders. (s : State) → orders.items ≡ commands_of s request) }
     ensures fits { IfOk result (λ orders. All (λ o. CommandFits o.command) orders.items) }
 {

@@ -6,7 +6,7 @@ ghost use Rattle.nv_script.specs.Performing.{RequestLeaves};
 ghost use Rattle.nv_script.specs.declared.performing.Stop.TheVariants.{Refused, Memory};
 
 use crate::order::commands_of;
-use crate::texts::text_of;
+use nv_print::text_of;
 use nv_controller::Bus;
 use nv_driver::Driver;
 use nv_layout::Status;
@@ -47,7 +47,7 @@ impl<T: Drop> From<AllocFailed<T>> for Stop {
 }
 
 /// Sends the commands of a request, up to the first refusal, and makes the text of their replies.
-pub fn perform<B: Bus>(
+pub(crate) fn perform<B: Bus>(
     alloc: Global,
     bus: &mut B,
     driver: &mut Driver,

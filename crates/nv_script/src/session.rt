@@ -15,7 +15,7 @@ pub struct Session {
 
 impl Session {
     /// Before the first line.
-    pub fn new(driver: Driver) -> Session
+    pub(crate) fn new(driver: Driver) -> Session
         ensures { result ≡ record { driver = driver; number = 0; status = 0 } }
     {
         Session {

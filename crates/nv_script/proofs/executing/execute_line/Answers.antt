@@ -4,7 +4,7 @@ use Rattle.nv_line.specs.LineFault.{fault_text}
 use Rattle.nv_script.specs.Outcomes.{commands_of, outcome_of}
 use Rattle.nv_script.specs.Results.{LineResult, answer_result, quiet_result}
 use Rattle.nv_script.specs.Link.{serials_of}
-use Rattle.nv_script.specs.Texts.{message_of, refusal_text, text_of}
+use Rattle.nv_print.specs.Texts.{message_of, refusal_text, text_of}
 use Rattle.nv_line.specs.declared.line.Line.TheVariants as line
 use Rattle.nv_script.proofs.LineLaws.{amid-all, amid-some, amid-zero, fault_said, line_said, message_leaves, output_leaves, result_asked, result_fault, said_here}
 use Rattle.nv_script.proofs.executing.execute_line.Goals as goal

@@ -5,7 +5,7 @@ use Rattle.nv_driver.specs.Driver.{lane_at}
 use Rattle.nv_driver.specs.Exchange.{after_one}
 use Rattle.nv_driver.specs.Settled.{DriverValue}
 use Rattle.nv_script.specs.Link.{serials_of}
-use Rattle.nv_script.specs.Texts.{text_of}
+use Rattle.nv_print.specs.Texts.{text_of}
 use Rattle.nv_script.proofs.LinkLaws.{exchanged}
 use Rattle.nv_script.proofs.RequestLaws.{accepted_next, controller_known, left_memory, left_refused, left_text, no_order}
 use Rattle.nv_script.proofs.OutcomeLaws.{accepted_with}

@@ -1,0 +1,236 @@
+//! What a line prints.
+
+ghost use Rattle.std.specs.Prelude.{◌≡◌, IfOk, string_bytes};
+ghost use Rattle.nv_line.specs.LineFault.{fault_text};
+ghost use Rattle.nv_print.specs.Texts.{message_of, namespace_fields, refusal_text, text_of, text_of_identify, text_of_list, text_of_namespace, text_of_nsids};
+
+use nv_command::{Reply, StatusCode};
+use nv_layout::{IdNs, Lbaf, NsList, Status};
+use nv_line::{Ask, LineFault};
+use std::alloc::{AllocError, Global};
+use std::{cmp, fmt};
+
+/// A number after `0x`, in lower case hexadecimal digits.
+#[derive(Clone, Copy)]
+struct Hexadecimal(u64);
+
+impl fmt::Display for Hexadecimal {
+    ghost use Rattle.std.specs.Prelude.{Some};
+    ghost use Rattle.nv_print.specs.Texts.{hexadecimal};
+
+    ghost output = { λ n. Some (hexadecimal n.0) };
+
+    fn fmt<W: fmt::Write>(&self, f: &mut fmt::Formatter<W>) -> fmt::Result {
+        write!(f, "0x{:x}", self.0)
+    }
+}
+
+/// An index on the right of so many places.
+#[derive(Clone, Copy)]
+struct Index {
+    index: usize,
+    width: usize,
+}
+
+impl fmt::Display for Index {
+    ghost use Rattle.std.specs.Prelude.{Some};
+    ghost use Rattle.std.specs.Fmt.{decimal};
+    ghost use Rattle.nv_print.specs.Texts.{right};
+
+    ghost output = { λ index. Some (right index.width (decimal index.index)) };
+
+    fn fmt<W: fmt::Write>(&self, f: &mut fmt::Formatter<W>) -> fmt::Result {
+        let Index { index, width } = *self;
+        write!(f, "{index:>width$}")
+    }
+}
+
+/// An NSID with its index in a list.
+#[derive(Clone, Copy)]
+struct NsidLine {
+    index: usize,
+    nsid: u32,
+}
+
+impl fmt::Display for NsidLine {
+    ghost use Rattle.std.specs.Prelude.{Some};
+    ghost use Rattle.nv_print.specs.Texts.{nsid_line};
+
+    ghost output = { λ line. Some (nsid_line line.index line.nsid) };
+
+    fn fmt<W: fmt::Write>(&self, f: &mut fmt::Formatter<W>) -> fmt::Result {
+        let index = Index {
+            index: self.index,
+            width: 4,
+        };
+        let nsid = Hexadecimal(u64::from(self.nsid));
+        write!(f, "[{index}]:{nsid}\n")
+    }
+}
+
+/// The text of a list of NSIDs.
+fn list_text(alloc: Global, list: &NsList) -> Result<String, AllocError>
+    ensures { IfOk result (λ text. string_bytes text ≡ text_of_nsids list.now) }
+{
+    let nsids = list.as_slice();
+    let mut text = String::new(alloc);
+    for index in 0..nsids.len() {
+        let line = NsidLine {
+            index,
+            nsid: nsids[index],
+        };
+        write!(text, "{line}")?;
+    }
+    Ok(text)
+}
+
+/// A format of a namespace with its index, and the index of the one in use.
+#[derive(Clone, Copy)]
+struct LbafLine {
+    index: usize,
+    lbaf: Lbaf,
+    in_use: usize,
+}
+
+impl fmt::Display for LbafLine {
+    ghost use Rattle.std.specs.Prelude.{Some};
+    ghost use Rattle.nv_print.specs.Texts.{lbaf_line};
+
+    ghost output = { λ line. Some (lbaf_line line.in_use line.index line.lbaf) };
+
+    fn fmt<W: fmt::Write>(&self, f: &mut fmt::Formatter<W>) -> fmt::Result {
+        let index = Index {
+            index: self.index,
+            width: 2,
+        };
+        let Lbaf { ms, lbads, rp } = self.lbaf;
+        let in_use = if self.in_use == self.index {
+            " (in use)"
+        } else {
+            ""
+        };
+        write!(
+            f,
+            "lbaf {index}             : ms:{ms} lbads:{lbads} rp:{rp}{in_use}\n"
+        )
+    }
+}
+
+/// The fields of a namespace before its formats.
+#[tactic(auto, unfolding(crate::specs::Texts::namespace_fields))]
+fn namespace_fields(alloc: Global, namespace: &IdNs) -> Result<String, AllocError>
+    ensures { IfOk result (λ text. string_bytes text ≡ namespace_fields namespace.now) }
+{
+    let nsze = Hexadecimal(namespace.nsze);
+    let ncap = Hexadecimal(namespace.ncap);
+    let nuse = Hexadecimal(namespace.nuse);
+    let nsfeat = Hexadecimal(namespace.nsfeat as u64);
+    let nlbaf = namespace.nlbaf;
+    let flbas = Hexadecimal(namespace.flbas as u64);
+    let mc = Hexadecimal(namespace.mc as u64);
+    let dpc = Hexadecimal(namespace.dpc as u64);
+    let dps = Hexadecimal(namespace.dps as u64);
+    let nmic = Hexadecimal(namespace.nmic as u64);
+    let nvmcap = namespace.nvmcap;
+    let mut text = String::new(alloc);
+    write!(text, "nsze                : {nsze}\n")?;
+    write!(text, "ncap                : {ncap}\n")?;
+    write!(text, "nuse                : {nuse}\n")?;
+    write!(text, "nsfeat              : {nsfeat}\n")?;
+    write!(text, "nlbaf               : {nlbaf}\n")?;
+    write!(text, "flbas               : {flbas}\n")?;
+    write!(text, "mc                  : {mc}\n")?;
+    write!(text, "dpc                 : {dpc}\n")?;
+    write!(text, "dps                 : {dps}\n")?;
+    write!(text, "nmic                : {nmic}\n")?;
+    write!(text, "nvmcap              : {nvmcap}\n")?;
+    Ok(text)
+}
+
+/// The text of a namespace ("Identify Namespace Data Structure").
+fn namespace_text(alloc: Global, namespace: &IdNs) -> Result<String, AllocError>
+    ensures { IfOk result (λ text. string_bytes text ≡ text_of_namespace namespace.now) }
+{
+    let in_use = namespace.flbas as usize % 16;
+    let formats = cmp::min(namespace.nlbaf, 15) as usize + 1;
+    let mut text = namespace_fields(alloc, namespace)?;
+    for index in 0..formats {
+        let line = LbafLine {
+            index,
+            lbaf: namespace.lbafs[index],
+            in_use,
+        };
+        write!(text, "{line}")?;
+    }
+    Ok(text)
+}
+
+/// The text of the NSIDs of a first reply.
+fn text_of_list(alloc: Global, replies: &[Reply]) -> Result<String, AllocError>
+    ensures { IfOk result (λ text. string_bytes text ≡ text_of_list replies.now) }
+{
+    match replies.first() {
+        Some(Reply::List(list)) => list_text(alloc, list),
+        Some(Reply::Namespace(_)) | None => Ok(String::new(alloc)),
+    }
+}
+
+/// The text of the namespace of a first reply.
+fn text_of_identify(alloc: Global, replies: &[Reply]) -> Result<String, AllocError>
+    ensures { IfOk result (λ text. string_bytes text ≡ text_of_identify replies.now) }
+{
+    match replies.first() {
+        Some(Reply::Namespace(namespace)) => namespace_text(alloc, namespace),
+        Some(Reply::List(_)) | None => Ok(String::new(alloc)),
+    }
+}
+
+/// The text of the replies to the commands of a request.
+pub fn text_of(alloc: Global, ask: Ask, replies: &[Reply]) -> Result<String, AllocError>
+    ensures { IfOk result (λ text. string_bytes text ≡ text_of ask replies.now) }
+{
+    match ask {
+        Ask::ListNs { first: _, all: _ } => text_of_list(alloc, replies),
+        Ask::IdNs { nsid: _, force: _ } => text_of_identify(alloc, replies),
+    }
+}
+
+/// The status of a refusal, as a message says it.
+#[derive(Clone, Copy)]
+struct Refused(Status);
+
+impl fmt::Display for Refused {
+    ghost use Rattle.std.specs.Prelude.{Some};
+    ghost use Rattle.nv_print.specs.Texts.{refusal_text};
+
+    ghost output = { λ refused. Some (refusal_text refused.0) };
+
+    fn fmt<W: fmt::Write>(&self, f: &mut fmt::Formatter<W>) -> fmt::Result {
+        let name = StatusCode::name_of(self.0);
+        let field = Hexadecimal(u64::from(self.0.number()));
+        write!(f, "NVMe status: {name} ({field})")
+    }
+}
+
+/// The message of a refusal in a line.
+pub fn refusal_message(
+    alloc: Global,
+    number: u64,
+    status: Status,
+) -> Result<String, AllocError>
+    ensures { IfOk result (λ text. string_bytes text ≡ message_of number (refusal_text status)) }
+{
+    let refused = Refused(status);
+    format!(in alloc; "line {number}: {refused}\n")
+}
+
+/// The message of a fault of a line.
+pub fn fault_message(
+    alloc: Global,
+    number: u64,
+    fault: LineFault,
+) -> Result<String, AllocError>
+    ensures { IfOk result (λ text. string_bytes text ≡ message_of number (fault_text fault)) }
+{
+    format!(in alloc; "line {number}: {fault}\n")
+}

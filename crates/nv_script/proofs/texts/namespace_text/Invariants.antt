@@ -1,6 +1,0 @@
-use Rattle.std.proofs.Common.{◌≡◌, ◌++◌, ◌%◌, take, string_bytes}
-use Rattle.nv_script.specs.Texts.{lbaf_line, lines_of, namespace_fields}
-use Rattle.nv_script.proofs.texts.namespace_text.Given as goal
-
-abbrev pub invariant-loop-index : goal.invariant-loop-index
-invariant-loop-index l = string_bytes l.text ≡ namespace_fields l.namespace ++ lines_of (lbaf_line (l.namespace.flbas % 16)) 0 (take l.index l.namespace.lbafs)
