@@ -120,6 +120,15 @@ numbers_read at width n bytes xs e h =
     same_number_lists xs (numbers_at at width n bytes) (e ∙ sym size)
     (λ k below. h k (omega (arith, e)) ∙ sym (get_or-numbers_at at width n bytes k (omega (arith, e))))
 
+-- the first of them
+pub take_numbers_at : (k at width n : ℕ) (bytes : List ℕ) → k ≤ n
+    → take k (numbers_at at width n bytes) ≡ numbers_at at width k bytes
+unfolding numbers_at
+take_numbers_at zero at width n bytes h = refl
+take_numbers_at (suc k) at width zero bytes h = absurd (omega arith)
+take_numbers_at (suc k) at width (suc n) bytes h =
+    ap (λ rest. number_at at width bytes ∷ rest) (take_numbers_at k (at + width) width n bytes (omega arith))
+
 -- a number in a part of the bytes
 pub number_at-part : (at width size skip : ℕ) (bytes : List ℕ) → skip + width ≤ size
     → little_number width (drop skip (take size (drop at bytes))) ≡ number_at (at + skip) width bytes

@@ -61,6 +61,14 @@ pub fn put_u32s<const N: usize>(out: &mut [u8], at: usize, values: &[u32; N])
     LittleEndian::write_u32_into(values, &mut out[at..at + 4 * N]);
 }
 
+#[tactic(auto, unfolding(crate::specs::Parts::placed))]
+pub fn put_u16s(out: &mut [u8], at: usize, values: &[u16])
+    requires { at + 2 * length values.now ≤ length out.old }
+    ensures { out.new ≡ placed out.old (numbers at 2 (length values.now) values.now) }
+{
+    LittleEndian::write_u16_into(values, &mut out[at..at + 2 * values.len()]);
+}
+
 #[tactic(auto, unfolding(crate::specs::Parts::number_at))]
 pub fn u8_at(bytes: &[u8], at: usize) -> u8
     requires { at < length bytes.now }
@@ -99,6 +107,15 @@ pub fn u128_at(bytes: &[u8], at: usize) -> u128
     ensures { result ≡ number_at at 16 bytes.now }
 {
     LittleEndian::read_u128(&bytes[at..])
+}
+
+pub fn u16s_at<const N: usize>(bytes: &[u8], at: usize) -> [u16; N]
+    requires { at + 2 * N ≤ length bytes.now }
+    ensures { result ≡ numbers_at at 2 N bytes.now }
+{
+    let mut values = [0; N];
+    LittleEndian::read_u16_into(&bytes[at..at + 2 * N], &mut values);
+    values
 }
 
 pub fn u32s_at<const N: usize>(bytes: &[u8], at: usize) -> [u32; N]
