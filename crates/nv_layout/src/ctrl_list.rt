@@ -1,9 +1,9 @@
 //! Controller lists.
 
 ghost use Rattle.std.specs.Prelude.{◌≡◌, ◌≤◌, ◌<◌, ◌↔◌, ◌++◌, ◌∷◌, [], ℕ, IsTrue, List, length, take};
-ghost use Rattle.nv_layout.specs.CtrlList.{bytes_of_ctrl_list, ctrl_list_of_bytes};
+ghost use Rattle.nv_layout.specs.CtrlList.{CtrlListFits, bytes_of_ctrl_list, ctrl_list_of_bytes};
 
-use crate::parts::{clear, put_u16, put_u16s, u16_at, u16s_at};
+use crate::parts::{clear, each_u16_fits, put_u16, put_u16s, u16_at, u16s_at};
 use std::fmt;
 use std::marker::Model;
 use thiserror::Error;
@@ -89,9 +89,11 @@ impl CtrlList {
     /// The identifiers in order.
     pub fn as_slice(&self) -> &[u16]
         ensures items { result.now ≡ self.now }
-        ensures within { length self.now ≤ 2047 }
+        ensures fits { CtrlListFits self.now }
     {
-        &self.ids[..self.len]
+        let ids = &self.ids[..self.len];
+        each_u16_fits(ids);
+        ids
     }
 
     /// Adds an identifier at the end.

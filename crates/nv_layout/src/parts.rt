@@ -1,6 +1,7 @@
 //! Numbers at their places in a record's bytes, and in the bits of a number.
 
-ghost use Rattle.std.specs.Prelude.{◌≡◌, ◌≤◌, ◌<◌, ◌+◌, ◌*◌, length};
+ghost use Rattle.std.specs.Prelude.{◌≡◌, ◌≤◌, ◌<◌, ◌+◌, ◌*◌, ◌^◌, length};
+ghost use Rattle.std.specs.List.{AllByRecursion};
 ghost use Rattle.nv_layout.specs.Parts.{at_bits, bits, number, number_at, numbers, numbers_at, placed, zeros};
 
 use byteorder::{ByteOrder, LittleEndian};
@@ -108,6 +109,11 @@ pub fn u128_at(bytes: &[u8], at: usize) -> u128
 {
     LittleEndian::read_u128(&bytes[at..])
 }
+
+/// Each of the numbers fits two bytes, as its type says. The call does nothing.
+pub fn each_u16_fits(values: &[u16])
+    ensures { AllByRecursion (λ x. x < 2 ^ 16) values.now }
+{}
 
 pub fn u16s_at<const N: usize>(bytes: &[u8], at: usize) -> [u16; N]
     requires { at + 2 * N ≤ length bytes.now }
