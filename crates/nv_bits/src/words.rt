@@ -6,14 +6,14 @@ ghost use Rattle.nv_bits.specs.Words.{IsLeastFrom, bit_of};
 use std::alloc::{AllocError, Global};
 
 /// So many words that are all the same.
-pub fn repeated(alloc: Global, word: u64, len: usize) -> Result<Vec<u64>, AllocError>
+pub(crate) fn repeated(alloc: Global, word: u64, len: usize) -> Result<Vec<u64>, AllocError>
     ensures { IfOk result (λ words. words.items ≡ replicate len word) }
 {
     vec![in alloc; word; len]
 }
 
 /// Whether a bit is set.
-pub fn bit(words: &[u64], k: usize) -> bool
+pub(crate) fn bit(words: &[u64], k: usize) -> bool
     requires { k / 64 < length words.now }
     ensures { result ≡ bit_of words.now k }
 {
@@ -21,7 +21,7 @@ pub fn bit(words: &[u64], k: usize) -> bool
 }
 
 /// The first word from one on that is not 0, or where the words end.
-pub fn next_word(words: &[u64], from: usize) -> usize
+pub(crate) fn next_word(words: &[u64], from: usize) -> usize
     requires { from ≤ length words.now }
     ensures within { (from ≤ result) × (result ≤ length words.now) }
     ensures zeros { (i : ℕ) → from ≤ i → i < result → slice_index words.now i ≡ 0 }
@@ -36,7 +36,7 @@ pub fn next_word(words: &[u64], from: usize) -> usize
 }
 
 /// The least set bit from one on.
-pub fn least_from(words: &[u64], at: usize) -> Option<usize>
+pub(crate) fn least_from(words: &[u64], at: usize) -> Option<usize>
     requires { length words.now ≤ 2 ^ 32 }
     ensures { MatchOption result
         ((k : ℕ) → at ≤ k → bit_of words.now k ≡ false)

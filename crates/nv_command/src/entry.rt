@@ -20,7 +20,7 @@ pub struct Fields {
 
 impl Fields {
     /// The entry with these fields. All others are 0: no fused operation, PRPs, no metadata.
-    pub fn entry(self, nsid: u32, cid: u16) -> Sqe
+    pub(crate) fn entry(self, nsid: u32, cid: u16) -> Sqe
         ensures entry { result ≡ entry_with self nsid cid }
         ensures fits { SqeFits result }
     {
@@ -53,7 +53,7 @@ pub enum Opcode {
 
 impl Opcode {
     /// The opcode of an entry, where it is known and the entry is neither fused nor uses SGLs.
-    pub fn of(entry: &Sqe) -> Result<Opcode, StatusCode>
+    pub(crate) fn of(entry: &Sqe) -> Result<Opcode, StatusCode>
         ensures { result ≡ opcode_of entry.now }
     {
         let opcode = match entry.opcode {

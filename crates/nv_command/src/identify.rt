@@ -14,7 +14,7 @@ use nv_layout::{IdNs, NsList, Sqe};
 pub const TRANSFER: Transfer = Transfer::ToHost(4096);
 
 /// The fields of an Identify command of this Controller or Namespace Structure (CNS).
-pub fn fields(cns: u8) -> Fields
+pub(crate) fn fields(cns: u8) -> Fields
     ensures { result ≡ identify_fields cns }
 {
     Fields {
@@ -27,7 +27,7 @@ pub fn fields(cns: u8) -> Fields
 }
 
 /// The command of an Identify entry.
-pub fn command(entry: &Sqe) -> Result<Command, StatusCode>
+pub(crate) fn command(entry: &Sqe) -> Result<Command, StatusCode>
     ensures { result ≡ identify_command entry.now }
 {
     let nsid = entry.nsid;
@@ -41,7 +41,7 @@ pub fn command(entry: &Sqe) -> Result<Command, StatusCode>
 }
 
 /// The data of an Identify entry.
-pub fn transfer(entry: &Sqe) -> Result<Transfer, StatusCode>
+pub(crate) fn transfer(entry: &Sqe) -> Result<Transfer, StatusCode>
     ensures { result ≡ identify_transfer entry.now }
 {
     command(entry)?;
@@ -49,14 +49,14 @@ pub fn transfer(entry: &Sqe) -> Result<Transfer, StatusCode>
 }
 
 /// The namespace that a page holds.
-pub fn namespace(page: &[u8; 4096]) -> Reply
+pub(crate) fn namespace(page: &[u8; 4096]) -> Reply
     ensures { result ≡ namespace_in page.now }
 {
     Reply::Namespace(IdNs::get(page))
 }
 
 /// The NSIDs that a page holds.
-pub fn list(page: &[u8; 4096]) -> Reply
+pub(crate) fn list(page: &[u8; 4096]) -> Reply
     ensures { result ≡ list_in page.now }
 {
     Reply::List(NsList::get(page))

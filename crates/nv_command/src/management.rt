@@ -15,7 +15,7 @@ use nv_layout::{CtrlList, IdNs, Lbaf, Sqe};
 pub const TRANSFER: Transfer = Transfer::FromHost(4096);
 
 /// The fields of a Namespace Management command with this Select.
-pub fn fields(select: u8) -> Fields
+pub(crate) fn fields(select: u8) -> Fields
     ensures { result ≡ management_fields select }
 {
     Fields {
@@ -28,7 +28,7 @@ pub fn fields(select: u8) -> Fields
 }
 
 /// The fields of a Namespace Attachment command.
-pub fn attachment_fields(detach: bool) -> Fields
+pub(crate) fn attachment_fields(detach: bool) -> Fields
     ensures { result ≡ attachment_fields detach }
 {
     Fields {
@@ -41,7 +41,7 @@ pub fn attachment_fields(detach: bool) -> Fields
 }
 
 /// What the host sends to create a namespace: the fields that it chooses, and zeros.
-pub fn asked(nsze: u64, ncap: u64, flbas: u8, dps: u8, nmic: u8) -> IdNs
+pub(crate) fn asked(nsze: u64, ncap: u64, flbas: u8, dps: u8, nmic: u8) -> IdNs
     ensures { result ≡ asked nsze ncap flbas dps nmic }
 {
     let none = Lbaf {
@@ -66,12 +66,12 @@ pub fn asked(nsze: u64, ncap: u64, flbas: u8, dps: u8, nmic: u8) -> IdNs
 }
 
 /// What is chosen of a namespace to create fits its bits, as its types say. The call does nothing.
-pub fn create_fits(nsze: u64, ncap: u64, flbas: u8, dps: u8, nmic: u8)
+pub(crate) fn create_fits(nsze: u64, ncap: u64, flbas: u8, dps: u8, nmic: u8)
     ensures { CreateFits nsze ncap flbas dps nmic }
 {}
 
 /// What an attachment says fits its bits, as its types say. The call does nothing.
-pub fn attachment_fits(nsid: u32, list: &CtrlList)
+pub(crate) fn attachment_fits(nsid: u32, list: &CtrlList)
     ensures { AttachmentFits nsid list.now }
 {
     list.as_slice();
@@ -92,7 +92,7 @@ fn page(sent: &[u8]) -> Result<&[u8; 4096], StatusCode>
 }
 
 /// The command of a Namespace Management entry.
-pub fn command(entry: &Sqe, sent: &[u8]) -> Result<Command, StatusCode>
+pub(crate) fn command(entry: &Sqe, sent: &[u8]) -> Result<Command, StatusCode>
     ensures { result ≡ management_command entry.now sent.now }
 {
     match select(entry) {
@@ -119,7 +119,7 @@ pub fn command(entry: &Sqe, sent: &[u8]) -> Result<Command, StatusCode>
 }
 
 /// The data of a Namespace Management entry.
-pub fn transfer(entry: &Sqe) -> Result<Transfer, StatusCode>
+pub(crate) fn transfer(entry: &Sqe) -> Result<Transfer, StatusCode>
     ensures { result ≡ management_transfer entry.now }
 {
     match select(entry) {
@@ -141,7 +141,7 @@ fn is_detach(entry: &Sqe) -> Result<bool, StatusCode>
 }
 
 /// The command of a Namespace Attachment entry.
-pub fn attachment_command(entry: &Sqe, sent: &[u8]) -> Result<Command, StatusCode>
+pub(crate) fn attachment_command(entry: &Sqe, sent: &[u8]) -> Result<Command, StatusCode>
     ensures { result ≡ attachment_command entry.now sent.now }
 {
     let detach = is_detach(entry)?;
@@ -154,7 +154,7 @@ pub fn attachment_command(entry: &Sqe, sent: &[u8]) -> Result<Command, StatusCod
 }
 
 /// The data of a Namespace Attachment entry.
-pub fn attachment_transfer(entry: &Sqe) -> Result<Transfer, StatusCode>
+pub(crate) fn attachment_transfer(entry: &Sqe) -> Result<Transfer, StatusCode>
     ensures { result ≡ attachment_transfer entry.now }
 {
     is_detach(entry)?;

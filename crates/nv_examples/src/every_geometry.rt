@@ -1,6 +1,7 @@
 //! Scripts at geometries of every kind: the same bytes, whatever the rings and pages are.
 
-use crate::harness::{Outcome, geometries, run_at, run_script};
+use crate::harness::{geometries, run_at, run_script};
+use crate::rows::{Row, expect};
 use crate::watch::Watch;
 use nv_controller::{Bus, Machine};
 use nv_script::{Geometry, GeometryField, OverRead, OverWrite, RunEnd, run};
@@ -8,15 +9,7 @@ use nv_subsystem::{DEMO, Subsystem};
 use std::process::Abort;
 use std::test::Fail;
 
-/// A script, and what it writes and ends with.
-struct Row {
-    script: &'static [u8],
-    out: &'static str,
-    messages: &'static str,
-    status: u8,
-}
-
-const ROWS: [Row; 9] = [
+const ROWS: [Row; 10] = [
     Row {
         script: b"",
         out: "",
@@ -92,19 +85,34 @@ lbaf  0             : ms:0 lbads:0 rp:0 (in use)
         status: 0,
     },
     Row {
+        script: b"create-ns /dev/nvme0 -s 1 -c 1
+attach-ns /dev/nvme0 -n 2 -c 0,1
+attach-ns /dev/nvme0 -n 2 -c 0
+list-ns /dev/nvme0
+detach-ns /dev/nvme0 -n 2 -c 0
+delete-ns /dev/nvme0 -n 2
+list-ns /dev/nvme0 -a
+",
+        out: "create-ns: Success, created nsid:2
+attach-ns: Success, nsid:2
+[   0]:0x1
+[   1]:0x2
+[   2]:0x3
+detach-ns: Success, nsid:2
+delete-ns: Success, deleted nsid:2
+[   0]:0x1
+[   1]:0x3
+",
+        messages: "line 2: NVMe status: Namespace Is Private (0x6119)\n",
+        status: 0,
+    },
+    Row {
         script: b"\xff",
         out: "",
         messages: "line 1: not UTF-8 text\n",
         status: 1,
     },
 ];
-
-/// What a run left is what the row says.
-fn expect(rt: &impl Abort, left: &Outcome, row: &Row) {
-    assert!(rt; left.end == RunEnd::Status(row.status));
-    assert!(rt; left.out.as_slice() == row.out.as_bytes());
-    assert!(rt; left.messages.as_slice() == row.messages.as_bytes());
-}
 
 #[test]
 fn the_geometry_shows_in_no_byte(rt: HostRuntime) -> Result<(), Fail> {

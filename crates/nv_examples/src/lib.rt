@@ -20,7 +20,11 @@ mod largest;
 #[cfg(test)]
 mod lines;
 #[cfg(test)]
+mod management;
+#[cfg(test)]
 mod over_streams;
+#[cfg(test)]
+mod rows;
 #[cfg(test)]
 mod scripts;
 #[cfg(test)]

@@ -18,7 +18,7 @@ pub enum LayoutError {
 
 /// Up to 2,047 controller identifiers. In the list's bytes their number comes first, and zeros
 /// follow them. Section "Controller List".
-#[derive(Drop)]
+#[derive(Clone, Drop)]
 pub struct CtrlList {
     ids: [u16; 2047],
     len: usize,

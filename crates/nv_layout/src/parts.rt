@@ -8,14 +8,14 @@ use byteorder::{ByteOrder, LittleEndian};
 
 /// Zeros in all of a record's bytes, before its fields are put.
 #[tactic(auto, unfolding(crate::specs::Parts::zeros))]
-pub fn clear(out: &mut [u8])
+pub(crate) fn clear(out: &mut [u8])
     ensures { out.new ≡ zeros (length out.old) }
 {
     out.fill(0);
 }
 
 #[tactic(auto, unfolding(crate::specs::Parts::placed))]
-pub fn put_u8(out: &mut [u8], at: usize, value: u8)
+pub(crate) fn put_u8(out: &mut [u8], at: usize, value: u8)
     requires { at < length out.old }
     ensures { out.new ≡ placed out.old (number at 1 value) }
 {
@@ -23,7 +23,7 @@ pub fn put_u8(out: &mut [u8], at: usize, value: u8)
 }
 
 #[tactic(auto, unfolding(crate::specs::Parts::placed))]
-pub fn put_u16(out: &mut [u8], at: usize, value: u16)
+pub(crate) fn put_u16(out: &mut [u8], at: usize, value: u16)
     requires { at + 2 ≤ length out.old }
     ensures { out.new ≡ placed out.old (number at 2 value) }
 {
@@ -31,7 +31,7 @@ pub fn put_u16(out: &mut [u8], at: usize, value: u16)
 }
 
 #[tactic(auto, unfolding(crate::specs::Parts::placed))]
-pub fn put_u32(out: &mut [u8], at: usize, value: u32)
+pub(crate) fn put_u32(out: &mut [u8], at: usize, value: u32)
     requires { at + 4 ≤ length out.old }
     ensures { out.new ≡ placed out.old (number at 4 value) }
 {
@@ -39,7 +39,7 @@ pub fn put_u32(out: &mut [u8], at: usize, value: u32)
 }
 
 #[tactic(auto, unfolding(crate::specs::Parts::placed))]
-pub fn put_u64(out: &mut [u8], at: usize, value: u64)
+pub(crate) fn put_u64(out: &mut [u8], at: usize, value: u64)
     requires { at + 8 ≤ length out.old }
     ensures { out.new ≡ placed out.old (number at 8 value) }
 {
@@ -47,7 +47,7 @@ pub fn put_u64(out: &mut [u8], at: usize, value: u64)
 }
 
 #[tactic(auto, unfolding(crate::specs::Parts::placed))]
-pub fn put_u128(out: &mut [u8], at: usize, value: u128)
+pub(crate) fn put_u128(out: &mut [u8], at: usize, value: u128)
     requires { at + 16 ≤ length out.old }
     ensures { out.new ≡ placed out.old (number at 16 value) }
 {
@@ -55,7 +55,7 @@ pub fn put_u128(out: &mut [u8], at: usize, value: u128)
 }
 
 #[tactic(auto, unfolding(crate::specs::Parts::placed))]
-pub fn put_u32s<const N: usize>(out: &mut [u8], at: usize, values: &[u32; N])
+pub(crate) fn put_u32s<const N: usize>(out: &mut [u8], at: usize, values: &[u32; N])
     requires { at + 4 * N ≤ length out.old }
     ensures { out.new ≡ placed out.old (numbers at 4 N values.now) }
 {
@@ -63,7 +63,7 @@ pub fn put_u32s<const N: usize>(out: &mut [u8], at: usize, values: &[u32; N])
 }
 
 #[tactic(auto, unfolding(crate::specs::Parts::placed))]
-pub fn put_u16s(out: &mut [u8], at: usize, values: &[u16])
+pub(crate) fn put_u16s(out: &mut [u8], at: usize, values: &[u16])
     requires { at + 2 * length values.now ≤ length out.old }
     ensures { out.new ≡ placed out.old (numbers at 2 (length values.now) values.now) }
 {
@@ -71,7 +71,7 @@ pub fn put_u16s(out: &mut [u8], at: usize, values: &[u16])
 }
 
 #[tactic(auto, unfolding(crate::specs::Parts::number_at))]
-pub fn u8_at(bytes: &[u8], at: usize) -> u8
+pub(crate) fn u8_at(bytes: &[u8], at: usize) -> u8
     requires { at < length bytes.now }
     ensures { result ≡ number_at at 1 bytes.now }
 {
@@ -79,7 +79,7 @@ pub fn u8_at(bytes: &[u8], at: usize) -> u8
 }
 
 #[tactic(auto, unfolding(crate::specs::Parts::number_at))]
-pub fn u16_at(bytes: &[u8], at: usize) -> u16
+pub(crate) fn u16_at(bytes: &[u8], at: usize) -> u16
     requires { at + 2 ≤ length bytes.now }
     ensures { result ≡ number_at at 2 bytes.now }
 {
@@ -87,7 +87,7 @@ pub fn u16_at(bytes: &[u8], at: usize) -> u16
 }
 
 #[tactic(auto, unfolding(crate::specs::Parts::number_at))]
-pub fn u32_at(bytes: &[u8], at: usize) -> u32
+pub(crate) fn u32_at(bytes: &[u8], at: usize) -> u32
     requires { at + 4 ≤ length bytes.now }
     ensures { result ≡ number_at at 4 bytes.now }
 {
@@ -95,7 +95,7 @@ pub fn u32_at(bytes: &[u8], at: usize) -> u32
 }
 
 #[tactic(auto, unfolding(crate::specs::Parts::number_at))]
-pub fn u64_at(bytes: &[u8], at: usize) -> u64
+pub(crate) fn u64_at(bytes: &[u8], at: usize) -> u64
     requires { at + 8 ≤ length bytes.now }
     ensures { result ≡ number_at at 8 bytes.now }
 {
@@ -103,7 +103,7 @@ pub fn u64_at(bytes: &[u8], at: usize) -> u64
 }
 
 #[tactic(auto, unfolding(crate::specs::Parts::number_at))]
-pub fn u128_at(bytes: &[u8], at: usize) -> u128
+pub(crate) fn u128_at(bytes: &[u8], at: usize) -> u128
     requires { at + 16 ≤ length bytes.now }
     ensures { result ≡ number_at at 16 bytes.now }
 {
@@ -111,11 +111,11 @@ pub fn u128_at(bytes: &[u8], at: usize) -> u128
 }
 
 /// Each of the numbers fits two bytes, as its type says. The call does nothing.
-pub fn each_u16_fits(values: &[u16])
+pub(crate) fn each_u16_fits(values: &[u16])
     ensures { AllByRecursion (λ x. x < 2 ^ 16) values.now }
 {}
 
-pub fn u16s_at<const N: usize>(bytes: &[u8], at: usize) -> [u16; N]
+pub(crate) fn u16s_at<const N: usize>(bytes: &[u8], at: usize) -> [u16; N]
     requires { at + 2 * N ≤ length bytes.now }
     ensures { result ≡ numbers_at at 2 N bytes.now }
 {
@@ -124,7 +124,7 @@ pub fn u16s_at<const N: usize>(bytes: &[u8], at: usize) -> [u16; N]
     values
 }
 
-pub fn u32s_at<const N: usize>(bytes: &[u8], at: usize) -> [u32; N]
+pub(crate) fn u32s_at<const N: usize>(bytes: &[u8], at: usize) -> [u32; N]
     requires { at + 4 * N ≤ length bytes.now }
     ensures { result ≡ numbers_at at 4 N bytes.now }
 {

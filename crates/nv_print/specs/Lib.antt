@@ -1,1 +1,2 @@
+pub mod Management
 pub mod Texts

@@ -9,6 +9,7 @@ use Rattle.nv_layout.specs.declared.id_ns.Lbaf.{Lbaf}
 use Rattle.nv_command.specs.StatusCode.{name_of_status}
 use Rattle.nv_command.specs.declared.reply.Reply.{Reply}
 use Rattle.nv_command.specs.declared.reply.Reply.TheVariants as reply
+use Rattle.nv_print.specs.Management.{text_of_attachment, text_of_create, text_of_delete}
 use Rattle.nv_line.specs.declared.request.Ask.{Ask}
 use Rattle.nv_line.specs.declared.request.Ask.TheVariants as ask
 
@@ -74,16 +75,23 @@ abbrev pub text_of_list : List Reply → List ℕ
 text_of_list [] = []
 text_of_list (reply.List nsids ∷ rest) = text_of_nsids nsids
 text_of_list (reply.Namespace r ∷ rest) = []
+text_of_list (reply.Number n ∷ rest) = []
+text_of_list (reply.Done ∷ rest) = []
 
 abbrev pub text_of_identify : List Reply → List ℕ
 text_of_identify [] = []
-text_of_identify (reply.List nsids ∷ rest) = []
 text_of_identify (reply.Namespace r ∷ rest) = text_of_namespace r
+text_of_identify (reply.List nsids ∷ rest) = []
+text_of_identify (reply.Number n ∷ rest) = []
+text_of_identify (reply.Done ∷ rest) = []
 
 -- what is printed of the replies to an ask
 abbrev pub text_of : Ask → List Reply → List ℕ
 text_of (ask.ListNs first all) replies = text_of_list replies
 text_of (ask.IdNs nsid force) replies = text_of_identify replies
+text_of (ask.Create nsze ncap flbas dps nmic) replies = text_of_create replies
+text_of (ask.Attachment nsid detach controllers) replies = text_of_attachment nsid detach
+text_of (ask.Delete nsid) replies = text_of_delete nsid
 
 -- ---- messages
 

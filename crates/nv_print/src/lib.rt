@@ -3,6 +3,7 @@
 //! Sections are named as in the NVM Express Base Specification, revision 1.4.
 #![tactic(auto)]
 
+mod management;
 mod texts;
 
 pub use texts::{fault_message, refusal_message, text_of};

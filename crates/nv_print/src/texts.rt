@@ -4,6 +4,7 @@ ghost use Rattle.std.specs.Prelude.{◌≡◌, IfOk, string_bytes};
 ghost use Rattle.nv_line.specs.LineFault.{fault_text};
 ghost use Rattle.nv_print.specs.Texts.{message_of, namespace_fields, refusal_text, text_of, text_of_identify, text_of_list, text_of_namespace, text_of_nsids};
 
+use crate::management::{attachment_text, create_text, delete_text};
 use nv_command::{Reply, StatusCode};
 use nv_layout::{IdNs, Lbaf, NsList, Status};
 use nv_line::{Ask, LineFault};
@@ -171,7 +172,7 @@ fn text_of_list(alloc: Global, replies: &[Reply]) -> Result<String, AllocError>
 {
     match replies.first() {
         Some(Reply::List(list)) => list_text(alloc, list),
-        Some(Reply::Namespace(_)) | None => Ok(String::new(alloc)),
+        Some(Reply::Namespace(_) | Reply::Number(_) | Reply::Done) | None => Ok(String::new(alloc)),
     }
 }
 
@@ -181,17 +182,20 @@ fn text_of_identify(alloc: Global, replies: &[Reply]) -> Result<String, AllocErr
 {
     match replies.first() {
         Some(Reply::Namespace(namespace)) => namespace_text(alloc, namespace),
-        Some(Reply::List(_)) | None => Ok(String::new(alloc)),
+        Some(Reply::List(_) | Reply::Number(_) | Reply::Done) | None => Ok(String::new(alloc)),
     }
 }
 
 /// The text of the replies to the commands of a request.
-pub fn text_of(alloc: Global, ask: Ask, replies: &[Reply]) -> Result<String, AllocError>
-    ensures { IfOk result (λ text. string_bytes text ≡ text_of ask replies.now) }
+pub fn text_of(alloc: Global, ask: &Ask, replies: &[Reply]) -> Result<String, AllocError>
+    ensures { IfOk result (λ text. string_bytes text ≡ text_of ask.now replies.now) }
 {
     match ask {
         Ask::ListNs { first: _, all: _ } => text_of_list(alloc, replies),
         Ask::IdNs { nsid: _, force: _ } => text_of_identify(alloc, replies),
+        Ask::Create { .. } => create_text(alloc, replies),
+        Ask::Attachment { nsid, detach, .. } => attachment_text(alloc, *nsid, *detach),
+        Ask::Delete { nsid } => delete_text(alloc, *nsid),
     }
 }
 

@@ -3,7 +3,7 @@ use Rattle.std.specs.Prelude.{ℕ, ◌-◌, Bool, List, [], ◌∷◌, Option, S
 use Rattle.nv_layout.specs.declared.status.Status.{Status}
 use Rattle.nv_subsystem.specs.State.{State}
 use Rattle.nv_command.specs.declared.command.Command.{Command}
-use Rattle.nv_command.specs.declared.command.Command.TheVariants.{IdentifyNamespace, AllocatedNamespace, ActiveList, AllocatedList}
+use Rattle.nv_command.specs.declared.command.Command.TheVariants.{IdentifyNamespace, AllocatedNamespace, ActiveList, AllocatedList, Create, Delete, Attachment}
 use Rattle.nv_command.specs.declared.reply.Reply.{Reply}
 use Rattle.nv_script.specs.Exchange.{exchange_of}
 use Rattle.nv_script.specs.declared.order.Order.{Order}
@@ -24,6 +24,12 @@ commands_at s controller (ask.ListNs first all) =
     record { controller = controller; command = list_command all (first - 1) } ∷ []
 commands_at s controller (ask.IdNs nsid force) =
     record { controller = controller; command = namespace_command force nsid } ∷ []
+commands_at s controller (ask.Create nsze ncap flbas dps nmic) =
+    record { controller = controller; command = Create nsze ncap flbas dps nmic } ∷ []
+commands_at s controller (ask.Attachment nsid detach controllers) =
+    record { controller = controller; command = Attachment nsid detach controllers } ∷ []
+commands_at s controller (ask.Delete nsid) =
+    record { controller = controller; command = Delete nsid } ∷ []
 
 -- the commands that a request stands for
 abbrev pub commands_of : State → Request → List Order

@@ -42,17 +42,39 @@ fn namespace_command(force: bool, nsid: u32) -> Command
 
 /// The commands of a request, in order. They are known from the request alone, before the first
 /// reply.
-pub(crate) fn commands_of(alloc: Global, request: Request) -> Result<Vec<Order>, AllocError>
-    ensures orders { IfOk result (λ orders. (s : State) → orders.items ≡ commands_of s request) }
+pub(crate) fn commands_of(alloc: Global, request: &Request) -> Result<Vec<Order>, AllocError>
+    ensures orders { IfOk result (λ orders. (s : State) → orders.items ≡ commands_of s request.now) }
     ensures fits { IfOk result (λ orders. All (λ o. CommandFits o.command) orders.items) }
 {
-    let Request { controller, ask } = request;
-    let command = match ask {
-        Ask::ListNs { first, all } => list_command(all, first.saturating_sub(1)),
-        Ask::IdNs { nsid, force } => namespace_command(force, nsid),
+    let command = match &request.ask {
+        Ask::ListNs { first, all } => list_command(*all, first.saturating_sub(1)),
+        Ask::IdNs { nsid, force } => namespace_command(*force, *nsid),
+        Ask::Create {
+            nsze,
+            ncap,
+            flbas,
+            dps,
+            nmic,
+        } => Command::Create {
+            nsze: *nsze,
+            ncap: *ncap,
+            flbas: *flbas,
+            dps: *dps,
+            nmic: *nmic,
+        },
+        Ask::Attachment {
+            nsid,
+            detach,
+            controllers,
+        } => Command::Attachment {
+            nsid: *nsid,
+            detach: *detach,
+            list: controllers.clone(),
+        },
+        Ask::Delete { nsid } => Command::Delete { nsid: *nsid },
     };
     let order = Order {
-        controller,
+        controller: request.controller,
         command,
     };
     Ok(Vec::from_array(alloc, [order])?)

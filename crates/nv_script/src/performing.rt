@@ -60,11 +60,11 @@ pub(crate) fn perform<B: Bus>(
         (B.meaning bus.new).state (serials_of driver.new) }
     ensures linked { IsLinked (B.meaning bus.new) driver.new }
 {
-    let orders = commands_of(alloc, request)?;
+    let orders = commands_of(alloc, &request)?;
     let mut replies = Vec::new(alloc);
     for order in &orders {
         let reply = driver.admin(bus, order.controller, &order.command)?;
         replies.push(reply)?;
     }
-    Ok(text_of(alloc, request.ask, &replies)?)
+    Ok(text_of(alloc, &request.ask, &replies)?)
 }
