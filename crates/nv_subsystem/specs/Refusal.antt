@@ -4,7 +4,8 @@ use Rattle.nv_command.specs.declared.command.Command.{Command}
 use Rattle.nv_command.specs.declared.command.Command.TheVariants.{IdentifyNamespace, AllocatedNamespace, ActiveList, AllocatedList}
 use Rattle.nv_command.specs.declared.refusal.Refusal.{Refusal}
 use Rattle.nv_subsystem.specs.Identify.{active_rows, allocated_rows, list_rows}
-use Rattle.nv_subsystem.specs.Row.{Row, first_refusal}
+use Rattle.nv_subsystem.specs.Row.{first_refusal}
+use Rattle.nv_subsystem.specs.declared.row.Row.{Row}
 use Rattle.nv_subsystem.specs.State.{State}
 
 -- the rows of a command of controller c

@@ -11,7 +11,8 @@ use Rattle.nv_subsystem.specs.declared.controller.TheConstants.{GREATEST_COUNT}
 use Rattle.nv_subsystem.specs.Step.{next_count, refused, step, step_by, with_command, with_controller, with_refusal}
 use Rattle.nv_subsystem.specs.Effect.{effect_of}
 use Rattle.nv_subsystem.specs.Refusal.{refusal_of, rows_of}
-use Rattle.nv_subsystem.specs.Row.{Row, first_refusal}
+use Rattle.nv_subsystem.specs.Row.{first_refusal}
+use Rattle.nv_subsystem.specs.declared.row.Row.{Row}
 use Rattle.nv_command.specs.Command.{namespace_of}
 use Rattle.nv_command.specs.Refusal.{IsRefusal}
 use Rattle.nv_command.specs.RefusalLaws.{is_refusal-refusal_by}

@@ -6,6 +6,7 @@ mod error_log;
 mod from_file;
 mod identify;
 mod listing;
+mod management;
 mod origin;
 mod row;
 mod subsystem;
