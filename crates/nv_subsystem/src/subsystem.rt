@@ -17,7 +17,7 @@ ghost use Rattle.nv_subsystem.specs.WellFormed.{IsWellFormed};
 ghost use Rattle.nv_command.specs.Refusal.{IsRefusal};
 
 use crate::controller::Controller;
-use crate::from_file::{controllers, slots};
+use crate::from_file::{controllers, slots, unallocated};
 use crate::identify::check_list;
 use crate::origin::Origin;
 use nv_bits::Slots;
@@ -31,6 +31,8 @@ use std::marker::Model;
 #[derive(Drop)]
 pub struct Subsystem {
     pub(crate) tnvmcap: u64,
+    /// The bytes of capacity that no namespace has.
+    pub(crate) unallocated: u64,
     pub(crate) mc: u8,
     pub(crate) subnqn: String,
     pub(crate) formats: Vec<Format>,
@@ -40,7 +42,7 @@ pub struct Subsystem {
 }
 
 impl Model for Subsystem {
-    ghost use Rattle.std.specs.Prelude.{map, string_bytes};
+    ghost use Rattle.std.specs.Prelude.{◌≡◌, ◌+◌, map, string_bytes};
     ghost use Rattle.nv_subsystem.specs.State.{State};
     ghost use Rattle.nv_subsystem.specs.StateCode.{state_code};
 
@@ -48,6 +50,7 @@ impl Model for Subsystem {
 
     ghost coded = { state_code };
 
+    ghost use Rattle.nv_subsystem.specs.Capacity.{used};
     ghost use Rattle.nv_subsystem.specs.ControllerView.{controller_view};
     ghost use Rattle.nv_subsystem.specs.Sound.{IsSound};
 
@@ -61,7 +64,9 @@ impl Model for Subsystem {
       namespaces = s.slots.values;
     } };
 
-    ghost invariant = { λ s. IsSound s.slots s.formats.items s.controllers.items };
+    ghost invariant = { λ s.
+        IsSound s.slots s.formats.items s.controllers.items
+        × (s.unallocated + used s.slots.values ≡ s.tnvmcap) };
 }
 
 impl Subsystem {
@@ -71,10 +76,12 @@ impl Subsystem {
         ensures state { IfOk result (λ s. s ≡ state_of (file_view file)) }
         ensures memory { IfErr result (λ e. e ≡ SubsystemError.Memory) }
     {
+        let unallocated = unallocated(file.tnvmcap, &file.namespaces);
         let slots = slots(alloc, file.nn, &file.namespaces)?;
         let controllers = controllers(alloc, file.nn, file.controllers, &file.namespaces)?;
         Ok(Subsystem {
             tnvmcap: file.tnvmcap,
+            unallocated,
             mc: file.mc,
             subnqn: file.subnqn,
             formats: file.formats,
