@@ -1,5 +1,6 @@
 -- Slots and the running total, when a namespace comes or goes.
-use Rattle.std.proofs.Common.{◌≡◌, ◌∙◌, ℕ, ◌+◌, ◌-◌, ◌==◌, ◌<◌, ◌≤◌, Bool, true, false, cond, List, Option, Some, None, is_some, refl, sym, ap, arith}
+use Rattle.std.proofs.Common.{◌≡◌, ◌∙◌, ℕ, ◌+◌, ◌-◌, ◌==◌, ◌<◌, ◌≤◌, Bool, true, false, cond, List, length, Option, Some, None, is_some, refl, sym, ap, arith}
+use Rattle.std.specs.Prelude.{All}
 use Rattle.std.specs.FinMap as map_of
 use Rattle.std.specs.FinMap.{get-empty}
 use Rattle.std.specs.Ordering.{nat_cmp}
@@ -9,7 +10,7 @@ use Rattle.nv_file.specs.declared.format.Format.{Format}
 use Rattle.nv_file.specs.declared.namespace.Namespace.{Namespace}
 use Rattle.nv_subsystem.specs.Capacity.{used}
 use Rattle.nv_subsystem.specs.ManagementLaws.{left}
-use Rattle.nv_subsystem.specs.Sound.{IsSound}
+use Rattle.nv_subsystem.specs.Sound.{IsSized, IsSound}
 use Rattle.nv_subsystem.specs.UsedLaws.{used-empty, used-insert, used-remove}
 use Rattle.nv_subsystem.specs.declared.controller.Controller.{Controller}
 
@@ -71,4 +72,20 @@ sound-clear m fs cs unallocated tnvmcap is = (
     in_formats = λ q y e. let both : None ≡ Some y = sym (get-empty nat_cmp q) ∙ e in absurd (cc both);
   },
   omega (arith, used-empty),
+)
+
+-- controllers that keep their sizes
+pub sound-controllers : (m : RangeMap Namespace) (fs : List Format) (old new : List Controller) (unallocated tnvmcap : ℕ) → AddsUp m fs old unallocated tnvmcap
+    → length new ≡ length old → All (IsSized m.count) new → AddsUp m fs new unallocated tnvmcap
+sound-controllers m fs old new unallocated tnvmcap is len sized = (
+  record {
+    first = is.0.first;
+    count = is.0.count;
+    formats = is.0.formats;
+    block_sizes = is.0.block_sizes;
+    in_formats = is.0.in_formats;
+    few = omega (arith, is.0.few);
+    controllers = sized;
+  },
+  is.1,
 )

@@ -11,7 +11,7 @@ use Rattle.nv_file.specs.declared.namespace.Namespace.{Namespace}
 use Rattle.nv_command.specs.Refusal.{IsRefusal}
 use Rattle.nv_command.specs.RefusalLaws.{is_refusal-refusal_by}
 use Rattle.nv_command.specs.declared.status_code.StatusCode.TheVariants.{ControllerListInvalid, InvalidFieldInCommand, InvalidNamespaceOrFormat, NamespaceAlreadyAttached, NamespaceIsPrivate, NamespaceNotAttached}
-use Rattle.nv_subsystem.specs.Attachment.{attach_rows, attached, detach_rows, detached, has_attached, is_listed, is_private, would_have}
+use Rattle.nv_subsystem.specs.Attachment.{attach_rows, attached, attachment_rows, detach_rows, detached, has_attached, is_listed, is_private, with_attachments, would_have}
 use Rattle.nv_subsystem.specs.Management.{with_attached, with_nsids}
 use Rattle.nv_subsystem.specs.ManagementLaws.{attached_keep, left, none_holds}
 use Rattle.nv_subsystem.specs.MappedLaws.{count_by-map, count_by-map_le}
@@ -20,10 +20,10 @@ use Rattle.nv_subsystem.specs.Row.{first_refusal}
 use Rattle.nv_subsystem.specs.State.{Controller, Nsids, State}
 use Rattle.nv_subsystem.specs.WellFormed.{IsController, IsWellFormed}
 
-pub attach_rows_fit : (s : State) (n : ℕ) (ids : List ℕ) → AllByRecursion (λ row. IsRefusal row.refusal) (attach_rows s n ids)
+attach_rows_fit : (s : State) (n : ℕ) (ids : List ℕ) → AllByRecursion (λ row. IsRefusal row.refusal) (attach_rows s n ids)
 attach_rows_fit s n ids = (is_refusal-refusal_by InvalidNamespaceOrFormat, (is_refusal-refusal_by InvalidFieldInCommand, (is_refusal-refusal_by ControllerListInvalid, (is_refusal-refusal_by NamespaceAlreadyAttached, (is_refusal-refusal_by NamespaceIsPrivate, tt)))))
 
-pub detach_rows_fit : (s : State) (n : ℕ) (ids : List ℕ) → AllByRecursion (λ row. IsRefusal row.refusal) (detach_rows s n ids)
+detach_rows_fit : (s : State) (n : ℕ) (ids : List ℕ) → AllByRecursion (λ row. IsRefusal row.refusal) (detach_rows s n ids)
 detach_rows_fit s n ids = (is_refusal-refusal_by InvalidNamespaceOrFormat, (is_refusal-refusal_by InvalidFieldInCommand, (is_refusal-refusal_by ControllerListInvalid, (is_refusal-refusal_by NamespaceNotAttached, tt))))
 
 abbrev pub more : ℕ → List ℕ → Controller → Nsids
@@ -56,7 +56,7 @@ or_comm true false = refl
 or_comm false true = refl
 or_comm false false = refl
 
-pub attach_keeps : (s : State) (n : ℕ) (ids : List ℕ) → IsWellFormed s → first_refusal (attach_rows s n ids) ≡ None → IsWellFormed (attached s n ids)
+attach_keeps : (s : State) (n : ℕ) (ids : List ℕ) → IsWellFormed s → first_refusal (attach_rows s n ids) ≡ None → IsWellFormed (attached s n ids)
 attach_keeps s n ids w accepted = attached_keep s (more n ids) s.namespaces w (record {
   allocated = λ x is q t. at_nsid x is q (q == n) refl (sym (has_more n ids x q) ∙ t);
   namespaces = λ q x e. let old = w.namespaces q x e in record { nsid = old.nsid; format = old.format; private = λ p. private q x e p (q == n) refl };
@@ -105,7 +105,7 @@ kept n ids x q = at_test (is_listed ids x)
     at_test true t = (left x.attached n q t).1
     at_test false t = t
 
-pub detach_keeps : (s : State) (n : ℕ) (ids : List ℕ) → IsWellFormed s → IsWellFormed (detached s n ids)
+detach_keeps : (s : State) (n : ℕ) (ids : List ℕ) → IsWellFormed s → IsWellFormed (detached s n ids)
 detach_keeps s n ids w = attached_keep s (fewer n ids) s.namespaces w (record {
   allocated = λ x is q t. is.attached q (kept n ids x q t);
   namespaces = λ q x e.
@@ -118,5 +118,16 @@ detach_keeps s n ids w = attached_keep s (fewer n ids) s.namespaces w (record {
   capacities = w.capacities;
 })
 
-pub with_attached_controllers : (s : State) (nsids : Controller → Nsids) → length (with_attached s nsids).controllers ≡ length s.controllers
-with_attached_controllers s nsids = length-map s.controllers (with_nsids nsids)
+-- ---- both
+
+pub attachment_rows_fit : (s : State) (n : ℕ) (detach : Bool) (ids : List ℕ) → AllByRecursion (λ row. IsRefusal row.refusal) (attachment_rows s n detach ids)
+attachment_rows_fit s n true ids = detach_rows_fit s n ids
+attachment_rows_fit s n false ids = attach_rows_fit s n ids
+
+pub attachment_keeps : (s : State) (n : ℕ) (detach : Bool) (ids : List ℕ) → IsWellFormed s → first_refusal (attachment_rows s n detach ids) ≡ None → IsWellFormed (with_attachments s n detach ids)
+attachment_keeps s n true ids w accepted = detach_keeps s n ids w
+attachment_keeps s n false ids w accepted = attach_keeps s n ids w accepted
+
+pub attachment_controllers : (s : State) (n : ℕ) (detach : Bool) (ids : List ℕ) → length (with_attachments s n detach ids).controllers ≡ length s.controllers
+attachment_controllers s n true ids = length-map s.controllers (with_nsids (fewer n ids))
+attachment_controllers s n false ids = length-map s.controllers (with_nsids (more n ids))

@@ -18,6 +18,15 @@ use Rattle.nv_subsystem.specs.declared.row.Row.{Row}
 
 -- ---- create
 
+abbrev pub wanted : ℕ → ℕ → ℕ → ℕ → ℕ → NewNamespace
+wanted nsze ncap flbas dps nmic = record {
+  nsze = nsze;
+  ncap = ncap;
+  flbas = flbas;
+  dps = dps;
+  nmic = nmic;
+}
+
 -- the format that FLBAS 3:0 names
 abbrev pub format_in : State → ℕ → Option Format
 format_in s flbas = slice_get s.formats (bit_and flbas 0xf)

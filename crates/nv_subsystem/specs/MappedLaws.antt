@@ -1,6 +1,7 @@
 -- Lists that are mapped, and counts of what passes a test.
-use Rattle.std.proofs.Common.{◌≡◌, ℕ, zero, suc, ◌≤◌, Bool, true, false, cond, List, [], ◌∷◌, map, length, get_or, refl, sym, ap, subst, arith}
+use Rattle.std.proofs.Common.{◌≡◌, ℕ, zero, suc, ◌≤◌, Bool, true, false, cond, List, [], ◌∷◌, map, length, get_or, refl, sym, ap, subst, arith, ◌<◌, ◌||◌, ◌++◌, take, drop, set}
 use Rattle.std.specs.Prelude.{All, AllPairs, count_by}
+use Rattle.std.specs.List.{list_any}
 use Rattle.std.proofs.lemmas.List.{length-map, get_or-map}
 use Rattle.std.proofs.lemmas.List.Sums.{sum_by-cons}
 
@@ -39,3 +40,15 @@ pub count_by-map_le : {X Y : Type 0} (p : Y → Bool) (f : X → Y) (q : X → B
 count_by-map_le p f q fewer [] = omega arith
 count_by-map_le p f q fewer (x ∷ xs) =
     omega (arith, no_more (p (f x)) (q x) (fewer x), count_by-map_le p f q fewer xs, sum_by-cons (λ y. cond (p y) 1 0) (f x) (map f xs), sum_by-cons (λ x. cond (q x) 1 0) x xs)
+
+-- a test of a mapped list
+pub list_any-map : {X Y : Type 0} (p : Y → Bool) (f : X → Y) (xs : List X) → list_any p (map f xs) ≡ list_any (λ x. p (f x)) xs
+list_any-map p f [] = refl
+list_any-map p f (x ∷ xs) = ap (λ b. p (f x) || b) (list_any-map p f xs)
+
+-- a list that is written over, element by element, with what f makes of each
+pub next_mapped : {X Y : Type 0} (view : X → Y) (f : Y → Y) (xs : List X) (i : ℕ) (y d : X) → i < length xs → view y ≡ f (view (get_or xs i d))
+    → take (suc i) (map view (set xs i y)) ++ map f (drop (suc i) (map view (set xs i y))) ≡ take i (map view xs) ++ map f (drop i (map view xs))
+next_mapped view f [] i y d h e = absurd (omega arith)
+next_mapped view f (x ∷ xs) zero y d h e = ap (λ v. v ∷ map f (map view xs)) e
+next_mapped view f (x ∷ xs) (suc i) y d h e = ap (λ t. view x ∷ t) (next_mapped view f xs i y d (omega arith) e)

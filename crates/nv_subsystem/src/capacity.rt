@@ -9,6 +9,13 @@ use crate::subsystem::Subsystem;
 use nv_file::Namespace;
 
 impl Subsystem {
+    /// The bytes of capacity that no namespace has.
+    pub(crate) fn unallocated(&self) -> u64
+        ensures { result ≡ unallocated self.now }
+    {
+        self.unallocated
+    }
+
     /// Gives a free NSID a namespace, for whose capacity there is room.
     pub(crate) fn insert_namespace(&mut self, nsid: u32, namespace: Namespace)
         requires nsid { (1 ≤ nsid) × (nsid ≤ self.old.nn) }

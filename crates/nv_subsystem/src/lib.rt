@@ -1,6 +1,7 @@
 //! An NVM subsystem: its file, its namespaces, and what each command does to it.
 #![tactic(auto)]
 
+mod attachment;
 mod capacity;
 mod controller;
 mod error_log;

@@ -1,6 +1,6 @@
 //! A subsystem, and what its commands do.
 
-ghost use Rattle.std.specs.Prelude.{◌≡◌, ◌<◌, ◌^◌, ℕ, length, option_map, IfOk, IfErr};
+ghost use Rattle.std.specs.Prelude.{◌≡◌, ◌<◌, ◌^◌, ℕ, length, option_map, None, IfOk, IfErr};
 ghost use Rattle.nv_subsystem.specs.Entry.{counts_of, log_entry_of, without_phase};
 ghost use Rattle.nv_file.specs.Fault.{IsUnlessMemory};
 ghost use Rattle.nv_file.specs.FileValue.{file_view};
@@ -9,7 +9,7 @@ ghost use Rattle.nv_file.specs.IsFile.{IsFile};
 ghost use Rattle.nv_subsystem.specs.Effect.{effect_of};
 ghost use Rattle.nv_subsystem.specs.Fits.{RepliesFit};
 ghost use Rattle.nv_subsystem.specs.Nsid.{is_valid};
-ghost use Rattle.nv_subsystem.specs.Refusal.{rows_of};
+ghost use Rattle.nv_subsystem.specs.Refusal.{refusal_of, rows_of};
 ghost use Rattle.nv_subsystem.specs.Reply.{reply_of};
 ghost use Rattle.nv_subsystem.specs.Row.{Checks};
 ghost use Rattle.nv_subsystem.specs.Step.{answer_to, refused, step, with_command};
@@ -19,6 +19,7 @@ ghost use Rattle.nv_command.specs.Refusal.{IsRefusal};
 use crate::controller::Controller;
 use crate::from_file::{controllers, slots, unallocated};
 use crate::identify::check_list;
+use crate::management::NewNamespace;
 use crate::origin::Origin;
 use nv_bits::Slots;
 use nv_command::{Command, Refusal, Reply};
@@ -144,6 +145,17 @@ impl Subsystem {
             Command::AllocatedNamespace { nsid } => self.check_allocated(*nsid),
             Command::ActiveList { after } => check_list(*after),
             Command::AllocatedList { after } => check_list(*after),
+            Command::Create {
+                nsze,
+                ncap,
+                flbas,
+                dps,
+                nmic,
+            } => self.check_create(&NewNamespace::new(*nsze, *ncap, *flbas, *dps, *nmic)),
+            Command::Delete { nsid } => self.check_delete(*nsid),
+            Command::Attachment { nsid, detach, list } => {
+                self.check_attachment(*nsid, *detach, list.as_slice())
+            }
         }
     }
 
@@ -157,11 +169,15 @@ impl Subsystem {
             Command::AllocatedNamespace { nsid } => self.allocated_reply(*nsid),
             Command::ActiveList { after } => self.active_list_reply(ctrl, *after),
             Command::AllocatedList { after } => self.allocated_list_reply(*after),
+            Command::Create { .. } => Reply::Number(self.created_nsid()),
+            Command::Delete { nsid: _ } => Reply::Done,
+            Command::Attachment { .. } => Reply::Done,
         }
     }
 
     /// What a command that isn't refused changes.
     fn apply(&mut self, ctrl: u16, command: &Command)
+        requires { refusal_of self.old ctrl command.now ≡ None }
         ensures { self.new ≡ effect_of self.old ctrl command.now }
     {
         match command {
@@ -169,6 +185,17 @@ impl Subsystem {
             Command::AllocatedNamespace { nsid: _ } => {}
             Command::ActiveList { after: _ } => {}
             Command::AllocatedList { after: _ } => {}
+            Command::Create {
+                nsze,
+                ncap,
+                flbas,
+                dps,
+                nmic,
+            } => self.create(&NewNamespace::new(*nsze, *ncap, *flbas, *dps, *nmic)),
+            Command::Delete { nsid } => self.delete(*nsid),
+            Command::Attachment { nsid, detach, list } => {
+                self.change_attachment(*nsid, *detach, list.as_slice());
+            }
         }
     }
 
