@@ -18,6 +18,8 @@ mod largest;
 #[cfg(test)]
 mod lines;
 #[cfg(test)]
+mod lines_of_management;
+#[cfg(test)]
 mod over_streams;
 #[cfg(test)]
 mod scripts;
