@@ -20,6 +20,8 @@ mod largest;
 #[cfg(test)]
 mod lines;
 #[cfg(test)]
+mod lines_of_management;
+#[cfg(test)]
 mod management;
 #[cfg(test)]
 mod over_streams;

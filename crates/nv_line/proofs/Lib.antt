@@ -3,3 +3,4 @@ pub mod DigitLemmas
 pub mod FaultOrder
 pub mod Pieces
 pub mod Strip
+pub mod ListReading

@@ -10,7 +10,7 @@ use Rattle.nv_line.specs.Verb.{options_of, word_of}
 use Rattle.nv_line.specs.declared.fault.LineFault.{LineFault}
 use Rattle.nv_line.specs.declared.fault.LineFault.TheVariants.{Usage}
 use Rattle.nv_line.specs.declared.option.CommandOption.{CommandOption}
-use Rattle.nv_line.specs.declared.option.CommandOption.TheVariants.{Flag, Number}
+use Rattle.nv_line.specs.declared.option.CommandOption.TheVariants.{Flag, Number, List as ListOf}
 use Rattle.nv_line.specs.declared.option.OptionName.{OptionName}
 use Rattle.nv_line.specs.declared.verb.Verb.{Verb}
 
@@ -27,6 +27,7 @@ rule_for name letter action required = record (new_rule (name_of name)) {
 abbrev pub option_rule : CommandOption → Rule
 option_rule (Flag o) = rule_for o.name o.letter SetTrue false
 option_rule (Number o) = rule_for o.name o.letter Set (is_required o)
+option_rule (ListOf o) = rule_for o.name o.letter Set true
 
 abbrev pub device_rule : Rule
 device_rule = record (new_rule (codes "device")) { required = true }

@@ -1,5 +1,6 @@
 pub mod Word
 pub mod Number
+pub mod ControllerList
 pub mod Device
 pub mod OptionName
 pub mod LineFault
@@ -8,5 +9,6 @@ pub mod Verb
 pub mod ClapRule
 pub mod OptionValue
 pub mod Identify
+pub mod Management
 pub mod Request
 pub mod Line

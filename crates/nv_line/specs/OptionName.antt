@@ -2,9 +2,15 @@
 use Rattle.std.specs.Prelude.{codes}
 use Rattle.clap.specs.Words.{Text}
 use Rattle.nv_line.specs.declared.option.OptionName.{OptionName}
-use Rattle.nv_line.specs.declared.option.OptionName.TheVariants.{NamespaceId, All, Force}
+use Rattle.nv_line.specs.declared.option.OptionName.TheVariants.{NamespaceId, All, Force, Nsze, Ncap, Flbas, Dps, Nmic, Controllers}
 
 abbrev pub name_of : OptionName → Text
 name_of NamespaceId = codes "namespace-id"
 name_of All = codes "all"
 name_of Force = codes "force"
+name_of Nsze = codes "nsze"
+name_of Ncap = codes "ncap"
+name_of Flbas = codes "flbas"
+name_of Dps = codes "dps"
+name_of Nmic = codes "nmic"
+name_of Controllers = codes "controllers"

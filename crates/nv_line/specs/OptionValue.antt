@@ -1,8 +1,9 @@
 -- What a command line gives its options.
-use Rattle.std.specs.Prelude.{ℕ, Bool, false, List, Result, codes}
+use Rattle.std.specs.Prelude.{ℕ, Bool, false, List, Result, Err, codes}
 use Rattle.std.specs.Option.{ok_or, option_map_or}
 use Rattle.std.specs.Str.{bytes_eq}
 use Rattle.clap.specs.Words.{Row, first_of}
+use Rattle.nv_line.specs.ControllerList.{list_in}
 use Rattle.nv_line.specs.Number.{number_in}
 use Rattle.nv_line.specs.NumberOption.{fallback_of}
 use Rattle.nv_line.specs.OptionName.{name_of}
@@ -10,6 +11,7 @@ use Rattle.nv_line.specs.declared.device.Device.{Device}
 use Rattle.nv_line.specs.declared.fault.LineFault.{LineFault}
 use Rattle.nv_line.specs.declared.fault.LineFault.TheVariants as fault
 use Rattle.nv_line.specs.declared.option.FlagOption.{FlagOption}
+use Rattle.nv_line.specs.declared.option.ListOption.{ListOption}
 use Rattle.nv_line.specs.declared.option.NumberOption.{NumberOption}
 
 -- the number that was written, or what stands in; where nothing does it is a usage fault
@@ -17,6 +19,11 @@ abbrev pub number_option_in : List Row → NumberOption → Device → Result �
 number_option_in rows o device =
     option_map_or (λ t. ok_or (number_in o.least o.most t) (fault.Number o.name))
     (first_of (name_of o.name) rows) (ok_or (fallback_of o device) fault.Usage)
+
+-- the identifiers that were written
+abbrev pub list_option_in : List Row → ListOption → Result (List ℕ) LineFault
+list_option_in rows o =
+    option_map_or (λ t. ok_or (list_in t) (fault.Number o.name)) (first_of (name_of o.name) rows) (Err fault.Usage)
 
 -- whether the flag was written
 abbrev pub flag_in : List Row → FlagOption → Bool

@@ -1,11 +1,12 @@
 -- What the words of a command line ask for.
-use Rattle.std.specs.Prelude.{ℕ, List, [], ◌∷◌, codes, Result, Ok, Err, unwrap_or}
+use Rattle.std.specs.Prelude.{ℕ, List, [], ◌∷◌, codes, true, false, Result, Ok, Err, unwrap_or}
 use Rattle.std.specs.Option.{ok_or}
 use Rattle.clap.specs.Words.{Row, Text, first_of}
 use Rattle.nv_line.specs.ClapRule.{rows_of_words}
 use Rattle.nv_line.specs.Device.{device_of}
 use Rattle.nv_line.specs.Identify.{id_ns_of, list_ns_of}
 use Rattle.nv_line.specs.LineFault.{◌>>=◌}
+use Rattle.nv_line.specs.Management.{attachment_of, create_ns_of, delete_ns_of}
 use Rattle.nv_line.specs.Verb.{verb_of}
 use Rattle.nv_line.specs.declared.device.Device.{Device}
 use Rattle.nv_line.specs.declared.fault.LineFault.{LineFault}
@@ -13,12 +14,16 @@ use Rattle.nv_line.specs.declared.fault.LineFault.TheVariants as fault
 use Rattle.nv_line.specs.declared.request.Ask.{Ask}
 use Rattle.nv_line.specs.declared.request.Request.{Request}
 use Rattle.nv_line.specs.declared.verb.Verb.{Verb}
-use Rattle.nv_line.specs.declared.verb.Verb.TheVariants.{ListNs, IdNs}
+use Rattle.nv_line.specs.declared.verb.Verb.TheVariants.{ListNs, IdNs, CreateNs, AttachNs, DetachNs, DeleteNs}
 
 -- what a command word asks for, in one line each
 abbrev pub ask_of : Verb → List Row → Device → Result Ask LineFault
 ask_of ListNs = list_ns_of
 ask_of IdNs = id_ns_of
+ask_of CreateNs = create_ns_of
+ask_of AttachNs = attachment_of false
+ask_of DetachNs = attachment_of true
+ask_of DeleteNs = delete_ns_of
 
 abbrev pub device_in : ℕ → List Row → Result Device LineFault
 device_in controllers rows =

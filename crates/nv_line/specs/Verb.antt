@@ -3,18 +3,26 @@ use Rattle.std.specs.Prelude.{List, Option, codes, find}
 use Rattle.std.specs.Str.{bytes_eq}
 use Rattle.clap.specs.Words.{Text}
 use Rattle.nv_line.specs.declared.option.CommandOption.{CommandOption}
-use Rattle.nv_line.specs.declared.verb.TheConstants.{VERBS, LIST_NS, ID_NS}
+use Rattle.nv_line.specs.declared.verb.TheConstants.{VERBS, ATTACHMENT, CREATE_NS, DELETE_NS, ID_NS, LIST_NS}
 use Rattle.nv_line.specs.declared.verb.Verb.{Verb}
-use Rattle.nv_line.specs.declared.verb.Verb.TheVariants.{ListNs, IdNs}
+use Rattle.nv_line.specs.declared.verb.Verb.TheVariants.{ListNs, IdNs, CreateNs, AttachNs, DetachNs, DeleteNs}
 
 abbrev pub word_of : Verb → Text
 word_of ListNs = codes "list-ns"
 word_of IdNs = codes "id-ns"
+word_of CreateNs = codes "create-ns"
+word_of AttachNs = codes "attach-ns"
+word_of DetachNs = codes "detach-ns"
+word_of DeleteNs = codes "delete-ns"
 
 -- the options in order: a row of the table
 abbrev pub options_of : Verb → List CommandOption
 options_of ListNs = LIST_NS
 options_of IdNs = ID_NS
+options_of CreateNs = CREATE_NS
+options_of AttachNs = ATTACHMENT
+options_of DetachNs = ATTACHMENT
+options_of DeleteNs = DELETE_NS
 
 abbrev pub verb_of : Text → Option Verb
 verb_of word = find (λ v. bytes_eq word (word_of v)) VERBS

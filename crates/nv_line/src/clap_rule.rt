@@ -31,6 +31,9 @@ fn option_arg<'a>(alloc: Global, option: CommandOption) -> Arg<'a>
 {
     match option {
         CommandOption::Flag(flag) => named_arg(alloc, flag.name, flag.letter, ArgAction::SetTrue),
+        CommandOption::List(list) => {
+            named_arg(alloc, list.name, list.letter, ArgAction::Set).required(true)
+        }
         CommandOption::Number(number) => {
             named_arg(alloc, number.name, number.letter, ArgAction::Set).required(
                 number.is_required(),

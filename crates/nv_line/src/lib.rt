@@ -8,10 +8,12 @@
 #![tactic(auto)]
 
 mod clap_rule;
+mod controller_list;
 mod device;
 mod fault;
 mod identify;
 mod line;
+mod management;
 mod number;
 mod option;
 mod option_value;

@@ -13,7 +13,7 @@ use std::alloc::Global;
 pub const LINE_LIMIT: usize = 4095;
 
 /// What a line says: nothing, or a request.
-#[derive(Clone, Copy, Debug, PartialEq, Eq)]
+#[derive(Debug, Drop, PartialEq, Eq)]
 pub enum Line {
     /// It is blank, or a comment.
     Skipped,

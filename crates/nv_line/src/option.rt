@@ -13,6 +13,12 @@ pub enum OptionName {
     NamespaceId,
     All,
     Force,
+    Nsze,
+    Ncap,
+    Flbas,
+    Dps,
+    Nmic,
+    Controllers,
 }
 
 impl OptionName {
@@ -24,6 +30,12 @@ impl OptionName {
             OptionName::NamespaceId => "namespace-id",
             OptionName::All => "all",
             OptionName::Force => "force",
+            OptionName::Nsze => "nsze",
+            OptionName::Ncap => "ncap",
+            OptionName::Flbas => "flbas",
+            OptionName::Dps => "dps",
+            OptionName::Nmic => "nmic",
+            OptionName::Controllers => "controllers",
         }
     }
 }
@@ -80,9 +92,17 @@ impl NumberOption {
     }
 }
 
+/// An option that takes a list of controller identifiers, and has to be written.
+#[derive(Clone, Copy)]
+pub struct ListOption {
+    pub name: OptionName,
+    pub letter: char,
+}
+
 /// An option of a command.
 #[derive(Clone, Copy)]
 pub enum CommandOption {
     Flag(FlagOption),
     Number(NumberOption),
+    List(ListOption),
 }

@@ -3,14 +3,16 @@
 ghost use Rattle.std.specs.Prelude.{◌≡◌, ◌≤◌, IfOk};
 ghost use Rattle.clap.specs.Words.{found_of, rows_of};
 ghost use Rattle.nv_line.specs.NumberOption.{IsSound};
-ghost use Rattle.nv_line.specs.OptionValue.{flag_in, number_option_in};
+ghost use Rattle.nv_line.specs.OptionValue.{flag_in, list_option_in, number_option_in};
 
 use crate::clap_rule::text_of;
+use crate::controller_list::parse_list;
 use crate::device::Device;
 use crate::fault::LineFault;
 use crate::number::parse_number;
-use crate::option::{FlagOption, NumberOption};
+use crate::option::{FlagOption, ListOption, NumberOption};
 use clap::ArgMatches;
+use nv_layout::CtrlList;
 
 /// The number of an option, or what stands in where it isn't written.
 pub(crate) fn read_number(
@@ -27,6 +29,16 @@ pub(crate) fn read_number(
             option.name,
         )),
         None => option.fallback(device).ok_or(LineFault::Usage),
+    }
+}
+
+/// The controller identifiers of an option.
+pub(crate) fn read_list(matches: &ArgMatches<'_>, option: ListOption) -> Result<CtrlList, LineFault>
+    ensures { result ≡ list_option_in (rows_of (found_of matches.now)) option }
+{
+    match text_of(matches, option.name.text()) {
+        Some(text) => parse_list(text).ok_or(LineFault::Number(option.name)),
+        None => Err(LineFault::Usage),
     }
 }
 

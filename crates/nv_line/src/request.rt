@@ -9,22 +9,49 @@ use crate::clap_rule::{clap_matches, text_of};
 use crate::device::{Device, read_device};
 use crate::fault::LineFault;
 use crate::identify::{id_ns, list_ns};
+use crate::management::{attachment, create_ns, delete_ns};
 use crate::verb::Verb;
 use clap::ArgMatches;
+use nv_layout::CtrlList;
 use std::alloc::Global;
 
 /// What a controller is asked.
-#[derive(Clone, Copy, Debug, PartialEq, Eq)]
+#[derive(Debug, Drop, PartialEq, Eq)]
 pub enum Ask {
     /// The NSIDs from `first` on, those attached to the controller or all allocated ones ("Identify
     /// command").
-    ListNs { first: u32, all: bool },
+    ListNs {
+        first: u32,
+        all: bool,
+    },
     /// What a namespace is, also where it is only allocated ("Identify command").
-    IdNs { nsid: u32, force: bool },
+    IdNs {
+        nsid: u32,
+        force: bool,
+    },
+    /// A namespace to create, by the fields of its data ("Namespace Management command").
+    Create {
+        nsze: u64,
+        ncap: u64,
+        flbas: u8,
+        dps: u8,
+        nmic: u8,
+    },
+    /// Controllers to attach a namespace to, or to detach it from, in the order given ("Namespace
+    /// Attachment command").
+    Attachment {
+        nsid: u32,
+        detach: bool,
+        controllers: CtrlList,
+    },
+    /// A namespace to delete ("Namespace Management command").
+    Delete {
+        nsid: u32,
+    },
 }
 
 /// What a line asks for.
-#[derive(Clone, Copy, Debug, PartialEq, Eq)]
+#[derive(Debug, Drop, PartialEq, Eq)]
 pub struct Request {
     /// The place of the controller in the subsystem's file, counted from 0.
     pub controller: u16,
@@ -47,6 +74,10 @@ fn read_ask(matches: &ArgMatches<'_>, verb: Verb, device: Device) -> Result<Ask,
     match verb {
         Verb::ListNs => list_ns(matches, device),
         Verb::IdNs => id_ns(matches, device),
+        Verb::CreateNs => create_ns(matches, device),
+        Verb::AttachNs => attachment(matches, device, false),
+        Verb::DetachNs => attachment(matches, device, true),
+        Verb::DeleteNs => delete_ns(matches, device),
     }
 }
 

@@ -4,7 +4,7 @@ ghost use Rattle.std.specs.Prelude.{◌≡◌};
 ghost use Rattle.nv_line.specs.Verb.{options_of, verb_of, word_of};
 
 use crate::device::NSID_LIMIT;
-use crate::option::{CommandOption, FlagOption, NumberOption, OptionName};
+use crate::option::{CommandOption, FlagOption, ListOption, NumberOption, OptionName};
 
 /// An NSID, by default that of the path; one is needed.
 pub const NSID: NumberOption = NumberOption {
@@ -38,17 +38,88 @@ pub const FORCE: FlagOption = FlagOption {
     letter: 'f',
 };
 
-static VERBS: [Verb; 2] = [Verb::ListNs, Verb::IdNs];
+/// The size of a namespace, in logical blocks.
+pub const NSZE: NumberOption = NumberOption {
+    name: OptionName::Nsze,
+    letter: 's',
+    least: 0,
+    most: u64::MAX,
+    takes_path: false,
+    default: Some(0),
+};
+
+/// The capacity of a namespace, in logical blocks.
+pub const NCAP: NumberOption = NumberOption {
+    name: OptionName::Ncap,
+    letter: 'c',
+    ..NSZE
+};
+
+/// The formatted LBA size of a namespace.
+pub const FLBAS: NumberOption = NumberOption {
+    name: OptionName::Flbas,
+    letter: 'f',
+    most: 0xff,
+    ..NSZE
+};
+
+/// The end-to-end data protection of a namespace.
+pub const DPS: NumberOption = NumberOption {
+    name: OptionName::Dps,
+    letter: 'd',
+    ..FLBAS
+};
+
+/// The multi-path and sharing of a namespace.
+pub const NMIC: NumberOption = NumberOption {
+    name: OptionName::Nmic,
+    letter: 'm',
+    ..FLBAS
+};
+
+/// The controllers to attach a namespace to, or to detach it from.
+pub const CONTROLLERS: ListOption = ListOption {
+    name: OptionName::Controllers,
+    letter: 'c',
+};
+
+static VERBS: [Verb; 6] = [
+    Verb::ListNs,
+    Verb::IdNs,
+    Verb::CreateNs,
+    Verb::AttachNs,
+    Verb::DetachNs,
+    Verb::DeleteNs,
+];
 
 static LIST_NS: [CommandOption; 2] = [CommandOption::Number(FIRST_NSID), CommandOption::Flag(ALL)];
 
 static ID_NS: [CommandOption; 2] = [CommandOption::Number(NSID), CommandOption::Flag(FORCE)];
+
+static CREATE_NS: [CommandOption; 5] = [
+    CommandOption::Number(NSZE),
+    CommandOption::Number(NCAP),
+    CommandOption::Number(FLBAS),
+    CommandOption::Number(DPS),
+    CommandOption::Number(NMIC),
+];
+
+static ATTACHMENT: [CommandOption; 2] = [
+    CommandOption::Number(NSID),
+    CommandOption::List(CONTROLLERS),
+];
+
+static DELETE_NS: [CommandOption; 1] = [CommandOption::Number(NSID)];
 
 /// A command word.
 #[derive(Clone, Copy, PartialEq, Eq)]
 pub enum Verb {
     ListNs,
     IdNs,
+    CreateNs,
+    AttachNs,
+    DetachNs,
+    DeleteNs,
 }
 
 impl Verb {
@@ -59,6 +130,10 @@ impl Verb {
         match self {
             Verb::ListNs => "list-ns",
             Verb::IdNs => "id-ns",
+            Verb::CreateNs => "create-ns",
+            Verb::AttachNs => "attach-ns",
+            Verb::DetachNs => "detach-ns",
+            Verb::DeleteNs => "delete-ns",
         }
     }
 
@@ -69,6 +144,9 @@ impl Verb {
         match self {
             Verb::ListNs => LIST_NS.as_slice(),
             Verb::IdNs => ID_NS.as_slice(),
+            Verb::CreateNs => CREATE_NS.as_slice(),
+            Verb::AttachNs | Verb::DetachNs => ATTACHMENT.as_slice(),
+            Verb::DeleteNs => DELETE_NS.as_slice(),
         }
     }
 

@@ -1,0 +1,170 @@
+//! What lines of namespace management ask, and their faults.
+
+use nv_layout::CtrlList;
+use nv_script::{Ask, Line, LineFault, OptionName, Request, read_line};
+use std::alloc::Global;
+use std::process::Abort;
+
+/// Checks what a line says to a subsystem with two controllers: it asks controller 0 something.
+fn check(rt: &impl Abort, alloc: Global, line: &str, ask: Ask) {
+    let want = Line::Request(Request { controller: 0, ask });
+    assert_eq!(rt; read_line(alloc, line.as_bytes(), 2), Ok(want));
+}
+
+/// A list of these identifiers.
+fn list(rt: &impl Abort, identifiers: &[u16]) -> CtrlList {
+    let mut list = CtrlList::new();
+    for identifier in identifiers {
+        assert!(rt; list.len() < 2047);
+        list.push(*identifier);
+    }
+    list
+}
+
+#[test]
+fn reads_namespaces_to_create(rt: HostRuntime) {
+    let none = Ask::Create {
+        nsze: 0,
+        ncap: 0,
+        flbas: 0,
+        dps: 0,
+        nmic: 0,
+    };
+    check(&rt, rt.alloc(), "create-ns /dev/nvme0", none);
+    let most = Ask::Create {
+        nsze: u64::MAX,
+        ncap: u64::MAX,
+        flbas: 255,
+        dps: 255,
+        nmic: 255,
+    };
+    check(
+        &rt,
+        rt.alloc(),
+        "create-ns /dev/nvme0 -s 18446744073709551615 -c 0xffffffffffffffff -f 255 -d 0377 -m 0xff",
+        most,
+    );
+    let each = Ask::Create {
+        nsze: 1,
+        ncap: 2,
+        flbas: 3,
+        dps: 4,
+        nmic: 5,
+    };
+    check(
+        &rt,
+        rt.alloc(),
+        "nvme create-ns --nmic 5 --dps=4 --flbas 3 --ncap=2 --nsze 1 /dev/nvme0n7",
+        each,
+    );
+}
+
+#[test]
+fn reads_attachments_and_deletions(rt: HostRuntime) {
+    let attach = Ask::Attachment {
+        nsid: 3,
+        detach: false,
+        controllers: list(&rt, &[1, 0, 0, 65535]),
+    };
+    check(
+        &rt,
+        rt.alloc(),
+        "attach-ns /dev/nvme0 -n 3 -c 1,0,00,0xffff",
+        attach,
+    );
+    let detach = Ask::Attachment {
+        nsid: 4,
+        detach: true,
+        controllers: list(&rt, &[8]),
+    };
+    check(
+        &rt,
+        rt.alloc(),
+        "detach-ns /dev/nvme0n4 --controllers=010",
+        detach,
+    );
+    let delete = Ask::Delete { nsid: 0xffff_ffff };
+    check(
+        &rt,
+        rt.alloc(),
+        "delete-ns /dev/nvme0n1 -n 0xffffffff",
+        delete,
+    );
+    check(
+        &rt,
+        rt.alloc(),
+        "delete-ns /dev/nvme0n1",
+        Ask::Delete { nsid: 1 },
+    );
+}
+
+#[test]
+fn reads_a_long_list(rt: HostRuntime) {
+    let mut line = [b','; 4095];
+    let front = "attach-ns /dev/nvme0n1 -c ";
+    line[..26].copy_from_slice(front.as_bytes());
+    for i in 0..2034 {
+        line[26 + 2 * i] = b'7';
+    }
+    let want = Line::Request(Request {
+        controller: 0,
+        ask: Ask::Attachment {
+            nsid: 1,
+            detach: false,
+            controllers: list(&rt, &[7; 2034]),
+        },
+    });
+    assert_eq!(rt; read_line(rt.alloc(), &line[..4093], 2), Ok(want));
+    // The last item is empty.
+    let empty = Err(LineFault::Number(OptionName::Controllers));
+    assert_eq!(rt; read_line(rt.alloc(), &line[..4094], 2), empty);
+}
+
+#[test]
+fn refuses_lines_of_management_by_their_first_fault(rt: HostRuntime) {
+    for (line, fault) in [
+        ("attach-ns /dev/nvme0 -n 1", LineFault::Usage),
+        ("attach-ns /dev/nvme9n1", LineFault::Usage),
+        ("detach-ns /dev/nvme0 -c 0", LineFault::Usage),
+        ("delete-ns /dev/nvme0", LineFault::Usage),
+        ("delete-ns /dev/nvme0 -n 1 -c 0", LineFault::Usage),
+        ("create-ns /dev/nvme0 -n 1", LineFault::Usage),
+        ("attach-ns /dev/nvme0 -n 1 -c 0 -c 1", LineFault::Usage),
+        ("attach-ns /dev/nvme9 -n x -c x", LineFault::Device),
+        ("delete-ns /dev/nvme9", LineFault::Device),
+    ] {
+        assert_eq!(rt; read_line(rt.alloc(), line.as_bytes(), 2), Err(fault));
+    }
+}
+
+#[test]
+fn refuses_numbers_of_management(rt: HostRuntime) {
+    for (line, option) in [
+        (
+            "create-ns /dev/nvme0 -s 18446744073709551616",
+            OptionName::Nsze,
+        ),
+        ("create-ns /dev/nvme0 -c x -s -", OptionName::Nsze),
+        ("create-ns /dev/nvme0 -c=-1 -f x", OptionName::Ncap),
+        ("create-ns /dev/nvme0 -f 256 -m x", OptionName::Flbas),
+        ("create-ns /dev/nvme0 -d 256", OptionName::Dps),
+        ("create-ns /dev/nvme0 -m 0x100", OptionName::Nmic),
+        ("attach-ns /dev/nvme0 -n x -c x", OptionName::NamespaceId),
+        ("attach-ns /dev/nvme0 -n 1 -c=", OptionName::Controllers),
+        ("attach-ns /dev/nvme0 -n 1 -c ,", OptionName::Controllers),
+        ("attach-ns /dev/nvme0 -n 1 -c 0,,1", OptionName::Controllers),
+        ("attach-ns /dev/nvme0 -n 1 -c 0,1,", OptionName::Controllers),
+        (
+            "detach-ns /dev/nvme0 -n 1 -c 65536",
+            OptionName::Controllers,
+        ),
+        ("detach-ns /dev/nvme0 -n 1 -c 0;1", OptionName::Controllers),
+        (
+            "delete-ns /dev/nvme0 -n 4294967296",
+            OptionName::NamespaceId,
+        ),
+    ] {
+        let fault = LineFault::Number(option);
+        assert_eq!(rt; read_line(rt.alloc(), line.as_bytes(), 2), Err(fault));
+    }
+}

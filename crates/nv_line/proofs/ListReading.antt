@@ -1,0 +1,86 @@
+-- A list of identifiers that is read piece by piece.
+use Rattle.std.proofs.Common.{◌≡◌, ◌∙◌, ℕ, ◌+◌, ◌<◌, ◌≤◌, true, false, nat_le, if◌then◌else◌, ap, refl, sym, arith, append-nil, append_assoc, List, [], ◌∷◌, ◌++◌, Option, Some, None, drop, get_or, length, length-append, option_and_then, option_map}
+use Rattle.std.proofs.lemmas.List.{at_drop_all, at_drop_more}
+use Rattle.std.specs.List.{slice_split}
+use Rattle.clap.specs.Words.{Text}
+use Rattle.nv_line.specs.ControllerList.{identifiers_in, is_comma, list_in}
+use Rattle.nv_line.specs.Number.{number_in}
+
+-- the identifiers of the first n pieces, before those of the rest
+pub record IsReadTo (pieces : List Text) (ids : List ℕ) (n : ℕ) : Type 0 where
+  pub count : length ids ≡ n
+  pub room : n ≤ 2047
+  pub rest : identifiers_in pieces ≡ option_map (λ ns. ids ++ ns) (identifiers_in (drop n pieces))
+
+same_option : (o : Option (List ℕ)) → o ≡ option_map (λ ns. [] ++ ns) o
+same_option (Some ns) = refl
+same_option None = refl
+
+pub nothing_read : (pieces : List Text) → IsReadTo pieces [] 0
+nothing_read pieces = record { count = refl; room = omega arith; rest = same_option (identifiers_in pieces) }
+
+after_piece : (pieces : List Text) (n : ℕ) (p : Text) → (n < length pieces) × (p ≡ get_or pieces n p)
+    → identifiers_in (drop n pieces)
+    ≡ option_and_then (λ x. option_map (λ ns. x ∷ ns) (identifiers_in (drop (n + 1) pieces))) (number_in 0 65535 p)
+unfolding identifiers_in
+after_piece pieces n p turn =
+    at_drop_more identifiers_in pieces n p turn.0
+    ∙ ap (λ q. identifiers_in (q ∷ drop (n + 1) pieces)) (sym turn.1)
+
+one_more : (ids : List ℕ) (x : ℕ) (o : Option (List ℕ))
+    → option_map (λ ns. ids ++ ns) (option_map (λ ns. x ∷ ns) o) ≡ option_map (λ ns. (ids ++ x ∷ []) ++ ns) o
+one_more ids x (Some ns) = ap Some (sym (append_assoc ids (x ∷ []) ns))
+one_more ids x None = refl
+
+pub piece_read : (pieces : List Text) (ids : List ℕ) (n : ℕ) (p : Text) (x : ℕ) → IsReadTo pieces ids n → n < 2047
+    → (n < length pieces) × (p ≡ get_or pieces n p) → number_in 0 65535 p ≡ Some x
+    → IsReadTo pieces (ids ++ x ∷ []) (n + 1)
+piece_read pieces ids n p x so room turn number = record {
+  room = omega (arith, room);
+  count = length-append ids (x ∷ []) ∙ ap (λ m. m + 1) so.count;
+  rest = so.rest
+      ∙ ap (option_map (λ ns. ids ++ ns)) (after_piece pieces n p turn
+      ∙ ap (option_and_then (λ y. option_map (λ ns. y ∷ ns) (identifiers_in (drop (n + 1) pieces)))) number)
+      ∙ one_more ids x (identifiers_in (drop (n + 1) pieces));
+}
+
+-- ---- the three ends
+
+listed : (text : Text) → length (slice_split is_comma text) ≤ 2047
+    → list_in text ≡ identifiers_in (slice_split is_comma text)
+unfolding list_in
+listed text h = let room : nat_le (length (slice_split is_comma text)) 2047 ≡ true = grind (arith, h) in rw room refl
+
+pub all_read : (text : Text) (ids : List ℕ) (n : ℕ) → IsReadTo (slice_split is_comma text) ids n
+    → length (slice_split is_comma text) ≤ n → Some ids ≡ list_in text
+unfolding identifiers_in
+all_read text ids n so end =
+    let pieces = slice_split is_comma text in
+    sym (listed text (omega (arith, end, so.room))
+    ∙ so.rest
+    ∙ ap (option_map (λ ns. ids ++ ns)) (at_drop_all identifiers_in pieces n end)
+    ∙ ap Some (append-nil ids))
+
+pub too_many : (text : Text) → 2047 < length (slice_split is_comma text) → None ≡ list_in text
+unfolding list_in
+too_many text h = let none : nat_le (length (slice_split is_comma text)) 2047 ≡ false = grind (arith, h) in rw none refl
+
+either_none : (text : Text) → identifiers_in (slice_split is_comma text) ≡ None → None ≡ list_in text
+unfolding list_in
+either_none text none = elim (nat_le (length (slice_split is_comma text)) 2047) as
+    (λ b. None ≡ (if b then identifiers_in (slice_split is_comma text) else None)) [
+      | true ↦ sym none
+      | false ↦ refl
+    ]
+
+-- a piece that is no number
+pub no_number : (text : Text) (ids : List ℕ) (n : ℕ) (p : Text) → IsReadTo (slice_split is_comma text) ids n
+    → (n < length (slice_split is_comma text)) × (p ≡ get_or (slice_split is_comma text) n p)
+    → number_in 0 65535 p ≡ None → None ≡ list_in text
+no_number text ids n p so turn number =
+    let pieces = slice_split is_comma text in
+    let none : identifiers_in pieces ≡ None =
+    so.rest
+    ∙ ap (option_map (λ ns. ids ++ ns)) (after_piece pieces n p turn
+    ∙ ap (option_and_then (λ y. option_map (λ ns. y ∷ ns) (identifiers_in (drop (n + 1) pieces)))) number) in
+    either_none text none

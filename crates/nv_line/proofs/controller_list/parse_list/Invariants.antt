@@ -1,0 +1,9 @@
+use Rattle.std.proofs.Common.{length}
+use Rattle.std.specs.List.{slice_split}
+use Rattle.nv_line.specs.ControllerList.{is_comma}
+use Rattle.nv_line.proofs.ListReading.{IsReadTo}
+use Rattle.nv_line.proofs.controller_list.parse_list.Given as goal
+
+-- the list has the identifiers of the pieces so far
+abbrev pub invariant-loop-piece : goal.invariant-loop-piece
+invariant-loop-piece l = IsReadTo (slice_split is_comma l.text) l.list (length l.yielded)
