@@ -6,10 +6,9 @@ use crate::watch::Watch;
 use nv_controller::{Bus, Machine};
 use nv_script::{Geometry, GeometryField, OverRead, OverWrite, RunEnd, run};
 use nv_subsystem::{DEMO, Subsystem};
-use std::process::Abort;
 use std::test::Fail;
 
-const ROWS: [Row; 10] = [
+const ROWS: [Row<'static>; 10] = [
     Row {
         script: b"",
         out: "",

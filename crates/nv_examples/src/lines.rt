@@ -1,72 +1,87 @@
 //! Lines that are read or refused.
 
-use crate::harness::run_script;
-use nv_script::{Ask, Line, LineFault, OptionName, Request, RunEnd, read_line};
+use crate::rows::{Row, leaves};
+use nv_script::{Ask, Line, LineFault, OptionName, Request, read_line};
 use nv_subsystem::DEMO;
 use std::test::Fail;
 
+/// Lines with a fault each.
+const FAULTS: Row<'static> = Row {
+    script: b"bogus
+nvme
+help
+list-ns --help
+list-ns
+id-ns /dev/nvme0
+list-ns /dev/nvme0 -n 1 -n 1
+\r
+list-ns /dev/nvme0\r
+list-ns /dev/nvme2
+list-ns /dev/nvme00
+list-ns /dev/nvme0n0
+list-ns /dev/nvme9 -n 0
+list-ns /dev/nvme0 -n 08
+list-ns /dev/nvme0 -n 4294967296
+",
+    out: "",
+    messages: "line 1: usage error
+line 2: usage error
+line 3: usage error
+line 4: usage error
+line 5: usage error
+line 6: usage error
+line 7: usage error
+line 8: usage error
+line 9: no such device
+line 10: no such device
+line 11: no such device
+line 12: no such device
+line 13: no such device
+line 14: bad number for --namespace-id
+line 15: bad number for --namespace-id
+",
+    status: 1,
+};
+
 #[test]
 fn says_what_is_wrong_with_a_line(rt: HostRuntime) -> Result<(), Fail> {
-    for (script, want) in [
-        ("bogus\n", "line 1: usage error\n"),
-        ("nvme\n", "line 1: usage error\n"),
-        ("help\n", "line 1: usage error\n"),
-        ("list-ns --help\n", "line 1: usage error\n"),
-        ("list-ns\n", "line 1: usage error\n"),
-        ("id-ns /dev/nvme0\n", "line 1: usage error\n"),
-        ("list-ns /dev/nvme0 -n 1 -n 1\n", "line 1: usage error\n"),
-        ("\r\n", "line 1: usage error\n"),
-        ("list-ns /dev/nvme0\r\n", "line 1: no such device\n"),
-        ("list-ns /dev/nvme2\n", "line 1: no such device\n"),
-        ("list-ns /dev/nvme00\n", "line 1: no such device\n"),
-        ("list-ns /dev/nvme0n0\n", "line 1: no such device\n"),
-        ("list-ns /dev/nvme9 -n 0\n", "line 1: no such device\n"),
-        (
-            "list-ns /dev/nvme0 -n 08\n",
-            "line 1: bad number for --namespace-id\n",
-        ),
-        (
-            "list-ns /dev/nvme0 -n 4294967296\n",
-            "line 1: bad number for --namespace-id\n",
-        ),
-    ] {
-        let left = run_script(rt.alloc(), DEMO, script.as_bytes())?;
-        assert!(rt; left.end == RunEnd::Status(1));
-        assert!(rt; left.out.is_empty());
-        assert!(rt; left.messages.as_slice() == want.as_bytes());
-    }
-    Ok(())
+    leaves(&rt, rt.alloc(), DEMO, &FAULTS)
 }
 
 #[test]
 fn reads_octal_and_hexadecimal_numbers(rt: HostRuntime) -> Result<(), Fail> {
-    let left = run_script(rt.alloc(), DEMO, b"list-ns /dev/nvme0 -n 010\n")?;
-    assert!(rt; left.end == RunEnd::Status(0) && left.out.is_empty());
-    let left = run_script(rt.alloc(), DEMO, b"list-ns /dev/nvme0 -n 0X2\n")?;
-    assert!(rt; left.out.as_slice() == "[   0]:0x3\n".as_bytes());
-    Ok(())
+    let row = Row {
+        script: b"list-ns /dev/nvme0 -n 010\nlist-ns /dev/nvme0 -n 0X2\n",
+        out: "[   0]:0x3\n",
+        messages: "",
+        status: 0,
+    };
+    leaves(&rt, rt.alloc(), DEMO, &row)
 }
 
-#[test]
-fn tells_text_from_other_bytes(rt: HostRuntime) -> Result<(), Fail> {
-    let left = run_script(rt.alloc(), DEMO, &[0xff])?;
-    assert!(rt; left.end == RunEnd::Status(1));
-    assert!(rt; left.messages.as_slice() == "line 1: not UTF-8 text\n".as_bytes());
-    Ok(())
+/// A line that is too long.
+fn too_long<'a>(script: &'a [u8]) -> Row<'a> {
+    Row {
+        script,
+        out: "",
+        messages: "line 1: line too long\n",
+        status: 1,
+    }
 }
 
 #[test]
 fn holds_lines_of_4095_bytes(rt: HostRuntime) -> Result<(), Fail> {
     let mut comment = [0xffu8; 4096];
     comment[0] = b'#';
-    let left = run_script(rt.alloc(), DEMO, &comment[..4095])?;
-    assert!(rt; left.end == RunEnd::Status(0) && left.messages.is_empty());
-    let left = run_script(rt.alloc(), DEMO, &comment)?;
-    assert!(rt; left.end == RunEnd::Status(1));
-    assert!(rt; left.messages.as_slice() == "line 1: line too long\n".as_bytes());
-    let left = run_script(rt.alloc(), DEMO, &[b' '; 4096])?;
-    assert!(rt; left.messages.as_slice() == "line 1: line too long\n".as_bytes());
-    Ok(())
+    let skipped = Row {
+        script: &comment[..4095],
+        out: "",
+        messages: "",
+        status: 0,
+    };
+    leaves(&rt, rt.alloc(), DEMO, &skipped)?;
+    leaves(&rt, rt.alloc(), DEMO, &too_long(&comment))?;
+    leaves(&rt, rt.alloc(), DEMO, &too_long(&[b' '; 4096]))
 }
 
 /// What a line says to a subsystem with two controllers, if it asks one of them something.

@@ -1,11 +1,10 @@
 //! Scripts of namespace management.
 
-use crate::harness::run_script;
-use crate::rows::{Row, expect};
+use crate::rows::{Row, leaves};
 use nv_subsystem::DEMO;
 use std::test::Fail;
 
-const ROWS: [Row; 11] = [
+const ROWS: [Row<'static>; 11] = [
     Row {
         script: b"create-ns /dev/nvme0 -s 18423 -c 18423\ncreate-ns /dev/nvme0 -s 1 -c 1\n",
         out: "create-ns: Success, created nsid:2\n",
@@ -151,8 +150,7 @@ line 6: NVMe status: Invalid Namespace or Format (0x600b)
 #[test]
 fn each_script_writes_its_row(rt: HostRuntime) -> Result<(), Fail> {
     for row in &ROWS {
-        let left = run_script(rt.alloc(), DEMO, row.script)?;
-        expect(&rt, &left, row);
+        leaves(&rt, rt.alloc(), DEMO, row)?;
     }
     Ok(())
 }
@@ -174,7 +172,5 @@ line 2: NVMe status: Controller List Invalid (0x611c)
 ",
         status: 0,
     };
-    let left = run_script(alloc, file.as_str(), row.script)?;
-    expect(&rt, &left, &row);
-    Ok(())
+    leaves(&rt, alloc, file.as_str(), &row)
 }

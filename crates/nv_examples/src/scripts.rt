@@ -1,55 +1,33 @@
-//! Scripts over the demonstration subsystem.
+//! What a script leaves in the error logs.
 
 use crate::harness::run_script;
-use nv_script::RunEnd;
 use nv_subsystem::{Command, DEMO, Origin, Subsystem};
+use std::process::Abort;
 use std::test::Fail;
 
-#[test]
-fn an_empty_script_leaves_nothing(rt: HostRuntime) -> Result<(), Fail> {
-    let left = run_script(rt.alloc(), DEMO, b"")?;
-    assert!(rt; left.end == RunEnd::Status(0));
-    assert!(rt; left.out.is_empty() && left.messages.is_empty());
-    Ok(())
-}
-
-#[test]
-fn numbers_skipped_lines(rt: HostRuntime) -> Result<(), Fail> {
-    let left = run_script(rt.alloc(), DEMO, b"# c\n\nbogus\n")?;
-    assert!(rt; left.end == RunEnd::Status(1));
-    assert!(rt; left.out.is_empty());
-    assert!(rt; left.messages.as_slice() == "line 3: usage error\n".as_bytes());
-    Ok(())
+/// The entry of the first controller's error log at an index is that of an Invalid Namespace or
+/// Format with this count, command identifier and NSID.
+fn expect_entry(rt: &impl Abort, subsystem: &Subsystem, index: usize, want: (u64, u16, u32)) {
+    assert!(rt; subsystem.controllers() == 2);
+    match subsystem.log_entry(0, index) {
+        None => panic!(rt; "an entry is missing"),
+        Some(entry) => {
+            assert!(rt; (entry.count, entry.cid, entry.nsid) == want);
+            assert!(rt; entry.status.number() == 0x600b);
+        }
+    }
 }
 
 #[test]
 fn books_refusals_on_their_controller(rt: HostRuntime) -> Result<(), Fail> {
-    let left = run_script(
-        rt.alloc(),
-        DEMO,
-        b"id-ns /dev/nvme0 -n 0\nid-ns /dev/nvme0 -n 5\n",
-    )?;
-    assert!(rt; left.end == RunEnd::Status(2));
-    assert!(rt;
-        left.messages.as_slice()
-            == "line 1: NVMe status: Invalid Namespace or Format (0x600b)\nline 2: NVMe status: Invalid Namespace or Format (0x600b)\n".as_bytes()
-    );
+    let script = b"id-ns /dev/nvme0 -n 0\nid-ns /dev/nvme0 -n 5\n";
+    let left = run_script(rt.alloc(), DEMO, script)?;
     let subsystem = left.machine.subsystem();
-    if subsystem.controllers() != 2 {
-        panic!(rt; "the demonstration has two controllers");
-    }
-    assert!(rt; subsystem.counts(0) == (2, 2));
-    assert!(rt; subsystem.counts(1) == (0, 0));
-    for (index, count, cid, nsid) in [(0, 2, 1, 5), (1, 1, 0, 0)] {
-        match subsystem.log_entry(0, index) {
-            None => panic!(rt; "an entry is missing"),
-            Some(entry) => {
-                assert!(rt; entry.count == count && entry.cid == cid && entry.nsid == nsid);
-                assert!(rt; entry.status.number() == 0x600b);
-            }
-        }
-    }
+    expect_entry(&rt, subsystem, 0, (2, 1, 5));
+    expect_entry(&rt, subsystem, 1, (1, 0, 0));
+    assert!(rt; subsystem.controllers() == 2);
     assert!(rt; subsystem.log_entry(0, 2).is_none());
+    assert!(rt; subsystem.counts(0) == (2, 2) && subsystem.counts(1) == (0, 0));
     Ok(())
 }
 

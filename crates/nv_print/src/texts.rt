@@ -217,11 +217,7 @@ impl fmt::Display for Refused {
 }
 
 /// The message of a refusal in a line.
-pub fn refusal_message(
-    alloc: Global,
-    number: u64,
-    status: Status,
-) -> Result<String, AllocError>
+pub fn refusal_message(alloc: Global, number: u64, status: Status) -> Result<String, AllocError>
     ensures { IfOk result (λ text. string_bytes text ≡ message_of number (refusal_text status)) }
 {
     let refused = Refused(status);
@@ -229,11 +225,7 @@ pub fn refusal_message(
 }
 
 /// The message of a fault of a line.
-pub fn fault_message(
-    alloc: Global,
-    number: u64,
-    fault: LineFault,
-) -> Result<String, AllocError>
+pub fn fault_message(alloc: Global, number: u64, fault: LineFault) -> Result<String, AllocError>
     ensures { IfOk result (λ text. string_bytes text ≡ message_of number (fault_text fault)) }
 {
     format!(in alloc; "line {number}: {fault}\n")
