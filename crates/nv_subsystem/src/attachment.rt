@@ -154,7 +154,10 @@ impl Subsystem {
     {
         [
             Row::new(!self.is_valid(nsid), StatusCode::InvalidNamespaceOrFormat),
-            Row::new(!self.slots.contains(nsid), StatusCode::InvalidFieldInCommand),
+            Row::new(
+                !self.slots.contains(nsid),
+                StatusCode::InvalidFieldInCommand,
+            ),
             Row::new(!self.is_list_of(ids), StatusCode::ControllerListInvalid),
         ]
     }
