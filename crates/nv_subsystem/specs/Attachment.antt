@@ -1,5 +1,5 @@
 -- Namespace Attachment: when an attach or a detach is refused, and what it changes.
-use Rattle.std.specs.Prelude.{ℕ, ◌==◌, ◌&&◌, ◌||◌, not, nat_lt, Bool, false, List, [], ◌∷◌, drop, length, count_by, if◌then◌else◌}
+use Rattle.std.specs.Prelude.{ℕ, ◌==◌, ◌&&◌, ◌||◌, not, nat_lt, Bool, false, List, [], ◌∷◌, ◌++◌, drop, length, count_by, if◌then◌else◌}
 use Rattle.std.specs.List.{list_all, list_any, zip}
 use Rattle.std.specs.Option.{option_map_or}
 use Rattle.std.specs.FinMap as map_of
@@ -38,12 +38,12 @@ abbrev pub is_private : State → ℕ → Bool
 is_private s n = option_map_or (λ x. not x.shared) (map_of.get s.namespaces n) false
 
 -- what an attach and a detach have in common
-abbrev pub rows_and : State → ℕ → List ℕ → List Row → List Row
-rows_and s n ids rows =
+abbrev pub first_rows : State → ℕ → List ℕ → List Row
+first_rows s n ids =
     row (not (is_valid s n)) InvalidNamespaceOrFormat
     ∷ row (not (is_allocated s n)) InvalidFieldInCommand
     ∷ row (not (is_list_of s ids)) ControllerListInvalid
-    ∷ rows
+    ∷ []
 
 -- the controllers that would have the namespace attached
 abbrev pub would_have : ℕ → List ℕ → Controller → Bool
@@ -51,16 +51,16 @@ would_have n ids x = has_attached n x || is_listed ids x
 
 abbrev pub attach_rows : State → ℕ → List ℕ → List Row
 attach_rows s n ids =
-    rows_and s n ids
-    (row (list_any (λ x. is_listed ids x && has_attached n x) s.controllers) NamespaceAlreadyAttached
+    first_rows s n ids
+    ++ row (list_any (λ x. is_listed ids x && has_attached n x) s.controllers) NamespaceAlreadyAttached
     ∷ row (is_private s n && nat_lt 1 (count_by (would_have n ids) s.controllers)) NamespaceIsPrivate
-    ∷ [])
+    ∷ []
 
 abbrev pub detach_rows : State → ℕ → List ℕ → List Row
 detach_rows s n ids =
-    rows_and s n ids
-    (row (list_any (λ x. is_listed ids x && not (has_attached n x)) s.controllers) NamespaceNotAttached
-    ∷ [])
+    first_rows s n ids
+    ++ row (list_any (λ x. is_listed ids x && not (has_attached n x)) s.controllers) NamespaceNotAttached
+    ∷ []
 
 abbrev pub attachment_rows : State → ℕ → Bool → List ℕ → List Row
 attachment_rows s n detach ids = if detach then detach_rows s n ids else attach_rows s n ids

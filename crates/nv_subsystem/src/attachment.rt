@@ -5,7 +5,7 @@ ghost use Rattle.std.specs.Prelude.{◌≡◌, ◌||◌, ◌&&◌, ℕ, not, fal
 ghost use Rattle.std.specs.List.{list_any};
 ghost use Rattle.std.specs.FinMap as map_of;
 ghost use Rattle.nv_bits.specs.Numbers.{IsOf};
-ghost use Rattle.nv_subsystem.specs.Attachment.{attach_rows, attached, attachment_rows, detach_rows, detached, has_attached, is_ascending, is_known, is_list_of, is_listed, is_private, with_attachments, would_have};
+ghost use Rattle.nv_subsystem.specs.Attachment.{attach_rows, attached, attachment_rows, detach_rows, detached, first_rows, has_attached, is_ascending, is_known, is_list_of, is_listed, is_private, with_attachments, would_have};
 ghost use Rattle.nv_subsystem.specs.AttachmentLaws.{fewer, more};
 ghost use Rattle.nv_subsystem.specs.ControllerView.{controller_view};
 ghost use Rattle.nv_subsystem.specs.Management.{with_nsids};
@@ -39,7 +39,8 @@ fn attach_listed(controllers: &mut [Controller], nsid: u32, ids: &[u16])
     requires { (nn : ℕ) × All (IsSized nn) controllers.old × IsOf 1 nn nsid }
     ensures value { map controller_view controllers.new
         ≡ map (with_nsids (more nsid ids.now)) (map controller_view controllers.old) }
-    ensures sized { (nn : ℕ) → All (IsSized nn) controllers.old → All (IsSized nn) controllers.new }
+    ensures sized { (nn : ℕ)
+        → All (IsSized nn) controllers.old → All (IsSized nn) controllers.new }
 {
     for controller in controllers.iter_mut() {
         if is_listed(ids, controller) {
@@ -52,7 +53,8 @@ fn attach_listed(controllers: &mut [Controller], nsid: u32, ids: &[u16])
 fn detach_listed(controllers: &mut [Controller], nsid: u32, ids: &[u16])
     ensures value { map controller_view controllers.new
         ≡ map (with_nsids (fewer nsid ids.now)) (map controller_view controllers.old) }
-    ensures sized { (nn : ℕ) → All (IsSized nn) controllers.old → All (IsSized nn) controllers.new }
+    ensures sized { (nn : ℕ)
+        → All (IsSized nn) controllers.old → All (IsSized nn) controllers.new }
 {
     for controller in controllers.iter_mut() {
         if is_listed(ids, controller) {
@@ -64,8 +66,10 @@ fn detach_listed(controllers: &mut [Controller], nsid: u32, ids: &[u16])
 /// Detaches a namespace from each controller.
 pub fn detach_everywhere(controllers: &mut [Controller], nsid: u32)
     ensures value { map controller_view controllers.new
-        ≡ map (with_nsids (λ x. map_of.remove x.attached nsid)) (map controller_view controllers.old) }
-    ensures sized { (nn : ℕ) → All (IsSized nn) controllers.old → All (IsSized nn) controllers.new }
+        ≡ map (with_nsids (λ x. map_of.remove x.attached nsid))
+        (map controller_view controllers.old) }
+    ensures sized { (nn : ℕ)
+        → All (IsSized nn) controllers.old → All (IsSized nn) controllers.new }
 {
     for controller in controllers.iter_mut() {
         controller.attached.remove(nsid);
@@ -76,7 +80,8 @@ pub fn detach_everywhere(controllers: &mut [Controller], nsid: u32)
 pub fn detach_all(controllers: &mut [Controller])
     ensures value { map controller_view controllers.new
         ≡ map (with_nsids (λ _. map_of.empty)) (map controller_view controllers.old) }
-    ensures sized { (nn : ℕ) → All (IsSized nn) controllers.old → All (IsSized nn) controllers.new }
+    ensures sized { (nn : ℕ)
+        → All (IsSized nn) controllers.old → All (IsSized nn) controllers.new }
 {
     for controller in controllers.iter_mut() {
         controller.attached.clear();
@@ -143,44 +148,46 @@ impl Subsystem {
             .count()
     }
 
-    /// Why an attach is refused. The conditions go in the order of the rows.
-    fn check_attach(&self, nsid: u32, ids: &[u16]) -> Result<(), Refusal>
-        ensures { Checks (attach_rows self.now nsid ids.now) result }
+    /// What an attach and a detach have in common: the rows for the NSID and for the list.
+    fn first_rows(&self, nsid: u32, ids: &[u16]) -> [Row; 3]
+        ensures { result ≡ first_rows self.now nsid ids.now }
     {
-        check(&[
+        [
             Row::new(!self.is_valid(nsid), StatusCode::InvalidNamespaceOrFormat),
             Row::new(
                 !self.slots.contains(nsid),
                 StatusCode::InvalidFieldInCommand,
             ),
             Row::new(!self.is_list_of(ids), StatusCode::ControllerListInvalid),
-            Row::new(
-                self.has_one_attached(nsid, ids),
-                StatusCode::NamespaceAlreadyAttached,
-            ),
-            Row::new(
-                self.is_private(nsid) && self.count_with(nsid, ids) > 1,
-                StatusCode::NamespaceIsPrivate,
-            ),
-        ])
+        ]
+    }
+
+    /// Why an attach is refused. The conditions go in the order of the rows.
+    fn check_attach(&self, nsid: u32, ids: &[u16]) -> Result<(), Refusal>
+        ensures { Checks (attach_rows self.now nsid ids.now) result }
+    {
+        let [valid, allocated, listed] = self.first_rows(nsid, ids);
+        let new = Row::new(
+            self.has_one_attached(nsid, ids),
+            StatusCode::NamespaceAlreadyAttached,
+        );
+        let alone = Row::new(
+            self.is_private(nsid) && self.count_with(nsid, ids) > 1,
+            StatusCode::NamespaceIsPrivate,
+        );
+        check(&[valid, allocated, listed, new, alone])
     }
 
     /// Why a detach is refused. The conditions go in the order of the rows.
     fn check_detach(&self, nsid: u32, ids: &[u16]) -> Result<(), Refusal>
         ensures { Checks (detach_rows self.now nsid ids.now) result }
     {
-        check(&[
-            Row::new(!self.is_valid(nsid), StatusCode::InvalidNamespaceOrFormat),
-            Row::new(
-                !self.slots.contains(nsid),
-                StatusCode::InvalidFieldInCommand,
-            ),
-            Row::new(!self.is_list_of(ids), StatusCode::ControllerListInvalid),
-            Row::new(
-                self.lacks_one_attached(nsid, ids),
-                StatusCode::NamespaceNotAttached,
-            ),
-        ])
+        let [valid, allocated, listed] = self.first_rows(nsid, ids);
+        let attached = Row::new(
+            self.lacks_one_attached(nsid, ids),
+            StatusCode::NamespaceNotAttached,
+        );
+        check(&[valid, allocated, listed, attached])
     }
 
     /// Why an attach or a detach is refused.
