@@ -2,9 +2,10 @@
 
 ghost use Rattle.std.specs.Prelude.{◌≡◌};
 ghost use Rattle.nv_layout.specs.Sqe.{SqeFits};
-ghost use Rattle.nv_command.specs.Command.{namespace_of, transfer_by};
+ghost use Rattle.nv_command.specs.Command.{host_data_of, namespace_of, transfer_by};
 ghost use Rattle.nv_command.specs.Decoding.{command_of};
 ghost use Rattle.nv_command.specs.Entry.{entry_of, fields_of};
+ghost use Rattle.nv_command.specs.Reply.{with_data};
 ghost use Rattle.nv_command.specs.Travel.{Arrives};
 
 use crate::entry::{Fields, Opcode};
@@ -73,6 +74,11 @@ impl Command {
     {
         self.fields().entry(self.nsid(), cid)
     }
+
+    /// Writes the data that the host sends with it to the front of a page of 4,096 bytes.
+    pub fn put(&self, _page: &mut [u8; 4096])
+        ensures { _page.new ≡ with_data (host_data_of self.now) _page.old }
+    {}
 
     /// The command of an entry and of the data that the host sent with it, or the status of the
     /// first rule that it breaks: its opcode is unknown, it is fused or uses SGLs, a field of it
