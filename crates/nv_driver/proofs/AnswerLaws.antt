@@ -1,10 +1,9 @@
 -- What an answer is, and that it is read as it is where its completion and its data lie.
-use Rattle.std.proofs.Common.{◌≡◌, ◌∙◌, ℕ, ◌<◌, ◌^◌, ◌==◌, ◌&&◌, false, Err, List, None, Ok, Option, Some, ap, arith, length, lit<, refl, sym}
+use Rattle.std.proofs.Common.{◌≡◌, ℕ, ◌<◌, ◌^◌, ◌==◌, ◌&&◌, false, Err, List, None, Ok, Option, Some, ap, arith, lit<, refl}
 use Rattle.std.proofs.lemmas.Bool.Decides.{nat_tests}
 use Rattle.nv_layout.specs.Cqe.{CqeFits}
 use Rattle.nv_layout.specs.Status.{StatusFits}
 use Rattle.nv_layout.specs.declared.status.Status.{Status}
-use Rattle.nv_prp.specs.Place.{read_at}
 use Rattle.nv_command.specs.Refusal.{IsRefusal}
 use Rattle.nv_command.specs.Reply.{FitsRecord, IsReplyTo, data_of, dword0_of}
 use Rattle.nv_command.specs.TravelLaws.{replies_travel}
@@ -19,11 +18,9 @@ use Rattle.nv_subsystem.specs.Step.{step, step_by}
 use Rattle.nv_subsystem.specs.StepLaws.{refusal_fits}
 use Rattle.nv_subsystem.specs.WellFormed.{IsWellFormed}
 use Rattle.nv_controller.specs.Entry.{completion_with}
-use Rattle.nv_controller.specs.CallLaws.{transfer_by-page}
-use Rattle.nv_controller.specs.Call.{length_of}
-use Rattle.nv_command.specs.Command.{bytes_to_host}
+use Rattle.nv_command.specs.Command.{transfer_by}
 use Rattle.nv_queue.specs.Slots.{posted_as}
-use Rattle.nv_driver.specs.Schedule.{Answer, Sent, Setting, answer_read, data_length, is_success, places}
+use Rattle.nv_driver.specs.Schedule.{Answer, Sent, Setting, answer_read, is_success, places, received_from}
 
 -- a reply that its command can have and its record holds, or a status that is no success
 abbrev pub IsAnswerTo : Command → Answer → Type 0
@@ -66,9 +63,9 @@ completion_fits k cid head (Err status) low below is = record {
   status = is.0;
 }
 
--- the data of a reply lies at the places of the command
+-- what a reply's command receives is the data of the reply
 abbrev pub Delivers : Setting → Sent → List ℕ → Answer → Type 0
-Delivers t x mem (Ok r) = read_at mem (places t.page_size x) ≡ data_of r
+Delivers t x mem (Ok r) = received_from (transfer_by x.command) mem (places t.page_size x) ≡ data_of r
 Delivers t x mem (Err status) = Unit {0}
 
 pub answer_back : (t : Setting) (x : Sent) (mem : List ℕ) (depth n cid head : ℕ) (a : Answer) → IsAnswerTo x.command a → Delivers t x mem a
@@ -77,9 +74,3 @@ answer_back t x mem depth n cid head (Ok r) is delivered =
     let back = (replies_travel x.command r is.0 is.1).reply in
     rw delivered (ap Ok back)
 answer_back t x mem depth n cid head (Err status) is delivered = rw (is.1) refl
-
--- a reply's data is as long as its command's
-pub reply_length : (x : Sent) (r : Reply) → IsAnswerTo x.command (Ok r) → data_length x ≡ length (data_of r)
-reply_length x r is =
-    ap length_of (transfer_by-page x.command)
-    ∙ sym ((replies_travel x.command r is.0 is.1).bytes ∙ ap bytes_to_host (transfer_by-page x.command))
