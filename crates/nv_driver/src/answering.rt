@@ -21,24 +21,27 @@ pub type Answer = Result<Reply, Status>;
 /// The page of a reply without data, which has no use for it.
 static NO_DATA: [u8; 4096] = [0; 4096];
 
-/// Reads the page that the controller sent from the pages of a command.
+/// Reads the reply to a command whose data, a page, the controller sent, from dword 0 of its
+/// completion and from its pages.
 #[tactic(auto, using(crate::proofs::DataLaws::page_received))]
-fn read_page<M: HostMemory>(
+fn read_reply<M: HostMemory>(
     mem: &M,
     outstanding: &Outstanding,
     command: &Command,
-    page: &mut [u8; 4096],
-)
+    dword0: u32,
+) -> Reply
     requires comes { 0 < bytes_to_host (transfer_by command.now) }
     requires legal { IsLegal (transfer_at (M.page_len mem.now) (M.bytes mem.now)
         outstanding.now command.now) }
-    ensures { page.new ≡ read_at (M.bytes mem.now) (transfer_places
-        (transfer_at (M.page_len mem.now) (M.bytes mem.now) outstanding.now command.now)) }
+    ensures { result ≡ reply_in command.now dword0 (read_at (M.bytes mem.now) (transfer_places
+        (transfer_at (M.page_len mem.now) (M.bytes mem.now) outstanding.now command.now))) }
 {
     let len = data_length(command);
     let mut spans = Spans::new();
     walk(mem, outstanding.prp1, outstanding.prp2, len, &mut spans).unwrap();
-    copy_in(mem, &spans, page);
+    let mut page = [0; 4096];
+    copy_in(mem, &spans, &mut page);
+    Reply::read(command, dword0, &page)
 }
 
 /// The reply to a command, from dword 0 of its completion and the data that the controller sent.
@@ -50,11 +53,7 @@ fn reply<M: HostMemory>(mem: &M, outstanding: &Outstanding, command: &Command, d
         (transfer_at (M.page_len mem.now) (M.bytes mem.now) outstanding.now command.now))) }
 {
     match command.transfer() {
-        Transfer::ToHost(_) => {
-            let mut page = [0; 4096];
-            read_page(mem, outstanding, command, &mut page);
-            Reply::read(command, dword0, &page)
-        }
+        Transfer::ToHost(_) => read_reply(mem, outstanding, command, dword0),
         Transfer::NoData => Reply::read(command, dword0, &NO_DATA),
         Transfer::FromHost(_) => Reply::read(command, dword0, &NO_DATA),
     }

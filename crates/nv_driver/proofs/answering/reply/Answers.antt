@@ -5,7 +5,7 @@ use Rattle.nv_driver.proofs.answering.reply.Goals as goal
 
 pub returns-in-NoData : goal.returns-in-NoData
 returns-in-NoData g c =
-    c.read-in-NoData.ensures
+    c.read.ensures
     ∙ read_anywhere c.args.command.now c.args.dword0 _ _ (ap bytes_to_host (sym c.transfer.ensures ∙ c.in-NoData.is))
 
 pub returns-in-FromHost : goal.returns-in-FromHost
