@@ -43,13 +43,13 @@ answer_sound s c k cid w = answer_by (refusal_of s c k) s c k cid w (refusal_fit
 
 -- ---- completions
 
-dword0_fits : (r : Reply) → dword0_of r < 2 ^ 32
-dword0_fits (reply.Namespace r) = lit< tt
-dword0_fits (reply.List ids) = lit< tt
+dword0_fits : (r : Reply) → FitsRecord r → dword0_of r < 2 ^ 32
+dword0_fits (reply.Namespace r) fits = lit< tt
+dword0_fits (reply.List ids) fits = lit< tt
 
 pub completion_fits : (k : Command) (cid head : ℕ) (a : Answer) → cid < 2 ^ 16 → head < 2 ^ 16 → IsAnswerTo k a → CqeFits (completion_with cid head a)
 completion_fits k cid head (Ok r) low below is = record {
-  command_specific = dword0_fits r;
+  command_specific = dword0_fits r is.1;
   sq_head = below;
   sq_identifier = lit< tt;
   cid = low;
