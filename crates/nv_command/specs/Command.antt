@@ -1,17 +1,24 @@
 -- Commands: their NSIDs, their data, and what makes their fields fit.
-use Rattle.std.specs.Prelude.{ℕ, List, []}
+use Rattle.std.specs.Prelude.{ℕ, ◌^◌, ◌<◌, List, []}
+use Rattle.nv_layout.specs.CtrlList.{bytes_of_ctrl_list}
+use Rattle.nv_layout.specs.IdNs.{bytes_of_id_ns}
 use Rattle.nv_command.specs.Identify.{IdentifyFits, identify_data}
+use Rattle.nv_command.specs.Management.{AttachmentFits, CreateFits, asked, page_from_host}
 use Rattle.nv_command.specs.declared.command.Command.{Command}
-use Rattle.nv_command.specs.declared.command.Command.TheVariants.{IdentifyNamespace, AllocatedNamespace, ActiveList, AllocatedList}
+use Rattle.nv_command.specs.declared.command.Command.TheVariants.{IdentifyNamespace, AllocatedNamespace, ActiveList, AllocatedList, Create, Delete, Attachment}
 use Rattle.nv_command.specs.declared.transfer.Transfer.{Transfer}
 use Rattle.nv_command.specs.declared.transfer.Transfer.TheVariants.{NoData, ToHost, FromHost}
 
--- the NSID of the entry, with which a refusal is booked; for a list it is the one before it
+-- the NSID of the entry, with which a refusal is booked; for a list it is the one before it, and 0 for a namespace
+-- to create
 abbrev pub namespace_of : Command → ℕ
 namespace_of (IdentifyNamespace n) = n
 namespace_of (AllocatedNamespace n) = n
 namespace_of (ActiveList after) = after
 namespace_of (AllocatedList after) = after
+namespace_of (Create nsze ncap flbas dps nmic) = 0
+namespace_of (Delete n) = n
+namespace_of (Attachment n detach ids) = n
 
 -- which way its data goes, and how many bytes
 abbrev pub transfer_by : Command → Transfer
@@ -19,10 +26,19 @@ transfer_by (IdentifyNamespace n) = identify_data
 transfer_by (AllocatedNamespace n) = identify_data
 transfer_by (ActiveList after) = identify_data
 transfer_by (AllocatedList after) = identify_data
+transfer_by (Create nsze ncap flbas dps nmic) = page_from_host
+transfer_by (Delete n) = NoData
+transfer_by (Attachment n detach ids) = page_from_host
 
--- the data that the host sends with it: none of these has any
+-- the data that the host sends with it
 abbrev pub host_data_of : Command → List ℕ
-host_data_of k = []
+host_data_of (IdentifyNamespace n) = []
+host_data_of (AllocatedNamespace n) = []
+host_data_of (ActiveList after) = []
+host_data_of (AllocatedList after) = []
+host_data_of (Create nsze ncap flbas dps nmic) = bytes_of_id_ns (asked nsze ncap flbas dps nmic)
+host_data_of (Delete n) = []
+host_data_of (Attachment n detach ids) = bytes_of_ctrl_list ids
 
 -- each field fits its bits
 abbrev pub CommandFits : Command → Type 0
@@ -30,6 +46,9 @@ CommandFits (IdentifyNamespace n) = IdentifyFits n
 CommandFits (AllocatedNamespace n) = IdentifyFits n
 CommandFits (ActiveList after) = IdentifyFits after
 CommandFits (AllocatedList after) = IdentifyFits after
+CommandFits (Create nsze ncap flbas dps nmic) = CreateFits nsze ncap flbas dps nmic
+CommandFits (Delete n) = n < 2 ^ 32
+CommandFits (Attachment n detach ids) = AttachmentFits n ids
 
 -- the bytes that go from the host to the controller
 abbrev pub bytes_from_host : Transfer → ℕ

@@ -3,8 +3,9 @@ use Rattle.std.specs.Prelude.{ℕ}
 use Rattle.nv_layout.specs.declared.sqe.Sqe.{Sqe}
 use Rattle.nv_command.specs.Command.{namespace_of}
 use Rattle.nv_command.specs.Identify.{identify_fields}
+use Rattle.nv_command.specs.Management.{attachment_fields, management_fields}
 use Rattle.nv_command.specs.declared.command.Command.{Command}
-use Rattle.nv_command.specs.declared.command.Command.TheVariants.{IdentifyNamespace, AllocatedNamespace, ActiveList, AllocatedList}
+use Rattle.nv_command.specs.declared.command.Command.TheVariants.{IdentifyNamespace, AllocatedNamespace, ActiveList, AllocatedList, Create, Delete, Attachment}
 use Rattle.nv_command.specs.declared.entry.Fields.{Fields}
 
 -- fields, an NSID and a command identifier; all else is 0
@@ -32,6 +33,9 @@ fields_of (IdentifyNamespace n) = identify_fields 0x00
 fields_of (ActiveList after) = identify_fields 0x02
 fields_of (AllocatedList after) = identify_fields 0x10
 fields_of (AllocatedNamespace n) = identify_fields 0x11
+fields_of (Create nsze ncap flbas dps nmic) = management_fields 0x0
+fields_of (Delete n) = management_fields 0x1
+fields_of (Attachment n detach ids) = attachment_fields detach
 
 -- a command with this command identifier
 abbrev pub entry_of : Command → ℕ → Sqe

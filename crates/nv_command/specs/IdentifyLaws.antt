@@ -28,6 +28,8 @@ namespace_arrives (reply.Namespace r) is fits = record {
   reply = ap reply.Namespace (id_ns_back r fits);
 }
 namespace_arrives (reply.List ids) is fits = absurd is
+namespace_arrives (reply.Number n) is fits = absurd is
+namespace_arrives reply.Done is fits = absurd is
 
 pub list_arrives : (r : Reply) → IsList r → FitsRecord r → IsIn r (list_in (data_of r))
 list_arrives (reply.Namespace r) is fits = absurd is
@@ -35,3 +37,5 @@ list_arrives (reply.List ids) is fits = record {
   bytes = length-bytes_of_ns_list ids fits.count;
   reply = ap reply.List (ns_list_back ids fits.count fits.numbers);
 }
+list_arrives (reply.Number n) is fits = absurd is
+list_arrives reply.Done is fits = absurd is

@@ -2,6 +2,7 @@ pub mod Steps
 pub mod StatusCode
 pub mod Refusal
 pub mod Identify
+pub mod Management
 pub mod Command
 pub mod Entry
 pub mod Decoding
@@ -10,4 +11,5 @@ pub mod Travel
 pub mod RefusalLaws
 pub mod EntryLaws
 pub mod IdentifyLaws
+pub mod ManagementLaws
 pub mod TravelLaws

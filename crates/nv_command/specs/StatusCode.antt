@@ -1,6 +1,8 @@
 -- Status codes: one row for each, as in the section "Status Code".
 use Rattle.std.specs.Prelude.{ℕ, ◌==◌, ◌&&◌, true, List, Option, codes, find}
 use Rattle.std.specs.Option.{option_map_or}
+use Rattle.nv_layout.specs.declared.ctrl_list.LayoutError.{LayoutError}
+use Rattle.nv_layout.specs.declared.ctrl_list.LayoutError.TheVariants.{CountTooLarge}
 use Rattle.nv_layout.specs.declared.status.Status.{Status}
 use Rattle.nv_command.specs.declared.status_code.TheConstants.StatusCode.{ALL}
 use Rattle.nv_command.specs.declared.status_code.StatusCode.{StatusCode}
@@ -43,6 +45,10 @@ status_of_code code = record {
   more = true;
   dnr = true;
 }
+
+-- the code with which data is refused that is no record
+abbrev pub code_of_layout : LayoutError → StatusCode
+code_of_layout CountTooLarge = code.ControllerListInvalid
 
 abbrev pub name_of_code : StatusCode → List ℕ
 name_of_code code = (row_of code).name

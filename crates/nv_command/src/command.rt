@@ -1,44 +1,78 @@
 //! Commands, to and from submission queue entries.
 
-ghost use Rattle.std.specs.Prelude.{◌≡◌};
+ghost use Rattle.std.specs.Prelude.{◌≡◌, ◌<◌, ◌^◌};
 ghost use Rattle.nv_layout.specs.Sqe.{SqeFits};
-ghost use Rattle.nv_command.specs.Command.{host_data_of, namespace_of, transfer_by};
+ghost use Rattle.nv_command.specs.Command.{CommandFits, host_data_of, namespace_of, transfer_by};
 ghost use Rattle.nv_command.specs.Decoding.{command_of};
 ghost use Rattle.nv_command.specs.Entry.{entry_of, fields_of};
 ghost use Rattle.nv_command.specs.Reply.{with_data};
 ghost use Rattle.nv_command.specs.Travel.{Arrives};
 
 use crate::entry::{Fields, Opcode};
-use crate::identify;
 use crate::status_code::StatusCode;
 use crate::transfer::Transfer;
-use nv_layout::Sqe;
+use crate::{identify, management};
+use nv_layout::{CtrlList, Sqe};
 
 /// The NSID that stands for all namespaces. Section "Namespace Identifier".
 pub const BROADCAST_NSID: u32 = 0xffff_ffff;
 
-/// A command with its fields as numbers. Section "Admin Command Set".
+/// A command with its fields as numbers. It is large, by the list of an attachment. Section "Admin Command Set".
 #[derive(Debug, Drop, PartialEq, Eq)]
 pub enum Command {
     /// Identify, CNS 00h: a namespace that is attached to the controller.
-    IdentifyNamespace { nsid: u32 },
+    IdentifyNamespace {
+        nsid: u32,
+    },
     /// Identify, CNS 11h: an allocated namespace.
-    AllocatedNamespace { nsid: u32 },
+    AllocatedNamespace {
+        nsid: u32,
+    },
     /// Identify, CNS 02h: the NSIDs above this one that are attached to the controller.
-    ActiveList { after: u32 },
+    ActiveList {
+        after: u32,
+    },
     /// Identify, CNS 10h: the allocated NSIDs above this one.
-    AllocatedList { after: u32 },
+    AllocatedList {
+        after: u32,
+    },
+    /// Namespace Management, select 0h: a namespace of `nsze` blocks is created.
+    Create {
+        nsze: u64,
+        ncap: u64,
+        flbas: u8,
+        dps: u8,
+        nmic: u8,
+    },
+    /// Namespace Management, select 1h: a namespace is deleted.
+    Delete {
+        nsid: u32,
+    },
+    /// Namespace Attachment: a namespace is attached to the listed controllers (select 0h), or
+    /// detached from them (select 1h).
+    Attachment {
+        nsid: u32,
+        detach: bool,
+        list: CtrlList,
+    },
 }
+
+/// A number of 32 bits fits them. The call does nothing.
+fn nsid_fits(nsid: u32)
+    ensures { nsid < 2 ^ 32 }
+{}
 
 impl Command {
     /// The NSID of its entry, with which a refusal of it is booked. For a list it is the one that
-    /// the list begins after.
+    /// the list begins after; it is 0 for a namespace to create.
     pub fn nsid(&self) -> u32
         ensures { result ≡ namespace_of self.now }
     {
         match self {
             Command::IdentifyNamespace { nsid } | Command::AllocatedNamespace { nsid } => *nsid,
             Command::ActiveList { after } | Command::AllocatedList { after } => *after,
+            Command::Create { .. } => 0,
+            Command::Delete { nsid } | Command::Attachment { nsid, .. } => *nsid,
         }
     }
 
@@ -51,6 +85,9 @@ impl Command {
             Command::AllocatedNamespace { nsid: _ } => identify::TRANSFER,
             Command::ActiveList { after: _ } => identify::TRANSFER,
             Command::AllocatedList { after: _ } => identify::TRANSFER,
+            Command::Create { .. } => management::TRANSFER,
+            Command::Delete { nsid: _ } => Transfer::NoData,
+            Command::Attachment { .. } => management::TRANSFER,
         }
     }
 
@@ -62,6 +99,30 @@ impl Command {
             Command::ActiveList { after: _ } => identify::fields(0x02),
             Command::AllocatedList { after: _ } => identify::fields(0x10),
             Command::AllocatedNamespace { nsid: _ } => identify::fields(0x11),
+            Command::Create { .. } => management::fields(0x0),
+            Command::Delete { nsid: _ } => management::fields(0x1),
+            Command::Attachment { detach, .. } => management::attachment_fields(*detach),
+        }
+    }
+
+    /// Each field fits its bits, as its type says. The call does nothing.
+    fn fits(&self)
+        ensures { CommandFits self.now }
+    {
+        match self {
+            Command::IdentifyNamespace { nsid } | Command::AllocatedNamespace { nsid } => {
+                nsid_fits(*nsid)
+            }
+            Command::ActiveList { after } | Command::AllocatedList { after } => nsid_fits(*after),
+            Command::Create {
+                nsze,
+                ncap,
+                flbas,
+                dps,
+                nmic,
+            } => management::create_fits(*nsze, *ncap, *flbas, *dps, *nmic),
+            Command::Delete { nsid } => nsid_fits(*nsid),
+            Command::Attachment { nsid, list, .. } => management::attachment_fits(*nsid, list),
         }
     }
 
@@ -72,22 +133,39 @@ impl Command {
         ensures fits { SqeFits result }
         ensures arrives { Arrives self.now cid }
     {
+        self.fits();
         self.fields().entry(self.nsid(), cid)
     }
 
-    /// Writes the data that the host sends with it to the front of a page of 4,096 bytes.
-    pub fn put(&self, _page: &mut [u8; 4096])
-        ensures { _page.new ≡ with_data (host_data_of self.now) _page.old }
-    {}
+    /// Writes the data that the host sends with it to the front of a page of 4,096 bytes; nothing
+    /// where it sends none.
+    pub fn put(&self, page: &mut [u8; 4096])
+        ensures { page.new ≡ with_data (host_data_of self.now) page.old }
+    {
+        match self {
+            Command::Create {
+                nsze,
+                ncap,
+                flbas,
+                dps,
+                nmic,
+            } => management::asked(*nsze, *ncap, *flbas, *dps, *nmic).put(page),
+            Command::Attachment { list, .. } => list.put(page),
+            _ => {}
+        }
+    }
 
     /// The command of an entry and of the data that the host sent with it, or the status of the
     /// first rule that it breaks: its opcode is unknown, it is fused or uses SGLs, a field of it
-    /// has no meaning. Bits without meaning are ignored, and so is data where the command has none.
+    /// has no meaning, its data isn't a page of 4,096 bytes or lists too many controllers. Bits
+    /// without meaning are ignored, and so is data where the command has none.
     pub fn of(entry: &Sqe, sent: &[u8]) -> Result<Command, StatusCode>
         ensures { result ≡ command_of entry.now sent.now }
     {
         match Opcode::of(entry)? {
             Opcode::Identify => identify::command(entry),
+            Opcode::NamespaceManagement => management::command(entry, sent),
+            Opcode::NamespaceAttachment => management::attachment_command(entry, sent),
         }
     }
 }

@@ -47,6 +47,8 @@ impl Fields {
 #[derive(Clone, Copy, Debug, PartialEq, Eq)]
 pub enum Opcode {
     Identify,
+    NamespaceManagement,
+    NamespaceAttachment,
 }
 
 impl Opcode {
@@ -56,6 +58,8 @@ impl Opcode {
     {
         let opcode = match entry.opcode {
             0x06 => Opcode::Identify,
+            0x0d => Opcode::NamespaceManagement,
+            0x15 => Opcode::NamespaceAttachment,
             _ => return Err(StatusCode::InvalidCommandOpcode),
         };
         if entry.fuse != 0 || entry.psdt != 0 {

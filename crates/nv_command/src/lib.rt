@@ -10,11 +10,14 @@ ghost use Rattle.nv_command.specs.Travel.{CommandsTravel, RepliesTravel};
 mod command;
 mod entry;
 mod identify;
+mod management;
 mod refusal;
 mod reply;
 mod status_code;
 #[cfg(test)]
 mod tests;
+#[cfg(test)]
+mod tests_of_management;
 mod transfer;
 
 pub use command::{BROADCAST_NSID, Command};

@@ -14,6 +14,10 @@ pub enum Reply {
     Namespace(IdNs),
     /// NSIDs, ascending.
     List(NsList),
+    /// A number, in dword 0.
+    Number(u32),
+    /// Nothing but that it is done.
+    Done,
 }
 
 impl Reply {
@@ -24,16 +28,19 @@ impl Reply {
         match self {
             Reply::Namespace(_) => 0,
             Reply::List(_) => 0,
+            Reply::Number(number) => *number,
+            Reply::Done => 0,
         }
     }
 
-    /// Writes its data to the front of a page of 4,096 bytes.
+    /// Writes its data to the front of a page of 4,096 bytes; nothing where it has none.
     pub fn put(&self, page: &mut [u8; 4096])
         ensures { page.new ≡ with_data (data_of self.now) page.old }
     {
         match self {
             Reply::Namespace(namespace) => namespace.put(page),
             Reply::List(list) => list.put(page),
+            Reply::Number(_) | Reply::Done => {}
         }
     }
 
@@ -47,6 +54,9 @@ impl Reply {
             Command::AllocatedNamespace { nsid: _ } => identify::namespace(page),
             Command::ActiveList { after: _ } => identify::list(page),
             Command::AllocatedList { after: _ } => identify::list(page),
+            Command::Create { .. } => Reply::Number(dword0),
+            Command::Delete { nsid: _ } => Reply::Done,
+            Command::Attachment { .. } => Reply::Done,
         }
     }
 }

@@ -3,7 +3,7 @@
 ghost use Rattle.std.specs.Prelude.{◌≡◌, Option};
 ghost use Rattle.nv_command.specs.StatusCode.{first_code, name_of_code, name_of_status, row_of, status_of_code};
 
-use nv_layout::Status;
+use nv_layout::{LayoutError, Status};
 use std::error::Error;
 use std::fmt;
 
@@ -143,6 +143,20 @@ impl StatusCode {
         match StatusCode::first_of(&StatusCode::ALL, status) {
             Some(code) => code.name(),
             None => "Unknown",
+        }
+    }
+}
+
+impl From<LayoutError> for StatusCode {
+    ghost use Rattle.std.specs.Prelude.{◌≡◌};
+    ghost use Rattle.nv_command.specs.StatusCode.{code_of_layout};
+
+    ghost from_gives = { λ error code. code ≡ code_of_layout error };
+
+    /// The status code with which such data is refused.
+    fn from(error: LayoutError) -> StatusCode {
+        match error {
+            LayoutError::CountTooLarge => StatusCode::ControllerListInvalid,
         }
     }
 }

@@ -4,8 +4,8 @@ ghost use Rattle.std.specs.Prelude.{◌≡◌};
 ghost use Rattle.nv_command.specs.Decoding.{transfer_of};
 
 use crate::entry::Opcode;
-use crate::identify;
 use crate::status_code::StatusCode;
+use crate::{identify, management};
 use nv_layout::Sqe;
 
 /// Which way the data of a command goes beside its entry and its completion, and how many bytes it
@@ -28,6 +28,8 @@ impl Transfer {
     {
         match Opcode::of(entry)? {
             Opcode::Identify => identify::transfer(entry),
+            Opcode::NamespaceManagement => management::transfer(entry),
+            Opcode::NamespaceAttachment => management::attachment_transfer(entry),
         }
     }
 }

@@ -3,6 +3,7 @@ pub mod Status
 pub mod Sqe
 pub mod Cqe
 pub mod NsList
+pub mod CtrlList
 pub mod IdNs
 pub mod PartLaws
 pub mod TableLaws

@@ -1,6 +1,6 @@
 -- One field over some bytes, and the reading of numbers.
 use Rattle.std.proofs.Common.{◌≡◌, ◌∙◌, ℕ, zero, suc, ◌+◌, ◌-◌, ◌*◌, ◌%◌, ◌^◌, ◌<◌, ◌≤◌, ap, refl, sym, arith, mul-zero, List, [], ◌∷◌, ◌++◌, take, drop, set, length, get_or, map}
-use Rattle.std.specs.List.{flat_map}
+use Rattle.std.specs.List.{AllByRecursion, flat_map}
 use Rattle.std.proofs.lemmas.Grind.{common_steps, same_number_lists}
 use Rattle.std.proofs.lemmas.List.{drop-append-le, drop-drop, drop-take, length-append, length-drop, length-replicate, length-take-le, set_split, take-append-le}
 use Rattle.std.proofs.lemmas.Nat.{mod_below, one_shl, pow_pos, shl_whole}
@@ -119,6 +119,22 @@ numbers_read at width n bytes xs e h =
     let size : length (numbers_at at width n bytes) ≡ n = length-numbers_at at width n bytes in
     same_number_lists xs (numbers_at at width n bytes) (e ∙ sym size)
     (λ k below. h k (omega (arith, e)) ∙ sym (get_or-numbers_at at width n bytes k (omega (arith, e))))
+
+-- the first of them
+pub take_numbers_at : (k at width n : ℕ) (bytes : List ℕ) → k ≤ n
+    → take k (numbers_at at width n bytes) ≡ numbers_at at width k bytes
+unfolding numbers_at
+take_numbers_at zero at width n bytes h = refl
+take_numbers_at (suc k) at width zero bytes h = absurd (omega arith)
+take_numbers_at (suc k) at width (suc n) bytes h =
+    ap (λ rest. number_at at width bytes ∷ rest) (take_numbers_at k (at + width) width n bytes (omega arith))
+
+-- what holds of each by its index
+pub all_below : (limit : ℕ) (xs : List ℕ) → ((k : ℕ) → k < length xs → get_or xs k 0 < limit)
+    → AllByRecursion (λ x. x < limit) xs
+all_below limit [] h = tt
+all_below limit (x ∷ xs) h =
+    (h 0 (omega arith), all_below limit xs (λ k below. let at : get_or xs k 0 < limit = h (suc k) (omega arith) in at))
 
 -- a number in a part of the bytes
 pub number_at-part : (at width size skip : ℕ) (bytes : List ℕ) → skip + width ≤ size

@@ -1,11 +1,12 @@
 -- Each record whose fields fit reads back, and how many bytes it has.
-use Rattle.std.proofs.Common.{◌≡◌, ◌≢◌, ◌∙◌, ℕ, Bool, true, false, ◌==◌, ◌+◌, ◌^◌, ◌<◌, ◌≤◌, ap, refl, arith, List, [], ◌∷◌, length, map}
+use Rattle.std.proofs.Common.{◌≡◌, ◌≢◌, ◌∙◌, ℕ, Bool, true, false, ◌==◌, ◌+◌, ◌^◌, ◌<◌, ◌≤◌, nat_le, ap, refl, arith, List, [], ◌∷◌, length, map}
 use Rattle.std.specs.List.{AllByRecursion, before_first}
 use Rattle.std.proofs.lemmas.List.{length-map}
 use Rattle.nv_layout.specs.Cqe.{CqeReadsBack, bytes_of_cqe, cqe_of_bytes, cqe_parts}
+use Rattle.nv_layout.specs.CtrlList.{CtrlListReadsBack, bytes_of_ctrl_list, ctrl_list_of_bytes, ctrl_list_parts}
 use Rattle.nv_layout.specs.IdNs.{IdNsReadsBack, LbafFits, bytes_of_id_ns, id_ns_of_bytes, id_ns_parts, lbaf_of_number, number_of_lbaf}
 use Rattle.nv_layout.specs.NsList.{bytes_of_ns_list, is_zero, ns_list_of_bytes, ns_list_parts}
-use Rattle.nv_layout.specs.Parts.{Fits, at_bits, bit, bits, numbers}
+use Rattle.nv_layout.specs.Parts.{Fits, at_bits, bit, bits, is_table, numbers}
 use Rattle.nv_layout.specs.Sqe.{SqeReadsBack, bytes_of_sqe, sqe_of_bytes, sqe_parts}
 use Rattle.nv_layout.specs.Status.{StatusReadsBack, number_of_status, status_of_number}
 use Rattle.nv_layout.specs.declared.cqe.Cqe.{Cqe}
@@ -131,6 +132,24 @@ unfolding bytes_of_ns_list ns_list_of_bytes
 ns_list_back ids h fits =
     let all = table_back 4096 (ns_list_parts ids) refl ((length-padded 1024 ids h, padded_fits 1024 ids fits), tt) in
     ap (before_first is_zero) all.0 ∙ before_first-padded 1024 ids fits
+
+-- ---- controller lists
+
+is_table_of_ids : (ids : List ℕ) → length ids ≤ 2047 → is_table 0 4096 (ctrl_list_parts ids) ≡ true
+is_table_of_ids ids h = grind arith
+
+pub length-bytes_of_ctrl_list : (ids : List ℕ) → length ids ≤ 2047 → length (bytes_of_ctrl_list ids) ≡ 4096
+unfolding bytes_of_ctrl_list
+length-bytes_of_ctrl_list ids h =
+    length-laid_out 4096 (ctrl_list_parts ids) (is_table_of_ids ids h) (tt, (refl, tt))
+
+pub ctrl_list_back : CtrlListReadsBack
+unfolding bytes_of_ctrl_list ctrl_list_of_bytes
+ctrl_list_back ids fits =
+    let parts_fit : AllByRecursion Fits (ctrl_list_parts ids) = (omega (arith, fits.count), ((refl, fits.numbers), tt)) in
+    let (count, (each, end)) = table_back 4096 (ctrl_list_parts ids) (is_table_of_ids ids fits.count) parts_fit in
+    let room : nat_le (length ids) 2047 ≡ true = grind (arith, fits.count) in
+    rw (count, room, each)
 
 -- ---- namespaces
 

@@ -16,12 +16,14 @@
 #![tactic(auto)]
 
 ghost use Rattle.nv_layout.specs.Cqe.{CqeReadsBack};
+ghost use Rattle.nv_layout.specs.CtrlList.{CtrlListReadsBack};
 ghost use Rattle.nv_layout.specs.IdNs.{IdNsReadsBack};
 ghost use Rattle.nv_layout.specs.NsList.{NsListReadsBack};
 ghost use Rattle.nv_layout.specs.Sqe.{SqeReadsBack};
 ghost use Rattle.nv_layout.specs.Status.{StatusReadsBack};
 
 mod cqe;
+mod ctrl_list;
 mod error_entry;
 mod id_ns;
 mod ns_list;
@@ -32,6 +34,7 @@ mod status;
 mod tests;
 
 pub use cqe::Cqe;
+pub use ctrl_list::{CtrlList, LayoutError};
 pub use error_entry::ErrorEntry;
 pub use id_ns::{IdNs, Lbaf};
 pub use ns_list::NsList;
@@ -47,4 +50,5 @@ pub fn reads_back()
     ensures status { StatusReadsBack }
     ensures id_ns { IdNsReadsBack }
     ensures ns_list { NsListReadsBack }
+    ensures ctrl_list { CtrlListReadsBack }
 {}

@@ -1,6 +1,7 @@
 //! Numbers at their places in a record's bytes, and in the bits of a number.
 
-ghost use Rattle.std.specs.Prelude.{◌≡◌, ◌≤◌, ◌<◌, ◌+◌, ◌*◌, length};
+ghost use Rattle.std.specs.Prelude.{◌≡◌, ◌≤◌, ◌<◌, ◌+◌, ◌*◌, ◌^◌, length};
+ghost use Rattle.std.specs.List.{AllByRecursion};
 ghost use Rattle.nv_layout.specs.Parts.{at_bits, bits, number, number_at, numbers, numbers_at, placed, zeros};
 
 use byteorder::{ByteOrder, LittleEndian};
@@ -61,6 +62,14 @@ pub fn put_u32s<const N: usize>(out: &mut [u8], at: usize, values: &[u32; N])
     LittleEndian::write_u32_into(values, &mut out[at..at + 4 * N]);
 }
 
+#[tactic(auto, unfolding(crate::specs::Parts::placed))]
+pub fn put_u16s(out: &mut [u8], at: usize, values: &[u16])
+    requires { at + 2 * length values.now ≤ length out.old }
+    ensures { out.new ≡ placed out.old (numbers at 2 (length values.now) values.now) }
+{
+    LittleEndian::write_u16_into(values, &mut out[at..at + 2 * values.len()]);
+}
+
 #[tactic(auto, unfolding(crate::specs::Parts::number_at))]
 pub fn u8_at(bytes: &[u8], at: usize) -> u8
     requires { at < length bytes.now }
@@ -99,6 +108,20 @@ pub fn u128_at(bytes: &[u8], at: usize) -> u128
     ensures { result ≡ number_at at 16 bytes.now }
 {
     LittleEndian::read_u128(&bytes[at..])
+}
+
+/// Each of the numbers fits two bytes, as its type says. The call does nothing.
+pub fn each_u16_fits(values: &[u16])
+    ensures { AllByRecursion (λ x. x < 2 ^ 16) values.now }
+{}
+
+pub fn u16s_at<const N: usize>(bytes: &[u8], at: usize) -> [u16; N]
+    requires { at + 2 * N ≤ length bytes.now }
+    ensures { result ≡ numbers_at at 2 N bytes.now }
+{
+    let mut values = [0; N];
+    LittleEndian::read_u16_into(&bytes[at..at + 2 * N], &mut values);
+    values
 }
 
 pub fn u32s_at<const N: usize>(bytes: &[u8], at: usize) -> [u32; N]

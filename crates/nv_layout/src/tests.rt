@@ -176,3 +176,54 @@ fn namespace_lists_compare_and_print_as_lists(rt: HostRuntime) -> Result<(), Fai
     assert!(rt; format!(in rt.alloc(); "{two:?}")?.as_str() == "[1, 3]");
     Ok(())
 }
+
+#[test]
+fn controller_list_by_its_bytes(rt: HostRuntime) -> Result<(), Fail> {
+    let mut list = CtrlList::new();
+    assert!(rt; list.is_empty());
+    list.push(0xffef);
+    list.push(0);
+    list.push(5);
+    assert_eq!(rt; list.len(), 3);
+    let mut bytes = [0; 4096];
+    write_pieces(&rt, &mut bytes, &[(0, &[3, 0, 0xef, 0xff, 0, 0, 5, 0])]);
+    let mut out = [0xff; 4096];
+    list.put(&mut out);
+    assert_eq!(rt; out, bytes);
+    assert_eq!(rt; CtrlList::get(&bytes), Ok(list));
+    let none = CtrlList::get(&[0; 4096])?;
+    assert_eq!(rt; none, CtrlList::new());
+    Ok(())
+}
+
+#[test]
+fn controller_list_is_full_or_too_long(rt: HostRuntime) -> Result<(), Fail> {
+    let mut bytes = [7; 4096];
+    write_pieces(&rt, &mut bytes, &[(0, &[0xff, 0x07])]);
+    let full = CtrlList::get(&bytes)?;
+    assert_eq!(rt; full.as_slice(), [0x0707; 2047].as_slice());
+    let mut out = [0; 4096];
+    full.put(&mut out);
+    assert_eq!(rt; out, bytes);
+    write_pieces(&rt, &mut bytes, &[(0, &[0x00, 0x08])]);
+    assert_eq!(rt; CtrlList::get(&bytes), Err(LayoutError::CountTooLarge));
+    let text = format!(in rt.alloc(); "{}", LayoutError::CountTooLarge)?;
+    assert_eq!(rt;
+        text.as_str(),
+        "a controller list has more than 2,047 identifiers"
+    );
+    Ok(())
+}
+
+#[test]
+fn controller_lists_compare_and_print_as_lists(rt: HostRuntime) -> Result<(), Fail> {
+    let mut one = CtrlList::new();
+    one.push(1);
+    let mut two = CtrlList::new();
+    two.push(1);
+    assert!(rt; one == two);
+    two.push(3);
+    assert!(rt; one != two);
+    assert!(rt; format!(in rt.alloc(); "{two:?}")?.as_str() == "[1, 3]");
+    Ok(())
+}

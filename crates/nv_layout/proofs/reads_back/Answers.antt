@@ -1,4 +1,4 @@
-use Rattle.nv_layout.specs.RecordLaws.{cqe_back, id_ns_back, ns_list_back, sqe_back, status_back}
+use Rattle.nv_layout.specs.RecordLaws.{cqe_back, ctrl_list_back, id_ns_back, ns_list_back, sqe_back, status_back}
 use Rattle.nv_layout.proofs.reads_back.Goals as goal
 
 pub returns-clause-sqe : goal.returns-clause-sqe
@@ -15,3 +15,6 @@ returns-clause-id_ns c = id_ns_back
 
 pub returns-clause-ns_list : goal.returns-clause-ns_list
 returns-clause-ns_list c = ns_list_back
+
+pub returns-clause-ctrl_list : goal.returns-clause-ctrl_list
+returns-clause-ctrl_list c = ctrl_list_back

@@ -1,0 +1,162 @@
+//! The commands of Namespace Management and Namespace Attachment. Sections "Namespace Management
+//! command" and "Namespace Attachment command".
+
+ghost use Rattle.std.specs.Prelude.{◌≡◌, Err, MatchResult, Ok};
+ghost use Rattle.nv_command.specs.Management.{AttachmentFits, CreateFits, asked, attachment_command, attachment_fields, attachment_transfer};
+ghost use Rattle.nv_command.specs.Management.{is_detach, management_command, management_fields, management_transfer, page_of, select_of};
+
+use crate::command::Command;
+use crate::entry::Fields;
+use crate::status_code::StatusCode;
+use crate::transfer::Transfer;
+use nv_layout::{CtrlList, IdNs, Lbaf, Sqe};
+
+/// The data of a command that creates, attaches or detaches.
+pub const TRANSFER: Transfer = Transfer::FromHost(4096);
+
+/// The fields of a Namespace Management command with this Select.
+pub fn fields(select: u8) -> Fields
+    ensures { result ≡ management_fields select }
+{
+    Fields {
+        opcode: 0x0d,
+        cdw10: select as u32,
+        cdw11: 0,
+        cdw12: 0,
+        cdw13: 0,
+    }
+}
+
+/// The fields of a Namespace Attachment command.
+pub fn attachment_fields(detach: bool) -> Fields
+    ensures { result ≡ attachment_fields detach }
+{
+    Fields {
+        opcode: 0x15,
+        cdw10: detach as u32,
+        cdw11: 0,
+        cdw12: 0,
+        cdw13: 0,
+    }
+}
+
+/// What the host sends to create a namespace: the fields that it chooses, and zeros.
+pub fn asked(nsze: u64, ncap: u64, flbas: u8, dps: u8, nmic: u8) -> IdNs
+    ensures { result ≡ asked nsze ncap flbas dps nmic }
+{
+    let none = Lbaf {
+        ms: 0,
+        lbads: 0,
+        rp: 0,
+    };
+    IdNs {
+        nsze,
+        ncap,
+        nuse: 0,
+        nsfeat: 0,
+        nlbaf: 0,
+        flbas,
+        mc: 0,
+        dpc: 0,
+        dps,
+        nmic,
+        nvmcap: 0,
+        lbafs: [none; 16],
+    }
+}
+
+/// What is chosen of a namespace to create fits its bits, as its types say. The call does nothing.
+pub fn create_fits(nsze: u64, ncap: u64, flbas: u8, dps: u8, nmic: u8)
+    ensures { CreateFits nsze ncap flbas dps nmic }
+{}
+
+/// What an attachment says fits its bits, as its types say. The call does nothing.
+pub fn attachment_fits(nsid: u32, list: &CtrlList)
+    ensures { AttachmentFits nsid list.now }
+{
+    list.as_slice();
+}
+
+/// The field Select of an entry.
+fn select(entry: &Sqe) -> u32
+    ensures { result ≡ select_of entry.now }
+{
+    entry.cdw10 % 0x10
+}
+
+/// What the host sent, where it is a page.
+fn page(sent: &[u8]) -> Result<&[u8; 4096], StatusCode>
+    ensures { MatchResult result (λ page. page_of sent.now ≡ Ok page.now) (λ code. page_of sent.now ≡ Err code) }
+{
+    sent.try_into().map_err(|_| StatusCode::DataTransferError)
+}
+
+/// The command of a Namespace Management entry.
+pub fn command(entry: &Sqe, sent: &[u8]) -> Result<Command, StatusCode>
+    ensures { result ≡ management_command entry.now sent.now }
+{
+    match select(entry) {
+        0x0 => {
+            let IdNs {
+                nsze,
+                ncap,
+                flbas,
+                dps,
+                nmic,
+                ..
+            } = IdNs::get(page(sent)?);
+            Ok(Command::Create {
+                nsze,
+                ncap,
+                flbas,
+                dps,
+                nmic,
+            })
+        }
+        0x1 => Ok(Command::Delete { nsid: entry.nsid }),
+        _ => Err(StatusCode::InvalidFieldInCommand),
+    }
+}
+
+/// The data of a Namespace Management entry.
+pub fn transfer(entry: &Sqe) -> Result<Transfer, StatusCode>
+    ensures { result ≡ management_transfer entry.now }
+{
+    match select(entry) {
+        0x0 => Ok(TRANSFER),
+        0x1 => Ok(Transfer::NoData),
+        _ => Err(StatusCode::InvalidFieldInCommand),
+    }
+}
+
+/// Whether a Namespace Attachment entry detaches.
+fn is_detach(entry: &Sqe) -> Result<bool, StatusCode>
+    ensures { result ≡ is_detach entry.now }
+{
+    match select(entry) {
+        0x0 => Ok(false),
+        0x1 => Ok(true),
+        _ => Err(StatusCode::InvalidFieldInCommand),
+    }
+}
+
+/// The command of a Namespace Attachment entry.
+pub fn attachment_command(entry: &Sqe, sent: &[u8]) -> Result<Command, StatusCode>
+    ensures { result ≡ attachment_command entry.now sent.now }
+{
+    let detach = is_detach(entry)?;
+    let list = CtrlList::get(page(sent)?)?;
+    Ok(Command::Attachment {
+        nsid: entry.nsid,
+        detach,
+        list,
+    })
+}
+
+/// The data of a Namespace Attachment entry.
+pub fn attachment_transfer(entry: &Sqe) -> Result<Transfer, StatusCode>
+    ensures { result ≡ attachment_transfer entry.now }
+{
+    is_detach(entry)?;
+    Ok(TRANSFER)
+}
