@@ -46,6 +46,8 @@ answer_sound s c k cid w = answer_by (refusal_of s c k) s c k cid w (refusal_fit
 dword0_fits : (r : Reply) → FitsRecord r → dword0_of r < 2 ^ 32
 dword0_fits (reply.Namespace r) fits = lit< tt
 dword0_fits (reply.List ids) fits = lit< tt
+dword0_fits (reply.Number n) fits = fits
+dword0_fits reply.Done fits = lit< tt
 
 pub completion_fits : (k : Command) (cid head : ℕ) (a : Answer) → cid < 2 ^ 16 → head < 2 ^ 16 → IsAnswerTo k a → CqeFits (completion_with cid head a)
 completion_fits k cid head (Ok r) low below is = record {

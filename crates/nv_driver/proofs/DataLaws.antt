@@ -6,7 +6,7 @@ use Rattle.nv_command.specs.Command.{CommandFits, bytes_from_host, bytes_to_host
 use Rattle.nv_command.specs.Reply.{reply_in, with_data}
 use Rattle.nv_command.specs.TravelLaws.{commands_travel}
 use Rattle.nv_command.specs.declared.command.Command.{Command}
-use Rattle.nv_command.specs.declared.command.Command.TheVariants.{IdentifyNamespace, AllocatedNamespace, ActiveList, AllocatedList}
+use Rattle.nv_command.specs.declared.command.Command.TheVariants.{IdentifyNamespace, AllocatedNamespace, ActiveList, AllocatedList, Create, Delete, Attachment}
 use Rattle.nv_command.specs.declared.transfer.Transfer.{Transfer}
 use Rattle.nv_command.specs.declared.transfer.Transfer.TheVariants.{NoData, ToHost, FromHost}
 use Rattle.nv_controller.specs.Call.{length_of, sent_from}
@@ -24,6 +24,9 @@ shape (IdentifyNamespace n) = refl
 shape (AllocatedNamespace n) = refl
 shape (ActiveList after) = refl
 shape (AllocatedList after) = refl
+shape (Create nsze ncap flbas dps nmic) = refl
+shape (Delete n) = tt
+shape (Attachment n detach ids) = refl
 
 -- a reply without data is read from any page
 pub read_anywhere : (k : Command) (dword0 : ℕ) (page other : List ℕ) → bytes_to_host (transfer_by k) ≡ 0 → reply_in k dword0 page ≡ reply_in k dword0 other
@@ -31,6 +34,9 @@ read_anywhere (IdentifyNamespace n) dword0 page other none = absurd (omega (arit
 read_anywhere (AllocatedNamespace n) dword0 page other none = absurd (omega (arith, none))
 read_anywhere (ActiveList after) dword0 page other none = absurd (omega (arith, none))
 read_anywhere (AllocatedList after) dword0 page other none = absurd (omega (arith, none))
+read_anywhere (Create nsze ncap flbas dps nmic) dword0 page other none = refl
+read_anywhere (Delete n) dword0 page other none = refl
+read_anywhere (Attachment n detach ids) dword0 page other none = refl
 
 -- ---- in general
 
