@@ -1,10 +1,9 @@
 -- What an answer is, and that it is read as it is where its completion and its data lie.
-use Rattle.std.proofs.Common.{◌≡◌, ◌∙◌, ℕ, ◌<◌, ◌^◌, ◌==◌, ◌&&◌, false, Err, List, None, Ok, Option, Some, ap, arith, length, lit<, refl, sym}
+use Rattle.std.proofs.Common.{◌≡◌, ℕ, ◌<◌, ◌^◌, ◌==◌, ◌&&◌, false, Err, List, None, Ok, Option, Some, ap, arith, lit<, refl}
 use Rattle.std.proofs.lemmas.Bool.Decides.{nat_tests}
 use Rattle.nv_layout.specs.Cqe.{CqeFits}
 use Rattle.nv_layout.specs.Status.{StatusFits}
 use Rattle.nv_layout.specs.declared.status.Status.{Status}
-use Rattle.nv_prp.specs.Place.{read_at}
 use Rattle.nv_command.specs.Refusal.{IsRefusal}
 use Rattle.nv_command.specs.Reply.{FitsRecord, IsReplyTo, data_of, dword0_of}
 use Rattle.nv_command.specs.TravelLaws.{replies_travel}
@@ -19,11 +18,9 @@ use Rattle.nv_subsystem.specs.Step.{step, step_by}
 use Rattle.nv_subsystem.specs.StepLaws.{refusal_fits}
 use Rattle.nv_subsystem.specs.WellFormed.{IsWellFormed}
 use Rattle.nv_controller.specs.Entry.{completion_with}
-use Rattle.nv_controller.specs.CallLaws.{transfer_by-page}
-use Rattle.nv_controller.specs.Call.{length_of}
-use Rattle.nv_command.specs.Command.{bytes_to_host}
+use Rattle.nv_command.specs.Command.{transfer_by}
 use Rattle.nv_queue.specs.Slots.{posted_as}
-use Rattle.nv_driver.specs.Schedule.{Answer, Sent, Setting, answer_read, data_length, is_success, places}
+use Rattle.nv_driver.specs.Schedule.{Answer, Sent, Setting, answer_read, is_success, places, received_from}
 
 -- a reply that its command can have and its record holds, or a status that is no success
 abbrev pub IsAnswerTo : Command → Answer → Type 0
@@ -46,13 +43,15 @@ answer_sound s c k cid w = answer_by (refusal_of s c k) s c k cid w (refusal_fit
 
 -- ---- completions
 
-dword0_fits : (r : Reply) → dword0_of r < 2 ^ 32
-dword0_fits (reply.Namespace r) = lit< tt
-dword0_fits (reply.List ids) = lit< tt
+dword0_fits : (r : Reply) → FitsRecord r → dword0_of r < 2 ^ 32
+dword0_fits (reply.Namespace r) fits = lit< tt
+dword0_fits (reply.List ids) fits = lit< tt
+dword0_fits (reply.Number n) fits = fits
+dword0_fits reply.Done fits = lit< tt
 
 pub completion_fits : (k : Command) (cid head : ℕ) (a : Answer) → cid < 2 ^ 16 → head < 2 ^ 16 → IsAnswerTo k a → CqeFits (completion_with cid head a)
 completion_fits k cid head (Ok r) low below is = record {
-  command_specific = dword0_fits r;
+  command_specific = dword0_fits r is.1;
   sq_head = below;
   sq_identifier = lit< tt;
   cid = low;
@@ -66,9 +65,9 @@ completion_fits k cid head (Err status) low below is = record {
   status = is.0;
 }
 
--- the data of a reply lies at the places of the command
+-- what a reply's command receives is the data of the reply
 abbrev pub Delivers : Setting → Sent → List ℕ → Answer → Type 0
-Delivers t x mem (Ok r) = read_at mem (places t.page_size x) ≡ data_of r
+Delivers t x mem (Ok r) = received_from (transfer_by x.command) mem (places t.page_size x) ≡ data_of r
 Delivers t x mem (Err status) = Unit {0}
 
 pub answer_back : (t : Setting) (x : Sent) (mem : List ℕ) (depth n cid head : ℕ) (a : Answer) → IsAnswerTo x.command a → Delivers t x mem a
@@ -77,9 +76,3 @@ answer_back t x mem depth n cid head (Ok r) is delivered =
     let back = (replies_travel x.command r is.0 is.1).reply in
     rw delivered (ap Ok back)
 answer_back t x mem depth n cid head (Err status) is delivered = rw (is.1) refl
-
--- a reply's data is as long as its command's
-pub reply_length : (x : Sent) (r : Reply) → IsAnswerTo x.command (Ok r) → data_length x ≡ length (data_of r)
-reply_length x r is =
-    ap length_of (transfer_by-page x.command)
-    ∙ sym ((replies_travel x.command r is.0 is.1).bytes ∙ ap bytes_to_host (transfer_by-page x.command))

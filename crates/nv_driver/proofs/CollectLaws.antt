@@ -9,7 +9,6 @@ use Rattle.std.proofs.lemmas.Nat.{mod_below}
 use Rattle.std.specs.FinSet as set
 use Rattle.nv_host.specs.PageSets.{IsOf, Pages}
 use Rattle.nv_layout.specs.declared.cqe.Cqe.{Cqe}
-use Rattle.nv_prp.specs.Place.{read_at}
 use Rattle.nv_prp.specs.Transfer.{IsLegal, transfer, transfer_places}
 use Rattle.nv_queue.specs.KeptLaws.{between_kept, first_kept}
 use Rattle.nv_queue.specs.Numbers.{IsSlotBetween, first_in_slot}
@@ -20,8 +19,8 @@ use Rattle.nv_command.specs.Command.{transfer_by}
 use Rattle.nv_command.specs.declared.command.Command.{Command}
 use Rattle.nv_controller.specs.Call.{length_of}
 use Rattle.nv_driver.specs.CommandPages.{AreTaken, all_pages, with_pages, without}
-use Rattle.nv_driver.specs.Schedule.{Answer, Sent, World, answer_from, answer_read, answers_to, awaited, collect_ring, data_length, number, own_pages, places, slot, submit_ring}
-use Rattle.nv_driver.specs.Submitting.{sent_by}
+use Rattle.nv_driver.specs.Schedule.{Answer, Sent, World, answer_from, answer_read, answers_to, awaited, collect_ring, data_length, number, own_pages, places, received_from, slot, submit_ring}
+use Rattle.nv_driver.specs.Submitting.{sent_by, transfer_at}
 use Rattle.nv_driver.specs.UnderWay.{HasAnswers, IsKept, IsUnderWay, Run, kept_at, pages_of_all, serial_at, setting_of}
 use Rattle.nv_driver.specs.declared.batch.Batch.{Batch}
 use Rattle.nv_driver.specs.declared.lane.Lane.{Lane as LaneFields}
@@ -41,8 +40,8 @@ pub record IsOne (r : Run) (o : Outstanding) (x : Sent) : Type 0 where
   pub few : o.pages.data_pages ≤ 2
   pub pages : all_pages o.pages ≡ own_pages x
   pub legal : (mem : List ℕ) → length mem ≡ length r.bytes
-      → IsLegal (transfer r.geometry.page_size mem o.prp1 o.prp2 (data_length x))
-      × (transfer_places (transfer r.geometry.page_size mem o.prp1 o.prp2 (data_length x)) ≡ places r.geometry.page_size x)
+      → (0 < data_length x → IsLegal (transfer_at r.geometry.page_size mem o x.command))
+      × (transfer_places (transfer_at r.geometry.page_size mem o x.command) ≡ places r.geometry.page_size x)
 
 is_one : (r : Run) (found : Option Outstanding) (o : Outstanding) (x : Sent) → IsKept r found x → found ≡ Some o → IsOne r o x
 is_one r found o x k is =
@@ -53,11 +52,9 @@ is_one r found o x k is =
       few = omega (arith, k.few, ap (λ (q : Outstanding). q.pages.data_pages) same);
       pages = ap (λ (q : Outstanding). all_pages q.pages) (sym same) ∙ pages_are k.one.pages k.seven ∙ ap own_pages (sym k.sent);
       legal = λ mem size.
-          subst (λ (a : ℕ). IsLegal (transfer r.geometry.page_size mem a o.prp2 (data_length x))
-          × (transfer_places (transfer r.geometry.page_size mem a o.prp2 (data_length x)) ≡ places r.geometry.page_size x)) (ap (λ (y : Sent). y.prp1) as_sent)
-          (subst (λ (a : ℕ). IsLegal (transfer r.geometry.page_size mem x.prp1 a (data_length x))
-          × (transfer_places (transfer r.geometry.page_size mem x.prp1 a (data_length x)) ≡ places r.geometry.page_size x)) (ap (λ (y : Sent). y.prp2) as_sent)
-          (k.legal mem size));
+          subst (λ (y : Sent). (0 < data_length x → IsLegal (transfer r.geometry.page_size mem y.prp1 y.prp2 (data_length x)))
+          × (transfer_places (transfer r.geometry.page_size mem y.prp1 y.prp2 (data_length x)) ≡ places r.geometry.page_size x)) as_sent
+          (k.legal mem size);
     }
 
 -- more was collected than was told
@@ -244,25 +241,26 @@ module _ {r : Run} {bells turns : ℕ} {b : Batch} {l : LaneFields} {now : ℕ} 
       -- ---- the answer
 
       module _ {k : Command} (same : k ≡ next_one.command) where
-        pub answer_legal : IsLegal (transfer now bytes o.prp1 o.prp2 (length_of (transfer_by k)))
+        pub answer_legal : 0 < length_of (transfer_by k) → IsLegal (transfer_at now bytes o k)
         answer_legal =
-            subst (λ c. IsLegal (transfer now bytes o.prp1 o.prp2 (length_of (transfer_by c)))) (sym same)
-            (subst (λ p. IsLegal (transfer p bytes o.prp1 o.prp2 (data_length next_one))) (sym u.page_size) (one_is.legal bytes u.size).0)
+            subst (λ c. 0 < length_of (transfer_by c) → IsLegal (transfer_at now bytes o c)) (sym same)
+            (subst (λ p. 0 < data_length next_one → IsLegal (transfer_at p bytes o next_one.command)) (sym u.page_size) (one_is.legal bytes u.size).0)
 
-        answer_is : (d : Answer) → answer_from k q (read_at bytes (transfer_places (transfer now bytes o.prp1 o.prp2 (length_of (transfer_by k)))))
+        answer_is : (d : Answer) → answer_from k q (received_from (transfer_by k) bytes (transfer_places (transfer_at now bytes o k)))
             ≡ get_or (answers_to r.controller r.bus.state u.world.sent) b.collected d
         answer_is d =
             let t = setting_of r in
             let held = u.keeps.held b.collected no_command (omega (arith, u.collected)) (omega (arith, more, u.done)) in
-            ap (λ c. answer_from c q (read_at bytes (transfer_places (transfer now bytes o.prp1 o.prp2 (length_of (transfer_by c)))))) same
-            ∙ ap (λ p. answer_from next_one.command q (read_at bytes (transfer_places (transfer p bytes o.prp1 o.prp2 (data_length next_one))))) u.page_size
-            ∙ ap (λ ps. answer_from next_one.command q (read_at bytes ps)) (one_is.legal bytes u.size).1
+            let k' = next_one.command in
+            ap (λ c. answer_from c q (received_from (transfer_by c) bytes (transfer_places (transfer_at now bytes o c)))) same
+            ∙ ap (λ p. answer_from k' q (received_from (transfer_by k') bytes (transfer_places (transfer_at p bytes o k')))) u.page_size
+            ∙ ap (λ ps. answer_from k' q (received_from (transfer_by k') bytes ps)) (one_is.legal bytes u.size).1
             ∙ ap (λ m. answer_read t.page_size next_one m q) (sym u.mem)
             ∙ ap (answer_read t.page_size next_one u.world.mem) completion_is
             ∙ held.answer d
 
         pub answers_more : {answers : List Answer} {a : Answer} {n : ℕ} → n ≡ b.collected → HasAnswers r b.collected answers
-            → a ≡ answer_from k q (read_at bytes (transfer_places (transfer now bytes o.prp1 o.prp2 (length_of (transfer_by k)))))
+            → a ≡ answer_from k q (received_from (transfer_by k) bytes (transfer_places (transfer_at now bytes o k)))
             → HasAnswers r (b.collected + 1) (set answers n a)
         answers_more {answers} {a} {n} at has is =
             let c = r.controller in

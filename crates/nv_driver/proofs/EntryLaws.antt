@@ -1,5 +1,5 @@
 -- What one entry of a turn keeps.
-use Rattle.std.proofs.Common.{◌≡◌, ◌∙◌, ◌⊎◌, ℕ, ◌+◌, ◌*◌, ◌<◌, ◌≤◌, ◌^◌, List, ap, arith, get_or, inl, inr, length, refl, subst, sym}
+use Rattle.std.proofs.Common.{◌≡◌, ◌∙◌, ℕ, ◌+◌, ◌*◌, ◌<◌, ◌≤◌, ◌^◌, List, ap, arith, get_or, inl, inr, length, lit<, refl, subst, sym}
 use Rattle.std.proofs.Math.Nat.{mul-le-mul_left}
 use Rattle.std.proofs.lemmas.Bool.{cases_lt}
 use Rattle.std.proofs.lemmas.List.{get_or_default}
@@ -8,13 +8,12 @@ use Rattle.nv_host.specs.PageLaws.{page_size_bounds}
 use Rattle.nv_layout.specs.Cqe.{CqeFits}
 use Rattle.nv_layout.specs.Sqe.{sqe_of_bytes}
 use Rattle.nv_layout.specs.declared.cqe.Cqe.{Cqe}
-use Rattle.nv_prp.specs.Buffer.{IsApart}
 use Rattle.nv_queue.specs.SlotLaws.{length-with_completion, put_written}
 use Rattle.nv_queue.specs.Slots.{HoldsTags, WritesCompletion, completion_at, posted_as}
 use Rattle.nv_queue.specs.TagLaws.{tags_after}
 use Rattle.nv_command.specs.Command.{CommandFits, namespace_of}
 use Rattle.nv_command.specs.declared.command.Command.{Command}
-use Rattle.nv_command.specs.declared.command.Command.TheVariants.{IdentifyNamespace, AllocatedNamespace, ActiveList, AllocatedList}
+use Rattle.nv_command.specs.TravelLaws.{commands_travel}
 use Rattle.nv_subsystem.specs.WellFormed.{IsWellFormed}
 use Rattle.nv_subsystem.specs.State.{State}
 use Rattle.nv_subsystem.specs.Step.{step}
@@ -22,18 +21,14 @@ use Rattle.nv_subsystem.specs.StepLaws.{step_controllers, step_keeps}
 use Rattle.nv_controller.specs.Entry.{Scene, completion_with, scene}
 use Rattle.nv_controller.specs.Turn.{Takes}
 use Rattle.nv_controller.specs.TurnLaws.{length_moved}
-use Rattle.nv_driver.specs.Schedule.{Answer, AreApart, Holds, Sent, Setting, World, after, answer_read, device_rings, number, places, port_with, slot}
+use Rattle.nv_driver.specs.Schedule.{Answer, AreApart, Holds, Sent, Setting, World, answer_read, device_rings, number, places, port_with, slot}
 use Rattle.nv_driver.proofs.AnswerLaws.{IsAnswerTo, answer_back, answer_sound, completion_fits}
 use Rattle.nv_driver.proofs.CountLaws.{number_below, number_next, slot_inside, slots_differ}
 use Rattle.nv_driver.proofs.HeldLaws.{holds_on}
 use Rattle.nv_driver.specs.Keeping.{IsOwn, Keeps}
-use Rattle.nv_driver.proofs.RegionLaws.{ChangesOnlyAt, completion_keeps, data_stays, length-places, outside_part, place_beside, read_keeps}
+use Rattle.nv_driver.proofs.RegionLaws.{ChangesOnlyAt, apart-sym, completion_keeps, data_beside, data_stays, holds_sent_on, outside_part}
 use Rattle.nv_driver.proofs.SerialLaws.{after_more, answer_at}
 use Rattle.nv_driver.proofs.TakenLaws.{IsDone, can_go, delivered, is_done, moved_keeps, moved_slot, now}
-
-place_apart : (place from n : ℕ) → (place < from) ⊎ (from + n ≤ place) → IsApart from n place 1
-place_apart place from n (inl before) = inl (omega arith)
-place_apart place from n (inr behind) = inr behind
 
 slot_room : (size s depth : ℕ) → s < depth → size * s + size ≤ size * depth
 slot_room size s depth below =
@@ -41,10 +36,7 @@ slot_room size s depth below =
     let room = mul-le-mul_left size top in omega arith
 
 nsid_fits : (k : Command) → CommandFits k → namespace_of k < 2 ^ 32
-nsid_fits (IdentifyNamespace n) fits = fits
-nsid_fits (AllocatedNamespace n) fits = fits
-nsid_fits (ActiveList after) fits = fits
-nsid_fits (AllocatedList after) fits = fits
+nsid_fits k fits = (commands_travel k 0 fits (lit< tt)).fits.nsid
 
 -- the schedule after one entry
 abbrev pub world_after : Setting → World → Scene → World
@@ -84,13 +76,8 @@ one_more t s w y d k waits free one =
     ∙ moved_keeps t x a w.mem one.moved from i some own.enough one.moves outside in
     let there : completion_at y.bytes t.cq (slot t n) ≡ posted_as t.depth (number t n) posted = written.here in
     let same_slot = λ (j : ℕ) (low : j < t.depth). moved_slot t x a w.mem one.moved j some own.enough one.moves own.completions low in
-    let beside = λ (j : ℕ) (low : j < length (places t.page_size x)).
-    let data_size = length-places t x in
-    place_apart (get_or (places t.page_size x) j 0) t.cq (16 * t.depth)
-    (place_beside t x t.cq (16 * t.depth) j some own.enough own.completions (omega arith)) in
-    let same_data = read_keeps one.moved y.bytes (places t.page_size x)
-    (λ j low. ap (λ m. bytes_at m (get_or (places t.page_size x) j 0) 1) one.bytes
-    ∙ completion_keeps one.moved ring posted (get_or (places t.page_size x) j 0) 1 (omega (arith, deep.0)) inside (beside j low)) in
+    let same_data = data_beside t x t.cq (16 * t.depth) one.moved y.bytes some own.enough own.completions
+    (λ from i apart. ap (λ m. bytes_at m from i) one.bytes ∙ completion_keeps one.moved ring posted from i (omega (arith, deep.0)) inside apart) in
     let is_answer = λ (b : Answer).
     answer_at t.controller s w.sent n d b below ∙ ap (λ (q : State). (step q t.controller x.command x.cid).answer) (sym k.state) in
     let held_now : Holds t s (world_after t w y) n x = record {
@@ -117,6 +104,13 @@ one_more t s w y d k waits free one =
           ap sqe_of_bytes (only (t.sq + 64 * slot t i) 64
           (outside_part t x t.sq (64 * t.depth) (t.sq + 64 * slot t i) 64 own.submissions (omega arith) (omega arith))
           (inl (omega (arith, p.rings)))) ∙ k.waiting i e (omega arith) high;
+      to_send = λ i e from high.
+          let z = get_or w.sent i e in
+          let other = k.own i e (omega (arith, c.collected)) high in
+          let apart = subst (λ q. AreApart q z) (get_or_default w.sent n e d below) (k.apart n i e c.collected (omega arith) high) in
+          holds_sent_on t z w.mem y.bytes
+          (data_stays t x z t.cq (16 * t.depth) w.mem y.bytes some other.enough only (apart-sym x z apart) other.completions)
+          (k.to_send i e (omega arith) high);
       held = λ i e from high. elim (cases_lt i n) [
         | inl earlier ↦
             let z = get_or w.sent i e in

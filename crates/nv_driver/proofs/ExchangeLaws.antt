@@ -21,7 +21,7 @@ use Rattle.nv_subsystem.specs.State.{State}
 use Rattle.nv_controller.specs.Bus.{BusValue, IsBus, port_at}
 use Rattle.nv_controller.specs.Turn as T
 use Rattle.nv_controller.specs.Turn.{PortTurn, Site, can_take, site}
-use Rattle.nv_driver.specs.CommandPages.{all_pages, data_pages}
+use Rattle.nv_driver.specs.CommandPages.{all_pages}
 use Rattle.nv_prp.specs.Buffer.{IsApart}
 use Rattle.nv_driver.specs.Exchange.{IsReady, KeepsOthers}
 use Rattle.nv_driver.specs.Lane.{IsLaid}
@@ -102,9 +102,9 @@ may_submit g b c l l' now bytes after k o r fits sub =
       free = omega (arith, deep.0);
       fits = fits;
       cid = omega (arith, laid.serial);
-      buffer = buffer_of g l.pages o.pages bytes (data_pages o.pages) g.page_size _ r.geometry refl has refl sub.enough;
+      buffer = buffer_of g l.pages o.pages bytes g.page_size _ r.geometry refl has sub.enough;
       list = list_of g l.pages o.pages bytes g.page_size r.geometry refl has;
-      distinct = distinct_of l.pages o.pages (data_pages o.pages) sub.seven sub.taken refl;
+      distinct = distinct_of l.pages o.pages sub.seven sub.taken;
       submissions = before_pages l.pages x g.page_size l.submission.base (64 * l.submission.depth) own (omega (arith, laid.rings, laid.pages));
       completions = before_pages l.pages x g.page_size l.completion.base (16 * l.submission.depth) own laid.pages;
       apart = λ n d from below. absurd (omega arith);

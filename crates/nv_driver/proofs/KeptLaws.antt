@@ -45,6 +45,7 @@ idle_keeps t w i =
       own = λ n d from below. absurd (omega (arith, no_sent));
       apart = λ n m d from later below. absurd (omega (arith, no_sent));
       waiting = λ n d from below. absurd (omega (arith, no_sent));
+      to_send = λ n d from below. absurd (omega (arith, no_sent));
       held = λ n d from below. absurd (omega (arith, i.done));
       tags = subst (HoldsTags w.mem t.cq t.depth) (number_zero t i.start ∙ ap (number t) (sym i.done)) i.tags;
       answers = rw (i.answers) refl;
@@ -66,6 +67,7 @@ told_otherwise t s w rung told port k counts is = record {
   own = k.own;
   apart = k.apart;
   waiting = k.waiting;
+  to_send = k.to_send;
   held = λ n d from below. let h = k.held n d from below in record { answer = h.answer; cid = h.cid; head = h.head };
   tags = k.tags;
   answers = k.answers;
@@ -132,6 +134,7 @@ collected_one t s w d k below =
       own = λ i e from high. k.own i e (omega arith) high;
       apart = λ i j e from later high. k.apart i j e (omega arith) later high;
       waiting = k.waiting;
+      to_send = k.to_send;
       held = λ i e from high. let h = k.held i e (omega arith) high in record { answer = h.answer; cid = h.cid; head = h.head };
       tags = k.tags;
       answers = ap (λ xs. xs ++ a ∷ []) k.answers ∙ ap (λ x. take n all ++ x ∷ []) is

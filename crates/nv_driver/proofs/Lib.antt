@@ -11,6 +11,7 @@ pub mod AdminLaws
 pub mod SerialLaws
 pub mod CountLaws
 pub mod RegionLaws
+pub mod DataLaws
 pub mod PointerLaws
 pub mod KeptLaws
 pub mod AnswerLaws

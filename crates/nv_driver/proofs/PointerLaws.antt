@@ -1,5 +1,5 @@
 -- A command whose pages were made ready: what a controller finds of its entry.
-use Rattle.std.proofs.Common.{subst, ◌≡◌, ◌∙◌, ◌^◌, ℕ, refl, inl, inr, ◌+◌, ◌*◌, ◌<◌, ◌≤◌, List, [], Ok, ap, arith, length, sym}
+use Rattle.std.proofs.Common.{subst, ◌≡◌, ◌∙◌, ◌^◌, ℕ, refl, inl, inr, ◌+◌, ◌*◌, ◌<◌, ◌≤◌, List, Ok, ap, arith, length, sym}
 use Rattle.std.proofs.Math.Nat.{mul-le-mul_right}
 use Rattle.std.proofs.lemmas.Bool.{cases_lt}
 use Rattle.std.proofs.lemmas.Grind.{div_ceil_times}
@@ -7,19 +7,21 @@ use Rattle.std.proofs.lemmas.Nat.{mod_below}
 use Rattle.std.specs.Int.{div_ceil}
 use Rattle.nv_host.specs.Pages.{IsPageSize}
 use Rattle.nv_host.specs.PageLaws.{page_size_bounds}
-use Rattle.nv_prp.specs.Buffer.{IsFor, KeepsList, buffer_place, buffer_places}
+use Rattle.nv_prp.specs.Buffer.{IsFor, KeepsList, StaysFor, buffer_place, buffer_places}
 use Rattle.nv_prp.specs.PlaceLaws.{table-same}
 use Rattle.nv_prp.specs.Transfer.{IsLegal, Transfer, data_pages, offset, place_of, transfer, transfer_places}
 use Rattle.nv_command.specs.Command.{CommandFits, transfer_by}
 use Rattle.nv_layout.specs.declared.sqe.Sqe.{Sqe}
 use Rattle.nv_command.specs.Decoding.{command_of, transfer_of}
-use Rattle.nv_command.specs.Identify.{identify_data}
 use Rattle.nv_command.specs.TravelLaws.{commands_travel}
 use Rattle.nv_command.specs.declared.command.Command.{Command}
 use Rattle.nv_command.specs.declared.transfer.Transfer.{Transfer as Moves}
-use Rattle.nv_controller.specs.Call.{call_of, length_of, places_of}
-use Rattle.nv_controller.specs.CallLaws.{legal_places, transfer_by-page}
-use Rattle.nv_driver.specs.Schedule.{IsPrepared, Sent, Setting, data_length, entry, places}
+use Rattle.nv_command.specs.declared.transfer.Transfer.TheVariants.{FromHost, NoData, ToHost}
+use Rattle.nv_controller.specs.Call.{call_of, data_places, length_of, places_of, sent_from}
+use Rattle.nv_controller.specs.CallLaws.{legal_places, no_places}
+use Rattle.nv_driver.specs.Schedule.{HoldsSent, IsPrepared, Sent, Setting, data_length, entry, places}
+use Rattle.nv_driver.proofs.DataLaws.{HasShape, most, nothing, shape}
+use Rattle.nv_driver.proofs.RegionLaws.{length-places}
 
 -- ---- a page of data lies in two pages at most, and its transfer needs nothing of the memory but its size
 
@@ -40,7 +42,7 @@ two_pages from len size pages is low most same =
     let times = div_ceil_times (from + len) size (omega (arith, bounds)) in
     (subst (λ n. from + len ≤ n * size) (sym same) times.0, few pages size (from + len) (subst (λ n. n * size < from + len + size) (sym same) times.1) (omega (arith, bounds)))
 
-keeps : (t : Transfer) (first second : ℕ) (later : List ℕ) → IsPageSize t.page_size → t.len ≡ 4096 → length later ≡ length t.bytes
+keeps : (t : Transfer) (first second : ℕ) (later : List ℕ) → IsPageSize t.page_size → t.len ≤ 4096 → length later ≡ length t.bytes
     → KeepsList t first second later
 keeps t first second later is len same =
     let bounds = page_size_bounds t.page_size is in
@@ -51,40 +53,62 @@ keeps t first second later is len same =
       in_second = λ many. absurd (omega (arith, two.1));
     }
 
-named : (t : Transfer) (pages : List ℕ) (from : ℕ) → IsFor t pages from → transfer_places t ≡ buffer_places t.page_size pages from t.len
+named : (t : Transfer) (pages : List ℕ) (from : ℕ) → (0 < t.len → IsFor t pages from) → transfer_places t ≡ buffer_places t.page_size pages from t.len
 unfolding buffer_places transfer_places
-named t pages from is = table-same t.len (place_of t) (buffer_place t.page_size pages from) is.places
+named t pages from is = table-same t.len (place_of t) (buffer_place t.page_size pages from) (λ i below. (is (omega arith)).places i below)
 
 -- ---- the command of the entry
 
-pub data_page : (x : Sent) → data_length x ≡ 4096
-data_page x = ap length_of (transfer_by-page x.command)
+-- the data pointer names the places of the data, and its transfer is legal where there is data
+abbrev pub Names : ℕ → Sent → List ℕ → Type 0
+Names page_size x mem =
+    (0 < data_length x → IsLegal (transfer page_size mem x.prp1 x.prp2 (data_length x)))
+    × (transfer_places (transfer page_size mem x.prp1 x.prp2 (data_length x)) ≡ places page_size x)
+
+-- while its list stays
+abbrev pub StaysNamed : ℕ → Sent → List ℕ → Type 0
+StaysNamed page_size x mem =
+    0 < data_length x → StaysFor (transfer page_size mem x.prp1 x.prp2 (data_length x)) x.pages x.offset x.first x.second
+
+-- it does so in each memory of the size
+pub names_in : (page_size : ℕ) (x : Sent) (mem later : List ℕ) → IsPageSize page_size → StaysNamed page_size x mem → length later ≡ length mem
+    → Names page_size x later
+names_in page_size x mem later is stays same =
+    let still = λ (some : 0 < data_length x). stays some later
+    (keeps (transfer page_size mem x.prp1 x.prp2 (data_length x)) x.first x.second later is (most (transfer_by x.command) (shape x.command)) same) in
+    (λ some. (still some).legal, named (transfer page_size later x.prp1 x.prp2 (data_length x)) x.pages x.offset still)
+
+pub stays_in : (page_size : ℕ) (x : Sent) (mem later : List ℕ) → IsPageSize page_size → StaysNamed page_size x mem → length later ≡ length mem
+    → StaysNamed page_size x later
+stays_in page_size x mem later is stays same some last keep =
+    stays some last
+    (keeps (transfer page_size mem x.prp1 x.prp2 (data_length x)) x.first x.second last is (most (transfer_by x.command) (shape x.command)) (keep.len ∙ same))
 
 -- the data pointer of a prepared command stays legal, and names the same places
 pub still_legal : (page_size : ℕ) (x : Sent) (old ready mem : List ℕ) → IsPageSize page_size → IsPrepared page_size x old ready → length mem ≡ length ready
-    → IsLegal (transfer page_size mem x.prp1 x.prp2 (data_length x))
-    × (transfer_places (transfer page_size mem x.prp1 x.prp2 (data_length x)) ≡ places page_size x)
-still_legal page_size x old ready mem is prepared same =
-    let now = transfer page_size ready x.prp1 x.prp2 (data_length x) in
-    let still = prepared.stays mem (keeps now x.first x.second mem is (data_page x) same) in
-    (still.legal, named _ x.pages x.offset still)
+    → Names page_size x mem
+still_legal page_size x old ready mem is prepared same = names_in page_size x ready mem is prepared.stays same
 
-call_by : (e : Sqe) (at : List ℕ) (k : Command) (page_size : ℕ) (mem : List ℕ) (len : ℕ) → transfer_of e ≡ Ok identify_data → len ≡ 4096
-    → places_of (transfer page_size mem e.prp1 e.prp2 len) ≡ Ok at → command_of e [] ≡ Ok k
+places_by : (m : Moves) (page_size : ℕ) (mem : List ℕ) (e : Sqe) (at : List ℕ) → HasShape m → length at ≡ length_of m
+    → (0 < length_of m → places_of (transfer page_size mem e.prp1 e.prp2 (length_of m)) ≡ Ok at) → data_places page_size mem e m ≡ Ok at
+places_by NoData page_size mem e at is size found = no_places page_size mem e NoData at refl (nothing at size)
+places_by (ToHost n) page_size mem e at is size found = found (omega (arith, is))
+places_by (FromHost n) page_size mem e at is size found = found (omega (arith, is))
+
+call_by : (e : Sqe) (at : List ℕ) (k : Command) (page_size : ℕ) (mem : List ℕ) (m : Moves) → transfer_of e ≡ Ok m
+    → data_places page_size mem e m ≡ Ok at → command_of e (sent_from m mem at) ≡ Ok k
     → call_of page_size mem e ≡ Ok (record { command = k; places = at })
-call_by e at k page_size mem len moves page found command = rw (moves, sym page, found, command) refl
+call_by e at k page_size mem m moves page command = rw (moves, page, command) refl
 
 -- Wherever the memory's other bytes change, the entry decodes to its command, whose data lies in its pages.
 pub entry_call : (t : Setting) (x : Sent) (old ready mem : List ℕ) → IsPageSize t.page_size → CommandFits x.command → x.cid < 2 ^ 16
-    → IsPrepared t.page_size x old ready → length mem ≡ length ready
+    → IsPrepared t.page_size x old ready → length mem ≡ length ready → HoldsSent t.page_size x mem
     → call_of t.page_size mem (entry x) ≡ Ok (record { command = x.command; places = places t.page_size x })
-entry_call t x old ready mem is fits cid prepared same =
+entry_call t x old ready mem is fits cid prepared same holds =
     let arrives = commands_travel x.command x.cid fits cid in
     let still = still_legal t.page_size x old ready mem is prepared same in
-    let found = legal_places (transfer t.page_size mem x.prp1 x.prp2 (data_length x)) (places t.page_size x) still.0 (sym still.1) in
-    call_by (entry x) (places t.page_size x) x.command t.page_size mem (data_length x) (arrives.transfer x.prp1 x.prp2 ∙ ap Ok (transfer_by-page x.command)) (data_page x)
-    found (arrives.command x.prp1 x.prp2)
-
--- the data of a command by its way
-pub transfer_length : (k : Command) (m : Moves) → m ≡ transfer_by k → m ≡ identify_data
-transfer_length k m e = e ∙ transfer_by-page k
+    let at = places t.page_size x in
+    let found = places_by (transfer_by x.command) t.page_size mem (entry x) at (shape x.command) (length-places t.page_size x)
+    (λ some. legal_places (transfer t.page_size mem x.prp1 x.prp2 (data_length x)) at (still.0 some) (sym still.1)) in
+    call_by (entry x) at x.command t.page_size mem (transfer_by x.command) (arrives.transfer x.prp1 x.prp2) found
+    (ap (command_of (entry x)) holds ∙ arrives.command x.prp1 x.prp2)

@@ -12,13 +12,16 @@ use Rattle.nv_layout.specs.RecordLaws.{length-bytes_of_cqe, length-bytes_of_sqe}
 use Rattle.nv_layout.specs.Sqe.{bytes_of_sqe}
 use Rattle.nv_layout.specs.declared.cqe.Cqe.{Cqe}
 use Rattle.nv_layout.specs.declared.sqe.Sqe.{Sqe}
-use Rattle.nv_prp.specs.Buffer.{IsApart, IsOutside, buffer_place, buffer_places}
-use Rattle.nv_prp.specs.Place.{read_at, written_at}
+use Rattle.nv_prp.specs.Buffer.{ChangesOnly, IsApart, IsBuffer, IsOutside, buffer_place, buffer_places}
+use Rattle.nv_prp.specs.BufferLaws.{buffer_distinct}
+use Rattle.nv_prp.specs.Place.{AreDistinct, read_at, written_at}
 use Rattle.nv_prp.specs.PlaceLaws.{get_or-bytes_at, get_or-table, length-read_at, length-table, part_stays}
 use Rattle.nv_queue.specs.Rings.{PostNumbers, SubmitNumbers}
 use Rattle.nv_queue.specs.Slots.{completion_place, put_as, submission_place, with_completion, with_submission}
 use Rattle.nv_queue.specs.SlotLaws.{slot_within}
-use Rattle.nv_driver.specs.Schedule.{AreApart, AreOutside, Sent, Setting, data_length, own_pages, places}
+use Rattle.nv_command.specs.Command.{transfer_by}
+use Rattle.nv_driver.specs.Schedule.{AreApart, AreOutside, HoldsSent, Sent, Setting, data_length, own_pages, places}
+use Rattle.nv_driver.proofs.DataLaws.{ArePlaces, sent_same}
 
 -- ---- places and pages
 
@@ -56,11 +59,11 @@ beside_page page_size page place from n low high outside =
     ]
 
 -- a place of a command's data is beside each part that its pages are outside of
-pub place_beside : (t : Setting) (x : Sent) (from n k : ℕ) → 0 < t.page_size → x.offset + data_length x ≤ length x.pages * t.page_size
-    → AreOutside t.page_size x from n → k < data_length x → IsBeside (get_or (places t.page_size x) k 0) from n
-place_beside t x from n k some enough outside below =
-    let page = place_page t.page_size x.pages x.offset (data_length x) k some enough below in
-    beside_page t.page_size (get_or x.pages page.index 0) (get_or (places t.page_size x) k 0) from n page.from page.to
+pub place_beside : (page_size : ℕ) (x : Sent) (from n k : ℕ) → 0 < page_size → x.offset + data_length x ≤ length x.pages * page_size
+    → AreOutside page_size x from n → k < data_length x → IsBeside (get_or (places page_size x) k 0) from n
+place_beside page_size x from n k some enough outside below =
+    let page = place_page page_size x.pages x.offset (data_length x) k some enough below in
+    beside_page page_size (get_or x.pages page.index 0) (get_or (places page_size x) k 0) from n page.from page.to
     (outside (suc (suc page.index)) 0 (let h = page.is_one in omega arith))
 
 -- two pages that aren't one share no byte
@@ -83,19 +86,37 @@ place_outside t x y k some enough apart below i d inside =
     other_page t.page_size (get_or x.pages page.index 0) (get_or (own_pages y) i d) (get_or (places t.page_size x) k 0)
     (apart (suc (suc page.index)) 0 (let h = page.is_one in omega arith) i d inside) page.from page.to
 
+pub apart-sym : (x y : Sent) → AreApart x y → AreApart y x
+apart-sym x y apart i d h j e low same = apart j e low i d h (sym same)
+
 -- ---- what stays
 
-pub length-places : (t : Setting) (x : Sent) → length (places t.page_size x) ≡ data_length x
+pub length-places : (page_size : ℕ) (x : Sent) → length (places page_size x) ≡ data_length x
 unfolding buffer_places
-length-places t x = length-table (data_length x) (buffer_place t.page_size x.pages x.offset)
+length-places page_size x = length-table (data_length x) (buffer_place page_size x.pages x.offset)
+
+-- the places of a command whose pages lie in the memory, no two of them one
+pub buffer_data : (page_size : ℕ) (x : Sent) (mem : List ℕ) → 0 < page_size → IsBuffer mem page_size x.pages x.offset (data_length x)
+    → AreDistinct x.pages → ArePlaces (transfer_by x.command) (length mem) (places page_size x)
+buffer_data page_size x mem some buffer distinct =
+    let size = length-places page_size x in
+    record {
+      size = size;
+      inside = λ k below. in_page (get_or (places page_size x) k 0)
+          (place_page page_size x.pages x.offset (data_length x) k some buffer.enough (omega arith));
+      distinct = buffer_distinct page_size x.pages x.offset (data_length x) some buffer.enough distinct;
+    }
+  where
+    in_page : (place : ℕ) → InPage page_size x.pages place → place < length mem
+    in_page place page = let has = buffer.inside page.index 0 page.is_one in omega (arith, has, page.to)
 
 -- a part that a command's pages are outside of, where its data is written
-pub data_keeps : (t : Setting) (x : Sent) (bytes written : List ℕ) (from n : ℕ) → 0 < t.page_size
-    → x.offset + data_length x ≤ length x.pages * t.page_size → AreOutside t.page_size x from n
-    → bytes_at (written_at bytes (places t.page_size x) written) from n ≡ bytes_at bytes from n
-data_keeps t x bytes written from n some enough outside =
-    part_stays bytes (places t.page_size x) written from n
-    (λ k h. let size = length-places t x in place_beside t x from n k some enough outside (omega arith))
+pub data_keeps : (page_size : ℕ) (x : Sent) (bytes written : List ℕ) (from n : ℕ) → 0 < page_size
+    → x.offset + data_length x ≤ length x.pages * page_size → AreOutside page_size x from n
+    → bytes_at (written_at bytes (places page_size x) written) from n ≡ bytes_at bytes from n
+data_keeps page_size x bytes written from n some enough outside =
+    part_stays bytes (places page_size x) written from n
+    (λ k h. let size = length-places page_size x in place_beside page_size x from n k some enough outside (omega arith))
 
 -- a part beside a completion ring, where a completion is put
 pub completion_keeps : (bytes : List ℕ) (ring : PostNumbers) (c : Cqe) (from n : ℕ) → 0 < ring.depth
@@ -140,6 +161,19 @@ read_keeps old new at same =
     ∙ (sym (byte_at new (get_or at k 0)) ∙ ap (λ bytes. get_or bytes 0 0) (same k below) ∙ byte_at old (get_or at k 0))
     ∙ sym (get_or-map (λ p. get_or old p 0) at k 0 0 below))
 
+place_apart : (place from n : ℕ) → IsBeside place from n → IsApart from n place 1
+place_apart place from n (inl before) = inl (omega arith)
+place_apart place from n (inr behind) = inr behind
+
+-- the data of a command stays where only bytes that its pages are outside of are other ones
+pub data_beside : (t : Setting) (x : Sent) (base n : ℕ) (old new : List ℕ) → 0 < t.page_size → x.offset + data_length x ≤ length x.pages * t.page_size
+    → AreOutside t.page_size x base n → ChangesOnly base n old new → read_at new (places t.page_size x) ≡ read_at old (places t.page_size x)
+data_beside t x base n old new some enough outside only =
+    let size = length-places t.page_size x in
+    read_keeps old new (places t.page_size x)
+    (λ k below. only (get_or (places t.page_size x) k 0) 1
+    (place_apart (get_or (places t.page_size x) k 0) base n (place_beside t.page_size x base n k some enough outside (omega arith))))
+
 -- ---- what a command's pages and one ring change
 
 -- a part of what the pages are outside of
@@ -160,11 +194,13 @@ pub data_stays : (t : Setting) (x y : Sent) (base n : ℕ) (old new : List ℕ) 
     → y.offset + data_length y ≤ length y.pages * t.page_size → ChangesOnlyAt t x base n old new → AreApart y x → AreOutside t.page_size y base n
     → read_at new (places t.page_size y) ≡ read_at old (places t.page_size y)
 data_stays t x y base n old new some enough only apart outside =
-    let size = length-places t y in
+    let size = length-places t.page_size y in
     read_keeps old new (places t.page_size y)
     (λ k below. let inside : k < data_length y = omega arith in
     only (get_or (places t.page_size y) k 0) 1 (place_outside t y x k some enough apart inside)
-    (elim (place_beside t y base n k some enough outside inside) [
-      | inl before ↦ inl (omega arith)
-      | inr behind ↦ inr behind
-    ]))
+    (place_apart (get_or (places t.page_size y) k 0) base n (place_beside t.page_size y base n k some enough outside inside)))
+
+-- what the host sends stays where the data does
+pub holds_sent_on : (t : Setting) (x : Sent) (old new : List ℕ) → read_at new (places t.page_size x) ≡ read_at old (places t.page_size x)
+    → HoldsSent t.page_size x old → HoldsSent t.page_size x new
+holds_sent_on t x old new same holds = sent_same (transfer_by x.command) old new (places t.page_size x) same ∙ holds

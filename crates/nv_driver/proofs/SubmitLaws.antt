@@ -6,17 +6,17 @@ use Rattle.std.proofs.lemmas.List.{get_or_append_left, get_or_push, take-append-
 use Rattle.nv_host.specs.PageLaws.{page_size_bounds}
 use Rattle.nv_layout.specs.Cqe.{cqe_of_bytes}
 use Rattle.nv_layout.specs.Sqe.{SqeFits, sqe_of_bytes}
-use Rattle.nv_prp.specs.BufferLaws.{buffer_distinct, rest_distinct}
+use Rattle.nv_prp.specs.BufferLaws.{rest_distinct}
 use Rattle.nv_queue.specs.SlotLaws.{length-with_submission, push_written}
 use Rattle.nv_queue.specs.Slots.{completion_at, submission_at, with_submission}
 use Rattle.nv_command.specs.TravelLaws.{commands_travel}
 use Rattle.nv_subsystem.specs.State.{State}
-use Rattle.nv_driver.specs.Schedule.{AreApart, AreOutside, Happens, Holds, IsPrepared, MaySubmit, Sent, Setting, Submit, World, after, answers_to, data_length, entry, places, slot, submit_ring}
+use Rattle.nv_driver.specs.Schedule.{AreApart, AreOutside, Happens, Holds, HoldsSent, IsPrepared, MaySubmit, Sent, Setting, Submit, World, after, answers_to, entry, slot, submit_ring}
 use Rattle.nv_driver.proofs.CountLaws.{slot_inside, slots_differ}
 use Rattle.nv_driver.proofs.HeldLaws.{holds_on}
 use Rattle.nv_driver.specs.Keeping.{IsOwn, Keeps}
 use Rattle.nv_driver.proofs.PointerLaws.{entry_call}
-use Rattle.nv_driver.proofs.RegionLaws.{ChangesOnlyAt, InPage, data_stays, outside_part, place_page, submission_keeps}
+use Rattle.nv_driver.proofs.RegionLaws.{ChangesOnlyAt, buffer_data, data_beside, data_stays, holds_sent_on, outside_part, submission_keeps}
 use Rattle.nv_driver.proofs.SerialLaws.{answers-append, length-answers}
 
 -- the memory after a submission
@@ -74,19 +74,17 @@ own_of : (t : Setting) (s : State) (w : World) (x : Sent) (ready : List ℕ) →
     → IsOwn t (length w.mem) x
 own_of t s w x ready k may prepared =
     let some : 0 < t.page_size = omega (arith, page_size_bounds t.page_size k.placed.page_size) in
+    let at = buffer_data t.page_size x w.mem some may.buffer (rest_distinct x.first x.second x.pages may.distinct) in
     record {
       fits = may.fits;
       cid = may.cid;
       enough = may.buffer.enough;
-      inside = λ i below. inside_page (get_or (places t.page_size x) i 0) (place_page t.page_size x.pages x.offset (data_length x) i some may.buffer.enough below);
-      distinct = buffer_distinct t.page_size x.pages x.offset (data_length x) some may.buffer.enough (rest_distinct x.first x.second x.pages may.distinct);
+      inside = λ i below. at.inside i (omega (arith, at.size));
+      distinct = at.distinct;
       submissions = may.submissions;
       completions = may.completions;
       call = λ mem same. entry_call t x w.mem ready mem k.placed.page_size may.fits may.cid prepared (same ∙ sym prepared.len);
     }
-  where
-    inside_page : (place : ℕ) → InPage t.page_size x.pages place → place < length w.mem
-    inside_page place page = let has = may.buffer.inside page.index 0 page.is_one in omega (arith, has, page.to)
 
 -- ---- the schedule goes on
 
@@ -153,6 +151,17 @@ submitted t s x w ready k may prepared =
           written.others (slot t n) low (λ e. slots_differ t n m below (omega (arith, c.few, c.collected)) (sym e))
           ∙ slot_stays t x w.mem ready (slot t n) prepared may.submissions low ∙ k.waiting n d from below)
           written.here;
+      to_send = each_more (λ n y. HoldsSent t.page_size y new) w.done w.sent x
+          (λ n d from below.
+          let y = get_or w.sent n d in
+          let own = k.own n d (omega (arith, c.collected)) below in
+          holds_sent_on t y w.mem new
+          (data_stays t x y t.sq (64 * t.depth) w.mem new some own.enough only (may.apart n d (omega (arith, c.collected)) below) own.submissions)
+          (k.to_send n d from below))
+          (holds_sent_on t x ready new
+          (data_beside t x t.sq (64 * t.depth) ready new some may.buffer.enough may.submissions
+          (λ from i apart. submission_keeps ready (submit_ring t m (length w.answers)) (entry x) from i (omega arith) inside apart))
+          prepared.sent);
       held = λ n d from below.
           let y = get_or w.sent n d in
           let early : n < m = omega (arith, c.done, c.rung) in

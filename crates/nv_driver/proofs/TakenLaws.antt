@@ -6,10 +6,11 @@ use Rattle.nv_host.specs.Bytes.{bytes_at}
 use Rattle.nv_layout.specs.Cqe.{cqe_of_bytes}
 use Rattle.nv_layout.specs.declared.sqe.Sqe.{Sqe}
 use Rattle.nv_prp.specs.Place.{read_at}
-use Rattle.nv_prp.specs.PlaceLaws.{read_written}
 use Rattle.nv_queue.specs.Numbers.{above, slot_of}
 use Rattle.nv_queue.specs.Slots.{completion_at, with_completion}
+use Rattle.nv_command.specs.Command.{transfer_by}
 use Rattle.nv_command.specs.Reply.{data_of}
+use Rattle.nv_command.specs.TravelLaws.{replies_travel}
 use Rattle.nv_command.specs.declared.status_code.StatusCode.{StatusCode}
 use Rattle.nv_register.specs.declared.rings.Rings.{Rings}
 use Rattle.nv_subsystem.specs.State.{State}
@@ -18,8 +19,9 @@ use Rattle.nv_controller.specs.Call.{Call, call_of}
 use Rattle.nv_controller.specs.Entry.{Moves, One, Scene, completion_with, entry_in, entry_step, places_in, scene, step_unless}
 use Rattle.nv_controller.specs.TurnLaws.{can_means}
 use Rattle.nv_controller.specs.Turn.{can_take}
-use Rattle.nv_driver.specs.Schedule.{Answer, AreOutside, Sent, Setting, World, data_length, device_rings, entry, number, places, slot}
-use Rattle.nv_driver.proofs.AnswerLaws.{Delivers, IsAnswerTo, reply_length}
+use Rattle.nv_driver.specs.Schedule.{Answer, AreOutside, Sent, Setting, World, data_length, device_rings, entry, number, places, received_from, slot}
+use Rattle.nv_driver.proofs.AnswerLaws.{Delivers, IsAnswerTo}
+use Rattle.nv_driver.proofs.DataLaws.{ArePlaces, received_back, received_same}
 use Rattle.nv_driver.proofs.CountLaws.{number_above, number_next}
 use Rattle.nv_driver.specs.Keeping.{IsOwn, Keeps}
 use Rattle.nv_driver.proofs.RegionLaws.{data_keeps, length-places, outside_part}
@@ -81,7 +83,7 @@ is_done t s w y d k below one =
     let is = k.waiting w.done d (omega arith) below in
     let next_one = number_next t w.done in
     done_by t w (get_or w.sent w.done d) y (entry_in (scene w.state (now t w) w.mem)) (call_of t.page_size w.mem (entry_in (scene w.state (now t w) w.mem))) is
-    (ap (call_of t.page_size w.mem) is ∙ own.call w.mem refl) one.state
+    (ap (call_of t.page_size w.mem) is ∙ own.call w.mem refl (k.to_send w.done d (omega arith) below)) one.state
     (one.rings ∙ ap (λ n. record (now t w) {
       submission = record (now t w).submission { fetched = n };
       completion = record (now t w).completion { posted = n };
@@ -96,7 +98,7 @@ is_done t s w y d k below one =
 pub moved_keeps : (t : Setting) (x : Sent) (a : Answer) (old moved : List ℕ) (from n : ℕ) → 0 < t.page_size
     → x.offset + data_length x ≤ length x.pages * t.page_size → Moves a (places t.page_size x) old moved → AreOutside t.page_size x from n
     → bytes_at moved from n ≡ bytes_at old from n
-moved_keeps t x (Ok r) old moved from n some enough moves outside = ap (λ m. bytes_at m from n) moves ∙ data_keeps t x old (data_of r) from n some enough outside
+moved_keeps t x (Ok r) old moved from n some enough moves outside = ap (λ m. bytes_at m from n) moves ∙ data_keeps t.page_size x old (data_of r) from n some enough outside
 moved_keeps t x (Err status) old moved from n some enough moves outside = ap (λ m. bytes_at m from n) moves
 
 pub moved_slot : (t : Setting) (x : Sent) (a : Answer) (old moved : List ℕ) (s : ℕ) → 0 < t.page_size
@@ -108,11 +110,18 @@ moved_slot t x a old moved s some enough moves outside below =
     ap cqe_of_bytes (moved_keeps t x a old moved (t.cq + 16 * s) 16 some enough moves
     (outside_part t x t.cq (16 * t.depth) (t.cq + 16 * s) 16 outside (omega arith) (omega arith)))
 
--- the data of a command's reply lies at its places, also after its completion was put
+-- a command's places are for its data
+are_places : (t : Setting) (x : Sent) (old : List ℕ) → IsOwn t (length old) x → ArePlaces (transfer_by x.command) (length old) (places t.page_size x)
+are_places t x old own =
+    let size = length-places t.page_size x in
+    record { size = size; inside = λ i below. own.inside i (omega arith); distinct = own.distinct }
+
+-- the data of a command's reply is received, also after its completion was put
 pub delivered : (t : Setting) (x : Sent) (a : Answer) (old moved new : List ℕ) → IsAnswerTo x.command a → Moves a (places t.page_size x) old moved
     → IsOwn t (length old) x → read_at new (places t.page_size x) ≡ read_at moved (places t.page_size x) → Delivers t x new a
 delivered t x (Ok r) old moved new is moves own same =
-    let size = length-places t x in
-    same ∙ ap (λ m. read_at m (places t.page_size x)) moves
-    ∙ read_written old (places t.page_size x) (data_of r) (size ∙ reply_length x r is) (λ i below. own.inside i (omega arith)) own.distinct
+    let m = transfer_by x.command in
+    let at = places t.page_size x in
+    received_same m moved new at same ∙ ap (λ mem. received_from m mem at) moves
+    ∙ received_back m old at (data_of r) (are_places t x old own) (replies_travel x.command r is.0 is.1).bytes
 delivered t x (Err status) old moved new is moves own same = tt

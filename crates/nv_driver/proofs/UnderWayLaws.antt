@@ -14,7 +14,7 @@ use Rattle.nv_queue.specs.Slots.{with_submission}
 use Rattle.nv_command.specs.Command.{CommandFits}
 use Rattle.nv_command.specs.declared.command.Command.{Command}
 use Rattle.nv_subsystem.specs.Step.{next_serial}
-use Rattle.nv_driver.specs.CommandPages.{AreTaken, all_pages, data_pages, without}
+use Rattle.nv_driver.specs.CommandPages.{AreTaken, all_pages, without}
 use Rattle.nv_driver.specs.Exchange.{IsReady}
 use Rattle.nv_driver.specs.Keeping.{Keeps}
 use Rattle.nv_driver.specs.Schedule.{IsPrepared, MaySubmit, Sent, collect_ring, entry, number, own_pages, slot, submit_ring}
@@ -204,9 +204,9 @@ module _ {r : Run} {bells turns : ℕ} {b : Batch} {l l' : LaneFields} {now : �
         free = omega (arith, more, u.sent, u.collected, u.begun.geometry.window.2, u.begun.depth);
         fits = fits;
         cid = omega (arith, serial_below u);
-        buffer = buffer_of g l.pages o.pages u.world.mem (data_pages o.pages) g.page_size _ u.begun.geometry refl has refl sub.enough;
+        buffer = buffer_of g l.pages o.pages u.world.mem g.page_size _ u.begun.geometry refl has sub.enough;
         list = list_of g l.pages o.pages u.world.mem g.page_size u.begun.geometry refl has;
-        distinct = distinct_of l.pages o.pages (data_pages o.pages) sub.seven sub.taken refl;
+        distinct = distinct_of l.pages o.pages sub.seven sub.taken;
         submissions = before_pages r.lane.pages x g.page_size r.lane.submission.base (64 * r.lane.submission.depth) own_new (omega (arith, laid.rings, laid.pages));
         completions = before_pages r.lane.pages x g.page_size r.lane.completion.base (16 * r.lane.submission.depth) own_new laid.pages;
         apart = λ n d from below i e h j f low same.

@@ -9,7 +9,7 @@ use Rattle.nv_command.specs.Command.{CommandFits}
 use Rattle.nv_subsystem.specs.State.{State}
 use Rattle.nv_subsystem.specs.WellFormed.{IsWellFormed}
 use Rattle.nv_controller.specs.Call.{call_of}
-use Rattle.nv_driver.specs.Schedule.{AreApart, AreOthers, AreOutside, Holds, Sent, Setting, World, after, answers_to, data_length, device_rings, entry, number, places, port_with, slot}
+use Rattle.nv_driver.specs.Schedule.{AreApart, AreOthers, AreOutside, Holds, HoldsSent, Sent, Setting, World, after, answers_to, data_length, device_rings, entry, number, places, port_with, slot}
 
 -- the rings lie in a memory of this size, the submission ring first
 pub record HasRings (t : Setting) (size : ℕ) : Type 0 where
@@ -18,7 +18,8 @@ pub record HasRings (t : Setting) (size : ℕ) : Type 0 where
   pub rings : t.sq + 64 * t.depth ≤ t.cq
   pub inside : t.cq + 16 * t.depth ≤ size
 
--- a command in the memory: its data pointer names the places of its data, in pages of its own
+-- a command in the memory: its data pointer names the places of its data, in pages of its own, and while they hold what
+-- the host sends its entry is that of the command
 pub record IsOwn (t : Setting) (size : ℕ) (x : Sent) : Type 0 where
   pub fits : CommandFits x.command
   pub cid : x.cid < 2 ^ 16
@@ -27,7 +28,7 @@ pub record IsOwn (t : Setting) (size : ℕ) (x : Sent) : Type 0 where
   pub distinct : AreDistinct (places t.page_size x)
   pub submissions : AreOutside t.page_size x t.sq (64 * t.depth)
   pub completions : AreOutside t.page_size x t.cq (16 * t.depth)
-  pub call : (mem : List ℕ) → length mem ≡ size
+  pub call : (mem : List ℕ) → length mem ≡ size → HoldsSent t.page_size x mem
       → call_of t.page_size mem (entry x) ≡ Ok (record { command = x.command; places = places t.page_size x })
 
 -- the counts of collected, done, rung, sent and told commands, in this order
@@ -50,6 +51,7 @@ pub record Keeps (t : Setting) (s : State) (w : World) : Type 0 where
   pub own : (n : ℕ) (d : Sent) → length w.answers ≤ n → n < length w.sent → IsOwn t (length w.mem) (get_or w.sent n d)
   pub apart : (n m : ℕ) (d : Sent) → length w.answers ≤ n → n < m → m < length w.sent → AreApart (get_or w.sent n d) (get_or w.sent m d)
   pub waiting : (n : ℕ) (d : Sent) → w.done ≤ n → n < length w.sent → submission_at w.mem t.sq (slot t n) ≡ entry (get_or w.sent n d)
+  pub to_send : (n : ℕ) (d : Sent) → w.done ≤ n → n < length w.sent → HoldsSent t.page_size (get_or w.sent n d) w.mem
   pub held : (n : ℕ) (d : Sent) → length w.answers ≤ n → n < w.done → Holds t s w n (get_or w.sent n d)
   pub tags : HoldsTags w.mem t.cq t.depth (number t w.done)
   pub answers : w.answers ≡ take (length w.answers) (answers_to t.controller s w.sent)

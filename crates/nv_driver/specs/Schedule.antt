@@ -11,18 +11,20 @@ use Rattle.nv_prp.specs.Transfer.{transfer}
 use Rattle.nv_queue.specs.Numbers.{IsDepth, kept_number, slot_of}
 use Rattle.nv_queue.specs.Rings.{CollectNumbers, SubmitNumbers}
 use Rattle.nv_queue.specs.Slots.{HoldsTags, IsAwaitedThere, awaited_completion, completion_at, with_submission}
-use Rattle.nv_command.specs.Command.{CommandFits, transfer_by}
+use Rattle.nv_command.specs.Command.{CommandFits, host_data_of, transfer_by}
 use Rattle.nv_command.specs.Entry.{entry_of, with_pointer}
 use Rattle.nv_command.specs.Reply.{reply_in}
 use Rattle.nv_command.specs.declared.command.Command.{Command}
 use Rattle.nv_command.specs.declared.reply.Reply.{Reply}
+use Rattle.nv_command.specs.declared.transfer.Transfer.{Transfer}
+use Rattle.nv_command.specs.declared.transfer.Transfer.TheVariants.{FromHost, NoData, ToHost}
 use Rattle.nv_register.specs.Port.{with_register_at}
 use Rattle.nv_register.specs.declared.port.Port.{Port}
 use Rattle.nv_register.specs.declared.rings.Rings.{Rings}
 use Rattle.nv_subsystem.specs.State.{State}
 use Rattle.nv_subsystem.specs.Step.{step}
 use Rattle.nv_subsystem.specs.WellFormed.{IsWellFormed}
-use Rattle.nv_controller.specs.Call.{length_of}
+use Rattle.nv_controller.specs.Call.{length_of, sent_from}
 use Rattle.nv_controller.specs.Turn.{PortTurn, site}
 
 -- ---- commands, one at a time
@@ -144,31 +146,45 @@ pub record MaySubmit (t : Setting) (w : World) (x : Sent) : Type 0 where
   pub completions : AreOutside t.page_size x t.cq (16 * t.depth)
   pub apart : (n : ℕ) (d : Sent) → length w.answers ≤ n → n < length w.sent → AreApart (slice_index_or w.sent n d) x
 
--- the command's pages were made ready, and its data pointer names the places of its data while its list stays
+-- where the data of a command lies
+abbrev pub places : ℕ → Sent → List ℕ
+places page_size x = buffer_places page_size x.pages x.offset (data_length x)
+
+-- what the host sends with a command lies there
+abbrev pub HoldsSent : ℕ → Sent → List ℕ → Type 0
+HoldsSent page_size x mem = sent_from (transfer_by x.command) mem (places page_size x) ≡ host_data_of x.command
+
+-- the command's pages were made ready: they hold what the host sends, and its data pointer, if it has data, names the
+-- places of the data while its list stays
 pub record IsPrepared (page_size : ℕ) (x : Sent) (old new : List ℕ) : Type 0 where
   pub others : (from n : ℕ) → AreOutside page_size x from n → bytes_at new from n ≡ bytes_at old from n
   pub len : length new ≡ length old
   pub prp1 : x.prp1 < 2 ^ 64
   pub prp2 : x.prp2 < 2 ^ 64
-  pub stays : StaysFor (transfer page_size new x.prp1 x.prp2 (data_length x)) x.pages x.offset x.first x.second
+  pub sent : HoldsSent page_size x new
+  pub stays : 0 < data_length x
+      → StaysFor (transfer page_size new x.prp1 x.prp2 (data_length x)) x.pages x.offset x.first x.second
 
 -- ---- collecting
-
--- where the data of a command lies
-abbrev pub places : ℕ → Sent → List ℕ
-places page_size x = buffer_places page_size x.pages x.offset (data_length x)
 
 abbrev pub is_success : Status → Bool
 is_success status = status.sct == 0 && status.sc == 0
 
--- what a completion and the command's data say
+-- the bytes that the controller sends
+abbrev pub received_from : Transfer → List ℕ → List ℕ → List ℕ
+received_from NoData bytes places = []
+received_from (ToHost n) bytes places = read_at bytes places
+received_from (FromHost n) bytes places = []
+
+-- what a completion and the data from the controller say
 abbrev pub answer_from : Command → Cqe → List ℕ → Answer
 answer_from k completion bytes =
     if is_success completion.status then Ok (reply_in k completion.command_specific bytes) else Err completion.status
 
 -- where the data lies in the command's pages
 abbrev pub answer_read : ℕ → Sent → List ℕ → Cqe → Answer
-answer_read page_size x mem completion = answer_from x.command completion (read_at mem (places page_size x))
+answer_read page_size x mem completion =
+    answer_from x.command completion (received_from (transfer_by x.command) mem (places page_size x))
 
 abbrev pub awaited : Setting → World → CollectNumbers
 awaited t w = collect_ring t (length w.answers) w.told

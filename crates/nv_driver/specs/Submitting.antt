@@ -3,7 +3,10 @@ use Rattle.std.specs.Prelude.{◌≡◌, ℕ, ◌+◌, ◌*◌, ◌≤◌, List,
 use Rattle.std.specs.FinSet as set
 use Rattle.nv_queue.specs.Rings.{submitted_one}
 use Rattle.nv_queue.specs.Slots.{with_submission}
+use Rattle.nv_command.specs.Command.{transfer_by}
 use Rattle.nv_command.specs.declared.command.Command.{Command}
+use Rattle.nv_controller.specs.Call.{length_of}
+use Rattle.nv_prp.specs.Transfer.{Transfer, transfer}
 use Rattle.nv_subsystem.specs.Step.{next_serial}
 use Rattle.nv_driver.specs.CommandPages.{AreTaken, all_pages, data_pages, without}
 use Rattle.nv_driver.specs.Schedule.{IsPrepared, Sent, data_length, entry}
@@ -25,7 +28,11 @@ sent_by g k cid o = record {
   prp2 = o.prp2;
 }
 
--- it took its pages, they were made ready, and its entry was put in the ring
+-- the transfer of the command's data that its data pointer describes
+abbrev pub transfer_at : ℕ → List ℕ → Outstanding → Command → Transfer
+transfer_at page_size bytes o k = transfer page_size bytes o.prp1 o.prp2 (length_of (transfer_by k))
+
+-- it took its pages, they were made ready, and its entry was put in the ring; a command without data has no data pointer
 pub record IsSubmitted (g : Geometry) (k : Command) (o : Outstanding) (old new : LaneFields) (before after : List ℕ) : Type 0 where
   pub few : o.pages.data_pages ≤ 2
   pub seven : length o.pages.numbers ≡ 7
@@ -33,6 +40,7 @@ pub record IsSubmitted (g : Geometry) (k : Command) (o : Outstanding) (old new :
   pub enough : g.offset + data_length (sent_by g k old.serial o) ≤ o.pages.data_pages * g.page_size
   pub ready : List ℕ
   pub prepared : IsPrepared g.page_size (sent_by g k old.serial o) before ready
+  pub pointer : length_of (transfer_by k) ≡ 0 → (o.prp1 ≡ 0) × (o.prp2 ≡ 0)
   pub mem : after ≡ with_submission ready old.submission (entry (sent_by g k old.serial o))
   pub lane : new ≡ record old {
     submission = submitted_one old.submission;

@@ -273,7 +273,7 @@ impl Batch {
 
 /// Sends commands to a controller, several at a time, and awaits their answers. No command of its
 /// lane is outstanding, before and after.
-pub fn exchange_all<B: Bus, M: HostMemory>(
+pub(crate) fn exchange_all<B: Bus, M: HostMemory>(
     bus: &mut B,
     ctrl: u16,
     mem: &mut M,

@@ -23,7 +23,7 @@ pub struct CommandPages {
 impl CommandPages {
     /// Takes the pages of a command out of a set, in its order: two for a list, and so many for its
     /// data, at most five.
-    pub fn take(free: &mut PageSet, data_pages: usize) -> CommandPages
+    pub(crate) fn take(free: &mut PageSet, data_pages: usize) -> CommandPages
         requires few { data_pages ≤ 5 }
         requires enough { data_pages + 2 ≤ set.len free.old.members }
         ensures count { result.data_pages ≡ data_pages }
@@ -43,7 +43,7 @@ impl CommandPages {
     }
 
     /// Gives the pages back to their set, which has none of them.
-    pub fn give(&self, free: &mut PageSet)
+    pub(crate) fn give(&self, free: &mut PageSet)
         requires few { self.now.data_pages ≤ 5 }
         requires own { All (λ p. IsOf free.old.first free.old.count p) (all_pages self.now) }
         requires none { All (λ p. set.contains free.old.members p ≡ false) (all_pages self.now) }
@@ -57,7 +57,7 @@ impl CommandPages {
     }
 
     /// The pages of the data.
-    pub fn data(&self) -> &[PageNo]
+    pub(crate) fn data(&self) -> &[PageNo]
         requires few { self.now.data_pages ≤ 5 }
         ensures { result.now ≡ data_pages self.now }
     {
@@ -65,7 +65,7 @@ impl CommandPages {
     }
 
     /// Where a list may lie, from an offset in bytes on.
-    pub fn list(&self, offset: u32) -> ListPlace
+    pub(crate) fn list(&self, offset: u32) -> ListPlace
         ensures { result ≡ record {
           first = slice_index self.now.numbers 0;
           second = slice_index self.now.numbers 1;

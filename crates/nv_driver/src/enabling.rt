@@ -110,7 +110,7 @@ fn enable<B: Bus>(bus: &mut B, ctrl: u16, geometry: Geometry) -> Result<(), Driv
 
 /// Enables each controller.
 #[tactic(auto, using(crate::proofs::RegisterLaws::all_enabled))]
-pub fn enable_all<B: Bus>(bus: &mut B, geometry: Geometry) -> Result<(), DriverError>
+pub(crate) fn enable_all<B: Bus>(bus: &mut B, geometry: Geometry) -> Result<(), DriverError>
     requires geometry { IsGeometry geometry }
     requires bus { IsBus (B.meaning bus.old) }
     requires enabled { All IsEnabledWhereReady (B.meaning bus.old).ports }

@@ -18,7 +18,7 @@ use nv_register::offset;
 
 /// Sends a command to a controller and awaits its answer. No command of its lane is outstanding,
 /// before and after.
-pub fn exchange<B: Bus, M: HostMemory>(
+pub(crate) fn exchange<B: Bus, M: HostMemory>(
     bus: &mut B,
     ctrl: u16,
     mem: &mut M,

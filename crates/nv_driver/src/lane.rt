@@ -23,7 +23,7 @@ pub struct Lane {
 
 impl Lane {
     /// The lane of a controller before its first command. The page set has a bit for each page.
-    pub fn new(alloc: Global, geometry: Geometry, ctrl: u16) -> Result<Lane, Memory>
+    pub(crate) fn new(alloc: Global, geometry: Geometry, ctrl: u16) -> Result<Lane, Memory>
         requires geometry { IsGeometry geometry }
         requires ctrl { ctrl < 16 }
         ensures quiet { IfOk result IsQuiet }
@@ -42,7 +42,7 @@ impl Lane {
 
 /// The lanes of so many controllers before their first command.
 #[tactic(auto, using(crate::proofs::LaneLaws::quiet_more, crate::proofs::LaneLaws::lanes_more))]
-pub fn new_lanes(alloc: Global, geometry: Geometry, controllers: u16) -> Result<Vec<Lane>, Memory>
+pub(crate) fn new_lanes(alloc: Global, geometry: Geometry, controllers: u16) -> Result<Vec<Lane>, Memory>
     requires geometry { IsGeometry geometry }
     requires controllers { controllers ≤ 16 }
     ensures quiet { IfOk result (λ lanes. All IsQuiet lanes.items) }

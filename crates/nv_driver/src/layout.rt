@@ -67,7 +67,7 @@ impl Geometry {
 
     /// How many pages so many controllers take, of which there are 16 at most.
     #[tactic(auto, using(crate::proofs::LayoutLaws::lane_times))]
-    pub fn pages(self, controllers: u16) -> u32
+    pub(crate) fn pages(self, controllers: u16) -> u32
         requires geometry { IsGeometry self }
         requires controllers { controllers ≤ 16 }
         ensures { result ≡ pages_of self controllers }
@@ -77,7 +77,7 @@ impl Geometry {
 
     /// Where the rings and pages of a controller lie. The page behind them has a number too.
     #[tactic(auto, using(crate::proofs::LayoutLaws::lay))]
-    pub fn place(self, ctrl: u16) -> Place
+    pub(crate) fn place(self, ctrl: u16) -> Place
         requires geometry { IsGeometry self }
         requires ctrl { ctrl < 16 }
         ensures sq { result.sq ≡ (lane_of self ctrl).sq }

@@ -41,6 +41,8 @@ mod layout;
 mod submitting;
 #[cfg(test)]
 mod tests;
+#[cfg(test)]
+mod tests_of_management;
 
 pub use answering::Answer;
 pub use driver::Driver;

@@ -1,21 +1,25 @@
 //! Submitting one command.
 
-ghost use Rattle.std.specs.Prelude.{◌≡◌, ◌+◌, ◌*◌, ◌-◌, ◌/◌, ◌<◌, ◌≤◌, length};
+ghost use Rattle.std.specs.Prelude.{◌≡◌, ◌+◌, ◌*◌, ◌-◌, ◌/◌, ◌<◌, ◌≤◌, ◌∷◌, length, slice_index};
 ghost use Rattle.std.specs.FinSet as set;
-ghost use Rattle.nv_command.specs.Command.{CommandFits, transfer_by};
+ghost use Rattle.nv_prp.specs.Buffer.{IsBuffer, IsListPlace, KeepsOutside, StaysFor};
+ghost use Rattle.nv_prp.specs.Place.{AreDistinct, written_at};
+ghost use Rattle.nv_prp.specs.Transfer.{IsLegal, transfer, transfer_places};
+ghost use Rattle.nv_command.specs.Command.{CommandFits, bytes_from_host, host_data_of, transfer_by};
 ghost use Rattle.nv_controller.specs.Call.{length_of};
 ghost use Rattle.nv_queue.specs.Numbers.{next, slot_of};
 ghost use Rattle.nv_queue.specs.Rings.{IsSubmitFull};
 ghost use Rattle.nv_subsystem.specs.declared.origin.TheConstants.{SERIALS};
+ghost use Rattle.nv_driver.specs.CommandPages.{data_pages};
 ghost use Rattle.nv_driver.specs.Geometry.{IsGeometry};
-ghost use Rattle.nv_driver.specs.Submitting.{IsSubmitted};
+ghost use Rattle.nv_driver.specs.Submitting.{IsSubmitted, transfer_at};
 
 use crate::command_pages::CommandPages;
 use crate::geometry::Geometry;
 use crate::lane::Lane;
 use nv_command::{Command, Transfer};
 use nv_host::HostMemory;
-use nv_prp::{Buffer, build};
+use nv_prp::{Buffer, Spans, build, copy_out, walk};
 use nv_subsystem::SERIALS;
 
 /// What an outstanding command has: its pages, and its data pointer. Section "Submission Queue
@@ -28,10 +32,10 @@ pub struct Outstanding {
 }
 
 /// How many bytes of data a command has.
-#[tactic(auto, using(crate::proofs::PointerLaws::transfer_length))]
-pub fn data_length(command: &Command) -> u32
+#[tactic(auto, using(crate::proofs::DataLaws::shape_as, crate::proofs::DataLaws::most))]
+pub(crate) fn data_length(command: &Command) -> u32
     ensures length { result ≡ length_of (transfer_by command.now) }
-    ensures page { result ≡ 4096 }
+    ensures most { result ≤ 4096 }
 {
     match command.transfer() {
         Transfer::NoData => 0,
@@ -50,9 +54,86 @@ fn page_count(geometry: Geometry, len: u32) -> usize
     (geometry.offset + len).div_ceil(geometry.page_size) as usize
 }
 
-/// Submits a command: takes its pages, writes its list where it has one, and puts its entry in the
-/// ring. Answers what it has, and the new tail. Section "Submission Queue Entry".
-pub fn submit<M: HostMemory>(
+/// The data pointer of so many bytes in the pages of a command, 0 and 0 where there are none: PRP1
+/// and PRP2. Writes its list where it has one. Section "Physical Region Page Entry and List".
+fn build_pointer<M: HostMemory>(
+    mem: &mut M,
+    geometry: Geometry,
+    pages: &CommandPages,
+    len: u32,
+) -> (u64, u64)
+    requires few { pages.now.data_pages ≤ 5 }
+    requires limit { len ≤ 4096 }
+    requires buffer { IsBuffer (M.bytes mem.old) (M.page_len mem.old)
+        (data_pages pages.now) geometry.offset len }
+    requires list { IsListPlace (M.bytes mem.old) (M.page_len mem.old)
+        (slice_index pages.now.numbers 0) (slice_index pages.now.numbers 1) geometry.list_offset }
+    requires distinct { AreDistinct (slice_index pages.now.numbers 0
+        ∷ slice_index pages.now.numbers 1 ∷ data_pages pages.now) }
+    ensures stays { 0 < len → StaysFor (transfer (M.page_len mem.new)
+        (M.bytes mem.new) result.0 result.1 len) (data_pages pages.now) geometry.offset
+        (slice_index pages.now.numbers 0) (slice_index pages.now.numbers 1) }
+    ensures legal { 0 < len → IsLegal (transfer (M.page_len mem.new)
+        (M.bytes mem.new) result.0 result.1 len) }
+    ensures none { len ≡ 0 → (result.0 ≡ 0) × (result.1 ≡ 0) }
+    ensures others { KeepsOutside (M.page_len mem.old) (slice_index pages.now.numbers 0)
+        (slice_index pages.now.numbers 1) (M.bytes mem.old) (M.bytes mem.new) }
+    ensures len { length (M.bytes mem.new) ≡ length (M.bytes mem.old) }
+    ensures page { M.page_len mem.new ≡ M.page_len mem.old }
+{
+    if len == 0 {
+        return (0, 0);
+    }
+    let buffer = Buffer {
+        pages: pages.data(),
+        offset: geometry.offset,
+    };
+    build(mem, &buffer, &pages.list(geometry.list_offset), len)
+}
+
+/// Writes the page that the host sends with a command to its pages.
+#[tactic(auto, using(crate::proofs::DataLaws::page_sent))]
+fn write_page<M: HostMemory>(mem: &mut M, outstanding: &Outstanding, command: &Command)
+    requires fits { CommandFits command.now }
+    requires sends { 0 < bytes_from_host (transfer_by command.now) }
+    requires legal { IsLegal (transfer_at (M.page_len mem.old) (M.bytes mem.old)
+        outstanding.now command.now) }
+    ensures bytes { M.bytes mem.new ≡ written_at (M.bytes mem.old) (transfer_places
+        (transfer_at (M.page_len mem.old) (M.bytes mem.old) outstanding.now command.now))
+        (host_data_of command.now) }
+    ensures len { length (M.bytes mem.new) ≡ length (M.bytes mem.old) }
+    ensures page { M.page_len mem.new ≡ M.page_len mem.old }
+{
+    let mut page = [0; 4096];
+    command.put(&mut page);
+    let len = data_length(command);
+    let mut spans = Spans::new();
+    walk(mem, outstanding.prp1, outstanding.prp2, len, &mut spans).unwrap();
+    copy_out(mem, &spans, &page);
+}
+
+/// Writes what the host sends with a command to its pages.
+#[tactic(auto, using(crate::proofs::DataLaws::none_sent))]
+fn write_data<M: HostMemory>(mem: &mut M, outstanding: &Outstanding, command: &Command)
+    requires fits { CommandFits command.now }
+    requires legal { 0 < length_of (transfer_by command.now) → IsLegal (transfer_at
+        (M.page_len mem.old) (M.bytes mem.old) outstanding.now command.now) }
+    ensures bytes { M.bytes mem.new ≡ written_at (M.bytes mem.old) (transfer_places
+        (transfer_at (M.page_len mem.old) (M.bytes mem.old) outstanding.now command.now))
+        (host_data_of command.now) }
+    ensures len { length (M.bytes mem.new) ≡ length (M.bytes mem.old) }
+    ensures page { M.page_len mem.new ≡ M.page_len mem.old }
+{
+    match command.transfer() {
+        Transfer::NoData => {}
+        Transfer::ToHost(_) => {}
+        Transfer::FromHost(_) => write_page(mem, outstanding, command),
+    }
+}
+
+/// Submits a command: takes its pages, writes its list and what the host sends with it where it has
+/// any, and puts its entry in the ring. Answers what it has, and the new tail. Section "Submission Queue Entry".
+pub(crate) fn submit<M: HostMemory>(
     mem: &mut M,
     lane: &mut Lane,
     geometry: Geometry,
@@ -77,16 +158,13 @@ pub fn submit<M: HostMemory>(
 {
     let len = data_length(command);
     let pages = CommandPages::take(&mut lane.pages, page_count(geometry, len));
-    let buffer = Buffer {
-        pages: pages.data(),
-        offset: geometry.offset,
-    };
-    let list = pages.list(geometry.list_offset);
-    let (prp1, prp2) = build(mem, &buffer, &list, len);
+    let (prp1, prp2) = build_pointer(mem, geometry, &pages, len);
+    let outstanding = Outstanding { pages, prp1, prp2 };
+    write_data(mem, &outstanding, command);
     let mut entry = command.entry(lane.serial);
     entry.prp1 = prp1;
     entry.prp2 = prp2;
     let tail = lane.submission.push(mem, &entry).unwrap();
     lane.serial = (lane.serial + 1) % SERIALS;
-    (Outstanding { pages, prp1, prp2 }, tail)
+    (outstanding, tail)
 }

@@ -13,7 +13,7 @@ use std::process::Abort;
 use std::test::Fail;
 
 /// The machine of the demonstration subsystem, after power on.
-fn machine(alloc: Global) -> Result<Machine, Fail>
+pub(crate) fn machine(alloc: Global) -> Result<Machine, Fail>
     ensures bus { IfOk result IsBus }
     ensures enabled { IfOk result (λ m. All IsEnabledWhereReady m.ports) }
 {

@@ -64,7 +64,7 @@ fn detach_listed(controllers: &mut [Controller], nsid: u32, ids: &[u16])
 }
 
 /// Detaches a namespace from each controller.
-pub fn detach_everywhere(controllers: &mut [Controller], nsid: u32)
+pub(crate) fn detach_everywhere(controllers: &mut [Controller], nsid: u32)
     ensures value { map controller_view controllers.new
         ≡ map (with_nsids (λ x. map_of.remove x.attached nsid))
         (map controller_view controllers.old) }
@@ -77,7 +77,7 @@ pub fn detach_everywhere(controllers: &mut [Controller], nsid: u32)
 }
 
 /// Detaches all namespaces from each controller.
-pub fn detach_all(controllers: &mut [Controller])
+pub(crate) fn detach_all(controllers: &mut [Controller])
     ensures value { map controller_view controllers.new
         ≡ map (with_nsids (λ _. map_of.empty)) (map controller_view controllers.old) }
     ensures sized { (nn : ℕ)

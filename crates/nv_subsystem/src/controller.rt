@@ -29,7 +29,7 @@ pub struct Controller {
 
 impl Controller {
     /// Counts a command.
-    pub fn count_command(&mut self)
+    pub(crate) fn count_command(&mut self)
         ensures command { controller_view self.new
             ≡ record (controller_view self.old) {
               commands = next_count (controller_view self.old).commands;
@@ -40,7 +40,7 @@ impl Controller {
     }
 
     /// Books a refusal as the newest entry of the error log.
-    pub fn book(&mut self, origin: Origin, nsid: u32, refusal: Refusal)
+    pub(crate) fn book(&mut self, origin: Origin, nsid: u32, refusal: Refusal)
         requires { self.old.log.most ≡ self.old.identity.numbers.elpe + 1 }
         ensures refusal { controller_view self.new
             ≡ with_refusal nsid origin.cid refusal (controller_view self.old) }

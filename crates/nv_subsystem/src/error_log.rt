@@ -72,7 +72,7 @@ impl Model for ErrorLog {
 
 impl ErrorLog {
     /// An empty log with room for this many entries.
-    pub fn new(alloc: Global, most: u16) -> Result<ErrorLog, AllocError>
+    pub(crate) fn new(alloc: Global, most: u16) -> Result<ErrorLog, AllocError>
         requires { 0 < most }
         ensures { IfOk result (λ l. l ≡ record { most = most; entries = [] }) }
     {
@@ -81,7 +81,7 @@ impl ErrorLog {
     }
 
     /// Books a refusal as the newest entry, in place of the oldest where the log is full.
-    pub fn book(&mut self, entry: LogEntry, phase: bool)
+    pub(crate) fn book(&mut self, entry: LogEntry, phase: bool)
         ensures { self.new
             ≡ record self.old { entries = take self.old.most (entry ∷ self.old.entries) } }
     {
@@ -93,7 +93,7 @@ impl ErrorLog {
     }
 
     /// The entry at an index from the newest on.
-    pub fn get(&self, index: usize) -> Option<Booked>
+    pub(crate) fn get(&self, index: usize) -> Option<Booked>
         ensures { option_map (λ b. b.entry) result ≡ slice_get self.now.entries index }
     {
         self.booked.get(index).copied()

@@ -16,7 +16,7 @@ use nv_file::{ControllerEntry, Namespace, NamespaceEntry, SubsystemError};
 use std::alloc::Global;
 
 /// The bytes of capacity that the namespaces of a file leave.
-pub fn unallocated(tnvmcap: u64, entries: &[NamespaceEntry]) -> u64
+pub(crate) fn unallocated(tnvmcap: u64, entries: &[NamespaceEntry]) -> u64
     requires { sum_by (λ n. n.namespace.capacity) entries.now ≤ tnvmcap }
     ensures { result + sum_by (λ n. n.namespace.capacity) entries.now ≡ tnvmcap }
 {
@@ -37,7 +37,7 @@ fn fill(slots: &mut Slots<Namespace>, entries: &[NamespaceEntry])
 }
 
 /// The namespaces of a file in their slots.
-pub fn slots(
+pub(crate) fn slots(
     alloc: Global,
     nn: u32,
     entries: &[NamespaceEntry],
@@ -100,7 +100,7 @@ fn controller(
 }
 
 /// The controllers of a file, before their first commands.
-pub fn controllers(
+pub(crate) fn controllers(
     alloc: Global,
     nn: u32,
     entries: Vec<ControllerEntry>,

@@ -16,7 +16,7 @@ use nv_layout::{IdNs, Lbaf};
 pub const LIST_LIMIT: u32 = 0xffff_fffe;
 
 /// Why a list after an NSID is refused.
-pub fn check_list(after: u32) -> Result<(), Refusal>
+pub(crate) fn check_list(after: u32) -> Result<(), Refusal>
     ensures { Checks (list_rows after) result }
 {
     refuse_if(after >= LIST_LIMIT, StatusCode::InvalidNamespaceOrFormat)

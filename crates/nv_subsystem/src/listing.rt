@@ -10,7 +10,7 @@ use nv_file::Namespace;
 use nv_layout::NsList;
 
 /// The attached NSIDs above one.
-pub fn attached_above(attached: &BitSet, after: u32) -> NsList
+pub(crate) fn attached_above(attached: &BitSet, after: u32) -> NsList
     requires { attached.now.count ≤ 1024 }
     ensures { result ≡ above after (ascending attached.now.members) }
 {
@@ -27,7 +27,7 @@ pub fn attached_above(attached: &BitSet, after: u32) -> NsList
 }
 
 /// The allocated NSIDs above one.
-pub fn allocated_above(slots: &Slots<Namespace>, after: u32) -> NsList
+pub(crate) fn allocated_above(slots: &Slots<Namespace>, after: u32) -> NsList
     requires { slots.now.count ≤ 1024 }
     ensures { result ≡ above after (map_of.keys slots.now.values) }
 {

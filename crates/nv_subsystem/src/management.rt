@@ -26,7 +26,7 @@ pub struct NewNamespace {
 
 impl NewNamespace {
     /// The fields of a create.
-    pub fn new(nsze: u64, ncap: u64, flbas: u8, dps: u8, nmic: u8) -> NewNamespace
+    pub(crate) fn new(nsze: u64, ncap: u64, flbas: u8, dps: u8, nmic: u8) -> NewNamespace
         ensures { result ≡ wanted nsze ncap flbas dps nmic }
     {
         NewNamespace {

@@ -14,7 +14,7 @@ pub struct Row {
 
 impl Row {
     /// A row with nothing specific to its command.
-    pub fn new(when: bool, code: StatusCode) -> Row
+    pub(crate) fn new(when: bool, code: StatusCode) -> Row
         ensures { result ≡ row when code }
     {
         Row {
@@ -25,7 +25,7 @@ impl Row {
 }
 
 /// Refuses by the first row whose condition holds.
-pub fn check(rows: &[Row]) -> Result<(), Refusal>
+pub(crate) fn check(rows: &[Row]) -> Result<(), Refusal>
     ensures { Checks rows.now result }
 {
     for row in rows {
@@ -37,7 +37,7 @@ pub fn check(rows: &[Row]) -> Result<(), Refusal>
 }
 
 /// One row: refuses with a code, and nothing specific to the command, where a condition holds.
-pub fn refuse_if(when: bool, code: StatusCode) -> Result<(), Refusal>
+pub(crate) fn refuse_if(when: bool, code: StatusCode) -> Result<(), Refusal>
     ensures { Checks (row when code ∷ []) result }
 {
     if when {

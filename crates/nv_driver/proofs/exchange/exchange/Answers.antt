@@ -3,13 +3,13 @@ use Rattle.std.specs.FinSet as set
 use Rattle.std.proofs.lemmas.Nat.{mod_below}
 use Rattle.nv_host.specs.PageSets.{IsOf, Pages}
 use Rattle.nv_layout.specs.declared.cqe.Cqe.{Cqe}
-use Rattle.nv_prp.specs.Place.{read_at}
 use Rattle.nv_prp.specs.Transfer.{IsLegal, transfer, transfer_places}
+use Rattle.nv_command.specs.Command.{transfer_by}
 use Rattle.nv_queue.specs.Rings.{told_all}
 use Rattle.nv_queue.specs.Slots.{IsAwaitedThere}
 use Rattle.nv_driver.specs.CommandPages.{all_pages, with_pages}
 use Rattle.nv_driver.specs.Quiet.{lane_value}
-use Rattle.nv_driver.specs.Schedule.{answer_from, answer_read, data_length}
+use Rattle.nv_driver.specs.Schedule.{answer_from, answer_read, data_length, received_from}
 use Rattle.nv_driver.specs.Submitting.{sent_by}
 use Rattle.nv_driver.specs.UnderWay.{setting}
 use Rattle.nv_driver.specs.declared.lane.Lane.{Lane as LaneFields}
@@ -75,7 +75,7 @@ answer-requires g c =
     let still = still_legal c.args.geometry.page_size x (g.M.HostMemory.bytes c.args.mem.now) sub.ready (g.M.HostMemory.bytes c.turn.new.mem)
     r.geometry.page_size sub.prepared same in
     let last = c.turn.ensures.page ∙ size in
-    subst (λ p. IsLegal (transfer p (g.M.HostMemory.bytes c.turn.new.mem) x.prp1 x.prp2 (data_length x))) (sym last) still.0
+    subst (λ p. 0 < data_length x → IsLegal (transfer p (g.M.HostMemory.bytes c.turn.new.mem) x.prp1 x.prp2 (data_length x))) (sym last) still.0
 
 pub returns-clause-answer : goal.returns-clause-answer
 returns-clause-answer g c =
@@ -91,12 +91,13 @@ returns-clause-answer g c =
     r.geometry.page_size sub.prepared same in
     let last = c.turn.ensures.page ∙ size in
     let mem = g.M.HostMemory.bytes c.turn.new.mem in
+    let m = transfer_by x.command in
     let q = c.unwrap-completion.result in
     let there = completion_is (setting c.args.geometry c.args.ctrl (g.M.HostMemory.bytes c.args.mem.now) (lane_value c.args.lane.now)) _ _ _ _
     c.unwrap-completion.ensures c.poll.ensures.value (completion_ring r sub) in
     c.answer.ensures
-    ∙ ap (λ p. answer_from x.command q (read_at mem (transfer_places (transfer p mem x.prp1 x.prp2 (data_length x))))) last
-    ∙ ap (λ ps. answer_from x.command q (read_at mem ps)) still.1
+    ∙ ap (λ p. answer_from x.command q (received_from m mem (transfer_places (transfer p mem x.prp1 x.prp2 (data_length x))))) last
+    ∙ ap (λ ps. answer_from x.command q (received_from m mem ps)) still.1
     ∙ ap (answer_read c.args.geometry.page_size x mem) there
     ∙ answer_is k
 

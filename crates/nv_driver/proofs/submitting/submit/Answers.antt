@@ -1,69 +1,76 @@
-use Rattle.std.proofs.Common.{rules, ◌≡◌, ◌∙◌, ◌+◌, ◌*◌, ◌%◌, ◌≤◌, ◌∷◌, ap, arith, subst, sym}
+use Rattle.std.proofs.Common.{rules, ◌≡◌, ◌∙◌, ◌+◌, ◌*◌, ◌%◌, ◌≤◌, ap, arith, refl, subst, sym}
+use Rattle.std.specs.FinSet as set
 use Rattle.nv_layout.specs.declared.sqe.Sqe.{Sqe}
 use Rattle.nv_host.specs.PageSets.{Pages}
-use Rattle.nv_prp.specs.Buffer.{IsListPlace, KeepsOutside, StaysFor}
-use Rattle.nv_prp.specs.Transfer.{transfer}
+use Rattle.nv_prp.specs.BufferLaws.{rest_distinct}
+use Rattle.nv_prp.specs.Place.{written_at}
+use Rattle.nv_prp.specs.Transfer.{transfer_places}
 use Rattle.nv_queue.specs.Rings.{SubmitNumbers, submitted_one}
-use Rattle.nv_driver.specs.declared.submitting.Outstanding.{Outstanding}
-use Rattle.std.specs.FinSet as set
-use Rattle.nv_prp.specs.Place.{AreDistinct}
-use Rattle.nv_prp.specs.declared.builder.ListPlace.{ListPlace}
 use Rattle.nv_queue.specs.Slots.{with_submission}
+use Rattle.nv_command.specs.Command.{host_data_of, transfer_by}
 use Rattle.nv_command.specs.Entry.{with_pointer}
-use Rattle.nv_driver.proofs.SubmittingLaws.{buffer_of, distinct_of, list_of, on_ok, prepared_by}
+use Rattle.nv_controller.specs.Call.{length_of}
+use Rattle.nv_driver.specs.Submitting.{sent_by, transfer_at}
+use Rattle.nv_driver.specs.declared.submitting.Outstanding.{Outstanding}
+use Rattle.nv_driver.proofs.SubmittingLaws.{buffer_of, built_by, distinct_of, list_of, on_ok, prepared_by}
 use Rattle.nv_driver.proofs.submitting.submit.Goals as goal
 
-pub build-prp1-requires-clause-buffer : goal.build-prp1-requires-clause-buffer
-build-prp1-requires-clause-buffer g c =
-    let pages = c.take-pages.result in
+pub build_pointer-prp1-requires-clause-buffer : goal.build_pointer-prp1-requires-clause-buffer
+build_pointer-prp1-requires-clause-buffer g c =
     let t = c.take-pages.ensures in
     let enough = subst (λ n. c.args.geometry.offset + c.data_length-len.result ≤ n * c.args.geometry.page_size) (sym t.count) c.page_count.ensures.enough in
-    buffer_of c.args.geometry c.args.lane.now.pages pages (g.M.HostMemory.bytes c.args.mem.now) c.data.result.now
+    buffer_of c.args.geometry c.args.lane.now.pages c.take-pages.result (g.M.HostMemory.bytes c.args.mem.now)
     (g.M.HostMemory.page_len c.args.mem.now) c.data_length-len.result c.requires.geometry c.requires.page
     (record { seven = t.seven; few = omega (arith, t.count, c.page_count.ensures.few); taken = t.taken; inside = c.requires.inside })
-    c.data.ensures enough
+    enough
 
-pub build-prp1-requires-clause-list : goal.build-prp1-requires-clause-list
-build-prp1-requires-clause-list g c =
+pub build_pointer-prp1-requires-clause-list : goal.build_pointer-prp1-requires-clause-list
+build_pointer-prp1-requires-clause-list g c =
     let t = c.take-pages.ensures in
-    subst (λ (l : ListPlace). IsListPlace (g.M.HostMemory.bytes c.args.mem.now) (g.M.HostMemory.page_len c.args.mem.now) l.first l.second l.offset)
-    (sym c.list-list.ensures)
-    (list_of c.args.geometry c.args.lane.now.pages c.take-pages.result (g.M.HostMemory.bytes c.args.mem.now) (g.M.HostMemory.page_len c.args.mem.now)
+    list_of c.args.geometry c.args.lane.now.pages c.take-pages.result (g.M.HostMemory.bytes c.args.mem.now) (g.M.HostMemory.page_len c.args.mem.now)
     c.requires.geometry c.requires.page
-    (record { seven = t.seven; few = omega (arith, t.count, c.page_count.ensures.few); taken = t.taken; inside = c.requires.inside }))
+    (record { seven = t.seven; few = omega (arith, t.count, c.page_count.ensures.few); taken = t.taken; inside = c.requires.inside })
 
-pub build-prp1-requires-clause-distinct : goal.build-prp1-requires-clause-distinct
-build-prp1-requires-clause-distinct g c =
+pub build_pointer-prp1-requires-clause-distinct : goal.build_pointer-prp1-requires-clause-distinct
+build_pointer-prp1-requires-clause-distinct g c =
     let t = c.take-pages.ensures in
-    subst (λ (l : ListPlace). AreDistinct (l.first ∷ l.second ∷ c.data.result.now)) (sym c.list-list.ensures)
-    (distinct_of c.args.lane.now.pages c.take-pages.result c.data.result.now t.seven t.taken c.data.ensures)
+    distinct_of c.args.lane.now.pages c.take-pages.result t.seven t.taken
 
 pub returns-clause-submitted : goal.returns-clause-submitted
 returns-clause-submitted g c =
     let t = c.take-pages.ensures in
-    let b = c.build-prp1.ensures in
+    let b = c.build_pointer-prp1.ensures in
     let pages = c.take-pages.result in
-    let o : Outstanding = record { pages = pages; prp1 = c.build-prp1.result.0; prp2 = c.build-prp1.result.1 } in
+    let o : Outstanding = record { pages = pages; prp1 = c.build_pointer-prp1.result.0; prp2 = c.build_pointer-prp1.result.1 } in
     let ok = c.unwrap-tail.ensures in
     let lane = c.args.lane.now in
+    let geometry = c.args.geometry in
+    let k = c.args.command.now in
+    let x = sent_by geometry k lane.serial o in
     let before = g.M.HostMemory.bytes c.args.mem.now in
-    let after = g.M.HostMemory.bytes c.build-prp1.new.mem in
+    let built = g.M.HostMemory.bytes c.build_pointer-prp1.new.mem in
+    let ready = g.M.HostMemory.bytes c.write_data.new.mem in
+    let len = c.data_length-len.ensures.length in
+    let few : pages.data_pages ≤ 2 = omega (arith, t.count, c.page_count.ensures.few) in
+    let enough = subst (λ n. geometry.offset + n ≤ pages.data_pages * geometry.page_size) len
+    (subst (λ n. geometry.offset + c.data_length-len.result ≤ n * geometry.page_size) (sym t.count) c.page_count.ensures.enough) in
+    let buffer = buffer_of geometry lane.pages pages before geometry.page_size (length_of (transfer_by k)) c.requires.geometry refl
+    (record { seven = t.seven; few = omega (arith, few); taken = t.taken; inside = c.requires.inside }) enough in
+    let is_built = built_by geometry k lane.serial o before built (g.M.HostMemory.page_len c.args.mem.now)
+    (g.M.HostMemory.page_len c.build_pointer-prp1.new.mem) c.data_length-len.result c.requires.page b.page len (search rules) (search rules)
+    b.stays b.others b.len in
     record {
-      few = omega (arith, t.count, c.page_count.ensures.few);
+      few = few;
       seven = t.seven;
       taken = t.taken;
-      enough = subst (λ n. c.args.geometry.offset + n ≤ pages.data_pages * c.args.geometry.page_size) c.data_length-len.ensures.length
-          (subst (λ n. c.args.geometry.offset + c.data_length-len.result ≤ n * c.args.geometry.page_size) (sym t.count) c.page_count.ensures.enough);
-      ready = after;
-      prepared = prepared_by c.args.geometry c.args.command.now lane.serial o before after (g.M.HostMemory.page_len c.args.mem.now)
-          (g.M.HostMemory.page_len c.build-prp1.new.mem) c.data.result.now c.data_length-len.result c.requires.page b.page c.data.ensures
-          c.data_length-len.ensures.length (search rules) (search rules)
-          (subst (λ (l : ListPlace). StaysFor (transfer (g.M.HostMemory.page_len c.build-prp1.new.mem) after c.build-prp1.result.0 c.build-prp1.result.1 c.data_length-len.result)
-          c.data.result.now c.args.geometry.offset l.first l.second) c.list-list.ensures b.stays)
-          (subst (λ (l : ListPlace). KeepsOutside (g.M.HostMemory.page_len c.args.mem.now) l.first l.second before after) c.list-list.ensures b.others)
-          b.len;
+      enough = enough;
+      ready = ready;
+      prepared = prepared_by geometry.page_size x before built ready c.requires.geometry.page_size c.requires.fits buffer
+          (rest_distinct x.first x.second x.pages (distinct_of lane.pages pages t.seven t.taken)) is_built
+          (c.write_data.ensures.bytes ∙ ap (λ n. written_at built (transfer_places (transfer_at n built o k)) (host_data_of k)) (b.page ∙ c.requires.page));
+      pointer = λ none. b.none (len ∙ none);
       mem = on_ok c.push.result c.unwrap-tail.result ok c.push.ensures.bytes
-          ∙ ap (λ (e : Sqe). with_submission after lane.submission (with_pointer e c.build-prp1.result.0 c.build-prp1.result.1)) c.entry-entry.ensures.entry;
+          ∙ ap (λ (e : Sqe). with_submission ready lane.submission (with_pointer e o.prp1 o.prp2)) c.entry-entry.ensures.entry;
       lane = ap (λ (r : SubmitNumbers). record lane { submission = r; serial = (lane.serial + 1) % 65535; pages = c.take-pages.new.free })
           (on_ok c.push.result c.unwrap-tail.result ok c.push.ensures.submitted)
           ∙ ap (λ (s : Pages). record lane { submission = submitted_one lane.submission; serial = (lane.serial + 1) % 65535; pages = s }) t.set;

@@ -1,4 +1,4 @@
-use Rattle.std.proofs.Common.{◌%◌, List, None, ap, arith, length, refl, slice_index_or, sym}
+use Rattle.std.proofs.Common.{◌%◌, List, None, ap, arith, length, slice_index_or, sym}
 use Rattle.nv_command.specs.declared.command.Command.{Command}
 use Rattle.nv_driver.proofs.CollectLaws.{answer_legal, answers_more, cid_below, collects, command_at, distance_to, freed_between, give_distinct, give_none, give_own, is_some, is_there, no_more, number_is, one_is}
 use Rattle.nv_driver.proofs.ExchangeLaws.{in_some}
@@ -110,7 +110,7 @@ answer-requires g c =
     let value = c.poll.ensures.value in
     let at = number_is u more some value c.distance.ensures in
     let place = ap (λ n. slice_index_or c.args.self.now.outstanding (n % 16) None) (sym at) in
-    let same = command_at u _ (omega (arith, more, no_more u)) at c.requires.1.0 refl in
+    let same = command_at u _ (omega (arith, more, no_more u)) at c.requires.1.0 c.index-commands-number.is in
     answer_legal u more some value place c.unwrap-one.ensures same
 
 pub bounds-answers-number : goal.bounds-answers-number
@@ -143,5 +143,5 @@ returns-clause-answers g c =
     let value = c.poll.ensures.value in
     let at = number_is u more some value c.distance.ensures in
     let place = ap (λ n. slice_index_or c.args.self.now.outstanding (n % 16) None) (sym at) in
-    let same = command_at u _ (omega (arith, more, no_more u)) at c.requires.1.0 refl in
+    let same = command_at u _ (omega (arith, more, no_more u)) at c.requires.1.0 c.index-commands-number.is in
     answers_more u more some value place c.unwrap-one.ensures same at asked.1.0 c.answer.ensures

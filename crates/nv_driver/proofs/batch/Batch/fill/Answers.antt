@@ -1,4 +1,4 @@
-use Rattle.std.proofs.Common.{◌+◌, ◌<◌, List, ap, arith, length, refl, sym}
+use Rattle.std.proofs.Common.{◌+◌, ◌<◌, List, ap, arith, length, sym}
 use Rattle.nv_command.specs.declared.command.Command.{Command}
 use Rattle.nv_driver.specs.declared.geometry.Geometry.{Geometry}
 use Rattle.nv_driver.proofs.UnderWayLaws.{has_slot, set_has, submits_at, tail_after}
@@ -27,7 +27,7 @@ loop-number-preserved g c =
     omega (arith, i.sent, i.collected, c.loop-number-test.true, c.min.ensures, first.window, ap (λ (q : Geometry). q.window) first.geometry) in
     let many = ap (λ (ks : List Command). length ks) c.requires.1.0 in
     record {
-      under_way = submits_at u _ i.sent more u.geometry c.submit-next.ensures.submitted c.requires.1.0 refl
+      under_way = submits_at u _ i.sent more u.geometry c.submit-next.ensures.submitted c.requires.1.0 c.index-commands-number.is
           (omega (arith, i.sent, c.loop-number-test.true, c.min.ensures, many, first.some)) c.submit-next.ensures.len c.submit-next.ensures.page;
       sent = ap (λ n. n + 1) i.sent;
       from = omega (arith, i.from);
