@@ -42,7 +42,11 @@ impl Lane {
 
 /// The lanes of so many controllers before their first command.
 #[tactic(auto, using(crate::proofs::LaneLaws::quiet_more, crate::proofs::LaneLaws::lanes_more))]
-pub(crate) fn new_lanes(alloc: Global, geometry: Geometry, controllers: u16) -> Result<Vec<Lane>, Memory>
+pub(crate) fn new_lanes(
+    alloc: Global,
+    geometry: Geometry,
+    controllers: u16,
+) -> Result<Vec<Lane>, Memory>
     requires geometry { IsGeometry geometry }
     requires controllers { controllers ≤ 16 }
     ensures quiet { IfOk result (λ lanes. All IsQuiet lanes.items) }
