@@ -105,8 +105,8 @@ impl Command {
         }
     }
 
-    /// Each field fits its bits, as its type says. The call does nothing.
-    fn fits(&self)
+    /// Each field fits its bits, as its type says. A law: the call does nothing.
+    pub fn fits(&self)
         ensures { CommandFits self.now }
     {
         match self {

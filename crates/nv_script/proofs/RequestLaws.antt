@@ -11,7 +11,7 @@ use Rattle.nv_line.specs.declared.request.Ask.{Ask}
 use Rattle.nv_line.specs.declared.request.Ask.TheVariants as ask
 use Rattle.nv_line.specs.declared.request.Request.{Request}
 use Rattle.nv_script.specs.Exchange.{Exchange, exchange_of}
-use Rattle.nv_script.specs.Outcomes.{Outcome, commands_at, commands_of, outcome_of}
+use Rattle.nv_script.specs.Outcomes.{Outcome, command_of, commands_of, outcome_of}
 use Rattle.nv_script.specs.Performing.{IsReached, RequestLeaves}
 use Rattle.nv_print.specs.Texts.{text_of}
 use Rattle.nv_script.specs.declared.order.Order.{Order}
@@ -23,16 +23,14 @@ no_order = record { controller = 0; command = IdentifyNamespace 0 }
 
 -- ---- the controllers of the commands are known
 
-below_at : (s : State) (c n : ℕ) (a : Ask) (i : ℕ) (d : Order) → c < n → i < length (commands_at s c a) → (get_or (commands_at s c a) i d).controller < n
-below_at s c n (ask.ListNs first all) zero d h inside = h
-below_at s c n (ask.ListNs first all) (suc i) d h inside = absurd (omega arith)
-below_at s c n (ask.IdNs nsid force) zero d h inside = h
-below_at s c n (ask.IdNs nsid force) (suc i) d h inside = absurd (omega arith)
+below_at : (o : Order) (n i : ℕ) (d : Order) → o.controller < n → i < length (o ∷ []) → (get_or (o ∷ []) i d).controller < n
+below_at o n zero d h inside = h
+below_at o n (suc i) d h inside = absurd (omega arith)
 
 pub controller_known : (s : State) (r : Request) (n m : ℕ) (orders : List Order) (i : ℕ) (d : Order) → orders ≡ commands_of s r → r.controller < n → m ≡ n → i < length orders
     → (get_or orders i d).controller < m
 controller_known s r n m orders i d e h same inside =
-    let known : (get_or orders i d).controller < n = rw e (below_at s r.controller n r.ask i d h (subst (λ (x : List Order). i < length x) e inside)) in
+    let known : (get_or orders i d).controller < n = rw e (below_at _ n i d h (subst (λ (x : List Order). i < length x) e inside)) in
     subst (λ k. (get_or orders i d).controller < k) (sym same) known
 
 -- ---- where an outcome leads

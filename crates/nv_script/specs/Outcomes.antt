@@ -17,23 +17,18 @@ list_command all after = if all then AllocatedList after else ActiveList after
 abbrev pub namespace_command : Bool → ℕ → Command
 namespace_command force nsid = if force then AllocatedNamespace nsid else IdentifyNamespace nsid
 
--- the commands for what a controller is asked; a list begins at an NSID, and is asked for after the
--- one before it
-abbrev pub commands_at : State → ℕ → Ask → List Order
-commands_at s controller (ask.ListNs first all) =
-    record { controller = controller; command = list_command all (first - 1) } ∷ []
-commands_at s controller (ask.IdNs nsid force) =
-    record { controller = controller; command = namespace_command force nsid } ∷ []
-commands_at s controller (ask.Create nsze ncap flbas dps nmic) =
-    record { controller = controller; command = Create nsze ncap flbas dps nmic } ∷ []
-commands_at s controller (ask.Attachment nsid detach controllers) =
-    record { controller = controller; command = Attachment nsid detach controllers } ∷ []
-commands_at s controller (ask.Delete nsid) =
-    record { controller = controller; command = Delete nsid } ∷ []
+-- the command for what a controller is asked; a list begins at an NSID, and is asked for after the one
+-- before it
+abbrev pub command_of : Ask → Command
+command_of (ask.ListNs first all) = list_command all (first - 1)
+command_of (ask.IdNs nsid force) = namespace_command force nsid
+command_of (ask.Create nsze ncap flbas dps nmic) = Create nsze ncap flbas dps nmic
+command_of (ask.Attachment nsid detach controllers) = Attachment nsid detach controllers
+command_of (ask.Delete nsid) = Delete nsid
 
 -- the commands that a request stands for
 abbrev pub commands_of : State → Request → List Order
-commands_of s r = commands_at s r.controller r.ask
+commands_of s r = record { controller = r.controller; command = command_of r.ask } ∷ []
 
 -- the replies up to the first refusal, and where that leaves the subsystem and the serials
 pub record Outcome : Type 0 where

@@ -15,9 +15,9 @@ use crate::ends::RunEnd;
 use crate::performing::{Stop, perform};
 use crate::session::Session;
 use crate::streams::Sink;
-use nv_print::{fault_message, refusal_message};
 use nv_controller::Bus;
 use nv_line::{Line, LineFault, read_line};
+use nv_print::{fault_message, refusal_message};
 use std::alloc::{AllocError, Global};
 
 /// Writes a text, in as many writes as it takes. After a failing write the sink has taken a

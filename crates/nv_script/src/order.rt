@@ -3,7 +3,7 @@
 ghost use Rattle.std.specs.Prelude.{◌≡◌, All, IfOk};
 ghost use Rattle.nv_command.specs.Command.{CommandFits};
 ghost use Rattle.nv_subsystem.specs.State.{State};
-ghost use Rattle.nv_script.specs.Outcomes.{commands_of, list_command, namespace_command};
+ghost use Rattle.nv_script.specs.Outcomes.{command_of, commands_of, list_command, namespace_command};
 
 use nv_command::Command;
 use nv_line::{Ask, Request};
@@ -18,8 +18,7 @@ pub struct Order {
 
 /// The command for the NSIDs above one: those attached to the controller, or all allocated ones.
 fn list_command(all: bool, after: u32) -> Command
-    ensures command { result ≡ list_command all after }
-    ensures fits { CommandFits result }
+    ensures { result ≡ list_command all after }
 {
     if all {
         Command::AllocatedList { after }
@@ -30,8 +29,7 @@ fn list_command(all: bool, after: u32) -> Command
 
 /// The command for what a namespace is: one attached to the controller, or any allocated one.
 fn namespace_command(force: bool, nsid: u32) -> Command
-    ensures command { result ≡ namespace_command force nsid }
-    ensures fits { CommandFits result }
+    ensures { result ≡ namespace_command force nsid }
 {
     if force {
         Command::AllocatedNamespace { nsid }
@@ -40,13 +38,11 @@ fn namespace_command(force: bool, nsid: u32) -> Command
     }
 }
 
-/// The commands of a request, in order. They are known from the request alone, before the first
-/// reply.
-pub(crate) fn commands_of(alloc: Global, request: &Request) -> Result<Vec<Order>, AllocError>
-    ensures orders { IfOk result (λ orders. (s : State) → orders.items ≡ commands_of s request.now) }
-    ensures fits { IfOk result (λ orders. All (λ o. CommandFits o.command) orders.items) }
+/// The command for what a controller is asked.
+fn command_of(ask: &Ask) -> Result<Command, AllocError>
+    ensures { IfOk result (λ command. command ≡ command_of ask.now) }
 {
-    let command = match &request.ask {
+    Ok(match ask {
         Ask::ListNs { first, all } => list_command(*all, first.saturating_sub(1)),
         Ask::IdNs { nsid, force } => namespace_command(*force, *nsid),
         Ask::Create {
@@ -69,10 +65,20 @@ pub(crate) fn commands_of(alloc: Global, request: &Request) -> Result<Vec<Order>
         } => Command::Attachment {
             nsid: *nsid,
             detach: *detach,
-            list: controllers.clone(),
+            list: controllers.clone()?,
         },
         Ask::Delete { nsid } => Command::Delete { nsid: *nsid },
-    };
+    })
+}
+
+/// The commands of a request, in order. They are known from the request alone, before the first
+/// reply.
+pub(crate) fn commands_of(alloc: Global, request: &Request) -> Result<Vec<Order>, AllocError>
+    ensures orders { IfOk result (λ orders. (s : State) → orders.items ≡ commands_of s request.now) }
+    ensures fits { IfOk result (λ orders. All (λ o. CommandFits o.command) orders.items) }
+{
+    let command = command_of(&request.ask)?;
+    command.fits();
     let order = Order {
         controller: request.controller,
         command,

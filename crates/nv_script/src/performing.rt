@@ -6,11 +6,11 @@ ghost use Rattle.nv_script.specs.Performing.{RequestLeaves};
 ghost use Rattle.nv_script.specs.declared.performing.Stop.TheVariants.{Refused, Memory};
 
 use crate::order::commands_of;
-use nv_print::text_of;
 use nv_controller::Bus;
 use nv_driver::Driver;
 use nv_layout::Status;
 use nv_line::Request;
+use nv_print::text_of;
 use std::alloc::{AllocError, AllocFailed, Global};
 
 /// Why a request has no text.
