@@ -13,12 +13,17 @@ use Rattle.nv_subsystem.specs.State.{Controller, Nsids}
 use Rattle.nv_subsystem.specs.declared.controller.Controller as code
 
 -- the first i of them were changed
-pub record Changed (nsids : Controller → Nsids) (old now : List code.Controller) (i : ℕ) : Type 0 where
-  pub views : take i (map controller_view now) ++ map (with_nsids nsids) (drop i (map controller_view now)) ≡ map (with_nsids nsids) (map controller_view old)
+pub record Changed (nsids : Controller → Nsids) (old now : List code.Controller)
+    (i : ℕ) : Type 0 where
+  pub views : take i (map controller_view now)
+      ++ map (with_nsids nsids) (drop i (map controller_view now))
+      ≡ map (with_nsids nsids) (map controller_view old)
   pub sized : (nn : ℕ) → All (IsSized nn) old → All (IsSized nn) now
 
-module _ (nsids : Controller → Nsids) (old now : List code.Controller) (i : ℕ) (so_far : Changed nsids old now i) where
-  pub finished : length now ≤ i → map controller_view now ≡ map (with_nsids nsids) (map controller_view old)
+module _ (nsids : Controller → Nsids) (old now : List code.Controller) (i : ℕ)
+    (so_far : Changed nsids old now i) where
+  pub finished : length now ≤ i → map controller_view now
+      ≡ map (with_nsids nsids) (map controller_view old)
   finished h =
       let views = map controller_view now in
       let end : length views ≤ i = omega (arith, length-map now controller_view) in
@@ -30,13 +35,22 @@ module _ (nsids : Controller → Nsids) (old now : List code.Controller) (i : �
     abbrev x : code.Controller
     x = get_or now i d
 
-    pub one_more : (a : RangeSet) → a ≡ record x.attached { members = nsids (controller_view x) } → Changed nsids old (set now i (record x { attached = a })) (i + 1)
+    pub one_more : (a : RangeSet) → a ≡ record x.attached { members = nsids (controller_view x) }
+        → Changed nsids old (set now i (record x { attached = a })) (i + 1)
     one_more a e = record {
-      views = rw add-one (next_mapped controller_view (with_nsids nsids) now i (record x { attached = a }) d h (ap (λ b. record (controller_view x) { attached = b.members }) e) ∙ so_far.views);
+      views = rw add-one (next_mapped controller_view (with_nsids nsids) now i
+          (record x { attached = a }) d h
+          (ap (λ b. record (controller_view x) { attached = b.members }) e) ∙ so_far.views);
       sized = λ nn all.
           let now_all = so_far.sized nn all in
           let is = now_all i d h in
-          All-set (IsSized nn) now i (record x { attached = a }) (record { first = ap (λ b. b.first) e ∙ is.first; count = ap (λ b. b.count) e ∙ is.count; log = is.log }) now_all;
+          All-set (IsSized nn) now i (record x { attached = a })
+          (record {
+            first = ap (λ b. b.first) e ∙ is.first;
+            count = ap (λ b. b.count) e
+                ∙ is.count;
+            log = is.log;
+          }) now_all;
     }
 
 -- which of two sets of NSIDs

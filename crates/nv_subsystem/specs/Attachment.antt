@@ -52,14 +52,17 @@ would_have n ids x = has_attached n x || is_listed ids x
 abbrev pub attach_rows : State → ℕ → List ℕ → List Row
 attach_rows s n ids =
     first_rows s n ids
-    ++ row (list_any (λ x. is_listed ids x && has_attached n x) s.controllers) NamespaceAlreadyAttached
-    ∷ row (is_private s n && nat_lt 1 (count_by (would_have n ids) s.controllers)) NamespaceIsPrivate
+    ++ row (list_any (λ x. is_listed ids x && has_attached n x) s.controllers)
+    NamespaceAlreadyAttached
+    ∷ row (is_private s n && nat_lt 1 (count_by (would_have n ids) s.controllers))
+    NamespaceIsPrivate
     ∷ []
 
 abbrev pub detach_rows : State → ℕ → List ℕ → List Row
 detach_rows s n ids =
     first_rows s n ids
-    ++ row (list_any (λ x. is_listed ids x && not (has_attached n x)) s.controllers) NamespaceNotAttached
+    ++ row (list_any (λ x. is_listed ids x && not (has_attached n x)) s.controllers)
+    NamespaceNotAttached
     ∷ []
 
 abbrev pub attachment_rows : State → ℕ → Bool → List ℕ → List Row
