@@ -9,7 +9,7 @@ use Rattle.std.proofs.lemmas.List.{length-map}
 use Rattle.nv_bits.specs.NumberLaws.{contains-insert}
 use Rattle.nv_file.specs.declared.namespace.Namespace.{Namespace}
 use Rattle.nv_command.specs.RefusalLaws.{is_refusal-refusal_by}
-use Rattle.nv_subsystem.specs.Attachment.{attach_rows, attached, attachment_rows, detached, has_attached, is_listed, is_private, with_attachments, would_have}
+use Rattle.nv_subsystem.specs.Attachment.{attach_rows, attached, attachment_rows, detached, has_attached, is_listed, is_private, with_attachments}
 use Rattle.nv_subsystem.specs.Management.{with_attached, with_nsids}
 use Rattle.nv_subsystem.specs.ManagementLaws.{AllRefuse, attached_keep, left, none_holds}
 use Rattle.nv_subsystem.specs.MappedLaws.{count_by-map, count_by-map_le}
@@ -88,12 +88,12 @@ attach_keeps s n ids w accepted = attached_keep s (more n ids) s.namespaces w (r
         ≡ true = ap (λ o. option_map_or (λ (x : Namespace). not x.shared) o false)
         (sym (ap (map_of.get s.namespaces) same) ∙ e) ∙ ap not p in
         let one = few (is_private s n) _ alone rows.1.1.1.1.0 in
-        let count = count_by-map (has_attached q) (with_nsids (more n ids)) (would_have n ids)
+        let count = count_by-map (has_attached q) (with_nsids (more n ids)) (λ c. has_attached n c || is_listed ids c)
         (λ c. has_more n ids c q
         ∙ ap (λ b. cond b (is_listed ids c) false || map_of.contains_key c.attached q) is
         ∙ ap (λ m. is_listed ids c || map_of.contains_key c.attached m) same
         ∙ or_comm (is_listed ids c) (has_attached n c)) s.controllers in
-        at_most (count_by (would_have n ids) s.controllers) _ count one
+        at_most (count_by (λ c. has_attached n c || is_listed ids c) s.controllers) _ count one
       where
         at_most : (k m : ℕ) → m ≡ k → nat_lt 1 k ≡ false → m ≤ 1
         at_most k m e h = grind (arith, nat_tests)
