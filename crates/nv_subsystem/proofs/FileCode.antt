@@ -25,43 +25,59 @@ use Rattle.nv_file.specs.declared.namespace.Namespace.{Namespace}
 use Rattle.nv_subsystem.proofs.FileStates.{state_ok}
 use Rattle.nv_subsystem.specs.InFormatLaws.{format_below}
 
-pub nsids_within : (f : File) → IsFile (file_view f) → (k : ℕ) (d : NamespaceEntry) → k < length f.namespaces.items → IsOf 1 f.nn (get_or f.namespaces.items k d).nsid
+pub nsids_within : (f : File) → IsFile (file_view f) → (k : ℕ) (d : NamespaceEntry)
+    → k < length f.namespaces.items → IsOf 1 f.nn (get_or f.namespaces.items k d).nsid
 nsids_within f h k d b =
     let ns = f.namespaces.items in
     let at = get_or-map namespace_entry_view ns k d (namespace_entry_view d) b in
-    let is = h.namespaces k (namespace_entry_view d) (omega (arith, length-map ns namespace_entry_view)) in
-    let within = subst (λ n. (1 ≤ n.nsid) × (n.nsid ≤ f.nn)) at is.nsid in (within.0, omega (arith, within.1))
+    let is = h.namespaces k (namespace_entry_view d)
+    (omega (arith, length-map ns namespace_entry_view)) in
+    let within = subst (λ n. (1 ≤ n.nsid) × (n.nsid ≤ f.nn)) at is.nsid in
+    (within.0, omega (arith, within.1))
 
 pub is_sound : (f : File) (slots : RangeMap Namespace) (cs : List Controller) → IsFile (file_view f)
     → slots ≡ record { first = 1; count = f.nn; values = (state_of (file_view f)).namespaces }
-    → map controller_view cs ≡ map (controller_of (map namespace_entry_view f.namespaces.items)) (map controller_entry_view f.controllers.items)
+    → map controller_view cs ≡ map (controller_of (map namespace_entry_view f.namespaces.items))
+    (map controller_entry_view f.controllers.items)
     → All (IsSized f.nn) cs → IsSound slots f.formats.items cs
 is_sound f slots cs h is views sized =
     let ok = state_ok (file_view f) h in
     let entries = map controller_entry_view f.controllers.items in
-    let as_many : length cs ≡ length entries = sym (length-map cs controller_view) ∙ ap length views ∙ length-map entries (controller_of (map namespace_entry_view f.namespaces.items)) in
+    let as_many : length cs ≡ length entries = sym (length-map cs controller_view) ∙ ap length views
+    ∙ length-map entries (controller_of (map namespace_entry_view f.namespaces.items)) in
     record {
       first = ap (λ m. m.first) is;
       count = subst (λ (m : RangeMap Namespace). m.count ≤ 1024) (sym is) h.keys.nn.1;
       formats = h.format_count;
-      block_sizes = All-weaker IsFormat (λ x. x.lbads ≤ 16) (λ x is. is.lbads.1) f.formats.items h.formats;
+      block_sizes = All-weaker IsFormat (λ x. x.lbads ≤ 16)
+          (λ x is. is.lbads.1) f.formats.items h.formats;
       in_formats = λ n x e.
-          let at = ok.namespaces n x (subst (λ (m : RangeMap Namespace). map_of.get m.values n ≡ Some x) is e) in
+          let at = ok.namespaces n x
+          (subst (λ (m : RangeMap Namespace). map_of.get m.values n ≡ Some x) is e) in
           omega (arith, format_below f.mc x f.formats.items at.format, h.format_count.1);
       few = omega (arith, as_many, h.controller_count.1);
       controllers = subst (λ (m : RangeMap Namespace). All (IsSized m.count) cs) (sym is) sized;
     }
 
-sum_of_views : (ns : List NamespaceEntry) → sum_by (λ n. n.namespace.capacity) (map namespace_entry_view ns) ≡ sum_by (λ n. n.namespace.capacity) ns
+sum_of_views : (ns : List NamespaceEntry)
+    → sum_by (λ n. n.namespace.capacity) (map namespace_entry_view ns)
+    ≡ sum_by (λ n. n.namespace.capacity) ns
 sum_of_views [] = refl
-sum_of_views (n ∷ ns) = omega (arith, sum_of_views ns, sum_by-cons (λ n. n.namespace.capacity) n ns, sum_by-cons (λ n. n.namespace.capacity) (namespace_entry_view n) (map namespace_entry_view ns))
+sum_of_views (n ∷ ns) = omega (
+  arith,
+  sum_of_views ns,
+  sum_by-cons (λ n. n.namespace.capacity) n ns,
+  sum_by-cons (λ n. n.namespace.capacity) (namespace_entry_view n) (map namespace_entry_view ns),
+)
 
 -- the namespaces of a file have no more capacity than there is
-pub within_capacity : (f : File) → IsFile (file_view f) → sum_by (λ n. n.namespace.capacity) f.namespaces.items ≤ f.tnvmcap
+pub within_capacity : (f : File) → IsFile (file_view f)
+    → sum_by (λ n. n.namespace.capacity) f.namespaces.items ≤ f.tnvmcap
 within_capacity f h = omega (arith, h.capacities, sum_of_views f.namespaces.items)
 
 -- what they leave is what is unallocated
-pub adds_up : (f : File) (left : ℕ) → IsFile (file_view f) → left + sum_by (λ n. n.namespace.capacity) f.namespaces.items ≡ f.tnvmcap
+pub adds_up : (f : File) (left : ℕ) → IsFile (file_view f)
+    → left + sum_by (λ n. n.namespace.capacity) f.namespaces.items ≡ f.tnvmcap
     → left + used (state_of (file_view f)).namespaces ≡ f.tnvmcap
 adds_up f left h e =
     omega (
@@ -69,5 +85,6 @@ adds_up f left h e =
       e,
       sum_of_views f.namespaces.items,
       used-empty,
-      used-all map_of.empty (file_view f).namespaces h.nsids (λ k d b. get-empty nat_cmp (get_or (file_view f).namespaces k d).nsid),
+      used-all map_of.empty (file_view f).namespaces h.nsids
+          (λ k d b. get-empty nat_cmp (get_or (file_view f).namespaces k d).nsid),
     )

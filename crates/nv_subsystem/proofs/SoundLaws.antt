@@ -21,8 +21,12 @@ none_of : (o : Option Namespace) → is_some o ≡ false → o ≡ None
 none_of None e = refl
 none_of (Some x) e = absurd (cc e)
 
-module _ (m : RangeMap Namespace) (fs : List Format) (cs : List Controller) (unallocated tnvmcap : ℕ) (is : AddsUp m fs cs unallocated tnvmcap) (n : ℕ) where
-  pub sound-insert : (x : Namespace) → map_of.contains_key m.values n ≡ false → x.capacity ≤ unallocated → x.format < 16 → AddsUp (record m { values = map_of.insert m.values n x }) fs cs (unallocated - x.capacity) tnvmcap
+module _ (m : RangeMap Namespace) (fs : List Format) (cs : List Controller)
+    (unallocated tnvmcap : ℕ) (is : AddsUp m fs cs unallocated tnvmcap) (n : ℕ) where
+  pub sound-insert : (x : Namespace) → map_of.contains_key m.values n ≡ false
+      → x.capacity ≤ unallocated → x.format < 16
+      → AddsUp (record m { values = map_of.insert m.values n x }) fs cs
+      (unallocated - x.capacity) tnvmcap
   sound-insert x free room small = (
     record {
       first = is.0.first;
@@ -36,11 +40,13 @@ module _ (m : RangeMap Namespace) (fs : List Format) (cs : List Controller) (una
     omega (arith, is.1, used-insert m.values n x (none_of (map_of.get m.values n) free)),
   )
     where
-      at_test : (q : ℕ) (y : Namespace) (b : Bool) → cond b (Some x) (map_of.get m.values q) ≡ Some y → y.format < 16
+      at_test : (q : ℕ) (y : Namespace) (b : Bool) → cond b (Some x) (map_of.get m.values q)
+          ≡ Some y → y.format < 16
       at_test q y true e = let same : x ≡ y = cc e in omega (arith, ap (λ z. z.format) same)
       at_test q y false e = is.0.in_formats q y e
 
-  sound-without : (total : ℕ) → total + used (map_of.remove m.values n) ≡ tnvmcap → AddsUp (record m { values = map_of.remove m.values n }) fs cs total tnvmcap
+  sound-without : (total : ℕ) → total + used (map_of.remove m.values n) ≡ tnvmcap
+      → AddsUp (record m { values = map_of.remove m.values n }) fs cs total tnvmcap
   sound-without total adds = (
     record {
       first = is.0.first;
@@ -49,18 +55,27 @@ module _ (m : RangeMap Namespace) (fs : List Format) (cs : List Controller) (una
       block_sizes = is.0.block_sizes;
       few = is.0.few;
       controllers = is.0.controllers;
-      in_formats = λ q y e. is.0.in_formats q y (sym (ap (λ b. cond b None (map_of.get m.values q)) (left m.values n q (ap is_some e)).0) ∙ sym (get_of_remove m.values n q) ∙ e);
+      in_formats = λ q y e. is.0.in_formats q y
+          (sym (ap (λ b. cond b None (map_of.get m.values q)) (left m.values n q (ap is_some e)).0)
+          ∙ sym (get_of_remove m.values n q) ∙ e);
     },
     adds,
   )
 
-  pub sound-remove : (x : Namespace) → map_of.get m.values n ≡ Some x → AddsUp (record m { values = map_of.remove m.values n }) fs cs (unallocated + x.capacity) tnvmcap
-  sound-remove x e = sound-without (unallocated + x.capacity) (omega (arith, is.1, used-remove m.values n x e))
+  pub sound-remove : (x : Namespace) → map_of.get m.values n ≡ Some x
+      → AddsUp (record m { values = map_of.remove m.values n }) fs cs
+      (unallocated + x.capacity) tnvmcap
+  sound-remove x e = sound-without (unallocated + x.capacity)
+      (omega (arith, is.1, used-remove m.values n x e))
 
-  pub sound-absent : map_of.get m.values n ≡ None → AddsUp (record m { values = map_of.remove m.values n }) fs cs unallocated tnvmcap
-  sound-absent e = sound-without unallocated (omega (arith, is.1, ap used (remove_absent m.values n (ap is_some e))))
+  pub sound-absent : map_of.get m.values n ≡ None
+      → AddsUp (record m { values = map_of.remove m.values n }) fs cs unallocated tnvmcap
+  sound-absent e = sound-without unallocated
+      (omega (arith, is.1, ap used (remove_absent m.values n (ap is_some e))))
 
-pub sound-clear : (m : RangeMap Namespace) (fs : List Format) (cs : List Controller) (unallocated tnvmcap : ℕ) → AddsUp m fs cs unallocated tnvmcap → AddsUp (record m { values = map_of.empty }) fs cs tnvmcap tnvmcap
+pub sound-clear : (m : RangeMap Namespace) (fs : List Format) (cs : List Controller)
+    (unallocated tnvmcap : ℕ) → AddsUp m fs cs unallocated tnvmcap
+    → AddsUp (record m { values = map_of.empty }) fs cs tnvmcap tnvmcap
 sound-clear m fs cs unallocated tnvmcap is = (
   record {
     first = is.0.first;
@@ -69,13 +84,15 @@ sound-clear m fs cs unallocated tnvmcap is = (
     block_sizes = is.0.block_sizes;
     few = is.0.few;
     controllers = is.0.controllers;
-    in_formats = λ q y e. let both : None ≡ Some y = sym (get-empty nat_cmp q) ∙ e in absurd (cc both);
+    in_formats = λ q y e. let both : None ≡ Some y = sym (get-empty nat_cmp q)
+        ∙ e in absurd (cc both);
   },
   omega (arith, used-empty),
 )
 
 -- controllers that keep their sizes
-pub sound-controllers : (m : RangeMap Namespace) (fs : List Format) (old new : List Controller) (unallocated tnvmcap : ℕ) → AddsUp m fs old unallocated tnvmcap
+pub sound-controllers : (m : RangeMap Namespace) (fs : List Format) (old new : List Controller)
+    (unallocated tnvmcap : ℕ) → AddsUp m fs old unallocated tnvmcap
     → length new ≡ length old → All (IsSized m.count) new → AddsUp m fs new unallocated tnvmcap
 sound-controllers m fs old new unallocated tnvmcap is len sized = (
   record {

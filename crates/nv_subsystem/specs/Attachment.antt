@@ -45,22 +45,27 @@ first_rows s n ids =
     ∷ row (not (is_list_of s ids)) ControllerListInvalid
     ∷ []
 
--- the controllers that would have the namespace attached
-abbrev pub would_have : ℕ → List ℕ → Controller → Bool
-would_have n ids x = has_attached n x || is_listed ids x
+-- a listed controller has the namespace attached
+abbrev pub has_one_attached : State → ℕ → List ℕ → Bool
+has_one_attached s n ids = list_any (λ x. is_listed ids x && has_attached n x) s.controllers
+
+-- a listed controller doesn't have it attached
+abbrev pub lacks_one_attached : State → ℕ → List ℕ → Bool
+lacks_one_attached s n ids = list_any (λ x. is_listed ids x && not (has_attached n x)) s.controllers
+
+-- how many controllers would have it attached, with the listed ones
+abbrev pub count_with : State → ℕ → List ℕ → ℕ
+count_with s n ids = count_by (λ x. has_attached n x || is_listed ids x) s.controllers
 
 abbrev pub attach_rows : State → ℕ → List ℕ → List Row
 attach_rows s n ids =
     first_rows s n ids
-    ++ row (list_any (λ x. is_listed ids x && has_attached n x) s.controllers) NamespaceAlreadyAttached
-    ∷ row (is_private s n && nat_lt 1 (count_by (would_have n ids) s.controllers)) NamespaceIsPrivate
+    ++ row (has_one_attached s n ids) NamespaceAlreadyAttached
+    ∷ row (is_private s n && nat_lt 1 (count_with s n ids)) NamespaceIsPrivate
     ∷ []
 
 abbrev pub detach_rows : State → ℕ → List ℕ → List Row
-detach_rows s n ids =
-    first_rows s n ids
-    ++ row (list_any (λ x. is_listed ids x && not (has_attached n x)) s.controllers) NamespaceNotAttached
-    ∷ []
+detach_rows s n ids = first_rows s n ids ++ row (lacks_one_attached s n ids) NamespaceNotAttached ∷ []
 
 abbrev pub attachment_rows : State → ℕ → Bool → List ℕ → List Row
 attachment_rows s n detach ids = if detach then detach_rows s n ids else attach_rows s n ids

@@ -1,11 +1,10 @@
 //! Namespace Attachment: when an attach or a detach is refused, and what it changes. Section
 //! "Namespace Attachment command".
 
-ghost use Rattle.std.specs.Prelude.{◌≡◌, ◌||◌, ◌&&◌, ℕ, not, false, true, map, count_by, All};
-ghost use Rattle.std.specs.List.{list_any};
+ghost use Rattle.std.specs.Prelude.{◌≡◌, ℕ, false, true, map, All};
 ghost use Rattle.std.specs.FinMap as map_of;
 ghost use Rattle.nv_bits.specs.Numbers.{IsOf};
-ghost use Rattle.nv_subsystem.specs.Attachment.{attach_rows, attached, attachment_rows, detach_rows, detached, first_rows, has_attached, is_ascending, is_known, is_list_of, is_listed, is_private, with_attachments, would_have};
+ghost use Rattle.nv_subsystem.specs.Attachment.{attach_rows, attached, attachment_rows, count_with, detach_rows, detached, first_rows, has_one_attached, is_ascending, is_known, is_list_of, is_listed, is_private, lacks_one_attached, with_attachments};
 ghost use Rattle.nv_subsystem.specs.AttachmentLaws.{fewer, more};
 ghost use Rattle.nv_subsystem.specs.ControllerView.{controller_view};
 ghost use Rattle.nv_subsystem.specs.Management.{with_nsids};
@@ -120,8 +119,7 @@ impl Subsystem {
 
     /// Whether a listed controller has the namespace attached.
     fn has_one_attached(&self, nsid: u32, ids: &[u16]) -> bool
-        ensures { result ≡ list_any (λ x. is_listed ids.now x && has_attached nsid x)
-            self.now.controllers }
+        ensures { result ≡ has_one_attached self.now nsid ids.now }
     {
         self.controllers.iter().any(|controller| is_listed(ids, controller)
             && controller.attached.contains(nsid))
@@ -129,8 +127,7 @@ impl Subsystem {
 
     /// Whether a listed controller doesn't have it attached.
     fn lacks_one_attached(&self, nsid: u32, ids: &[u16]) -> bool
-        ensures { result ≡ list_any (λ x. is_listed ids.now x && not (has_attached nsid x))
-            self.now.controllers }
+        ensures { result ≡ lacks_one_attached self.now nsid ids.now }
     {
         self.controllers.iter().any(|controller| is_listed(ids, controller)
             && !controller.attached.contains(nsid))
@@ -138,7 +135,7 @@ impl Subsystem {
 
     /// How many controllers would have the namespace attached, with the listed ones.
     fn count_with(&self, nsid: u32, ids: &[u16]) -> usize
-        ensures { result ≡ count_by (would_have nsid ids.now) self.now.controllers }
+        ensures { result ≡ count_with self.now nsid ids.now }
     {
         self.controllers
             .iter()

@@ -5,5 +5,7 @@ use Rattle.nv_subsystem.proofs.attachment.detach_everywhere.Goals as goal
 
 pub loop-controller-preserved : goal.loop-controller-preserved
 loop-controller-preserved c =
-    one_more (λ x. map_of.remove x.attached c.args.nsid) c.args.controllers.now c.loop-controller.controllers c.loop-controller.controller-index c.loop-controller.invariant c.controller-item.result (omega arith)
+    one_more (λ x. map_of.remove x.attached c.args.nsid) c.args.controllers.now
+    c.loop-controller.controllers c.loop-controller.controller-index c.loop-controller.invariant
+    c.controller-item.result (omega arith)
     c.remove.new.self c.remove.ensures.members

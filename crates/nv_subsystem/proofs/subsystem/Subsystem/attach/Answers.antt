@@ -11,15 +11,19 @@ invariant_of-self c =
     let s = c.self.inside in
     let len = c.attach_listed.auto.controllers ∙ c.deref_mut.ensures.len in
     rw (with_items_is s.controllers c.attach_listed.new.controllers len)
-    (sound-controllers s.slots s.formats.items s.controllers.items c.attach_listed.new.controllers s.unallocated s.tnvmcap c.self.invariant (len ∙ s.controllers.ok.0)
-    (c.attach_listed.ensures.sized s.slots.count (subst (All (IsSized s.slots.count)) (sym c.deref_mut.ensures.value) c.self.invariant.0.controllers)))
+    (sound-controllers s.slots s.formats.items s.controllers.items c.attach_listed.new.controllers
+    s.unallocated s.tnvmcap c.self.invariant (len ∙ s.controllers.ok.0)
+    (c.attach_listed.ensures.sized s.slots.count
+    (subst (All (IsSized s.slots.count)) (sym c.deref_mut.ensures.value)
+    c.self.invariant.0.controllers)))
 
 pub attach_listed-requires : goal.attach_listed-requires
 attach_listed-requires c =
     let s = c.self.inside in
     let valid = rw (← c.self.view_is) at c.requires in (
       s.slots.count,
-      subst (All (IsSized s.slots.count)) (sym c.deref_mut.ensures.value) c.self.invariant.0.controllers,
+      subst (All (IsSized s.slots.count)) (sym c.deref_mut.ensures.value)
+          c.self.invariant.0.controllers,
       in_range c.args.nsid s.slots.count valid,
     )
   where

@@ -15,4 +15,5 @@ returns-in-Some c =
     let f = c.in-Some.format in
     rw c.from.ensures
     (no_bit_lost c.args.wanted.now.nsze f.lbads (omega arith) c.in-Some.ensures.small
-    ∙ ap (λ o. option_map_or (λ f. c.args.wanted.now.nsze * 2 ^ f.lbads) o 0) c.in-Some.ensures.value)
+    ∙ ap (λ o. option_map_or (λ f. c.args.wanted.now.nsze * 2 ^ f.lbads) o 0)
+    c.in-Some.ensures.value)

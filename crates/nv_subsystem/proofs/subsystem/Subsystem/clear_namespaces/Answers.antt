@@ -4,4 +4,5 @@ use Rattle.nv_subsystem.proofs.subsystem.Subsystem.clear_namespaces.Goals as goa
 pub invariant_of-self : goal.invariant_of-self
 invariant_of-self c =
     let s = c.self.inside in
-    rw c.clear.ensures (sound-clear s.slots s.formats.items s.controllers.items s.unallocated s.tnvmcap c.self.invariant)
+    rw c.clear.ensures (sound-clear s.slots s.formats.items s.controllers.items s.unallocated
+    s.tnvmcap c.self.invariant)

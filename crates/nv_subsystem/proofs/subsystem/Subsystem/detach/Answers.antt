@@ -10,5 +10,8 @@ invariant_of-self c =
     let s = c.self.inside in
     let len = c.detach_listed.auto.controllers ∙ c.deref_mut.ensures.len in
     rw (with_items_is s.controllers c.detach_listed.new.controllers len)
-    (sound-controllers s.slots s.formats.items s.controllers.items c.detach_listed.new.controllers s.unallocated s.tnvmcap c.self.invariant (len ∙ s.controllers.ok.0)
-    (c.detach_listed.ensures.sized s.slots.count (subst (All (IsSized s.slots.count)) (sym c.deref_mut.ensures.value) c.self.invariant.0.controllers)))
+    (sound-controllers s.slots s.formats.items s.controllers.items c.detach_listed.new.controllers
+    s.unallocated s.tnvmcap c.self.invariant (len ∙ s.controllers.ok.0)
+    (c.detach_listed.ensures.sized s.slots.count
+    (subst (All (IsSized s.slots.count)) (sym c.deref_mut.ensures.value)
+    c.self.invariant.0.controllers)))
