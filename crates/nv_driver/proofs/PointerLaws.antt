@@ -64,19 +64,19 @@ named t pages from is =
 -- ---- the data pointer of a command
 
 -- the transfer of its data
-abbrev pointed : ℕ → Sent → List ℕ → Transfer
+abbrev pub pointed : ℕ → Sent → List ℕ → Transfer
 pointed page_size x mem = transfer page_size mem x.prp1 x.prp2 (data_length x)
 
 -- the data pointer names the places of the data, and is legal where there is data
 abbrev pub Names : ℕ → Sent → List ℕ → Type 0
 Names page_size x mem =
-    (0 < data_length x → IsLegal (transfer page_size mem x.prp1 x.prp2 (data_length x)))
-    × (transfer_places (transfer page_size mem x.prp1 x.prp2 (data_length x)) ≡ places page_size x)
+    (0 < data_length x → IsLegal (pointed page_size x mem))
+    × (transfer_places (pointed page_size x mem) ≡ places page_size x)
 
 -- while its list stays
 abbrev pub StaysNamed : ℕ → Sent → List ℕ → Type 0
-StaysNamed page_size x mem = 0 < data_length x
-    → StaysFor (transfer page_size mem x.prp1 x.prp2 (data_length x)) x.pages x.offset x.first x.second
+StaysNamed page_size x mem =
+    0 < data_length x → StaysFor (pointed page_size x mem) x.pages x.offset x.first x.second
 
 keeps_list : (page_size : ℕ) (x : Sent) (mem later : List ℕ) → IsPageSize page_size
     → length later ≡ length mem → KeepsList (pointed page_size x mem) x.first x.second later
