@@ -67,7 +67,8 @@ completion_fits k cid head (Err status) low below is = record {
 
 -- what a reply's command receives is the data of the reply
 abbrev pub Delivers : Setting → Sent → List ℕ → Answer → Type 0
-Delivers t x mem (Ok r) = received_from (transfer_by x.command) mem (places t.page_size x) ≡ data_of r
+Delivers t x mem (Ok r) =
+    received_from (transfer_by x.command) mem (places t.page_size x) ≡ data_of r
 Delivers t x mem (Err status) = Unit {0}
 
 pub answer_back : (t : Setting) (x : Sent) (mem : List ℕ) (depth n cid head : ℕ) (a : Answer) → IsAnswerTo x.command a → Delivers t x mem a

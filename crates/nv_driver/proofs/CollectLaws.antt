@@ -41,7 +41,8 @@ pub record IsOne (r : Run) (o : Outstanding) (x : Sent) : Type 0 where
   pub pages : all_pages o.pages ≡ own_pages x
   pub legal : (mem : List ℕ) → length mem ≡ length r.bytes
       → (0 < data_length x → IsLegal (transfer_at r.geometry.page_size mem o x.command))
-      × (transfer_places (transfer_at r.geometry.page_size mem o x.command) ≡ places r.geometry.page_size x)
+      × (transfer_places (transfer_at r.geometry.page_size mem o x.command)
+      ≡ places r.geometry.page_size x)
 
 is_one : (r : Run) (found : Option Outstanding) (o : Outstanding) (x : Sent) → IsKept r found x → found ≡ Some o → IsOne r o x
 is_one r found o x k is =
@@ -52,9 +53,11 @@ is_one r found o x k is =
       few = omega (arith, k.few, ap (λ (q : Outstanding). q.pages.data_pages) same);
       pages = ap (λ (q : Outstanding). all_pages q.pages) (sym same) ∙ pages_are k.one.pages k.seven ∙ ap own_pages (sym k.sent);
       legal = λ mem size.
-          subst (λ (y : Sent). (0 < data_length x → IsLegal (transfer r.geometry.page_size mem y.prp1 y.prp2 (data_length x)))
-          × (transfer_places (transfer r.geometry.page_size mem y.prp1 y.prp2 (data_length x)) ≡ places r.geometry.page_size x)) as_sent
-          (k.legal mem size);
+          let page_size = r.geometry.page_size in
+          subst (λ (y : Sent). (0 < data_length x
+          → IsLegal (transfer page_size mem y.prp1 y.prp2 (data_length x)))
+          × (transfer_places (transfer page_size mem y.prp1 y.prp2 (data_length x)) ≡ places page_size x))
+          as_sent (k.legal mem size);
     }
 
 -- more was collected than was told
@@ -244,23 +247,28 @@ module _ {r : Run} {bells turns : ℕ} {b : Batch} {l : LaneFields} {now : ℕ} 
         pub answer_legal : 0 < length_of (transfer_by k) → IsLegal (transfer_at now bytes o k)
         answer_legal =
             subst (λ c. 0 < length_of (transfer_by c) → IsLegal (transfer_at now bytes o c)) (sym same)
-            (subst (λ p. 0 < data_length next_one → IsLegal (transfer_at p bytes o next_one.command)) (sym u.page_size) (one_is.legal bytes u.size).0)
+            (subst (λ p. 0 < data_length next_one → IsLegal (transfer_at p bytes o next_one.command))
+            (sym u.page_size) (one_is.legal bytes u.size).0)
 
-        answer_is : (d : Answer) → answer_from k q (received_from (transfer_by k) bytes (transfer_places (transfer_at now bytes o k)))
+        answer_is : (d : Answer)
+            → answer_from k q (received_from (transfer_by k) bytes (transfer_places (transfer_at now bytes o k)))
             ≡ get_or (answers_to r.controller r.bus.state u.world.sent) b.collected d
         answer_is d =
             let t = setting_of r in
             let held = u.keeps.held b.collected no_command (omega (arith, u.collected)) (omega (arith, more, u.done)) in
             let k' = next_one.command in
-            ap (λ c. answer_from c q (received_from (transfer_by c) bytes (transfer_places (transfer_at now bytes o c)))) same
-            ∙ ap (λ p. answer_from k' q (received_from (transfer_by k') bytes (transfer_places (transfer_at p bytes o k')))) u.page_size
-            ∙ ap (λ ps. answer_from k' q (received_from (transfer_by k') bytes ps)) (one_is.legal bytes u.size).1
+            let read = λ (c : Command) (ps : List ℕ).
+            answer_from c q (received_from (transfer_by c) bytes ps) in
+            ap (λ c. read c (transfer_places (transfer_at now bytes o c))) same
+            ∙ ap (λ p. read k' (transfer_places (transfer_at p bytes o k'))) u.page_size
+            ∙ ap (read k') (one_is.legal bytes u.size).1
             ∙ ap (λ m. answer_read t.page_size next_one m q) (sym u.mem)
             ∙ ap (answer_read t.page_size next_one u.world.mem) completion_is
             ∙ held.answer d
 
         pub answers_more : {answers : List Answer} {a : Answer} {n : ℕ} → n ≡ b.collected → HasAnswers r b.collected answers
-            → a ≡ answer_from k q (received_from (transfer_by k) bytes (transfer_places (transfer_at now bytes o k)))
+            → a ≡ answer_from k q
+            (received_from (transfer_by k) bytes (transfer_places (transfer_at now bytes o k)))
             → HasAnswers r (b.collected + 1) (set answers n a)
         answers_more {answers} {a} {n} at has is =
             let c = r.controller in

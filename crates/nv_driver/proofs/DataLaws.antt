@@ -29,7 +29,8 @@ shape (Delete n) = tt
 shape (Attachment n detach ids) = refl
 
 -- a reply without data is read from any page
-pub read_anywhere : (k : Command) (dword0 : ℕ) (page other : List ℕ) → bytes_to_host (transfer_by k) ≡ 0 → reply_in k dword0 page ≡ reply_in k dword0 other
+pub read_anywhere : (k : Command) (dword0 : ℕ) (page other : List ℕ)
+    → bytes_to_host (transfer_by k) ≡ 0 → reply_in k dword0 page ≡ reply_in k dword0 other
 read_anywhere (IdentifyNamespace n) dword0 page other none = absurd (omega (arith, none))
 read_anywhere (AllocatedNamespace n) dword0 page other none = absurd (omega (arith, none))
 read_anywhere (ActiveList after) dword0 page other none = absurd (omega (arith, none))
@@ -48,28 +49,8 @@ most NoData is = lit≤ tt
 most (ToHost n) is = omega (arith, is)
 most (FromHost n) is = omega (arith, is)
 
--- ---- what the host sends
-
-pub length-host_data : (k : Command) → CommandFits k → length (host_data_of k) ≡ bytes_from_host (transfer_by k)
-length-host_data k fits = (commands_travel k 0 fits (lit< tt)).sent
-
-pub nothing : (xs : List ℕ) → length xs ≡ 0 → xs ≡ []
-nothing [] none = refl
-nothing (x ∷ xs) none = absurd (omega (arith, none))
-
-pub written-nothing : (bytes at : List ℕ) → written_at bytes at [] ≡ bytes
-unfolding written_at
-written-nothing bytes [] = refl
-written-nothing bytes (p ∷ at) = refl
-
--- where the host sends nothing, nothing is written
-pub none_sent : (k : Command) (m : Transfer) (bytes at : List ℕ) → CommandFits k → m ≡ transfer_by k → bytes_from_host m ≡ 0
-    → bytes ≡ written_at bytes at (host_data_of k)
-none_sent k m bytes at fits is none =
-    let sent = nothing (host_data_of k) (length-host_data k fits ∙ ap bytes_from_host (sym is) ∙ none) in
-    sym (ap (written_at bytes at) sent ∙ written-nothing bytes at)
-
-some_from_host : (m : Transfer) → HasShape m → 0 < bytes_from_host m → (bytes_from_host m ≡ 4096) × (length_of m ≡ 4096)
+some_from_host : (m : Transfer) → HasShape m → 0 < bytes_from_host m
+    → (bytes_from_host m ≡ 4096) × (length_of m ≡ 4096)
 some_from_host NoData is some = absurd (omega (arith, some))
 some_from_host (ToHost n) is some = absurd (omega (arith, some))
 some_from_host (FromHost n) is some = (is, is)
@@ -79,30 +60,57 @@ some_to_host NoData is some = absurd (omega (arith, some))
 some_to_host (ToHost n) is some = is
 some_to_host (FromHost n) is some = absurd (omega (arith, some))
 
+-- what the controller sends is a page
+pub page_received : (k : Command) → 0 < bytes_to_host (transfer_by k)
+    → length_of (transfer_by k) ≡ 4096
+page_received k some = some_to_host (transfer_by k) (shape k) some
+
+-- ---- what the host sends
+
+pub length-host_data : (k : Command) → CommandFits k
+    → length (host_data_of k) ≡ bytes_from_host (transfer_by k)
+length-host_data k fits = (commands_travel k 0 fits (lit< tt)).sent
+
+pub nothing : (xs : List ℕ) → length xs ≡ 0 → xs ≡ []
+nothing [] none = refl
+nothing (x ∷ xs) none = absurd (omega (arith, none))
+
+written-nothing : (bytes at : List ℕ) → written_at bytes at [] ≡ bytes
+unfolding written_at
+written-nothing bytes [] = refl
+written-nothing bytes (p ∷ at) = refl
+
+-- where the host sends nothing, nothing is written
+pub none_sent : (k : Command) (m : Transfer) (bytes at : List ℕ) → CommandFits k
+    → m ≡ transfer_by k → bytes_from_host m ≡ 0 → bytes ≡ written_at bytes at (host_data_of k)
+none_sent k m bytes at fits is none =
+    let len = length-host_data k fits ∙ ap bytes_from_host (sym is) ∙ none in
+    let sent = nothing (host_data_of k) len in
+    sym (ap (written_at bytes at) sent ∙ written-nothing bytes at)
+
 -- what the host sends is a page
-pub page_sent : (k : Command) (page : List ℕ) → CommandFits k → 0 < bytes_from_host (transfer_by k) → length page ≡ 4096
-    → (with_data (host_data_of k) page ≡ host_data_of k) × (length_of (transfer_by k) ≡ 4096) × (length (host_data_of k) ≡ 4096)
+pub page_sent : (k : Command) (page : List ℕ) → CommandFits k
+    → 0 < bytes_from_host (transfer_by k) → length page ≡ 4096
+    → (with_data (host_data_of k) page ≡ host_data_of k)
+    × (length_of (transfer_by k) ≡ 4096) × (length (host_data_of k) ≡ 4096)
 page_sent k page fits some size =
+    let xs = host_data_of k in
     let both = some_from_host (transfer_by k) (shape k) some in
     let len = length-host_data k fits ∙ both.0 in
-    (ap (λ n. host_data_of k ++ drop n page) len ∙ ap (λ xs. host_data_of k ++ xs) (drop_all page size) ∙ append-nil (host_data_of k), both.1, len)
-  where
-    drop_all : (xs : List ℕ) → length xs ≡ 4096 → drop 4096 xs ≡ []
-    drop_all xs same = nothing (drop 4096 xs) (let left = length-drop 4096 xs in omega (arith, left, same))
-
--- what the controller sends is a page
-pub page_received : (k : Command) → 0 < bytes_to_host (transfer_by k) → length_of (transfer_by k) ≡ 4096
-page_received k some = some_to_host (transfer_by k) (shape k) some
+    let rest = nothing (drop 4096 page) (let left = length-drop 4096 page in omega (arith, left, size)) in
+    (ap (λ n. xs ++ drop n page) len ∙ ap (λ ys. xs ++ ys) rest ∙ append-nil xs, both.1, len)
 
 -- ---- what is sent and received
 
 -- of bytes that are read as before the same is sent, and the same is received
-pub sent_same : (m : Transfer) (old new at : List ℕ) → read_at new at ≡ read_at old at → sent_from m new at ≡ sent_from m old at
+pub sent_same : (m : Transfer) (old new at : List ℕ) → read_at new at ≡ read_at old at
+    → sent_from m new at ≡ sent_from m old at
 sent_same NoData old new at same = refl
 sent_same (ToHost n) old new at same = refl
 sent_same (FromHost n) old new at same = same
 
-pub received_same : (m : Transfer) (old new at : List ℕ) → read_at new at ≡ read_at old at → received_from m new at ≡ received_from m old at
+pub received_same : (m : Transfer) (old new at : List ℕ) → read_at new at ≡ read_at old at
+    → received_from m new at ≡ received_from m old at
 received_same NoData old new at same = refl
 received_same (ToHost n) old new at same = same
 received_same (FromHost n) old new at same = refl
@@ -114,13 +122,16 @@ pub record ArePlaces (m : Transfer) (memory : ℕ) (at : List ℕ) : Type 0 wher
   pub distinct : AreDistinct at
 
 -- what one side writes there the other one has
-pub sent_back : (m : Transfer) (bytes at xs : List ℕ) → ArePlaces m (length bytes) at → length xs ≡ bytes_from_host m → sent_from m (written_at bytes at xs) at ≡ xs
+pub sent_back : (m : Transfer) (bytes at xs : List ℕ) → ArePlaces m (length bytes) at
+    → length xs ≡ bytes_from_host m → sent_from m (written_at bytes at xs) at ≡ xs
 sent_back NoData bytes at xs p len = sym (nothing xs len)
 sent_back (ToHost n) bytes at xs p len = sym (nothing xs len)
-sent_back (FromHost n) bytes at xs p len = read_written bytes at xs (p.size ∙ sym len) p.inside p.distinct
+sent_back (FromHost n) bytes at xs p len =
+    read_written bytes at xs (p.size ∙ sym len) p.inside p.distinct
 
-pub received_back : (m : Transfer) (bytes at xs : List ℕ) → ArePlaces m (length bytes) at → length xs ≡ bytes_to_host m
-    → received_from m (written_at bytes at xs) at ≡ xs
+pub received_back : (m : Transfer) (bytes at xs : List ℕ) → ArePlaces m (length bytes) at
+    → length xs ≡ bytes_to_host m → received_from m (written_at bytes at xs) at ≡ xs
 received_back NoData bytes at xs p len = sym (nothing xs len)
-received_back (ToHost n) bytes at xs p len = read_written bytes at xs (p.size ∙ sym len) p.inside p.distinct
+received_back (ToHost n) bytes at xs p len =
+    read_written bytes at xs (p.size ∙ sym len) p.inside p.distinct
 received_back (FromHost n) bytes at xs p len = sym (nothing xs len)

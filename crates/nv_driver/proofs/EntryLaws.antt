@@ -76,8 +76,10 @@ one_more t s w y d k waits free one =
     ∙ moved_keeps t x a w.mem one.moved from i some own.enough one.moves outside in
     let there : completion_at y.bytes t.cq (slot t n) ≡ posted_as t.depth (number t n) posted = written.here in
     let same_slot = λ (j : ℕ) (low : j < t.depth). moved_slot t x a w.mem one.moved j some own.enough one.moves own.completions low in
-    let same_data = data_beside t x t.cq (16 * t.depth) one.moved y.bytes some own.enough own.completions
-    (λ from i apart. ap (λ m. bytes_at m from i) one.bytes ∙ completion_keeps one.moved ring posted from i (omega (arith, deep.0)) inside apart) in
+    let same_data =
+    data_beside t x t.cq (16 * t.depth) one.moved y.bytes some own.enough own.completions
+    (λ from i apart. ap (λ m. bytes_at m from i) one.bytes
+    ∙ completion_keeps one.moved ring posted from i (omega (arith, deep.0)) inside apart) in
     let is_answer = λ (b : Answer).
     answer_at t.controller s w.sent n d b below ∙ ap (λ (q : State). (step q t.controller x.command x.cid).answer) (sym k.state) in
     let held_now : Holds t s (world_after t w y) n x = record {
@@ -107,9 +109,11 @@ one_more t s w y d k waits free one =
       to_send = λ i e from high.
           let z = get_or w.sent i e in
           let other = k.own i e (omega (arith, c.collected)) high in
-          let apart = subst (λ q. AreApart q z) (get_or_default w.sent n e d below) (k.apart n i e c.collected (omega arith) high) in
+          let apart = subst (λ q. AreApart q z) (get_or_default w.sent n e d below)
+          (k.apart n i e c.collected (omega arith) high) in
           holds_sent_on t z w.mem y.bytes
-          (data_stays t x z t.cq (16 * t.depth) w.mem y.bytes some other.enough only (apart-sym x z apart) other.completions)
+          (data_stays t x z t.cq (16 * t.depth) w.mem y.bytes some other.enough only
+          (apart-sym x z apart) other.completions)
           (k.to_send i e (omega arith) high);
       held = λ i e from high. elim (cases_lt i n) [
         | inl earlier ↦

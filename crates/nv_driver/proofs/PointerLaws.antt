@@ -42,73 +42,97 @@ two_pages from len size pages is low most same =
     let times = div_ceil_times (from + len) size (omega (arith, bounds)) in
     (subst (λ n. from + len ≤ n * size) (sym same) times.0, few pages size (from + len) (subst (λ n. n * size < from + len + size) (sym same) times.1) (omega (arith, bounds)))
 
-keeps : (t : Transfer) (first second : ℕ) (later : List ℕ) → IsPageSize t.page_size → t.len ≤ 4096 → length later ≡ length t.bytes
-    → KeepsList t first second later
+keeps : (t : Transfer) (first second : ℕ) (later : List ℕ) → IsPageSize t.page_size
+    → t.len ≤ 4096 → length later ≡ length t.bytes → KeepsList t first second later
 keeps t first second later is len same =
     let bounds = page_size_bounds t.page_size is in
-    let two = two_pages (offset t) t.len t.page_size (data_pages t) is (mod_below t.prp1 t.page_size (omega (arith, bounds))) (omega arith) refl in
+    let low = mod_below t.prp1 t.page_size (omega (arith, bounds)) in
+    let two = two_pages (offset t) t.len t.page_size (data_pages t) is low (omega arith) refl in
     record {
       len = same;
       in_first = λ many. absurd (omega (arith, two.1));
       in_second = λ many. absurd (omega (arith, two.1));
     }
 
-named : (t : Transfer) (pages : List ℕ) (from : ℕ) → (0 < t.len → IsFor t pages from) → transfer_places t ≡ buffer_places t.page_size pages from t.len
+named : (t : Transfer) (pages : List ℕ) (from : ℕ) → (0 < t.len → IsFor t pages from)
+    → transfer_places t ≡ buffer_places t.page_size pages from t.len
 unfolding buffer_places transfer_places
-named t pages from is = table-same t.len (place_of t) (buffer_place t.page_size pages from) (λ i below. (is (omega arith)).places i below)
+named t pages from is =
+    table-same t.len (place_of t) (buffer_place t.page_size pages from)
+    (λ i below. (is (omega arith)).places i below)
 
--- ---- the command of the entry
+-- ---- the data pointer of a command
 
--- the data pointer names the places of the data, and its transfer is legal where there is data
+-- the transfer of its data
+abbrev pub pointed : ℕ → Sent → List ℕ → Transfer
+pointed page_size x mem = transfer page_size mem x.prp1 x.prp2 (data_length x)
+
+-- the data pointer names the places of the data, and is legal where there is data
 abbrev pub Names : ℕ → Sent → List ℕ → Type 0
 Names page_size x mem =
-    (0 < data_length x → IsLegal (transfer page_size mem x.prp1 x.prp2 (data_length x)))
-    × (transfer_places (transfer page_size mem x.prp1 x.prp2 (data_length x)) ≡ places page_size x)
+    (0 < data_length x → IsLegal (pointed page_size x mem))
+    × (transfer_places (pointed page_size x mem) ≡ places page_size x)
 
 -- while its list stays
 abbrev pub StaysNamed : ℕ → Sent → List ℕ → Type 0
 StaysNamed page_size x mem =
-    0 < data_length x → StaysFor (transfer page_size mem x.prp1 x.prp2 (data_length x)) x.pages x.offset x.first x.second
+    0 < data_length x → StaysFor (pointed page_size x mem) x.pages x.offset x.first x.second
+
+keeps_list : (page_size : ℕ) (x : Sent) (mem later : List ℕ) → IsPageSize page_size
+    → length later ≡ length mem → KeepsList (pointed page_size x mem) x.first x.second later
+keeps_list page_size x mem later is same =
+    keeps (pointed page_size x mem) x.first x.second later is
+    (most (transfer_by x.command) (shape x.command)) same
 
 -- it does so in each memory of the size
-pub names_in : (page_size : ℕ) (x : Sent) (mem later : List ℕ) → IsPageSize page_size → StaysNamed page_size x mem → length later ≡ length mem
-    → Names page_size x later
+pub names_in : (page_size : ℕ) (x : Sent) (mem later : List ℕ) → IsPageSize page_size
+    → StaysNamed page_size x mem → length later ≡ length mem → Names page_size x later
 names_in page_size x mem later is stays same =
-    let still = λ (some : 0 < data_length x). stays some later
-    (keeps (transfer page_size mem x.prp1 x.prp2 (data_length x)) x.first x.second later is (most (transfer_by x.command) (shape x.command)) same) in
-    (λ some. (still some).legal, named (transfer page_size later x.prp1 x.prp2 (data_length x)) x.pages x.offset still)
+    let still = λ (some : 0 < data_length x).
+    stays some later (keeps_list page_size x mem later is same) in
+    (λ some. (still some).legal, named (pointed page_size x later) x.pages x.offset still)
 
-pub stays_in : (page_size : ℕ) (x : Sent) (mem later : List ℕ) → IsPageSize page_size → StaysNamed page_size x mem → length later ≡ length mem
-    → StaysNamed page_size x later
+pub stays_in : (page_size : ℕ) (x : Sent) (mem later : List ℕ) → IsPageSize page_size
+    → StaysNamed page_size x mem → length later ≡ length mem → StaysNamed page_size x later
 stays_in page_size x mem later is stays same some last keep =
-    stays some last
-    (keeps (transfer page_size mem x.prp1 x.prp2 (data_length x)) x.first x.second last is (most (transfer_by x.command) (shape x.command)) (keep.len ∙ same))
+    stays some last (keeps_list page_size x mem last is (keep.len ∙ same))
 
 -- the data pointer of a prepared command stays legal, and names the same places
-pub still_legal : (page_size : ℕ) (x : Sent) (old ready mem : List ℕ) → IsPageSize page_size → IsPrepared page_size x old ready → length mem ≡ length ready
-    → Names page_size x mem
-still_legal page_size x old ready mem is prepared same = names_in page_size x ready mem is prepared.stays same
+pub still_legal : (page_size : ℕ) (x : Sent) (old ready mem : List ℕ) → IsPageSize page_size
+    → IsPrepared page_size x old ready → length mem ≡ length ready → Names page_size x mem
+still_legal page_size x old ready mem is prepared same =
+    names_in page_size x ready mem is prepared.stays same
 
-places_by : (m : Moves) (page_size : ℕ) (mem : List ℕ) (e : Sqe) (at : List ℕ) → HasShape m → length at ≡ length_of m
-    → (0 < length_of m → places_of (transfer page_size mem e.prp1 e.prp2 (length_of m)) ≡ Ok at) → data_places page_size mem e m ≡ Ok at
-places_by NoData page_size mem e at is size found = no_places page_size mem e NoData at refl (nothing at size)
+-- ---- the command of the entry
+
+places_by : (m : Moves) (page_size : ℕ) (mem : List ℕ) (e : Sqe) (at : List ℕ) → HasShape m
+    → length at ≡ length_of m
+    → (0 < length_of m → places_of (transfer page_size mem e.prp1 e.prp2 (length_of m)) ≡ Ok at)
+    → data_places page_size mem e m ≡ Ok at
+places_by NoData page_size mem e at is size found =
+    no_places page_size mem e NoData at refl (nothing at size)
 places_by (ToHost n) page_size mem e at is size found = found (omega (arith, is))
 places_by (FromHost n) page_size mem e at is size found = found (omega (arith, is))
 
-call_by : (e : Sqe) (at : List ℕ) (k : Command) (page_size : ℕ) (mem : List ℕ) (m : Moves) → transfer_of e ≡ Ok m
-    → data_places page_size mem e m ≡ Ok at → command_of e (sent_from m mem at) ≡ Ok k
+call_by : (e : Sqe) (at : List ℕ) (k : Command) (page_size : ℕ) (mem : List ℕ) (m : Moves)
+    → transfer_of e ≡ Ok m → data_places page_size mem e m ≡ Ok at
+    → command_of e (sent_from m mem at) ≡ Ok k
     → call_of page_size mem e ≡ Ok (record { command = k; places = at })
 call_by e at k page_size mem m moves page command = rw (moves, page, command) refl
 
 -- Wherever the memory's other bytes change, the entry decodes to its command, whose data lies in its pages.
-pub entry_call : (t : Setting) (x : Sent) (old ready mem : List ℕ) → IsPageSize t.page_size → CommandFits x.command → x.cid < 2 ^ 16
-    → IsPrepared t.page_size x old ready → length mem ≡ length ready → HoldsSent t.page_size x mem
-    → call_of t.page_size mem (entry x) ≡ Ok (record { command = x.command; places = places t.page_size x })
+pub entry_call : (t : Setting) (x : Sent) (old ready mem : List ℕ) → IsPageSize t.page_size
+    → CommandFits x.command → x.cid < 2 ^ 16 → IsPrepared t.page_size x old ready
+    → length mem ≡ length ready → HoldsSent t.page_size x mem
+    → call_of t.page_size mem (entry x)
+    ≡ Ok (record { command = x.command; places = places t.page_size x })
 entry_call t x old ready mem is fits cid prepared same holds =
-    let arrives = commands_travel x.command x.cid fits cid in
-    let still = still_legal t.page_size x old ready mem is prepared same in
+    let k = x.command in
     let at = places t.page_size x in
-    let found = places_by (transfer_by x.command) t.page_size mem (entry x) at (shape x.command) (length-places t.page_size x)
-    (λ some. legal_places (transfer t.page_size mem x.prp1 x.prp2 (data_length x)) at (still.0 some) (sym still.1)) in
-    call_by (entry x) at x.command t.page_size mem (transfer_by x.command) (arrives.transfer x.prp1 x.prp2) found
+    let arrives = commands_travel k x.cid fits cid in
+    let still = still_legal t.page_size x old ready mem is prepared same in
+    let found = places_by (transfer_by k) t.page_size mem (entry x) at (shape k)
+    (length-places t.page_size x)
+    (λ some. legal_places (pointed t.page_size x mem) at (still.0 some) (sym still.1)) in
+    call_by (entry x) at k t.page_size mem (transfer_by k) (arrives.transfer x.prp1 x.prp2) found
     (ap (command_of (entry x)) holds ∙ arrives.command x.prp1 x.prp2)

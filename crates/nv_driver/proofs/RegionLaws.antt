@@ -59,11 +59,13 @@ beside_page page_size page place from n low high outside =
     ]
 
 -- a place of a command's data is beside each part that its pages are outside of
-pub place_beside : (page_size : ℕ) (x : Sent) (from n k : ℕ) → 0 < page_size → x.offset + data_length x ≤ length x.pages * page_size
-    → AreOutside page_size x from n → k < data_length x → IsBeside (get_or (places page_size x) k 0) from n
+pub place_beside : (page_size : ℕ) (x : Sent) (from n k : ℕ) → 0 < page_size
+    → x.offset + data_length x ≤ length x.pages * page_size → AreOutside page_size x from n
+    → k < data_length x → IsBeside (get_or (places page_size x) k 0) from n
 place_beside page_size x from n k some enough outside below =
+    let at = get_or (places page_size x) k 0 in
     let page = place_page page_size x.pages x.offset (data_length x) k some enough below in
-    beside_page page_size (get_or x.pages page.index 0) (get_or (places page_size x) k 0) from n page.from page.to
+    beside_page page_size (get_or x.pages page.index 0) at from n page.from page.to
     (outside (suc (suc page.index)) 0 (let h = page.is_one in omega arith))
 
 -- two pages that aren't one share no byte
@@ -96,19 +98,24 @@ unfolding buffer_places
 length-places page_size x = length-table (data_length x) (buffer_place page_size x.pages x.offset)
 
 -- the places of a command whose pages lie in the memory, no two of them one
-pub buffer_data : (page_size : ℕ) (x : Sent) (mem : List ℕ) → 0 < page_size → IsBuffer mem page_size x.pages x.offset (data_length x)
+pub buffer_data : (page_size : ℕ) (x : Sent) (mem : List ℕ) → 0 < page_size
+    → IsBuffer mem page_size x.pages x.offset (data_length x)
     → AreDistinct x.pages → ArePlaces (transfer_by x.command) (length mem) (places page_size x)
 buffer_data page_size x mem some buffer distinct =
     let size = length-places page_size x in
     record {
       size = size;
-      inside = λ k below. in_page (get_or (places page_size x) k 0)
-          (place_page page_size x.pages x.offset (data_length x) k some buffer.enough (omega arith));
-      distinct = buffer_distinct page_size x.pages x.offset (data_length x) some buffer.enough distinct;
+      inside = λ k below.
+          let low : k < data_length x = omega arith in
+          in_page (get_or (places page_size x) k 0)
+          (place_page page_size x.pages x.offset (data_length x) k some buffer.enough low);
+      distinct =
+          buffer_distinct page_size x.pages x.offset (data_length x) some buffer.enough distinct;
     }
   where
     in_page : (place : ℕ) → InPage page_size x.pages place → place < length mem
-    in_page place page = let has = buffer.inside page.index 0 page.is_one in omega (arith, has, page.to)
+    in_page place page =
+        let has = buffer.inside page.index 0 page.is_one in omega (arith, has, page.to)
 
 -- a part that a command's pages are outside of, where its data is written
 pub data_keeps : (page_size : ℕ) (x : Sent) (bytes written : List ℕ) (from n : ℕ) → 0 < page_size
@@ -116,7 +123,9 @@ pub data_keeps : (page_size : ℕ) (x : Sent) (bytes written : List ℕ) (from n
     → bytes_at (written_at bytes (places page_size x) written) from n ≡ bytes_at bytes from n
 data_keeps page_size x bytes written from n some enough outside =
     part_stays bytes (places page_size x) written from n
-    (λ k h. let size = length-places page_size x in place_beside page_size x from n k some enough outside (omega arith))
+    (λ k h.
+    let size = length-places page_size x in
+    place_beside page_size x from n k some enough outside (omega arith))
 
 -- a part beside a completion ring, where a completion is put
 pub completion_keeps : (bytes : List ℕ) (ring : PostNumbers) (c : Cqe) (from n : ℕ) → 0 < ring.depth
@@ -166,13 +175,17 @@ place_apart place from n (inl before) = inl (omega arith)
 place_apart place from n (inr behind) = inr behind
 
 -- the data of a command stays where only bytes that its pages are outside of are other ones
-pub data_beside : (t : Setting) (x : Sent) (base n : ℕ) (old new : List ℕ) → 0 < t.page_size → x.offset + data_length x ≤ length x.pages * t.page_size
-    → AreOutside t.page_size x base n → ChangesOnly base n old new → read_at new (places t.page_size x) ≡ read_at old (places t.page_size x)
+pub data_beside : (t : Setting) (x : Sent) (base n : ℕ) (old new : List ℕ) → 0 < t.page_size
+    → x.offset + data_length x ≤ length x.pages * t.page_size → AreOutside t.page_size x base n
+    → ChangesOnly base n old new
+    → read_at new (places t.page_size x) ≡ read_at old (places t.page_size x)
 data_beside t x base n old new some enough outside only =
     let size = length-places t.page_size x in
-    read_keeps old new (places t.page_size x)
-    (λ k below. only (get_or (places t.page_size x) k 0) 1
-    (place_apart (get_or (places t.page_size x) k 0) base n (place_beside t.page_size x base n k some enough outside (omega arith))))
+    let at = places t.page_size x in
+    read_keeps old new at
+    (λ k below. only (get_or at k 0) 1
+    (place_apart (get_or at k 0) base n
+    (place_beside t.page_size x base n k some enough outside (omega arith))))
 
 -- ---- what a command's pages and one ring change
 
@@ -198,9 +211,12 @@ data_stays t x y base n old new some enough only apart outside =
     read_keeps old new (places t.page_size y)
     (λ k below. let inside : k < data_length y = omega arith in
     only (get_or (places t.page_size y) k 0) 1 (place_outside t y x k some enough apart inside)
-    (place_apart (get_or (places t.page_size y) k 0) base n (place_beside t.page_size y base n k some enough outside inside)))
+    (place_apart (get_or (places t.page_size y) k 0) base n
+    (place_beside t.page_size y base n k some enough outside inside)))
 
 -- what the host sends stays where the data does
-pub holds_sent_on : (t : Setting) (x : Sent) (old new : List ℕ) → read_at new (places t.page_size x) ≡ read_at old (places t.page_size x)
+pub holds_sent_on : (t : Setting) (x : Sent) (old new : List ℕ)
+    → read_at new (places t.page_size x) ≡ read_at old (places t.page_size x)
     → HoldsSent t.page_size x old → HoldsSent t.page_size x new
-holds_sent_on t x old new same holds = sent_same (transfer_by x.command) old new (places t.page_size x) same ∙ holds
+holds_sent_on t x old new same holds =
+    sent_same (transfer_by x.command) old new (places t.page_size x) same ∙ holds

@@ -74,7 +74,8 @@ own_of : (t : Setting) (s : State) (w : World) (x : Sent) (ready : List ℕ) →
     → IsOwn t (length w.mem) x
 own_of t s w x ready k may prepared =
     let some : 0 < t.page_size = omega (arith, page_size_bounds t.page_size k.placed.page_size) in
-    let at = buffer_data t.page_size x w.mem some may.buffer (rest_distinct x.first x.second x.pages may.distinct) in
+    let at = buffer_data t.page_size x w.mem some may.buffer
+    (rest_distinct x.first x.second x.pages may.distinct) in
     record {
       fits = may.fits;
       cid = may.cid;
@@ -156,11 +157,14 @@ submitted t s x w ready k may prepared =
           let y = get_or w.sent n d in
           let own = k.own n d (omega (arith, c.collected)) below in
           holds_sent_on t y w.mem new
-          (data_stays t x y t.sq (64 * t.depth) w.mem new some own.enough only (may.apart n d (omega (arith, c.collected)) below) own.submissions)
+          (data_stays t x y t.sq (64 * t.depth) w.mem new some own.enough only
+          (may.apart n d (omega (arith, c.collected)) below) own.submissions)
           (k.to_send n d from below))
           (holds_sent_on t x ready new
           (data_beside t x t.sq (64 * t.depth) ready new some may.buffer.enough may.submissions
-          (λ from i apart. submission_keeps ready (submit_ring t m (length w.answers)) (entry x) from i (omega arith) inside apart))
+          (λ from i apart.
+          let ring = submit_ring t m (length w.answers) in
+          submission_keeps ready ring (entry x) from i (omega arith) inside apart))
           prepared.sent);
       held = λ n d from below.
           let y = get_or w.sent n d in

@@ -10,17 +10,14 @@ use Rattle.nv_prp.specs.Buffer.{IsBuffer, IsListPlace, IsOutside, KeepsOutside, 
 use Rattle.nv_prp.specs.Place.{AreDistinct, written_at}
 use Rattle.nv_prp.specs.Transfer.{transfer, transfer_places}
 use Rattle.nv_command.specs.Command.{CommandFits, host_data_of, transfer_by}
-use Rattle.nv_command.specs.declared.command.Command.{Command}
 use Rattle.nv_driver.specs.CommandPages.{AreTaken, all_pages, data_pages}
 use Rattle.nv_driver.specs.Geometry.{IsGeometry}
 use Rattle.nv_controller.specs.Call.{sent_from}
 use Rattle.nv_driver.specs.Schedule.{AreOutside, IsPrepared, Sent, data_length, places}
-use Rattle.nv_driver.specs.Submitting.{sent_by}
 use Rattle.nv_driver.specs.declared.command_pages.CommandPages.{CommandPages}
 use Rattle.nv_driver.specs.declared.geometry.Geometry.{Geometry}
-use Rattle.nv_driver.specs.declared.submitting.Outstanding.{Outstanding}
 use Rattle.nv_driver.proofs.DataLaws.{ArePlaces, length-host_data, sent_back}
-use Rattle.nv_driver.proofs.PointerLaws.{StaysNamed, names_in, stays_in}
+use Rattle.nv_driver.proofs.PointerLaws.{StaysNamed, names_in, pointed, stays_in}
 use Rattle.nv_driver.proofs.RegionLaws.{buffer_data, data_keeps}
 
 -- two, and the rest
@@ -57,21 +54,25 @@ each_inside s p page_size bytes h =
     subst (All (λ page. HasPage bytes page_size page)) (pages_are p h.seven)
     (λ i d below. of_set s bytes page_size (get_or (all_pages p) i d) h.inside (h.taken.own i d below))
 
-pub buffer_of : (g : Geometry) (s : Pages) (p : CommandPages) (bytes : List ℕ) (page_size len : ℕ) → IsGeometry g → page_size ≡ g.page_size
-    → Has s p g.page_size (length bytes) → g.offset + len ≤ p.data_pages * g.page_size
-    → IsBuffer bytes page_size (data_pages p) g.offset len
+pub buffer_of : (g : Geometry) (s : Pages) (p : CommandPages) (bytes : List ℕ) (page_size len : ℕ)
+    → IsGeometry g → page_size ≡ g.page_size → Has s p g.page_size (length bytes)
+    → g.offset + len ≤ p.data_pages * g.page_size → IsBuffer bytes page_size (data_pages p) g.offset len
 buffer_of g s p bytes page_size len is page h enough =
     subst (λ size. IsBuffer bytes size (data_pages p) g.offset len) (sym page) (record {
       below = is.offset.1;
       aligned = is.offset.0;
-      enough = subst (λ n. g.offset + len ≤ n * g.page_size) (sym (length-data_pages p h.seven h.few)) enough;
+      enough = subst (λ n. g.offset + len ≤ n * g.page_size)
+          (sym (length-data_pages p h.seven h.few)) enough;
       inside = λ i d below. each_inside s p g.page_size bytes h (suc (suc i)) d (omega arith);
     })
 
-pub list_of : (g : Geometry) (s : Pages) (p : CommandPages) (bytes : List ℕ) (page_size : ℕ) → IsGeometry g → page_size ≡ g.page_size
-    → Has s p g.page_size (length bytes) → IsListPlace bytes page_size (slice_index p.numbers 0) (slice_index p.numbers 1) g.list_offset
+pub list_of : (g : Geometry) (s : Pages) (p : CommandPages) (bytes : List ℕ) (page_size : ℕ)
+    → IsGeometry g → page_size ≡ g.page_size → Has s p g.page_size (length bytes)
+    → IsListPlace bytes page_size (slice_index p.numbers 0) (slice_index p.numbers 1) g.list_offset
 list_of g s p bytes page_size is page h =
-    subst (λ size. IsListPlace bytes size (slice_index p.numbers 0) (slice_index p.numbers 1) g.list_offset) (sym page) (record {
+    let first = slice_index p.numbers 0 in
+    let second = slice_index p.numbers 1 in
+    subst (λ size. IsListPlace bytes size first second g.list_offset) (sym page) (record {
       below = is.list_offset.1;
       aligned = is.list_offset.0;
       has_first = each_inside s p g.page_size bytes h 0 0 (omega arith);
@@ -84,25 +85,27 @@ distinct_of s p seven taken = subst AreDistinct (pages_are p seven) taken.distin
 
 -- a command whose data pointer was built
 pub record IsBuilt (page_size : ℕ) (x : Sent) (old built : List ℕ) : Type 0 where
-  pub others : (from n : ℕ) → AreOutside page_size x from n → bytes_at built from n ≡ bytes_at old from n
+  pub others : (from n : ℕ) → AreOutside page_size x from n
+      → bytes_at built from n ≡ bytes_at old from n
   pub len : length built ≡ length old
   pub prp1 : x.prp1 < 2 ^ 64
   pub prp2 : x.prp2 < 2 ^ 64
   pub stays : StaysNamed page_size x built
 
 -- what `build` ensures
-pub built_by : (g : Geometry) (k : Command) (cid : ℕ) (o : Outstanding) (old built : List ℕ) (page_size now len : ℕ)
-    → page_size ≡ g.page_size → now ≡ page_size → len ≡ data_length (sent_by g k cid o) → o.prp1 < 2 ^ 64 → o.prp2 < 2 ^ 64
-    → (0 < len → StaysFor (transfer now built o.prp1 o.prp2 len) (data_pages o.pages) g.offset (slice_index o.pages.numbers 0) (slice_index o.pages.numbers 1))
-    → KeepsOutside page_size (slice_index o.pages.numbers 0) (slice_index o.pages.numbers 1) old built → length built ≡ length old
-    → IsBuilt g.page_size (sent_by g k cid o) old built
-built_by g k cid o old built page_size now len page after is_len first second stays others size =
-    let Stays : ℕ → ℕ → Type 0 = λ size n. 0 < n
-    → StaysFor (transfer size built o.prp1 o.prp2 n) (data_pages o.pages) g.offset (slice_index o.pages.numbers 0) (slice_index o.pages.numbers 1) in
+pub built_by : (g : Geometry) (x : Sent) (old built : List ℕ) (page_size now len : ℕ)
+    → page_size ≡ g.page_size → now ≡ page_size → len ≡ data_length x
+    → x.prp1 < 2 ^ 64 → x.prp2 < 2 ^ 64
+    → (0 < len → StaysFor (transfer now built x.prp1 x.prp2 len) x.pages x.offset x.first x.second)
+    → KeepsOutside page_size x.first x.second old built → length built ≡ length old
+    → IsBuilt g.page_size x old built
+built_by g x old built page_size now len page after is_len first second stays others size =
+    let Stays : ℕ → ℕ → Type 0 = λ p n.
+    0 < n → StaysFor (transfer p built x.prp1 x.prp2 n) x.pages x.offset x.first x.second in
     record {
       others = λ from n outside. others from n
-          (subst (λ p. IsOutside p (slice_index o.pages.numbers 0) from n) (sym page) (outside 0 0 (omega arith)))
-          (subst (λ p. IsOutside p (slice_index o.pages.numbers 1) from n) (sym page) (outside 1 0 (omega arith)));
+          (subst (λ p. IsOutside p x.first from n) (sym page) (outside 0 0 (omega arith)))
+          (subst (λ p. IsOutside p x.second from n) (sym page) (outside 1 0 (omega arith)));
       len = size;
       prp1 = first;
       prp2 = second;
@@ -110,25 +113,31 @@ built_by g k cid o old built page_size now len page after is_len first second st
     }
 
 -- and where what the host sends was written, the command is prepared
-pub prepared_by : (page_size : ℕ) (x : Sent) (old built new : List ℕ) → IsPageSize page_size → CommandFits x.command
-    → IsBuffer old page_size x.pages x.offset (data_length x) → AreDistinct x.pages → IsBuilt page_size x old built
-    → new ≡ written_at built (transfer_places (transfer page_size built x.prp1 x.prp2 (data_length x))) (host_data_of x.command)
+pub prepared_by : (page_size : ℕ) (x : Sent) (old built new : List ℕ) → IsPageSize page_size
+    → CommandFits x.command → IsBuffer old page_size x.pages x.offset (data_length x)
+    → AreDistinct x.pages → IsBuilt page_size x old built
+    → new ≡ written_at built (transfer_places (pointed page_size x built)) (host_data_of x.command)
     → IsPrepared page_size x old new
 prepared_by page_size x old built new is fits buffer distinct b written =
     let some : 0 < page_size = omega (arith, page_size_bounds page_size is) in
     let m = transfer_by x.command in
     let at = places page_size x in
     let xs = host_data_of x.command in
-    let put : new ≡ written_at built at xs = written ∙ ap (λ ps. written_at built ps xs) (names_in page_size x built built is b.stays refl).1 in
-    let size : length new ≡ length built = ap (λ (q : List ℕ). length q) put ∙ length-written_at built at xs in
+    let named = (names_in page_size x built built is b.stays refl).1 in
+    let put : new ≡ written_at built at xs = written ∙ ap (λ ps. written_at built ps xs) named in
+    let size : length new ≡ length built =
+    ap (λ (q : List ℕ). length q) put ∙ length-written_at built at xs in
+    let theirs = subst (λ n. ArePlaces m n at) (sym b.len) (buffer_data page_size x old some buffer distinct) in
     record {
-      others = λ from n outside. ap (λ q. bytes_at q from n) put ∙ data_keeps page_size x built xs from n some buffer.enough outside
+      others = λ from n outside.
+          ap (λ q. bytes_at q from n) put
+          ∙ data_keeps page_size x built xs from n some buffer.enough outside
           ∙ b.others from n outside;
       len = size ∙ b.len;
       prp1 = b.prp1;
       prp2 = b.prp2;
       sent = ap (λ q. sent_from m q at) put
-          ∙ sent_back m built at xs (subst (λ n. ArePlaces m n at) (sym b.len) (buffer_data page_size x old some buffer distinct)) (length-host_data x.command fits);
+          ∙ sent_back m built at xs theirs (length-host_data x.command fits);
       stays = stays_in page_size x built new is b.stays size;
     }
 

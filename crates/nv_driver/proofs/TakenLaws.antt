@@ -83,7 +83,8 @@ is_done t s w y d k below one =
     let is = k.waiting w.done d (omega arith) below in
     let next_one = number_next t w.done in
     done_by t w (get_or w.sent w.done d) y (entry_in (scene w.state (now t w) w.mem)) (call_of t.page_size w.mem (entry_in (scene w.state (now t w) w.mem))) is
-    (ap (call_of t.page_size w.mem) is ∙ own.call w.mem refl (k.to_send w.done d (omega arith) below)) one.state
+    (ap (call_of t.page_size w.mem) is
+    ∙ own.call w.mem refl (k.to_send w.done d (omega arith) below)) one.state
     (one.rings ∙ ap (λ n. record (now t w) {
       submission = record (now t w).submission { fetched = n };
       completion = record (now t w).completion { posted = n };
@@ -111,7 +112,8 @@ moved_slot t x a old moved s some enough moves outside below =
     (outside_part t x t.cq (16 * t.depth) (t.cq + 16 * s) 16 outside (omega arith) (omega arith)))
 
 -- a command's places are for its data
-are_places : (t : Setting) (x : Sent) (old : List ℕ) → IsOwn t (length old) x → ArePlaces (transfer_by x.command) (length old) (places t.page_size x)
+are_places : (t : Setting) (x : Sent) (old : List ℕ) → IsOwn t (length old) x
+    → ArePlaces (transfer_by x.command) (length old) (places t.page_size x)
 are_places t x old own =
     let size = length-places t.page_size x in
     record { size = size; inside = λ i below. own.inside i (omega arith); distinct = own.distinct }
@@ -123,5 +125,6 @@ delivered t x (Ok r) old moved new is moves own same =
     let m = transfer_by x.command in
     let at = places t.page_size x in
     received_same m moved new at same ∙ ap (λ mem. received_from m mem at) moves
-    ∙ received_back m old at (data_of r) (are_places t x old own) (replies_travel x.command r is.0 is.1).bytes
+    ∙ received_back m old at (data_of r) (are_places t x old own)
+    (replies_travel x.command r is.0 is.1).bytes
 delivered t x (Err status) old moved new is moves own same = tt

@@ -18,8 +18,8 @@ pub record HasRings (t : Setting) (size : ℕ) : Type 0 where
   pub rings : t.sq + 64 * t.depth ≤ t.cq
   pub inside : t.cq + 16 * t.depth ≤ size
 
--- a command in the memory: its data pointer names the places of its data, in pages of its own, and while they hold what
--- the host sends its entry is that of the command
+-- a command in the memory: its data lies in pages of its own, and while they hold what the host
+-- sends, its entry is the command with the places of its data
 pub record IsOwn (t : Setting) (size : ℕ) (x : Sent) : Type 0 where
   pub fits : CommandFits x.command
   pub cid : x.cid < 2 ^ 16
@@ -51,7 +51,8 @@ pub record Keeps (t : Setting) (s : State) (w : World) : Type 0 where
   pub own : (n : ℕ) (d : Sent) → length w.answers ≤ n → n < length w.sent → IsOwn t (length w.mem) (get_or w.sent n d)
   pub apart : (n m : ℕ) (d : Sent) → length w.answers ≤ n → n < m → m < length w.sent → AreApart (get_or w.sent n d) (get_or w.sent m d)
   pub waiting : (n : ℕ) (d : Sent) → w.done ≤ n → n < length w.sent → submission_at w.mem t.sq (slot t n) ≡ entry (get_or w.sent n d)
-  pub to_send : (n : ℕ) (d : Sent) → w.done ≤ n → n < length w.sent → HoldsSent t.page_size (get_or w.sent n d) w.mem
+  pub to_send : (n : ℕ) (d : Sent) → w.done ≤ n → n < length w.sent
+      → HoldsSent t.page_size (get_or w.sent n d) w.mem
   pub held : (n : ℕ) (d : Sent) → length w.answers ≤ n → n < w.done → Holds t s w n (get_or w.sent n d)
   pub tags : HoldsTags w.mem t.cq t.depth (number t w.done)
   pub answers : w.answers ≡ take (length w.answers) (answers_to t.controller s w.sent)

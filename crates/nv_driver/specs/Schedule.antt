@@ -152,10 +152,11 @@ places page_size x = buffer_places page_size x.pages x.offset (data_length x)
 
 -- what the host sends with a command lies there
 abbrev pub HoldsSent : ℕ → Sent → List ℕ → Type 0
-HoldsSent page_size x mem = sent_from (transfer_by x.command) mem (places page_size x) ≡ host_data_of x.command
+HoldsSent page_size x mem =
+    sent_from (transfer_by x.command) mem (places page_size x) ≡ host_data_of x.command
 
--- the command's pages were made ready: they hold what the host sends, and its data pointer, if it has data, names the
--- places of the data while its list stays
+-- the command's pages were made ready: they hold what the host sends, and its data pointer, if it
+-- has data, names the places of the data while its list stays
 pub record IsPrepared (page_size : ℕ) (x : Sent) (old new : List ℕ) : Type 0 where
   pub others : (from n : ℕ) → AreOutside page_size x from n → bytes_at new from n ≡ bytes_at old from n
   pub len : length new ≡ length old
@@ -163,7 +164,8 @@ pub record IsPrepared (page_size : ℕ) (x : Sent) (old new : List ℕ) : Type 0
   pub prp2 : x.prp2 < 2 ^ 64
   pub sent : HoldsSent page_size x new
   pub stays : 0 < data_length x
-      → StaysFor (transfer page_size new x.prp1 x.prp2 (data_length x)) x.pages x.offset x.first x.second
+      → StaysFor (transfer page_size new x.prp1 x.prp2 (data_length x))
+      x.pages x.offset x.first x.second
 
 -- ---- collecting
 
@@ -184,7 +186,8 @@ answer_from k completion bytes =
 -- where the data lies in the command's pages
 abbrev pub answer_read : ℕ → Sent → List ℕ → Cqe → Answer
 answer_read page_size x mem completion =
-    answer_from x.command completion (received_from (transfer_by x.command) mem (places page_size x))
+    answer_from x.command completion
+    (received_from (transfer_by x.command) mem (places page_size x))
 
 abbrev pub awaited : Setting → World → CollectNumbers
 awaited t w = collect_ring t (length w.answers) w.told

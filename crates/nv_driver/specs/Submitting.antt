@@ -32,7 +32,8 @@ sent_by g k cid o = record {
 abbrev pub transfer_at : ℕ → List ℕ → Outstanding → Command → Transfer
 transfer_at page_size bytes o k = transfer page_size bytes o.prp1 o.prp2 (length_of (transfer_by k))
 
--- it took its pages, they were made ready, and its entry was put in the ring; a command without data has no data pointer
+-- it took its pages, they were made ready, and its entry was put in the ring; a command without
+-- data has no data pointer
 pub record IsSubmitted (g : Geometry) (k : Command) (o : Outstanding) (old new : LaneFields) (before after : List ℕ) : Type 0 where
   pub few : o.pages.data_pages ≤ 2
   pub seven : length o.pages.numbers ≡ 7

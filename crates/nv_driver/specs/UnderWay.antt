@@ -66,7 +66,8 @@ pub record IsKept (r : Run) (o : Option Outstanding) (x : Sent) : Type 0 where
   pub few : one.pages.data_pages ≤ 2
   pub seven : length one.pages.numbers ≡ 7
   pub legal : (mem : List ℕ) → length mem ≡ length r.bytes
-      → (0 < data_length x → IsLegal (transfer r.geometry.page_size mem x.prp1 x.prp2 (data_length x)))
+      → (0 < data_length x
+      → IsLegal (transfer r.geometry.page_size mem x.prp1 x.prp2 (data_length x)))
       × (transfer_places (transfer r.geometry.page_size mem x.prp1 x.prp2 (data_length x)) ≡ places r.geometry.page_size x)
 
 -- command n of the run, under its command identifier

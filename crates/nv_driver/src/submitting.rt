@@ -132,7 +132,8 @@ fn write_data<M: HostMemory>(mem: &mut M, outstanding: &Outstanding, command: &C
 }
 
 /// Submits a command: takes its pages, writes its list and what the host sends with it where it has
-/// any, and puts its entry in the ring. Answers what it has, and the new tail. Section "Submission Queue Entry".
+/// any, and puts its entry in the ring. Answers what it has, and the new tail. Section "Submission
+/// Queue Entry".
 pub(crate) fn submit<M: HostMemory>(
     mem: &mut M,
     lane: &mut Lane,

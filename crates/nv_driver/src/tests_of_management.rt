@@ -101,6 +101,21 @@ impl Bench {
     }
 }
 
+/// The newest refusal that controller 0 booked: a creation under command identifier 1, with the
+/// bytes that it needs.
+fn expect_booked(rt: &impl Abort, machine: &Machine, bytes: u64) {
+    assert!(rt; machine.subsystem().controllers() > 0);
+    match machine.subsystem().log_entry(0, 0) {
+        Some(booked) => {
+            assert_eq!(rt; (booked.count, booked.cid, booked.nsid), (1, 1, 0));
+            assert_eq!(rt; booked.status.number(), 0x6115);
+            assert_eq!(rt; booked.specific, bytes);
+        }
+        None => assert!(rt; false),
+    }
+    assert_eq!(rt; machine.subsystem().counts(0), (1, 2));
+}
+
 /// A namespace of all that is free, and one more of a block.
 fn creates_all_that_is_free(
     rt: &impl Abort,
@@ -110,6 +125,7 @@ fn creates_all_that_is_free(
     let mut bench = Bench::new(rt, alloc, geometry)?;
     bench.expect(rt, 0, &create(18423, 18423, 0), Want::Number(2));
     bench.expect(rt, 0, &create(1, 1, 0), Want::Refused(0x6115));
+    expect_booked(rt, &bench.machine, 0x200);
     Ok(())
 }
 

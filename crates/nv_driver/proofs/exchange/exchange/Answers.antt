@@ -75,7 +75,9 @@ answer-requires g c =
     let still = still_legal c.args.geometry.page_size x (g.M.HostMemory.bytes c.args.mem.now) sub.ready (g.M.HostMemory.bytes c.turn.new.mem)
     r.geometry.page_size sub.prepared same in
     let last = c.turn.ensures.page ∙ size in
-    subst (λ p. 0 < data_length x → IsLegal (transfer p (g.M.HostMemory.bytes c.turn.new.mem) x.prp1 x.prp2 (data_length x))) (sym last) still.0
+    let mem = g.M.HostMemory.bytes c.turn.new.mem in
+    subst (λ p. 0 < data_length x → IsLegal (transfer p mem x.prp1 x.prp2 (data_length x)))
+    (sym last) still.0
 
 pub returns-clause-answer : goal.returns-clause-answer
 returns-clause-answer g c =
@@ -96,7 +98,8 @@ returns-clause-answer g c =
     let there = completion_is (setting c.args.geometry c.args.ctrl (g.M.HostMemory.bytes c.args.mem.now) (lane_value c.args.lane.now)) _ _ _ _
     c.unwrap-completion.ensures c.poll.ensures.value (completion_ring r sub) in
     c.answer.ensures
-    ∙ ap (λ p. answer_from x.command q (received_from m mem (transfer_places (transfer p mem x.prp1 x.prp2 (data_length x))))) last
+    ∙ ap (λ p. answer_from x.command q
+    (received_from m mem (transfer_places (transfer p mem x.prp1 x.prp2 (data_length x))))) last
     ∙ ap (λ ps. answer_from x.command q (received_from m mem ps)) still.1
     ∙ ap (answer_read c.args.geometry.page_size x mem) there
     ∙ answer_is k

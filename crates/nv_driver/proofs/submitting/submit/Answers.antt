@@ -7,9 +7,8 @@ use Rattle.nv_prp.specs.Place.{written_at}
 use Rattle.nv_prp.specs.Transfer.{transfer_places}
 use Rattle.nv_queue.specs.Rings.{SubmitNumbers, submitted_one}
 use Rattle.nv_queue.specs.Slots.{with_submission}
-use Rattle.nv_command.specs.Command.{host_data_of, transfer_by}
+use Rattle.nv_command.specs.Command.{host_data_of}
 use Rattle.nv_command.specs.Entry.{with_pointer}
-use Rattle.nv_controller.specs.Call.{length_of}
 use Rattle.nv_driver.specs.Submitting.{sent_by, transfer_at}
 use Rattle.nv_driver.specs.declared.submitting.Outstanding.{Outstanding}
 use Rattle.nv_driver.proofs.SubmittingLaws.{buffer_of, built_by, distinct_of, list_of, on_ok, prepared_by}
@@ -18,18 +17,35 @@ use Rattle.nv_driver.proofs.submitting.submit.Goals as goal
 pub build_pointer-prp1-requires-clause-buffer : goal.build_pointer-prp1-requires-clause-buffer
 build_pointer-prp1-requires-clause-buffer g c =
     let t = c.take-pages.ensures in
-    let enough = subst (λ n. c.args.geometry.offset + c.data_length-len.result ≤ n * c.args.geometry.page_size) (sym t.count) c.page_count.ensures.enough in
-    buffer_of c.args.geometry c.args.lane.now.pages c.take-pages.result (g.M.HostMemory.bytes c.args.mem.now)
-    (g.M.HostMemory.page_len c.args.mem.now) c.data_length-len.result c.requires.geometry c.requires.page
-    (record { seven = t.seven; few = omega (arith, t.count, c.page_count.ensures.few); taken = t.taken; inside = c.requires.inside })
+    let geometry = c.args.geometry in
+    let len = c.data_length-len.result in
+    let pages = c.args.lane.now.pages in
+    let bytes = g.M.HostMemory.bytes c.args.mem.now in
+    let few = c.page_count.ensures.few in
+    let enough = subst (λ n. geometry.offset + len ≤ n * geometry.page_size)
+    (sym t.count) c.page_count.ensures.enough in
+    buffer_of geometry pages c.take-pages.result bytes _ len c.requires.geometry c.requires.page
+    (record {
+      seven = t.seven;
+      few = omega (arith, t.count, few);
+      taken = t.taken;
+      inside = c.requires.inside;
+    })
     enough
 
 pub build_pointer-prp1-requires-clause-list : goal.build_pointer-prp1-requires-clause-list
 build_pointer-prp1-requires-clause-list g c =
     let t = c.take-pages.ensures in
-    list_of c.args.geometry c.args.lane.now.pages c.take-pages.result (g.M.HostMemory.bytes c.args.mem.now) (g.M.HostMemory.page_len c.args.mem.now)
-    c.requires.geometry c.requires.page
-    (record { seven = t.seven; few = omega (arith, t.count, c.page_count.ensures.few); taken = t.taken; inside = c.requires.inside })
+    let pages = c.args.lane.now.pages in
+    let bytes = g.M.HostMemory.bytes c.args.mem.now in
+    let few = c.page_count.ensures.few in
+    list_of c.args.geometry pages c.take-pages.result bytes _ c.requires.geometry c.requires.page
+    (record {
+      seven = t.seven;
+      few = omega (arith, t.count, few);
+      taken = t.taken;
+      inside = c.requires.inside;
+    })
 
 pub build_pointer-prp1-requires-clause-distinct : goal.build_pointer-prp1-requires-clause-distinct
 build_pointer-prp1-requires-clause-distinct g c =
@@ -41,7 +57,8 @@ returns-clause-submitted g c =
     let t = c.take-pages.ensures in
     let b = c.build_pointer-prp1.ensures in
     let pages = c.take-pages.result in
-    let o : Outstanding = record { pages = pages; prp1 = c.build_pointer-prp1.result.0; prp2 = c.build_pointer-prp1.result.1 } in
+    let pointer = c.build_pointer-prp1.result in
+    let o : Outstanding = record { pages = pages; prp1 = pointer.0; prp2 = pointer.1 } in
     let ok = c.unwrap-tail.ensures in
     let lane = c.args.lane.now in
     let geometry = c.args.geometry in
@@ -53,26 +70,45 @@ returns-clause-submitted g c =
     let len = c.data_length-len.ensures.length in
     let few : pages.data_pages ≤ 2 = omega (arith, t.count, c.page_count.ensures.few) in
     let enough = subst (λ n. geometry.offset + n ≤ pages.data_pages * geometry.page_size) len
-    (subst (λ n. geometry.offset + c.data_length-len.result ≤ n * geometry.page_size) (sym t.count) c.page_count.ensures.enough) in
-    let buffer = buffer_of geometry lane.pages pages before geometry.page_size (length_of (transfer_by k)) c.requires.geometry refl
-    (record { seven = t.seven; few = omega (arith, few); taken = t.taken; inside = c.requires.inside }) enough in
-    let is_built = built_by geometry k lane.serial o before built (g.M.HostMemory.page_len c.args.mem.now)
-    (g.M.HostMemory.page_len c.build_pointer-prp1.new.mem) c.data_length-len.result c.requires.page b.page len (search rules) (search rules)
-    b.stays b.others b.len in
+    (subst (λ n. geometry.offset + c.data_length-len.result ≤ n * geometry.page_size)
+    (sym t.count) c.page_count.ensures.enough) in
+    let buffer = buffer_of geometry lane.pages pages before geometry.page_size _ c.requires.geometry refl
+    (record {
+      seven = t.seven;
+      few = omega (arith, few);
+      taken = t.taken;
+      inside = c.requires.inside;
+    })
+    enough in
+    let distinct = distinct_of lane.pages pages t.seven t.taken in
+    let is_built = built_by geometry x before built _ _ _ c.requires.page b.page len
+    (search rules) (search rules) b.stays b.others b.len in
     record {
       few = few;
       seven = t.seven;
       taken = t.taken;
       enough = enough;
       ready = ready;
-      prepared = prepared_by geometry.page_size x before built ready c.requires.geometry.page_size c.requires.fits buffer
-          (rest_distinct x.first x.second x.pages (distinct_of lane.pages pages t.seven t.taken)) is_built
-          (c.write_data.ensures.bytes ∙ ap (λ n. written_at built (transfer_places (transfer_at n built o k)) (host_data_of k)) (b.page ∙ c.requires.page));
+      prepared = prepared_by geometry.page_size x before built ready c.requires.geometry.page_size
+          c.requires.fits buffer (rest_distinct x.first x.second x.pages distinct) is_built
+          (c.write_data.ensures.bytes
+          ∙ ap (λ n. written_at built (transfer_places (transfer_at n built o k)) (host_data_of k))
+          (b.page ∙ c.requires.page));
       pointer = λ none. b.none (len ∙ none);
       mem = on_ok c.push.result c.unwrap-tail.result ok c.push.ensures.bytes
-          ∙ ap (λ (e : Sqe). with_submission ready lane.submission (with_pointer e o.prp1 o.prp2)) c.entry-entry.ensures.entry;
-      lane = ap (λ (r : SubmitNumbers). record lane { submission = r; serial = (lane.serial + 1) % 65535; pages = c.take-pages.new.free })
+          ∙ ap (λ (e : Sqe). with_submission ready lane.submission (with_pointer e o.prp1 o.prp2))
+          c.entry-entry.ensures.entry;
+      lane = ap (λ (r : SubmitNumbers). record lane {
+        submission = r;
+        serial = (lane.serial + 1) % 65535;
+        pages = c.take-pages.new.free;
+      })
           (on_ok c.push.result c.unwrap-tail.result ok c.push.ensures.submitted)
-          ∙ ap (λ (s : Pages). record lane { submission = submitted_one lane.submission; serial = (lane.serial + 1) % 65535; pages = s }) t.set;
-      free = subst (λ n. set.len c.take-pages.new.free.members + (n + 2) ≡ set.len lane.pages.members) (sym t.count) t.len;
+          ∙ ap (λ (s : Pages). record lane {
+            submission = submitted_one lane.submission;
+            serial = (lane.serial + 1) % 65535;
+            pages = s;
+          }) t.set;
+      free = subst (λ n. set.len c.take-pages.new.free.members + (n + 2) ≡ set.len lane.pages.members)
+          (sym t.count) t.len;
     }
