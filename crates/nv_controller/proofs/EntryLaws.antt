@@ -31,7 +31,8 @@ accepted_reply (Some refusal) r reply e = absurd (cc)
 
 -- ---- a page or nothing
 
-page_has_places : (r : Reply) (at : List ℕ) → length (data_of r) ≡ 4096 → length at ≡ 4096 → HasPlaces r at
+page_has_places : (r : Reply) (at : List ℕ) → length (data_of r) ≡ 4096 → length at ≡ 4096
+    → HasPlaces r at
 unfolding HasPlaces
 page_has_places (reply.Namespace r) at h e = (e, h)
 page_has_places (reply.List ids) at h e = (e, h)
@@ -86,21 +87,30 @@ written_nothing bytes (p ∷ at) = refl
 moves_there : (a b : Result Reply Status) (at there old new : List ℕ) → a ≡ b → OnOk a (at ≡ there)
     → Moves a at old new → Moves b there old new
 moves_there (Ok r) b at there old new e same moves =
-    subst (λ (x : Result Reply Status). Moves x there old new) e (moves ∙ ap (λ p. written_at old p (data_of r)) same)
+    subst (λ (x : Result Reply Status). Moves x there old new) e
+    (moves ∙ ap (λ p. written_at old p (data_of r)) same)
 moves_there (Err status) b at there old new e same moves =
     subst (λ (x : Result Reply Status). Moves x there old new) e moves
 
-pub taken_one : (c : ℕ) (old new : Scene) (entry : Sqe) (size head : ℕ) (answer : Result Reply Status) (posted : Cqe)
+pub taken_one : (c : ℕ) (old new : Scene) (entry : Sqe) (size head : ℕ)
+    → (answer : Result Reply Status) (posted : Cqe)
     → (at moved : List ℕ) → let call = call_of size old.bytes entry in
     entry ≡ entry_in old → size ≡ old.rings.page_size
-    → answer ≡ (step_unless call old.state c entry).answer → new.state ≡ (step_unless call old.state c entry).state
+    → answer ≡ (step_unless call old.state c entry).answer
+    → new.state ≡ (step_unless call old.state c entry).state
     → OnOk answer (at ≡ places_in call) → Moves answer at old.bytes moved
-    → new.rings ≡ record old.rings { submission = fetched_one old.rings.submission; completion = posted_one old.rings.completion }
-    → head ≡ slot_of old.rings.submission.depth (next old.rings.submission.depth old.rings.submission.fetched)
-    → posted ≡ completion_with entry.cid head answer → new.bytes ≡ with_completion moved old.rings.completion posted
+    → new.rings ≡ record old.rings {
+      submission = fetched_one old.rings.submission;
+      completion = posted_one old.rings.completion;
+    }
+    → (let ring = old.rings.submission in head ≡ slot_of ring.depth (next ring.depth ring.fetched))
+    → posted ≡ completion_with entry.cid head answer
+    → new.bytes ≡ with_completion moved old.rings.completion posted
     → One c old new
-taken_one c old new entry size head answer posted at moved same page told state there moves rings slot made bytes =
-    let call : call_of size old.bytes entry ≡ call_in old = ap₂ (λ s e. call_of s old.bytes e) page same in
+taken_one c old new entry size head answer posted at moved
+    same page told state there moves rings slot made bytes =
+    let call : call_of size old.bytes entry ≡ call_in old =
+    ap₂ (λ s e. call_of s old.bytes e) page same in
     let step : step_unless (call_of size old.bytes entry) old.state c entry ≡ entry_step c old =
     ap₂ (λ k e. step_unless k old.state c e) call same in
     let answered : answer ≡ (entry_step c old).answer = told ∙ ap (λ s. s.answer) step in
@@ -113,7 +123,8 @@ taken_one c old new entry size head answer posted at moved same page told state 
             (moves_there answer _ at _ old.bytes moved answered there moves),
         bytes
             ∙ ap (with_completion moved old.rings.completion) made
-            ∙ ap (λ e. with_completion moved old.rings.completion (completion_with e.cid head answer)) same
-            ∙ ap₂ (λ h a. with_completion moved old.rings.completion (completion_with (entry_in old).cid h a)) slot answered,
+            ∙ ap (with_completion moved old.rings.completion)
+            (ap (λ e. completion_with e.cid head answer) same
+            ∙ ap₂ (completion_with (entry_in old).cid) slot answered),
       );
     }

@@ -55,7 +55,8 @@ abbrev RoomIf : Result Moves StatusCode → Type 0
 RoomIf (Ok t) = HasRoom t
 RoomIf (Err code) = Unit {0}
 
-room_after : {A : Type 0} (r : Result A StatusCode) (t : Moves) → HasRoom t → RoomIf (r >>= (λ _. Ok t))
+room_after : {A : Type 0} (r : Result A StatusCode) (t : Moves) → HasRoom t
+    → RoomIf (r >>= (λ _. Ok t))
 room_after (Ok x) t room = room
 room_after (Err code) t room = tt
 

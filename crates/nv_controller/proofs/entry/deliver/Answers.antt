@@ -6,10 +6,12 @@ use Rattle.nv_controller.proofs.entry.deliver.Goals as goal
 
 pub returns-in-Number-clause-bytes : goal.returns-in-Number-clause-bytes
 returns-in-Number-clause-bytes g c =
-    written_nothing _ (places c.args.spans.now)
-    ∙ ap (λ reply. written_at (g.M.HostMemory.bytes c.args.mem.now) (places c.args.spans.now) (data_of reply)) (sym c.in-Number.is)
+    let at = places c.args.spans.now in
+    written_nothing _ at
+    ∙ ap (λ reply. written_at (g.M.HostMemory.bytes c.args.mem.now) at (data_of reply)) (sym c.in-Number.is)
 
 pub returns-in-Done-clause-bytes : goal.returns-in-Done-clause-bytes
 returns-in-Done-clause-bytes g c =
-    written_nothing _ (places c.args.spans.now)
-    ∙ ap (λ reply. written_at (g.M.HostMemory.bytes c.args.mem.now) (places c.args.spans.now) (data_of reply)) (sym c.in-Done.is)
+    let at = places c.args.spans.now in
+    written_nothing _ at
+    ∙ ap (λ reply. written_at (g.M.HostMemory.bytes c.args.mem.now) at (data_of reply)) (sym c.in-Done.is)
