@@ -12,8 +12,8 @@ use Rattle.nv_script.proofs.OutcomeLaws.{accepted_with}
 use Rattle.nv_script.proofs.performing.perform.Goals as goal
 
 pub admin-requires-clause-ctrl : goal.admin-requires-clause-ctrl
-admin-requires-clause-ctrl g c = ?
-xx g c =
+admin-requires-clause-ctrl g c =
+    let probe : length c.args.bus ≡ 0 = c.order-item.is in
     let s = (g.B.Bus.meaning c.args.bus.now).state in
     let known = c.deref-order-items.ensures.value ∙ c.in_ok-orders.ensures.orders s in
     controller_known s c.args.request _ _ c.deref-order-items.result.now c.loop-order.order-index no_order known c.requires.controller c.loop-order.invariant.lanes c.loop-order-test.true
