@@ -59,15 +59,9 @@ impl BitSet {
         ensures { IfOk result (λ s. s
             ≡ record { first = first; count = count; members = all_of first count }) }
     {
-        let mut words = repeated(alloc, u64::MAX, count as usize / 64 + 1)?;
-        words[count as usize / 64] = (1 << (count % 64)) - 1;
-        Ok(BitSet {
-            first,
-            count,
-            len: count,
-            lowest_word: 0,
-            words,
-        })
+        let mut set = BitSet::new(alloc, first, count)?;
+        set.fill();
+        Ok(set)
     }
 
     /// The least number that the set can have.
@@ -139,6 +133,27 @@ impl BitSet {
         self.len -= 1;
         self.lowest_word = next_word(&self.words, self.lowest_word);
         true
+    }
+
+    /// Takes all numbers out.
+    pub fn clear(&mut self)
+        ensures { self.new ≡ record self.old { members = map.empty } }
+    {
+        self.words.fill(0);
+        self.len = 0;
+        self.lowest_word = self.words.len();
+    }
+
+    /// Adds all numbers of the range.
+    pub fn fill(&mut self)
+        ensures { self.new
+            ≡ record self.old { members = all_of self.old.first self.old.count } }
+    {
+        self.words.fill(u64::MAX);
+        let last = self.count as usize / 64;
+        self.words[last] = (1 << (self.count % 64)) - 1;
+        self.len = self.count;
+        self.lowest_word = 0;
     }
 
     /// The lowest number of the set.

@@ -121,6 +121,15 @@ impl<T: Copy> Slots<T> {
         Some(value)
     }
 
+    /// Takes all values away.
+    pub fn clear(&mut self)
+        ensures { self.new ≡ record self.old { values = map.empty } }
+    {
+        empty(&mut self.slots);
+        self.occupied.clear();
+        self.free.fill();
+    }
+
     /// The lowest number above one that has a value.
     pub fn next_above(&self, n: u32) -> Option<u32>
         ensures least { MatchOption result
@@ -144,6 +153,15 @@ impl<T: Copy> Slots<T> {
             (IsLowestFree self.now) }
     {
         self.free.lowest()
+    }
+}
+
+/// Takes the value out of each slot.
+fn empty<T: Copy>(slots: &mut [Option<T>])
+    ensures { (k : ℕ) → slice_index_or slots.new k None ≡ None }
+{
+    for slot in slots.iter_mut() {
+        *slot = None;
     }
 }
 

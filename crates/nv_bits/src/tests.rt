@@ -44,6 +44,24 @@ fn numbers_that_go(rt: HostRuntime) {
 }
 
 #[test]
+fn all_numbers_at_once(rt: HostRuntime) {
+    let Ok(mut set) = BitSet::new(rt.alloc(), 1, 130) else {
+        assert!(rt; false, "out of memory");
+        return;
+    };
+    set.insert(65);
+    set.fill();
+    assert_eq!(rt;
+        (set.len(), set.lowest(), set.next_above(129)),
+        (130, Some(1), Some(130))
+    );
+    set.clear();
+    assert_eq!(rt; (set.count(), set.len(), set.lowest()), (130, 0, None));
+    assert!(rt; set.insert(65));
+    assert_eq!(rt; set.lowest(), Some(65));
+}
+
+#[test]
 fn range_of_none(rt: HostRuntime) {
     let Ok(mut set) = BitSet::full(rt.alloc(), 7, 0) else {
         assert!(rt; false, "out of memory");
@@ -80,6 +98,9 @@ fn values_of_numbers(rt: HostRuntime) {
     slots.insert(1, 11);
     slots.insert(2, 20);
     assert_eq!(rt; slots.lowest_free(), None);
+    slots.clear();
+    assert_eq!(rt; (slots.count(), slots.len(), slots.get(2)), (3, 0, None));
+    assert_eq!(rt; slots.lowest_free(), Some(1));
 }
 
 /// The crate page's example.

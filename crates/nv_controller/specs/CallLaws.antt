@@ -1,16 +1,15 @@
 -- Where the data of an entry lies.
-use Rattle.std.proofs.Common.{◌≡◌, ◌∙◌, ℕ, zero, suc, ◌<◌, ap, refl, subst, sym, arith, lit<, lit≤, List, [], Option, Some, None, Result, Ok, Err}
+use Rattle.std.proofs.Common.{◌≡◌, ◌∙◌, ℕ, zero, suc, ◌<◌, ◌==◌, Bool, true, false, if◌then◌else◌, ap, refl, subst, sym, arith, lit<, lit≤, List, [], Option, Some, None, Result, Ok, Err}
 use Rattle.std.specs.Option.{option_or}
 use Rattle.nv_layout.specs.declared.sqe.Sqe.{Sqe}
-use Rattle.nv_command.specs.Command.{transfer_by}
 use Rattle.nv_command.specs.Decoding.{opcode_of, transfer_as, transfer_of}
 use Rattle.nv_command.specs.Identify.{identify_command, identify_data}
+use Rattle.nv_command.specs.Management.{is_detach, page_from_host, select_of}
 use Rattle.nv_command.specs.Steps.{◌>>=◌}
-use Rattle.nv_command.specs.declared.command.Command.{Command}
-use Rattle.nv_command.specs.declared.command.Command.TheVariants.{IdentifyNamespace, AllocatedNamespace, ActiveList, AllocatedList}
 use Rattle.nv_command.specs.declared.entry.Opcode.{Opcode}
-use Rattle.nv_command.specs.declared.entry.Opcode.TheVariants.{Identify}
+use Rattle.nv_command.specs.declared.entry.Opcode.TheVariants.{Identify, NamespaceManagement, NamespaceAttachment}
 use Rattle.nv_command.specs.declared.status_code.StatusCode.{StatusCode}
+use Rattle.nv_command.specs.declared.status_code.StatusCode.TheVariants.{InvalidFieldInCommand}
 use Rattle.nv_command.specs.declared.transfer.Transfer.{Transfer as Moves}
 use Rattle.nv_command.specs.declared.transfer.Transfer.TheVariants.{NoData}
 use Rattle.nv_prp.specs.Place.{LieIn, places}
@@ -50,24 +49,31 @@ nothing_lies_in size = λ i d h. absurd (omega arith)
 pub no_places : (page_size : ℕ) (bytes : List ℕ) (e : Sqe) (m : Moves) (at : List ℕ) → m ≡ NoData → at ≡ [] → data_places page_size bytes e m ≡ Ok at
 no_places page_size bytes e m at is none = ap (λ (x : Moves). data_places page_size bytes e x) is ∙ ap Ok (sym none)
 
--- ---- the data of the commands that exist: a page to the host
+-- ---- a length that a data pointer can have
 
-page_by_command : (r : Result Command StatusCode) (t : Moves) → (r >>= (λ _. Ok identify_data)) ≡ Ok t → t ≡ identify_data
-page_by_command (Ok k) t e = cc
-page_by_command (Err code) t e = absurd (cc)
+abbrev RoomIf : Result Moves StatusCode → Type 0
+RoomIf (Ok t) = HasRoom t
+RoomIf (Err code) = Unit {0}
 
-page_by_opcode : (r : Result Opcode StatusCode) (e : Sqe) (t : Moves) → (r >>= (λ o. transfer_as o e)) ≡ Ok t → t ≡ identify_data
-page_by_opcode (Ok Identify) e t h = page_by_command (identify_command e) t h
-page_by_opcode (Err code) e t h = absurd (cc)
+room_after : {A : Type 0} (r : Result A StatusCode) (t : Moves) → HasRoom t
+    → RoomIf (r >>= (λ _. Ok t))
+room_after (Ok x) t room = room
+room_after (Err code) t room = tt
 
-pub page_moves : (e : Sqe) (t : Moves) → transfer_of e ≡ Ok t → t ≡ identify_data
-page_moves e t h = page_by_opcode (opcode_of e) e t h
+room_by_select : (a b : Bool)
+    → RoomIf (if a then Ok page_from_host else (if b then Ok NoData else Err InvalidFieldInCommand))
+room_by_select true b = (lit< tt, lit≤ tt)
+room_by_select false true = tt
+room_by_select false false = tt
+
+room_as : (o : Opcode) (e : Sqe) → RoomIf (transfer_as o e)
+room_as Identify e = room_after (identify_command e) identify_data (lit< tt, lit≤ tt)
+room_as NamespaceManagement e = room_by_select (select_of e == 0x0) (select_of e == 0x1)
+room_as NamespaceAttachment e = room_after (is_detach e) page_from_host (lit< tt, lit≤ tt)
+
+room_by_opcode : (r : Result Opcode StatusCode) (e : Sqe) → RoomIf (r >>= (λ o. transfer_as o e))
+room_by_opcode (Ok o) e = room_as o e
+room_by_opcode (Err code) e = tt
 
 pub has_room : (e : Sqe) (t : Moves) → transfer_of e ≡ Ok t → HasRoom t
-has_room e t h = subst HasRoom (sym (page_moves e t h)) (lit< tt, lit≤ tt)
-
-pub transfer_by-page : (k : Command) → transfer_by k ≡ identify_data
-transfer_by-page (IdentifyNamespace n) = refl
-transfer_by-page (AllocatedNamespace n) = refl
-transfer_by-page (ActiveList after) = refl
-transfer_by-page (AllocatedList after) = refl
+has_room e t h = subst RoomIf h (room_by_opcode (opcode_of e) e)

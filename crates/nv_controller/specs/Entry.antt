@@ -1,5 +1,7 @@
 -- What taking one entry does.
-use Rattle.std.specs.Prelude.{◌≡◌, ℕ, false, List, [], Result, Ok, Err}
+use Rattle.std.specs.Prelude.{◌≡◌, ℕ, false, List, [], Result, Ok, Err, length}
+use Rattle.nv_layout.specs.IdNs.{bytes_of_id_ns}
+use Rattle.nv_layout.specs.NsList.{bytes_of_ns_list}
 use Rattle.nv_layout.specs.declared.cqe.Cqe.{Cqe}
 use Rattle.nv_layout.specs.declared.sqe.Sqe.{Sqe}
 use Rattle.nv_layout.specs.declared.status.Status.{Status}
@@ -11,6 +13,7 @@ use Rattle.nv_command.specs.Refusal.{refusal_by}
 use Rattle.nv_command.specs.Reply.{data_of, dword0_of}
 use Rattle.nv_command.specs.StatusCode.{status_of_code}
 use Rattle.nv_command.specs.declared.reply.Reply.{Reply}
+use Rattle.nv_command.specs.declared.reply.Reply.TheVariants as reply
 use Rattle.nv_command.specs.declared.status_code.StatusCode.{StatusCode}
 use Rattle.nv_subsystem.specs.State.{State}
 use Rattle.nv_subsystem.specs.Step.{Step, refused, step, with_command}
@@ -50,6 +53,13 @@ places_in (Err code) = []
 abbrev pub Moves : Result Reply Status → List ℕ → List ℕ → List ℕ → Type 0
 Moves (Ok reply) places old new = new ≡ written_at old places (data_of reply)
 Moves (Err status) places old new = new ≡ old
+
+-- a reply with data has a page of it, and as many places
+unfoldable pub HasPlaces : Reply → List ℕ → Type 0
+HasPlaces (reply.Namespace r) places = (length places ≡ 4096) × (length (bytes_of_id_ns r) ≡ 4096)
+HasPlaces (reply.List ids) places = (length places ≡ 4096) × (length (bytes_of_ns_list ids) ≡ 4096)
+HasPlaces (reply.Number n) places = Unit {0}
+HasPlaces reply.Done places = Unit {0}
 
 abbrev pub success : Status
 success = record { sc = 0; sct = 0; crd = 0; more = false; dnr = false }

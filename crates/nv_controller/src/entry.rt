@@ -5,7 +5,7 @@ ghost use Rattle.nv_command.specs.Reply.{data_of};
 ghost use Rattle.nv_prp.specs.Place.{LieIn, places, written_at};
 ghost use Rattle.nv_subsystem.specs.WellFormed.{IsWellFormed};
 ghost use Rattle.nv_controller.specs.Call.{call_of};
-ghost use Rattle.nv_controller.specs.Entry.{One, completion_with, places_in, scene, step_unless};
+ghost use Rattle.nv_controller.specs.Entry.{HasPlaces, Moves, One, completion_with, places_in, scene, step_unless};
 ghost use Rattle.nv_controller.specs.Turn.{can_take, reaches};
 
 use crate::call::read_call;
@@ -38,8 +38,7 @@ fn answer_entry<M: HostMemory>(
     ensures places { OnOk result
         (places spans.new ≡ places_in (call_of (M.page_len mem.now) (M.bytes mem.now) entry.now)) }
     ensures inside { OnOk result (LieIn (length (M.bytes mem.now)) spans.new) }
-    ensures len { OnOk result (length (places spans.new) ≡ 4096) }
-    ensures page { IfOk result (λ reply. length (data_of reply) ≡ 4096) }
+    ensures room { IfOk result (λ reply. HasPlaces reply (places spans.new)) }
 {
     let origin = Origin {
         cid: entry.cid,
@@ -58,8 +57,8 @@ fn answer_entry<M: HostMemory>(
     }
 }
 
-/// Writes the data of a reply, a page, to its places.
-fn deliver<M: HostMemory>(mem: &mut M, spans: &Spans, reply: &Reply)
+/// Writes the data of a reply that has a page of it to its places.
+fn deliver_page<M: HostMemory>(mem: &mut M, spans: &Spans, reply: &Reply)
     requires inside { LieIn (length (M.bytes mem.old)) spans.now }
     requires len { length (places spans.now) ≡ 4096 }
     requires page { length (data_of reply.now) ≡ 4096 }
@@ -71,6 +70,37 @@ fn deliver<M: HostMemory>(mem: &mut M, spans: &Spans, reply: &Reply)
     let mut page = [0; 4096];
     reply.put(&mut page);
     copy_out(mem, spans, &page);
+}
+
+/// Writes the data of a reply to its places, where it has any.
+#[tactic(auto, unfolding(crate::specs::Entry::HasPlaces))]
+fn deliver<M: HostMemory>(mem: &mut M, spans: &Spans, reply: &Reply)
+    requires inside { LieIn (length (M.bytes mem.old)) spans.now }
+    requires room { HasPlaces reply.now (places spans.now) }
+    ensures bytes { M.bytes mem.new
+        ≡ written_at (M.bytes mem.old) (places spans.now) (data_of reply.now) }
+    ensures len { length (M.bytes mem.new) ≡ length (M.bytes mem.old) }
+    ensures page_len { M.page_len mem.new ≡ M.page_len mem.old }
+{
+    match reply {
+        Reply::Namespace(_) => deliver_page(mem, spans, reply),
+        Reply::List(_) => deliver_page(mem, spans, reply),
+        Reply::Number(_) => {}
+        Reply::Done => {}
+    }
+}
+
+/// Writes the data of an answer to its places, where it has any.
+fn deliver_answer<M: HostMemory>(mem: &mut M, spans: &Spans, answer: &Result<Reply, Status>)
+    requires inside { OnOk answer.now (LieIn (length (M.bytes mem.old)) spans.now) }
+    requires room { IfOk answer.now (λ reply. HasPlaces reply (places spans.now)) }
+    ensures moved { Moves answer.now (places spans.now) (M.bytes mem.old) (M.bytes mem.new) }
+    ensures len { length (M.bytes mem.new) ≡ length (M.bytes mem.old) }
+    ensures page_len { M.page_len mem.new ≡ M.page_len mem.old }
+{
+    if let Ok(reply) = answer {
+        deliver(mem, spans, reply);
+    }
 }
 
 /// The completion of an entry that was answered so; the ring gives it its phase tag.
@@ -109,9 +139,7 @@ pub fn take_one<M: HostMemory>(subsystem: &mut Subsystem, rings: &mut Rings, ctr
     let phase = rings.completion.phase();
     let mut spans = Spans::new();
     let answer = answer_entry(subsystem, ctrl, mem, &entry, phase, &mut spans);
-    if let Ok(reply) = &answer {
-        deliver(mem, &spans, reply);
-    }
+    deliver_answer(mem, &spans, &answer);
     let posted = completion(entry.cid, rings.submission.head(), &answer);
     rings.completion.put(mem, posted).unwrap();
 }

@@ -38,6 +38,8 @@ mod machine;
 mod tests;
 #[cfg(test)]
 mod tests_by_steps;
+#[cfg(test)]
+mod tests_of_management;
 mod turn;
 
 pub use bus::Bus;

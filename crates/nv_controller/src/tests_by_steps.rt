@@ -133,8 +133,8 @@ fn answers_each_structure(rt: HostRuntime) -> Result<(), Fail> {
 }
 
 #[test]
-fn knows_one_opcode(rt: HostRuntime) -> Result<(), Fail> {
-    for opcode in [0x00, 0x02, 0x09, 0x0a, 0x0d, 0x15, 0x80, 0xff] {
+fn knows_three_opcodes(rt: HostRuntime) -> Result<(), Fail> {
+    for opcode in [0x00, 0x02, 0x09, 0x0a, 0x80, 0xff] {
         let entry = Sqe {
             opcode,
             ..identify(7, 0, 0x02, 0x10002)

@@ -1,43 +1,16 @@
 -- The capacities of the namespaces of a file, added up.
-use Rattle.std.proofs.Common.{◌≡◌, ◌≢◌, ◌∙◌, ℕ, zero, suc, ◌+◌, List, [], ◌∷◌, map, length, get_or, Some, None, refl, sym, ap, arith, Ordering}
+use Rattle.std.proofs.Common.{◌≡◌, ◌≢◌, ◌∙◌, zero, suc, ◌+◌, List, [], ◌∷◌, get_or, None, sym, arith}
 use Rattle.std.specs.Prelude.{All, AllPairs, sum_by}
 use Rattle.std.specs.List.{fold}
-use Rattle.std.specs.Ordering.{nat_cmp}
-use Rattle.std.specs.declared.cmp.Ordering.TheVariants.{Less, Equal, Greater}
-use Rattle.std.specs.Cmp.{nat_cmp_total}
 use Rattle.std.specs.FinMap as map_of
-use Rattle.std.specs.FinMap.{entries-insert, get-entries, len-empty, len-entries}
-use Rattle.std.specs.FinMap.Entries.{put, find}
 use Rattle.std.proofs.lemmas.Bool.{ne_eqb}
 use Rattle.std.proofs.lemmas.List.Sums.{sum_by-cons}
 use Rattle.nv_bits.specs.NumberLaws.{get_of_insert}
 use Rattle.nv_subsystem.specs.Capacity.{used}
+use Rattle.nv_subsystem.specs.UsedLaws.{used-insert}
 use Rattle.nv_file.specs.FileValue.{NamespaceValue}
 use Rattle.nv_subsystem.specs.FromFile.{with_namespace}
 use Rattle.nv_subsystem.specs.State.{Namespaces}
-use Rattle.nv_file.specs.declared.namespace.Namespace.{Namespace}
-
-total : List (ℕ × Namespace) → ℕ
-total es = sum_by (λ x. x.capacity) (map (λ e. e.1) es)
-
-total-cons : (e : ℕ × Namespace) (es : List (ℕ × Namespace)) → total (e ∷ es) ≡ e.1.capacity + total es
-unfolding total
-total-cons e es = sum_by-cons (λ x. x.capacity) e.1 (map (λ e. e.1) es)
-
-put_at : (o : Ordering) (k : ℕ) (v : Namespace) (e : ℕ × Namespace) (es : List (ℕ × Namespace)) → nat_cmp k e.0 ≡ o → find nat_cmp k (e ∷ es) ≡ None → (find nat_cmp k es ≡ None → total (put nat_cmp k v es) ≡ v.capacity + total es) → total (put nat_cmp k v (e ∷ es)) ≡ v.capacity + total (e ∷ es)
-put_at Less k v e es is none rest = rw is (total-cons (k, v) (e ∷ es))
-put_at Equal k v e es is none rest = let some : Some e.1 ≡ None = rw is at none in absurd (cc some)
-put_at Greater k v e es is none rest =
-    let free : find nat_cmp k es ≡ None = rw is at none in
-    rw is (omega (arith, total-cons e (put nat_cmp k v es), total-cons e es, rest free))
-
-total-put : (k : ℕ) (v : Namespace) (es : List (ℕ × Namespace)) → find nat_cmp k es ≡ None → total (put nat_cmp k v es) ≡ v.capacity + total es
-total-put k v [] none = total-cons (k, v) []
-total-put k v (e ∷ es) none = put_at (nat_cmp k e.0) k v e es refl none (total-put k v es)
-
-used-insert : (m : Namespaces) (k : ℕ) (v : Namespace) → map_of.get m k ≡ None → used (map_of.insert m k v) ≡ v.capacity + used m
-unfolding total
-used-insert m k v none = ap total (entries-insert nat_cmp_total m k v) ∙ total-put k v (map_of.entries m) (sym (get-entries m k) ∙ none)
 
 pub used-all : (m : Namespaces) (ns : List NamespaceValue) → AllPairs (λ a b. a.nsid ≢ b.nsid) ns → All (λ n. map_of.get m n.nsid ≡ None) ns → used (fold with_namespace m ns) ≡ used m + sum_by (λ n. n.namespace.capacity) ns
 used-all m [] pairs new = omega arith
@@ -46,12 +19,3 @@ used-all m (n ∷ ns) pairs new =
     let rest = used-all (with_namespace m n) ns (λ i j d a b. pairs (suc i) (suc j) d (omega arith) (omega arith))
     (λ j d b. get_of_insert m n.nsid n.namespace (get_or ns j d).nsid ∙ rw (ne_eqb (get_or ns j d).nsid n.nsid (λ e. pairs zero (suc j) d (omega arith) (omega arith) (sym e))) (new (suc j) d (omega arith))) in
     omega (arith, rest, used-insert m n.nsid n.namespace here, sum_by-cons (λ n. n.namespace.capacity) n ns)
-
-none_used : (es : List (ℕ × Namespace)) → length es ≡ 0 → total es ≡ 0
-unfolding total
-none_used [] h = refl
-none_used (e ∷ es) h = absurd (omega arith)
-
-pub used-empty : used map_of.empty ≡ 0
-unfolding total
-used-empty = none_used (map_of.entries map_of.empty) (sym (len-entries map_of.empty) ∙ len-empty nat_cmp Namespace)

@@ -1,6 +1,12 @@
 -- The parts of the subsystem that are made of a file.
-use Rattle.std.proofs.Common.{◌≡◌, ◌∙◌, ℕ, ◌<◌, ◌≤◌, List, map, length, get_or, Some, sym, ap, subst, arith}
-use Rattle.std.specs.Prelude.{All}
+use Rattle.std.proofs.Common.{◌≡◌, ◌∙◌, ℕ, ◌+◌, ◌<◌, ◌≤◌, List, [], ◌∷◌, refl, map, length, get_or, Some, sym, ap, subst, arith}
+use Rattle.std.specs.Prelude.{All, sum_by}
+use Rattle.std.specs.Ordering.{nat_cmp}
+use Rattle.std.specs.FinMap.{get-empty}
+use Rattle.std.proofs.lemmas.List.Sums.{sum_by-cons}
+use Rattle.nv_subsystem.specs.Capacity.{used}
+use Rattle.nv_subsystem.specs.UsedLaws.{used-empty}
+use Rattle.nv_subsystem.proofs.Capacities.{used-all}
 use Rattle.std.specs.FinMap as map_of
 use Rattle.std.proofs.lemmas.List.{get_or-map, length-map}
 use Rattle.std.proofs.lemmas.List.Elements.{All-weaker}
@@ -45,3 +51,23 @@ is_sound f slots cs h is views sized =
       few = omega (arith, as_many, h.controller_count.1);
       controllers = subst (λ (m : RangeMap Namespace). All (IsSized m.count) cs) (sym is) sized;
     }
+
+sum_of_views : (ns : List NamespaceEntry) → sum_by (λ n. n.namespace.capacity) (map namespace_entry_view ns) ≡ sum_by (λ n. n.namespace.capacity) ns
+sum_of_views [] = refl
+sum_of_views (n ∷ ns) = omega (arith, sum_of_views ns, sum_by-cons (λ n. n.namespace.capacity) n ns, sum_by-cons (λ n. n.namespace.capacity) (namespace_entry_view n) (map namespace_entry_view ns))
+
+-- the namespaces of a file have no more capacity than there is
+pub within_capacity : (f : File) → IsFile (file_view f) → sum_by (λ n. n.namespace.capacity) f.namespaces.items ≤ f.tnvmcap
+within_capacity f h = omega (arith, h.capacities, sum_of_views f.namespaces.items)
+
+-- what they leave is what is unallocated
+pub adds_up : (f : File) (left : ℕ) → IsFile (file_view f) → left + sum_by (λ n. n.namespace.capacity) f.namespaces.items ≡ f.tnvmcap
+    → left + used (state_of (file_view f)).namespaces ≡ f.tnvmcap
+adds_up f left h e =
+    omega (
+      arith,
+      e,
+      sum_of_views f.namespaces.items,
+      used-empty,
+      used-all map_of.empty (file_view f).namespaces h.nsids (λ k d b. get-empty nat_cmp (get_or (file_view f).namespaces k d).nsid),
+    )

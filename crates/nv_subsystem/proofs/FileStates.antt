@@ -1,5 +1,5 @@
 -- The subsystem of a file is well formed.
-use Rattle.std.proofs.Common.{◌≡◌, ◌≢◌, ◌∙◌, ℕ, zero, suc, ◌≤◌, ◌==◌, ◌||◌, ℤ, pos, Bool, true, false, cond, List, [], ◌∷◌, map, length, get_or, Option, Some, None, is_some, refl, sym, ap, subst, arith, int_eq}
+use Rattle.std.proofs.Common.{◌≡◌, ◌≢◌, ◌∙◌, ℕ, zero, suc, ◌≤◌, ◌==◌, ◌||◌, ℤ, pos, Bool, true, false, cond, List, [], ◌∷◌, length, get_or, Option, Some, None, is_some, refl, sym, ap, subst, arith, int_eq}
 use Rattle.std.specs.Prelude.{All, AllPairs, if◌then◌else◌, count_by}
 use Rattle.std.specs.List.{fold, list_any}
 use Rattle.std.specs.Ordering.{nat_cmp}
@@ -8,7 +8,7 @@ use Rattle.std.specs.FinMap as map_of
 use Rattle.std.specs.FinMap.{get-empty}
 use Rattle.std.proofs.lemmas.Bool.{ne_eqb}
 use Rattle.std.proofs.lemmas.Bool.Decides.{Decides-int_eq, nat_tests}
-use Rattle.std.proofs.lemmas.List.{length-map, get_or-map}
+use Rattle.std.proofs.lemmas.List.{length-map}
 use Rattle.std.proofs.lemmas.List.Elements.{All-map, All-weaker}
 use Rattle.std.proofs.lemmas.List.Sums.{sum_by-cons}
 use Rattle.nv_file.specs.FileValue.{ControllerValue, FileValue, NamespaceValue, is_attached_to}
@@ -17,7 +17,9 @@ use Rattle.nv_file.specs.IsFile.{IsAttached, IsControllerEntry, IsFile, IsNamesp
 use Rattle.nv_subsystem.specs.State.{Namespaces, Nsids}
 use Rattle.nv_subsystem.specs.WellFormed.{IsController, IsNamespace, IsWellFormed}
 use Rattle.nv_file.specs.declared.namespace.Namespace.{Namespace}
-use Rattle.nv_subsystem.proofs.Capacities.{used-all, used-empty}
+use Rattle.nv_subsystem.specs.MappedLaws.{none_pass, pairs_map, untrue}
+use Rattle.nv_subsystem.specs.UsedLaws.{used-empty}
+use Rattle.nv_subsystem.proofs.Capacities.{used-all}
 
 -- the namespace of a file with an NSID
 entry_at : List NamespaceValue → ℕ → Option NamespaceValue
@@ -110,17 +112,6 @@ one_number (z ∷ y ∷ zs) a b h i j = absurd (omega arith)
 
 -- ---- at most one of them
 
-none_pass : {X : Type 0} (p : X → Bool) (xs : List X) → All (λ x. p x ≡ false) xs → count_by p xs ≡ 0
-none_pass p [] h = refl
-none_pass p (x ∷ xs) h =
-    let here : p x ≡ false = h zero x (omega arith) in
-    let one : ◌≡◌ {A = ℕ} (cond (p x) 1 0) 0 = ap (λ b. cond b 1 0) here in
-    omega (arith, sum_by-cons (λ x. cond (p x) 1 0) x xs, none_pass p xs (λ k d b. h (suc k) d (omega arith)), one)
-
-untrue : (b : Bool) → (b ≡ true → ⊥) → b ≡ false
-untrue true h = absurd (h refl)
-untrue false h = refl
-
 one_passes : {X : Type 0} (p : X → Bool) (xs : List X) → AllPairs (λ x y. p x ≡ true → p y ≡ true → ⊥) xs → count_by p xs ≤ 1
 one_passes p [] h = omega arith
 one_passes p (x ∷ xs) h = at_test (p x) refl (one_passes p xs (λ i j d a b. h (suc i) (suc j) d (omega arith) (omega arith)))
@@ -133,14 +124,6 @@ one_passes p (x ∷ xs) h = at_test (p x) refl (one_passes p xs (λ i j d a b. h
     at_test false e rest =
         let one : ◌≡◌ {A = ℕ} (cond (p x) 1 0) 0 = ap (λ b. cond b 1 0) e in
         omega (arith, sum_by-cons (λ x. cond (p x) 1 0) x xs, rest, one)
-
-pairs_map : {X Y : Type 0} (R : Y → Y → Type 0) (f : X → Y) (xs : List X) → AllPairs (λ a b. R (f a) (f b)) xs → AllPairs R (map f xs)
-pairs_map R f [] h i j d a b = absurd (omega arith)
-pairs_map R f (x ∷ xs) h i j d a b =
-    let len : length (map f (x ∷ xs)) ≡ length (x ∷ xs) = length-map (x ∷ xs) f in
-    let first = get_or-map f (x ∷ xs) i x d (omega arith) in
-    let second = get_or-map f (x ∷ xs) j x d (omega arith) in
-    subst (λ y. R y (get_or (map f (x ∷ xs)) j d)) (sym first) (subst (R (f (get_or (x ∷ xs) i x))) (sym second) (h i j x a (omega arith)))
 
 -- ---- the state
 

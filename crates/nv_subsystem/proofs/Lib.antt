@@ -1,6 +1,9 @@
 pub mod Filling
 pub mod WithController
 pub mod Capacities
+pub mod SoundLaws
+pub mod FreeNsid
+pub mod EachController
 pub mod FileStates
 pub mod FileCode
 pub mod NumbersAbove

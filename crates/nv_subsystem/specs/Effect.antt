@@ -1,7 +1,9 @@
 -- What an accepted command changes.
 use Rattle.std.specs.Prelude.{ℕ}
 use Rattle.nv_command.specs.declared.command.Command.{Command}
-use Rattle.nv_command.specs.declared.command.Command.TheVariants.{IdentifyNamespace, AllocatedNamespace, ActiveList, AllocatedList}
+use Rattle.nv_command.specs.declared.command.Command.TheVariants.{IdentifyNamespace, AllocatedNamespace, ActiveList, AllocatedList, Create, Delete, Attachment}
+use Rattle.nv_subsystem.specs.Attachment.{with_attachments}
+use Rattle.nv_subsystem.specs.Management.{created, deleted, wanted}
 use Rattle.nv_subsystem.specs.State.{State}
 
 abbrev pub effect_of : State → ℕ → Command → State
@@ -9,3 +11,6 @@ effect_of s c (IdentifyNamespace n) = s
 effect_of s c (AllocatedNamespace n) = s
 effect_of s c (ActiveList after) = s
 effect_of s c (AllocatedList after) = s
+effect_of s c (Create nsze ncap flbas dps nmic) = created s (wanted nsze ncap flbas dps nmic)
+effect_of s c (Delete n) = deleted s n
+effect_of s c (Attachment n detach ids) = with_attachments s n detach ids

@@ -11,7 +11,8 @@ use Rattle.nv_command.specs.declared.reply.Reply.TheVariants as reply
 use Rattle.nv_command.specs.declared.status_code.StatusCode.TheVariants.{InvalidNamespaceOrFormat}
 use Rattle.nv_subsystem.specs.Capacity.{blocks}
 use Rattle.nv_subsystem.specs.Nsid.{active_nsids, is_active, is_valid}
-use Rattle.nv_subsystem.specs.Row.{Row, row}
+use Rattle.nv_subsystem.specs.Row.{row}
+use Rattle.nv_subsystem.specs.declared.row.Row.{Row}
 use Rattle.nv_subsystem.specs.State.{State, allocated_nsids}
 use Rattle.nv_subsystem.specs.declared.identify.TheConstants.{LIST_LIMIT}
 use Rattle.nv_file.specs.declared.format.Format.{Format}

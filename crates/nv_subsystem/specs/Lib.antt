@@ -8,6 +8,8 @@ pub mod StateCode
 pub mod Capacity
 pub mod Nsid
 pub mod Identify
+pub mod Management
+pub mod Attachment
 pub mod Refusal
 pub mod Reply
 pub mod Effect
@@ -19,6 +21,10 @@ pub mod Fits
 pub mod FromFile
 pub mod Entry
 pub mod ChangedAtLaws
+pub mod UsedLaws
+pub mod MappedLaws
+pub mod ManagementLaws
+pub mod AttachmentLaws
 pub mod StepLaws
 pub mod IdentifyLaws
 pub mod ListLaws

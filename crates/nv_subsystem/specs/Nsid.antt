@@ -1,5 +1,6 @@
 -- The NSIDs of a subsystem.
-use Rattle.std.specs.Prelude.{ℕ, ◌&&◌, nat_le, List, [], Bool, false}
+use Rattle.std.specs.Prelude.{ℕ, ◌&&◌, not, nat_le, List, [], Bool, false, Option}
+use Rattle.std.specs.List.{find, range_with_len}
 use Rattle.std.specs.Option.{option_map_or}
 use Rattle.std.specs.FinMap as map_of
 use Rattle.nv_subsystem.specs.State.{State, controller_at, ascending}
@@ -14,3 +15,11 @@ active_nsids s c = option_map_or (λ x. ascending x.attached) (controller_at s c
 
 abbrev pub is_active : State → ℕ → ℕ → Bool
 is_active s c n = option_map_or (λ x. map_of.contains_key x.attached n) (controller_at s c) false
+
+-- an NSID that a namespace has
+abbrev pub is_allocated : State → ℕ → Bool
+is_allocated s n = map_of.contains_key s.namespaces n
+
+-- the least NSID that no namespace has
+abbrev pub free_nsid : State → Option ℕ
+free_nsid s = find (λ n. not (is_allocated s n)) (range_with_len 1 s.nn)

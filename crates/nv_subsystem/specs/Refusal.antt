@@ -1,10 +1,13 @@
 -- When a command is refused, and why.
 use Rattle.std.specs.Prelude.{ℕ, List, Option}
 use Rattle.nv_command.specs.declared.command.Command.{Command}
-use Rattle.nv_command.specs.declared.command.Command.TheVariants.{IdentifyNamespace, AllocatedNamespace, ActiveList, AllocatedList}
+use Rattle.nv_command.specs.declared.command.Command.TheVariants.{IdentifyNamespace, AllocatedNamespace, ActiveList, AllocatedList, Create, Delete, Attachment}
 use Rattle.nv_command.specs.declared.refusal.Refusal.{Refusal}
+use Rattle.nv_subsystem.specs.Attachment.{attachment_rows}
 use Rattle.nv_subsystem.specs.Identify.{active_rows, allocated_rows, list_rows}
-use Rattle.nv_subsystem.specs.Row.{Row, first_refusal}
+use Rattle.nv_subsystem.specs.Management.{create_rows, delete_rows, wanted}
+use Rattle.nv_subsystem.specs.Row.{first_refusal}
+use Rattle.nv_subsystem.specs.declared.row.Row.{Row}
 use Rattle.nv_subsystem.specs.State.{State}
 
 -- the rows of a command of controller c
@@ -13,6 +16,9 @@ rows_of s c (IdentifyNamespace n) = active_rows s n
 rows_of s c (AllocatedNamespace n) = allocated_rows s n
 rows_of s c (ActiveList after) = list_rows after
 rows_of s c (AllocatedList after) = list_rows after
+rows_of s c (Create nsze ncap flbas dps nmic) = create_rows s (wanted nsze ncap flbas dps nmic)
+rows_of s c (Delete n) = delete_rows s n
+rows_of s c (Attachment n detach ids) = attachment_rows s n detach ids
 
 abbrev pub refusal_of : State → ℕ → Command → Option Refusal
 refusal_of s c k = first_refusal (rows_of s c k)

@@ -1,9 +1,11 @@
 -- What an accepted command is answered.
 use Rattle.std.specs.Prelude.{ℕ}
 use Rattle.nv_command.specs.declared.command.Command.{Command}
-use Rattle.nv_command.specs.declared.command.Command.TheVariants.{IdentifyNamespace, AllocatedNamespace, ActiveList, AllocatedList}
+use Rattle.nv_command.specs.declared.command.Command.TheVariants.{IdentifyNamespace, AllocatedNamespace, ActiveList, AllocatedList, Create, Delete, Attachment}
 use Rattle.nv_command.specs.declared.reply.Reply.{Reply}
 use Rattle.nv_subsystem.specs.Identify.{active_list_reply, active_reply, allocated_list_reply, allocated_reply}
+use Rattle.nv_command.specs.declared.reply.Reply.TheVariants as reply
+use Rattle.nv_subsystem.specs.Management.{created_nsid}
 use Rattle.nv_subsystem.specs.State.{State}
 
 abbrev pub reply_of : State → ℕ → Command → Reply
@@ -11,3 +13,6 @@ reply_of s c (IdentifyNamespace n) = active_reply s c n
 reply_of s c (AllocatedNamespace n) = allocated_reply s n
 reply_of s c (ActiveList after) = active_list_reply s c after
 reply_of s c (AllocatedList after) = allocated_list_reply s after
+reply_of s c (Create nsze ncap flbas dps nmic) = reply.Number (created_nsid s)
+reply_of s c (Delete n) = reply.Done
+reply_of s c (Attachment n detach ids) = reply.Done

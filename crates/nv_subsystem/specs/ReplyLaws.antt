@@ -10,10 +10,11 @@ use Rattle.nv_command.specs.declared.command.TheConstants.{BROADCAST_NSID}
 use Rattle.nv_subsystem.specs.Fits.{RepliesFit}
 use Rattle.nv_subsystem.specs.Identify.{blank, id_ns_of}
 use Rattle.nv_bits.specs.Numbers.{above}
+use Rattle.nv_subsystem.specs.ManagementLaws.{created_nsid_fits}
 use Rattle.nv_subsystem.specs.Nsid.{is_active}
 use Rattle.nv_subsystem.specs.State.{Controller, State, ascending, controller_at}
 use Rattle.nv_subsystem.specs.WellFormed.{IsController, IsWellFormed}
-use Rattle.nv_command.specs.declared.command.Command.TheVariants.{IdentifyNamespace, AllocatedNamespace, ActiveList, AllocatedList}
+use Rattle.nv_command.specs.declared.command.Command.TheVariants.{IdentifyNamespace, AllocatedNamespace, ActiveList, AllocatedList, Create, Delete, Attachment}
 use Rattle.nv_file.specs.declared.namespace.Namespace.{Namespace}
 use Rattle.nv_subsystem.specs.IdentifyLaws.{blank_fits, common_fits, id_ns_fits}
 use Rattle.nv_subsystem.specs.InFormatLaws.{capacity_fits, format_below}
@@ -55,3 +56,6 @@ reply_fits s c (AllocatedList after) w = record {
   is_reply = tt;
   fits = keys_fit after s.nn s.namespaces w.keys.nn.1 (λ n t. inside s w n (map_of.get s.namespaces n) refl t);
 }
+reply_fits s c (Create nsze ncap flbas dps nmic) w = record { is_reply = tt; fits = created_nsid_fits s w.keys.nn.1 }
+reply_fits s c (Delete n) w = record { is_reply = tt; fits = tt }
+reply_fits s c (Attachment n detach ids) w = record { is_reply = tt; fits = tt }

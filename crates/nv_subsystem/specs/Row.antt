@@ -3,11 +3,7 @@ use Rattle.std.specs.Prelude.{◌≡◌, Bool, List, [], ◌∷◌, Option, Some
 use Rattle.nv_command.specs.Refusal.{refusal_by}
 use Rattle.nv_command.specs.declared.refusal.Refusal.{Refusal}
 use Rattle.nv_command.specs.declared.status_code.StatusCode.{StatusCode}
-
--- when a command is refused, and why
-pub record Row : Type 0 where
-  pub when : Bool
-  pub refusal : Refusal
+use Rattle.nv_subsystem.specs.declared.row.Row.{Row}
 
 -- a row with nothing specific to its command
 abbrev pub row : Bool → StatusCode → Row

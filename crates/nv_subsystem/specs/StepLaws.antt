@@ -11,16 +11,20 @@ use Rattle.nv_subsystem.specs.declared.controller.TheConstants.{GREATEST_COUNT}
 use Rattle.nv_subsystem.specs.Step.{next_count, refused, step, step_by, with_command, with_controller, with_refusal}
 use Rattle.nv_subsystem.specs.Effect.{effect_of}
 use Rattle.nv_subsystem.specs.Refusal.{refusal_of, rows_of}
-use Rattle.nv_subsystem.specs.Row.{Row, first_refusal}
+use Rattle.nv_subsystem.specs.Row.{first_refusal}
+use Rattle.nv_subsystem.specs.declared.row.Row.{Row}
 use Rattle.nv_command.specs.Command.{namespace_of}
 use Rattle.nv_command.specs.Refusal.{IsRefusal}
 use Rattle.nv_command.specs.RefusalLaws.{is_refusal-refusal_by}
 use Rattle.nv_subsystem.specs.WellFormed.{IsController, IsLogEntry, IsWellFormed}
 use Rattle.nv_command.specs.declared.command.Command.{Command}
-use Rattle.nv_command.specs.declared.command.Command.TheVariants.{IdentifyNamespace, AllocatedNamespace, ActiveList, AllocatedList}
+use Rattle.nv_command.specs.declared.command.Command.TheVariants.{IdentifyNamespace, AllocatedNamespace, ActiveList, AllocatedList, Create, Delete, Attachment}
 use Rattle.nv_command.specs.declared.status_code.StatusCode.TheVariants.{InvalidNamespaceOrFormat}
 use Rattle.nv_command.specs.declared.refusal.Refusal.{Refusal}
 use Rattle.nv_subsystem.specs.declared.error_log.LogEntry.{LogEntry}
+use Rattle.nv_subsystem.specs.AttachmentLaws.{attachment_controllers, attachment_keeps, attachment_rows_fit}
+use Rattle.nv_subsystem.specs.Management.{wanted}
+use Rattle.nv_subsystem.specs.ManagementLaws.{create_keeps, create_rows_fit, created_controllers, delete_keeps, delete_rows_fit, deleted_controllers}
 use Rattle.nv_subsystem.specs.ChangedAtLaws.{All-changed_at, count_by-changed_at, each_place, length-changed_at}
 
 -- what a command keeps of each controller
@@ -102,6 +106,9 @@ rows_fit s c (IdentifyNamespace n) = (is_refusal-refusal_by InvalidNamespaceOrFo
 rows_fit s c (AllocatedNamespace n) = (is_refusal-refusal_by InvalidNamespaceOrFormat, tt)
 rows_fit s c (ActiveList after) = (is_refusal-refusal_by InvalidNamespaceOrFormat, tt)
 rows_fit s c (AllocatedList after) = (is_refusal-refusal_by InvalidNamespaceOrFormat, tt)
+rows_fit s c (Create nsze ncap flbas dps nmic) = create_rows_fit s (wanted nsze ncap flbas dps nmic)
+rows_fit s c (Delete n) = delete_rows_fit s n
+rows_fit s c (Attachment n detach ids) = attachment_rows_fit s n detach ids
 
 chosen_fits : (b : Bool) (first r : Refusal) (later : Option Refusal) → IsRefusal first → (later ≡ Some r → IsRefusal r)
     → (if b then Some first else later) ≡ Some r → IsRefusal r
@@ -116,24 +123,30 @@ pub refusal_fits : (s : State) (c : ℕ) (k : Command) (r : Refusal) → refusal
 refusal_fits s c k r e = first_fits (rows_of s c k) r (rows_fit s c k) e
 
 -- what an accepted command changes keeps well-formedness, and makes and takes no controller
-pub effect_keeps : (s : State) (c : ℕ) (k : Command) → IsWellFormed s → IsWellFormed (effect_of s c k)
-effect_keeps s c (IdentifyNamespace n) w = w
-effect_keeps s c (AllocatedNamespace n) w = w
-effect_keeps s c (ActiveList after) w = w
-effect_keeps s c (AllocatedList after) w = w
+pub effect_keeps : (s : State) (c : ℕ) (k : Command) → refusal_of s c k ≡ None → IsWellFormed s → IsWellFormed (effect_of s c k)
+effect_keeps s c (IdentifyNamespace n) accepted w = w
+effect_keeps s c (AllocatedNamespace n) accepted w = w
+effect_keeps s c (ActiveList after) accepted w = w
+effect_keeps s c (AllocatedList after) accepted w = w
+effect_keeps s c (Create nsze ncap flbas dps nmic) accepted w = create_keeps s (wanted nsze ncap flbas dps nmic) w accepted
+effect_keeps s c (Delete n) accepted w = delete_keeps s n w
+effect_keeps s c (Attachment n detach ids) accepted w = attachment_keeps s n detach ids w accepted
 
 pub effect_controllers : (s : State) (c : ℕ) (k : Command) → length (effect_of s c k).controllers ≡ length s.controllers
 effect_controllers s c (IdentifyNamespace n) = refl
 effect_controllers s c (AllocatedNamespace n) = refl
 effect_controllers s c (ActiveList after) = refl
 effect_controllers s c (AllocatedList after) = refl
+effect_controllers s c (Create nsze ncap flbas dps nmic) = created_controllers s (wanted nsze ncap flbas dps nmic)
+effect_controllers s c (Delete n) = deleted_controllers s n
+effect_controllers s c (Attachment n detach ids) = attachment_controllers s n detach ids
 
-step_by_keeps : (o : Option Refusal) (s : State) (c : ℕ) (k : Command) (cid : ℕ) → ((r : Refusal) → o ≡ Some r → IsRefusal r) → namespace_of k < 2 ^ 32 → cid < 2 ^ 16 → IsWellFormed s → IsWellFormed (step_by o s c k cid).state
-step_by_keeps None s c k cid fits a b w = with_command_keeps (effect_of s c k) c (effect_keeps s c k w)
-step_by_keeps (Some r) s c k cid fits a b w = refused_keeps s c (namespace_of k) cid r a b (fits r refl) w
+step_by_keeps : (o : Option Refusal) (s : State) (c : ℕ) (k : Command) (cid : ℕ) → refusal_of s c k ≡ o → ((r : Refusal) → o ≡ Some r → IsRefusal r) → namespace_of k < 2 ^ 32 → cid < 2 ^ 16 → IsWellFormed s → IsWellFormed (step_by o s c k cid).state
+step_by_keeps None s c k cid is fits a b w = with_command_keeps (effect_of s c k) c (effect_keeps s c k is w)
+step_by_keeps (Some r) s c k cid is fits a b w = refused_keeps s c (namespace_of k) cid r a b (fits r refl) w
 
 pub step_keeps : (s : State) (c : ℕ) (k : Command) (cid : ℕ) → namespace_of k < 2 ^ 32 → cid < 2 ^ 16 → IsWellFormed s → IsWellFormed (step s c k cid).state
-step_keeps s c k cid a b w = step_by_keeps (refusal_of s c k) s c k cid (refusal_fits s c k) a b w
+step_keeps s c k cid a b w = step_by_keeps (refusal_of s c k) s c k cid refl (refusal_fits s c k) a b w
 
 -- no command makes or takes a controller
 step_by_controllers : (o : Option Refusal) (s : State) (c : ℕ) (k : Command) (cid : ℕ) → length (step_by o s c k cid).state.controllers ≡ length s.controllers

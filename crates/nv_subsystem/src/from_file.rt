@@ -1,6 +1,6 @@
 //! The subsystem that a file gives.
 
-ghost use Rattle.std.specs.Prelude.{◌≡◌, ◌≤◌, IfOk, IfErr, map, All};
+ghost use Rattle.std.specs.Prelude.{◌≡◌, ◌≤◌, ◌+◌, IfOk, IfErr, map, sum_by, All};
 ghost use Rattle.std.specs.List.{fold};
 ghost use Rattle.std.specs.FinMap as map_of;
 ghost use Rattle.nv_bits.specs.Numbers.{IsOf};
@@ -14,6 +14,15 @@ use crate::error_log::ErrorLog;
 use nv_bits::{BitSet, Slots};
 use nv_file::{ControllerEntry, Namespace, NamespaceEntry, SubsystemError};
 use std::alloc::Global;
+
+/// The bytes of capacity that the namespaces of a file leave.
+pub fn unallocated(tnvmcap: u64, entries: &[NamespaceEntry]) -> u64
+    requires { sum_by (λ n. n.namespace.capacity) entries.now ≤ tnvmcap }
+    ensures { result + sum_by (λ n. n.namespace.capacity) entries.now ≡ tnvmcap }
+{
+    let used: u64 = entries.iter().map(|entry| entry.namespace.capacity).sum();
+    tnvmcap - used
+}
 
 /// Puts each namespace into its slot.
 fn fill(slots: &mut Slots<Namespace>, entries: &[NamespaceEntry])

@@ -1,11 +1,14 @@
 //! An NVM subsystem: its file, its namespaces, and what each command does to it.
 #![tactic(auto)]
 
+mod attachment;
+mod capacity;
 mod controller;
 mod error_log;
 mod from_file;
 mod identify;
 mod listing;
+mod management;
 mod origin;
 mod row;
 mod subsystem;

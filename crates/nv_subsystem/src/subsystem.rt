@@ -1,6 +1,6 @@
 //! A subsystem, and what its commands do.
 
-ghost use Rattle.std.specs.Prelude.{◌≡◌, ◌<◌, ◌^◌, ℕ, length, option_map, IfOk, IfErr};
+ghost use Rattle.std.specs.Prelude.{◌≡◌, ◌<◌, ◌^◌, ℕ, length, option_map, None, IfOk, IfErr};
 ghost use Rattle.nv_subsystem.specs.Entry.{counts_of, log_entry_of, without_phase};
 ghost use Rattle.nv_file.specs.Fault.{IsUnlessMemory};
 ghost use Rattle.nv_file.specs.FileValue.{file_view};
@@ -9,7 +9,7 @@ ghost use Rattle.nv_file.specs.IsFile.{IsFile};
 ghost use Rattle.nv_subsystem.specs.Effect.{effect_of};
 ghost use Rattle.nv_subsystem.specs.Fits.{RepliesFit};
 ghost use Rattle.nv_subsystem.specs.Nsid.{is_valid};
-ghost use Rattle.nv_subsystem.specs.Refusal.{rows_of};
+ghost use Rattle.nv_subsystem.specs.Refusal.{refusal_of, rows_of};
 ghost use Rattle.nv_subsystem.specs.Reply.{reply_of};
 ghost use Rattle.nv_subsystem.specs.Row.{Checks};
 ghost use Rattle.nv_subsystem.specs.Step.{answer_to, refused, step, with_command};
@@ -17,8 +17,9 @@ ghost use Rattle.nv_subsystem.specs.WellFormed.{IsWellFormed};
 ghost use Rattle.nv_command.specs.Refusal.{IsRefusal};
 
 use crate::controller::Controller;
-use crate::from_file::{controllers, slots};
+use crate::from_file::{controllers, slots, unallocated};
 use crate::identify::check_list;
+use crate::management::NewNamespace;
 use crate::origin::Origin;
 use nv_bits::Slots;
 use nv_command::{Command, Refusal, Reply};
@@ -31,6 +32,8 @@ use std::marker::Model;
 #[derive(Drop)]
 pub struct Subsystem {
     pub(crate) tnvmcap: u64,
+    /// The bytes of capacity that no namespace has.
+    pub(crate) unallocated: u64,
     pub(crate) mc: u8,
     pub(crate) subnqn: String,
     pub(crate) formats: Vec<Format>,
@@ -40,7 +43,7 @@ pub struct Subsystem {
 }
 
 impl Model for Subsystem {
-    ghost use Rattle.std.specs.Prelude.{map, string_bytes};
+    ghost use Rattle.std.specs.Prelude.{◌≡◌, ◌+◌, map, string_bytes};
     ghost use Rattle.nv_subsystem.specs.State.{State};
     ghost use Rattle.nv_subsystem.specs.StateCode.{state_code};
 
@@ -48,6 +51,7 @@ impl Model for Subsystem {
 
     ghost coded = { state_code };
 
+    ghost use Rattle.nv_subsystem.specs.Capacity.{used};
     ghost use Rattle.nv_subsystem.specs.ControllerView.{controller_view};
     ghost use Rattle.nv_subsystem.specs.Sound.{IsSound};
 
@@ -61,7 +65,9 @@ impl Model for Subsystem {
       namespaces = s.slots.values;
     } };
 
-    ghost invariant = { λ s. IsSound s.slots s.formats.items s.controllers.items };
+    ghost invariant = { λ s.
+        IsSound s.slots s.formats.items s.controllers.items
+        × (s.unallocated + used s.slots.values ≡ s.tnvmcap) };
 }
 
 impl Subsystem {
@@ -71,10 +77,12 @@ impl Subsystem {
         ensures state { IfOk result (λ s. s ≡ state_of (file_view file)) }
         ensures memory { IfErr result (λ e. e ≡ SubsystemError.Memory) }
     {
+        let unallocated = unallocated(file.tnvmcap, &file.namespaces);
         let slots = slots(alloc, file.nn, &file.namespaces)?;
         let controllers = controllers(alloc, file.nn, file.controllers, &file.namespaces)?;
         Ok(Subsystem {
             tnvmcap: file.tnvmcap,
+            unallocated,
             mc: file.mc,
             subnqn: file.subnqn,
             formats: file.formats,
@@ -137,6 +145,17 @@ impl Subsystem {
             Command::AllocatedNamespace { nsid } => self.check_allocated(*nsid),
             Command::ActiveList { after } => check_list(*after),
             Command::AllocatedList { after } => check_list(*after),
+            Command::Create {
+                nsze,
+                ncap,
+                flbas,
+                dps,
+                nmic,
+            } => self.check_create(&NewNamespace::new(*nsze, *ncap, *flbas, *dps, *nmic)),
+            Command::Delete { nsid } => self.check_delete(*nsid),
+            Command::Attachment { nsid, detach, list } => {
+                self.check_attachment(*nsid, *detach, list.as_slice())
+            }
         }
     }
 
@@ -150,11 +169,15 @@ impl Subsystem {
             Command::AllocatedNamespace { nsid } => self.allocated_reply(*nsid),
             Command::ActiveList { after } => self.active_list_reply(ctrl, *after),
             Command::AllocatedList { after } => self.allocated_list_reply(*after),
+            Command::Create { .. } => Reply::Number(self.created_nsid()),
+            Command::Delete { nsid: _ } => Reply::Done,
+            Command::Attachment { .. } => Reply::Done,
         }
     }
 
     /// What a command that isn't refused changes.
     fn apply(&mut self, ctrl: u16, command: &Command)
+        requires { refusal_of self.old ctrl command.now ≡ None }
         ensures { self.new ≡ effect_of self.old ctrl command.now }
     {
         match command {
@@ -162,6 +185,17 @@ impl Subsystem {
             Command::AllocatedNamespace { nsid: _ } => {}
             Command::ActiveList { after: _ } => {}
             Command::AllocatedList { after: _ } => {}
+            Command::Create {
+                nsze,
+                ncap,
+                flbas,
+                dps,
+                nmic,
+            } => self.create(&NewNamespace::new(*nsze, *ncap, *flbas, *dps, *nmic)),
+            Command::Delete { nsid } => self.delete(*nsid),
+            Command::Attachment { nsid, detach, list } => {
+                self.change_attachment(*nsid, *detach, list.as_slice());
+            }
         }
     }
 

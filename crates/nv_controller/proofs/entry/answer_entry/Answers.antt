@@ -1,11 +1,12 @@
 use Rattle.nv_subsystem.specs.ChangedAtLaws.{length-changed_at}
 use Rattle.nv_subsystem.specs.StepLaws.{step_controllers}
-use Rattle.nv_controller.proofs.EntryLaws.{reply_page}
+use Rattle.nv_controller.proofs.EntryLaws.{reply_places}
 use Rattle.nv_controller.proofs.entry.answer_entry.Goals as goal
 
-pub returns-in-Ok-execute-clause-page : goal.returns-in-Ok-execute-clause-page
-returns-in-Ok-execute-clause-page g c =
-    reply_page c.args.subsystem.now c.args.ctrl c.in-Ok.command c.in-Ok-execute.reply c.requires.well_formed c.in-Ok-execute.ensures.answer
+pub returns-in-Ok-execute-clause-room : goal.returns-in-Ok-execute-clause-room
+returns-in-Ok-execute-clause-room g c =
+    reply_places c.args.subsystem.now c.args.ctrl c.in-Ok.command c.in-Ok-execute.reply _
+    c.requires.well_formed c.in-Ok-execute.ensures.answer c.in-Ok.ensures.len
 
 pub returns-in-Ok-execute-clause-controllers : goal.returns-in-Ok-execute-clause-controllers
 returns-in-Ok-execute-clause-controllers g c =

@@ -1,0 +1,91 @@
+-- Slots and the running total, when a namespace comes or goes.
+use Rattle.std.proofs.Common.{◌≡◌, ◌∙◌, ℕ, ◌+◌, ◌-◌, ◌==◌, ◌<◌, ◌≤◌, Bool, true, false, cond, List, length, Option, Some, None, is_some, refl, sym, ap, arith}
+use Rattle.std.specs.Prelude.{All}
+use Rattle.std.specs.FinMap as map_of
+use Rattle.std.specs.FinMap.{get-empty}
+use Rattle.std.specs.Ordering.{nat_cmp}
+use Rattle.nv_bits.specs.NumberLaws.{get_of_insert, get_of_remove, remove_absent}
+use Rattle.nv_bits.specs.Slots.{RangeMap}
+use Rattle.nv_file.specs.declared.format.Format.{Format}
+use Rattle.nv_file.specs.declared.namespace.Namespace.{Namespace}
+use Rattle.nv_subsystem.specs.Capacity.{used}
+use Rattle.nv_subsystem.specs.ManagementLaws.{left}
+use Rattle.nv_subsystem.specs.Sound.{IsSized, IsSound}
+use Rattle.nv_subsystem.specs.UsedLaws.{used-empty, used-insert, used-remove}
+use Rattle.nv_subsystem.specs.declared.controller.Controller.{Controller}
+
+abbrev AddsUp : RangeMap Namespace → List Format → List Controller → ℕ → ℕ → Type 0
+AddsUp m fs cs unallocated tnvmcap = IsSound m fs cs × (unallocated + used m.values ≡ tnvmcap)
+
+none_of : (o : Option Namespace) → is_some o ≡ false → o ≡ None
+none_of None e = refl
+none_of (Some x) e = absurd (cc e)
+
+module _ (m : RangeMap Namespace) (fs : List Format) (cs : List Controller) (unallocated tnvmcap : ℕ) (is : AddsUp m fs cs unallocated tnvmcap) (n : ℕ) where
+  pub sound-insert : (x : Namespace) → map_of.contains_key m.values n ≡ false → x.capacity ≤ unallocated → x.format < 16 → AddsUp (record m { values = map_of.insert m.values n x }) fs cs (unallocated - x.capacity) tnvmcap
+  sound-insert x free room small = (
+    record {
+      first = is.0.first;
+      count = is.0.count;
+      formats = is.0.formats;
+      block_sizes = is.0.block_sizes;
+      few = is.0.few;
+      controllers = is.0.controllers;
+      in_formats = λ q y e. at_test q y (q == n) (sym (get_of_insert m.values n x q) ∙ e);
+    },
+    omega (arith, is.1, used-insert m.values n x (none_of (map_of.get m.values n) free)),
+  )
+    where
+      at_test : (q : ℕ) (y : Namespace) (b : Bool) → cond b (Some x) (map_of.get m.values q) ≡ Some y → y.format < 16
+      at_test q y true e = let same : x ≡ y = cc e in omega (arith, ap (λ z. z.format) same)
+      at_test q y false e = is.0.in_formats q y e
+
+  sound-without : (total : ℕ) → total + used (map_of.remove m.values n) ≡ tnvmcap → AddsUp (record m { values = map_of.remove m.values n }) fs cs total tnvmcap
+  sound-without total adds = (
+    record {
+      first = is.0.first;
+      count = is.0.count;
+      formats = is.0.formats;
+      block_sizes = is.0.block_sizes;
+      few = is.0.few;
+      controllers = is.0.controllers;
+      in_formats = λ q y e. is.0.in_formats q y (sym (ap (λ b. cond b None (map_of.get m.values q)) (left m.values n q (ap is_some e)).0) ∙ sym (get_of_remove m.values n q) ∙ e);
+    },
+    adds,
+  )
+
+  pub sound-remove : (x : Namespace) → map_of.get m.values n ≡ Some x → AddsUp (record m { values = map_of.remove m.values n }) fs cs (unallocated + x.capacity) tnvmcap
+  sound-remove x e = sound-without (unallocated + x.capacity) (omega (arith, is.1, used-remove m.values n x e))
+
+  pub sound-absent : map_of.get m.values n ≡ None → AddsUp (record m { values = map_of.remove m.values n }) fs cs unallocated tnvmcap
+  sound-absent e = sound-without unallocated (omega (arith, is.1, ap used (remove_absent m.values n (ap is_some e))))
+
+pub sound-clear : (m : RangeMap Namespace) (fs : List Format) (cs : List Controller) (unallocated tnvmcap : ℕ) → AddsUp m fs cs unallocated tnvmcap → AddsUp (record m { values = map_of.empty }) fs cs tnvmcap tnvmcap
+sound-clear m fs cs unallocated tnvmcap is = (
+  record {
+    first = is.0.first;
+    count = is.0.count;
+    formats = is.0.formats;
+    block_sizes = is.0.block_sizes;
+    few = is.0.few;
+    controllers = is.0.controllers;
+    in_formats = λ q y e. let both : None ≡ Some y = sym (get-empty nat_cmp q) ∙ e in absurd (cc both);
+  },
+  omega (arith, used-empty),
+)
+
+-- controllers that keep their sizes
+pub sound-controllers : (m : RangeMap Namespace) (fs : List Format) (old new : List Controller) (unallocated tnvmcap : ℕ) → AddsUp m fs old unallocated tnvmcap
+    → length new ≡ length old → All (IsSized m.count) new → AddsUp m fs new unallocated tnvmcap
+sound-controllers m fs old new unallocated tnvmcap is len sized = (
+  record {
+    first = is.0.first;
+    count = is.0.count;
+    formats = is.0.formats;
+    block_sizes = is.0.block_sizes;
+    in_formats = is.0.in_formats;
+    few = omega (arith, is.0.few);
+    controllers = sized;
+  },
+  is.1,
+)

@@ -1,0 +1,81 @@
+-- Namespace Attachment: when an attach or a detach is refused, and what it changes.
+use Rattle.std.specs.Prelude.{ℕ, ◌==◌, ◌&&◌, ◌||◌, not, nat_lt, Bool, false, List, [], ◌∷◌, drop, length, count_by, if◌then◌else◌}
+use Rattle.std.specs.List.{list_all, list_any, zip}
+use Rattle.std.specs.Option.{option_map_or}
+use Rattle.std.specs.FinMap as map_of
+use Rattle.nv_command.specs.declared.status_code.StatusCode.TheVariants.{ControllerListInvalid, InvalidFieldInCommand, InvalidNamespaceOrFormat, NamespaceAlreadyAttached, NamespaceIsPrivate, NamespaceNotAttached}
+use Rattle.nv_subsystem.specs.Management.{with_attached}
+use Rattle.nv_subsystem.specs.Nsid.{is_allocated, is_valid}
+use Rattle.nv_subsystem.specs.Row.{row}
+use Rattle.nv_subsystem.specs.State.{Controller, State}
+use Rattle.nv_subsystem.specs.declared.row.Row.{Row}
+
+-- ---- the list of controller identifiers
+
+-- the list names the controller
+abbrev pub is_listed : List ℕ → Controller → Bool
+is_listed ids x = list_any (λ id. id == x.identity.cntlid) ids
+
+-- each number is below the next one
+abbrev pub is_ascending : List ℕ → Bool
+is_ascending ids = list_all (λ p. nat_lt p.0 p.1) (zip ids (drop 1 ids))
+
+-- a controller of the subsystem has the identifier
+abbrev pub is_known : State → ℕ → Bool
+is_known s id = list_any (λ x. id == x.identity.cntlid) s.controllers
+
+-- it names some controllers of the subsystem, in ascending order
+abbrev pub is_list_of : State → List ℕ → Bool
+is_list_of s ids = not (length ids == 0) && is_ascending ids && list_all (is_known s) ids
+
+-- ---- rows
+
+abbrev pub has_attached : ℕ → Controller → Bool
+has_attached n x = map_of.contains_key x.attached n
+
+-- a namespace that one controller at most may have attached
+abbrev pub is_private : State → ℕ → Bool
+is_private s n = option_map_or (λ x. not x.shared) (map_of.get s.namespaces n) false
+
+-- what an attach and a detach have in common
+abbrev pub rows_and : State → ℕ → List ℕ → List Row → List Row
+rows_and s n ids rows =
+    row (not (is_valid s n)) InvalidNamespaceOrFormat
+    ∷ row (not (is_allocated s n)) InvalidFieldInCommand
+    ∷ row (not (is_list_of s ids)) ControllerListInvalid
+    ∷ rows
+
+-- the controllers that would have the namespace attached
+abbrev pub would_have : ℕ → List ℕ → Controller → Bool
+would_have n ids x = has_attached n x || is_listed ids x
+
+abbrev pub attach_rows : State → ℕ → List ℕ → List Row
+attach_rows s n ids =
+    rows_and s n ids
+    (row (list_any (λ x. is_listed ids x && has_attached n x) s.controllers) NamespaceAlreadyAttached
+    ∷ row (is_private s n && nat_lt 1 (count_by (would_have n ids) s.controllers)) NamespaceIsPrivate
+    ∷ [])
+
+abbrev pub detach_rows : State → ℕ → List ℕ → List Row
+detach_rows s n ids =
+    rows_and s n ids
+    (row (list_any (λ x. is_listed ids x && not (has_attached n x)) s.controllers) NamespaceNotAttached
+    ∷ [])
+
+abbrev pub attachment_rows : State → ℕ → Bool → List ℕ → List Row
+attachment_rows s n detach ids = if detach then detach_rows s n ids else attach_rows s n ids
+
+-- ---- effects
+
+-- all listed controllers have the namespace attached
+abbrev pub attached : State → ℕ → List ℕ → State
+attached s n ids =
+    with_attached s (λ x. if is_listed ids x then map_of.insert x.attached n tt else x.attached)
+
+-- none of the listed controllers has it attached
+abbrev pub detached : State → ℕ → List ℕ → State
+detached s n ids =
+    with_attached s (λ x. if is_listed ids x then map_of.remove x.attached n else x.attached)
+
+abbrev pub with_attachments : State → ℕ → Bool → List ℕ → State
+with_attachments s n detach ids = if detach then detached s n ids else attached s n ids

@@ -1,0 +1,54 @@
+-- Lists that are mapped, and counts of what passes a test.
+use Rattle.std.proofs.Common.{◌≡◌, ℕ, zero, suc, ◌≤◌, Bool, true, false, cond, List, [], ◌∷◌, map, length, get_or, refl, sym, ap, subst, arith, ◌<◌, ◌||◌, ◌++◌, take, drop, set}
+use Rattle.std.specs.Prelude.{All, AllPairs, count_by}
+use Rattle.std.specs.List.{list_any}
+use Rattle.std.proofs.lemmas.List.{length-map, get_or-map}
+use Rattle.std.proofs.lemmas.List.Sums.{sum_by-cons}
+
+pub none_pass : {X : Type 0} (p : X → Bool) (xs : List X) → All (λ x. p x ≡ false) xs → count_by p xs ≡ 0
+none_pass p [] h = refl
+none_pass p (x ∷ xs) h =
+    let here : p x ≡ false = h zero x (omega arith) in
+    let one : ◌≡◌ {A = ℕ} (cond (p x) 1 0) 0 = ap (λ b. cond b 1 0) here in
+    omega (arith, sum_by-cons (λ x. cond (p x) 1 0) x xs, none_pass p xs (λ k d b. h (suc k) d (omega arith)), one)
+
+pub untrue : (b : Bool) → (b ≡ true → ⊥) → b ≡ false
+untrue true h = absurd (h refl)
+untrue false h = refl
+
+pub pairs_map : {X Y : Type 0} (R : Y → Y → Type 0) (f : X → Y) (xs : List X) → AllPairs (λ a b. R (f a) (f b)) xs → AllPairs R (map f xs)
+pairs_map R f [] h i j d a b = absurd (omega arith)
+pairs_map R f (x ∷ xs) h i j d a b =
+    let len : length (map f (x ∷ xs)) ≡ length (x ∷ xs) = length-map (x ∷ xs) f in
+    let first = get_or-map f (x ∷ xs) i x d (omega arith) in
+    let second = get_or-map f (x ∷ xs) j x d (omega arith) in
+    subst (λ y. R y (get_or (map f (x ∷ xs)) j d)) (sym first) (subst (R (f (get_or (x ∷ xs) i x))) (sym second) (h i j x a (omega arith)))
+
+-- a count over a mapped list
+pub count_by-map : {X Y : Type 0} (p : Y → Bool) (f : X → Y) (q : X → Bool) → ((x : X) → p (f x) ≡ q x) → (xs : List X) → count_by p (map f xs) ≡ count_by q xs
+count_by-map p f q same [] = refl
+count_by-map p f q same (x ∷ xs) =
+    let one : ◌≡◌ {A = ℕ} (cond (p (f x)) 1 0) (cond (q x) 1 0) = ap (λ b. cond b 1 0) (same x) in
+    omega (arith, one, count_by-map p f q same xs, sum_by-cons (λ y. cond (p y) 1 0) (f x) (map f xs), sum_by-cons (λ x. cond (q x) 1 0) x xs)
+
+no_more : (a b : Bool) → (a ≡ true → b ≡ true) → cond a 1 0 ≤ cond b 1 0
+no_more true b h = let e = h refl in rw e (omega arith)
+no_more false b h = omega arith
+
+-- where fewer of the mapped ones pass
+pub count_by-map_le : {X Y : Type 0} (p : Y → Bool) (f : X → Y) (q : X → Bool) → ((x : X) → p (f x) ≡ true → q x ≡ true) → (xs : List X) → count_by p (map f xs) ≤ count_by q xs
+count_by-map_le p f q fewer [] = omega arith
+count_by-map_le p f q fewer (x ∷ xs) =
+    omega (arith, no_more (p (f x)) (q x) (fewer x), count_by-map_le p f q fewer xs, sum_by-cons (λ y. cond (p y) 1 0) (f x) (map f xs), sum_by-cons (λ x. cond (q x) 1 0) x xs)
+
+-- a test of a mapped list
+pub list_any-map : {X Y : Type 0} (p : Y → Bool) (f : X → Y) (xs : List X) → list_any p (map f xs) ≡ list_any (λ x. p (f x)) xs
+list_any-map p f [] = refl
+list_any-map p f (x ∷ xs) = ap (λ b. p (f x) || b) (list_any-map p f xs)
+
+-- a list that is written over, element by element, with what f makes of each
+pub next_mapped : {X Y : Type 0} (view : X → Y) (f : Y → Y) (xs : List X) (i : ℕ) (y d : X) → i < length xs → view y ≡ f (view (get_or xs i d))
+    → take (suc i) (map view (set xs i y)) ++ map f (drop (suc i) (map view (set xs i y))) ≡ take i (map view xs) ++ map f (drop i (map view xs))
+next_mapped view f [] i y d h e = absurd (omega arith)
+next_mapped view f (x ∷ xs) zero y d h e = ap (λ v. v ∷ map f (map view xs)) e
+next_mapped view f (x ∷ xs) (suc i) y d h e = ap (λ t. view x ∷ t) (next_mapped view f xs i y d (omega arith) e)

@@ -1,0 +1,228 @@
+//! Namespace Attachment: when an attach or a detach is refused, and what it changes. Section
+//! "Namespace Attachment command".
+
+ghost use Rattle.std.specs.Prelude.{◌≡◌, ◌||◌, ◌&&◌, ℕ, not, false, true, map, count_by, All};
+ghost use Rattle.std.specs.List.{list_any};
+ghost use Rattle.std.specs.FinMap as map_of;
+ghost use Rattle.nv_bits.specs.Numbers.{IsOf};
+ghost use Rattle.nv_subsystem.specs.Attachment.{attach_rows, attached, attachment_rows, detach_rows, detached, has_attached, is_ascending, is_known, is_list_of, is_listed, is_private, with_attachments, would_have};
+ghost use Rattle.nv_subsystem.specs.AttachmentLaws.{fewer, more};
+ghost use Rattle.nv_subsystem.specs.ControllerView.{controller_view};
+ghost use Rattle.nv_subsystem.specs.Management.{with_nsids};
+ghost use Rattle.nv_subsystem.specs.Nsid.{is_valid};
+ghost use Rattle.nv_subsystem.specs.Row.{Checks};
+ghost use Rattle.nv_subsystem.specs.Sound.{IsSized};
+
+use crate::controller::Controller;
+use crate::row::{Row, check};
+use crate::subsystem::Subsystem;
+use nv_command::{Refusal, StatusCode};
+
+/// Whether a list of controller identifiers names the controller.
+fn is_listed(ids: &[u16], controller: &Controller) -> bool
+    ensures { result ≡ is_listed ids.now (controller_view controller.now) }
+{
+    ids.iter().any(|id| *id == controller.identity.cntlid)
+}
+
+/// Whether each number is below the next one.
+fn is_ascending(ids: &[u16]) -> bool
+    ensures { result ≡ is_ascending ids.now }
+{
+    ids.iter()
+        .zip(ids.iter().skip(1))
+        .all(|(id, next)| *id < *next)
+}
+
+/// Attaches a namespace to the listed controllers.
+fn attach_listed(controllers: &mut [Controller], nsid: u32, ids: &[u16])
+    requires { (nn : ℕ) × All (IsSized nn) controllers.old × IsOf 1 nn nsid }
+    ensures value { map controller_view controllers.new
+        ≡ map (with_nsids (more nsid ids.now)) (map controller_view controllers.old) }
+    ensures sized { (nn : ℕ) → All (IsSized nn) controllers.old → All (IsSized nn) controllers.new }
+{
+    for controller in controllers.iter_mut() {
+        if is_listed(ids, controller) {
+            controller.attached.insert(nsid);
+        }
+    }
+}
+
+/// Detaches a namespace from the listed controllers.
+fn detach_listed(controllers: &mut [Controller], nsid: u32, ids: &[u16])
+    ensures value { map controller_view controllers.new
+        ≡ map (with_nsids (fewer nsid ids.now)) (map controller_view controllers.old) }
+    ensures sized { (nn : ℕ) → All (IsSized nn) controllers.old → All (IsSized nn) controllers.new }
+{
+    for controller in controllers.iter_mut() {
+        if is_listed(ids, controller) {
+            controller.attached.remove(nsid);
+        }
+    }
+}
+
+/// Detaches a namespace from each controller.
+pub fn detach_everywhere(controllers: &mut [Controller], nsid: u32)
+    ensures value { map controller_view controllers.new
+        ≡ map (with_nsids (λ x. map_of.remove x.attached nsid)) (map controller_view controllers.old) }
+    ensures sized { (nn : ℕ) → All (IsSized nn) controllers.old → All (IsSized nn) controllers.new }
+{
+    for controller in controllers.iter_mut() {
+        controller.attached.remove(nsid);
+    }
+}
+
+/// Detaches all namespaces from each controller.
+pub fn detach_all(controllers: &mut [Controller])
+    ensures value { map controller_view controllers.new
+        ≡ map (with_nsids (λ _. map_of.empty)) (map controller_view controllers.old) }
+    ensures sized { (nn : ℕ) → All (IsSized nn) controllers.old → All (IsSized nn) controllers.new }
+{
+    for controller in controllers.iter_mut() {
+        controller.attached.clear();
+    }
+}
+
+impl Subsystem {
+    /// Whether a controller has the identifier.
+    fn is_known(&self, id: u16) -> bool
+        ensures { result ≡ is_known self.now id }
+    {
+        self.controllers
+            .iter()
+            .any(|controller| id == controller.identity.cntlid)
+    }
+
+    /// Whether a list names some controllers, in ascending order.
+    fn is_list_of(&self, ids: &[u16]) -> bool
+        ensures { result ≡ is_list_of self.now ids.now }
+    {
+        if ids.is_empty() {
+            return false;
+        }
+        is_ascending(ids) && ids.iter().all(|id| self.is_known(*id))
+    }
+
+    /// Whether one controller at most may have the namespace attached.
+    fn is_private(&self, nsid: u32) -> bool
+        ensures { result ≡ is_private self.now nsid }
+    {
+        match self.slots.get(nsid) {
+            Some(namespace) => !namespace.shared,
+            None => false,
+        }
+    }
+
+    /// Whether a listed controller has the namespace attached.
+    fn has_one_attached(&self, nsid: u32, ids: &[u16]) -> bool
+        ensures { result ≡ list_any (λ x. is_listed ids.now x && has_attached nsid x)
+            self.now.controllers }
+    {
+        self.controllers.iter().any(|controller| is_listed(ids, controller)
+            && controller.attached.contains(nsid))
+    }
+
+    /// Whether a listed controller doesn't have it attached.
+    fn lacks_one_attached(&self, nsid: u32, ids: &[u16]) -> bool
+        ensures { result ≡ list_any (λ x. is_listed ids.now x && not (has_attached nsid x))
+            self.now.controllers }
+    {
+        self.controllers.iter().any(|controller| is_listed(ids, controller)
+            && !controller.attached.contains(nsid))
+    }
+
+    /// How many controllers would have the namespace attached, with the listed ones.
+    fn count_with(&self, nsid: u32, ids: &[u16]) -> usize
+        ensures { result ≡ count_by (would_have nsid ids.now) self.now.controllers }
+    {
+        self.controllers
+            .iter()
+            .filter(|controller| {
+                controller.attached.contains(nsid) || is_listed(ids, controller)
+            })
+            .count()
+    }
+
+    /// Why an attach is refused. The conditions go in the order of the rows.
+    fn check_attach(&self, nsid: u32, ids: &[u16]) -> Result<(), Refusal>
+        ensures { Checks (attach_rows self.now nsid ids.now) result }
+    {
+        check(&[
+            Row::new(!self.is_valid(nsid), StatusCode::InvalidNamespaceOrFormat),
+            Row::new(
+                !self.slots.contains(nsid),
+                StatusCode::InvalidFieldInCommand,
+            ),
+            Row::new(!self.is_list_of(ids), StatusCode::ControllerListInvalid),
+            Row::new(
+                self.has_one_attached(nsid, ids),
+                StatusCode::NamespaceAlreadyAttached,
+            ),
+            Row::new(
+                self.is_private(nsid) && self.count_with(nsid, ids) > 1,
+                StatusCode::NamespaceIsPrivate,
+            ),
+        ])
+    }
+
+    /// Why a detach is refused. The conditions go in the order of the rows.
+    fn check_detach(&self, nsid: u32, ids: &[u16]) -> Result<(), Refusal>
+        ensures { Checks (detach_rows self.now nsid ids.now) result }
+    {
+        check(&[
+            Row::new(!self.is_valid(nsid), StatusCode::InvalidNamespaceOrFormat),
+            Row::new(
+                !self.slots.contains(nsid),
+                StatusCode::InvalidFieldInCommand,
+            ),
+            Row::new(!self.is_list_of(ids), StatusCode::ControllerListInvalid),
+            Row::new(
+                self.lacks_one_attached(nsid, ids),
+                StatusCode::NamespaceNotAttached,
+            ),
+        ])
+    }
+
+    /// Why an attach or a detach is refused.
+    pub(crate) fn check_attachment(
+        &self,
+        nsid: u32,
+        detach: bool,
+        ids: &[u16],
+    ) -> Result<(), Refusal>
+        ensures { Checks (attachment_rows self.now nsid detach ids.now) result }
+    {
+        if detach {
+            self.check_detach(nsid, ids)
+        } else {
+            self.check_attach(nsid, ids)
+        }
+    }
+
+    /// Attaches a namespace to all listed controllers.
+    fn attach(&mut self, nsid: u32, ids: &[u16])
+        requires { is_valid self.old nsid ≡ true }
+        ensures { self.new ≡ attached self.old nsid ids.now }
+    {
+        attach_listed(&mut self.controllers, nsid, ids);
+    }
+
+    /// Detaches a namespace from all listed controllers.
+    fn detach(&mut self, nsid: u32, ids: &[u16])
+        ensures { self.new ≡ detached self.old nsid ids.now }
+    {
+        detach_listed(&mut self.controllers, nsid, ids);
+    }
+
+    /// Attaches a namespace to all listed controllers, or detaches it from them.
+    pub(crate) fn change_attachment(&mut self, nsid: u32, detach: bool, ids: &[u16])
+        requires { detach ≡ false → is_valid self.old nsid ≡ true }
+        ensures { self.new ≡ with_attachments self.old nsid detach ids.now }
+    {
+        if detach {
+            self.detach(nsid, ids);
+        } else {
+            self.attach(nsid, ids);
+        }
+    }
+}

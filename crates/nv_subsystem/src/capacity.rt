@@ -1,0 +1,51 @@
+//! The namespaces of a subsystem, and the capacity that they leave.
+
+ghost use Rattle.std.specs.Prelude.{◌≡◌, ◌≤◌, ◌<◌, false};
+ghost use Rattle.std.specs.FinMap as map_of;
+ghost use Rattle.nv_subsystem.specs.Capacity.{unallocated};
+ghost use Rattle.nv_subsystem.specs.Nsid.{is_allocated};
+
+use crate::subsystem::Subsystem;
+use nv_file::Namespace;
+
+impl Subsystem {
+    /// The bytes of capacity that no namespace has.
+    pub(crate) fn unallocated(&self) -> u64
+        ensures { result ≡ unallocated self.now }
+    {
+        self.unallocated
+    }
+
+    /// Gives a free NSID a namespace, for whose capacity there is room.
+    pub(crate) fn insert_namespace(&mut self, nsid: u32, namespace: Namespace)
+        requires nsid { (1 ≤ nsid) × (nsid ≤ self.old.nn) }
+        requires free { is_allocated self.old nsid ≡ false }
+        requires room { namespace.capacity ≤ unallocated self.old }
+        requires format { namespace.format < 16 }
+        ensures { self.new ≡ record self.old {
+          namespaces = map_of.insert self.old.namespaces nsid namespace;
+        } }
+    {
+        self.slots.insert(nsid, namespace);
+        self.unallocated -= namespace.capacity;
+    }
+
+    /// Takes a namespace away, and its capacity back.
+    pub(crate) fn remove_namespace(&mut self, nsid: u32)
+        ensures { self.new ≡ record self.old {
+          namespaces = map_of.remove self.old.namespaces nsid;
+        } }
+    {
+        if let Some(namespace) = self.slots.remove(nsid) {
+            self.unallocated += namespace.capacity;
+        }
+    }
+
+    /// Takes all namespaces away, and their capacities back.
+    pub(crate) fn clear_namespaces(&mut self)
+        ensures { self.new ≡ record self.old { namespaces = map_of.empty } }
+    {
+        self.slots.clear();
+        self.unallocated = self.tnvmcap;
+    }
+}

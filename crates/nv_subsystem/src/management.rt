@@ -1,0 +1,203 @@
+//! Namespace Management: when a create or a delete is refused, what it answers, and what it
+//! changes. Section "Namespace Management command".
+
+ghost use Rattle.std.specs.Prelude.{◌≡◌, ◌≤◌, None, IfSome};
+ghost use Rattle.nv_subsystem.specs.Capacity.{unallocated};
+ghost use Rattle.nv_subsystem.specs.Management.{bytes_needed, can_have, capacity_refusal, create_rows, created, created_nsid, delete_rows, deleted, format_in, is_extended, new_namespace, wanted, without_all, without_one};
+ghost use Rattle.nv_subsystem.specs.Nsid.{free_nsid};
+ghost use Rattle.nv_subsystem.specs.Row.{Checks, first_refusal};
+
+use crate::attachment::{detach_all, detach_everywhere};
+use crate::row::{Row, check};
+use crate::subsystem::Subsystem;
+use nv_command::{BROADCAST_NSID, Refusal, StatusCode};
+use nv_file::{Format, Namespace};
+
+/// What a host asks of a new namespace, by the names of its fields. Sections "Namespace Management
+/// command" and "Identify Namespace data structure".
+#[derive(Clone, Copy, Debug, PartialEq, Eq)]
+pub struct NewNamespace {
+    pub nsze: u64,
+    pub ncap: u64,
+    pub flbas: u8,
+    pub dps: u8,
+    pub nmic: u8,
+}
+
+impl NewNamespace {
+    /// The fields of a create.
+    pub fn new(nsze: u64, ncap: u64, flbas: u8, dps: u8, nmic: u8) -> NewNamespace
+        ensures { result ≡ wanted nsze ncap flbas dps nmic }
+    {
+        NewNamespace {
+            nsze,
+            ncap,
+            flbas,
+            dps,
+            nmic,
+        }
+    }
+}
+
+/// Whether metadata is to lie at the end of each logical block (FLBAS bit 4).
+fn is_extended(flbas: u8) -> bool
+    ensures { result ≡ is_extended flbas }
+{
+    flbas & 0x10 != 0
+}
+
+/// The refusal of a create that needs so many bytes. They are told, as far as 64 bits go.
+fn capacity_refusal(bytes: u128) -> Refusal
+    ensures { result ≡ capacity_refusal bytes }
+{
+    Refusal {
+        status: StatusCode::NamespaceInsufficientCapacity.status(),
+        specific: bytes.min(u128::from(u64::MAX)) as u64,
+    }
+}
+
+impl Subsystem {
+    /// The format that FLBAS 3:0 names.
+    fn format_in(&self, flbas: u8) -> Option<Format>
+        ensures value { result ≡ format_in self.now flbas }
+        ensures small { IfSome result (λ f. f.lbads ≤ 16) }
+    {
+        self.formats.get((flbas & 0x0f) as usize).copied()
+    }
+
+    /// Whether a namespace can have the format of an FLBAS, and its metadata where that says.
+    fn can_have(&self, flbas: u8) -> bool
+        ensures { result ≡ can_have self.now flbas }
+    {
+        match self.format_in(flbas) {
+            Some(format) => !is_extended(flbas) || (format.ms > 0 && self.mc & 1 == 1),
+            None => false,
+        }
+    }
+
+    /// The bytes of the logical blocks that are asked for, without their metadata.
+    fn bytes_needed(&self, wanted: &NewNamespace) -> u128
+        ensures { result ≡ bytes_needed self.now wanted.now }
+    {
+        let NewNamespace { nsze, flbas, .. } = *wanted;
+        match self.format_in(flbas) {
+            Some(format) => u128::from(nsze) << format.lbads,
+            None => 0,
+        }
+    }
+
+    /// The least free NSID of 1 to NN.
+    fn free_nsid(&self) -> Option<u32>
+        ensures { result ≡ free_nsid self.now }
+    {
+        self.slots.lowest_free()
+    }
+
+    /// Why a create is refused. The conditions go in the order of the rows.
+    pub(crate) fn check_create(&self, wanted: &NewNamespace) -> Result<(), Refusal>
+        ensures { Checks (create_rows self.now wanted.now) result }
+    {
+        let NewNamespace {
+            nsze,
+            ncap,
+            flbas,
+            dps,
+            nmic,
+        } = *wanted;
+        let bytes = self.bytes_needed(wanted);
+        check(&[
+            Row::new(!self.can_have(flbas), StatusCode::InvalidFormat),
+            Row::new(dps != 0, StatusCode::InvalidFieldInCommand),
+            Row::new(nsze == 0, StatusCode::InvalidFieldInCommand),
+            Row::new(ncap < nsze, StatusCode::ThinProvisioningNotSupported),
+            Row::new(ncap > nsze, StatusCode::InvalidFieldInCommand),
+            Row::new(nmic > 1, StatusCode::InvalidFieldInCommand),
+            Row::new(
+                self.free_nsid().is_none(),
+                StatusCode::NamespaceIdentifierUnavailable,
+            ),
+            Row {
+                when: bytes > u128::from(self.unallocated()),
+                refusal: capacity_refusal(bytes),
+            },
+        ])
+    }
+
+    /// The NSID that a create answers.
+    pub(crate) fn created_nsid(&self) -> u32
+        ensures { result ≡ created_nsid self.now }
+    {
+        self.free_nsid().unwrap_or(0)
+    }
+
+    /// The namespace that a create makes.
+    fn new_namespace(&self, wanted: &NewNamespace) -> Namespace
+        requires { bytes_needed self.now wanted.now ≤ unallocated self.now }
+        ensures { result ≡ new_namespace self.now wanted.now }
+    {
+        let bytes = self.bytes_needed(wanted);
+        let has_room = bytes <= u128::from(self.unallocated());
+        prove!(has_room);
+        Namespace {
+            capacity: bytes as u64,
+            format: wanted.flbas & 0x0f,
+            extended: is_extended(wanted.flbas),
+            shared: wanted.nmic & 1 == 1,
+        }
+    }
+
+    /// Makes a namespace of the least free NSID, attached to no controller.
+    pub(crate) fn create(&mut self, wanted: &NewNamespace)
+        requires { first_refusal (create_rows self.old wanted.now) ≡ None }
+        ensures { self.new ≡ created self.old wanted.now }
+    {
+        let namespace = self.new_namespace(wanted);
+        if let Some(nsid) = self.free_nsid() {
+            self.insert_namespace(nsid, namespace);
+        }
+    }
+
+    /// Why a delete is refused.
+    pub(crate) fn check_delete(&self, nsid: u32) -> Result<(), Refusal>
+        ensures { Checks (delete_rows self.now nsid) result }
+    {
+        let all = nsid == BROADCAST_NSID;
+        check(&[
+            Row::new(
+                !(self.is_valid(nsid) || all),
+                StatusCode::InvalidNamespaceOrFormat,
+            ),
+            Row::new(
+                !(self.slots.contains(nsid) || all),
+                StatusCode::InvalidFieldInCommand,
+            ),
+        ])
+    }
+
+    /// Deletes a namespace, and with it its attachments.
+    fn delete_one(&mut self, nsid: u32)
+        ensures { self.new ≡ without_one self.old nsid }
+    {
+        detach_everywhere(&mut self.controllers, nsid);
+        self.remove_namespace(nsid);
+    }
+
+    /// Deletes all namespaces, and with them all attachments.
+    fn delete_all(&mut self)
+        ensures { self.new ≡ without_all self.old }
+    {
+        detach_all(&mut self.controllers);
+        self.clear_namespaces();
+    }
+
+    /// Deletes a namespace, and all of them for the broadcast NSID.
+    pub(crate) fn delete(&mut self, nsid: u32)
+        ensures { self.new ≡ deleted self.old nsid }
+    {
+        if nsid == BROADCAST_NSID {
+            self.delete_all();
+        } else {
+            self.delete_one(nsid);
+        }
+    }
+}
