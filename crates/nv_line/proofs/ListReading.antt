@@ -17,22 +17,30 @@ same_option (Some ns) = refl
 same_option None = refl
 
 pub nothing_read : (pieces : List Text) → IsReadTo pieces [] 0
-nothing_read pieces = record { count = refl; room = omega arith; rest = same_option (identifiers_in pieces) }
+nothing_read pieces = record {
+  count = refl;
+  room = omega arith;
+  rest = same_option (identifiers_in pieces);
+}
 
-after_piece : (pieces : List Text) (n : ℕ) (p : Text) → (n < length pieces) × (p ≡ get_or pieces n p)
+after_piece : (pieces : List Text) (n : ℕ) (p : Text)
+    → (n < length pieces) × (p ≡ get_or pieces n p)
     → identifiers_in (drop n pieces)
-    ≡ option_and_then (λ x. option_map (λ ns. x ∷ ns) (identifiers_in (drop (n + 1) pieces))) (number_in 0 65535 p)
+    ≡ option_and_then (λ x. option_map (λ ns. x ∷ ns) (identifiers_in (drop (n + 1) pieces)))
+    (number_in 0 65535 p)
 unfolding identifiers_in
 after_piece pieces n p turn =
     at_drop_more identifiers_in pieces n p turn.0
     ∙ ap (λ q. identifiers_in (q ∷ drop (n + 1) pieces)) (sym turn.1)
 
 one_more : (ids : List ℕ) (x : ℕ) (o : Option (List ℕ))
-    → option_map (λ ns. ids ++ ns) (option_map (λ ns. x ∷ ns) o) ≡ option_map (λ ns. (ids ++ x ∷ []) ++ ns) o
+    → option_map (λ ns. ids ++ ns) (option_map (λ ns. x ∷ ns) o)
+    ≡ option_map (λ ns. (ids ++ x ∷ []) ++ ns) o
 one_more ids x (Some ns) = ap Some (sym (append_assoc ids (x ∷ []) ns))
 one_more ids x None = refl
 
-pub piece_read : (pieces : List Text) (ids : List ℕ) (n : ℕ) (p : Text) (x : ℕ) → IsReadTo pieces ids n → n < 2047
+pub piece_read : (pieces : List Text) (ids : List ℕ) (n : ℕ) (p : Text) (x : ℕ)
+    → IsReadTo pieces ids n → n < 2047
     → (n < length pieces) × (p ≡ get_or pieces n p) → number_in 0 65535 p ≡ Some x
     → IsReadTo pieces (ids ++ x ∷ []) (n + 1)
 piece_read pieces ids n p x so room turn number = record {
@@ -49,7 +57,8 @@ piece_read pieces ids n p x so room turn number = record {
 listed : (text : Text) → length (slice_split is_comma text) ≤ 2047
     → list_in text ≡ identifiers_in (slice_split is_comma text)
 unfolding list_in
-listed text h = let room : nat_le (length (slice_split is_comma text)) 2047 ≡ true = grind (arith, h) in rw room refl
+listed text h =
+    let room : nat_le (length (slice_split is_comma text)) 2047 ≡ true = grind (arith, h) in rw room refl
 
 pub all_read : (text : Text) (ids : List ℕ) (n : ℕ) → IsReadTo (slice_split is_comma text) ids n
     → length (slice_split is_comma text) ≤ n → Some ids ≡ list_in text
@@ -63,9 +72,11 @@ all_read text ids n so end =
 
 pub too_many : (text : Text) → 2047 < length (slice_split is_comma text) → None ≡ list_in text
 unfolding list_in
-too_many text h = let none : nat_le (length (slice_split is_comma text)) 2047 ≡ false = grind (arith, h) in rw none refl
+too_many text h =
+    let none : nat_le (length (slice_split is_comma text)) 2047 ≡ false = grind (arith, h) in rw none refl
 
-either_none : (text : Text) → identifiers_in (slice_split is_comma text) ≡ None → None ≡ list_in text
+either_none : (text : Text)
+    → identifiers_in (slice_split is_comma text) ≡ None → None ≡ list_in text
 unfolding list_in
 either_none text none = elim (nat_le (length (slice_split is_comma text)) 2047) as
     (λ b. None ≡ (if b then identifiers_in (slice_split is_comma text) else None)) [
@@ -74,7 +85,8 @@ either_none text none = elim (nat_le (length (slice_split is_comma text)) 2047) 
     ]
 
 -- a piece that is no number
-pub no_number : (text : Text) (ids : List ℕ) (n : ℕ) (p : Text) → IsReadTo (slice_split is_comma text) ids n
+pub no_number : (text : Text) (ids : List ℕ) (n : ℕ) (p : Text)
+    → IsReadTo (slice_split is_comma text) ids n
     → (n < length (slice_split is_comma text)) × (p ≡ get_or (slice_split is_comma text) n p)
     → number_in 0 65535 p ≡ None → None ≡ list_in text
 no_number text ids n p so turn number =

@@ -11,7 +11,8 @@ is_comma b = b == 44
 unfoldable pub identifiers_in : List Text → Option (List ℕ)
 identifiers_in [] = Some []
 identifiers_in (piece ∷ pieces) =
-    option_and_then (λ n. option_map (λ ns. n ∷ ns) (identifiers_in pieces)) (number_in 0 65535 piece)
+    option_and_then (λ n. option_map (λ ns. n ∷ ns) (identifiers_in pieces))
+    (number_in 0 65535 piece)
 
 -- at most 2,047 of them, between commas
 unfoldable pub list_in : Text → Option (List ℕ)

@@ -23,7 +23,8 @@ number_option_in rows o device =
 -- the identifiers that were written
 abbrev pub list_option_in : List Row → ListOption → Result (List ℕ) LineFault
 list_option_in rows o =
-    option_map_or (λ t. ok_or (list_in t) (fault.Number o.name)) (first_of (name_of o.name) rows) (Err fault.Usage)
+    option_map_or (λ t. ok_or (list_in t) (fault.Number o.name))
+    (first_of (name_of o.name) rows) (Err fault.Usage)
 
 -- whether the flag was written
 abbrev pub flag_in : List Row → FlagOption → Bool
