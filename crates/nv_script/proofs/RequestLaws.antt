@@ -5,21 +5,14 @@ use Rattle.std.proofs.Math.Seq.{drop-cons, take-suc}
 use Rattle.std.proofs.lemmas.List.{take-append-drop, take_all}
 use Rattle.nv_layout.specs.declared.status.Status.{Status}
 use Rattle.nv_subsystem.specs.State.{State}
-use Rattle.nv_command.specs.declared.command.Command.TheVariants.{IdentifyNamespace}
 use Rattle.nv_command.specs.declared.reply.Reply.{Reply}
-use Rattle.nv_line.specs.declared.request.Ask.{Ask}
-use Rattle.nv_line.specs.declared.request.Ask.TheVariants as ask
 use Rattle.nv_line.specs.declared.request.Request.{Request}
 use Rattle.nv_script.specs.Exchange.{Exchange, exchange_of}
-use Rattle.nv_script.specs.Outcomes.{Outcome, command_of, commands_of, outcome_of}
+use Rattle.nv_script.specs.Outcomes.{Outcome, commands_of, outcome_of}
 use Rattle.nv_script.specs.Performing.{IsReached, RequestLeaves}
 use Rattle.nv_print.specs.Texts.{text_of}
 use Rattle.nv_script.specs.declared.order.Order.{Order}
 use Rattle.nv_script.proofs.OutcomeLaws.{accepted_with, outcome_accepted, outcome_refused}
-
--- what is read past the last command
-abbrev pub no_order : Order
-no_order = record { controller = 0; command = IdentifyNamespace 0 }
 
 -- ---- the controllers of the commands are known
 
