@@ -7,6 +7,7 @@ use std::process::Abort;
 use std::test::Fail;
 
 /// A script, and what it writes and ends with.
+#[derive(Clone, Copy)]
 pub struct Row<'a> {
     pub script: &'a [u8],
     pub out: &'a str,
