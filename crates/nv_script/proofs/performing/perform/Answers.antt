@@ -27,7 +27,7 @@ returns-in_err-reply-clause-left g c =
     let e = err_from_is_err_and c.from_residual-in_err-reply.result c.from_residual-in_err-reply.ensures.1 in
     let done = c.in_err-reply.ensures in
     let exchange = exchanged (g.B.Bus.meaning c.loop-order.bus) (g.B.Bus.meaning c.admin.new.bus) c.loop-order.driver c.admin.new.self c.order-item.result (Err c.in_err-reply.field-0.0) at done.answer done.state done.driver
-        ∙ ap (exchange_of (g.B.Bus.meaning c.loop-order.bus).state (serials_of c.loop-order.driver)) c.order-item.is in
+    ∙ ap (exchange_of (g.B.Bus.meaning c.loop-order.bus).state (serials_of c.loop-order.driver)) c.order-item.is in
     rw (e.1, e.2) (left_refused s _ (serials_of c.args.driver.now) _ c.args.request _ c.loop-order.order-index _ known c.loop-order.invariant.sofar c.order-item.result _ _ c.loop-order-test.true _ exchange)
 
 pub returns-in_err-push-clause-left : goal.returns-in_err-push-clause-left
@@ -38,7 +38,7 @@ returns-in_err-push-clause-left g c =
     let e = err_from_is_err_and c.from_residual-in_err-push.result c.from_residual-in_err-push.ensures.1 in
     let done = c.in_ok-reply.ensures in
     let exchange = exchanged (g.B.Bus.meaning c.loop-order.bus) (g.B.Bus.meaning c.admin.new.bus) c.loop-order.driver c.admin.new.self c.order-item.result (Ok c.in_ok-reply.reply) at done.answer done.state done.driver
-        ∙ ap (exchange_of (g.B.Bus.meaning c.loop-order.bus).state (serials_of c.loop-order.driver)) c.order-item.is in
+    ∙ ap (exchange_of (g.B.Bus.meaning c.loop-order.bus).state (serials_of c.loop-order.driver)) c.order-item.is in
     rw (e.1, e.2) (left_memory s _ (serials_of c.args.driver.now) _ c.args.request _ (c.loop-order.order-index + 1) _ known
     (accepted_next s _ (serials_of c.args.driver.now) _ c.args.request _ c.loop-order.order-index _ known c.loop-order.invariant.sofar c.order-item.result _ _ c.loop-order-test.true c.in_ok-reply.reply exchange))
 
@@ -49,7 +49,7 @@ loop-order-preserved g c =
     let at = subst (λ (o : Order). o.controller < length c.loop-order.driver.lanes) (sym c.order-item.is) (controller_known s c.args.request _ _ c.deref-order-items.result.now c.loop-order.order-index c.order-item.result known c.requires.controller c.loop-order.invariant.lanes c.loop-order-test.true) in
     let done = c.in_ok-reply.ensures in
     let exchange = exchanged (g.B.Bus.meaning c.loop-order.bus) (g.B.Bus.meaning c.admin.new.bus) c.loop-order.driver c.admin.new.self c.order-item.result (Ok c.in_ok-reply.reply) at done.answer done.state done.driver
-        ∙ ap (exchange_of (g.B.Bus.meaning c.loop-order.bus).state (serials_of c.loop-order.driver)) c.order-item.is in
+    ∙ ap (exchange_of (g.B.Bus.meaning c.loop-order.bus).state (serials_of c.loop-order.driver)) c.order-item.is in
     let next = accepted_next s _ (serials_of c.args.driver.now) _ c.args.request _ c.loop-order.order-index _ known c.loop-order.invariant.sofar c.order-item.result _ _ c.loop-order-test.true c.in_ok-reply.reply exchange in
     record {
       sofar = next ∙ ap (λ replies. accepted_with replies (g.B.Bus.meaning c.admin.new.bus).state (serials_of c.admin.new.self)) (sym c.in_ok-push.ensures.items);
