@@ -5,6 +5,7 @@ pub mod Cqe
 pub mod NsList
 pub mod CtrlList
 pub mod IdNs
+pub mod Feature
 pub mod PartLaws
 pub mod TableLaws
 pub mod NsListLaws
