@@ -11,8 +11,8 @@ ghost use Rattle.nv_command.specs.Travel.{Arrives};
 use crate::entry::{Fields, Opcode};
 use crate::status_code::StatusCode;
 use crate::transfer::Transfer;
-use crate::{identify, management};
-use nv_layout::{CtrlList, Sqe};
+use crate::{features, format, identify, management};
+use nv_layout::{CtrlList, FourBits, Sqe, ThreeBits};
 
 /// The NSID that stands for all namespaces. Section "Namespace Identifier".
 pub const BROADCAST_NSID: u32 = 0xffff_ffff;
@@ -55,6 +55,28 @@ pub enum Command {
         detach: bool,
         list: CtrlList,
     },
+    /// Format NVM: a namespace gets the format `lbaf`.
+    Format {
+        nsid: u32,
+        lbaf: FourBits,
+        mset: bool,
+        pi: ThreeBits,
+        pil: bool,
+        ses: ThreeBits,
+    },
+    /// Get Features: the value of a feature that `sel` selects.
+    GetFeature {
+        fid: u8,
+        sel: ThreeBits,
+        nsid: u32,
+    },
+    /// Set Features: a feature gets a value, which is saved too where `save` says so.
+    SetFeature {
+        fid: u8,
+        value: u32,
+        save: bool,
+        nsid: u32,
+    },
 }
 
 /// A number of 32 bits fits them. The call does nothing.
@@ -73,6 +95,8 @@ impl Command {
             Command::ActiveList { after } | Command::AllocatedList { after } => *after,
             Command::Create { .. } => 0,
             Command::Delete { nsid } | Command::Attachment { nsid, .. } => *nsid,
+            Command::Format { nsid, .. } => *nsid,
+            Command::GetFeature { nsid, .. } | Command::SetFeature { nsid, .. } => *nsid,
         }
     }
 
@@ -88,6 +112,9 @@ impl Command {
             Command::Create { .. } => management::TRANSFER,
             Command::Delete { nsid: _ } => Transfer::NoData,
             Command::Attachment { .. } => management::TRANSFER,
+            Command::Format { .. } => Transfer::NoData,
+            Command::GetFeature { .. } => Transfer::NoData,
+            Command::SetFeature { .. } => Transfer::NoData,
         }
     }
 
@@ -102,6 +129,18 @@ impl Command {
             Command::Create { .. } => management::fields(0x0),
             Command::Delete { nsid: _ } => management::fields(0x1),
             Command::Attachment { detach, .. } => management::attachment_fields(*detach),
+            Command::Format {
+                lbaf,
+                mset,
+                pi,
+                pil,
+                ses,
+                ..
+            } => format::fields(*lbaf, *mset, *pi, *pil, *ses),
+            Command::GetFeature { fid, sel, .. } => features::get_fields(*fid, *sel),
+            Command::SetFeature {
+                fid, value, save, ..
+            } => features::set_fields(*fid, *value, *save),
         }
     }
 
@@ -123,6 +162,17 @@ impl Command {
             } => management::create_fits(*nsze, *ncap, *flbas, *dps, *nmic),
             Command::Delete { nsid } => nsid_fits(*nsid),
             Command::Attachment { nsid, list, .. } => management::attachment_fits(*nsid, list),
+            Command::Format {
+                nsid,
+                lbaf,
+                pi,
+                ses,
+                ..
+            } => format::fits(*nsid, *lbaf, *pi, *ses),
+            Command::GetFeature { fid, sel, nsid } => features::get_fits(*fid, *sel, *nsid),
+            Command::SetFeature {
+                fid, value, nsid, ..
+            } => features::set_fits(*fid, *value, *nsid),
         }
     }
 
@@ -166,6 +216,9 @@ impl Command {
             Opcode::Identify => identify::command(entry),
             Opcode::NamespaceManagement => management::command(entry, sent),
             Opcode::NamespaceAttachment => management::attachment_command(entry, sent),
+            Opcode::FormatNvm => Ok(format::command(entry)),
+            Opcode::GetFeatures => Ok(features::get_command(entry)),
+            Opcode::SetFeatures => Ok(features::set_command(entry)),
         }
     }
 }
