@@ -12,14 +12,15 @@ use crate::entry::{Fields, Opcode};
 use crate::status_code::StatusCode;
 use crate::transfer::Transfer;
 use crate::{features, format, identify, management};
-use nv_layout::{CtrlList, FourBits, Sqe, ThreeBits};
+use nv_layout::{ControllerIds, CtrlList, FourBits, Sqe, ThreeBits};
 
 /// The NSID that stands for all namespaces. Section "Namespace Identifier".
 pub const BROADCAST_NSID: u32 = 0xffff_ffff;
 
-/// A command with its fields as numbers. It is large, by the list of an attachment. Section "Admin Command Set".
+/// A command with its fields as numbers; the controllers of an attachment stand elsewhere.
+/// Section "Admin Command Set".
 #[derive(Debug, Drop, PartialEq, Eq)]
-pub enum Command {
+pub enum Command<'a> {
     /// Identify, CNS 00h: a namespace that is attached to the controller.
     IdentifyNamespace {
         nsid: u32,
@@ -53,7 +54,7 @@ pub enum Command {
     Attachment {
         nsid: u32,
         detach: bool,
-        list: CtrlList,
+        list: ControllerIds<'a>,
     },
     /// Format NVM: a namespace gets the format `lbaf`.
     Format {
@@ -84,7 +85,7 @@ fn nsid_fits(nsid: u32)
     ensures { nsid < 2 ^ 32 }
 {}
 
-impl Command {
+impl<'a> Command<'a> {
     /// The NSID of its entry, with which a refusal of it is booked. For a list it is the one that
     /// the list begins after; it is 0 for a namespace to create.
     pub fn nsid(&self) -> u32
@@ -208,14 +209,15 @@ impl Command {
     /// The command of an entry and of the data that the host sent with it, or the status of the
     /// first rule that it breaks: its opcode is unknown, it is fused or uses SGLs, a field of it
     /// has no meaning, its data isn't a page of 4,096 bytes or lists too many controllers. Bits
-    /// without meaning are ignored, and so is data where the command has none.
-    pub fn of(entry: &Sqe, sent: &[u8]) -> Result<Command, StatusCode>
+    /// without meaning are ignored, and so is data where the command has none. Listed controllers
+    /// are put in the place, which is of no account before.
+    pub fn of(entry: &Sqe, sent: &[u8], place: &'a mut CtrlList) -> Result<Command<'a>, StatusCode>
         ensures { result ≡ command_of entry.now sent.now }
     {
         match Opcode::of(entry)? {
             Opcode::Identify => identify::command(entry),
             Opcode::NamespaceManagement => management::command(entry, sent),
-            Opcode::NamespaceAttachment => management::attachment_command(entry, sent),
+            Opcode::NamespaceAttachment => management::attachment_command(entry, sent, place),
             Opcode::FormatNvm => Ok(format::command(entry)),
             Opcode::GetFeatures => Ok(features::get_command(entry)),
             Opcode::SetFeatures => Ok(features::set_command(entry)),

@@ -48,7 +48,7 @@ pub(crate) fn set_fits(fid: u8, value: u32, nsid: u32)
 {}
 
 /// The command of a Get Features entry.
-pub(crate) fn get_command(entry: &Sqe) -> Command
+pub(crate) fn get_command<'a>(entry: &Sqe) -> Command<'a>
     ensures { result ≡ get_feature_command entry.now }
 {
     Command::GetFeature {
@@ -59,7 +59,7 @@ pub(crate) fn get_command(entry: &Sqe) -> Command
 }
 
 /// The command of a Set Features entry.
-pub(crate) fn set_command(entry: &Sqe) -> Command
+pub(crate) fn set_command<'a>(entry: &Sqe) -> Command<'a>
     ensures { result ≡ set_feature_command entry.now }
 {
     Command::SetFeature {

@@ -41,7 +41,7 @@ pub(crate) fn fits(nsid: u32, lbaf: FourBits, pi: ThreeBits, ses: ThreeBits)
 }
 
 /// The command of a Format NVM entry.
-pub(crate) fn command(entry: &Sqe) -> Command
+pub(crate) fn command<'a>(entry: &Sqe) -> Command<'a>
     ensures { result ≡ format_command entry.now }
 {
     let cdw10 = entry.cdw10;

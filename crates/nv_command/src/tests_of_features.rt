@@ -1,5 +1,5 @@
 use super::*;
-use nv_layout::{FourBits, Sqe, ThreeBits};
+use nv_layout::{CtrlList, FourBits, Sqe, ThreeBits};
 use std::process::Abort;
 
 /// An entry with this opcode and Command Dwords 10 and 11, for NSID 7.
@@ -30,10 +30,10 @@ fn check_travel(rt: &impl Abort, command: Command, opcode: u8, cdw10: u32, cdw11
     assert_eq!(rt; command.nsid(), 7);
     assert_eq!(rt; command.transfer(), Transfer::NoData);
     assert_eq!(rt; Transfer::of(&sent), Ok(Transfer::NoData));
-    assert_eq!(rt; Command::of(&sent, &[]), Ok(command));
+    assert_eq!(rt; Command::of(&sent, &[], &mut CtrlList::new()), Ok(command));
 }
 
-fn format(lbaf: u8, mset: bool, pi: u8, pil: bool, ses: u8) -> Command {
+fn format(lbaf: u8, mset: bool, pi: u8, pil: bool, ses: u8) -> Command<'static> {
     Command::Format {
         nsid: 7,
         lbaf: FourBits::low(lbaf),
@@ -44,7 +44,7 @@ fn format(lbaf: u8, mset: bool, pi: u8, pil: bool, ses: u8) -> Command {
     }
 }
 
-fn get(fid: u8, sel: u8) -> Command {
+fn get(fid: u8, sel: u8) -> Command<'static> {
     Command::GetFeature {
         fid,
         sel: ThreeBits::low(sel),
@@ -52,7 +52,7 @@ fn get(fid: u8, sel: u8) -> Command {
     }
 }
 
-fn set(fid: u8, value: u32, save: bool) -> Command {
+fn set(fid: u8, value: u32, save: bool) -> Command<'static> {
     Command::SetFeature {
         fid,
         value,
@@ -81,11 +81,11 @@ fn features_by_their_entries(rt: HostRuntime) {
 
 #[test]
 fn bits_beside_the_fields_are_ignored(rt: HostRuntime) {
-    let said = Command::of(&entry(0x80, 0xffff_f001, 9), &[1]);
+    let said = Command::of(&entry(0x80, 0xffff_f001, 9), &[1], &mut CtrlList::new());
     assert_eq!(rt; said, Ok(format(1, false, 0, false, 0)));
-    let said = Command::of(&entry(0x0a, 0xffff_f806, 9), &[1]);
+    let said = Command::of(&entry(0x0a, 0xffff_f806, 9), &[1], &mut CtrlList::new());
     assert_eq!(rt; said, Ok(get(0x06, 0)));
-    let said = Command::of(&entry(0x09, 0x7fff_ff06, 9), &[1]);
+    let said = Command::of(&entry(0x09, 0x7fff_ff06, 9), &[1], &mut CtrlList::new());
     assert_eq!(rt; said, Ok(set(0x06, 9, false)));
 }
 
@@ -96,7 +96,7 @@ fn their_entries_are_plain(rt: HostRuntime) {
             fuse: 1,
             ..entry(opcode, 0, 0)
         };
-        let said = Command::of(&fused, &[]);
+        let said = Command::of(&fused, &[], &mut CtrlList::new());
         assert_eq!(rt; said, Err(StatusCode::InvalidFieldInCommand));
     }
 }
