@@ -1,11 +1,10 @@
 -- What is asked of Format NVM arrives.
-use Rattle.std.proofs.Common.{◌≡◌, ◌∙◌, ℕ, ◌+◌, ◌<◌, ◌^◌, ◌==◌, Bool, true, false, ap, refl, lit<, arith}
+use Rattle.std.proofs.Common.{◌≡◌, ◌∙◌, ℕ, ◌+◌, ◌<◌, ◌^◌, ◌==◌, Bool, ap, lit<, arith}
 use Rattle.nv_layout.specs.Parts.{at_bits, bit, bits}
 use Rattle.nv_layout.specs.RecordLaws.{bit_below, flag_back}
 use Rattle.nv_command.specs.Entry.{entry_of, with_pointer}
 use Rattle.nv_command.specs.EntryLaws.{FieldsFit}
 use Rattle.nv_command.specs.Format.{FormatFits, format_command, format_fields}
-use Rattle.nv_command.specs.declared.command.Command.{Command}
 use Rattle.nv_command.specs.declared.command.Command.TheVariants.{Format}
 
 pub format_fits : (lbaf : ℕ) (mset : Bool) (pi : ℕ) (pil : Bool) (ses : ℕ) → FieldsFit (format_fields lbaf mset pi pil ses)

@@ -140,7 +140,10 @@ impl<'a> Command<'a> {
             } => format::fields(*lbaf, *mset, *pi, *pil, *ses),
             Command::GetFeature { fid, sel, .. } => features::get_fields(*fid, *sel),
             Command::SetFeature {
-                fid, value, save, ..
+                fid,
+                value,
+                save,
+                ..
             } => features::set_fields(*fid, *value, *save),
         }
     }
@@ -172,7 +175,10 @@ impl<'a> Command<'a> {
             } => format::fits(*nsid, *lbaf, *pi, *ses),
             Command::GetFeature { fid, sel, nsid } => features::get_fits(*fid, *sel, *nsid),
             Command::SetFeature {
-                fid, value, nsid, ..
+                fid,
+                value,
+                nsid,
+                ..
             } => features::set_fits(*fid, *value, *nsid),
         }
     }

@@ -8,13 +8,7 @@ use crate::entry::Fields;
 use nv_layout::{FourBits, Sqe, ThreeBits, bits_of, to_bits};
 
 /// The fields of a Format NVM command.
-pub(crate) fn fields(
-    lbaf: FourBits,
-    mset: bool,
-    pi: ThreeBits,
-    pil: bool,
-    ses: ThreeBits,
-) -> Fields
+pub(crate) fn fields(lbaf: FourBits, mset: bool, pi: ThreeBits, pil: bool, ses: ThreeBits) -> Fields
     ensures { result ≡ format_fields lbaf mset pi pil ses }
 {
     let cdw10 = to_bits(lbaf.get() as u32, 0, 4)
