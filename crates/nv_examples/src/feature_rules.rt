@@ -3,6 +3,8 @@
 use crate::features::{FIELD, NOT_CHANGEABLE, NOT_SAVEABLE};
 use crate::steps::{Step, follow};
 use nv_subsystem::DEMO;
+use std::alloc::Global;
+use std::process::Abort;
 use std::test::Fail;
 
 /// With rules in the file: values from defaults, and capabilities of each kind.
@@ -132,12 +134,17 @@ const ATTACHED: [Step<'static>; 11] = [
     ),
 ];
 
-/// The rules of the first controller of the demonstration subsystem, with more before them.
-fn follow_with(rt: HostRuntime, rules: &str, steps: &[Step<'_>]) -> Result<(), Fail> {
-    let alloc = rt.alloc();
+/// The script of some steps over the demonstration subsystem, whose first controller has more
+/// rules.
+fn follow_with(
+    rt: &impl Abort,
+    alloc: Global,
+    rules: &str,
+    steps: &[Step<'_>],
+) -> Result<(), Fail> {
     let rules = format!(in alloc; "{rules}\n[[controller.feature]]\nfid = 6")?;
     let file = DEMO.replace(alloc, "[[controller.feature]]\nfid = 6", rules.as_str())?;
-    follow(&rt, alloc, file.as_str(), steps)?;
+    follow(rt, alloc, file.as_str(), steps)?;
     Ok(())
 }
 
@@ -160,19 +167,19 @@ default = 65535
 saveable = true
 changeable = false
 ";
-    follow_with(rt, rules, &RULES)
+    follow_with(&rt, rt.alloc(), rules, &RULES)
 }
 
 #[test]
 fn not_saveable_is_told_before_not_changeable(rt: HostRuntime) -> Result<(), Fail> {
     let rules = "[[controller.feature]]\nfid = 1\nchangeable = false\n";
-    follow_with(rt, rules, &UNCHANGEABLE)
+    follow_with(&rt, rt.alloc(), rules, &UNCHANGEABLE)
 }
 
 #[test]
 fn attaching_gives_the_default(rt: HostRuntime) -> Result<(), Fail> {
     let rules = "[[controller.feature]]\nfid = 5\ndefault = 7\n";
-    follow_with(rt, rules, &ATTACHED)
+    follow_with(&rt, rt.alloc(), rules, &ATTACHED)
 }
 
 #[test]

@@ -2,6 +2,8 @@
 
 use crate::steps::{Step, follow};
 use nv_subsystem::DEMO;
+use std::alloc::Global;
+use std::process::Abort;
 use std::test::Fail;
 
 const FIELD: &str = "Invalid Field in Command (0x6002)";
@@ -350,30 +352,45 @@ fn each_line_writes_its_text(rt: HostRuntime) -> Result<(), Fail> {
 }
 
 /// The script of some steps over the demonstration subsystem with one line changed.
-fn follow_changed(rt: HostRuntime, old: &str, new: &str, steps: &[Step<'_>]) -> Result<(), Fail> {
-    let file = DEMO.replace(rt.alloc(), old, new)?;
-    follow(&rt, rt.alloc(), file.as_str(), steps)?;
+fn follow_changed(
+    rt: &impl Abort,
+    alloc: Global,
+    change: (&str, &str),
+    steps: &[Step<'_>],
+) -> Result<(), Fail> {
+    let file = DEMO.replace(alloc, change.0, change.1)?;
+    follow(rt, alloc, file.as_str(), steps)?;
     Ok(())
 }
 
 #[test]
 fn erases_where_the_controller_can(rt: HostRuntime) -> Result<(), Fail> {
-    follow_changed(rt, "vwc = 7", "crypto_erase = true", &ERASED)
+    follow_changed(&rt, rt.alloc(), ("vwc = 7", "crypto_erase = true"), &ERASED)
 }
 
 #[test]
 fn puts_no_metadata_at_the_end_of_blocks(rt: HostRuntime) -> Result<(), Fail> {
-    follow_changed(rt, "mc = 1", "mc = 2", &NO_EXTENDED)
+    follow_changed(&rt, rt.alloc(), ("mc = 1", "mc = 2"), &NO_EXTENDED)
 }
 
 #[test]
 fn formats_all_or_none(rt: HostRuntime) -> Result<(), Fail> {
-    follow_changed(rt, "bytes = 4608", "bytes = 512", &ONE_OF_TWO)
+    follow_changed(
+        &rt,
+        rt.alloc(),
+        ("bytes = 4608", "bytes = 512"),
+        &ONE_OF_TWO,
+    )
 }
 
 #[test]
 fn formats_none_where_the_first_is_too_small(rt: HostRuntime) -> Result<(), Fail> {
-    follow_changed(rt, "bytes = 1048576", "bytes = 4095", &ONE_OF_TWO)
+    follow_changed(
+        &rt,
+        rt.alloc(),
+        ("bytes = 1048576", "bytes = 4095"),
+        &ONE_OF_TWO,
+    )
 }
 
 #[test]
