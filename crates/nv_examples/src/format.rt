@@ -161,7 +161,7 @@ const NAMESPACES: [Step<'static>; 15] = [
     Step::Prints("id-ns /dev/nvme0n1", SHARED),
 ];
 
-/// A capacity below the new block size, told before the secure erase setting, and one that suffices.
+/// A capacity below the new block size, told before secure erase, and one that suffices.
 const TOO_SMALL: [Step<'static>; 17] = [
     Step::Prints(
         "create-ns /dev/nvme0 -s 1 -c 1",
