@@ -9,6 +9,7 @@ pub mod Capacity
 pub mod Nsid
 pub mod Identify
 pub mod Management
+pub mod Format
 pub mod Attachment
 pub mod Refusal
 pub mod Reply
@@ -25,6 +26,7 @@ pub mod UsedLaws
 pub mod MappedLaws
 pub mod ManagementLaws
 pub mod AttachmentLaws
+pub mod FormatLaws
 pub mod StepLaws
 pub mod IdentifyLaws
 pub mod ListLaws

@@ -18,12 +18,14 @@ use Rattle.nv_command.specs.Refusal.{IsRefusal}
 use Rattle.nv_command.specs.RefusalLaws.{is_refusal-refusal_by}
 use Rattle.nv_subsystem.specs.WellFormed.{IsController, IsLogEntry, IsWellFormed}
 use Rattle.nv_command.specs.declared.command.Command.{Command}
-use Rattle.nv_command.specs.declared.command.Command.TheVariants.{IdentifyNamespace, AllocatedNamespace, ActiveList, AllocatedList, Create, Delete, Attachment}
+use Rattle.nv_command.specs.declared.command.Command.TheVariants.{IdentifyNamespace, AllocatedNamespace, ActiveList, AllocatedList, Create, Delete, Attachment, Format, GetFeature, SetFeature}
 use Rattle.nv_command.specs.declared.status_code.StatusCode.TheVariants.{InvalidNamespaceOrFormat}
 use Rattle.nv_command.specs.declared.refusal.Refusal.{Refusal}
 use Rattle.nv_subsystem.specs.declared.error_log.LogEntry.{LogEntry}
 use Rattle.nv_subsystem.specs.AttachmentLaws.{attachment_controllers, attachment_keeps, attachment_rows_fit}
 use Rattle.nv_subsystem.specs.Management.{wanted}
+use Rattle.nv_subsystem.specs.Format.{new_format}
+use Rattle.nv_subsystem.specs.FormatLaws.{format_keeps, format_rows_fit}
 use Rattle.nv_subsystem.specs.ManagementLaws.{create_keeps, create_rows_fit, created_controllers, delete_keeps, delete_rows_fit, deleted_controllers}
 use Rattle.nv_subsystem.specs.ChangedAtLaws.{All-changed_at, count_by-changed_at, each_place, length-changed_at}
 
@@ -109,6 +111,9 @@ rows_fit s c (AllocatedList after) = (is_refusal-refusal_by InvalidNamespaceOrFo
 rows_fit s c (Create nsze ncap flbas dps nmic) = create_rows_fit s (wanted nsze ncap flbas dps nmic)
 rows_fit s c (Delete n) = delete_rows_fit s n
 rows_fit s c (Attachment n detach ids) = attachment_rows_fit s n detach ids
+rows_fit s c (Format n lbaf mset pi pil ses) = format_rows_fit s c n (new_format lbaf mset pi pil ses)
+rows_fit s c (GetFeature fid sel n) = tt
+rows_fit s c (SetFeature fid value save n) = tt
 
 chosen_fits : (b : Bool) (first r : Refusal) (later : Option Refusal) → IsRefusal first → (later ≡ Some r → IsRefusal r)
     → (if b then Some first else later) ≡ Some r → IsRefusal r
@@ -131,6 +136,10 @@ effect_keeps s c (AllocatedList after) accepted w = w
 effect_keeps s c (Create nsze ncap flbas dps nmic) accepted w = create_keeps s (wanted nsze ncap flbas dps nmic) w accepted
 effect_keeps s c (Delete n) accepted w = delete_keeps s n w
 effect_keeps s c (Attachment n detach ids) accepted w = attachment_keeps s n detach ids w accepted
+effect_keeps s c (Format n lbaf mset pi pil ses) accepted w =
+    format_keeps s c n (new_format lbaf mset pi pil ses) w accepted
+effect_keeps s c (GetFeature fid sel n) accepted w = w
+effect_keeps s c (SetFeature fid value save n) accepted w = w
 
 pub effect_controllers : (s : State) (c : ℕ) (k : Command) → length (effect_of s c k).controllers ≡ length s.controllers
 effect_controllers s c (IdentifyNamespace n) = refl
@@ -140,6 +149,9 @@ effect_controllers s c (AllocatedList after) = refl
 effect_controllers s c (Create nsze ncap flbas dps nmic) = created_controllers s (wanted nsze ncap flbas dps nmic)
 effect_controllers s c (Delete n) = deleted_controllers s n
 effect_controllers s c (Attachment n detach ids) = attachment_controllers s n detach ids
+effect_controllers s c (Format n lbaf mset pi pil ses) = refl
+effect_controllers s c (GetFeature fid sel n) = refl
+effect_controllers s c (SetFeature fid value save n) = refl
 
 step_by_keeps : (o : Option Refusal) (s : State) (c : ℕ) (k : Command) (cid : ℕ) → refusal_of s c k ≡ o → ((r : Refusal) → o ≡ Some r → IsRefusal r) → namespace_of k < 2 ^ 32 → cid < 2 ^ 16 → IsWellFormed s → IsWellFormed (step_by o s c k cid).state
 step_by_keeps None s c k cid is fits a b w = with_command_keeps (effect_of s c k) c (effect_keeps s c k is w)

@@ -5,6 +5,7 @@ mod attachment;
 mod capacity;
 mod controller;
 mod error_log;
+mod format;
 mod from_file;
 mod identify;
 mod listing;
