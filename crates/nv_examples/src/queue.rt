@@ -1,7 +1,7 @@
 ghost use Rattle.std.specs.Prelude.{◌≡◌, ◌*◌, ◌<◌, ◌≤◌, length};
 ghost use Rattle.nv_queue.specs.Numbers.{IsDepth};
 
-use super::*;
+use nv_queue::*;
 use nv_host::{FlatMemory, HostMemory};
 use nv_layout::{Cqe, Sqe, Status};
 use std::alloc::AllocError;

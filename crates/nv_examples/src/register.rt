@@ -1,4 +1,4 @@
-use super::*;
+use nv_register::*;
 use std::process::Abort;
 
 /// Writes of registers, one after another.

@@ -1,4 +1,4 @@
-use super::*;
+use nv_host::*;
 
 #[test]
 fn memory_of_zeros(rt: HostRuntime) {
@@ -15,7 +15,7 @@ fn memory_of_zeros(rt: HostRuntime) {
 }
 
 #[test]
-#[tactic(auto, unfolding(crate::specs::Pages::IsPageSize))]
+#[tactic(auto, unfolding(nv_host::specs::Pages::IsPageSize))]
 fn ranges_that_leave_the_memory(rt: HostRuntime) {
     let Ok(mut mem) = FlatMemory::new(rt.alloc(), 4096, 16) else {
         assert!(rt; false, "out of memory");
@@ -33,7 +33,7 @@ fn ranges_that_leave_the_memory(rt: HostRuntime) {
 }
 
 #[test]
-#[tactic(auto, unfolding(crate::specs::Pages::IsPageSize))]
+#[tactic(auto, unfolding(nv_host::specs::Pages::IsPageSize))]
 fn pages_that_are_lent(rt: HostRuntime) {
     let Ok(mut mem) = FlatMemory::new(rt.alloc(), 4096, 3) else {
         assert!(rt; false, "out of memory");
@@ -58,7 +58,7 @@ fn lowest_free_page_first(rt: HostRuntime) {
 }
 
 #[test]
-#[tactic(auto, using(crate::specs::PageSets::contains_of_insert, crate::specs::PageSets::contains_of_remove, std::proofs::lemmas::Bool::Decides::nat_tests))]
+#[tactic(auto, using(nv_host::specs::PageSets::contains_of_insert, nv_host::specs::PageSets::contains_of_remove, std::proofs::lemmas::Bool::Decides::nat_tests))]
 fn pages_given_in_reverse(rt: HostRuntime) {
     let Ok(mut pages) = PageSet::new(rt.alloc(), 0, 2) else {
         assert!(rt; false, "out of memory");
@@ -95,7 +95,7 @@ fn errors_as_text(rt: HostRuntime) {
 
 /// The crate page's example.
 #[test]
-#[tactic(auto, using(crate::specs::PageSets::contains_of_remove, std::proofs::lemmas::Bool::Decides::nat_tests), unfolding(crate::specs::Pages::IsPageSize))]
+#[tactic(auto, using(nv_host::specs::PageSets::contains_of_remove, std::proofs::lemmas::Bool::Decides::nat_tests), unfolding(nv_host::specs::Pages::IsPageSize))]
 fn page_taken_and_filled(rt: HostRuntime) {
     let (Ok(mut mem), Ok(mut free)) = (
         FlatMemory::new(rt.alloc(), 4096, 16),

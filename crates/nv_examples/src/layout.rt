@@ -1,4 +1,4 @@
-use super::*;
+use nv_layout::*;
 use std::process::Abort;
 use std::test::Fail;
 

@@ -1,4 +1,4 @@
-use super::*;
+use nv_prp::*;
 use nv_host::{FlatMemory, HostMemory, is_page_size};
 use std::process::Abort;
 

@@ -1,4 +1,4 @@
-use super::*;
+use nv_bits::*;
 
 #[test]
 fn numbers_across_words(rt: HostRuntime) {
