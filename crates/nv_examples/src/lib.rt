@@ -8,17 +8,25 @@ pub use harness::{Outcome, geometries, run_at, run_script};
 #[cfg(test)]
 mod every_geometry;
 #[cfg(test)]
+mod feature_rules;
+#[cfg(test)]
+mod features;
+#[cfg(test)]
 mod file_ranges;
 #[cfg(test)]
 mod file_values;
 #[cfg(test)]
 mod files;
 #[cfg(test)]
+mod format;
+#[cfg(test)]
 mod identify;
 #[cfg(test)]
 mod largest;
 #[cfg(test)]
 mod lines;
+#[cfg(test)]
+mod lines_of_features;
 #[cfg(test)]
 mod lines_of_management;
 #[cfg(test)]
@@ -29,6 +37,8 @@ mod over_streams;
 mod rows;
 #[cfg(test)]
 mod scripts;
+#[cfg(test)]
+mod steps;
 #[cfg(test)]
 mod streams;
 #[cfg(test)]

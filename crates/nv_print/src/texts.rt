@@ -187,7 +187,10 @@ pub fn text_of(alloc: Global, ask: &Ask, replies: &[Reply]) -> Result<String, Al
         Ask::Format { nsid, .. } => format_text(alloc, *nsid),
         Ask::GetFeature { fid, sel, .. } => get_feature_text(alloc, *fid, *sel, replies),
         Ask::SetFeature {
-            fid, value, save, ..
+            fid,
+            value,
+            save,
+            ..
         } => set_feature_text(alloc, *fid, *value, *save),
     }
 }
