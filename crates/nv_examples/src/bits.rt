@@ -1,3 +1,5 @@
+//! Sets and slots of small numbers.
+
 use nv_bits::*;
 
 #[test]

@@ -1,3 +1,5 @@
+//! Memory by pages, and sets of pages.
+
 use nv_host::*;
 
 #[test]

@@ -1,3 +1,5 @@
+//! Records by their bytes.
+
 use nv_layout::*;
 use std::process::Abort;
 use std::test::Fail;

@@ -6,6 +6,14 @@ mod harness;
 pub use harness::{Outcome, geometries, run_at, run_script};
 
 #[cfg(test)]
+mod bits;
+#[cfg(test)]
+mod entries;
+#[cfg(test)]
+mod entries_of_features;
+#[cfg(test)]
+mod entries_of_management;
+#[cfg(test)]
 mod every_geometry;
 #[cfg(test)]
 mod feature_rules;
@@ -20,9 +28,13 @@ mod files;
 #[cfg(test)]
 mod format;
 #[cfg(test)]
+mod host;
+#[cfg(test)]
 mod identify;
 #[cfg(test)]
 mod largest;
+#[cfg(test)]
+mod layout;
 #[cfg(test)]
 mod lines;
 #[cfg(test)]
@@ -33,6 +45,12 @@ mod lines_of_management;
 mod management;
 #[cfg(test)]
 mod over_streams;
+#[cfg(test)]
+mod prp;
+#[cfg(test)]
+mod queue;
+#[cfg(test)]
+mod register;
 #[cfg(test)]
 mod rows;
 #[cfg(test)]

@@ -1,3 +1,5 @@
+//! Data pointers: built, walked, and copied over.
+
 use nv_prp::*;
 use nv_host::{FlatMemory, HostMemory, is_page_size};
 use std::process::Abort;

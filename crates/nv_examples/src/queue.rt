@@ -1,3 +1,5 @@
+//! Rings by hand, from both sides.
+
 ghost use Rattle.std.specs.Prelude.{◌≡◌, ◌*◌, ◌<◌, ◌≤◌, length};
 ghost use Rattle.nv_queue.specs.Numbers.{IsDepth};
 

@@ -1,3 +1,5 @@
+//! Registers by hand.
+
 use nv_register::*;
 use std::process::Abort;
 

@@ -1,4 +1,6 @@
-use super::*;
+//! Entries of Format NVM, Get Features and Set Features.
+
+use nv_command::*;
 use nv_layout::{CtrlList, FourBits, Sqe, ThreeBits};
 use std::process::Abort;
 

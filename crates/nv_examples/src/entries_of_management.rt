@@ -1,4 +1,6 @@
-use super::*;
+//! Entries and data of Namespace Management.
+
+use nv_command::*;
 use nv_layout::{CtrlList, IdNs, Sqe};
 use std::process::Abort;
 

@@ -1,4 +1,6 @@
-use super::*;
+//! Commands of Identify by their entries, and status codes.
+
+use nv_command::*;
 use nv_layout::{CtrlList, IdNs, Lbaf, NsList, Sqe, Status};
 use std::process::Abort;
 
