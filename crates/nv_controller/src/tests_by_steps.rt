@@ -133,13 +133,34 @@ fn answers_each_structure(rt: HostRuntime) -> Result<(), Fail> {
 }
 
 #[test]
-fn knows_three_opcodes(rt: HostRuntime) -> Result<(), Fail> {
-    for opcode in [0x00, 0x02, 0x09, 0x0a, 0x80, 0xff] {
+fn knows_six_opcodes(rt: HostRuntime) -> Result<(), Fail> {
+    for opcode in [0x00, 0x02, 0x0c, 0x81, 0xff] {
         let entry = Sqe {
             opcode,
             ..identify(7, 0, 0x02, 0x10002)
         };
         answer(&rt, rt.alloc(), entry, 0x6001)?;
+    }
+    Ok(())
+}
+
+#[test]
+fn formats_and_features_have_no_data(rt: HostRuntime) -> Result<(), Fail> {
+    for (opcode, nsid, cdw10, status) in [
+        (0x80, 3, 0xffff_f001, 0),
+        (0x80, 3, 0x0021, 0x610a),
+        (0x80, 3, 0x0e01, 0x6002),
+        (0x09, 0, 0xffff_ff06, 0),
+        (0x09, 0, 0x8000_0001, 0x610d),
+        (0x0a, 0, 0xffff_fb06, 0),
+        (0x0a, 0, 0x0406, 0x6002),
+    ] {
+        let entry = Sqe {
+            opcode,
+            cdw10,
+            ..identify(7, nsid, 0, 0x10002)
+        };
+        answer(&rt, rt.alloc(), entry, status)?;
     }
     Ok(())
 }
