@@ -10,7 +10,7 @@ ghost use Rattle.nv_controller.specs.Call.{prp_status, sent_from};
 
 use nv_command::{Command, StatusCode, Transfer};
 use nv_host::HostMemory;
-use nv_layout::Sqe;
+use nv_layout::{CtrlList, Sqe};
 use nv_prp::{PrpError, Spans, copy_in, walk};
 
 /// The status of a faulty data pointer. Section "Generic Command Status Definition".
@@ -46,7 +46,7 @@ fn walk_data<M: HostMemory>(
     }
 }
 
-/// Finds the places of an entry's data; `spans` are empty before.
+/// Finds the places of an entry's data.
 fn find_data<M: HostMemory>(
     mem: &M,
     entry: &Sqe,
@@ -54,7 +54,6 @@ fn find_data<M: HostMemory>(
     spans: &mut Spans,
 ) -> Result<(), StatusCode>
     requires room { HasRoom moves }
-    requires fresh { spans.old ≡ [] }
     ensures found { let bytes = M.bytes mem.now in
         let found = data_places (M.page_len mem.now) bytes entry.now moves in
         MatchResult result (λ _. found ≡ Ok (places spans.new)) (λ code. found ≡ Err code) }
@@ -62,43 +61,49 @@ fn find_data<M: HostMemory>(
     ensures len { OnOk result (length (places spans.new) ≡ length_of moves) }
 {
     match moves {
-        Transfer::NoData => Ok(()),
+        Transfer::NoData => {
+            spans.clear();
+            Ok(())
+        }
         Transfer::ToHost(len) => walk_data(mem, entry, len, spans),
         Transfer::FromHost(len) => walk_data(mem, entry, len, spans),
     }
 }
 
 /// The command of an entry, with the bytes that the host sends where it sends any.
-fn read_command<M: HostMemory>(
+fn read_command<'a, M: HostMemory>(
     mem: &M,
     entry: &Sqe,
     moves: Transfer,
     spans: &Spans,
-) -> Result<Command, StatusCode>
+    page: &mut [u8; 4096],
+    listed: &'a mut CtrlList,
+) -> Result<Command<'a>, StatusCode>
     requires room { HasRoom moves }
     requires inside { LieIn (length (M.bytes mem.now)) spans.now }
     requires len { length (places spans.now) ≡ length_of moves }
     ensures { result ≡ command_of entry.now (sent_from moves (M.bytes mem.now) (places spans.now)) }
 {
     match moves {
-        Transfer::NoData | Transfer::ToHost(_) => Command::of(entry, &[]),
+        Transfer::NoData | Transfer::ToHost(_) => Command::of(entry, &[], listed),
         Transfer::FromHost(len) => {
-            let mut page = [0; 4096];
             let sent = &mut page[..len as usize];
             copy_in(mem, spans, sent);
-            Command::of(entry, sent)
+            Command::of(entry, sent, listed)
         }
     }
 }
 
 /// The command of an entry, or the status of the first rule that the entry or its data breaks;
-/// `spans`, empty before, get the places of its data.
-pub(crate) fn read_call<M: HostMemory>(
+/// `spans` get the places of its data, `page` what the host sends, and `listed` the controllers that
+/// it lists.
+pub(crate) fn read_call<'a, M: HostMemory>(
     mem: &M,
     entry: &Sqe,
     spans: &mut Spans,
-) -> Result<Command, StatusCode>
-    requires { spans.old ≡ [] }
+    page: &mut [u8; 4096],
+    listed: &'a mut CtrlList,
+) -> Result<Command<'a>, StatusCode>
     ensures found { let found = call_of (M.page_len mem.now) (M.bytes mem.now) entry.now in
         MatchResult result
         (λ command. found ≡ Ok (record { command = command; places = places spans.new }))
@@ -109,6 +114,6 @@ pub(crate) fn read_call<M: HostMemory>(
 {
     let moves = Transfer::of(entry)?;
     find_data(mem, entry, moves, spans)?;
-    let command = read_command(mem, entry, moves, spans)?;
+    let command = read_command(mem, entry, moves, spans, page, listed)?;
     Ok(command)
 }

@@ -9,6 +9,7 @@ ghost use Rattle.nv_controller.specs.Entry.{HasPlaces, Moves, One, completion_wi
 ghost use Rattle.nv_controller.specs.Turn.{can_take, reaches};
 
 use crate::call::read_call;
+use crate::scratch::Scratch;
 use nv_command::{Refusal, Reply};
 use nv_host::HostMemory;
 use nv_layout::{Cqe, Sqe, Status};
@@ -16,19 +17,18 @@ use nv_prp::{Spans, copy_out};
 use nv_register::Rings;
 use nv_subsystem::{Origin, Subsystem};
 
-/// Executes the command of an entry, or refuses the entry; `spans`, empty before, get the places of
-/// its data. `phase` is the phase tag that its completion will have.
+/// Executes the command of an entry, or refuses the entry; `scratch.spans` get the places of its
+/// data. `phase` is the phase tag that its completion will have.
 fn answer_entry<M: HostMemory>(
     subsystem: &mut Subsystem,
     ctrl: u16,
     mem: &M,
     entry: &Sqe,
     phase: bool,
-    spans: &mut Spans,
+    scratch: &mut Scratch,
 ) -> Result<Reply, Status>
     requires ctrl { ctrl < length subsystem.old.controllers }
     requires well_formed { IsWellFormed subsystem.old }
-    requires fresh { spans.old ≡ [] }
     ensures answer { let call = call_of (M.page_len mem.now) (M.bytes mem.now) entry.now in
         result ≡ (step_unless call subsystem.old ctrl entry.now).answer }
     ensures state { let call = call_of (M.page_len mem.now) (M.bytes mem.now) entry.now in
@@ -36,15 +36,20 @@ fn answer_entry<M: HostMemory>(
     ensures well_formed { IsWellFormed subsystem.new }
     ensures controllers { length subsystem.new.controllers ≡ length subsystem.old.controllers }
     ensures places { OnOk result
-        (places spans.new ≡ places_in (call_of (M.page_len mem.now) (M.bytes mem.now) entry.now)) }
-    ensures inside { OnOk result (LieIn (length (M.bytes mem.now)) spans.new) }
-    ensures room { IfOk result (λ reply. HasPlaces reply (places spans.new)) }
+        (places scratch.new.spans ≡ places_in (call_of (M.page_len mem.now) (M.bytes mem.now) entry.now)) }
+    ensures inside { OnOk result (LieIn (length (M.bytes mem.now)) scratch.new.spans) }
+    ensures room { IfOk result (λ reply. HasPlaces reply (places scratch.new.spans)) }
 {
     let origin = Origin {
         cid: entry.cid,
         phase,
     };
-    match read_call(mem, entry, spans) {
+    let Scratch {
+        spans,
+        page,
+        listed,
+    } = scratch;
+    match read_call(mem, entry, spans, page, listed) {
         Err(code) => {
             let refusal = Refusal::from(code);
             subsystem.refuse(ctrl, origin, entry.nsid, refusal);
@@ -58,7 +63,7 @@ fn answer_entry<M: HostMemory>(
 }
 
 /// Writes the data of a reply that has a page of it to its places.
-fn deliver_page<M: HostMemory>(mem: &mut M, spans: &Spans, reply: &Reply)
+fn deliver_page<M: HostMemory>(mem: &mut M, spans: &Spans, page: &mut [u8; 4096], reply: &Reply)
     requires inside { LieIn (length (M.bytes mem.old)) spans.now }
     requires len { length (places spans.now) ≡ 4096 }
     requires page { length (data_of reply.now) ≡ 4096 }
@@ -67,14 +72,13 @@ fn deliver_page<M: HostMemory>(mem: &mut M, spans: &Spans, reply: &Reply)
     ensures len { length (M.bytes mem.new) ≡ length (M.bytes mem.old) }
     ensures page_len { M.page_len mem.new ≡ M.page_len mem.old }
 {
-    let mut page = [0; 4096];
-    reply.put(&mut page);
-    copy_out(mem, spans, &page);
+    reply.put(page);
+    copy_out(mem, spans, page);
 }
 
 /// Writes the data of a reply to its places, where it has any.
 #[tactic(auto, unfolding(crate::specs::Entry::HasPlaces))]
-fn deliver<M: HostMemory>(mem: &mut M, spans: &Spans, reply: &Reply)
+fn deliver<M: HostMemory>(mem: &mut M, spans: &Spans, page: &mut [u8; 4096], reply: &Reply)
     requires inside { LieIn (length (M.bytes mem.old)) spans.now }
     requires room { HasPlaces reply.now (places spans.now) }
     ensures bytes { M.bytes mem.new
@@ -83,23 +87,23 @@ fn deliver<M: HostMemory>(mem: &mut M, spans: &Spans, reply: &Reply)
     ensures page_len { M.page_len mem.new ≡ M.page_len mem.old }
 {
     match reply {
-        Reply::Namespace(_) => deliver_page(mem, spans, reply),
-        Reply::List(_) => deliver_page(mem, spans, reply),
+        Reply::Namespace(_) => deliver_page(mem, spans, page, reply),
+        Reply::List(_) => deliver_page(mem, spans, page, reply),
         Reply::Number(_) => {}
         Reply::Done => {}
     }
 }
 
 /// Writes the data of an answer to its places, where it has any.
-fn deliver_answer<M: HostMemory>(mem: &mut M, spans: &Spans, answer: &Result<Reply, Status>)
-    requires inside { OnOk answer.now (LieIn (length (M.bytes mem.old)) spans.now) }
-    requires room { IfOk answer.now (λ reply. HasPlaces reply (places spans.now)) }
-    ensures moved { Moves answer.now (places spans.now) (M.bytes mem.old) (M.bytes mem.new) }
+fn deliver_answer<M: HostMemory>(mem: &mut M, scratch: &mut Scratch, answer: &Result<Reply, Status>)
+    requires inside { OnOk answer.now (LieIn (length (M.bytes mem.old)) scratch.old.spans) }
+    requires room { IfOk answer.now (λ reply. HasPlaces reply (places scratch.old.spans)) }
+    ensures moved { Moves answer.now (places scratch.old.spans) (M.bytes mem.old) (M.bytes mem.new) }
     ensures len { length (M.bytes mem.new) ≡ length (M.bytes mem.old) }
     ensures page_len { M.page_len mem.new ≡ M.page_len mem.old }
 {
     if let Ok(reply) = answer {
-        deliver(mem, spans, reply);
+        deliver(mem, &scratch.spans, &mut scratch.page, reply);
     }
 }
 
@@ -126,6 +130,7 @@ fn completion(cid: u16, sq_head: u16, answer: &Result<Reply, Status>) -> Cqe
 pub(crate) fn take_one<M: HostMemory>(
     subsystem: &mut Subsystem,
     rings: &mut Rings,
+    scratch: &mut Scratch,
     ctrl: u16,
     mem: &mut M,
 )
@@ -142,9 +147,8 @@ pub(crate) fn take_one<M: HostMemory>(
 {
     let entry = rings.submission.next(mem).unwrap();
     let phase = rings.completion.phase();
-    let mut spans = Spans::new();
-    let answer = answer_entry(subsystem, ctrl, mem, &entry, phase, &mut spans);
-    deliver_answer(mem, &spans, &answer);
+    let answer = answer_entry(subsystem, ctrl, mem, &entry, phase, scratch);
+    deliver_answer(mem, scratch, &answer);
     let posted = completion(entry.cid, rings.submission.head(), &answer);
     rings.completion.put(mem, posted).unwrap();
 }

@@ -34,6 +34,7 @@ mod entry;
 #[cfg(test)]
 mod example;
 mod machine;
+mod scratch;
 #[cfg(test)]
 mod tests;
 #[cfg(test)]

@@ -6,6 +6,7 @@ ghost use Rattle.nv_subsystem.specs.WellFormed.{IsWellFormed};
 ghost use Rattle.nv_controller.specs.Bus.{IsBus, IsEnabledWhereReady};
 
 use crate::bus::Bus;
+use crate::scratch::Scratch;
 use crate::turn::turn_port;
 use nv_host::{HostMemory, Memory};
 use nv_register::Port;
@@ -18,6 +19,7 @@ use std::marker::Model;
 pub struct Machine {
     subsystem: Subsystem,
     ports: Vec<Port>,
+    scratch: Scratch,
 }
 
 impl Model for Machine {
@@ -62,7 +64,11 @@ impl Machine {
         ensures enabled { IfOk result (λ m. All IsEnabledWhereReady m.ports) }
     {
         let ports = new_ports(alloc, subsystem.controllers())?;
-        Ok(Machine { subsystem, ports })
+        Ok(Machine {
+            subsystem,
+            ports,
+            scratch: Scratch::new(),
+        })
     }
 
     /// The subsystem as it is now.
@@ -91,6 +97,13 @@ impl Bus for Machine {
 
     fn turn<M: HostMemory>(&mut self, ctrl: u16, mem: &mut M, most: u16) -> u16 {
         let port = &mut self.ports[ctrl as usize];
-        turn_port(&mut self.subsystem, port, ctrl, mem, most)
+        turn_port(
+            &mut self.subsystem,
+            port,
+            &mut self.scratch,
+            ctrl,
+            mem,
+            most,
+        )
     }
 }

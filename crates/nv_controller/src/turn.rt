@@ -7,6 +7,7 @@ ghost use Rattle.nv_controller.specs.Turn.{PortTurn, RingsTurn, TakesCount, can_
 ghost use Rattle.nv_controller.specs.Turn.{site};
 
 use crate::entry::take_one;
+use crate::scratch::Scratch;
 use nv_host::HostMemory;
 use nv_register::{Port, Rings};
 use nv_subsystem::Subsystem;
@@ -31,6 +32,7 @@ fn reaches<M: HostMemory>(rings: &Rings, mem: &M) -> bool
 fn take_entries<M: HostMemory>(
     subsystem: &mut Subsystem,
     rings: &mut Rings,
+    scratch: &mut Scratch,
     ctrl: u16,
     mem: &mut M,
     most: u16,
@@ -52,7 +54,7 @@ fn take_entries<M: HostMemory>(
         if !reaches(rings, mem) {
             return (count, true);
         }
-        take_one(subsystem, rings, ctrl, mem);
+        take_one(subsystem, rings, scratch, ctrl, mem);
     }
     (most, false)
 }
@@ -61,6 +63,7 @@ fn take_entries<M: HostMemory>(
 pub(crate) fn turn_port<M: HostMemory>(
     subsystem: &mut Subsystem,
     port: &mut Port,
+    scratch: &mut Scratch,
     ctrl: u16,
     mem: &mut M,
     most: u16,
@@ -83,7 +86,7 @@ pub(crate) fn turn_port<M: HostMemory>(
     match &mut port.rings {
         None => 0,
         Some(rings) => {
-            let (count, fatal) = take_entries(subsystem, rings, ctrl, mem, most);
+            let (count, fatal) = take_entries(subsystem, rings, scratch, ctrl, mem, most);
             port.cfs = fatal;
             count
         }

@@ -9,11 +9,12 @@ ghost use Rattle.nv_prp.specs.Transfer.{IsLegal, transfer_places};
 ghost use Rattle.nv_driver.specs.Schedule.{answer_from, received_from};
 ghost use Rattle.nv_driver.specs.Submitting.{transfer_at};
 
+use crate::scratch::Scratch;
 use crate::submitting::{Outstanding, data_length};
 use nv_command::{Command, Reply, Transfer};
 use nv_host::HostMemory;
 use nv_layout::{Cqe, Status};
-use nv_prp::{Spans, copy_in, walk};
+use nv_prp::{copy_in, walk};
 
 /// What a command is answered: its reply, or the status of its refusal.
 pub type Answer = Result<Reply, Status>;
@@ -29,6 +30,7 @@ fn read_reply<M: HostMemory>(
     outstanding: &Outstanding,
     command: &Command,
     dword0: u32,
+    scratch: &mut Scratch,
 ) -> Reply
     requires comes { 0 < bytes_to_host (transfer_by command.now) }
     requires legal { IsLegal (transfer_at (M.page_len mem.now) (M.bytes mem.now)
@@ -37,15 +39,25 @@ fn read_reply<M: HostMemory>(
         (transfer_at (M.page_len mem.now) (M.bytes mem.now) outstanding.now command.now))) }
 {
     let len = data_length(command);
-    let mut spans = Spans::new();
-    walk(mem, outstanding.prp1, outstanding.prp2, len, &mut spans).unwrap();
-    let mut page = [0; 4096];
-    copy_in(mem, &spans, &mut page);
-    Reply::read(command, dword0, &page)
+    walk(
+        mem,
+        outstanding.prp1,
+        outstanding.prp2,
+        len,
+        &mut scratch.spans,
+    ).unwrap();
+    copy_in(mem, &scratch.spans, &mut scratch.page);
+    Reply::read(command, dword0, &scratch.page)
 }
 
 /// The reply to a command, from dword 0 of its completion and the data that the controller sent.
-fn reply<M: HostMemory>(mem: &M, outstanding: &Outstanding, command: &Command, dword0: u32) -> Reply
+fn reply<M: HostMemory>(
+    mem: &M,
+    outstanding: &Outstanding,
+    command: &Command,
+    dword0: u32,
+    scratch: &mut Scratch,
+) -> Reply
     requires { 0 < length_of (transfer_by command.now) → IsLegal (transfer_at
         (M.page_len mem.now) (M.bytes mem.now) outstanding.now command.now) }
     ensures { result ≡ reply_in command.now dword0
@@ -53,7 +65,7 @@ fn reply<M: HostMemory>(mem: &M, outstanding: &Outstanding, command: &Command, d
         (transfer_at (M.page_len mem.now) (M.bytes mem.now) outstanding.now command.now))) }
 {
     match command.transfer() {
-        Transfer::ToHost(_) => read_reply(mem, outstanding, command, dword0),
+        Transfer::ToHost(_) => read_reply(mem, outstanding, command, dword0, scratch),
         Transfer::NoData => Reply::read(command, dword0, &NO_DATA),
         Transfer::FromHost(_) => Reply::read(command, dword0, &NO_DATA),
     }
@@ -66,6 +78,7 @@ pub(crate) fn answer<M: HostMemory>(
     outstanding: &Outstanding,
     command: &Command,
     completion: &Cqe,
+    scratch: &mut Scratch,
 ) -> Answer
     requires { 0 < length_of (transfer_by command.now) → IsLegal (transfer_at
         (M.page_len mem.now) (M.bytes mem.now) outstanding.now command.now) }
@@ -76,5 +89,11 @@ pub(crate) fn answer<M: HostMemory>(
     if !completion.status.is_success() {
         return Err(completion.status);
     }
-    Ok(reply(mem, outstanding, command, completion.command_specific))
+    Ok(reply(
+        mem,
+        outstanding,
+        command,
+        completion.command_specific,
+        scratch,
+    ))
 }

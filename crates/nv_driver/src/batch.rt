@@ -18,6 +18,7 @@ ghost use Rattle.nv_driver.specs.UnderWay.{left_of, run_of, setting_of};
 use crate::answering::{Answer, answer};
 use crate::geometry::Geometry;
 use crate::lane::Lane;
+use crate::scratch::Scratch;
 use crate::submitting::{Outstanding, submit};
 use nv_command::Command;
 use nv_controller::Bus;
@@ -77,6 +78,7 @@ impl Batch {
         mem: &mut M,
         lane: &mut Lane,
         commands: &[Command],
+        scratch: &mut Scratch,
     ) -> Option<u16>
         ghost run: { Run }
         requires commands { commands.now ≡ run.commands }
@@ -95,7 +97,7 @@ impl Batch {
         let end = self.sent + room.min(commands.len() - self.sent);
         let mut tail = None;
         for number in self.sent..end {
-            let (one, next) = submit(mem, lane, self.geometry, &commands[number]);
+            let (one, next) = submit(mem, lane, self.geometry, &commands[number], scratch);
             self.outstanding[number % MOST] = Some(one);
             self.sent += 1;
             tail = Some(next);
@@ -111,6 +113,7 @@ impl Batch {
         mem: &mut M,
         lane: &mut Lane,
         commands: &[Command],
+        scratch: &mut Scratch,
     )
         ghost run: { Run }
         requires commands { commands.now ≡ run.commands }
@@ -127,7 +130,7 @@ impl Batch {
         ensures collected { self.new.collected ≡ self.old.collected }
         ensures told { self.new.told ≡ self.old.told }
     {
-        if let Some(tail) = self.fill(mem, lane, commands) {
+        if let Some(tail) = self.fill(mem, lane, commands, scratch) {
             bus.write32(self.ctrl, offset::TAIL_DOORBELL, u32::from(tail));
         }
     }
@@ -187,6 +190,7 @@ impl Batch {
         lane: &mut Lane,
         commands: &[Command],
         answers: &mut [Answer],
+        scratch: &mut Scratch,
     )
         ghost at: { Moment }
         requires commands { commands.now ≡ at.run.commands }
@@ -204,7 +208,7 @@ impl Batch {
         let number = self.sent - distance(completion.cid, lane.serial);
         let one = self.outstanding[number % MOST].unwrap();
         one.pages.give(&mut lane.pages);
-        answers[number] = answer(mem, &one, &commands[number], &completion);
+        answers[number] = answer(mem, &one, &commands[number], &completion, scratch);
         self.collected += 1;
     }
 
@@ -217,6 +221,7 @@ impl Batch {
         commands: &[Command],
         answers: &mut [Answer],
         posted: u16,
+        scratch: &mut Scratch,
     )
         ghost at: { Moment }
         requires commands { commands.now ≡ at.run.commands }
@@ -233,7 +238,7 @@ impl Batch {
         ensures told { posted ≡ 0 → self.new.told ≡ self.old.told }
     {
         for _ in 0..posted {
-            self.collect_one(mem, lane, commands, answers);
+            self.collect_one(mem, lane, commands, answers, scratch);
             if self.collected - self.told == self.geometry.pace as usize {
                 self.tell(bus, lane);
             }
@@ -248,6 +253,7 @@ impl Batch {
         lane: &mut Lane,
         commands: &[Command],
         answers: &mut [Answer],
+        scratch: &mut Scratch,
     )
         ghost run: { Run }
         requires commands { commands.now ≡ run.commands }
@@ -265,9 +271,9 @@ impl Batch {
         ensures further { left_of (length commands.now) self.new
             < left_of (length commands.now) self.old }
     {
-        self.send(bus, mem, lane, commands);
+        self.send(bus, mem, lane, commands, scratch);
         let posted = self.turn(bus, mem, lane);
-        self.collect(bus, mem, lane, commands, answers, posted);
+        self.collect(bus, mem, lane, commands, answers, posted, scratch);
     }
 }
 
@@ -281,6 +287,7 @@ pub(crate) fn exchange_all<B: Bus, M: HostMemory>(
     geometry: Geometry,
     commands: &[Command],
     answers: &mut [Answer],
+    scratch: &mut Scratch,
 )
     ghost run: { Run }
     requires run { run
@@ -306,7 +313,7 @@ pub(crate) fn exchange_all<B: Bus, M: HostMemory>(
 {
     let mut batch = Batch::new(ctrl, geometry);
     while batch.collected < commands.len() {
-        batch.round(bus, mem, lane, commands, answers);
+        batch.round(bus, mem, lane, commands, answers, scratch);
     }
     batch.tell(bus, lane);
 }

@@ -17,6 +17,7 @@ use crate::exchange::exchange;
 use crate::geometry::Geometry;
 use crate::geometry_field::GeometryField;
 use crate::lane::{Lane, new_lanes};
+use crate::scratch::Scratch;
 use nv_command::Command;
 use nv_controller::Bus;
 use nv_host::{FlatMemory, HostMemory, Memory};
@@ -30,6 +31,7 @@ pub struct Driver {
     mem: FlatMemory,
     geometry: Geometry,
     lanes: Vec<Lane>,
+    scratch: Scratch,
 }
 
 impl Model for Driver {
@@ -58,6 +60,7 @@ impl Driver {
             mem,
             geometry,
             lanes,
+            scratch: Scratch::new(),
         })
     }
 
@@ -107,7 +110,7 @@ impl Driver {
         ensures left { (B.meaning bus.new).ports ≡ ports_of self.new }
     {
         let lane = &mut self.lanes[ctrl as usize];
-        exchange(bus, ctrl, &mut self.mem, lane, self.geometry, command)
+        exchange(bus, ctrl, &mut self.mem, lane, self.geometry, command, &mut self.scratch)
     }
 
     /// Sends commands to a controller and awaits their answers, one for each. As many commands are
@@ -144,6 +147,7 @@ impl Driver {
             self.geometry,
             commands,
             answers,
+            &mut self.scratch,
         );
     }
 

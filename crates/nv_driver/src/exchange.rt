@@ -10,6 +10,7 @@ ghost use Rattle.nv_driver.specs.Quiet.{lane_value};
 use crate::answering::{Answer, answer};
 use crate::geometry::Geometry;
 use crate::lane::Lane;
+use crate::scratch::Scratch;
 use crate::submitting::submit;
 use nv_command::Command;
 use nv_controller::Bus;
@@ -25,6 +26,7 @@ pub(crate) fn exchange<B: Bus, M: HostMemory>(
     lane: &mut Lane,
     geometry: Geometry,
     command: &Command,
+    scratch: &mut Scratch,
 ) -> Answer
     requires ready { IsReady geometry (B.meaning bus.old) ctrl
         lane.old (M.page_len mem.old) (M.bytes mem.old) }
@@ -43,7 +45,7 @@ pub(crate) fn exchange<B: Bus, M: HostMemory>(
     ensures len { length (M.bytes mem.new) ≡ length (M.bytes mem.old) }
     ensures page { M.page_len mem.new ≡ M.page_len mem.old }
 {
-    let (outstanding, tail) = submit(mem, lane, geometry, command);
+    let (outstanding, tail) = submit(mem, lane, geometry, command, scratch);
     bus.write32(ctrl, offset::TAIL_DOORBELL, u32::from(tail));
     bus.turn(ctrl, mem, geometry.pace as u16);
     let completion = lane.completion.poll(mem).unwrap();
@@ -51,5 +53,5 @@ pub(crate) fn exchange<B: Bus, M: HostMemory>(
     let head = lane.completion.head_to_tell().unwrap();
     bus.write32(ctrl, offset::HEAD_DOORBELL, u32::from(head));
     outstanding.pages.give(&mut lane.pages);
-    answer(mem, &outstanding, command, &completion)
+    answer(mem, &outstanding, command, &completion, scratch)
 }

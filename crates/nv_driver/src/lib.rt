@@ -38,6 +38,7 @@ mod geometry_field;
 mod lane;
 mod law;
 mod layout;
+mod scratch;
 mod submitting;
 #[cfg(test)]
 mod tests;

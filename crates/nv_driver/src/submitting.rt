@@ -17,9 +17,10 @@ ghost use Rattle.nv_driver.specs.Submitting.{IsSubmitted, transfer_at};
 use crate::command_pages::CommandPages;
 use crate::geometry::Geometry;
 use crate::lane::Lane;
+use crate::scratch::Scratch;
 use nv_command::{Command, Transfer};
 use nv_host::HostMemory;
-use nv_prp::{Buffer, Spans, build, copy_out, walk};
+use nv_prp::{Buffer, build, copy_out, walk};
 use nv_subsystem::SERIALS;
 
 /// What an outstanding command has: its pages, and its data pointer. Section "Submission Queue
@@ -93,7 +94,12 @@ fn build_pointer<M: HostMemory>(
 
 /// Writes the page that the host sends with a command to its pages.
 #[tactic(auto, using(crate::proofs::DataLaws::page_sent))]
-fn write_page<M: HostMemory>(mem: &mut M, outstanding: &Outstanding, command: &Command)
+fn write_page<M: HostMemory>(
+    mem: &mut M,
+    outstanding: &Outstanding,
+    command: &Command,
+    scratch: &mut Scratch,
+)
     requires fits { CommandFits command.now }
     requires sends { 0 < bytes_from_host (transfer_by command.now) }
     requires legal { IsLegal (transfer_at (M.page_len mem.old) (M.bytes mem.old)
@@ -104,17 +110,26 @@ fn write_page<M: HostMemory>(mem: &mut M, outstanding: &Outstanding, command: &C
     ensures len { length (M.bytes mem.new) ≡ length (M.bytes mem.old) }
     ensures page { M.page_len mem.new ≡ M.page_len mem.old }
 {
-    let mut page = [0; 4096];
-    command.put(&mut page);
+    command.put(&mut scratch.page);
     let len = data_length(command);
-    let mut spans = Spans::new();
-    walk(mem, outstanding.prp1, outstanding.prp2, len, &mut spans).unwrap();
-    copy_out(mem, &spans, &page);
+    walk(
+        mem,
+        outstanding.prp1,
+        outstanding.prp2,
+        len,
+        &mut scratch.spans,
+    ).unwrap();
+    copy_out(mem, &scratch.spans, &scratch.page);
 }
 
 /// Writes what the host sends with a command to its pages.
 #[tactic(auto, using(crate::proofs::DataLaws::none_sent))]
-fn write_data<M: HostMemory>(mem: &mut M, outstanding: &Outstanding, command: &Command)
+fn write_data<M: HostMemory>(
+    mem: &mut M,
+    outstanding: &Outstanding,
+    command: &Command,
+    scratch: &mut Scratch,
+)
     requires fits { CommandFits command.now }
     requires legal { 0 < length_of (transfer_by command.now) → IsLegal (transfer_at
         (M.page_len mem.old) (M.bytes mem.old) outstanding.now command.now) }
@@ -127,7 +142,7 @@ fn write_data<M: HostMemory>(mem: &mut M, outstanding: &Outstanding, command: &C
     match command.transfer() {
         Transfer::NoData => {}
         Transfer::ToHost(_) => {}
-        Transfer::FromHost(_) => write_page(mem, outstanding, command),
+        Transfer::FromHost(_) => write_page(mem, outstanding, command, scratch),
     }
 }
 
@@ -139,6 +154,7 @@ pub(crate) fn submit<M: HostMemory>(
     lane: &mut Lane,
     geometry: Geometry,
     command: &Command,
+    scratch: &mut Scratch,
 ) -> (Outstanding, u16)
     requires geometry { IsGeometry geometry }
     requires page { M.page_len mem.old ≡ geometry.page_size }
@@ -161,7 +177,7 @@ pub(crate) fn submit<M: HostMemory>(
     let pages = CommandPages::take(&mut lane.pages, page_count(geometry, len));
     let (prp1, prp2) = build_pointer(mem, geometry, &pages, len);
     let outstanding = Outstanding { pages, prp1, prp2 };
-    write_data(mem, &outstanding, command);
+    write_data(mem, &outstanding, command, scratch);
     let mut entry = command.entry(lane.serial);
     entry.prp1 = prp1;
     entry.prp2 = prp2;

@@ -23,6 +23,7 @@ mod request;
 mod verb;
 mod word;
 
+pub use controller_list::ControllerList;
 pub use fault::LineFault;
 pub use line::{LINE_LIMIT, Line, read_line};
 pub use number::parse_number;

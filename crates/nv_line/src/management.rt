@@ -3,6 +3,7 @@
 
 ghost use Rattle.std.specs.Prelude.{◌≡◌};
 ghost use Rattle.clap.specs.Words.{found_of, rows_of};
+ghost use Rattle.nv_line.specs.LineFault.{IsUnlessMemory};
 ghost use Rattle.nv_line.specs.Management.{attachment_of, create_ns_of, delete_ns_of};
 
 use crate::device::Device;
@@ -11,6 +12,7 @@ use crate::option_value::{read_list, read_number};
 use crate::request::Ask;
 use crate::verb::{CONTROLLERS, DPS, FLBAS, NCAP, NMIC, NSID, NSZE};
 use clap::ArgMatches;
+use std::alloc::Global;
 
 /// A namespace to create.
 pub(crate) fn create_ns(matches: &ArgMatches<'_>, device: Device) -> Result<Ask, LineFault>
@@ -32,14 +34,15 @@ pub(crate) fn create_ns(matches: &ArgMatches<'_>, device: Device) -> Result<Ask,
 
 /// Controllers to attach a namespace to, or to detach it from.
 pub(crate) fn attachment(
+    alloc: Global,
     matches: &ArgMatches<'_>,
     device: Device,
     detach: bool,
 ) -> Result<Ask, LineFault>
-    ensures { result ≡ attachment_of detach (rows_of (found_of matches.now)) device }
+    ensures { IsUnlessMemory (attachment_of detach (rows_of (found_of matches.now)) device) result }
 {
     let nsid = read_number(matches, NSID, device)? as u32;
-    let controllers = read_list(matches, CONTROLLERS)?;
+    let controllers = read_list(alloc, matches, CONTROLLERS)?;
     Ok(Ask::Attachment {
         nsid,
         detach,

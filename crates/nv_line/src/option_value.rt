@@ -2,17 +2,18 @@
 
 ghost use Rattle.std.specs.Prelude.{◌≡◌, ◌≤◌, IfOk};
 ghost use Rattle.clap.specs.Words.{found_of, rows_of};
+ghost use Rattle.nv_line.specs.LineFault.{IsUnlessMemory};
 ghost use Rattle.nv_line.specs.NumberOption.{IsSound};
 ghost use Rattle.nv_line.specs.OptionValue.{flag_in, list_option_in, number_option_in};
 
 use crate::clap_rule::text_of;
-use crate::controller_list::parse_list;
+use crate::controller_list::{ControllerList, parse_list};
 use crate::device::Device;
 use crate::fault::LineFault;
 use crate::number::parse_number;
 use crate::option::{FlagOption, ListOption, NumberOption};
 use clap::ArgMatches;
-use nv_layout::CtrlList;
+use std::alloc::Global;
 
 /// The number of an option, or what stands in where it isn't written.
 pub(crate) fn read_number(
@@ -33,11 +34,15 @@ pub(crate) fn read_number(
 }
 
 /// The controller identifiers of an option.
-pub(crate) fn read_list(matches: &ArgMatches<'_>, option: ListOption) -> Result<CtrlList, LineFault>
-    ensures { result ≡ list_option_in (rows_of (found_of matches.now)) option }
+pub(crate) fn read_list(
+    alloc: Global,
+    matches: &ArgMatches<'_>,
+    option: ListOption,
+) -> Result<ControllerList, LineFault>
+    ensures { IsUnlessMemory (list_option_in (rows_of (found_of matches.now)) option) result }
 {
     match text_of(matches, option.name.text()) {
-        Some(text) => parse_list(text).ok_or(LineFault::Number(option.name)),
+        Some(text) => parse_list(alloc, text)?.ok_or(LineFault::Number(option.name)),
         None => Err(LineFault::Usage),
     }
 }

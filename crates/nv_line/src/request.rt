@@ -6,6 +6,7 @@ ghost use Rattle.nv_line.specs.LineFault.{IsUnlessMemory};
 ghost use Rattle.nv_line.specs.Request.{ask_of, device_in, request_of};
 
 use crate::clap_rule::{clap_matches, text_of};
+use crate::controller_list::ControllerList;
 use crate::device::{Device, read_device};
 use crate::fault::LineFault;
 use crate::features::{get_feature, set_feature};
@@ -14,7 +15,7 @@ use crate::identify::{id_ns, list_ns};
 use crate::management::{attachment, create_ns, delete_ns};
 use crate::verb::Verb;
 use clap::ArgMatches;
-use nv_layout::{CtrlList, FourBits, ThreeBits};
+use nv_layout::{FourBits, ThreeBits};
 use std::alloc::Global;
 
 /// What a controller is asked.
@@ -44,7 +45,7 @@ pub enum Ask {
     Attachment {
         nsid: u32,
         detach: bool,
-        controllers: CtrlList,
+        controllers: ControllerList,
     },
     /// A namespace to delete ("Namespace Management command").
     Delete {
@@ -92,15 +93,20 @@ fn chosen_device(matches: &ArgMatches<'_>, controllers: u16) -> Result<Device, L
 }
 
 /// What a command word asks for at a device.
-fn read_ask(matches: &ArgMatches<'_>, verb: Verb, device: Device) -> Result<Ask, LineFault>
-    ensures { result ≡ ask_of verb (rows_of (found_of matches.now)) device }
+fn read_ask(
+    alloc: Global,
+    matches: &ArgMatches<'_>,
+    verb: Verb,
+    device: Device,
+) -> Result<Ask, LineFault>
+    ensures { IsUnlessMemory (ask_of verb (rows_of (found_of matches.now)) device) result }
 {
     match verb {
         Verb::ListNs => list_ns(matches, device),
         Verb::IdNs => id_ns(matches, device),
         Verb::CreateNs => create_ns(matches, device),
-        Verb::AttachNs => attachment(matches, device, false),
-        Verb::DetachNs => attachment(matches, device, true),
+        Verb::AttachNs => attachment(alloc, matches, device, false),
+        Verb::DetachNs => attachment(alloc, matches, device, true),
         Verb::DeleteNs => delete_ns(matches, device),
         Verb::Format => format(matches, device),
         Verb::GetFeature => get_feature(matches, device),
@@ -123,7 +129,7 @@ pub(crate) fn read_request<'a>(
     let verb = Verb::of(words[0]).ok_or(LineFault::Usage)?;
     let matches = clap_matches(alloc, verb, words)?;
     let device = chosen_device(&matches, controllers)?;
-    let ask = read_ask(&matches, verb, device)?;
+    let ask = read_ask(alloc, &matches, verb, device)?;
     Ok(Request {
         controller: device.controller,
         ask,

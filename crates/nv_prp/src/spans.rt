@@ -66,7 +66,8 @@ impl Spans {
         self.as_slice().is_empty()
     }
 
-    pub(crate) fn clear(&mut self)
+    /// Takes out all spans.
+    pub fn clear(&mut self)
         ensures { self.new ≡ [] }
     {
         self.count = 0;

@@ -11,13 +11,13 @@ use std::alloc::{AllocError, Global};
 
 /// A command for a controller, named by its place in the subsystem's file.
 #[derive(Drop)]
-pub struct Order {
+pub struct Order<'a> {
     pub controller: u16,
-    pub command: Command,
+    pub command: Command<'a>,
 }
 
 /// The command for the NSIDs above one: those attached to the controller, or all allocated ones.
-fn list_command(all: bool, after: u32) -> Command
+fn list_command<'a>(all: bool, after: u32) -> Command<'a>
     ensures { result ≡ list_command all after }
 {
     if all {
@@ -28,7 +28,7 @@ fn list_command(all: bool, after: u32) -> Command
 }
 
 /// The command for what a namespace is: one attached to the controller, or any allocated one.
-fn namespace_command(force: bool, nsid: u32) -> Command
+fn namespace_command<'a>(force: bool, nsid: u32) -> Command<'a>
     ensures { result ≡ namespace_command force nsid }
 {
     if force {
@@ -39,10 +39,10 @@ fn namespace_command(force: bool, nsid: u32) -> Command
 }
 
 /// The command for what a controller is asked.
-fn command_of(ask: &Ask) -> Result<Command, AllocError>
-    ensures { IfOk result (λ command. command ≡ command_of ask.now) }
+fn command_of(ask: &Ask) -> Command<'_>
+    ensures { result ≡ command_of ask.now }
 {
-    Ok(match ask {
+    match ask {
         Ask::ListNs { first, all } => list_command(*all, first.saturating_sub(1)),
         Ask::IdNs { nsid, force } => namespace_command(*force, *nsid),
         Ask::Create {
@@ -65,7 +65,7 @@ fn command_of(ask: &Ask) -> Result<Command, AllocError>
         } => Command::Attachment {
             nsid: *nsid,
             detach: *detach,
-            list: controllers.clone()?,
+            list: controllers.ids(),
         },
         Ask::Delete { nsid } => Command::Delete { nsid: *nsid },
         Ask::Format {
@@ -99,16 +99,16 @@ fn command_of(ask: &Ask) -> Result<Command, AllocError>
             save: *save,
             nsid: *nsid,
         },
-    })
+    }
 }
 
 /// The commands of a request, in order. They are known from the request alone, before the first
 /// reply.
-pub(crate) fn commands_of(alloc: Global, request: &Request) -> Result<Vec<Order>, AllocError>
+pub(crate) fn commands_of(alloc: Global, request: &Request) -> Result<Vec<Order<'_>>, AllocError>
     ensures orders { IfOk result (λ orders. (s : State) → orders.items ≡ commands_of s request.now) }
     ensures fits { IfOk result (λ orders. All (λ o. CommandFits o.command) orders.items) }
 {
-    let command = command_of(&request.ask)?;
+    let command = command_of(&request.ask);
     command.fits();
     let order = Order {
         controller: request.controller,

@@ -50,7 +50,16 @@ fn change(subsystem: &mut Subsystem, nsid: u32, detach: bool, ids: &[u16]) -> An
             list.push(*id);
         }
     }
-    ask(subsystem, 0, 7, &Command::Attachment { nsid, detach, list })
+    ask(
+        subsystem,
+        0,
+        7,
+        &Command::Attachment {
+            nsid,
+            detach,
+            list: list.ids(),
+        },
+    )
 }
 
 fn attach(subsystem: &mut Subsystem, nsid: u32, ids: &[u16]) -> Answer {
