@@ -1,4 +1,4 @@
-ghost use Rattle.std.specs.Prelude.{◌≡◌, ◌<◌, IfOk, length};
+ghost use Rattle.std.specs.Prelude.{◌≡◌, ◌≤◌, ◌<◌, IfOk, length};
 ghost use Rattle.nv_command.specs.Command.{CommandFits};
 ghost use Rattle.nv_controller.specs.Bus.{IsBus};
 ghost use Rattle.nv_driver.specs.Registers.{ports_of};
@@ -7,7 +7,7 @@ use super::*;
 use crate::tests::machine;
 use nv_command::{Command, Reply};
 use nv_controller::Machine;
-use nv_layout::{CtrlList, Status};
+use nv_layout::{ControllerIds, Status};
 use std::alloc::Global;
 use std::process::Abort;
 use std::test::Fail;
@@ -33,7 +33,7 @@ fn expect(rt: &impl Abort, answer: &Answer, want: Want) {
 }
 
 /// A private namespace to create.
-fn create(nsze: u64, ncap: u64, flbas: u8) -> Command
+fn create<'a>(nsze: u64, ncap: u64, flbas: u8) -> Command<'a>
     ensures { CommandFits result }
 {
     Command::Create {
@@ -46,24 +46,14 @@ fn create(nsze: u64, ncap: u64, flbas: u8) -> Command
 }
 
 /// A namespace to attach to the listed controllers, or to detach from them.
-fn attachment(nsid: u32, detach: bool, list: CtrlList) -> Command
+fn attachment<'a>(nsid: u32, detach: bool, ids: &'a [u16]) -> Command<'a>
+    requires { length ids.now ≤ 2047 }
     ensures { CommandFits result }
 {
-    let _ids = list.as_slice();
-    Command::Attachment { nsid, detach, list }
-}
-
-fn one(cntlid: u16) -> CtrlList {
-    let mut list = CtrlList::new();
-    list.push(cntlid);
-    list
-}
-
-fn two(first: u16, second: u16) -> CtrlList {
-    let mut list = CtrlList::new();
-    list.push(first);
-    list.push(second);
-    list
+    let list = ControllerIds::new(ids);
+    let command = Command::Attachment { nsid, detach, list };
+    command.fits();
+    command
 }
 
 /// A driver and the machine that it brought up.
@@ -145,7 +135,7 @@ fn creates_by_the_fields(rt: &impl Abort, alloc: Global, geometry: Geometry) -> 
 fn creates_it_again(rt: &impl Abort, alloc: Global, geometry: Geometry) -> Result<(), Fail> {
     let mut bench = Bench::new(rt, alloc, geometry)?;
     bench.expect(rt, 0, &create(1, 1, 0), Want::Number(2));
-    bench.expect(rt, 0, &attachment(2, false, one(0)), Want::Done);
+    bench.expect(rt, 0, &attachment(2, false, &[0]), Want::Done);
     bench.expect(rt, 0, &Command::Delete { nsid: 2 }, Want::Done);
     bench.expect(rt, 0, &create(1, 1, 0), Want::Number(2));
     let active = Command::ActiveList { after: 0 };
@@ -158,15 +148,10 @@ fn creates_it_again(rt: &impl Abort, alloc: Global, geometry: Geometry) -> Resul
 /// A shared namespace is attached to all that are listed, or to none.
 fn attaches_all_or_none(rt: &impl Abort, alloc: Global, geometry: Geometry) -> Result<(), Fail> {
     let mut bench = Bench::new(rt, alloc, geometry)?;
-    bench.expect(
-        rt,
-        0,
-        &attachment(1, false, two(0, 1)),
-        Want::Refused(0x6118),
-    );
+    bench.expect(rt, 0, &attachment(1, false, &[0, 1]), Want::Refused(0x6118));
     let active = Command::ActiveList { after: 0 };
     bench.expect(rt, 1, &active, Want::Ids(&[]));
-    bench.expect(rt, 0, &attachment(1, false, one(1)), Want::Done);
+    bench.expect(rt, 0, &attachment(1, false, &[1]), Want::Done);
     bench.expect(rt, 1, &active, Want::Ids(&[1]));
     Ok(())
 }
@@ -174,20 +159,10 @@ fn attaches_all_or_none(rt: &impl Abort, alloc: Global, geometry: Geometry) -> R
 /// What can't be attached and detached.
 fn attaches_by_the_list(rt: &impl Abort, alloc: Global, geometry: Geometry) -> Result<(), Fail> {
     let mut bench = Bench::new(rt, alloc, geometry)?;
-    bench.expect(rt, 0, &attachment(3, false, one(1)), Want::Refused(0x6119));
-    bench.expect(
-        rt,
-        0,
-        &attachment(3, false, two(1, 0)),
-        Want::Refused(0x611c),
-    );
-    bench.expect(
-        rt,
-        0,
-        &attachment(3, false, two(0, 7)),
-        Want::Refused(0x611c),
-    );
-    bench.expect(rt, 0, &attachment(3, true, one(1)), Want::Refused(0x611a));
+    bench.expect(rt, 0, &attachment(3, false, &[1]), Want::Refused(0x6119));
+    bench.expect(rt, 0, &attachment(3, false, &[1, 0]), Want::Refused(0x611c));
+    bench.expect(rt, 0, &attachment(3, false, &[0, 7]), Want::Refused(0x611c));
+    bench.expect(rt, 0, &attachment(3, true, &[1]), Want::Refused(0x611a));
     Ok(())
 }
 
@@ -232,7 +207,7 @@ fn manages_by_a_list(rt: &impl Abort, alloc: Global, geometry: Geometry) -> Resu
     let mut bench = Bench::new(rt, alloc, geometry)?;
     let commands = [
         create(1, 1, 0),
-        attachment(2, false, one(0)),
+        attachment(2, false, &[0]),
         Command::ActiveList { after: 0 },
         Command::IdentifyNamespace { nsid: 0 },
         Command::Delete { nsid: 2 },
