@@ -7,3 +7,4 @@ pub mod EachController
 pub mod FileStates
 pub mod FileCode
 pub mod NumbersAbove
+pub mod ValueTableLaws

@@ -3,6 +3,8 @@ pub use Rattle.nv_file.specs.Identity
 pub use Rattle.nv_file.specs.Ranges
 pub mod Row
 pub mod ErrorLog
+pub mod FeatureValue
+pub mod ValueTable
 pub mod State
 pub mod StateCode
 pub mod Capacity
@@ -21,6 +23,7 @@ pub mod Fits
 pub mod FromFile
 pub mod Entry
 pub mod ChangedAtLaws
+pub mod ValueLaws
 pub mod UsedLaws
 pub mod MappedLaws
 pub mod ManagementLaws

@@ -5,6 +5,8 @@ mod attachment;
 mod capacity;
 mod controller;
 mod error_log;
+mod feature_value;
+mod feature_values;
 mod from_file;
 mod identify;
 mod listing;
