@@ -5,6 +5,7 @@ pub mod Row
 pub mod ErrorLog
 pub mod FeatureValue
 pub mod ValueTable
+pub mod Supported
 pub mod State
 pub mod StateCode
 pub mod Capacity
@@ -24,6 +25,7 @@ pub mod FromFile
 pub mod Entry
 pub mod ChangedAtLaws
 pub mod ValueLaws
+pub mod FeatureLaws
 pub mod UsedLaws
 pub mod MappedLaws
 pub mod ManagementLaws

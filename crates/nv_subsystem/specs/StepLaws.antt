@@ -66,7 +66,7 @@ pub counting_keeps : Keeps (λ x. record x { commands = next_count x.commands })
 counting_keeps = record {
   identity = λ x. refl;
   attached = λ x. refl;
-  sound = λ s x h. record { identity = h.identity; rules = h.rules; fids = h.fids; smart = h.smart; log = h.log; entries = h.entries; refusals = h.refusals; commands = next_count-le x.commands; attached = h.attached };
+  sound = λ s x h. record { identity = h.identity; rules = h.rules; smart = h.smart; log = h.log; entries = h.entries; refusals = h.refusals; commands = next_count-le x.commands; attached = h.attached; values = h.values };
 }
 
 length-with_refusal : (most refusals : ℕ) (e : LogEntry) (log : List LogEntry) → 0 < most → most ≤ 256 → refusals ≤ GREATEST_COUNT → length log ≡ min refusals most → length (take most (e ∷ log)) ≡ min (next_count refusals) most
@@ -83,13 +83,13 @@ booking_keeps nsid cid r a b fits = record {
   sound = λ s x h. record {
     identity = h.identity;
     rules = h.rules;
-    fids = h.fids;
     smart = h.smart;
     log = length-with_refusal (x.identity.numbers.elpe + 1) x.refusals _ x.log (omega arith) (omega (arith, h.identity.numbers.elpe)) h.refusals h.log;
     entries = all_entries (x.identity.numbers.elpe + 1) (record { count = next_count x.refusals; cid = cid; status = r.status; nsid = nsid; specific = r.specific }) x.log (record { count = next_count-le x.refusals; cid = b; status = fits.status; nsid = a; specific = omega (arith, fits.specific) }) h.entries;
     refusals = next_count-le x.refusals;
     commands = h.commands;
     attached = h.attached;
+    values = h.values;
   };
 }
 

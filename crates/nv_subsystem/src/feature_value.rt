@@ -2,8 +2,10 @@
 
 ghost use Rattle.std.specs.Prelude.{◌≡◌};
 ghost use Rattle.nv_subsystem.specs.FeatureValue.{at_default, default_rule, written};
+ghost use Rattle.nv_subsystem.specs.Supported.{is_supported};
 
 use nv_file::FeatureRule;
+use nv_layout::Feature;
 
 /// The current value of a feature, and the saved one where one was saved. Section "Feature Values".
 #[derive(Clone, Copy, Debug, PartialEq, Eq)]
@@ -43,5 +45,15 @@ pub(crate) fn default_rule(fid: u8) -> FeatureRule
         default: 0,
         saveable: false,
         changeable: true,
+    }
+}
+
+/// Whether a controller with this Volatile Write Cache field has a feature.
+pub(crate) fn is_supported(vwc: u8, feature: Feature) -> bool
+    ensures { result ≡ is_supported vwc feature }
+{
+    match feature {
+        Feature::VolatileWriteCache => vwc & 1 == 1,
+        _ => true,
     }
 }

@@ -1,4 +1,4 @@
-use Rattle.std.proofs.Common.{◌≡◌, ◌∙◌, ap, sym}
+use Rattle.std.proofs.Common.{◌∙◌, ap, sym}
 use Rattle.std.specs.FinMap as map_of
 use Rattle.nv_subsystem.proofs.ValueTableLaws.{get_other, get_recovery}
 use Rattle.nv_subsystem.proofs.feature_values.FeatureValues.get.Goals as goal

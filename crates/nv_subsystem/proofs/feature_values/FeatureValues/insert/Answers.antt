@@ -1,10 +1,6 @@
-use Rattle.std.proofs.Common.{◌≡◌, ◌∙◌, ap, sym, subst, None, arith}
+use Rattle.std.proofs.Common.{◌∙◌, ap, sym}
 use Rattle.std.specs.FinMap as map_of
-use Rattle.nv_bits.specs.Slots.{RangeMap}
-use Rattle.nv_layout.specs.Feature.{row_of}
-use Rattle.nv_subsystem.specs.ValueLaws.{below_limit}
-use Rattle.nv_subsystem.specs.ValueTable.{AreTables, ValueTable, key_of, values_of}
-use Rattle.nv_subsystem.specs.declared.feature_value.FeatureValue.{FeatureValue}
+use Rattle.nv_subsystem.specs.ValueTable.{ValueTable, key_of}
 use Rattle.nv_subsystem.proofs.ValueTableLaws.{apart_from, in_table, inserted_for, inserted_of}
 use Rattle.nv_subsystem.proofs.feature_values.FeatureValues.insert.Goals as goal
 

@@ -1,6 +1,6 @@
 use Rattle.std.proofs.Common.{◌∙◌, ap}
 use Rattle.std.specs.FinMap as map_of
-use Rattle.nv_subsystem.specs.ValueTable.{ValueTable, recovery_key, values_of}
+use Rattle.nv_subsystem.specs.ValueTable.{ValueTable, recovery_key}
 use Rattle.nv_subsystem.proofs.ValueTableLaws.{in_table, recovery_removed}
 use Rattle.nv_subsystem.proofs.feature_values.FeatureValues.remove.Goals as goal
 
