@@ -2,10 +2,13 @@
 use Rattle.std.specs.Prelude.{ℕ, ◌^◌, ◌<◌, List, []}
 use Rattle.nv_layout.specs.CtrlList.{bytes_of_ctrl_list}
 use Rattle.nv_layout.specs.IdNs.{bytes_of_id_ns}
+use Rattle.nv_command.specs.Features.{GetFeatureFits, SetFeatureFits}
+use Rattle.nv_command.specs.Format.{FormatFits}
 use Rattle.nv_command.specs.Identify.{IdentifyFits, identify_data}
 use Rattle.nv_command.specs.Management.{AttachmentFits, CreateFits, asked, page_from_host}
 use Rattle.nv_command.specs.declared.command.Command.{Command}
 use Rattle.nv_command.specs.declared.command.Command.TheVariants.{IdentifyNamespace, AllocatedNamespace, ActiveList, AllocatedList, Create, Delete, Attachment}
+use Rattle.nv_command.specs.declared.command.Command.TheVariants.{Format, GetFeature, SetFeature}
 use Rattle.nv_command.specs.declared.transfer.Transfer.{Transfer}
 use Rattle.nv_command.specs.declared.transfer.Transfer.TheVariants.{NoData, ToHost, FromHost}
 
@@ -19,6 +22,9 @@ namespace_of (AllocatedList after) = after
 namespace_of (Create nsze ncap flbas dps nmic) = 0
 namespace_of (Delete n) = n
 namespace_of (Attachment n detach ids) = n
+namespace_of (Format n lbaf mset pi pil ses) = n
+namespace_of (GetFeature fid sel n) = n
+namespace_of (SetFeature fid value save n) = n
 
 -- which way its data goes, and how many bytes
 abbrev pub transfer_by : Command → Transfer
@@ -29,6 +35,9 @@ transfer_by (AllocatedList after) = identify_data
 transfer_by (Create nsze ncap flbas dps nmic) = page_from_host
 transfer_by (Delete n) = NoData
 transfer_by (Attachment n detach ids) = page_from_host
+transfer_by (Format n lbaf mset pi pil ses) = NoData
+transfer_by (GetFeature fid sel n) = NoData
+transfer_by (SetFeature fid value save n) = NoData
 
 -- the data that the host sends with it
 abbrev pub host_data_of : Command → List ℕ
@@ -39,6 +48,9 @@ host_data_of (AllocatedList after) = []
 host_data_of (Create nsze ncap flbas dps nmic) = bytes_of_id_ns (asked nsze ncap flbas dps nmic)
 host_data_of (Delete n) = []
 host_data_of (Attachment n detach ids) = bytes_of_ctrl_list ids
+host_data_of (Format n lbaf mset pi pil ses) = []
+host_data_of (GetFeature fid sel n) = []
+host_data_of (SetFeature fid value save n) = []
 
 -- each field fits its bits
 abbrev pub CommandFits : Command → Type 0
@@ -49,6 +61,9 @@ CommandFits (AllocatedList after) = IdentifyFits after
 CommandFits (Create nsze ncap flbas dps nmic) = CreateFits nsze ncap flbas dps nmic
 CommandFits (Delete n) = n < 2 ^ 32
 CommandFits (Attachment n detach ids) = AttachmentFits n ids
+CommandFits (Format n lbaf mset pi pil ses) = FormatFits n lbaf pi ses
+CommandFits (GetFeature fid sel n) = GetFeatureFits fid sel n
+CommandFits (SetFeature fid value save n) = SetFeatureFits fid value n
 
 -- the bytes that go from the host to the controller
 abbrev pub bytes_from_host : Transfer → ℕ

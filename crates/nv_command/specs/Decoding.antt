@@ -1,22 +1,28 @@
 -- The command of an entry, or the status of the first rule that the entry breaks.
 use Rattle.std.specs.Prelude.{ℕ, ◌==◌, ◌&&◌, Bool, List, Result, Ok, Err, if◌then◌else◌}
 use Rattle.nv_layout.specs.declared.sqe.Sqe.{Sqe}
+use Rattle.nv_command.specs.Features.{get_feature_command, set_feature_command}
+use Rattle.nv_command.specs.Format.{format_command}
 use Rattle.nv_command.specs.Identify.{identify_command, identify_transfer}
 use Rattle.nv_command.specs.Management.{attachment_command, attachment_transfer, management_command, management_transfer}
 use Rattle.nv_command.specs.Steps.{◌>>=◌}
 use Rattle.nv_command.specs.declared.command.Command.{Command}
 use Rattle.nv_command.specs.declared.entry.Opcode.{Opcode}
-use Rattle.nv_command.specs.declared.entry.Opcode.TheVariants.{Identify, NamespaceManagement, NamespaceAttachment}
+use Rattle.nv_command.specs.declared.entry.Opcode.TheVariants.{Identify, NamespaceManagement, NamespaceAttachment, FormatNvm, GetFeatures, SetFeatures}
 use Rattle.nv_command.specs.declared.status_code.StatusCode.{StatusCode}
 use Rattle.nv_command.specs.declared.status_code.StatusCode.TheVariants.{InvalidCommandOpcode, InvalidFieldInCommand}
 use Rattle.nv_command.specs.declared.transfer.Transfer.{Transfer}
+use Rattle.nv_command.specs.declared.transfer.Transfer.TheVariants.{NoData}
 
 abbrev pub opcode_by : ℕ → Result Opcode StatusCode
 opcode_by n =
     if n == 0x06 then Ok Identify
     else (if n == 0x0d then Ok NamespaceManagement
     else (if n == 0x15 then Ok NamespaceAttachment
-    else Err InvalidCommandOpcode))
+    else (if n == 0x80 then Ok FormatNvm
+    else (if n == 0x0a then Ok GetFeatures
+    else (if n == 0x09 then Ok SetFeatures
+    else Err InvalidCommandOpcode)))))
 
 -- neither fused nor by SGLs
 abbrev pub is_plain : Sqe → Bool
@@ -32,6 +38,9 @@ abbrev pub transfer_as : Opcode → Sqe → Result Transfer StatusCode
 transfer_as Identify e = identify_transfer e
 transfer_as NamespaceManagement e = management_transfer e
 transfer_as NamespaceAttachment e = attachment_transfer e
+transfer_as FormatNvm e = Ok NoData
+transfer_as GetFeatures e = Ok NoData
+transfer_as SetFeatures e = Ok NoData
 
 -- which way the data goes, and how many bytes
 abbrev pub transfer_of : Sqe → Result Transfer StatusCode
@@ -43,6 +52,9 @@ abbrev pub command_as : Opcode → Sqe → List ℕ → Result Command StatusCod
 command_as Identify e «data» = identify_command e
 command_as NamespaceManagement e «data» = management_command e «data»
 command_as NamespaceAttachment e «data» = attachment_command e «data»
+command_as FormatNvm e «data» = Ok (format_command e)
+command_as GetFeatures e «data» = Ok (get_feature_command e)
+command_as SetFeatures e «data» = Ok (set_feature_command e)
 
 -- the command, with the data from the host
 abbrev pub command_of : Sqe → List ℕ → Result Command StatusCode

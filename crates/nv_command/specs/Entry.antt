@@ -2,10 +2,13 @@
 use Rattle.std.specs.Prelude.{ℕ}
 use Rattle.nv_layout.specs.declared.sqe.Sqe.{Sqe}
 use Rattle.nv_command.specs.Command.{namespace_of}
+use Rattle.nv_command.specs.Features.{get_feature_fields, set_feature_fields}
+use Rattle.nv_command.specs.Format.{format_fields}
 use Rattle.nv_command.specs.Identify.{identify_fields}
 use Rattle.nv_command.specs.Management.{attachment_fields, management_fields}
 use Rattle.nv_command.specs.declared.command.Command.{Command}
 use Rattle.nv_command.specs.declared.command.Command.TheVariants.{IdentifyNamespace, AllocatedNamespace, ActiveList, AllocatedList, Create, Delete, Attachment}
+use Rattle.nv_command.specs.declared.command.Command.TheVariants.{Format, GetFeature, SetFeature}
 use Rattle.nv_command.specs.declared.entry.Fields.{Fields}
 
 -- fields, an NSID and a command identifier; all else is 0
@@ -36,6 +39,9 @@ fields_of (AllocatedNamespace n) = identify_fields 0x11
 fields_of (Create nsze ncap flbas dps nmic) = management_fields 0x0
 fields_of (Delete n) = management_fields 0x1
 fields_of (Attachment n detach ids) = attachment_fields detach
+fields_of (Format n lbaf mset pi pil ses) = format_fields lbaf mset pi pil ses
+fields_of (GetFeature fid sel n) = get_feature_fields fid sel
+fields_of (SetFeature fid value save n) = set_feature_fields fid value save
 
 -- a command with this command identifier
 abbrev pub entry_of : Command → ℕ → Sqe

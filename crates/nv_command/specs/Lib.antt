@@ -3,6 +3,8 @@ pub mod StatusCode
 pub mod Refusal
 pub mod Identify
 pub mod Management
+pub mod Format
+pub mod Features
 pub mod Command
 pub mod Entry
 pub mod Decoding
@@ -12,4 +14,6 @@ pub mod RefusalLaws
 pub mod EntryLaws
 pub mod IdentifyLaws
 pub mod ManagementLaws
+pub mod FormatLaws
+pub mod FeatureLaws
 pub mod TravelLaws

@@ -6,6 +6,7 @@ use Rattle.nv_layout.specs.NsList.{bytes_of_ns_list}
 use Rattle.nv_command.specs.Identify.{list_in, namespace_in}
 use Rattle.nv_command.specs.declared.command.Command.{Command}
 use Rattle.nv_command.specs.declared.command.Command.TheVariants.{IdentifyNamespace, AllocatedNamespace, ActiveList, AllocatedList, Create, Delete, Attachment}
+use Rattle.nv_command.specs.declared.command.Command.TheVariants.{Format, GetFeature, SetFeature}
 use Rattle.nv_command.specs.declared.reply.Reply.{Reply}
 use Rattle.nv_command.specs.declared.reply.Reply.TheVariants as reply
 
@@ -35,6 +36,9 @@ reply_in (AllocatedList after) dword0 bytes = list_in bytes
 reply_in (Create nsze ncap flbas dps nmic) dword0 bytes = reply.Number dword0
 reply_in (Delete n) dword0 bytes = reply.Done
 reply_in (Attachment n detach ids) dword0 bytes = reply.Done
+reply_in (Format n lbaf mset pi pil ses) dword0 bytes = reply.Done
+reply_in (GetFeature fid sel n) dword0 bytes = reply.Number dword0
+reply_in (SetFeature fid value save n) dword0 bytes = reply.Done
 
 abbrev pub IsNamespace : Reply → Type 0
 IsNamespace (reply.Namespace r) = Unit {0}
@@ -69,6 +73,9 @@ IsReplyTo (AllocatedList after) r = IsList r
 IsReplyTo (Create nsze ncap flbas dps nmic) r = IsNumber r
 IsReplyTo (Delete n) r = IsDone r
 IsReplyTo (Attachment n detach ids) r = IsDone r
+IsReplyTo (Format n lbaf mset pi pil ses) r = IsDone r
+IsReplyTo (GetFeature fid sel n) r = IsNumber r
+IsReplyTo (SetFeature fid value save n) r = IsDone r
 
 -- at most 1,024 NSIDs, none of them 0
 pub record IsNsidList (ids : List ℕ) : Type 0 where

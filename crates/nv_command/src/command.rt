@@ -11,15 +11,16 @@ ghost use Rattle.nv_command.specs.Travel.{Arrives};
 use crate::entry::{Fields, Opcode};
 use crate::status_code::StatusCode;
 use crate::transfer::Transfer;
-use crate::{identify, management};
-use nv_layout::{CtrlList, Sqe};
+use crate::{features, format, identify, management};
+use nv_layout::{ControllerIds, CtrlList, FourBits, Sqe, ThreeBits};
 
 /// The NSID that stands for all namespaces. Section "Namespace Identifier".
 pub const BROADCAST_NSID: u32 = 0xffff_ffff;
 
-/// A command with its fields as numbers. It is large, by the list of an attachment. Section "Admin Command Set".
+/// A command with its fields as numbers; the controllers of an attachment stand elsewhere.
+/// Section "Admin Command Set".
 #[derive(Debug, Drop, PartialEq, Eq)]
-pub enum Command {
+pub enum Command<'a> {
     /// Identify, CNS 00h: a namespace that is attached to the controller.
     IdentifyNamespace {
         nsid: u32,
@@ -53,7 +54,29 @@ pub enum Command {
     Attachment {
         nsid: u32,
         detach: bool,
-        list: CtrlList,
+        list: ControllerIds<'a>,
+    },
+    /// Format NVM: a namespace gets the format `lbaf`.
+    Format {
+        nsid: u32,
+        lbaf: FourBits,
+        mset: bool,
+        pi: ThreeBits,
+        pil: bool,
+        ses: ThreeBits,
+    },
+    /// Get Features: the value of a feature that `sel` selects.
+    GetFeature {
+        fid: u8,
+        sel: ThreeBits,
+        nsid: u32,
+    },
+    /// Set Features: a feature gets a value, which is saved too where `save` says so.
+    SetFeature {
+        fid: u8,
+        value: u32,
+        save: bool,
+        nsid: u32,
     },
 }
 
@@ -62,7 +85,7 @@ fn nsid_fits(nsid: u32)
     ensures { nsid < 2 ^ 32 }
 {}
 
-impl Command {
+impl<'a> Command<'a> {
     /// The NSID of its entry, with which a refusal of it is booked. For a list it is the one that
     /// the list begins after; it is 0 for a namespace to create.
     pub fn nsid(&self) -> u32
@@ -73,6 +96,8 @@ impl Command {
             Command::ActiveList { after } | Command::AllocatedList { after } => *after,
             Command::Create { .. } => 0,
             Command::Delete { nsid } | Command::Attachment { nsid, .. } => *nsid,
+            Command::Format { nsid, .. } => *nsid,
+            Command::GetFeature { nsid, .. } | Command::SetFeature { nsid, .. } => *nsid,
         }
     }
 
@@ -88,6 +113,9 @@ impl Command {
             Command::Create { .. } => management::TRANSFER,
             Command::Delete { nsid: _ } => Transfer::NoData,
             Command::Attachment { .. } => management::TRANSFER,
+            Command::Format { .. } => Transfer::NoData,
+            Command::GetFeature { .. } => Transfer::NoData,
+            Command::SetFeature { .. } => Transfer::NoData,
         }
     }
 
@@ -102,6 +130,21 @@ impl Command {
             Command::Create { .. } => management::fields(0x0),
             Command::Delete { nsid: _ } => management::fields(0x1),
             Command::Attachment { detach, .. } => management::attachment_fields(*detach),
+            Command::Format {
+                lbaf,
+                mset,
+                pi,
+                pil,
+                ses,
+                ..
+            } => format::fields(*lbaf, *mset, *pi, *pil, *ses),
+            Command::GetFeature { fid, sel, .. } => features::get_fields(*fid, *sel),
+            Command::SetFeature {
+                fid,
+                value,
+                save,
+                ..
+            } => features::set_fields(*fid, *value, *save),
         }
     }
 
@@ -123,6 +166,20 @@ impl Command {
             } => management::create_fits(*nsze, *ncap, *flbas, *dps, *nmic),
             Command::Delete { nsid } => nsid_fits(*nsid),
             Command::Attachment { nsid, list, .. } => management::attachment_fits(*nsid, list),
+            Command::Format {
+                nsid,
+                lbaf,
+                pi,
+                ses,
+                ..
+            } => format::fits(*nsid, *lbaf, *pi, *ses),
+            Command::GetFeature { fid, sel, nsid } => features::get_fits(*fid, *sel, *nsid),
+            Command::SetFeature {
+                fid,
+                value,
+                nsid,
+                ..
+            } => features::set_fits(*fid, *value, *nsid),
         }
     }
 
@@ -158,14 +215,18 @@ impl Command {
     /// The command of an entry and of the data that the host sent with it, or the status of the
     /// first rule that it breaks: its opcode is unknown, it is fused or uses SGLs, a field of it
     /// has no meaning, its data isn't a page of 4,096 bytes or lists too many controllers. Bits
-    /// without meaning are ignored, and so is data where the command has none.
-    pub fn of(entry: &Sqe, sent: &[u8]) -> Result<Command, StatusCode>
+    /// without meaning are ignored, and so is data where the command has none. Listed controllers
+    /// are put in the place, which is of no account before.
+    pub fn of(entry: &Sqe, sent: &[u8], place: &'a mut CtrlList) -> Result<Command<'a>, StatusCode>
         ensures { result ≡ command_of entry.now sent.now }
     {
         match Opcode::of(entry)? {
             Opcode::Identify => identify::command(entry),
             Opcode::NamespaceManagement => management::command(entry, sent),
-            Opcode::NamespaceAttachment => management::attachment_command(entry, sent),
+            Opcode::NamespaceAttachment => management::attachment_command(entry, sent, place),
+            Opcode::FormatNvm => Ok(format::command(entry)),
+            Opcode::GetFeatures => Ok(features::get_command(entry)),
+            Opcode::SetFeatures => Ok(features::set_command(entry)),
         }
     }
 }

@@ -49,6 +49,9 @@ pub enum Opcode {
     Identify,
     NamespaceManagement,
     NamespaceAttachment,
+    FormatNvm,
+    GetFeatures,
+    SetFeatures,
 }
 
 impl Opcode {
@@ -60,6 +63,9 @@ impl Opcode {
             0x06 => Opcode::Identify,
             0x0d => Opcode::NamespaceManagement,
             0x15 => Opcode::NamespaceAttachment,
+            0x80 => Opcode::FormatNvm,
+            0x0a => Opcode::GetFeatures,
+            0x09 => Opcode::SetFeatures,
             _ => return Err(StatusCode::InvalidCommandOpcode),
         };
         if entry.fuse != 0 || entry.psdt != 0 {

@@ -27,7 +27,7 @@ pub(crate) fn fields(cns: u8) -> Fields
 }
 
 /// The command of an Identify entry.
-pub(crate) fn command(entry: &Sqe) -> Result<Command, StatusCode>
+pub(crate) fn command<'a>(entry: &Sqe) -> Result<Command<'a>, StatusCode>
     ensures { result ≡ identify_command entry.now }
 {
     let nsid = entry.nsid;

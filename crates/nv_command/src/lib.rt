@@ -9,6 +9,8 @@ ghost use Rattle.nv_command.specs.Travel.{CommandsTravel, RepliesTravel};
 
 mod command;
 mod entry;
+mod features;
+mod format;
 mod identify;
 mod management;
 mod refusal;
@@ -16,6 +18,8 @@ mod reply;
 mod status_code;
 #[cfg(test)]
 mod tests;
+#[cfg(test)]
+mod tests_of_features;
 #[cfg(test)]
 mod tests_of_management;
 mod transfer;

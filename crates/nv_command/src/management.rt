@@ -9,7 +9,7 @@ use crate::command::Command;
 use crate::entry::Fields;
 use crate::status_code::StatusCode;
 use crate::transfer::Transfer;
-use nv_layout::{CtrlList, IdNs, Lbaf, Sqe};
+use nv_layout::{ControllerIds, CtrlList, IdNs, Lbaf, Sqe};
 
 /// The data of a command that creates, attaches or detaches.
 pub const TRANSFER: Transfer = Transfer::FromHost(4096);
@@ -71,7 +71,7 @@ pub(crate) fn create_fits(nsze: u64, ncap: u64, flbas: u8, dps: u8, nmic: u8)
 {}
 
 /// What an attachment says fits its bits, as its types say. The call does nothing.
-pub(crate) fn attachment_fits(nsid: u32, list: &CtrlList)
+pub(crate) fn attachment_fits(nsid: u32, list: &ControllerIds)
     ensures { AttachmentFits nsid list.now }
 {
     list.as_slice();
@@ -92,7 +92,7 @@ fn page(sent: &[u8]) -> Result<&[u8; 4096], StatusCode>
 }
 
 /// The command of a Namespace Management entry.
-pub(crate) fn command(entry: &Sqe, sent: &[u8]) -> Result<Command, StatusCode>
+pub(crate) fn command<'a>(entry: &Sqe, sent: &[u8]) -> Result<Command<'a>, StatusCode>
     ensures { result ≡ management_command entry.now sent.now }
 {
     match select(entry) {
@@ -140,12 +140,16 @@ fn is_detach(entry: &Sqe) -> Result<bool, StatusCode>
     }
 }
 
-/// The command of a Namespace Attachment entry.
-pub(crate) fn attachment_command(entry: &Sqe, sent: &[u8]) -> Result<Command, StatusCode>
+/// The command of a Namespace Attachment entry, its controllers in the place.
+pub(crate) fn attachment_command<'a>(
+    entry: &Sqe,
+    sent: &[u8],
+    place: &'a mut CtrlList,
+) -> Result<Command<'a>, StatusCode>
     ensures { result ≡ attachment_command entry.now sent.now }
 {
     let detach = is_detach(entry)?;
-    let list = CtrlList::get(page(sent)?)?;
+    let list = place.read(page(sent)?)?;
     Ok(Command::Attachment {
         nsid: entry.nsid,
         detach,

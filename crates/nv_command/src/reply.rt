@@ -57,6 +57,9 @@ impl Reply {
             Command::Create { .. } => Reply::Number(dword0),
             Command::Delete { nsid: _ } => Reply::Done,
             Command::Attachment { .. } => Reply::Done,
+            Command::Format { .. } => Reply::Done,
+            Command::GetFeature { .. } => Reply::Number(dword0),
+            Command::SetFeature { .. } => Reply::Done,
         }
     }
 }

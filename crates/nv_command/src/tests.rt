@@ -1,5 +1,5 @@
 use super::*;
-use nv_layout::{IdNs, Lbaf, NsList, Sqe, Status};
+use nv_layout::{CtrlList, IdNs, Lbaf, NsList, Sqe, Status};
 use std::process::Abort;
 
 /// An entry with this opcode and Command Dword 10, for NSID 7.
@@ -38,7 +38,7 @@ fn check_entry(rt: &impl Abort, command: Command, nsid: u8, cns: u8) {
     assert_eq!(rt; command.nsid(), u32::from(nsid));
     assert_eq!(rt; command.transfer(), Transfer::ToHost(4096));
     assert_eq!(rt; Transfer::of(&entry), Ok(Transfer::ToHost(4096)));
-    assert_eq!(rt; Command::of(&entry, &[]), Ok(command));
+    assert_eq!(rt; Command::of(&entry, &[], &mut CtrlList::new()), Ok(command));
 }
 
 #[test]
@@ -52,7 +52,7 @@ fn identify_by_its_entry(rt: HostRuntime) {
 /// Checks the status code that an entry is refused with.
 fn check_refused(rt: &impl Abort, entry: Sqe, code: StatusCode) {
     assert_eq!(rt; Transfer::of(&entry), Err(code));
-    assert_eq!(rt; Command::of(&entry, &[]), Err(code));
+    assert_eq!(rt; Command::of(&entry, &[], &mut CtrlList::new()), Err(code));
 }
 
 #[test]
@@ -83,7 +83,10 @@ fn bits_beside_the_cns_are_ignored(rt: HostRuntime) {
         ..entry(0x06, 0xffff_ff10)
     };
     let list = Command::AllocatedList { after: 7 };
-    assert_eq!(rt; Command::of(&entry, &[1, 2, 3]), Ok(list));
+    assert_eq!(rt;
+        Command::of(&entry, &[1, 2, 3], &mut CtrlList::new()),
+        Ok(list)
+    );
 }
 
 #[test]

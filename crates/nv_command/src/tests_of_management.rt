@@ -11,7 +11,7 @@ fn two_controllers() -> CtrlList {
 }
 
 /// A namespace to create, of 9 blocks of which 8 are to be had.
-fn creation() -> Command {
+fn creation<'a>() -> Command<'a> {
     Command::Create {
         nsze: 9,
         ncap: 8,
@@ -46,7 +46,10 @@ fn check_travel(
     assert_eq!(rt; Transfer::of(&entry), Ok(data));
     let mut page = [0xee; 4096];
     command.put(&mut page);
-    assert_eq!(rt; Command::of(&entry, &page), Ok(command));
+    assert_eq!(rt;
+        Command::of(&entry, &page, &mut CtrlList::new()),
+        Ok(command)
+    );
 }
 
 #[test]
@@ -61,11 +64,12 @@ fn management_by_its_entry(rt: HostRuntime) {
         1,
         Transfer::NoData,
     );
+    let controllers = two_controllers();
     for detach in [false, true] {
         let command = Command::Attachment {
             nsid: 3,
             detach,
-            list: two_controllers(),
+            list: controllers.ids(),
         };
         check_travel(&rt, command, 0x15, 3, u8::from(detach), page);
     }
@@ -82,10 +86,11 @@ fn data_from_the_host_by_its_bytes(rt: HostRuntime) {
     bytes[29] = 2;
     bytes[30] = 1;
     assert_eq!(rt; page, bytes);
+    let controllers = two_controllers();
     let attachment = Command::Attachment {
         nsid: 3,
         detach: true,
-        list: two_controllers(),
+        list: controllers.ids(),
     };
     attachment.put(&mut page);
     assert_eq!(rt; &page[..7], [2, 0, 0xef, 0xff, 0, 0, 0].as_slice());
@@ -125,12 +130,15 @@ fn bits_beside_the_select_are_ignored(rt: HostRuntime) {
     let attach = Command::Attachment {
         nsid: 7,
         detach: false,
-        list,
+        list: list.ids(),
     };
-    assert_eq!(rt; Command::of(&entry(0x15, 0xffff_fff0), &page), Ok(attach));
+    assert_eq!(rt;
+        Command::of(&entry(0x15, 0xffff_fff0), &page, &mut CtrlList::new()),
+        Ok(attach)
+    );
     let delete = Command::Delete { nsid: 7 };
     assert_eq!(rt;
-        Command::of(&entry(0x0d, 0xffff_fff1), &[1, 2, 3]),
+        Command::of(&entry(0x0d, 0xffff_fff1), &[1, 2, 3], &mut CtrlList::new()),
         Ok(delete)
     );
     let create = Command::Create {
@@ -140,7 +148,10 @@ fn bits_beside_the_select_are_ignored(rt: HostRuntime) {
         dps: 0xff,
         nmic: 0xff,
     };
-    assert_eq!(rt; Command::of(&entry(0x0d, 0xffff_fff0), &page), Ok(create));
+    assert_eq!(rt;
+        Command::of(&entry(0x0d, 0xffff_fff0), &page, &mut CtrlList::new()),
+        Ok(create)
+    );
 }
 
 #[test]
@@ -148,13 +159,18 @@ fn management_by_its_first_fault(rt: HostRuntime) {
     let field = StatusCode::InvalidFieldInCommand;
     for opcode in [0x0d, 0x15] {
         assert_eq!(rt; Transfer::of(&entry(opcode, 2)), Err(field));
-        assert_eq!(rt; Command::of(&entry(opcode, 2), &[]), Err(field));
-        let short = Command::of(&entry(opcode, 0), &[0; 4095]);
+        assert_eq!(rt;
+            Command::of(&entry(opcode, 2), &[], &mut CtrlList::new()),
+            Err(field)
+        );
+        let mut place = CtrlList::new();
+        let short = Command::of(&entry(opcode, 0), &[0; 4095], &mut place);
         assert_eq!(rt; short, Err(StatusCode::DataTransferError));
     }
     let mut page = [0; 4096];
     page[1] = 8;
-    let long = Command::of(&entry(0x15, 1), &page);
+    let mut place = CtrlList::new();
+    let long = Command::of(&entry(0x15, 1), &page, &mut place);
     assert_eq!(rt; long, Err(StatusCode::ControllerListInvalid));
 }
 

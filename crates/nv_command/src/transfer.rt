@@ -30,6 +30,9 @@ impl Transfer {
             Opcode::Identify => identify::transfer(entry),
             Opcode::NamespaceManagement => management::transfer(entry),
             Opcode::NamespaceAttachment => management::attachment_transfer(entry),
+            Opcode::FormatNvm => Ok(Transfer::NoData),
+            Opcode::GetFeatures => Ok(Transfer::NoData),
+            Opcode::SetFeatures => Ok(Transfer::NoData),
         }
     }
 }

@@ -13,6 +13,7 @@ use Rattle.nv_command.specs.Reply.{FitsRecord, IsDone, IsNumber, IsReplyTo, data
 use Rattle.nv_command.specs.TravelLaws.{replies_travel}
 use Rattle.nv_command.specs.declared.command.Command.{Command}
 use Rattle.nv_command.specs.declared.command.Command.TheVariants.{IdentifyNamespace, AllocatedNamespace, ActiveList, AllocatedList, Create, Delete, Attachment}
+use Rattle.nv_command.specs.declared.command.Command.TheVariants.{Format, GetFeature, SetFeature}
 use Rattle.nv_command.specs.declared.refusal.Refusal.{Refusal}
 use Rattle.nv_command.specs.declared.reply.Reply.{Reply}
 use Rattle.nv_command.specs.declared.reply.Reply.TheVariants as reply
@@ -66,6 +67,9 @@ has_places (AllocatedList after) r at is fits e =
 has_places (Create nsze ncap flbas dps nmic) r at is fits e = number_has_places r at is
 has_places (Delete n) r at is fits e = done_has_places r at is
 has_places (Attachment n detach ids) r at is fits e = done_has_places r at is
+has_places (Format n lbaf mset pi pil ses) r at is fits e = done_has_places r at is
+has_places (GetFeature fid sel n) r at is fits e = number_has_places r at is
+has_places (SetFeature fid value save n) r at is fits e = done_has_places r at is
 
 -- each reply of a well-formed subsystem that has data has places for it
 pub reply_places : (s : State) (c : ℕ) (k : Command) (r : Reply) (at : List ℕ) → IsWellFormed s

@@ -7,7 +7,7 @@ use Rattle.nv_command.specs.Identify.{identify_command, identify_data}
 use Rattle.nv_command.specs.Management.{is_detach, page_from_host, select_of}
 use Rattle.nv_command.specs.Steps.{◌>>=◌}
 use Rattle.nv_command.specs.declared.entry.Opcode.{Opcode}
-use Rattle.nv_command.specs.declared.entry.Opcode.TheVariants.{Identify, NamespaceManagement, NamespaceAttachment}
+use Rattle.nv_command.specs.declared.entry.Opcode.TheVariants.{Identify, NamespaceManagement, NamespaceAttachment, FormatNvm, GetFeatures, SetFeatures}
 use Rattle.nv_command.specs.declared.status_code.StatusCode.{StatusCode}
 use Rattle.nv_command.specs.declared.status_code.StatusCode.TheVariants.{InvalidFieldInCommand}
 use Rattle.nv_command.specs.declared.transfer.Transfer.{Transfer as Moves}
@@ -70,6 +70,9 @@ room_as : (o : Opcode) (e : Sqe) → RoomIf (transfer_as o e)
 room_as Identify e = room_after (identify_command e) identify_data (lit< tt, lit≤ tt)
 room_as NamespaceManagement e = room_by_select (select_of e == 0x0) (select_of e == 0x1)
 room_as NamespaceAttachment e = room_after (is_detach e) page_from_host (lit< tt, lit≤ tt)
+room_as FormatNvm e = tt
+room_as GetFeatures e = tt
+room_as SetFeatures e = tt
 
 room_by_opcode : (r : Result Opcode StatusCode) (e : Sqe) → RoomIf (r >>= (λ o. transfer_as o e))
 room_by_opcode (Ok o) e = room_as o e

@@ -7,6 +7,7 @@ use Rattle.nv_command.specs.Reply.{reply_in, with_data}
 use Rattle.nv_command.specs.TravelLaws.{commands_travel}
 use Rattle.nv_command.specs.declared.command.Command.{Command}
 use Rattle.nv_command.specs.declared.command.Command.TheVariants.{IdentifyNamespace, AllocatedNamespace, ActiveList, AllocatedList, Create, Delete, Attachment}
+use Rattle.nv_command.specs.declared.command.Command.TheVariants.{Format, GetFeature, SetFeature}
 use Rattle.nv_command.specs.declared.transfer.Transfer.{Transfer}
 use Rattle.nv_command.specs.declared.transfer.Transfer.TheVariants.{NoData, ToHost, FromHost}
 use Rattle.nv_controller.specs.Call.{length_of, sent_from}
@@ -27,6 +28,9 @@ shape (AllocatedList after) = refl
 shape (Create nsze ncap flbas dps nmic) = refl
 shape (Delete n) = tt
 shape (Attachment n detach ids) = refl
+shape (Format n lbaf mset pi pil ses) = tt
+shape (GetFeature fid sel n) = tt
+shape (SetFeature fid value save n) = tt
 
 -- a reply without data is read from any page
 pub read_anywhere : (k : Command) (dword0 : ℕ) (page other : List ℕ)
@@ -38,6 +42,9 @@ read_anywhere (AllocatedList after) dword0 page other none = absurd (omega (arit
 read_anywhere (Create nsze ncap flbas dps nmic) dword0 page other none = refl
 read_anywhere (Delete n) dword0 page other none = refl
 read_anywhere (Attachment n detach ids) dword0 page other none = refl
+read_anywhere (Format n lbaf mset pi pil ses) dword0 page other none = refl
+read_anywhere (GetFeature fid sel n) dword0 page other none = refl
+read_anywhere (SetFeature fid value save n) dword0 page other none = refl
 
 -- ---- in general
 

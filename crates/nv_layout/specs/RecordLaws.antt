@@ -19,11 +19,11 @@ use Rattle.nv_layout.specs.TableLaws.{length-laid_out, table_back}
 
 -- ---- flags
 
-flag_back : (flag : Bool) → (bit flag == 1) ≡ flag
+pub flag_back : (flag : Bool) → (bit flag == 1) ≡ flag
 flag_back true = refl
 flag_back false = refl
 
-bit_below : (flag : Bool) → bit flag < 2
+pub bit_below : (flag : Bool) → bit flag < 2
 bit_below true = omega arith
 bit_below false = omega arith
 

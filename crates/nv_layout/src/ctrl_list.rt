@@ -1,9 +1,10 @@
 //! Controller lists.
 
-ghost use Rattle.std.specs.Prelude.{◌≡◌, ◌≤◌, ◌<◌, ◌↔◌, ◌++◌, ◌∷◌, [], ℕ, IsTrue, List, length, take};
+ghost use Rattle.std.specs.Prelude.{◌≡◌, ◌≤◌, ◌<◌, ◌↔◌, ◌++◌, ◌∷◌, [], ℕ, Err, IsTrue, List, MatchResult, Ok, length, take};
 ghost use Rattle.nv_layout.specs.CtrlList.{CtrlListFits, bytes_of_ctrl_list, ctrl_list_of_bytes};
 
-use crate::parts::{clear, each_u16_fits, put_u16, put_u16s, u16_at, u16s_at};
+use crate::controller_ids::ControllerIds;
+use crate::parts::{each_u16_fits, read_u16s, u16_at};
 use std::fmt;
 use std::marker::Model;
 use thiserror::Error;
@@ -105,28 +106,47 @@ impl CtrlList {
         self.len += 1;
     }
 
+    /// The identifiers in order, as they stand in the list.
+    pub fn ids(&self) -> ControllerIds<'_>
+        ensures { result ≡ self.now }
+    {
+        ControllerIds::new(self.as_slice())
+    }
+
     /// Writes the list's bytes, all 4,096 of them.
-    #[tactic(auto, unfolding(crate::specs::CtrlList::bytes_of_ctrl_list))]
     pub fn put(&self, out: &mut [u8; 4096])
         ensures { out.new ≡ bytes_of_ctrl_list self.now }
     {
-        clear(out);
-        put_u16(out, 0, self.len() as u16);
-        put_u16s(out, 2, self.as_slice());
+        self.ids().put(out);
     }
 
     /// Reads a list from its bytes. What follows its last identifier is ignored.
-    #[tactic(auto, using(crate::specs::PartLaws::take_numbers_at), unfolding(crate::specs::CtrlList::ctrl_list_of_bytes))]
     pub fn get(bytes: &[u8; 4096]) -> Result<CtrlList, LayoutError>
         ensures { result ≡ ctrl_list_of_bytes bytes.now }
+    {
+        let mut list = CtrlList::new();
+        list.fill(bytes)?;
+        Ok(list)
+    }
+
+    /// Reads a list from its bytes, as `get` does, in place of this one.
+    pub fn read(&mut self, bytes: &[u8; 4096]) -> Result<ControllerIds<'_>, LayoutError>
+        ensures { result ≡ ctrl_list_of_bytes bytes.now }
+    {
+        self.fill(bytes)?;
+        Ok(self.ids())
+    }
+
+    #[tactic(auto, unfolding(crate::specs::CtrlList::ctrl_list_of_bytes))]
+    fn fill(&mut self, bytes: &[u8; 4096]) -> Result<(), LayoutError>
+        ensures { MatchResult result (λ _. ctrl_list_of_bytes bytes.now ≡ Ok self.new) (λ error. ctrl_list_of_bytes bytes.now ≡ Err error) }
     {
         let count = u16_at(bytes, 0) as usize;
         if count > 2047 {
             return Err(LayoutError::CountTooLarge);
         }
-        Ok(CtrlList {
-            ids: u16s_at(bytes, 2),
-            len: count,
-        })
+        read_u16s(bytes, 2, &mut self.ids[..count]);
+        self.len = count;
+        Ok(())
     }
 }

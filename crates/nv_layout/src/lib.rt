@@ -22,6 +22,7 @@ ghost use Rattle.nv_layout.specs.NsList.{NsListReadsBack};
 ghost use Rattle.nv_layout.specs.Sqe.{SqeReadsBack};
 ghost use Rattle.nv_layout.specs.Status.{StatusReadsBack};
 
+mod controller_ids;
 mod cqe;
 mod ctrl_list;
 mod error_entry;
@@ -35,6 +36,7 @@ mod status;
 #[cfg(test)]
 mod tests;
 
+pub use controller_ids::ControllerIds;
 pub use cqe::Cqe;
 pub use ctrl_list::{CtrlList, LayoutError};
 pub use error_entry::ErrorEntry;

@@ -115,13 +115,12 @@ pub(crate) fn each_u16_fits(values: &[u16])
     ensures { AllByRecursion (λ x. x < 2 ^ 16) values.now }
 {}
 
-pub(crate) fn u16s_at<const N: usize>(bytes: &[u8], at: usize) -> [u16; N]
-    requires { at + 2 * N ≤ length bytes.now }
-    ensures { result ≡ numbers_at at 2 N bytes.now }
+/// Reads numbers of two bytes each, as many as there are values.
+pub(crate) fn read_u16s(bytes: &[u8], at: usize, values: &mut [u16])
+    requires { at + 2 * length values.old ≤ length bytes.now }
+    ensures { values.new ≡ numbers_at at 2 (length values.old) bytes.now }
 {
-    let mut values = [0; N];
-    LittleEndian::read_u16_into(&bytes[at..at + 2 * N], &mut values);
-    values
+    LittleEndian::read_u16_into(&bytes[at..at + 2 * values.len()], values);
 }
 
 pub(crate) fn u32s_at<const N: usize>(bytes: &[u8], at: usize) -> [u32; N]

@@ -190,6 +190,11 @@ fn controller_list_by_its_bytes(rt: HostRuntime) -> Result<(), Fail> {
     let mut out = [0xff; 4096];
     list.put(&mut out);
     assert_eq!(rt; out, bytes);
+    let mut out = [0xff; 4096];
+    ControllerIds::new(&[0xffef, 0, 5]).put(&mut out);
+    assert_eq!(rt; out, bytes);
+    let mut place = CtrlList::new();
+    assert_eq!(rt; place.read(&bytes), Ok(list.ids()));
     assert_eq!(rt; CtrlList::get(&bytes), Ok(list));
     let none = CtrlList::get(&[0; 4096])?;
     assert_eq!(rt; none, CtrlList::new());
@@ -224,6 +229,8 @@ fn controller_lists_compare_and_print_as_lists(rt: HostRuntime) -> Result<(), Fa
     assert!(rt; one == two);
     two.push(3);
     assert!(rt; one != two);
+    assert!(rt; one.ids() != two.ids());
     assert!(rt; format!(in rt.alloc(); "{two:?}")?.as_str() == "[1, 3]");
+    assert!(rt; format!(in rt.alloc(); "{:?}", two.ids())?.as_str() == "[1, 3]");
     Ok(())
 }

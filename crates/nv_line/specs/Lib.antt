@@ -10,5 +10,7 @@ pub mod ClapRule
 pub mod OptionValue
 pub mod Identify
 pub mod Management
+pub mod Format
+pub mod Features
 pub mod Request
 pub mod Line

@@ -3,6 +3,7 @@ use Rattle.std.specs.Prelude.{codes}
 use Rattle.clap.specs.Words.{Text}
 use Rattle.nv_line.specs.declared.option.OptionName.{OptionName}
 use Rattle.nv_line.specs.declared.option.OptionName.TheVariants.{NamespaceId, All, Force, Nsze, Ncap, Flbas, Dps, Nmic, Controllers}
+use Rattle.nv_line.specs.declared.option.OptionName.TheVariants.{Lbaf, Ses, Pi, Pil, Ms, FeatureId, Sel, Value, Save}
 
 abbrev pub name_of : OptionName → Text
 name_of NamespaceId = codes "namespace-id"
@@ -14,3 +15,12 @@ name_of Flbas = codes "flbas"
 name_of Dps = codes "dps"
 name_of Nmic = codes "nmic"
 name_of Controllers = codes "controllers"
+name_of Lbaf = codes "lbaf"
+name_of Ses = codes "ses"
+name_of Pi = codes "pi"
+name_of Pil = codes "pil"
+name_of Ms = codes "ms"
+name_of FeatureId = codes "feature-id"
+name_of Sel = codes "sel"
+name_of Value = codes "value"
+name_of Save = codes "save"

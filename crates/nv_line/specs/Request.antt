@@ -4,6 +4,8 @@ use Rattle.std.specs.Option.{ok_or}
 use Rattle.clap.specs.Words.{Row, Text, first_of}
 use Rattle.nv_line.specs.ClapRule.{rows_of_words}
 use Rattle.nv_line.specs.Device.{device_of}
+use Rattle.nv_line.specs.Features.{get_feature_of, set_feature_of}
+use Rattle.nv_line.specs.Format.{format_of}
 use Rattle.nv_line.specs.Identify.{id_ns_of, list_ns_of}
 use Rattle.nv_line.specs.LineFault.{◌>>=◌}
 use Rattle.nv_line.specs.Management.{attachment_of, create_ns_of, delete_ns_of}
@@ -14,7 +16,7 @@ use Rattle.nv_line.specs.declared.fault.LineFault.TheVariants as fault
 use Rattle.nv_line.specs.declared.request.Ask.{Ask}
 use Rattle.nv_line.specs.declared.request.Request.{Request}
 use Rattle.nv_line.specs.declared.verb.Verb.{Verb}
-use Rattle.nv_line.specs.declared.verb.Verb.TheVariants.{ListNs, IdNs, CreateNs, AttachNs, DetachNs, DeleteNs}
+use Rattle.nv_line.specs.declared.verb.Verb.TheVariants.{ListNs, IdNs, CreateNs, AttachNs, DetachNs, DeleteNs, Format, GetFeature, SetFeature}
 
 -- what a command word asks for, in one line each
 abbrev pub ask_of : Verb → List Row → Device → Result Ask LineFault
@@ -24,6 +26,9 @@ ask_of CreateNs = create_ns_of
 ask_of AttachNs = attachment_of false
 ask_of DetachNs = attachment_of true
 ask_of DeleteNs = delete_ns_of
+ask_of Format = format_of
+ask_of GetFeature = get_feature_of
+ask_of SetFeature = set_feature_of
 
 abbrev pub device_in : ℕ → List Row → Result Device LineFault
 device_in controllers rows =

@@ -3,9 +3,9 @@ use Rattle.std.specs.Prelude.{List, Option, codes, find}
 use Rattle.std.specs.Str.{bytes_eq}
 use Rattle.clap.specs.Words.{Text}
 use Rattle.nv_line.specs.declared.option.CommandOption.{CommandOption}
-use Rattle.nv_line.specs.declared.verb.TheConstants.{VERBS, ATTACHMENT, CREATE_NS, DELETE_NS, ID_NS, LIST_NS}
+use Rattle.nv_line.specs.declared.verb.TheConstants.{VERBS, ATTACHMENT, CREATE_NS, DELETE_NS, FORMAT, GET_FEATURE, ID_NS, LIST_NS, SET_FEATURE}
 use Rattle.nv_line.specs.declared.verb.Verb.{Verb}
-use Rattle.nv_line.specs.declared.verb.Verb.TheVariants.{ListNs, IdNs, CreateNs, AttachNs, DetachNs, DeleteNs}
+use Rattle.nv_line.specs.declared.verb.Verb.TheVariants.{ListNs, IdNs, CreateNs, AttachNs, DetachNs, DeleteNs, Format, GetFeature, SetFeature}
 
 abbrev pub word_of : Verb → Text
 word_of ListNs = codes "list-ns"
@@ -14,6 +14,9 @@ word_of CreateNs = codes "create-ns"
 word_of AttachNs = codes "attach-ns"
 word_of DetachNs = codes "detach-ns"
 word_of DeleteNs = codes "delete-ns"
+word_of Format = codes "format"
+word_of GetFeature = codes "get-feature"
+word_of SetFeature = codes "set-feature"
 
 -- the options in order: a row of the table
 abbrev pub options_of : Verb → List CommandOption
@@ -23,6 +26,9 @@ options_of CreateNs = CREATE_NS
 options_of AttachNs = ATTACHMENT
 options_of DetachNs = ATTACHMENT
 options_of DeleteNs = DELETE_NS
+options_of Format = FORMAT
+options_of GetFeature = GET_FEATURE
+options_of SetFeature = SET_FEATURE
 
 abbrev pub verb_of : Text → Option Verb
 verb_of word = find (λ v. bytes_eq word (word_of v)) VERBS

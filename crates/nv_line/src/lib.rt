@@ -11,6 +11,8 @@ mod clap_rule;
 mod controller_list;
 mod device;
 mod fault;
+mod features;
+mod format;
 mod identify;
 mod line;
 mod management;

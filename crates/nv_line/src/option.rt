@@ -19,6 +19,15 @@ pub enum OptionName {
     Dps,
     Nmic,
     Controllers,
+    Lbaf,
+    Ses,
+    Pi,
+    Pil,
+    Ms,
+    FeatureId,
+    Sel,
+    Value,
+    Save,
 }
 
 impl OptionName {
@@ -36,6 +45,15 @@ impl OptionName {
             OptionName::Dps => "dps",
             OptionName::Nmic => "nmic",
             OptionName::Controllers => "controllers",
+            OptionName::Lbaf => "lbaf",
+            OptionName::Ses => "ses",
+            OptionName::Pi => "pi",
+            OptionName::Pil => "pil",
+            OptionName::Ms => "ms",
+            OptionName::FeatureId => "feature-id",
+            OptionName::Sel => "sel",
+            OptionName::Value => "value",
+            OptionName::Save => "save",
         }
     }
 }

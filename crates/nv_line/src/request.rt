@@ -8,11 +8,13 @@ ghost use Rattle.nv_line.specs.Request.{ask_of, device_in, request_of};
 use crate::clap_rule::{clap_matches, text_of};
 use crate::device::{Device, read_device};
 use crate::fault::LineFault;
+use crate::features::{get_feature, set_feature};
+use crate::format::format;
 use crate::identify::{id_ns, list_ns};
 use crate::management::{attachment, create_ns, delete_ns};
 use crate::verb::Verb;
 use clap::ArgMatches;
-use nv_layout::CtrlList;
+use nv_layout::{CtrlList, FourBits, ThreeBits};
 use std::alloc::Global;
 
 /// What a controller is asked.
@@ -48,6 +50,28 @@ pub enum Ask {
     Delete {
         nsid: u32,
     },
+    /// A namespace to format, by the fields of the command ("Format NVM command").
+    Format {
+        nsid: u32,
+        lbaf: FourBits,
+        mset: bool,
+        pi: ThreeBits,
+        pil: bool,
+        ses: ThreeBits,
+    },
+    /// A value of a feature ("Get Features command").
+    GetFeature {
+        fid: u8,
+        sel: ThreeBits,
+        nsid: u32,
+    },
+    /// A value for a feature, which may be saved too ("Set Features command").
+    SetFeature {
+        fid: u8,
+        value: u32,
+        save: bool,
+        nsid: u32,
+    },
 }
 
 /// What a line asks for.
@@ -78,6 +102,9 @@ fn read_ask(matches: &ArgMatches<'_>, verb: Verb, device: Device) -> Result<Ask,
         Verb::AttachNs => attachment(matches, device, false),
         Verb::DetachNs => attachment(matches, device, true),
         Verb::DeleteNs => delete_ns(matches, device),
+        Verb::Format => format(matches, device),
+        Verb::GetFeature => get_feature(matches, device),
+        Verb::SetFeature => set_feature(matches, device),
     }
 }
 

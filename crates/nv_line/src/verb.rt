@@ -83,13 +83,90 @@ pub const CONTROLLERS: ListOption = ListOption {
     letter: 'c',
 };
 
-static VERBS: [Verb; 6] = [
+/// The format of a namespace, by its number.
+pub const LBAF: NumberOption = NumberOption {
+    name: OptionName::Lbaf,
+    letter: 'l',
+    least: 0,
+    most: 0xf,
+    takes_path: false,
+    default: None,
+};
+
+/// The secure erase settings of a format.
+pub const SES: NumberOption = NumberOption {
+    name: OptionName::Ses,
+    letter: 's',
+    most: 0x7,
+    ..NSZE
+};
+
+/// The protection information of a format.
+pub const PI: NumberOption = NumberOption {
+    name: OptionName::Pi,
+    letter: 'i',
+    ..SES
+};
+
+/// Where the protection information of a format lies.
+pub const PIL: NumberOption = NumberOption {
+    name: OptionName::Pil,
+    letter: 'p',
+    most: 0x1,
+    ..NSZE
+};
+
+/// Where the metadata of a format lies.
+pub const MS: NumberOption = NumberOption {
+    name: OptionName::Ms,
+    letter: 'm',
+    ..PIL
+};
+
+/// The NSID of a feature, by default that of the path, or else 0.
+pub const FEATURE_NSID: NumberOption = NumberOption {
+    default: Some(0),
+    ..NSID
+};
+
+/// A feature identifier.
+pub const FEATURE_ID: NumberOption = NumberOption {
+    name: OptionName::FeatureId,
+    letter: 'f',
+    most: 0xff,
+    ..LBAF
+};
+
+/// Which value of a feature is wanted.
+pub const SEL: NumberOption = NumberOption {
+    name: OptionName::Sel,
+    ..SES
+};
+
+/// The value to give a feature.
+pub const VALUE: NumberOption = NumberOption {
+    name: OptionName::Value,
+    letter: 'v',
+    most: 0xffff_ffff,
+    ..LBAF
+};
+
+/// The value is saved too.
+pub const SAVE: FlagOption = FlagOption {
+    name: OptionName::Save,
+    letter: 's',
+};
+
+static VERBS: [Verb; 9] = [
     Verb::ListNs,
     Verb::IdNs,
     Verb::CreateNs,
     Verb::AttachNs,
     Verb::DetachNs,
     Verb::DeleteNs,
+    Verb::Format,
+    Verb::GetFeature,
+    Verb::SetFeature,
 ];
 
 static LIST_NS: [CommandOption; 2] = [CommandOption::Number(FIRST_NSID), CommandOption::Flag(ALL)];
@@ -111,6 +188,28 @@ static ATTACHMENT: [CommandOption; 2] = [
 
 static DELETE_NS: [CommandOption; 1] = [CommandOption::Number(NSID)];
 
+static FORMAT: [CommandOption; 6] = [
+    CommandOption::Number(NSID),
+    CommandOption::Number(LBAF),
+    CommandOption::Number(SES),
+    CommandOption::Number(PI),
+    CommandOption::Number(PIL),
+    CommandOption::Number(MS),
+];
+
+static GET_FEATURE: [CommandOption; 3] = [
+    CommandOption::Number(FEATURE_NSID),
+    CommandOption::Number(FEATURE_ID),
+    CommandOption::Number(SEL),
+];
+
+static SET_FEATURE: [CommandOption; 4] = [
+    CommandOption::Number(FEATURE_NSID),
+    CommandOption::Number(FEATURE_ID),
+    CommandOption::Number(VALUE),
+    CommandOption::Flag(SAVE),
+];
+
 /// A command word.
 #[derive(Clone, Copy, PartialEq, Eq)]
 pub enum Verb {
@@ -120,6 +219,9 @@ pub enum Verb {
     AttachNs,
     DetachNs,
     DeleteNs,
+    Format,
+    GetFeature,
+    SetFeature,
 }
 
 impl Verb {
@@ -134,6 +236,9 @@ impl Verb {
             Verb::AttachNs => "attach-ns",
             Verb::DetachNs => "detach-ns",
             Verb::DeleteNs => "delete-ns",
+            Verb::Format => "format",
+            Verb::GetFeature => "get-feature",
+            Verb::SetFeature => "set-feature",
         }
     }
 
@@ -147,6 +252,9 @@ impl Verb {
             Verb::CreateNs => CREATE_NS.as_slice(),
             Verb::AttachNs | Verb::DetachNs => ATTACHMENT.as_slice(),
             Verb::DeleteNs => DELETE_NS.as_slice(),
+            Verb::Format => FORMAT.as_slice(),
+            Verb::GetFeature => GET_FEATURE.as_slice(),
+            Verb::SetFeature => SET_FEATURE.as_slice(),
         }
     }
 

@@ -1,6 +1,6 @@
 -- What a line prints.
-use Rattle.std.specs.Prelude.{ℕ, ◌+◌, ◌-◌, ◌%◌, min, take, ◌==◌, false, List, [], ◌∷◌, ◌++◌, length, replicate, codes, if◌then◌else◌}
-use Rattle.std.specs.Fmt.{decimal, digits}
+use Rattle.std.specs.Prelude.{ℕ, ◌+◌, ◌-◌, ◌%◌, min, take, ◌==◌, List, [], ◌∷◌, ◌++◌, length, replicate, codes, if◌then◌else◌}
+use Rattle.std.specs.Fmt.{decimal}
 use Rattle.std.specs.List.{fold}
 use Rattle.nv_layout.specs.Status.{number_of_status}
 use Rattle.nv_layout.specs.declared.status.Status.{Status}
@@ -9,13 +9,12 @@ use Rattle.nv_layout.specs.declared.id_ns.Lbaf.{Lbaf}
 use Rattle.nv_command.specs.StatusCode.{name_of_status}
 use Rattle.nv_command.specs.declared.reply.Reply.{Reply}
 use Rattle.nv_command.specs.declared.reply.Reply.TheVariants as reply
+use Rattle.nv_print.specs.Features.{text_of_get_feature, text_of_set_feature}
+use Rattle.nv_print.specs.Format.{text_of_format}
+use Rattle.nv_print.specs.Hexadecimal.{hexadecimal}
 use Rattle.nv_print.specs.Management.{text_of_attachment, text_of_create, text_of_delete}
 use Rattle.nv_line.specs.declared.request.Ask.{Ask}
 use Rattle.nv_line.specs.declared.request.Ask.TheVariants as ask
-
--- 0x and hexadecimal digits
-abbrev pub hexadecimal : ℕ → List ℕ
-hexadecimal n = codes "0x" ++ digits 16 false n
 
 -- a text on the right of so many places
 abbrev pub right : ℕ → List ℕ → List ℕ
@@ -92,6 +91,9 @@ text_of (ask.IdNs nsid force) replies = text_of_identify replies
 text_of (ask.Create nsze ncap flbas dps nmic) replies = text_of_create replies
 text_of (ask.Attachment nsid detach controllers) replies = text_of_attachment nsid detach
 text_of (ask.Delete nsid) replies = text_of_delete nsid
+text_of (ask.Format nsid lbaf mset pi pil ses) replies = text_of_format nsid
+text_of (ask.GetFeature fid sel nsid) replies = text_of_get_feature fid sel replies
+text_of (ask.SetFeature fid value save nsid) replies = text_of_set_feature fid value save
 
 -- ---- messages
 

@@ -3,6 +3,9 @@
 //! Sections are named as in the NVM Express Base Specification, revision 1.4.
 #![tactic(auto)]
 
+mod features;
+mod format;
+mod hexadecimal;
 mod management;
 mod texts;
 

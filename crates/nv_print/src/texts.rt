@@ -4,27 +4,15 @@ ghost use Rattle.std.specs.Prelude.{◌≡◌, IfOk, string_bytes};
 ghost use Rattle.nv_line.specs.LineFault.{fault_text};
 ghost use Rattle.nv_print.specs.Texts.{message_of, namespace_fields, refusal_text, text_of, text_of_identify, text_of_list, text_of_namespace, text_of_nsids};
 
+use crate::features::{get_feature_text, set_feature_text};
+use crate::format::format_text;
+use crate::hexadecimal::Hexadecimal;
 use crate::management::{attachment_text, create_text, delete_text};
 use nv_command::{Reply, StatusCode};
 use nv_layout::{IdNs, Lbaf, NsList, Status};
 use nv_line::{Ask, LineFault};
 use std::alloc::{AllocError, Global};
 use std::{cmp, fmt};
-
-/// A number after `0x`, in lower case hexadecimal digits.
-#[derive(Clone, Copy)]
-struct Hexadecimal(u64);
-
-impl fmt::Display for Hexadecimal {
-    ghost use Rattle.std.specs.Prelude.{Some};
-    ghost use Rattle.nv_print.specs.Texts.{hexadecimal};
-
-    ghost output = { λ n. Some (hexadecimal n.0) };
-
-    fn fmt<W: fmt::Write>(&self, f: &mut fmt::Formatter<W>) -> fmt::Result {
-        write!(f, "0x{:x}", self.0)
-    }
-}
 
 /// An index on the right of so many places.
 #[derive(Clone, Copy)]
@@ -196,6 +184,11 @@ pub fn text_of(alloc: Global, ask: &Ask, replies: &[Reply]) -> Result<String, Al
         Ask::Create { .. } => create_text(alloc, replies),
         Ask::Attachment { nsid, detach, .. } => attachment_text(alloc, *nsid, *detach),
         Ask::Delete { nsid } => delete_text(alloc, *nsid),
+        Ask::Format { nsid, .. } => format_text(alloc, *nsid),
+        Ask::GetFeature { fid, sel, .. } => get_feature_text(alloc, *fid, *sel, replies),
+        Ask::SetFeature {
+            fid, value, save, ..
+        } => set_feature_text(alloc, *fid, *value, *save),
     }
 }
 

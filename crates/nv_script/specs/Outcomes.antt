@@ -4,6 +4,7 @@ use Rattle.nv_layout.specs.declared.status.Status.{Status}
 use Rattle.nv_subsystem.specs.State.{State}
 use Rattle.nv_command.specs.declared.command.Command.{Command}
 use Rattle.nv_command.specs.declared.command.Command.TheVariants.{IdentifyNamespace, AllocatedNamespace, ActiveList, AllocatedList, Create, Delete, Attachment}
+use Rattle.nv_command.specs.declared.command.Command.TheVariants.{Format, GetFeature, SetFeature}
 use Rattle.nv_command.specs.declared.reply.Reply.{Reply}
 use Rattle.nv_script.specs.Exchange.{exchange_of}
 use Rattle.nv_script.specs.declared.order.Order.{Order}
@@ -25,6 +26,9 @@ command_of (ask.IdNs nsid force) = namespace_command force nsid
 command_of (ask.Create nsze ncap flbas dps nmic) = Create nsze ncap flbas dps nmic
 command_of (ask.Attachment nsid detach controllers) = Attachment nsid detach controllers
 command_of (ask.Delete nsid) = Delete nsid
+command_of (ask.Format nsid lbaf mset pi pil ses) = Format nsid lbaf mset pi pil ses
+command_of (ask.GetFeature fid sel nsid) = GetFeature fid sel nsid
+command_of (ask.SetFeature fid value save nsid) = SetFeature fid value save nsid
 
 -- the commands that a request stands for
 abbrev pub commands_of : State → Request → List Order

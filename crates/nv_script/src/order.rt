@@ -68,6 +68,37 @@ fn command_of(ask: &Ask) -> Result<Command, AllocError>
             list: controllers.clone()?,
         },
         Ask::Delete { nsid } => Command::Delete { nsid: *nsid },
+        Ask::Format {
+            nsid,
+            lbaf,
+            mset,
+            pi,
+            pil,
+            ses,
+        } => Command::Format {
+            nsid: *nsid,
+            lbaf: *lbaf,
+            mset: *mset,
+            pi: *pi,
+            pil: *pil,
+            ses: *ses,
+        },
+        Ask::GetFeature { fid, sel, nsid } => Command::GetFeature {
+            fid: *fid,
+            sel: *sel,
+            nsid: *nsid,
+        },
+        Ask::SetFeature {
+            fid,
+            value,
+            save,
+            nsid,
+        } => Command::SetFeature {
+            fid: *fid,
+            value: *value,
+            save: *save,
+            nsid: *nsid,
+        },
     })
 }
 

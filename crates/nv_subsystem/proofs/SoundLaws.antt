@@ -11,7 +11,7 @@ use Rattle.nv_file.specs.declared.namespace.Namespace.{Namespace}
 use Rattle.nv_subsystem.specs.Capacity.{used}
 use Rattle.nv_subsystem.specs.ManagementLaws.{left}
 use Rattle.nv_subsystem.specs.Sound.{IsSized, IsSound}
-use Rattle.nv_subsystem.specs.UsedLaws.{used-empty, used-insert, used-remove}
+use Rattle.nv_subsystem.specs.UsedLaws.{used-change, used-empty, used-insert, used-remove}
 use Rattle.nv_subsystem.specs.declared.controller.Controller.{Controller}
 
 abbrev AddsUp : RangeMap Namespace → List Format → List Controller → ℕ → ℕ → Type 0
@@ -23,27 +23,40 @@ none_of (Some x) e = absurd (cc e)
 
 module _ (m : RangeMap Namespace) (fs : List Format) (cs : List Controller)
     (unallocated tnvmcap : ℕ) (is : AddsUp m fs cs unallocated tnvmcap) (n : ℕ) where
-  pub sound-insert : (x : Namespace) → map_of.contains_key m.values n ≡ false
-      → x.capacity ≤ unallocated → x.format < 16
-      → AddsUp (record m { values = map_of.insert m.values n x }) fs cs
-      (unallocated - x.capacity) tnvmcap
-  sound-insert x free room small = (
-    record {
-      first = is.0.first;
-      count = is.0.count;
-      formats = is.0.formats;
-      block_sizes = is.0.block_sizes;
-      few = is.0.few;
-      controllers = is.0.controllers;
-      in_formats = λ q y e. at_test q y (q == n) (sym (get_of_insert m.values n x q) ∙ e);
-    },
-    omega (arith, is.1, used-insert m.values n x (none_of (map_of.get m.values n) free)),
-  )
+  -- the slots with another namespace in one of them
+  sound-slot : (x : Namespace) → x.format < 16
+      → IsSound (record m { values = map_of.insert m.values n x }) fs cs
+  sound-slot x small = record {
+    first = is.0.first;
+    count = is.0.count;
+    formats = is.0.formats;
+    block_sizes = is.0.block_sizes;
+    few = is.0.few;
+    controllers = is.0.controllers;
+    in_formats = λ q y e. at_test q y (q == n) (sym (get_of_insert m.values n x q) ∙ e);
+  }
     where
       at_test : (q : ℕ) (y : Namespace) (b : Bool) → cond b (Some x) (map_of.get m.values q)
           ≡ Some y → y.format < 16
       at_test q y true e = let same : x ≡ y = cc e in omega (arith, ap (λ z. z.format) same)
       at_test q y false e = is.0.in_formats q y e
+
+  pub sound-insert : (x : Namespace) → map_of.contains_key m.values n ≡ false
+      → x.capacity ≤ unallocated → x.format < 16
+      → AddsUp (record m { values = map_of.insert m.values n x }) fs cs
+      (unallocated - x.capacity) tnvmcap
+  sound-insert x free room small = (
+    sound-slot x small,
+    omega (arith, is.1, used-insert m.values n x (none_of (map_of.get m.values n) free)),
+  )
+
+  pub sound-change : (x y : Namespace) → map_of.get m.values n ≡ Some x
+      → y.capacity ≡ x.capacity → y.format < 16
+      → AddsUp (record m { values = map_of.insert m.values n y }) fs cs unallocated tnvmcap
+  sound-change x y found same small = (
+    sound-slot y small,
+    omega (arith, is.1, used-change m.values n x y found same),
+  )
 
   sound-without : (total : ℕ) → total + used (map_of.remove m.values n) ≡ tnvmcap
       → AddsUp (record m { values = map_of.remove m.values n }) fs cs total tnvmcap

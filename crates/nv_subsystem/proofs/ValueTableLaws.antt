@@ -1,5 +1,5 @@
 -- The map that two tables of values stand for.
-use Rattle.std.proofs.Common.{◌≡◌, ◌∙◌, ℕ, ◌==◌, ◌&&◌, Bool, true, false, not, cond, List, [], ◌∷◌, ◌++◌, map, Option, Some, None, refl, sym, ap, arith}
+use Rattle.std.proofs.Common.{◌≡◌, ◌∙◌, ℕ, ◌+◌, ◌==◌, ◌<◌, ◌≤◌, ◌&&◌, Bool, true, false, not, cond, List, [], ◌∷◌, ◌++◌, map, Option, Some, None, refl, sym, ap, arith}
 use Rattle.std.proofs.lemmas.Bool.Decides.{nat_tests}
 use Rattle.std.specs.Option.{option_or}
 use Rattle.std.specs.Ordering.{nat_cmp}
@@ -9,10 +9,11 @@ use Rattle.std.specs.FinMap as map_of
 use Rattle.std.specs.FinMap.{get-empty, get-entries, get-from_entries}
 use Rattle.std.specs.FinMap.Entries.{find}
 use Rattle.nv_bits.specs.NumberLaws.{get_of_insert, get_of_remove}
-use Rattle.nv_bits.specs.Numbers.{NumberMap}
+use Rattle.nv_bits.specs.Numbers.{IsOf, NumberMap}
+use Rattle.nv_bits.specs.Slots.{RangeMap}
 use Rattle.nv_layout.specs.Feature.{row_of}
 use Rattle.nv_layout.specs.declared.feature.Feature.{Feature}
-use Rattle.std.specs.Prelude.{if◌then◌else◌}
+use Rattle.std.specs.Prelude.{IfSome, if◌then◌else◌}
 use Rattle.nv_subsystem.specs.ValueLaws.{is_key, is_value_key, longer_key, of_namespaces, other_identifier, same_values, shorter_key, value_of_insert, value_of_remove, value_of_retain}
 use Rattle.nv_subsystem.specs.ValueTable.{FeatureValues, is_other_key, ValueTable, key_of, recovery_key, value_key, values_of}
 use Rattle.nv_subsystem.specs.declared.feature_value.FeatureValue.{FeatureValue}
@@ -274,3 +275,15 @@ no_values = same_values _ _ (λ q. get_in map_of.empty map_of.empty q ∙ none q
     none (a ∷ []) = refl
     none (a ∷ n ∷ []) = nothing a n (a == 5) (n == 0)
     none (a ∷ n ∷ b ∷ rest) = refl
+
+-- where a value is found for a namespace the NSID is in its range
+pub found_within : (f : Feature) (o : Option FeatureValue) (m : RangeMap FeatureValue) (n : ℕ) → m.first ≡ 1
+    → IfSome o (λ _. IsOf m.first m.count n)
+    → IfSome o (λ _. (row_of f).per_namespace ≡ true → IsOf 1 m.count n)
+found_within f None m n e h = h
+found_within f (Some x) m n e h = λ _. (omega (arith, h.0), omega (arith, h.1))
+
+pub none_found_within : (f : Feature) (o : Option FeatureValue) (nn n : ℕ) → (row_of f).per_namespace ≡ false
+    → IfSome o (λ _. (row_of f).per_namespace ≡ true → IsOf 1 nn n)
+none_found_within f None nn n e = tt
+none_found_within f (Some x) nn n e = λ h. absurd (cc (sym e ∙ h))

@@ -71,7 +71,7 @@ is_there false o x e = absurd (cc e)
 
 -- ---- defaults
 
-feature_at : (f : Feature) → feature_of (row_of f).fid ≡ Some f
+pub feature_at : (f : Feature) → feature_of (row_of f).fid ≡ Some f
 feature_at feature.Arbitration = refl
 feature_at feature.PowerManagement = refl
 feature_at feature.ErrorRecovery = refl

@@ -12,6 +12,8 @@ pub mod Capacity
 pub mod Nsid
 pub mod Identify
 pub mod Management
+pub mod Format
+pub mod Features
 pub mod Attachment
 pub mod Refusal
 pub mod Reply
@@ -26,10 +28,13 @@ pub mod Entry
 pub mod ChangedAtLaws
 pub mod ValueLaws
 pub mod FeatureLaws
+pub mod KeepingLaws
+pub mod SetFeatureLaws
 pub mod UsedLaws
 pub mod MappedLaws
 pub mod ManagementLaws
 pub mod AttachmentLaws
+pub mod FormatLaws
 pub mod StepLaws
 pub mod IdentifyLaws
 pub mod ListLaws

@@ -1,5 +1,5 @@
 -- An NVM subsystem as a value: what commands read and change, and nothing of how they travel.
-use Rattle.std.specs.Prelude.{ℕ, List, Option, slice_get, unwrap_or}
+use Rattle.std.specs.Prelude.{ℕ, zero, suc, List, [], ◌∷◌, Option, slice_get, unwrap_or}
 use Rattle.std.specs.Ordering.{nat_cmp}
 use Rattle.std.specs.FinMap as map_of
 use Rattle.std.specs.FinSet as set_of
@@ -62,3 +62,12 @@ ascending ns = map_of.keys ns
 -- the allocated NSIDs, ascending
 abbrev pub allocated_nsids : State → List ℕ
 allocated_nsids s = map_of.keys s.namespaces
+
+-- a list with the element at a place changed, and a subsystem with such a controller
+abbrev pub changed_at : {A : Type 0} → List A → ℕ → (A → A) → List A
+changed_at [] n f = []
+changed_at (x ∷ xs) zero f = f x ∷ xs
+changed_at (x ∷ xs) (suc n) f = x ∷ changed_at xs n f
+
+abbrev pub with_controller : State → ℕ → (Controller → Controller) → State
+with_controller s c f = record s { controllers = changed_at s.controllers c f }

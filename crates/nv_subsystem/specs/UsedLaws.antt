@@ -1,5 +1,5 @@
 -- The capacity that is in use, when a namespace comes or goes.
-use Rattle.std.proofs.Common.{◌≡◌, ◌∙◌, ℕ, ◌+◌, ◌==◌, List, [], ◌∷◌, map, length, cond, Bool, true, false, Some, None, refl, sym, ap, arith, Ordering}
+use Rattle.std.proofs.Common.{◌≡◌, ◌∙◌, ℕ, ◌+◌, ◌==◌, List, [], ◌∷◌, map, length, cond, Bool, true, false, Option, Some, None, refl, sym, ap, arith, Ordering}
 use Rattle.std.specs.Prelude.{sum_by}
 use Rattle.std.specs.Ordering.{nat_cmp}
 use Rattle.std.specs.declared.cmp.Ordering.TheVariants.{Less, Equal, Greater}
@@ -63,6 +63,27 @@ used-remove m n v found =
     sym (ap used (put_back m n v found))
     ∙ used-insert (map_of.remove m n) n v
     (get_of_remove m n n ∙ ap (λ b. cond b None (map_of.get m n)) (eq-eqb n n refl))
+
+-- a namespace of another kind and the same capacity
+pub used-change : (m : Namespaces) (n : ℕ) (v w : Namespace) → map_of.get m n ≡ Some v
+    → w.capacity ≡ v.capacity → used (map_of.insert m n w) ≡ used m
+used-change m n v w found same =
+    let again : map_of.insert m n w ≡ map_of.insert (map_of.remove m n) n w = same_numbers _ _
+    (λ q. get_of_insert m n w q ∙ shadowed (q == n) (map_of.get m q)
+    ∙ sym (get_of_insert (map_of.remove m n) n w q
+    ∙ ap (cond (q == n) (Some w)) (get_of_remove m n q))) in
+    omega (
+      arith,
+      ap used again,
+      used-insert (map_of.remove m n) n w
+          (get_of_remove m n n ∙ ap (λ b. cond b None (map_of.get m n)) (eq-eqb n n refl)),
+      used-remove m n v found,
+    )
+  where
+    shadowed : (b : Bool) (o : Option Namespace) → cond b (Some w) o
+        ≡ cond b (Some w) (cond b None o)
+    shadowed true o = refl
+    shadowed false o = refl
 
 none_used : (es : List (ℕ × Namespace)) → length es ≡ 0 → total es ≡ 0
 unfolding total

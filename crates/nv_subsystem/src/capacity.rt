@@ -3,10 +3,12 @@
 ghost use Rattle.std.specs.Prelude.{◌≡◌, ◌≤◌, ◌<◌, false};
 ghost use Rattle.std.specs.FinMap as map_of;
 ghost use Rattle.nv_subsystem.specs.Capacity.{unallocated};
+ghost use Rattle.nv_subsystem.specs.Format.{with_format};
 ghost use Rattle.nv_subsystem.specs.Nsid.{is_allocated};
 
 use crate::subsystem::Subsystem;
 use nv_file::Namespace;
+use nv_layout::FourBits;
 
 impl Subsystem {
     /// The bytes of capacity that no namespace has.
@@ -38,6 +40,22 @@ impl Subsystem {
     {
         if let Some(namespace) = self.slots.remove(nsid) {
             self.unallocated += namespace.capacity;
+        }
+    }
+
+    /// Changes the format of a namespace, where there is one. Its capacity stays.
+    pub(crate) fn change_format(&mut self, nsid: u32, lbaf: FourBits, extended: bool)
+        ensures { self.new ≡ record self.old {
+          namespaces = with_format lbaf extended self.old.namespaces nsid;
+        } }
+    {
+        if let Some(namespace) = self.slots.get(nsid) {
+            let changed = Namespace {
+                format: lbaf.get(),
+                extended,
+                ..namespace
+            };
+            self.slots.insert(nsid, changed);
         }
     }
 

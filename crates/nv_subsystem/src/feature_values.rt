@@ -1,9 +1,10 @@
 //! The values of the features of a controller.
 
-ghost use Rattle.std.specs.Prelude.{◌≡◌, ◌≤◌, ◌<◌, true, IfOk};
+ghost use Rattle.std.specs.Prelude.{◌≡◌, ◌≤◌, ◌<◌, true, IfOk, IfSome};
 ghost use Rattle.std.specs.FinMap as map_of;
 ghost use Rattle.nv_bits.specs.Numbers.{IsOf};
 ghost use Rattle.nv_layout.specs.Feature.{row_of};
+ghost use Rattle.nv_subsystem.specs.Features.{with_value};
 ghost use Rattle.nv_subsystem.specs.ValueTable.{is_other_key, key_of, recovery_key};
 
 use crate::feature_value::FeatureValue;
@@ -26,6 +27,7 @@ pub struct FeatureValues {
 impl Model for FeatureValues {
     ghost use Rattle.std.specs.Prelude.{◌≡◌, None};
     ghost use Rattle.std.specs.FinMap as map_of;
+    ghost use Rattle.nv_subsystem.specs.Features.{with_value};
     ghost use Rattle.nv_subsystem.specs.ValueTable.{AreTables, ValueTable, value_table_code, values_of};
 
     ghost Value = { ValueTable };
@@ -56,7 +58,9 @@ impl FeatureValues {
 
     /// The value of a feature: that for the namespace where each has one of its own.
     pub(crate) fn get(&self, feature: Feature, nsid: u32) -> Option<FeatureValue>
-        ensures { result ≡ map_of.get self.now.values (key_of feature nsid) }
+        ensures value { result ≡ map_of.get self.now.values (key_of feature nsid) }
+        ensures in_range { IfSome result
+            (λ _. (row_of feature).per_namespace ≡ true → IsOf 1 self.now.nn nsid) }
     {
         if feature.is_per_namespace() {
             self.by_namespace.get(nsid)
@@ -76,6 +80,17 @@ impl FeatureValues {
             self.by_namespace.insert(nsid, value);
         } else {
             self.by_feature.insert(u32::from(feature.fid()), value);
+        }
+    }
+
+    /// Writes over the value of a feature, where it is there.
+    pub(crate) fn write(&mut self, feature: Feature, nsid: u32, value: u32, save: bool)
+        ensures { self.new ≡ record self.old {
+          values = with_value feature value save self.old.values nsid;
+        } }
+    {
+        if let Some(old) = self.get(feature, nsid) {
+            self.insert(feature, nsid, old.written(value, save));
         }
     }
 

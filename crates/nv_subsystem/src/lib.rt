@@ -7,6 +7,8 @@ mod controller;
 mod error_log;
 mod feature_value;
 mod feature_values;
+mod features;
+mod format;
 mod from_file;
 mod identify;
 mod listing;

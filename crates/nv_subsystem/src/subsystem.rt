@@ -17,6 +17,8 @@ ghost use Rattle.nv_subsystem.specs.WellFormed.{IsWellFormed};
 ghost use Rattle.nv_command.specs.Refusal.{IsRefusal};
 
 use crate::controller::Controller;
+use crate::features::NewValue;
+use crate::format::NewFormat;
 use crate::from_file::{controllers, slots, unallocated};
 use crate::identify::check_list;
 use crate::management::NewNamespace;
@@ -138,6 +140,7 @@ impl Subsystem {
 
     /// Why a command of a controller is refused: the first of its rows that applies.
     fn check(&self, ctrl: u16, command: &Command) -> Result<(), Refusal>
+        requires { ctrl < length self.now.controllers }
         ensures { Checks (rows_of self.now ctrl command.now) result }
     {
         match command {
@@ -156,6 +159,23 @@ impl Subsystem {
             Command::Attachment { nsid, detach, list } => {
                 self.check_attachment(*nsid, *detach, list.as_slice())
             }
+            Command::Format {
+                nsid,
+                lbaf,
+                mset,
+                pi,
+                pil,
+                ses,
+            } => self.check_format(ctrl, *nsid, &NewFormat::new(*lbaf, *mset, *pi, *pil, *ses)),
+            Command::GetFeature { fid, sel, nsid } => {
+                self.check_get_feature(ctrl, *fid, *sel, *nsid)
+            }
+            Command::SetFeature {
+                fid,
+                value,
+                save,
+                nsid,
+            } => self.check_set_feature(ctrl, *fid, NewValue::new(*value, *save), *nsid),
         }
     }
 
@@ -172,12 +192,18 @@ impl Subsystem {
             Command::Create { .. } => Reply::Number(self.created_nsid()),
             Command::Delete { nsid: _ } => Reply::Done,
             Command::Attachment { .. } => Reply::Done,
+            Command::Format { .. } => Reply::Done,
+            Command::GetFeature { fid, sel, nsid } => {
+                Reply::Number(self.feature_number(ctrl, *fid, *sel, *nsid))
+            }
+            Command::SetFeature { .. } => Reply::Done,
         }
     }
 
     /// What a command that isn't refused changes.
     fn apply(&mut self, ctrl: u16, command: &Command)
-        requires { refusal_of self.old ctrl command.now ≡ None }
+        requires ctrl { ctrl < length self.old.controllers }
+        requires accepted { refusal_of self.old ctrl command.now ≡ None }
         ensures { self.new ≡ effect_of self.old ctrl command.now }
     {
         match command {
@@ -196,6 +222,21 @@ impl Subsystem {
             Command::Attachment { nsid, detach, list } => {
                 self.change_attachment(*nsid, *detach, list.as_slice());
             }
+            Command::Format {
+                nsid,
+                lbaf,
+                mset,
+                pi,
+                pil,
+                ses,
+            } => self.format(ctrl, *nsid, &NewFormat::new(*lbaf, *mset, *pi, *pil, *ses)),
+            Command::GetFeature { .. } => {}
+            Command::SetFeature {
+                fid,
+                value,
+                save,
+                nsid,
+            } => self.set_feature(ctrl, *fid, NewValue::new(*value, *save), *nsid),
         }
     }
 

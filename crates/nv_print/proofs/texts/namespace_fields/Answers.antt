@@ -1,7 +1,8 @@
 use Rattle.std.proofs.Common.{◌≡◌, ◌∙◌, ◌++◌, ap, List, ℕ}
 use Rattle.std.specs.Prelude.{codes}
 use Rattle.std.specs.Fmt.{decimal}
-use Rattle.nv_print.specs.Texts.{field_line, hexadecimal, namespace_fields}
+use Rattle.nv_print.specs.Hexadecimal.{hexadecimal}
+use Rattle.nv_print.specs.Texts.{field_line, namespace_fields}
 use Rattle.nv_print.proofs.texts.namespace_fields.Goals as goal
 
 -- one line more

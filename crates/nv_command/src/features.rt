@@ -1,0 +1,71 @@
+//! The commands that read and write features. Sections "Get Features command" and "Set Features
+//! command".
+
+ghost use Rattle.std.specs.Prelude.{◌≡◌};
+ghost use Rattle.nv_command.specs.Features.{GetFeatureFits, SetFeatureFits, get_feature_command};
+ghost use Rattle.nv_command.specs.Features.{get_feature_fields, set_feature_command, set_feature_fields};
+
+use crate::command::Command;
+use crate::entry::Fields;
+use nv_layout::{Sqe, ThreeBits, bits_of, to_bits};
+
+/// The fields of a Get Features command.
+pub(crate) fn get_fields(fid: u8, sel: ThreeBits) -> Fields
+    ensures { result ≡ get_feature_fields fid sel }
+{
+    Fields {
+        opcode: 0x0a,
+        cdw10: to_bits(fid as u32, 0, 8) + to_bits(sel.get() as u32, 8, 3),
+        cdw11: 0,
+        cdw12: 0,
+        cdw13: 0,
+    }
+}
+
+/// The fields of a Set Features command.
+pub(crate) fn set_fields(fid: u8, value: u32, save: bool) -> Fields
+    ensures { result ≡ set_feature_fields fid value save }
+{
+    Fields {
+        opcode: 0x09,
+        cdw10: to_bits(fid as u32, 0, 8) + to_bits(save as u32, 31, 1),
+        cdw11: value,
+        cdw12: 0,
+        cdw13: 0,
+    }
+}
+
+/// What is asked of a feature fits its bits, as its types say. The call does nothing.
+pub(crate) fn get_fits(fid: u8, sel: ThreeBits, nsid: u32)
+    ensures { GetFeatureFits fid sel nsid }
+{
+    sel.get();
+}
+
+/// What a feature gets fits its bits, as its types say. The call does nothing.
+pub(crate) fn set_fits(fid: u8, value: u32, nsid: u32)
+    ensures { SetFeatureFits fid value nsid }
+{}
+
+/// The command of a Get Features entry.
+pub(crate) fn get_command<'a>(entry: &Sqe) -> Command<'a>
+    ensures { result ≡ get_feature_command entry.now }
+{
+    Command::GetFeature {
+        fid: bits_of(entry.cdw10, 0, 8) as u8,
+        sel: ThreeBits::low(bits_of(entry.cdw10, 8, 3) as u8),
+        nsid: entry.nsid,
+    }
+}
+
+/// The command of a Set Features entry.
+pub(crate) fn set_command<'a>(entry: &Sqe) -> Command<'a>
+    ensures { result ≡ set_feature_command entry.now }
+{
+    Command::SetFeature {
+        fid: bits_of(entry.cdw10, 0, 8) as u8,
+        value: entry.cdw11,
+        save: bits_of(entry.cdw10, 31, 1) == 1,
+        nsid: entry.nsid,
+    }
+}

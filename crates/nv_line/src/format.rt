@@ -1,0 +1,33 @@
+//! What `format` asks for.
+
+ghost use Rattle.std.specs.Prelude.{◌≡◌};
+ghost use Rattle.clap.specs.Words.{found_of, rows_of};
+ghost use Rattle.nv_line.specs.Format.{format_of};
+
+use crate::device::Device;
+use crate::fault::LineFault;
+use crate::option_value::read_number;
+use crate::request::Ask;
+use crate::verb::{LBAF, MS, NSID, PI, PIL, SES};
+use clap::ArgMatches;
+use nv_layout::{FourBits, ThreeBits};
+
+/// A namespace to format.
+pub(crate) fn format(matches: &ArgMatches<'_>, device: Device) -> Result<Ask, LineFault>
+    ensures { result ≡ format_of (rows_of (found_of matches.now)) device }
+{
+    let nsid = read_number(matches, NSID, device)? as u32;
+    let lbaf = FourBits::low(read_number(matches, LBAF, device)? as u8);
+    let ses = ThreeBits::low(read_number(matches, SES, device)? as u8);
+    let pi = ThreeBits::low(read_number(matches, PI, device)? as u8);
+    let pil = read_number(matches, PIL, device)? == 1;
+    let mset = read_number(matches, MS, device)? == 1;
+    Ok(Ask::Format {
+        nsid,
+        lbaf,
+        mset,
+        pi,
+        pil,
+        ses,
+    })
+}

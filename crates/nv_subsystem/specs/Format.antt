@@ -1,0 +1,66 @@
+-- Format NVM: when a format is refused, and what it changes.
+use Rattle.std.specs.Prelude.{ℕ, ◌^◌, ◌==◌, ◌&&◌, ◌||◌, not, nat_lt, Bool, false, List, [], ◌∷◌, slice_get, if◌then◌else◌}
+use Rattle.std.specs.List.{fold, list_any}
+use Rattle.std.specs.Option.{option_map_or}
+use Rattle.std.specs.FinMap as map_of
+use Rattle.nv_bits.specs.Numbers.{above}
+use Rattle.nv_command.specs.declared.command.TheConstants.{BROADCAST_NSID}
+use Rattle.nv_command.specs.declared.status_code.StatusCode.TheVariants.{InvalidFieldInCommand, InvalidFormat, InvalidNamespaceOrFormat}
+use Rattle.nv_file.specs.Tables.{may_extend}
+use Rattle.nv_subsystem.specs.Nsid.{active_nsids, is_active, is_valid}
+use Rattle.nv_subsystem.specs.Row.{row}
+use Rattle.nv_subsystem.specs.State.{Namespaces, State, controller_at}
+use Rattle.nv_subsystem.specs.declared.format.NewFormat.{NewFormat}
+use Rattle.nv_subsystem.specs.declared.row.Row.{Row}
+
+abbrev pub new_format : ℕ → Bool → ℕ → Bool → ℕ → NewFormat
+new_format lbaf mset pi pil ses = record {
+  lbaf = lbaf;
+  mset = mset;
+  pi = pi;
+  pil = pil;
+  ses = ses;
+}
+
+-- the NSIDs that a format concerns: for the broadcast one all that are active on the controller
+abbrev pub concerned : State → ℕ → ℕ → List ℕ
+concerned s c n = if n == BROADCAST_NSID then above 0 (active_nsids s c) else n ∷ []
+
+-- the table has the format, and metadata can lie at the end of its logical blocks where it shall
+abbrev pub is_possible : State → NewFormat → Bool
+is_possible s f =
+    option_map_or (λ format. may_extend s.mc format f.mset) (slice_get s.formats f.lbaf) false
+
+-- a namespace with a capacity below a size
+abbrev pub is_below : State → ℕ → ℕ → Bool
+is_below s size n = option_map_or (λ x. nat_lt x.capacity size) (map_of.get s.namespaces n) false
+
+-- one of some namespaces has no room for a logical block of a format
+abbrev pub has_one_below : State → ℕ → List ℕ → Bool
+has_one_below s lbaf ns =
+    option_map_or (λ format. list_any (is_below s (2 ^ format.lbads)) ns)
+    (slice_get s.formats lbaf) false
+
+-- the controller can erase by a key
+abbrev pub can_erase_by_key : State → ℕ → Bool
+can_erase_by_key s c = option_map_or (λ x. x.identity.crypto_erase) (controller_at s c) false
+
+abbrev pub format_rows : State → ℕ → ℕ → NewFormat → List Row
+format_rows s c n f =
+    row (not (is_valid s n || n == BROADCAST_NSID)) InvalidNamespaceOrFormat
+    ∷ row (not (is_active s c n || n == BROADCAST_NSID)) InvalidFieldInCommand
+    ∷ row (not (is_possible s f)) InvalidFormat
+    ∷ row (not (f.pi == 0) || f.pil) InvalidFormat
+    ∷ row (has_one_below s f.lbaf (concerned s c n)) InvalidFormat
+    ∷ row (nat_lt 2 f.ses || (f.ses == 2 && not (can_erase_by_key s c))) InvalidFieldInCommand
+    ∷ []
+
+-- a namespace changes its format, and where its metadata lies; its capacity stays
+abbrev pub with_format : ℕ → Bool → Namespaces → ℕ → Namespaces
+with_format lbaf mset m n =
+    option_map_or (λ x. map_of.insert m n (record x { format = lbaf; extended = mset }))
+    (map_of.get m n) m
+
+abbrev pub formatted : State → ℕ → ℕ → NewFormat → State
+formatted s c n f =
+    record s { namespaces = fold (with_format f.lbaf f.mset) s.namespaces (concerned s c n) }
