@@ -8,6 +8,10 @@ pub use harness::{Outcome, geometries, run_at, run_script};
 #[cfg(test)]
 mod bits;
 #[cfg(test)]
+mod drivers;
+#[cfg(test)]
+mod drivers_with_data;
+#[cfg(test)]
 mod entries;
 #[cfg(test)]
 mod entries_of_features;
@@ -44,6 +48,8 @@ mod lines_of_management;
 #[cfg(test)]
 mod management;
 #[cfg(test)]
+mod mistakes;
+#[cfg(test)]
 mod over_streams;
 #[cfg(test)]
 mod prp;
@@ -59,5 +65,13 @@ mod scripts;
 mod steps;
 #[cfg(test)]
 mod streams;
+#[cfg(test)]
+mod subsystem_management;
+#[cfg(test)]
+mod turns;
+#[cfg(test)]
+mod turns_by_steps;
+#[cfg(test)]
+mod turns_of_management;
 #[cfg(test)]
 mod watch;

@@ -16,8 +16,6 @@ mod management;
 mod origin;
 mod row;
 mod subsystem;
-#[cfg(test)]
-mod tests_of_management;
 
 pub use controller::GREATEST_COUNT;
 pub use nv_command::{Command, Refusal, Reply, StatusCode};

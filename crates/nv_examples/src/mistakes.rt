@@ -1,8 +1,8 @@
 //! A driver's mistakes, and what each of its entries gets.
 
-use crate::tests::{enable, identify, machine, pages};
-use crate::tests_by_steps::{posted, submit};
-use crate::{Bus, Machine};
+use crate::turns::{enable, identify, machine, pages};
+use crate::turns_by_steps::{posted, submit};
+use nv_controller::{Bus, Machine};
 use nv_layout::Sqe;
 use std::test::Fail;
 

@@ -1,8 +1,10 @@
+//! Drivers of the demonstration subsystem.
+
 ghost use Rattle.std.specs.Prelude.{◌≡◌, ◌<◌, All, IfOk, length};
 ghost use Rattle.nv_controller.specs.Bus.{IsBus, IsEnabledWhereReady};
 ghost use Rattle.nv_driver.specs.Registers.{ports_of};
 
-use super::*;
+use nv_driver::*;
 use nv_command::{Command, Reply};
 use nv_controller::{Bus, Machine};
 use nv_host::HostMemory;

@@ -1,10 +1,12 @@
+//! Drivers whose commands send data.
+
 ghost use Rattle.std.specs.Prelude.{◌≡◌, ◌≤◌, ◌<◌, IfOk, length};
 ghost use Rattle.nv_command.specs.Command.{CommandFits};
 ghost use Rattle.nv_controller.specs.Bus.{IsBus};
 ghost use Rattle.nv_driver.specs.Registers.{ports_of};
 
-use super::*;
-use crate::tests::machine;
+use nv_driver::*;
+use crate::drivers::machine;
 use nv_command::{Command, Reply};
 use nv_controller::Machine;
 use nv_layout::{ControllerIds, Status};

@@ -1,7 +1,9 @@
+//! Turns over entries that a host placed by hand.
+
 ghost use Rattle.std.specs.Prelude.{◌≡◌, IfOk, length};
 ghost use Rattle.nv_controller.specs.Bus.{IsBus};
 
-use super::*;
+use nv_controller::*;
 use nv_host::{FlatMemory, HostMemory, is_page_size};
 use nv_layout::{Cqe, Sqe};
 use nv_subsystem::{DEMO, Subsystem};

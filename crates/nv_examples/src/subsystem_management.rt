@@ -1,6 +1,6 @@
 //! Namespaces created, deleted, attached and detached, over the demonstration subsystem.
 
-use super::*;
+use nv_subsystem::*;
 use nv_layout::{CtrlList, ErrorEntry};
 use std::alloc::Global;
 use std::process::Abort;
