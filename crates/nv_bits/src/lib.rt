@@ -16,8 +16,6 @@
 
 mod bit_set;
 mod slots;
-#[cfg(test)]
-mod tests;
 mod words;
 
 pub use bit_set::BitSet;

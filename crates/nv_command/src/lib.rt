@@ -16,12 +16,6 @@ mod management;
 mod refusal;
 mod reply;
 mod status_code;
-#[cfg(test)]
-mod tests;
-#[cfg(test)]
-mod tests_of_features;
-#[cfg(test)]
-mod tests_of_management;
 mod transfer;
 
 pub use command::{BROADCAST_NSID, Command};

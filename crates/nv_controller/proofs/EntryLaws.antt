@@ -21,7 +21,7 @@ use Rattle.nv_subsystem.specs.Refusal.{refusal_of}
 use Rattle.nv_subsystem.specs.Reply.{reply_of}
 use Rattle.nv_subsystem.specs.ReplyLaws.{reply_fits}
 use Rattle.nv_subsystem.specs.State.{State}
-use Rattle.nv_subsystem.specs.Step.{answer_by, answer_to}
+use Rattle.nv_subsystem.specs.Step.{Step, answer_by, answer_to}
 use Rattle.nv_subsystem.specs.WellFormed.{IsWellFormed}
 use Rattle.nv_controller.specs.Call.{call_of, length_of}
 use Rattle.nv_controller.specs.Entry.{HasPlaces, Moves, One, Scene, call_in, completion_with, entry_in, entry_step, places_in, step_unless}
@@ -88,47 +88,36 @@ written_nothing bytes (p ∷ at) = refl
 
 -- ---- what taking one entry did, from its parts
 
-moves_there : (a b : Result Reply Status) (at there old new : List ℕ) → a ≡ b → OnOk a (at ≡ there)
-    → Moves a at old new → Moves b there old new
-moves_there (Ok r) b at there old new e same moves =
-    subst (λ (x : Result Reply Status). Moves x there old new) e
-    (moves ∙ ap (λ p. written_at old p (data_of r)) same)
-moves_there (Err status) b at there old new e same moves =
-    subst (λ (x : Result Reply Status). Moves x there old new) e moves
-
-pub taken_one : (c : ℕ) (old new : Scene) (entry : Sqe) (size head : ℕ)
-    → (answer : Result Reply Status) (posted : Cqe)
-    → (at moved : List ℕ) → let call = call_of size old.bytes entry in
+pub taken_one : (c : ℕ) (old new : Scene) (entry : Sqe) (size head : ℕ) (posted : Cqe)
+    → (moved : List ℕ) → let call = call_of size old.bytes entry in
+    let step = step_unless call old.state c entry in
     entry ≡ entry_in old → size ≡ old.rings.page_size
-    → answer ≡ (step_unless call old.state c entry).answer
-    → new.state ≡ (step_unless call old.state c entry).state
-    → OnOk answer (at ≡ places_in call) → Moves answer at old.bytes moved
+    → new.state ≡ step.state
+    → Moves step.answer (places_in call) old.bytes moved
     → new.rings ≡ record old.rings {
       submission = fetched_one old.rings.submission;
       completion = posted_one old.rings.completion;
     }
     → (let ring = old.rings.submission in head ≡ slot_of ring.depth (next ring.depth ring.fetched))
-    → posted ≡ completion_with entry.cid head answer
+    → posted ≡ completion_with entry.cid head step.answer
     → new.bytes ≡ with_completion moved old.rings.completion posted
     → One c old new
-taken_one c old new entry size head answer posted at moved
-    same page told state there moves rings slot made bytes =
+taken_one c old new entry size head posted moved same page state moves rings slot made bytes =
     let call : call_of size old.bytes entry ≡ call_in old =
     ap₂ (λ s e. call_of s old.bytes e) page same in
     let step : step_unless (call_of size old.bytes entry) old.state c entry ≡ entry_step c old =
     ap₂ (λ k e. step_unless k old.state c e) call same in
-    let answered : answer ≡ (entry_step c old).answer = told ∙ ap (λ s. s.answer) step in
     record {
       state = state ∙ ap (λ s. s.state) step;
       rings = rings;
       bytes = (
         moved,
         subst (λ k. Moves (entry_step c old).answer (places_in k) old.bytes moved) call
-            (moves_there answer _ at _ old.bytes moved answered there moves),
+            (subst (λ (s : Step). Moves s.answer (places_in (call_of size old.bytes entry)) old.bytes moved) step moves),
         bytes
             ∙ ap (with_completion moved old.rings.completion) made
             ∙ ap (with_completion moved old.rings.completion)
-            (ap (λ e. completion_with e.cid head answer) same
-            ∙ ap₂ (completion_with (entry_in old).cid) slot answered),
+            (ap (λ (e : Sqe). completion_with e.cid head (step_unless (call_of size old.bytes entry) old.state c entry).answer) same
+            ∙ ap₂ (completion_with (entry_in old).cid) slot (ap (λ (s : Step). s.answer) step)),
       );
     }

@@ -19,6 +19,7 @@ use Rattle.nv_subsystem.specs.State.{State}
 use Rattle.nv_subsystem.specs.Step.{Step, refused, step, with_command}
 use Rattle.nv_register.specs.declared.rings.Rings.{Rings}
 use Rattle.nv_controller.specs.Call.{Call, call_of}
+use Rattle.nv_controller.specs.declared.entry.Told.{Told}
 
 -- what an entry reads and changes: the subsystem, its controller's rings, and the host's memory
 pub record Scene : Type 0 where
@@ -72,16 +73,23 @@ abbrev pub dword0_in : Result Reply Status → ℕ
 dword0_in (Ok reply) = dword0_of reply
 dword0_in (Err status) = 0
 
+-- what a completion tells of an answer
+abbrev pub told_by : Result Reply Status → Told
+told_by answer = record { dword0 = dword0_in answer; status = status_in answer }
+
 -- a completion, whose phase tag its number gives
-abbrev pub completion_with : ℕ → ℕ → Result Reply Status → Cqe
-completion_with cid sq_head answer = record {
-  command_specific = dword0_in answer;
+abbrev pub completion_of : ℕ → ℕ → Told → Cqe
+completion_of cid sq_head told = record {
+  command_specific = told.dword0;
   sq_head = sq_head;
   sq_identifier = 0;
   cid = cid;
   phase = false;
-  status = status_in answer;
+  status = told.status;
 }
+
+abbrev pub completion_with : ℕ → ℕ → Result Reply Status → Cqe
+completion_with cid sq_head answer = completion_of cid sq_head (told_by answer)
 
 -- the completion of the entry: the submission queue head is past the entry
 abbrev pub completion_in : ℕ → Scene → Cqe

@@ -1,11 +1,11 @@
 //! Taking one entry.
 
-ghost use Rattle.std.specs.Prelude.{◌≡◌, ◌<◌, [], IfOk, OnOk, length, true};
+ghost use Rattle.std.specs.Prelude.{◌≡◌, ◌<◌, Err, Ok, length, true};
 ghost use Rattle.nv_command.specs.Reply.{data_of};
 ghost use Rattle.nv_prp.specs.Place.{LieIn, places, written_at};
 ghost use Rattle.nv_subsystem.specs.WellFormed.{IsWellFormed};
 ghost use Rattle.nv_controller.specs.Call.{call_of};
-ghost use Rattle.nv_controller.specs.Entry.{HasPlaces, Moves, One, completion_with, places_in, scene, step_unless};
+ghost use Rattle.nv_controller.specs.Entry.{HasPlaces, Moves, One, completion_of, places_in, scene, step_unless, told_by};
 ghost use Rattle.nv_controller.specs.Turn.{can_take, reaches};
 
 use crate::call::read_call;
@@ -17,48 +17,46 @@ use nv_prp::{Spans, copy_out};
 use nv_register::Rings;
 use nv_subsystem::{Origin, Subsystem};
 
-/// Executes the command of an entry, or refuses the entry; `scratch.spans` get the places of its
-/// data. `phase` is the phase tag that its completion will have.
-fn answer_entry<M: HostMemory>(
-    subsystem: &mut Subsystem,
-    ctrl: u16,
-    mem: &M,
-    entry: &Sqe,
-    phase: bool,
-    scratch: &mut Scratch,
-) -> Result<Reply, Status>
-    requires ctrl { ctrl < length subsystem.old.controllers }
-    requires well_formed { IsWellFormed subsystem.old }
-    ensures answer { let call = call_of (M.page_len mem.now) (M.bytes mem.now) entry.now in
-        result ≡ (step_unless call subsystem.old ctrl entry.now).answer }
-    ensures state { let call = call_of (M.page_len mem.now) (M.bytes mem.now) entry.now in
-        subsystem.new ≡ (step_unless call subsystem.old ctrl entry.now).state }
-    ensures well_formed { IsWellFormed subsystem.new }
-    ensures controllers { length subsystem.new.controllers ≡ length subsystem.old.controllers }
-    ensures places { OnOk result
-        (places scratch.new.spans ≡ places_in (call_of (M.page_len mem.now) (M.bytes mem.now) entry.now)) }
-    ensures inside { OnOk result (LieIn (length (M.bytes mem.now)) scratch.new.spans) }
-    ensures room { IfOk result (λ reply. HasPlaces reply (places scratch.new.spans)) }
-{
-    let origin = Origin {
-        cid: entry.cid,
-        phase,
-    };
-    let Scratch {
-        spans,
-        page,
-        listed,
-    } = scratch;
-    match read_call(mem, entry, spans, page, listed) {
-        Err(code) => {
-            let refusal = Refusal::from(code);
-            subsystem.refuse(ctrl, origin, entry.nsid, refusal);
-            Err(refusal.status)
+/// What the completion of an entry tells of its answer.
+#[derive(Clone, Copy)]
+pub struct Told {
+    pub dword0: u32,
+    pub status: Status,
+}
+
+impl Told {
+    /// A reply.
+    fn reply(reply: &Reply) -> Told
+        ensures { result ≡ told_by (Ok reply.now) }
+    {
+        Told {
+            dword0: reply.dword0(),
+            status: Status::SUCCESS,
         }
-        Ok(command) => match subsystem.execute(ctrl, &command, origin) {
-            Ok(reply) => Ok(reply),
-            Err(refusal) => Err(refusal.status),
-        },
+    }
+
+    /// A refusal.
+    fn refusal(refusal: &Refusal) -> Told
+        ensures { result ≡ told_by (Err refusal.now.status) }
+    {
+        Told {
+            dword0: 0,
+            status: refusal.status,
+        }
+    }
+
+    /// The completion that tells it; the ring gives it its phase tag.
+    fn completion(self, cid: u16, sq_head: u16) -> Cqe
+        ensures { result ≡ completion_of cid sq_head self }
+    {
+        Cqe {
+            command_specific: self.dword0,
+            sq_head,
+            sq_identifier: 0,
+            cid,
+            phase: false,
+            status: self.status,
+        }
     }
 }
 
@@ -94,34 +92,55 @@ fn deliver<M: HostMemory>(mem: &mut M, spans: &Spans, page: &mut [u8; 4096], rep
     }
 }
 
-/// Writes the data of an answer to its places, where it has any.
-fn deliver_answer<M: HostMemory>(mem: &mut M, scratch: &mut Scratch, answer: &Result<Reply, Status>)
-    requires inside { OnOk answer.now (LieIn (length (M.bytes mem.old)) scratch.old.spans) }
-    requires room { IfOk answer.now (λ reply. HasPlaces reply (places scratch.old.spans)) }
-    ensures moved { Moves answer.now (places scratch.old.spans) (M.bytes mem.old) (M.bytes mem.new) }
+/// Executes the command of an entry and writes the data of its reply, or refuses the entry. `phase`
+/// is the phase tag that its completion will have.
+fn answer_entry<M: HostMemory>(
+    subsystem: &mut Subsystem,
+    ctrl: u16,
+    mem: &mut M,
+    entry: &Sqe,
+    phase: bool,
+    scratch: &mut Scratch,
+) -> Told
+    requires ctrl { ctrl < length subsystem.old.controllers }
+    requires well_formed { IsWellFormed subsystem.old }
+    ensures told { let call = call_of (M.page_len mem.old) (M.bytes mem.old) entry.now in
+        result ≡ told_by (step_unless call subsystem.old ctrl entry.now).answer }
+    ensures state { let call = call_of (M.page_len mem.old) (M.bytes mem.old) entry.now in
+        subsystem.new ≡ (step_unless call subsystem.old ctrl entry.now).state }
+    ensures moved { let call = call_of (M.page_len mem.old) (M.bytes mem.old) entry.now in
+        Moves (step_unless call subsystem.old ctrl entry.now).answer (places_in call)
+        (M.bytes mem.old) (M.bytes mem.new) }
+    ensures well_formed { IsWellFormed subsystem.new }
+    ensures controllers { length subsystem.new.controllers ≡ length subsystem.old.controllers }
     ensures len { length (M.bytes mem.new) ≡ length (M.bytes mem.old) }
     ensures page_len { M.page_len mem.new ≡ M.page_len mem.old }
 {
-    if let Ok(reply) = answer {
-        deliver(mem, &scratch.spans, &mut scratch.page, reply);
-    }
-}
-
-/// The completion of an entry that was answered so; the ring gives it its phase tag.
-fn completion(cid: u16, sq_head: u16, answer: &Result<Reply, Status>) -> Cqe
-    ensures { result ≡ completion_with cid sq_head answer.now }
-{
-    let (command_specific, status) = match answer {
-        Ok(reply) => (reply.dword0(), Status::SUCCESS),
-        Err(status) => (0, *status),
+    let origin = Origin {
+        cid: entry.cid,
+        phase,
     };
-    Cqe {
-        command_specific,
-        sq_head,
-        sq_identifier: 0,
-        cid,
-        phase: false,
-        status,
+    let Scratch {
+        spans,
+        page,
+        listed,
+    } = scratch;
+    match read_call(mem, entry, spans, page, listed) {
+        Err(code) => {
+            let refusal = Refusal::from(code);
+            subsystem.refuse(ctrl, origin, entry.nsid, refusal);
+            Told::refusal(&refusal)
+        }
+        Ok(command) => {
+            let answer = subsystem.execute(ctrl, &command, origin);
+            match &answer {
+                Ok(reply) => {
+                    deliver(mem, spans, page, reply);
+                    Told::reply(reply)
+                }
+                Err(refusal) => Told::refusal(refusal),
+            }
+        }
     }
 }
 
@@ -147,8 +166,7 @@ pub(crate) fn take_one<M: HostMemory>(
 {
     let entry = rings.submission.next(mem).unwrap();
     let phase = rings.completion.phase();
-    let answer = answer_entry(subsystem, ctrl, mem, &entry, phase, scratch);
-    deliver_answer(mem, scratch, &answer);
-    let posted = completion(entry.cid, rings.submission.head(), &answer);
+    let told = answer_entry(subsystem, ctrl, mem, &entry, phase, scratch);
+    let posted = told.completion(entry.cid, rings.submission.head());
     rings.completion.put(mem, posted).unwrap();
 }

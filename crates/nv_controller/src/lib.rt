@@ -31,16 +31,8 @@
 mod bus;
 mod call;
 mod entry;
-#[cfg(test)]
-mod example;
 mod machine;
 mod scratch;
-#[cfg(test)]
-mod tests;
-#[cfg(test)]
-mod tests_by_steps;
-#[cfg(test)]
-mod tests_of_management;
 mod turn;
 
 pub use bus::Bus;

@@ -45,7 +45,8 @@ fn read_reply<M: HostMemory>(
         outstanding.prp2,
         len,
         &mut scratch.spans,
-    ).unwrap();
+    )
+    .unwrap();
     copy_in(mem, &scratch.spans, &mut scratch.page);
     Reply::read(command, dword0, &scratch.page)
 }

@@ -110,7 +110,15 @@ impl Driver {
         ensures left { (B.meaning bus.new).ports ≡ ports_of self.new }
     {
         let lane = &mut self.lanes[ctrl as usize];
-        exchange(bus, ctrl, &mut self.mem, lane, self.geometry, command, &mut self.scratch)
+        exchange(
+            bus,
+            ctrl,
+            &mut self.mem,
+            lane,
+            self.geometry,
+            command,
+            &mut self.scratch,
+        )
     }
 
     /// Sends commands to a controller and awaits their answers, one for each. As many commands are

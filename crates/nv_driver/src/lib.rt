@@ -40,10 +40,6 @@ mod law;
 mod layout;
 mod scratch;
 mod submitting;
-#[cfg(test)]
-mod tests;
-#[cfg(test)]
-mod tests_of_management;
 
 pub use answering::Answer;
 pub use driver::Driver;

@@ -118,7 +118,8 @@ fn write_page<M: HostMemory>(
         outstanding.prp2,
         len,
         &mut scratch.spans,
-    ).unwrap();
+    )
+    .unwrap();
     copy_out(mem, &scratch.spans, &scratch.page);
 }
 

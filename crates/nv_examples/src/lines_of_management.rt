@@ -1,8 +1,9 @@
 //! What lines of namespace management ask, and their faults.
 
-use nv_layout::CtrlList;
-use nv_script::{Ask, Line, LineFault, OptionName, Request, read_line};
-use std::alloc::Global;
+ghost use Rattle.std.specs.Prelude.{◌≤◌, length};
+
+use nv_script::{Ask, ControllerList, Line, LineFault, OptionName, Request, read_line};
+use std::alloc::{AllocError, Global};
 use std::process::Abort;
 use std::test::Fail;
 
@@ -13,13 +14,10 @@ fn check(rt: &impl Abort, alloc: Global, line: &str, ask: Ask) {
 }
 
 /// A list of these identifiers.
-fn list(rt: &impl Abort, identifiers: &[u16]) -> CtrlList {
-    let mut list = CtrlList::new();
-    for identifier in identifiers {
-        assert!(rt; list.len() < 2047);
-        list.push(*identifier);
-    }
-    list
+fn list(alloc: Global, identifiers: &[u16]) -> Result<ControllerList, AllocError>
+    requires { length identifiers.now ≤ 2047 }
+{
+    Ok(ControllerList::new(identifiers.to_vec(alloc)?))
 }
 
 #[test]
@@ -61,11 +59,11 @@ fn reads_namespaces_to_create(rt: HostRuntime) {
 }
 
 #[test]
-fn reads_attachments_and_deletions(rt: HostRuntime) {
+fn reads_attachments_and_deletions(rt: HostRuntime) -> Result<(), Fail> {
     let attach = Ask::Attachment {
         nsid: 3,
         detach: false,
-        controllers: list(&rt, &[1, 0, 0, 65535]),
+        controllers: list(rt.alloc(), &[1, 0, 0, 65535])?,
     };
     check(
         &rt,
@@ -76,7 +74,7 @@ fn reads_attachments_and_deletions(rt: HostRuntime) {
     let detach = Ask::Attachment {
         nsid: 4,
         detach: true,
-        controllers: list(&rt, &[8]),
+        controllers: list(rt.alloc(), &[8])?,
     };
     check(
         &rt,
@@ -97,6 +95,7 @@ fn reads_attachments_and_deletions(rt: HostRuntime) {
         "delete-ns /dev/nvme0n1",
         Ask::Delete { nsid: 1 },
     );
+    Ok(())
 }
 
 #[test]
@@ -112,7 +111,7 @@ fn reads_a_long_list(rt: HostRuntime) -> Result<(), Fail> {
         ask: Ask::Attachment {
             nsid: 1,
             detach: false,
-            controllers: list(&rt, &[7; 2034]),
+            controllers: list(rt.alloc(), &[7; 2034])?,
         },
     });
     assert_eq!(rt; read_line(alloc, &line, 2), Ok(want));

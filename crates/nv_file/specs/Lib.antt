@@ -1,5 +1,4 @@
 pub mod Fault
-pub mod Features
 pub mod File
 pub mod FileValue
 pub mod Identity

@@ -1,5 +1,5 @@
 -- The ranges of what a subsystem is made of.
-use Rattle.std.specs.Prelude.{◌≡◌, ℕ, ◌-◌, ◌^◌, ◌<◌, ◌≤◌, Bool, true, false, not, ◌&&◌, List, length, All, bit_and, nat_le, ◌==◌, slice_index}
+use Rattle.std.specs.Prelude.{◌≡◌, ℕ, ◌-◌, ◌^◌, ◌<◌, ◌≤◌, Bool, true, false, not, ◌&&◌, List, length, All, bit_and, nat_le, ◌==◌, slice_index, IsSomeAnd}
 use Rattle.std.specs.List.{list_all}
 use Rattle.nv_file.specs.declared.format.Format.{Format}
 use Rattle.nv_file.specs.declared.namespace.Namespace.{Namespace}
@@ -8,7 +8,7 @@ use Rattle.nv_file.specs.declared.smart_base.Counters.{Counters}
 use Rattle.nv_file.specs.declared.smart_base.SmartBase.{SmartBase}
 use Rattle.nv_file.specs.declared.identity.IdentityNumbers.{IdentityNumbers}
 use Rattle.nv_file.specs.declared.section.TheConstants.{GREATEST_INTEGER}
-use Rattle.nv_file.specs.Features.{is_fid, is_feature_value}
+use Rattle.nv_layout.specs.Feature.{feature_of, is_accepted}
 use Rattle.nv_file.specs.Identity.{Identity}
 
 -- 1 to most bytes, each 20h to 7Eh and the last one not a space
@@ -29,10 +29,9 @@ pub record IsFormat (f : Format) : Type 0 where
   pub ms : f.ms ≤ 65535
   pub rp : f.rp ≤ 3
 
--- Error Recovery is never saveable.
+-- One of the features, with a default that it accepts. Error Recovery is never saveable.
 pub record IsFeatureRule (r : FeatureRule) : Type 0 where
-  pub fid : is_fid r.fid ≡ true
-  pub default : is_feature_value r.fid r.default ≡ true
+  pub default : IsSomeAnd (feature_of r.fid) (λ f. is_accepted f r.default ≡ true)
   pub saveable : r.fid ≡ 0x05 → r.saveable ≡ false
 
 pub record IsCounters (c : Counters) : Type 0 where

@@ -14,7 +14,7 @@ use Rattle.nv_file.specs.declared.key.Key.TheVariants as key
 use Rattle.nv_file.specs.declared.error.SubsystemError.TheVariants.{Range, Repeated}
 use Rattle.nv_file.specs.declared.section.TheConstants.{GREATEST_INTEGER}
 use Rattle.nv_file.specs.Fault.{◌>>=◌, ensure}
-use Rattle.nv_file.specs.Features.{is_fid, is_feature_value}
+use Rattle.nv_layout.specs.Feature as feature
 use Rattle.nv_file.specs.Identity.{Identity}
 use Rattle.nv_file.specs.FileValue.{ControllerValue, NamespaceValue}
 use Rattle.nv_file.specs.Section.{integer, integer_or, flag_or, text, tables_or_none, table_or_none, integers_or_none, integers_in_range_or_none, readings, only_known}
@@ -31,14 +31,14 @@ format_of members = do
 unfoldable pub feature_of : List FeatureRule → Members → Result FeatureRule SubsystemError
 feature_of before members = do
   fid ← integer table.Feature key.Fid 0 255 members
-  supported ← ensure (is_fid fid) (Range table.Feature key.Fid)
+  known ← ok_or (feature.feature_of fid) (Range table.Feature key.Fid)
   new ← ensure (not (list_any (λ rule. rule.fid == fid) before)) (Repeated table.Feature key.Fid)
   value ← integer_or table.Feature key.Default 0 0 4294967295 members
-  masked ← ensure (is_feature_value fid value) (Range table.Feature key.Default)
+  accepted ← ensure (feature.is_accepted known value) (Range table.Feature key.Default)
   saveable ← flag_or table.Feature key.Saveable false members
   may_save ← ensure (not (saveable && (fid == 0x05))) (Range table.Feature key.Saveable)
   changeable ← flag_or table.Feature key.Changeable true members
-  known ← only_known table.Feature members
+  no_other ← only_known table.Feature members
   Ok (record { fid = fid; default = value; saveable = saveable; changeable = changeable })
 
 unfoldable pub counters_of : Members → Result Counters SubsystemError

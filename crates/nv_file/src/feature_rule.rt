@@ -2,7 +2,6 @@
 ghost use Rattle.std.specs.Prelude.{◌≡◌, ◌≢◌, ◌==◌, [], All, AllPairs, IfOk, false};
 ghost use Rattle.std.specs.List.{list_any};
 ghost use Rattle.toml.specs.View.{table_view};
-ghost use Rattle.nv_file.specs.Features.{is_fid, mask, is_feature_value};
 ghost use Rattle.nv_file.specs.Fault.{IsUnlessMemory};
 ghost use Rattle.nv_file.specs.Section.{readings};
 ghost use Rattle.nv_file.specs.SectionView.{tables_view};
@@ -13,6 +12,7 @@ use crate::error::{SubsystemError, ensure};
 use crate::key::Key;
 use crate::section::Section;
 use crate::table_name::TableName;
+use nv_layout::Feature;
 use std::alloc::Global;
 use toml::Table;
 
@@ -27,36 +27,6 @@ pub struct FeatureRule {
     pub saveable: bool,
     /// Whether Set Features can change the value.
     pub changeable: bool,
-}
-
-/// Whether a number is the identifier of a feature.
-fn is_fid(fid: u8) -> bool
-    ensures { result ≡ is_fid fid }
-{
-    matches!(fid, 0x01 | 0x02 | 0x05 | 0x06 | 0x08 | 0x0a | 0x0b)
-}
-
-/// The bits that a value of a feature may have.
-fn mask(fid: u8) -> u32
-    ensures { result ≡ mask fid }
-{
-    match fid {
-        0x01 => 0xffff_ff07,
-        0x02 => 0xff,
-        0x05 => 0x1_ffff,
-        0x06 => 0x1,
-        0x08 => 0xffff,
-        0x0a => 0x1,
-        0x0b => 0x7fff,
-        _ => 0,
-    }
-}
-
-/// Whether a feature may have a value.
-fn is_feature_value(fid: u8, value: u32) -> bool
-    ensures { result ≡ is_feature_value fid value }
-{
-    value & mask(fid) == value && (fid != 0x02 || value & 0x1f == 0)
 }
 
 fn has_fid(rules: &[FeatureRule], fid: u8) -> bool
@@ -76,13 +46,10 @@ fn feature_of(before: &[FeatureRule], table: &Table) -> Result<FeatureRule, Subs
         table,
     };
     let fid = section.integer(Key::Fid, 0, 255)? as u8;
-    ensure(is_fid(fid), section.out_of_range(Key::Fid))?;
+    let feature = Feature::of(fid).ok_or(section.out_of_range(Key::Fid))?;
     ensure(!has_fid(before, fid), section.repeated(Key::Fid))?;
     let default = section.integer_or(Key::Default, 0, 0, 4294967295)? as u32;
-    ensure(
-        is_feature_value(fid, default),
-        section.out_of_range(Key::Default),
-    )?;
+    ensure(feature.accepts(default), section.out_of_range(Key::Default))?;
     let saveable = section.flag_or(Key::Saveable, false)?;
     ensure(
         !(saveable && fid == 0x05),

@@ -22,8 +22,6 @@ mod flat;
 mod inside;
 mod memory;
 mod page_set;
-#[cfg(test)]
-mod tests;
 
 pub use error::{Memory, OutOfMemoryRange};
 pub use flat::FlatMemory;

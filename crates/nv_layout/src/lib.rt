@@ -33,8 +33,6 @@ mod ns_list;
 mod parts;
 mod sqe;
 mod status;
-#[cfg(test)]
-mod tests;
 
 pub use controller_ids::ControllerIds;
 pub use cqe::Cqe;

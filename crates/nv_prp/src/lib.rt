@@ -31,8 +31,6 @@ mod list_shape;
 mod pointer;
 mod range;
 mod spans;
-#[cfg(test)]
-mod tests;
 mod walker;
 
 pub use builder::{Buffer, ListPlace, build};

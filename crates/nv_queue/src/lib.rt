@@ -54,8 +54,6 @@ mod place;
 mod post;
 mod ring;
 mod submission_ring;
-#[cfg(test)]
-mod tests;
 
 pub use completion_ring::CompletionRing;
 pub use fetch::Fetch;

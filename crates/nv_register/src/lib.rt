@@ -24,8 +24,6 @@ pub mod offset;
 mod port;
 mod register;
 mod rings;
-#[cfg(test)]
-mod tests;
 
 pub use admin_queue_attributes::AdminQueueAttributes;
 pub use controller_configuration::ControllerConfiguration;

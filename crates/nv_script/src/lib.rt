@@ -12,6 +12,8 @@ mod streams;
 
 pub use ends::RunEnd;
 pub use nv_driver::{Geometry, GeometryField};
-pub use nv_line::{Ask, ControllerList, LINE_LIMIT, Line, LineFault, OptionName, Request, parse_number, read_line};
+pub use nv_line::{
+    Ask, ControllerList, LINE_LIMIT, Line, LineFault, OptionName, Request, parse_number, read_line,
+};
 pub use running::{READ_LIMIT, run};
 pub use streams::{OverRead, OverWrite, READ_SIZE, Sink, Source};

@@ -1,51 +1,42 @@
--- A loop over controllers that changes the attachments of each.
-use Rattle.std.proofs.Common.{◌≡◌, ◌∙◌, ℕ, ◌+◌, ◌<◌, ◌++◌, Bool, true, false, List, length, map, take, drop, set, get_or, refl, ap, add-one}
+-- A loop over controllers that changes what is attached to each.
+use Rattle.std.proofs.Common.{◌≡◌, ◌∙◌, ℕ, ◌+◌, ◌<◌, ◌++◌, Bool, true, false, List, length, map, take, drop, set, get_or, refl, add-one}
 use Rattle.std.specs.Prelude.{All, if◌then◌else◌}
 use Rattle.std.proofs.lemmas.List.Elements.{All-set}
-use Rattle.nv_bits.specs.BitSet.{RangeSet}
 use Rattle.nv_subsystem.specs.ControllerView.{controller_view}
-use Rattle.nv_subsystem.specs.Management.{with_nsids}
+use Rattle.nv_subsystem.specs.Management.{Attached, with_nsids}
 use Rattle.nv_subsystem.specs.MappedLaws.{next_mapped}
 use Rattle.nv_subsystem.specs.Sound.{IsSized}
-use Rattle.nv_subsystem.specs.State.{Controller, Nsids}
+use Rattle.nv_subsystem.specs.State.{Controller}
 use Rattle.nv_subsystem.specs.declared.controller.Controller as code
 
 -- the first i of them were changed
-pub record Changed (nsids : Controller → Nsids) (old now : List code.Controller)
+pub record Changed (to : Controller → Attached) (old now : List code.Controller)
     (i : ℕ) : Type 0 where
   pub views : take i (map controller_view now)
-      ++ map (with_nsids nsids) (drop i (map controller_view now))
-      ≡ map (with_nsids nsids) (map controller_view old)
+      ++ map (with_nsids to) (drop i (map controller_view now))
+      ≡ map (with_nsids to) (map controller_view old)
   pub sized : (nn : ℕ) → All (IsSized nn) old → All (IsSized nn) now
 
-module _ (nsids : Controller → Nsids) (old now : List code.Controller) (i : ℕ)
-    (so_far : Changed nsids old now i) (d : code.Controller) (h : i < length now) where
-  abbrev x : code.Controller
-  x = get_or now i d
-
-  pub one_more : (a : RangeSet) → a ≡ record x.attached { members = nsids (controller_view x) }
-      → Changed nsids old (set now i (record x { attached = a })) (i + 1)
-  one_more a e = record {
-    views = rw add-one (next_mapped controller_view (with_nsids nsids) now i
-        (record x { attached = a }) d h
-        (ap (λ b. record (controller_view x) { attached = b.members }) e) ∙ so_far.views);
+module _ (to : Controller → Attached) (old now : List code.Controller) (i : ℕ)
+    (so_far : Changed to old now i) (d : code.Controller) (h : i < length now) where
+  pub one_more : (y : code.Controller)
+      → controller_view y ≡ with_nsids to (controller_view (get_or now i d))
+      → ((nn : ℕ) → IsSized nn (get_or now i d) → IsSized nn y)
+      → Changed to old (set now i y) (i + 1)
+  one_more y e sized = record {
+    views = rw add-one (next_mapped controller_view (with_nsids to) now i y d h e ∙ so_far.views);
     sized = λ nn all.
         let now_all = so_far.sized nn all in
-        let is = now_all i d h in
-        All-set (IsSized nn) now i (record x { attached = a })
-        (record {
-          first = ap (λ b. b.first) e ∙ is.first;
-          count = ap (λ b. b.count) e
-              ∙ is.count;
-          log = is.log;
-        }) now_all;
+        All-set (IsSized nn) now i y (sized nn (now_all i d h)) now_all;
   }
 
--- which of two sets of NSIDs
-pub chosen : (b : Bool) (p q : Nsids) → b ≡ true → (if b then p else q) ≡ p
-chosen true p q e = refl
-chosen false p q e = absurd (cc e)
+-- which of two it is
+pub chosen : (b : Bool) (p q : Controller → Attached) (x : Controller) → b ≡ true
+    → with_nsids p x ≡ with_nsids (λ y. if b then p y else q y) x
+chosen true p q x e = refl
+chosen false p q x e = absurd (cc e)
 
-pub other : (b : Bool) (p q : Nsids) → b ≡ false → (if b then p else q) ≡ q
-other true p q e = absurd (cc e)
-other false p q e = refl
+pub other : (b : Bool) (p q : Controller → Attached) (x : Controller) → b ≡ false
+    → with_nsids q x ≡ with_nsids (λ y. if b then p y else q y) x
+other true p q x e = absurd (cc e)
+other false p q x e = refl

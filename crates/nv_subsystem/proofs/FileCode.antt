@@ -14,7 +14,7 @@ use Rattle.nv_subsystem.specs.ControllerView.{controller_view}
 use Rattle.nv_file.specs.FileValue.{controller_entry_view, file_view, namespace_entry_view}
 use Rattle.nv_subsystem.specs.FromFile.{controller_of, state_of}
 use Rattle.nv_file.specs.IsFile.{IsFile}
-use Rattle.nv_file.specs.Ranges.{IsFormat}
+use Rattle.nv_file.specs.Ranges.{IsFeatureRule, IsFormat}
 use Rattle.nv_bits.specs.Numbers.{IsOf}
 use Rattle.nv_bits.specs.Slots.{RangeMap}
 use Rattle.nv_subsystem.specs.Sound.{IsSized, IsSound}
@@ -34,6 +34,15 @@ nsids_within f h k d b =
     (omega (arith, length-map ns namespace_entry_view)) in
     let within = subst (λ n. (1 ≤ n.nsid) × (n.nsid ≤ f.nn)) at is.nsid in
     (within.0, omega (arith, within.1))
+
+pub rules_within : (f : File) → IsFile (file_view f)
+    → All (λ e. All IsFeatureRule e.rules.items) f.controllers.items
+rules_within f h k d b =
+    let cs = f.controllers.items in
+    let at = get_or-map controller_entry_view cs k d (controller_entry_view d) b in
+    let is = h.controllers k (controller_entry_view d)
+    (omega (arith, length-map cs controller_entry_view)) in
+    subst (λ c. All IsFeatureRule c.rules) at is.rules
 
 pub is_sound : (f : File) (slots : RangeMap Namespace) (cs : List Controller) → IsFile (file_view f)
     → slots ≡ record { first = 1; count = f.nn; values = (state_of (file_view f)).namespaces }

@@ -4,6 +4,8 @@ pub mod Capacities
 pub mod SoundLaws
 pub mod FreeNsid
 pub mod EachController
+pub mod FileFeatures
 pub mod FileStates
 pub mod FileCode
 pub mod NumbersAbove
+pub mod ValueTableLaws

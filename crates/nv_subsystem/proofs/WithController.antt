@@ -2,8 +2,7 @@
 use Rattle.std.proofs.Common.{◌≡◌, ◌∙◌, ℕ, ◌<◌, ap, sym, arith, List, length, map, set, get_or}
 use Rattle.std.proofs.lemmas.List.{length-map}
 use Rattle.nv_subsystem.specs.ControllerView.{controller_view}
-use Rattle.nv_subsystem.specs.State.{Controller, State}
-use Rattle.nv_subsystem.specs.Step.{with_controller}
+use Rattle.nv_subsystem.specs.State.{Controller, State, with_controller}
 use Rattle.nv_subsystem.specs.declared.controller.Controller as code
 use Rattle.nv_subsystem.specs.ChangedAtLaws.{views_changed}
 

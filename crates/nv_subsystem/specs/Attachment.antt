@@ -4,10 +4,13 @@ use Rattle.std.specs.List.{list_all, list_any, zip}
 use Rattle.std.specs.Option.{option_map_or}
 use Rattle.std.specs.FinMap as map_of
 use Rattle.nv_command.specs.declared.status_code.StatusCode.TheVariants.{ControllerListInvalid, InvalidFieldInCommand, InvalidNamespaceOrFormat, NamespaceAlreadyAttached, NamespaceIsPrivate, NamespaceNotAttached}
-use Rattle.nv_subsystem.specs.Management.{with_attached}
+use Rattle.nv_layout.specs.declared.feature.Feature.TheVariants.{ErrorRecovery}
+use Rattle.nv_subsystem.specs.FeatureValue.{at_default}
+use Rattle.nv_subsystem.specs.Management.{Attached, with_attached, without}
 use Rattle.nv_subsystem.specs.Nsid.{is_allocated, is_valid}
 use Rattle.nv_subsystem.specs.Row.{row}
-use Rattle.nv_subsystem.specs.State.{Controller, State}
+use Rattle.nv_subsystem.specs.State.{Controller, State, rule_of}
+use Rattle.nv_subsystem.specs.ValueTable.{recovery_key}
 use Rattle.nv_subsystem.specs.declared.row.Row.{Row}
 
 -- ---- the list of controller identifiers
@@ -72,15 +75,32 @@ attachment_rows s n detach ids = if detach then detach_rows s n ids else attach_
 
 -- ---- effects
 
+-- with an NSID: its Error Recovery is at the default
+abbrev pub with_one : ℕ → Controller → Attached
+with_one n x = record {
+  nsids = map_of.insert x.attached n tt;
+  values = map_of.insert x.values (recovery_key n) (at_default (rule_of x.rules ErrorRecovery));
+}
+
+-- as it is
+abbrev pub unchanged : Controller → Attached
+unchanged x = record { nsids = x.attached; values = x.values }
+
+-- a listed controller has the namespace attached
+abbrev pub more : ℕ → List ℕ → Controller → Attached
+more n ids x = if is_listed ids x then with_one n x else unchanged x
+
+-- a listed controller doesn't have it attached
+abbrev pub fewer : ℕ → List ℕ → Controller → Attached
+fewer n ids x = if is_listed ids x then without n x else unchanged x
+
 -- all listed controllers have the namespace attached
 abbrev pub attached : State → ℕ → List ℕ → State
-attached s n ids =
-    with_attached s (λ x. if is_listed ids x then map_of.insert x.attached n tt else x.attached)
+attached s n ids = with_attached s (more n ids)
 
 -- none of the listed controllers has it attached
 abbrev pub detached : State → ℕ → List ℕ → State
-detached s n ids =
-    with_attached s (λ x. if is_listed ids x then map_of.remove x.attached n else x.attached)
+detached s n ids = with_attached s (fewer n ids)
 
 abbrev pub with_attachments : State → ℕ → Bool → List ℕ → State
 with_attachments s n detach ids = if detach then detached s n ids else attached s n ids

@@ -9,25 +9,22 @@ use Rattle.std.proofs.lemmas.List.{length-map}
 use Rattle.nv_bits.specs.NumberLaws.{contains-insert}
 use Rattle.nv_file.specs.declared.namespace.Namespace.{Namespace}
 use Rattle.nv_command.specs.RefusalLaws.{is_refusal-refusal_by}
-use Rattle.nv_subsystem.specs.Attachment.{attach_rows, attached, attachment_rows, detached, has_attached, is_listed, is_private, with_attachments}
-use Rattle.nv_subsystem.specs.Management.{with_attached, with_nsids}
+use Rattle.nv_subsystem.specs.Attachment.{attach_rows, attached, attachment_rows, detached, fewer, has_attached, is_listed, is_private, more, unchanged, with_attachments, with_one}
+use Rattle.nv_layout.specs.declared.feature.Feature.TheVariants.{ErrorRecovery}
+use Rattle.nv_subsystem.specs.FeatureLaws.{default_accepted, values-with, values-without}
+use Rattle.nv_subsystem.specs.FeatureValue.{at_default}
+use Rattle.nv_subsystem.specs.Management.{with_attached, with_nsids, without}
 use Rattle.nv_subsystem.specs.ManagementLaws.{AllRefuse, attached_keep, left, none_holds}
 use Rattle.nv_subsystem.specs.MappedLaws.{count_by-map, count_by-map_le}
 use Rattle.nv_subsystem.specs.Nsid.{is_allocated}
 use Rattle.nv_subsystem.specs.Row.{first_refusal}
-use Rattle.nv_subsystem.specs.State.{Controller, Nsids, State}
-use Rattle.nv_subsystem.specs.WellFormed.{IsController, IsWellFormed}
-
-abbrev pub more : ℕ → List ℕ → Controller → Nsids
-more n ids x = if is_listed ids x then map_of.insert x.attached n tt else x.attached
-
-abbrev pub fewer : ℕ → List ℕ → Controller → Nsids
-fewer n ids x = if is_listed ids x then map_of.remove x.attached n else x.attached
+use Rattle.nv_subsystem.specs.State.{Controller, State, rule_of}
+use Rattle.nv_subsystem.specs.WellFormed.{AreValues, IsController, IsWellFormed}
 
 -- ---- attach
 
 -- what an attach makes of the NSIDs of a controller
-has_more : (n : ℕ) (ids : List ℕ) (x : Controller) (q : ℕ) → map_of.contains_key (more n ids x) q
+has_more : (n : ℕ) (ids : List ℕ) (x : Controller) (q : ℕ) → map_of.contains_key (more n ids x).nsids q
     ≡ (cond (q == n) (is_listed ids x) false || map_of.contains_key x.attached q)
 has_more n ids x q = at_test (is_listed ids x)
   where
@@ -40,7 +37,7 @@ has_more n ids x q = at_test (is_listed ids x)
     none false c = refl
 
     at_test : (b : Bool) → map_of.contains_key
-        (if b then map_of.insert x.attached n tt else x.attached) q
+        (if b then with_one n x else unchanged x).nsids q
         ≡ (cond (q == n) b false || map_of.contains_key x.attached q)
     at_test true = contains-insert x.attached n tt q
         ∙ same (q == n) (map_of.contains_key x.attached q)
@@ -58,11 +55,19 @@ attach_keeps s n ids w accepted = attached_keep s (more n ids) s.namespaces w (r
   allocated = λ x is q t. at_nsid x is q (q == n) refl (sym (has_more n ids x q) ∙ t);
   namespaces = λ q x e. let old = w.namespaces q x e in
       record { nsid = old.nsid; format = old.format; private = λ p. private q x e p (q == n) refl };
+  values = λ x is. with_values x is (is_listed ids x);
   capacities = w.capacities;
 })
   where
     rows : AllByRecursion (λ r. r.when ≡ false) (attach_rows s n ids)
     rows = none_holds (attach_rows s n ids) accepted
+
+    with_values : (x : Controller) → IsController s.namespaces x → (b : Bool)
+        → AreValues x.identity.numbers.vwc (if b then with_one n x else unchanged x).nsids
+        (if b then with_one n x else unchanged x).values
+    with_values x is true = values-with x.identity.numbers.vwc x.attached x.values is.values n
+        (at_default (rule_of x.rules ErrorRecovery)) (default_accepted x.rules is.rules ErrorRecovery)
+    with_values x is false = is.values
 
     is_true : (b : Bool) → not b ≡ false → b ≡ true
     is_true true h = refl
@@ -106,12 +111,12 @@ attach_keeps s n ids w accepted = attached_keep s (more n ids) s.namespaces w (r
 
 -- ---- detach
 
-kept : (n : ℕ) (ids : List ℕ) (x : Controller) (q : ℕ) → map_of.contains_key (fewer n ids x) q
+kept : (n : ℕ) (ids : List ℕ) (x : Controller) (q : ℕ) → map_of.contains_key (fewer n ids x).nsids q
     ≡ true → map_of.contains_key x.attached q ≡ true
 kept n ids x q = at_test (is_listed ids x)
   where
     at_test : (b : Bool) → map_of.contains_key
-        (if b then map_of.remove x.attached n else x.attached) q ≡ true
+        (if b then without n x else unchanged x).nsids q ≡ true
         → map_of.contains_key x.attached q ≡ true
     at_test true t = (left x.attached n q t).1
     at_test false t = t
@@ -131,8 +136,15 @@ detach_keeps s n ids w = attached_keep s (fewer n ids) s.namespaces w (record {
               (λ c t. kept n ids c q t) s.controllers,
         );
       };
+  values = λ x is. less_values x is (is_listed ids x);
   capacities = w.capacities;
 })
+  where
+    less_values : (x : Controller) → IsController s.namespaces x → (b : Bool)
+        → AreValues x.identity.numbers.vwc (if b then without n x else unchanged x).nsids
+        (if b then without n x else unchanged x).values
+    less_values x is true = values-without x.identity.numbers.vwc x.attached x.values is.values n
+    less_values x is false = is.values
 
 -- ---- both
 

@@ -1,7 +1,7 @@
 -- A list that is changed at one place.
 use Rattle.std.proofs.Common.{◌≡◌, ℕ, zero, suc, ◌+◌, ◌<◌, ap, refl, arith, Bool, cond, List, [], ◌∷◌, fold, length, map, set, get_or}
 use Rattle.std.specs.Prelude.{All, count_by}
-use Rattle.nv_subsystem.specs.Step.{changed_at}
+use Rattle.nv_subsystem.specs.State.{changed_at}
 
 -- the views of a list with an element written
 pub views_changed : {X Y : Type 0} (view : X → Y) (f : Y → Y) (xs : List X) (i : ℕ) (y d : X) → i < length xs → view y ≡ f (view (get_or xs i d)) → map view (set xs i y) ≡ changed_at (map view xs) i f

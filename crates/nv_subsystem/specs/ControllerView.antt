@@ -6,10 +6,11 @@ use Rattle.nv_subsystem.specs.declared.controller.Controller as controllers
 abbrev pub controller_view : controllers.Controller → Controller
 controller_view x = record {
   identity = identity_view x.identity;
-  rules = x.rules.items;
+  rules = x.rules.values;
   smart = x.smart;
   log = x.log.entries;
   refusals = x.refusals;
   commands = x.commands;
   attached = x.attached.members;
+  values = x.values.values;
 }

@@ -81,7 +81,6 @@ module _ (format : Format) (lbaf : ℕ) (mset : Bool) where
             (λ c is. record {
               identity = is.identity;
               rules = is.rules;
-              fids = is.fids;
               smart = is.smart;
               log = is.log;
               entries = is.entries;
@@ -89,6 +88,7 @@ module _ (format : Format) (lbaf : ℕ) (mset : Bool) where
               commands = is.commands;
               attached = λ q t. contains-insert s.namespaces n (as_format x) q
                   ∙ kept (q == n) (is.attached q t);
+              values = is.values;
             }) s.controllers w.controllers;
         cntlids = w.cntlids;
         namespaces = λ q y e. named q y (q == n) refl

@@ -3,6 +3,9 @@ pub use Rattle.nv_file.specs.Identity
 pub use Rattle.nv_file.specs.Ranges
 pub mod Row
 pub mod ErrorLog
+pub mod FeatureValue
+pub mod ValueTable
+pub mod Supported
 pub mod State
 pub mod StateCode
 pub mod Capacity
@@ -10,6 +13,7 @@ pub mod Nsid
 pub mod Identify
 pub mod Management
 pub mod Format
+pub mod Features
 pub mod Attachment
 pub mod Refusal
 pub mod Reply
@@ -22,6 +26,10 @@ pub mod Fits
 pub mod FromFile
 pub mod Entry
 pub mod ChangedAtLaws
+pub mod ValueLaws
+pub mod FeatureLaws
+pub mod KeepingLaws
+pub mod SetFeatureLaws
 pub mod UsedLaws
 pub mod MappedLaws
 pub mod ManagementLaws

@@ -13,6 +13,7 @@ use Rattle.nv_subsystem.specs.Capacity.{unallocated}
 use Rattle.nv_subsystem.specs.Nsid.{free_nsid, is_allocated, is_valid}
 use Rattle.nv_subsystem.specs.Row.{row}
 use Rattle.nv_subsystem.specs.State.{Controller, Nsids, State}
+use Rattle.nv_subsystem.specs.ValueTable.{FeatureValues, is_other_key, recovery_key}
 use Rattle.nv_subsystem.specs.declared.management.NewNamespace.{NewNamespace}
 use Rattle.nv_subsystem.specs.declared.row.Row.{Row}
 
@@ -92,22 +93,39 @@ delete_rows s n =
     ∷ row (not (is_allocated s n || n == BROADCAST_NSID)) InvalidFieldInCommand
     ∷ []
 
--- a controller with other NSIDs attached, and a subsystem with such controllers
-abbrev pub with_nsids : (Controller → Nsids) → Controller → Controller
-with_nsids nsids x = record x { attached = nsids x }
+-- the NSIDs that are attached to a controller, and the values of its features
+pub record Attached : Type 0 where
+  pub nsids : Nsids
+  pub values : FeatureValues
 
-abbrev pub with_attached : State → (Controller → Nsids) → State
-with_attached s nsids = record s { controllers = map (with_nsids nsids) s.controllers }
+-- a controller with others, and a subsystem with such controllers
+abbrev pub with_nsids : (Controller → Attached) → Controller → Controller
+with_nsids to x = record x { attached = (to x).nsids; values = (to x).values }
+
+abbrev pub with_attached : State → (Controller → Attached) → State
+with_attached s to = record s { controllers = map (with_nsids to) s.controllers }
+
+-- without an NSID: its Error Recovery goes too
+abbrev pub without : ℕ → Controller → Attached
+without n x = record {
+  nsids = map_of.remove x.attached n;
+  values = map_of.remove x.values (recovery_key n);
+}
+
+-- without any
+abbrev pub without_any : Controller → Attached
+without_any x = record {
+  nsids = map_of.empty;
+  values = map_of.retain_keys x.values is_other_key;
+}
 
 -- without a namespace, which is detached everywhere
 abbrev pub without_one : State → ℕ → State
-without_one s n = record (with_attached s (λ x. map_of.remove x.attached n)) {
-  namespaces = map_of.remove s.namespaces n;
-}
+without_one s n = record (with_attached s (without n)) { namespaces = map_of.remove s.namespaces n }
 
 -- without any namespace
 abbrev pub without_all : State → State
-without_all s = record (with_attached s (λ _. map_of.empty)) { namespaces = map_of.empty }
+without_all s = record (with_attached s without_any) { namespaces = map_of.empty }
 
 abbrev pub deleted : State → ℕ → State
 deleted s n = if n == BROADCAST_NSID then without_all s else without_one s n

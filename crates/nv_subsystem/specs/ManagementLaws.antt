@@ -20,13 +20,14 @@ use Rattle.nv_command.specs.RefusalLaws.{is_refusal-refusal_by}
 use Rattle.nv_command.specs.declared.command.TheConstants.{BROADCAST_NSID}
 use Rattle.nv_command.specs.declared.status_code.StatusCode.TheVariants.{NamespaceInsufficientCapacity}
 use Rattle.nv_subsystem.specs.Capacity.{unallocated, used}
-use Rattle.nv_subsystem.specs.Management.{bytes_needed, capacity_refusal, create_rows, created, created_nsid, delete_rows, deleted, format_in, is_extended, new_namespace, with_attached, with_nsids, without_all, without_one}
+use Rattle.nv_subsystem.specs.Management.{Attached, bytes_needed, capacity_refusal, create_rows, created, created_nsid, delete_rows, deleted, format_in, is_extended, new_namespace, with_attached, with_nsids, without, without_all, without_any, without_one}
+use Rattle.nv_subsystem.specs.FeatureLaws.{values-without, values-without_any}
 use Rattle.nv_subsystem.specs.MappedLaws.{count_by-map_le, none_pass, pairs_map, untrue}
 use Rattle.nv_subsystem.specs.Nsid.{free_nsid, is_allocated}
 use Rattle.nv_subsystem.specs.Row.{first_refusal}
-use Rattle.nv_subsystem.specs.State.{Controller, Namespaces, Nsids, State}
+use Rattle.nv_subsystem.specs.State.{Controller, Namespaces, State}
 use Rattle.nv_subsystem.specs.UsedLaws.{used-empty, used-insert, used-remove}
-use Rattle.nv_subsystem.specs.WellFormed.{IsController, IsNamespace, IsWellFormed}
+use Rattle.nv_subsystem.specs.WellFormed.{AreValues, IsController, IsNamespace, IsWellFormed}
 use Rattle.nv_subsystem.specs.declared.management.NewNamespace.{NewNamespace}
 use Rattle.nv_subsystem.specs.declared.row.Row.{Row}
 
@@ -156,13 +157,13 @@ create_by s w (Some n) e well accepted =
           (λ c is. record {
             identity = is.identity;
             rules = is.rules;
-            fids = is.fids;
             smart = is.smart;
             log = is.log;
             entries = is.entries;
             refusals = is.refusals;
             commands = is.commands;
             attached = λ q t. contains-insert s.namespaces n x q ∙ kept (q == n) (is.attached q t);
+            values = is.values;
           }) s.controllers well.controllers;
       cntlids = well.cntlids;
       namespaces = λ q y at. named q y (q == n) refl (sym (get_of_insert s.namespaces n x q) ∙ at);
@@ -212,37 +213,39 @@ create_keeps s w well accepted = create_by s w (free_nsid s) refl well accepted
 -- ---- delete
 
 -- other attachments, of namespaces that are there
-pub record AreAttached (s : State) (nsids : Controller → Nsids) (to : Namespaces) : Type 0 where
+pub record AreAttached (s : State) (change : Controller → Attached) (to : Namespaces) : Type 0 where
   pub allocated : (x : Controller) → IsController s.namespaces x → (n : ℕ)
-      → map_of.contains_key (nsids x) n ≡ true → map_of.contains_key to n ≡ true
+      → map_of.contains_key (change x).nsids n ≡ true → map_of.contains_key to n ≡ true
+  pub values : (x : Controller) → IsController s.namespaces x
+      → AreValues x.identity.numbers.vwc (change x).nsids (change x).values
   pub namespaces : (n : ℕ) (x : Namespace) → map_of.get to n ≡ Some x
-      → IsNamespace (record (with_attached s nsids) { namespaces = to }) n x
+      → IsNamespace (record (with_attached s change) { namespaces = to }) n x
   pub capacities : used to ≤ s.tnvmcap
 
-pub attached_keep : (s : State) (nsids : Controller → Nsids) (to : Namespaces) → IsWellFormed s
-    → AreAttached s nsids to → IsWellFormed (record (with_attached s nsids) { namespaces = to })
-attached_keep s nsids to w are = record {
+pub attached_keep : (s : State) (change : Controller → Attached) (to : Namespaces) → IsWellFormed s
+    → AreAttached s change to → IsWellFormed (record (with_attached s change) { namespaces = to })
+attached_keep s change to w are = record {
   keys = w.keys;
   format_count = w.format_count;
   formats = w.formats;
   controller_count = subst (λ n. (1 ≤ n) × (n ≤ 16))
-      (sym (length-map s.controllers (with_nsids nsids))) w.controller_count;
-  controllers = All-map (IsController to) (with_nsids nsids) s.controllers
-      (All-weaker (IsController s.namespaces) (λ x. IsController to (with_nsids nsids x))
+      (sym (length-map s.controllers (with_nsids change))) w.controller_count;
+  controllers = All-map (IsController to) (with_nsids change) s.controllers
+      (All-weaker (IsController s.namespaces) (λ x. IsController to (with_nsids change x))
       (λ x is. record {
         identity = is.identity;
         rules = is.rules;
-        fids = is.fids;
         smart = is.smart;
         log = is.log;
         entries = is.entries;
         refusals = is.refusals;
         commands = is.commands;
         attached = are.allocated x is;
+        values = are.values x is;
       })
       s.controllers w.controllers);
   cntlids = pairs_map (λ x y. x.identity.cntlid ≢ y.identity.cntlid)
-      (with_nsids nsids) s.controllers w.cntlids;
+      (with_nsids change) s.controllers w.cntlids;
   namespaces = are.namespaces;
   capacities = are.capacities;
 }
@@ -263,10 +266,11 @@ used-remove_le m n None e = let same = ap used (remove_absent m n (ap is_some e)
 used-remove_le m n (Some x) e = omega (arith, used-remove m n x e)
 
 one_keeps : (s : State) (n : ℕ) → IsWellFormed s → IsWellFormed (without_one s n)
-one_keeps s n w = attached_keep s (λ x. map_of.remove x.attached n) (map_of.remove s.namespaces n) w
+one_keeps s n w = attached_keep s (without n) (map_of.remove s.namespaces n) w
     (record {
       allocated = λ x is q t. let l = left x.attached n q t in contains-remove s.namespaces n q
           ∙ ap (λ b. cond b false (map_of.contains_key s.namespaces q)) l.0 ∙ is.attached q l.1;
+      values = λ x is. values-without x.identity.numbers.vwc x.attached x.values is.values n;
       namespaces = λ q x e.
           let l = left s.namespaces n q (ap is_some e) in
           let old = w.namespaces q x (sym (ap (λ b. cond b None (map_of.get s.namespaces q)) l.0)
@@ -278,7 +282,7 @@ one_keeps s n w = attached_keep s (λ x. map_of.remove x.attached n) (map_of.rem
               arith,
               old.private p,
               count_by-map_le (λ (c : Controller). map_of.contains_key c.attached q)
-                  (with_nsids (λ x. map_of.remove x.attached n)) (λ c. map_of.contains_key c.attached q)
+                  (with_nsids (without n)) (λ c. map_of.contains_key c.attached q)
                   (λ c t. (left c.attached n q t).1) s.controllers,
             );
           };
@@ -290,9 +294,10 @@ one_keeps s n w = attached_keep s (λ x. map_of.remove x.attached n) (map_of.rem
     })
 
 all_keep : (s : State) → IsWellFormed s → IsWellFormed (without_all s)
-all_keep s w = attached_keep s (λ _. map_of.empty) map_of.empty w (record {
+all_keep s w = attached_keep s without_any map_of.empty w (record {
   allocated = λ x is q t. let both : true ≡ false = sym t
       ∙ ap is_some (get-empty nat_cmp q) in absurd (cc both);
+  values = λ x is. values-without_any x.identity.numbers.vwc x.attached x.values is.values;
   namespaces = λ q x e. let both : None ≡ Some x = sym (get-empty nat_cmp q)
       ∙ e in absurd (cc both);
   capacities = omega (arith, used-empty);
@@ -318,6 +323,6 @@ pub deleted_controllers : (s : State) (n : ℕ) → length (deleted s n).control
     ≡ length s.controllers
 deleted_controllers s n = elim (n == BROADCAST_NSID) as
     (λ b. length (if b then without_all s else without_one s n).controllers ≡ length s.controllers) [
-      | true ↦ length-map s.controllers (with_nsids (λ _. map_of.empty))
-      | false ↦ length-map s.controllers (with_nsids (λ x. map_of.remove x.attached n))
+      | true ↦ length-map s.controllers (with_nsids without_any)
+      | false ↦ length-map s.controllers (with_nsids (without n))
     ]

@@ -1,9 +1,10 @@
 -- When a command is refused, and why.
-use Rattle.std.specs.Prelude.{ℕ, List, [], Option}
+use Rattle.std.specs.Prelude.{ℕ, List, Option}
 use Rattle.nv_command.specs.declared.command.Command.{Command}
 use Rattle.nv_command.specs.declared.command.Command.TheVariants.{IdentifyNamespace, AllocatedNamespace, ActiveList, AllocatedList, Create, Delete, Attachment, Format, GetFeature, SetFeature}
 use Rattle.nv_command.specs.declared.refusal.Refusal.{Refusal}
 use Rattle.nv_subsystem.specs.Attachment.{attachment_rows}
+use Rattle.nv_subsystem.specs.Features.{get_feature_rows, set_feature_rows}
 use Rattle.nv_subsystem.specs.Format.{format_rows, new_format}
 use Rattle.nv_subsystem.specs.Identify.{active_rows, allocated_rows, list_rows}
 use Rattle.nv_subsystem.specs.Management.{create_rows, delete_rows, wanted}
@@ -21,8 +22,8 @@ rows_of s c (Create nsze ncap flbas dps nmic) = create_rows s (wanted nsze ncap 
 rows_of s c (Delete n) = delete_rows s n
 rows_of s c (Attachment n detach ids) = attachment_rows s n detach ids
 rows_of s c (Format n lbaf mset pi pil ses) = format_rows s c n (new_format lbaf mset pi pil ses)
-rows_of s c (GetFeature fid sel n) = []
-rows_of s c (SetFeature fid value save n) = []
+rows_of s c (GetFeature fid sel n) = get_feature_rows s c fid sel n
+rows_of s c (SetFeature fid value save n) = set_feature_rows s c fid value save n
 
 abbrev pub refusal_of : State → ℕ → Command → Option Refusal
 refusal_of s c k = first_refusal (rows_of s c k)

@@ -3,6 +3,7 @@ use Rattle.std.specs.Prelude.{ℕ}
 use Rattle.nv_command.specs.declared.command.Command.{Command}
 use Rattle.nv_command.specs.declared.command.Command.TheVariants.{IdentifyNamespace, AllocatedNamespace, ActiveList, AllocatedList, Create, Delete, Attachment, Format, GetFeature, SetFeature}
 use Rattle.nv_command.specs.declared.reply.Reply.{Reply}
+use Rattle.nv_subsystem.specs.Features.{feature_number}
 use Rattle.nv_subsystem.specs.Identify.{active_list_reply, active_reply, allocated_list_reply, allocated_reply}
 use Rattle.nv_command.specs.declared.reply.Reply.TheVariants as reply
 use Rattle.nv_subsystem.specs.Management.{created_nsid}
@@ -17,5 +18,5 @@ reply_of s c (Create nsze ncap flbas dps nmic) = reply.Number (created_nsid s)
 reply_of s c (Delete n) = reply.Done
 reply_of s c (Attachment n detach ids) = reply.Done
 reply_of s c (Format n lbaf mset pi pil ses) = reply.Done
-reply_of s c (GetFeature fid sel n) = reply.Number 0
+reply_of s c (GetFeature fid sel n) = reply.Number (feature_number s c fid sel n)
 reply_of s c (SetFeature fid value save n) = reply.Done

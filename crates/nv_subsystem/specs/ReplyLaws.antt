@@ -16,6 +16,7 @@ use Rattle.nv_subsystem.specs.State.{Controller, State, ascending, controller_at
 use Rattle.nv_subsystem.specs.WellFormed.{IsController, IsWellFormed}
 use Rattle.nv_command.specs.declared.command.Command.TheVariants.{IdentifyNamespace, AllocatedNamespace, ActiveList, AllocatedList, Create, Delete, Attachment, Format, GetFeature, SetFeature}
 use Rattle.nv_file.specs.declared.namespace.Namespace.{Namespace}
+use Rattle.nv_subsystem.specs.SetFeatureLaws.{feature_number_fits}
 use Rattle.nv_subsystem.specs.IdentifyLaws.{blank_fits, common_fits, id_ns_fits}
 use Rattle.nv_subsystem.specs.InFormatLaws.{capacity_fits, format_below}
 use Rattle.nv_subsystem.specs.ListLaws.{keys_fit}
@@ -60,5 +61,5 @@ reply_fits s c (Create nsze ncap flbas dps nmic) w = record { is_reply = tt; fit
 reply_fits s c (Delete n) w = record { is_reply = tt; fits = tt }
 reply_fits s c (Attachment n detach ids) w = record { is_reply = tt; fits = tt }
 reply_fits s c (Format n lbaf mset pi pil ses) w = record { is_reply = tt; fits = tt }
-reply_fits s c (GetFeature fid sel n) w = record { is_reply = tt; fits = omega arith }
+reply_fits s c (GetFeature fid sel n) w = record { is_reply = tt; fits = feature_number_fits s c fid sel n w }
 reply_fits s c (SetFeature fid value save n) w = record { is_reply = tt; fits = tt }

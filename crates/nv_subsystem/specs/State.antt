@@ -1,9 +1,13 @@
 -- An NVM subsystem as a value: what commands read and change, and nothing of how they travel.
-use Rattle.std.specs.Prelude.{ℕ, List, Option, slice_get}
+use Rattle.std.specs.Prelude.{ℕ, zero, suc, List, [], ◌∷◌, Option, slice_get, unwrap_or}
 use Rattle.std.specs.Ordering.{nat_cmp}
 use Rattle.std.specs.FinMap as map_of
 use Rattle.std.specs.FinSet as set_of
+use Rattle.nv_layout.specs.Feature.{row_of}
+use Rattle.nv_layout.specs.declared.feature.Feature.{Feature}
 use Rattle.nv_file.specs.Identity.{Identity}
+use Rattle.nv_subsystem.specs.FeatureValue.{default_rule}
+use Rattle.nv_subsystem.specs.ValueTable.{FeatureValues}
 use Rattle.nv_subsystem.specs.declared.error_log.LogEntry.{LogEntry}
 use Rattle.nv_file.specs.declared.feature_rule.FeatureRule.{FeatureRule}
 use Rattle.nv_file.specs.declared.format.Format.{Format}
@@ -17,16 +21,25 @@ Namespaces = map_of.FinMap nat_cmp Namespace
 abbrev pub Nsids : Type 0
 Nsids = set_of.FinSet nat_cmp
 
+-- how a controller treats features, by feature identifier
+abbrev pub FeatureRules : Type 0
+FeatureRules = map_of.FinMap nat_cmp FeatureRule
+
+-- how it treats one
+abbrev pub rule_of : FeatureRules → Feature → FeatureRule
+rule_of rules f = unwrap_or (map_of.get rules (row_of f).fid) (default_rule (row_of f).fid)
+
 -- a controller: what its file table gives, its error log newest first, how many commands it refused and
--- how many it took, and the NSIDs that are attached to it
+-- how many it took, the NSIDs that are attached to it, and the values of its features
 pub record Controller : Type 0 where
   pub identity : Identity
-  pub rules : List FeatureRule
+  pub rules : FeatureRules
   pub smart : SmartBase
   pub log : List LogEntry
   pub refusals : ℕ
   pub commands : ℕ
   pub attached : Nsids
+  pub values : FeatureValues
 
 -- a subsystem: the greatest NSID, the capacity in bytes, how metadata may lie, the name, the formats, the
 -- controllers, and the namespaces by their NSIDs
@@ -49,3 +62,12 @@ ascending ns = map_of.keys ns
 -- the allocated NSIDs, ascending
 abbrev pub allocated_nsids : State → List ℕ
 allocated_nsids s = map_of.keys s.namespaces
+
+-- a list with the element at a place changed, and a subsystem with such a controller
+abbrev pub changed_at : {A : Type 0} → List A → ℕ → (A → A) → List A
+changed_at [] n f = []
+changed_at (x ∷ xs) zero f = f x ∷ xs
+changed_at (x ∷ xs) (suc n) f = x ∷ changed_at xs n f
+
+abbrev pub with_controller : State → ℕ → (Controller → Controller) → State
+with_controller s c f = record s { controllers = changed_at s.controllers c f }

@@ -1,5 +1,5 @@
 -- What one command does: its answer, and the state after it.
-use Rattle.std.specs.Prelude.{ℕ, zero, suc, ◌+◌, ◌%◌, min, List, [], ◌∷◌, take, Option, Some, None, Result, Ok, Err}
+use Rattle.std.specs.Prelude.{ℕ, ◌+◌, ◌%◌, min, List, [], ◌∷◌, take, Option, Some, None, Result, Ok, Err}
 use Rattle.nv_layout.specs.declared.status.Status.{Status}
 use Rattle.nv_command.specs.Command.{namespace_of}
 use Rattle.nv_command.specs.declared.command.Command.{Command}
@@ -8,7 +8,7 @@ use Rattle.nv_command.specs.declared.reply.Reply.{Reply}
 use Rattle.nv_subsystem.specs.Effect.{effect_of}
 use Rattle.nv_subsystem.specs.Refusal.{refusal_of}
 use Rattle.nv_subsystem.specs.Reply.{reply_of}
-use Rattle.nv_subsystem.specs.State.{Controller, State}
+use Rattle.nv_subsystem.specs.State.{Controller, State, with_controller}
 use Rattle.nv_subsystem.specs.declared.controller.TheConstants.{GREATEST_COUNT}
 use Rattle.nv_subsystem.specs.declared.error_log.LogEntry.{LogEntry}
 use Rattle.nv_subsystem.specs.declared.origin.TheConstants.{SERIALS}
@@ -16,15 +16,6 @@ use Rattle.nv_subsystem.specs.declared.origin.TheConstants.{SERIALS}
 -- one more, up to the greatest count
 abbrev pub next_count : ℕ → ℕ
 next_count n = min (n + 1) GREATEST_COUNT
-
--- a list with the element at a place changed
-abbrev pub changed_at : {A : Type 0} → List A → ℕ → (A → A) → List A
-changed_at [] n f = []
-changed_at (x ∷ xs) zero f = f x ∷ xs
-changed_at (x ∷ xs) (suc n) f = x ∷ changed_at xs n f
-
-abbrev pub with_controller : State → ℕ → (Controller → Controller) → State
-with_controller s c f = record s { controllers = changed_at s.controllers c f }
 
 -- the entry of a refusal in the error log
 abbrev pub log_entry : ℕ → ℕ → ℕ → Refusal → LogEntry

@@ -8,7 +8,7 @@ use Rattle.std.specs.FinMap as map_of
 use Rattle.nv_file.specs.Identity.{Identity}
 use Rattle.nv_subsystem.specs.State.{Controller, Namespaces, Nsids, State}
 use Rattle.nv_subsystem.specs.declared.controller.TheConstants.{GREATEST_COUNT}
-use Rattle.nv_subsystem.specs.Step.{next_count, refused, step, step_by, with_command, with_controller, with_refusal}
+use Rattle.nv_subsystem.specs.Step.{next_count, refused, step, step_by, with_command, with_refusal}
 use Rattle.nv_subsystem.specs.Effect.{effect_of}
 use Rattle.nv_subsystem.specs.Refusal.{refusal_of, rows_of}
 use Rattle.nv_subsystem.specs.Row.{first_refusal}
@@ -27,39 +27,9 @@ use Rattle.nv_subsystem.specs.Management.{wanted}
 use Rattle.nv_subsystem.specs.Format.{new_format}
 use Rattle.nv_subsystem.specs.FormatLaws.{format_keeps, format_rows_fit}
 use Rattle.nv_subsystem.specs.ManagementLaws.{create_keeps, create_rows_fit, created_controllers, delete_keeps, delete_rows_fit, deleted_controllers}
-use Rattle.nv_subsystem.specs.ChangedAtLaws.{All-changed_at, count_by-changed_at, each_place, length-changed_at}
-
--- what a command keeps of each controller
-pub record Keeps (f : Controller → Controller) : Type 0 where
-  pub identity : (x : Controller) → (f x).identity ≡ x.identity
-  pub attached : (x : Controller) → (f x).attached ≡ x.attached
-  pub sound : (ns : Namespaces) (x : Controller) → IsController ns x → IsController ns (f x)
-
-same_shared : (f : Controller → Controller) (k : Keeps f) (n : ℕ) (x : Controller) → map_of.contains_key (f x).attached n ≡ map_of.contains_key x.attached n
-same_shared f k n x = ap (λ (a : Nsids). map_of.contains_key a n) (k.attached x)
-
-pub keeps : (s : State) (c : ℕ) (f : Controller → Controller) → Keeps f → IsWellFormed s → IsWellFormed (with_controller s c f)
-keeps s c f k w =
-    let cs = s.controllers in
-    let len = length-changed_at f cs c in
-    record {
-      keys = w.keys;
-      format_count = w.format_count;
-      formats = w.formats;
-      controller_count = (omega (arith, len, w.controller_count.0), omega (arith, len, w.controller_count.1));
-      controllers = All-changed_at (IsController s.namespaces) f (k.sound s.namespaces) cs c w.controllers;
-      cntlids = λ i j d h l.
-          let at = λ (n : ℕ). each_place (λ (a b : Controller). b.identity.cntlid ≡ a.identity.cntlid) f (λ y. refl) (λ y. ap (λ (i : Identity). i.cntlid) (k.identity y)) cs c n d in
-          λ e. w.cntlids i j d h (omega (arith, len)) (sym (at i) ∙ e ∙ at j);
-      namespaces = λ n x e.
-          let old = w.namespaces n x e in
-          record {
-            nsid = old.nsid;
-            format = old.format;
-            private = λ p. subst (λ m. m ≤ 1) (sym (count_by-changed_at (λ (y : Controller). map_of.contains_key y.attached n) f (same_shared f k n) cs c)) (old.private p);
-          };
-      capacities = w.capacities;
-    }
+use Rattle.nv_subsystem.specs.ChangedAtLaws.{length-changed_at}
+use Rattle.nv_subsystem.specs.KeepingLaws.{Keeps, keeps}
+use Rattle.nv_subsystem.specs.SetFeatureLaws.{feature_controllers, feature_keeps, get_feature_rows_fit, set_feature_rows_fit}
 
 next_count-le : (n : ℕ) → next_count n ≤ GREATEST_COUNT
 next_count-le n = omega arith
@@ -68,7 +38,7 @@ pub counting_keeps : Keeps (λ x. record x { commands = next_count x.commands })
 counting_keeps = record {
   identity = λ x. refl;
   attached = λ x. refl;
-  sound = λ s x h. record { identity = h.identity; rules = h.rules; fids = h.fids; smart = h.smart; log = h.log; entries = h.entries; refusals = h.refusals; commands = next_count-le x.commands; attached = h.attached };
+  sound = λ s x h. record { identity = h.identity; rules = h.rules; smart = h.smart; log = h.log; entries = h.entries; refusals = h.refusals; commands = next_count-le x.commands; attached = h.attached; values = h.values };
 }
 
 length-with_refusal : (most refusals : ℕ) (e : LogEntry) (log : List LogEntry) → 0 < most → most ≤ 256 → refusals ≤ GREATEST_COUNT → length log ≡ min refusals most → length (take most (e ∷ log)) ≡ min (next_count refusals) most
@@ -85,13 +55,13 @@ booking_keeps nsid cid r a b fits = record {
   sound = λ s x h. record {
     identity = h.identity;
     rules = h.rules;
-    fids = h.fids;
     smart = h.smart;
     log = length-with_refusal (x.identity.numbers.elpe + 1) x.refusals _ x.log (omega arith) (omega (arith, h.identity.numbers.elpe)) h.refusals h.log;
     entries = all_entries (x.identity.numbers.elpe + 1) (record { count = next_count x.refusals; cid = cid; status = r.status; nsid = nsid; specific = r.specific }) x.log (record { count = next_count-le x.refusals; cid = b; status = fits.status; nsid = a; specific = omega (arith, fits.specific) }) h.entries;
     refusals = next_count-le x.refusals;
     commands = h.commands;
     attached = h.attached;
+    values = h.values;
   };
 }
 
@@ -112,8 +82,8 @@ rows_fit s c (Create nsze ncap flbas dps nmic) = create_rows_fit s (wanted nsze 
 rows_fit s c (Delete n) = delete_rows_fit s n
 rows_fit s c (Attachment n detach ids) = attachment_rows_fit s n detach ids
 rows_fit s c (Format n lbaf mset pi pil ses) = format_rows_fit s c n (new_format lbaf mset pi pil ses)
-rows_fit s c (GetFeature fid sel n) = tt
-rows_fit s c (SetFeature fid value save n) = tt
+rows_fit s c (GetFeature fid sel n) = get_feature_rows_fit s c fid sel n
+rows_fit s c (SetFeature fid value save n) = set_feature_rows_fit s c fid value save n
 
 chosen_fits : (b : Bool) (first r : Refusal) (later : Option Refusal) → IsRefusal first → (later ≡ Some r → IsRefusal r)
     → (if b then Some first else later) ≡ Some r → IsRefusal r
@@ -139,7 +109,7 @@ effect_keeps s c (Attachment n detach ids) accepted w = attachment_keeps s n det
 effect_keeps s c (Format n lbaf mset pi pil ses) accepted w =
     format_keeps s c n (new_format lbaf mset pi pil ses) w accepted
 effect_keeps s c (GetFeature fid sel n) accepted w = w
-effect_keeps s c (SetFeature fid value save n) accepted w = w
+effect_keeps s c (SetFeature fid value save n) accepted w = feature_keeps s c fid value save n w accepted
 
 pub effect_controllers : (s : State) (c : ℕ) (k : Command) → length (effect_of s c k).controllers ≡ length s.controllers
 effect_controllers s c (IdentifyNamespace n) = refl
@@ -151,7 +121,7 @@ effect_controllers s c (Delete n) = deleted_controllers s n
 effect_controllers s c (Attachment n detach ids) = attachment_controllers s n detach ids
 effect_controllers s c (Format n lbaf mset pi pil ses) = refl
 effect_controllers s c (GetFeature fid sel n) = refl
-effect_controllers s c (SetFeature fid value save n) = refl
+effect_controllers s c (SetFeature fid value save n) = feature_controllers s c fid value save n
 
 step_by_keeps : (o : Option Refusal) (s : State) (c : ℕ) (k : Command) (cid : ℕ) → refusal_of s c k ≡ o → ((r : Refusal) → o ≡ Some r → IsRefusal r) → namespace_of k < 2 ^ 32 → cid < 2 ^ 16 → IsWellFormed s → IsWellFormed (step_by o s c k cid).state
 step_by_keeps None s c k cid is fits a b w = with_command_keeps (effect_of s c k) c (effect_keeps s c k is w)

@@ -2,12 +2,10 @@
 //! "Namespace Attachment command".
 
 ghost use Rattle.std.specs.Prelude.{◌≡◌, ℕ, false, true, map, All};
-ghost use Rattle.std.specs.FinMap as map_of;
 ghost use Rattle.nv_bits.specs.Numbers.{IsOf};
-ghost use Rattle.nv_subsystem.specs.Attachment.{attach_rows, attached, attachment_rows, count_with, detach_rows, detached, first_rows, has_one_attached, is_ascending, is_known, is_list_of, is_listed, is_private, lacks_one_attached, with_attachments};
-ghost use Rattle.nv_subsystem.specs.AttachmentLaws.{fewer, more};
+ghost use Rattle.nv_subsystem.specs.Attachment.{attach_rows, attached, attachment_rows, count_with, detach_rows, detached, fewer, first_rows, has_one_attached, is_ascending, is_known, is_list_of, is_listed, is_private, lacks_one_attached, more, with_attachments};
 ghost use Rattle.nv_subsystem.specs.ControllerView.{controller_view};
-ghost use Rattle.nv_subsystem.specs.Management.{with_nsids};
+ghost use Rattle.nv_subsystem.specs.Management.{with_nsids, without, without_any};
 ghost use Rattle.nv_subsystem.specs.Nsid.{is_valid};
 ghost use Rattle.nv_subsystem.specs.Row.{Checks};
 ghost use Rattle.nv_subsystem.specs.Sound.{IsSized};
@@ -43,7 +41,7 @@ fn attach_listed(controllers: &mut [Controller], nsid: u32, ids: &[u16])
 {
     for controller in controllers.iter_mut() {
         if is_listed(ids, controller) {
-            controller.attached.insert(nsid);
+            controller.attach(nsid);
         }
     }
 }
@@ -57,7 +55,7 @@ fn detach_listed(controllers: &mut [Controller], nsid: u32, ids: &[u16])
 {
     for controller in controllers.iter_mut() {
         if is_listed(ids, controller) {
-            controller.attached.remove(nsid);
+            controller.detach(nsid);
         }
     }
 }
@@ -65,25 +63,24 @@ fn detach_listed(controllers: &mut [Controller], nsid: u32, ids: &[u16])
 /// Detaches a namespace from each controller.
 pub(crate) fn detach_everywhere(controllers: &mut [Controller], nsid: u32)
     ensures value { map controller_view controllers.new
-        ≡ map (with_nsids (λ x. map_of.remove x.attached nsid))
-        (map controller_view controllers.old) }
+        ≡ map (with_nsids (without nsid)) (map controller_view controllers.old) }
     ensures sized { (nn : ℕ)
         → All (IsSized nn) controllers.old → All (IsSized nn) controllers.new }
 {
     for controller in controllers.iter_mut() {
-        controller.attached.remove(nsid);
+        controller.detach(nsid);
     }
 }
 
 /// Detaches all namespaces from each controller.
 pub(crate) fn detach_all(controllers: &mut [Controller])
     ensures value { map controller_view controllers.new
-        ≡ map (with_nsids (λ _. map_of.empty)) (map controller_view controllers.old) }
+        ≡ map (with_nsids without_any) (map controller_view controllers.old) }
     ensures sized { (nn : ℕ)
         → All (IsSized nn) controllers.old → All (IsSized nn) controllers.new }
 {
     for controller in controllers.iter_mut() {
-        controller.attached.clear();
+        controller.detach_all();
     }
 }
 

@@ -2,14 +2,21 @@
 
 ghost use Rattle.std.specs.Prelude.{◌≡◌, ◌+◌, ◌<◌, ◌^◌, ℕ};
 ghost use Rattle.nv_subsystem.specs.ControllerView.{controller_view};
+ghost use Rattle.nv_bits.specs.Numbers.{IsOf};
+ghost use Rattle.nv_subsystem.specs.Attachment.{with_one};
+ghost use Rattle.nv_subsystem.specs.Management.{with_nsids, without, without_any};
 ghost use Rattle.nv_subsystem.specs.Sound.{IsSized};
+ghost use Rattle.nv_subsystem.specs.State.{rule_of};
 ghost use Rattle.nv_subsystem.specs.Step.{next_count, with_refusal};
 
 use crate::error_log::{ErrorLog, LogEntry};
+use crate::feature_value::{FeatureValue, default_rule};
+use crate::feature_values::FeatureValues;
 use crate::origin::Origin;
-use nv_bits::BitSet;
+use nv_bits::{BitSet, Slots};
 use nv_command::Refusal;
 use nv_file::{FeatureRule, Identity, SmartBase};
+use nv_layout::Feature;
 
 /// The greatest value of a count, where it stays.
 pub const GREATEST_COUNT: u64 = u64::MAX;
@@ -18,16 +25,57 @@ pub const GREATEST_COUNT: u64 = u64::MAX;
 #[derive(Drop)]
 pub struct Controller {
     pub identity: Identity,
-    pub rules: Vec<FeatureRule>,
+    /// How it treats features, by feature identifier.
+    pub rules: Slots<FeatureRule>,
     pub smart: SmartBase,
     pub log: ErrorLog,
     pub refusals: u64,
     pub commands: u64,
     /// The NSIDs of the attached namespaces, out of 1 to NN.
     pub attached: BitSet,
+    pub values: FeatureValues,
+}
+
+/// How a controller treats a feature: by its rule, or by what stands for a missing one.
+pub(crate) fn rule_of(rules: &Slots<FeatureRule>, feature: Feature) -> FeatureRule
+    ensures { result ≡ rule_of rules.now.values feature }
+{
+    let fid = feature.fid();
+    rules.get(u32::from(fid)).unwrap_or(default_rule(fid))
 }
 
 impl Controller {
+    /// Attaches a namespace: its Error Recovery is at the default.
+    pub(crate) fn attach(&mut self, nsid: u32)
+        requires { (nn : ℕ) × IsSized nn self.old × IsOf 1 nn nsid }
+        ensures view { controller_view self.new
+            ≡ with_nsids (with_one nsid) (controller_view self.old) }
+        ensures sized { (nn : ℕ) → IsSized nn self.old → IsSized nn self.new }
+    {
+        let rule = rule_of(&self.rules, Feature::ErrorRecovery);
+        self.attached.insert(nsid);
+        self.values.insert(Feature::ErrorRecovery, nsid, FeatureValue::at_default(rule));
+    }
+
+    /// Detaches a namespace: its Error Recovery goes too.
+    pub(crate) fn detach(&mut self, nsid: u32)
+        ensures view { controller_view self.new
+            ≡ with_nsids (without nsid) (controller_view self.old) }
+        ensures sized { (nn : ℕ) → IsSized nn self.old → IsSized nn self.new }
+    {
+        self.attached.remove(nsid);
+        self.values.remove(nsid);
+    }
+
+    /// Detaches all namespaces.
+    pub(crate) fn detach_all(&mut self)
+        ensures view { controller_view self.new ≡ with_nsids without_any (controller_view self.old) }
+        ensures sized { (nn : ℕ) → IsSized nn self.old → IsSized nn self.new }
+    {
+        self.attached.clear();
+        self.values.clear();
+    }
+
     /// Counts a command.
     pub(crate) fn count_command(&mut self)
         ensures command { controller_view self.new

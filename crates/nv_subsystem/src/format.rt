@@ -104,7 +104,7 @@ impl Subsystem {
     }
 
     /// Whether a namespace is attached to a controller.
-    fn is_active(&self, ctrl: u16, nsid: u32) -> bool
+    pub(crate) fn is_active(&self, ctrl: u16, nsid: u32) -> bool
         requires { ctrl < length self.now.controllers }
         ensures { result ≡ is_active self.now ctrl nsid }
     {

@@ -4,15 +4,21 @@ ghost use Rattle.std.specs.Prelude.{◌≡◌, ◌≤◌, ◌+◌, IfOk, IfErr, 
 ghost use Rattle.std.specs.List.{fold};
 ghost use Rattle.std.specs.FinMap as map_of;
 ghost use Rattle.nv_bits.specs.Numbers.{IsOf};
+ghost use Rattle.nv_file.specs.Ranges.{IsFeatureRule};
+ghost use Rattle.nv_subsystem.specs.FeatureValue.{at_default};
+ghost use Rattle.nv_subsystem.specs.State.{rule_of};
 ghost use Rattle.nv_subsystem.specs.ControllerView.{controller_view};
 ghost use Rattle.nv_file.specs.FileValue.{controller_entry_view, namespace_entry_view};
-ghost use Rattle.nv_subsystem.specs.FromFile.{controller_of, with_attachment, with_namespace};
+ghost use Rattle.nv_subsystem.specs.FromFile.{controller_of, defaults_of, rules_of, with_attachment, with_default, with_namespace, with_recovery, with_rule};
 ghost use Rattle.nv_subsystem.specs.Sound.{IsSized};
 
-use crate::controller::Controller;
+use crate::controller::{Controller, rule_of};
 use crate::error_log::ErrorLog;
+use crate::feature_value::{FeatureValue, is_supported};
+use crate::feature_values::{FEATURE_LIMIT, FeatureValues};
 use nv_bits::{BitSet, Slots};
-use nv_file::{ControllerEntry, Namespace, NamespaceEntry, SubsystemError};
+use nv_file::{ControllerEntry, FeatureRule, Identity, Namespace, NamespaceEntry, SubsystemError};
+use nv_layout::Feature;
 use std::alloc::Global;
 
 /// The bytes of capacity that the namespaces of a file leave.
@@ -71,6 +77,102 @@ fn attach_all(attached: &mut BitSet, cntlid: u16, entries: &[NamespaceEntry])
     }
 }
 
+/// Puts the rule of each feature that has a table into its slot.
+fn fill_rules(slots: &mut Slots<FeatureRule>, rules: &[FeatureRule])
+    requires { All (λ r. IsOf slots.old.first slots.old.count r.fid) rules.now }
+    ensures { slots.new ≡ record slots.old { values = fold with_rule slots.old.values rules.now } }
+{
+    for rule in rules {
+        slots.insert(u32::from(rule.fid), *rule);
+    }
+}
+
+/// The rules of the features that have a table, in their slots.
+fn rule_slots(alloc: Global, rules: &[FeatureRule]) -> Result<Slots<FeatureRule>, SubsystemError>
+    requires { All IsFeatureRule rules.now }
+    ensures value { IfOk result (λ slots. slots.values ≡ rules_of rules.now) }
+    ensures memory { IfErr result (λ e. e ≡ SubsystemError.Memory) }
+{
+    let mut slots = Slots::new(alloc, 0, FEATURE_LIMIT)?;
+    fill_rules(&mut slots, rules);
+    Ok(slots)
+}
+
+/// Gives a supported feature that no namespace has for itself its default.
+fn fill_default(values: &mut FeatureValues, rules: &Slots<FeatureRule>, vwc: u8, feature: Feature)
+    ensures { values.new ≡ record values.old {
+      values = with_default rules.now.values vwc values.old.values feature;
+    } }
+{
+    if is_supported(vwc, feature) && !feature.is_per_namespace() {
+        let value = FeatureValue::at_default(rule_of(rules, feature));
+        values.insert(feature, 0, value);
+    }
+}
+
+/// Gives each of some features its default.
+fn fill_defaults(
+    values: &mut FeatureValues,
+    rules: &Slots<FeatureRule>,
+    vwc: u8,
+    features: &[Feature],
+)
+    ensures { values.new ≡ record values.old {
+      values = fold (with_default rules.now.values vwc) values.old.values features.now;
+    } }
+{
+    for feature in features {
+        fill_default(values, rules, vwc, *feature);
+    }
+}
+
+/// Gives each namespace that the file attaches to the controller with this identifier a value of
+/// Error Recovery.
+fn fill_recoveries(
+    values: &mut FeatureValues,
+    value: FeatureValue,
+    cntlid: u16,
+    entries: &[NamespaceEntry],
+)
+    requires { All (λ n. IsOf 1 values.old.nn n.nsid) entries.now }
+    ensures { values.new ≡ record values.old {
+      values = fold (with_recovery cntlid value) values.old.values
+          (map namespace_entry_view entries.now);
+    } }
+{
+    for entry in entries {
+        if entry.is_attached_to(cntlid) {
+            values.insert(Feature::ErrorRecovery, entry.nsid, value);
+        }
+    }
+}
+
+/// The values of the features of a controller of a file, all at their defaults.
+fn feature_values(
+    alloc: Global,
+    nn: u32,
+    rules: &Slots<FeatureRule>,
+    identity: &Identity,
+    namespaces: &[NamespaceEntry],
+) -> Result<FeatureValues, SubsystemError>
+    requires count { nn ≤ 1024 }
+    requires nsids { All (λ n. IsOf 1 nn n.nsid) namespaces.now }
+    ensures value { IfOk result (λ values. values ≡ record {
+      nn = nn;
+      values = fold
+          (with_recovery identity.now.cntlid (at_default (rule_of rules.now.values Feature.ErrorRecovery)))
+          (defaults_of rules.now.values identity.now.numbers.vwc)
+          (map namespace_entry_view namespaces.now);
+    }) }
+    ensures memory { IfErr result (λ e. e ≡ SubsystemError.Memory) }
+{
+    let mut values = FeatureValues::new(alloc, nn)?;
+    fill_defaults(&mut values, rules, identity.numbers.vwc, &Feature::ALL);
+    let recovery = FeatureValue::at_default(rule_of(rules, Feature::ErrorRecovery));
+    fill_recoveries(&mut values, recovery, identity.cntlid, namespaces);
+    Ok(values)
+}
+
 /// A controller of a file, before its first command.
 fn controller(
     alloc: Global,
@@ -80,6 +182,7 @@ fn controller(
 ) -> Result<Controller, SubsystemError>
     requires count { nn ≤ 1024 }
     requires nsids { All (λ n. IsOf 1 nn n.nsid) namespaces.now }
+    requires rules { All IsFeatureRule entry.rules.items }
     ensures value { IfOk result (λ c. controller_view c
         ≡ controller_of (map namespace_entry_view namespaces.now) (controller_entry_view entry)) }
     ensures sized { IfOk result (IsSized nn) }
@@ -88,14 +191,17 @@ fn controller(
     let log = ErrorLog::new(alloc, u16::from(entry.identity.numbers.elpe) + 1)?;
     let mut attached = BitSet::new(alloc, 1, nn)?;
     attach_all(&mut attached, entry.identity.cntlid, namespaces);
+    let rules = rule_slots(alloc, &entry.rules)?;
+    let values = feature_values(alloc, nn, &rules, &entry.identity, namespaces)?;
     Ok(Controller {
         identity: entry.identity,
-        rules: entry.rules,
+        rules,
         smart: entry.smart,
         log,
         refusals: 0,
         commands: 0,
         attached,
+        values,
     })
 }
 
@@ -108,6 +214,7 @@ pub(crate) fn controllers(
 ) -> Result<Vec<Controller>, SubsystemError>
     requires count { nn ≤ 1024 }
     requires nsids { All (λ n. IsOf 1 nn n.nsid) namespaces.now }
+    requires rules { All (λ e. All IsFeatureRule e.rules.items) entries.items }
     ensures value { IfOk result (λ cs. map controller_view cs.items
         ≡ map (controller_of (map namespace_entry_view namespaces.now))
         (map controller_entry_view entries.items)) }

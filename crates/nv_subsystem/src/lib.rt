@@ -5,6 +5,9 @@ mod attachment;
 mod capacity;
 mod controller;
 mod error_log;
+mod feature_value;
+mod feature_values;
+mod features;
 mod format;
 mod from_file;
 mod identify;
@@ -13,8 +16,6 @@ mod management;
 mod origin;
 mod row;
 mod subsystem;
-#[cfg(test)]
-mod tests_of_management;
 
 pub use controller::GREATEST_COUNT;
 pub use nv_command::{Command, Refusal, Reply, StatusCode};

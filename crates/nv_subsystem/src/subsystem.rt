@@ -17,6 +17,7 @@ ghost use Rattle.nv_subsystem.specs.WellFormed.{IsWellFormed};
 ghost use Rattle.nv_command.specs.Refusal.{IsRefusal};
 
 use crate::controller::Controller;
+use crate::features::NewValue;
 use crate::format::NewFormat;
 use crate::from_file::{controllers, slots, unallocated};
 use crate::identify::check_list;
@@ -166,8 +167,15 @@ impl Subsystem {
                 pil,
                 ses,
             } => self.check_format(ctrl, *nsid, &NewFormat::new(*lbaf, *mset, *pi, *pil, *ses)),
-            Command::GetFeature { .. } => Ok(()),
-            Command::SetFeature { .. } => Ok(()),
+            Command::GetFeature { fid, sel, nsid } => {
+                self.check_get_feature(ctrl, *fid, *sel, *nsid)
+            }
+            Command::SetFeature {
+                fid,
+                value,
+                save,
+                nsid,
+            } => self.check_set_feature(ctrl, *fid, NewValue::new(*value, *save), *nsid),
         }
     }
 
@@ -185,7 +193,9 @@ impl Subsystem {
             Command::Delete { nsid: _ } => Reply::Done,
             Command::Attachment { .. } => Reply::Done,
             Command::Format { .. } => Reply::Done,
-            Command::GetFeature { .. } => Reply::Number(0),
+            Command::GetFeature { fid, sel, nsid } => {
+                Reply::Number(self.feature_number(ctrl, *fid, *sel, *nsid))
+            }
             Command::SetFeature { .. } => Reply::Done,
         }
     }
@@ -221,7 +231,12 @@ impl Subsystem {
                 ses,
             } => self.format(ctrl, *nsid, &NewFormat::new(*lbaf, *mset, *pi, *pil, *ses)),
             Command::GetFeature { .. } => {}
-            Command::SetFeature { .. } => {}
+            Command::SetFeature {
+                fid,
+                value,
+                save,
+                nsid,
+            } => self.set_feature(ctrl, *fid, NewValue::new(*value, *save), *nsid),
         }
     }
 

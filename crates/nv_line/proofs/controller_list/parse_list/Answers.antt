@@ -15,28 +15,27 @@ returns-then-len-eq2047 c =
     let count = c.loop-piece.invariant.count in
     too_many c.args.text.now (omega (arith, t.0, count))
 
-pub returns-in_err-identifier : goal.returns-in_err-identifier
-returns-in_err-identifier c =
+pub returns-in_default : goal.returns-in_default
+returns-in_default c =
     let t = YieldsList-turn (YieldsList-from_str_split 44 c.args.text.now (lit< tt) (cc) (cc) (cc))
     c.loop-piece.yielded _ c.loop-piece.yielded_by
     _ _ c.in-Some.piece c.in-Some.is c.next.ensures.steps in
-    c.from_residual.ensures
-    ∙ no_number c.args.text.now c.loop-piece.list _ c.in-Some.piece.now c.loop-piece.invariant t
-    (sym c.parse_number.ensures ∙ c.in_err-identifier.was)
+    no_number c.args.text.now c.loop-piece.ids.items _ c.in-Some.piece.now c.loop-piece.invariant t
+    (sym c.parse_number.ensures ∙ c.in_default.is)
 
 pub loop-piece-preserved : goal.loop-piece-preserved
 loop-piece-preserved c =
     let t = YieldsList-turn (YieldsList-from_str_split 44 c.args.text.now (lit< tt) (cc) (cc) (cc))
     c.loop-piece.yielded _ c.loop-piece.yielded_by
     _ _ c.in-Some.piece c.in-Some.is c.next.ensures.steps in
-    let read = piece_read (slice_split is_comma c.args.text.now) c.loop-piece.list _
-    c.in-Some.piece.now c.in_ok-identifier.identifier c.loop-piece.invariant
-    (omega (arith, c.loop-piece.invariant.count)) t (sym c.parse_number.ensures ∙ c.in_ok-identifier.was) in
+    let read = piece_read (slice_split is_comma c.args.text.now) c.loop-piece.ids.items _
+    c.in-Some.piece.now c.in-Some-parse_number.identifier c.loop-piece.invariant
+    (omega (arith, c.loop-piece.invariant.count)) t (sym c.parse_number.ensures ∙ c.in-Some-parse_number.is) in
     let n = length_push c.loop-piece.yielded c.in-Some.piece in
-    rw (c.push.ensures, n) read
+    rw (c.in_ok-push.ensures.items, n) read
 
 pub returns : goal.returns
 returns c =
     let e = YieldsList-end (YieldsList-from_str_split 44 c.args.text.now (lit< tt) (cc) (cc) (cc))
     c.loop-piece.yielded _ c.loop-piece.yielded_by _ _ c.in-None.is c.next.ensures.steps in
-    all_read c.args.text.now c.loop-piece.list _ c.loop-piece.invariant (omega (arith, e.1))
+    all_read c.args.text.now c.loop-piece.ids.items _ c.loop-piece.invariant (omega (arith, e.1))

@@ -1,34 +1,37 @@
-use Rattle.std.proofs.Common.{◌∙◌, ◌+◌, arith, ap, sym, subst, get_or}
-use Rattle.nv_bits.specs.BitSet.{RangeSet}
-use Rattle.nv_subsystem.specs.AttachmentLaws.{more}
+use Rattle.std.proofs.Common.{◌∙◌, ◌+◌, arith, sym, subst, get_or}
+use Rattle.nv_subsystem.specs.Attachment.{more, unchanged, with_one}
+use Rattle.nv_subsystem.specs.ControllerView.{controller_view}
 use Rattle.nv_subsystem.proofs.EachController.{Changed, chosen, one_more, other}
 use Rattle.nv_subsystem.proofs.attachment.attach_listed.Goals as goal
 use Rattle.nv_subsystem.proofs.attachment.attach_listed.Goals.{then-is_listed, else-is_listed}
-
-pub insert-requires : goal.insert-requires
-insert-requires c =
-    let sized = c.loop-controller.invariant.sized c.requires.0 c.requires.1
-    c.loop-controller.controller-index c.controller-item.result (omega arith) in
-    rw (sized.first, sized.count) c.requires.2
 
 pub loop-controller-preserved : goal.loop-controller-preserved
 loop-controller-preserved c =
     let l = c.loop-controller in
     let f = more c.args.nsid c.args.ids.now in
-    let old : RangeSet = (get_or l.controllers l.controller-index c.controller-item.result).attached
-    in
+    let x = get_or l.controllers l.controller-index c.controller-item.result in
     elim c.if-is_listed.branch [
       | then-is_listed w ↦
           subst (λ t. Changed f c.args.controllers.now t (l.controller-index + 1))
           (sym w.controllers-is)
           (one_more f c.args.controllers.now l.controllers l.controller-index l.invariant
-          c.controller-item.result (omega arith) w.insert.new.self
-          (w.insert.ensures.members ∙ ap (λ m. record old { members = m })
-          (sym (chosen _ _ _ (sym w.if-is_listed.ensures)))))
+          c.controller-item.result (omega arith) w.attach.new.self
+          (w.attach.ensures.view ∙ chosen _ (with_one c.args.nsid) unchanged (controller_view x)
+          (sym w.if-is_listed.ensures))
+          w.attach.ensures.sized)
       | else-is_listed w ↦
           subst (λ t. Changed f c.args.controllers.now t (l.controller-index + 1))
           (sym w.controllers-is)
           (one_more f c.args.controllers.now l.controllers l.controller-index l.invariant
-          c.controller-item.result (omega arith) old
-          (ap (λ m. record old { members = m }) (sym (other _ _ _ (sym w.if-is_listed.ensures)))))
+          c.controller-item.result (omega arith) x
+          (other _ (with_one c.args.nsid) unchanged (controller_view x) (sym w.if-is_listed.ensures))
+          (λ nn sized. sized))
     ]
+
+pub attach-requires : goal.attach-requires
+attach-requires c = (
+  c.requires.0,
+  c.loop-controller.invariant.sized c.requires.0 c.requires.1 c.loop-controller.controller-index
+      c.controller-item.result (omega arith),
+  c.requires.2,
+)

@@ -1,8 +1,7 @@
-use Rattle.std.specs.FinMap as map_of
+use Rattle.nv_subsystem.specs.Management.{without}
 use Rattle.nv_subsystem.proofs.EachController.{Changed}
 use Rattle.nv_subsystem.proofs.attachment.detach_everywhere.Given as goal
 
 abbrev pub invariant-loop-controller : goal.invariant-loop-controller
 invariant-loop-controller l =
-    Changed (λ x. map_of.remove x.attached l.nsid) l.initial.controllers l.controllers
-    l.controller-index
+    Changed (without l.nsid) l.initial.controllers l.controllers l.controller-index

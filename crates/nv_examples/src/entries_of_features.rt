@@ -1,0 +1,116 @@
+//! Entries of Format NVM, Get Features and Set Features.
+
+use nv_command::*;
+use nv_layout::{CtrlList, FourBits, Sqe, ThreeBits};
+use std::process::Abort;
+
+/// An entry with this opcode and Command Dwords 10 and 11, for NSID 7.
+fn entry(opcode: u8, cdw10: u32, cdw11: u32) -> Sqe {
+    Sqe {
+        opcode,
+        fuse: 0,
+        psdt: 0,
+        cid: 0x1234,
+        nsid: 7,
+        mptr: 0,
+        prp1: 0x1000,
+        prp2: 0x2000,
+        cdw10,
+        cdw11,
+        cdw12: 0xffff_ffff,
+        cdw13: 0,
+        cdw14: 0,
+        cdw15: 2,
+    }
+}
+
+/// Checks an entry of NSID 7 with these Command Dwords 10 and 11, and that it is read back.
+fn check_travel(rt: &impl Abort, command: Command, opcode: u8, cdw10: u32, cdw11: u32) {
+    let sent = command.entry(0x1234);
+    assert_eq!(rt; (sent.opcode, sent.nsid, sent.cid), (opcode, 7, 0x1234));
+    assert_eq!(rt; (sent.cdw10, sent.cdw11, sent.cdw12), (cdw10, cdw11, 0));
+    assert_eq!(rt; command.nsid(), 7);
+    assert_eq!(rt; command.transfer(), Transfer::NoData);
+    assert_eq!(rt; Transfer::of(&sent), Ok(Transfer::NoData));
+    assert_eq!(rt; Command::of(&sent, &[], &mut CtrlList::new()), Ok(command));
+}
+
+fn format(lbaf: u8, mset: bool, pi: u8, pil: bool, ses: u8) -> Command<'static> {
+    Command::Format {
+        nsid: 7,
+        lbaf: FourBits::low(lbaf),
+        mset,
+        pi: ThreeBits::low(pi),
+        pil,
+        ses: ThreeBits::low(ses),
+    }
+}
+
+fn get(fid: u8, sel: u8) -> Command<'static> {
+    Command::GetFeature {
+        fid,
+        sel: ThreeBits::low(sel),
+        nsid: 7,
+    }
+}
+
+fn set(fid: u8, value: u32, save: bool) -> Command<'static> {
+    Command::SetFeature {
+        fid,
+        value,
+        save,
+        nsid: 7,
+    }
+}
+
+#[test]
+fn format_by_its_entry(rt: HostRuntime) {
+    check_travel(&rt, format(0, false, 0, false, 0), 0x80, 0x000, 0);
+    check_travel(&rt, format(15, false, 0, false, 0), 0x80, 0x00f, 0);
+    check_travel(&rt, format(0, true, 0, false, 0), 0x80, 0x010, 0);
+    check_travel(&rt, format(0, false, 7, false, 0), 0x80, 0x0e0, 0);
+    check_travel(&rt, format(0, false, 0, true, 0), 0x80, 0x100, 0);
+    check_travel(&rt, format(0, false, 0, false, 7), 0x80, 0xe00, 0);
+}
+
+#[test]
+fn features_by_their_entries(rt: HostRuntime) {
+    check_travel(&rt, get(0xff, 0), 0x0a, 0x0ff, 0);
+    check_travel(&rt, get(0x06, 7), 0x0a, 0x706, 0);
+    check_travel(&rt, set(0x06, 0, true), 0x09, 0x8000_0006, 0);
+    check_travel(&rt, set(0xff, 0xffff_ffff, false), 0x09, 0xff, 0xffff_ffff);
+}
+
+/// Checks what an entry decodes to, whatever the host sends with it.
+fn check_decoded(rt: &impl Abort, entry: &Sqe, want: Result<Command, StatusCode>) {
+    let mut place = CtrlList::new();
+    assert_eq!(rt; Command::of(entry, &[1], &mut place), want);
+}
+
+#[test]
+fn bits_beside_the_fields_are_ignored(rt: HostRuntime) {
+    let plain = format(1, false, 0, false, 0);
+    check_decoded(&rt, &entry(0x80, 0xffff_f001, 9), Ok(plain));
+    check_decoded(&rt, &entry(0x0a, 0xffff_f806, 9), Ok(get(0x06, 0)));
+    check_decoded(&rt, &entry(0x09, 0x7fff_ff06, 9), Ok(set(0x06, 9, false)));
+}
+
+#[test]
+fn their_entries_are_plain(rt: HostRuntime) {
+    for opcode in [0x80, 0x0a, 0x09] {
+        let fused = Sqe {
+            fuse: 1,
+            ..entry(opcode, 0, 0)
+        };
+        check_decoded(&rt, &fused, Err(StatusCode::InvalidFieldInCommand));
+    }
+}
+
+#[test]
+fn their_replies(rt: HostRuntime) {
+    let page = [0; 4096];
+    assert!(rt; matches!(Reply::read(&get(6, 0), 5, &page), Reply::Number(5)));
+    assert!(rt; matches!(Reply::read(&set(6, 0, true), 5, &page), Reply::Done));
+    let done = Reply::read(&format(0, false, 0, false, 0), 5, &page);
+    assert!(rt; matches!(done, Reply::Done));
+}

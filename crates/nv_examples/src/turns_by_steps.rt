@@ -1,0 +1,402 @@
+//! Controller 0 of the demonstration subsystem, step by step.
+
+ghost use Rattle.nv_controller.specs.Bus.{IsBus};
+
+use nv_controller::*;
+use crate::turns::{identify, machine, memory, pages};
+use nv_host::{FlatMemory, HostMemory};
+use nv_layout::{Cqe, Sqe};
+use std::alloc::Global;
+use std::process::Abort;
+use std::test::Fail;
+
+const CC: u32 = 0x14;
+
+const CSTS: u32 = 0x1c;
+
+const AQA: u32 = 0x24;
+
+const ASQ: u32 = 0x28;
+
+const ACQ: u32 = 0x30;
+
+const TAIL: u32 = 0x1000;
+
+const HEAD: u32 = 0x1004;
+
+/// CC with pages of 4,096 bytes, and EN 1 or 0.
+const ENABLE: u32 = 0x0046_0001;
+
+const DISABLE: u32 = 0x0046_0000;
+
+/// A step of a test.
+#[derive(Clone, Copy)]
+enum Step {
+    /// Writes a register.
+    Write(u32, u32),
+    /// A register reads so.
+    Reads(u32, u32),
+    /// Puts an entry at an address.
+    Submit(u64, Sqe),
+    /// A turn of at most so many takes so many.
+    Turn(u16, u16),
+    /// A completion at an address, with its command identifier, SQ head, phase tag and status.
+    Posted(u64, u16, u16, bool, u16),
+}
+
+/// Puts an entry at an address.
+pub(crate) fn submit(rt: &impl Abort, mem: &mut FlatMemory, addr: u64, entry: &Sqe) {
+    let mut bytes = [0; 64];
+    entry.put(&mut bytes);
+    assert!(rt; mem.store(addr, &bytes).is_ok());
+}
+
+/// The completion at an address.
+pub(crate) fn posted(rt: &impl Abort, mem: &FlatMemory, addr: u64) -> Cqe {
+    let mut bytes = [0; 16];
+    assert!(rt; mem.load(addr, &mut bytes).is_ok());
+    Cqe::get(&bytes)
+}
+
+fn take_step(rt: &impl Abort, machine: &mut Machine, mem: &mut FlatMemory, step: Step)
+    requires { IsBus machine.old }
+    ensures { IsBus machine.new }
+{
+    assert!(rt; machine.controllers() > 0);
+    match step {
+        Step::Write(offset, dword) => machine.write32(0, offset, dword),
+        Step::Reads(offset, dword) => assert_eq!(rt; machine.read32(0, offset), dword),
+        Step::Submit(addr, entry) => submit(rt, mem, addr, &entry),
+        Step::Turn(most, count) => assert_eq!(rt; machine.turn(0, mem, most), count),
+        Step::Posted(addr, cid, sq_head, phase, status) => {
+            let entry = posted(rt, mem, addr);
+            assert_eq!(rt; entry.status.number(), status);
+            assert!(rt; entry.cid == cid && entry.sq_head == sq_head && entry.phase == phase);
+        }
+    }
+}
+
+fn take_steps(rt: &impl Abort, machine: &mut Machine, mem: &mut FlatMemory, steps: &[Step])
+    requires { IsBus machine.old }
+    ensures { IsBus machine.new }
+{
+    for step in steps {
+        take_step(rt, machine, mem, *step);
+    }
+}
+
+/// These steps on a new machine, with rings of four entries at 0h and 1000h, and a new memory of
+/// sixteen pages of 4,096 bytes.
+fn begin(rt: &impl Abort, alloc: Global, steps: &[Step]) -> Result<(), Fail> {
+    let mut machine = machine(alloc)?;
+    let mut mem = pages(rt, alloc)?;
+    take_steps(rt, &mut machine, &mut mem, steps);
+    Ok(())
+}
+
+/// An entry alone is completed with this status.
+fn answer(rt: &impl Abort, alloc: Global, entry: Sqe, status: u16) -> Result<(), Fail> {
+    begin(
+        rt,
+        alloc,
+        &[
+            Step::Submit(0, entry),
+            Step::Write(TAIL, 1),
+            Step::Turn(16, 1),
+            Step::Posted(0x1000, entry.cid, 1, true, status),
+        ],
+    )
+}
+
+#[test]
+fn answers_each_structure(rt: HostRuntime) -> Result<(), Fail> {
+    for (cns, nsid, status) in [
+        (0x00, 1, 0),
+        (0x00, 2, 0),
+        (0x00, 0xffff_ffff, 0),
+        (0x00, 0, 0x600b),
+        (0x00, 5, 0x600b),
+        (0x02, 0, 0),
+        (0x02, 0xffff_fffe, 0x600b),
+        (0x10, 0, 0),
+        (0x10, 0xffff_ffff, 0x600b),
+        (0x11, 3, 0),
+        (0x11, 2, 0),
+        (0x11, 0xffff_ffff, 0x600b),
+        (0x01, 0, 0x6002),
+        (0x03, 0, 0x6002),
+        (0xff, 0, 0x6002),
+    ] {
+        answer(&rt, rt.alloc(), identify(7, nsid, cns, 0x5000), status)?;
+    }
+    Ok(())
+}
+
+#[test]
+fn knows_six_opcodes(rt: HostRuntime) -> Result<(), Fail> {
+    for opcode in [0x00, 0x02, 0x0c, 0x81, 0xff] {
+        let entry = Sqe {
+            opcode,
+            ..identify(7, 0, 0x02, 0x10002)
+        };
+        answer(&rt, rt.alloc(), entry, 0x6001)?;
+    }
+    Ok(())
+}
+
+#[test]
+fn formats_and_features_have_no_data(rt: HostRuntime) -> Result<(), Fail> {
+    for (opcode, nsid, cdw10, status) in [
+        (0x80, 3, 0xffff_f001, 0),
+        (0x80, 3, 0x0021, 0x610a),
+        (0x80, 3, 0x0e01, 0x6002),
+        (0x09, 0, 0xffff_ff06, 0),
+        (0x09, 0, 0x8000_0001, 0x610d),
+        (0x0a, 0, 0xffff_fb06, 0),
+        (0x0a, 0, 0x0406, 0x6002),
+    ] {
+        let entry = Sqe {
+            opcode,
+            cdw10,
+            ..identify(7, nsid, 0, 0x10002)
+        };
+        answer(&rt, rt.alloc(), entry, status)?;
+    }
+    Ok(())
+}
+
+#[test]
+fn has_four_entries_and_two_completions(rt: HostRuntime) -> Result<(), Fail> {
+    begin(
+        &rt,
+        rt.alloc(),
+        &[
+            Step::Write(CC, DISABLE),
+            Step::Write(AQA, 0x0001_0003),
+            Step::Write(CC, ENABLE),
+            Step::Submit(0x00, identify(10, 1, 0, 0x5000)),
+            Step::Submit(0x40, identify(11, 1, 0, 0x5000)),
+            Step::Submit(0x80, identify(12, 0, 0, 0x5000)),
+            Step::Submit(0xc0, identify(13, 1, 0, 0x5000)),
+            Step::Write(TAIL, 3),
+            Step::Turn(16, 1),
+            Step::Posted(0x1000, 10, 1, true, 0),
+            Step::Turn(16, 0),
+            Step::Write(HEAD, 1),
+            Step::Turn(16, 1),
+            Step::Posted(0x1010, 11, 2, true, 0),
+            Step::Write(HEAD, 2),
+            Step::Turn(16, 0),
+            Step::Write(HEAD, 0),
+            Step::Turn(16, 1),
+            Step::Posted(0x1000, 12, 3, false, 0x600b),
+            Step::Write(TAIL, 0),
+            Step::Write(HEAD, 1),
+            Step::Turn(16, 1),
+            Step::Posted(0x1010, 13, 0, false, 0),
+        ],
+    )
+}
+
+#[test]
+fn has_two_entries_and_eight_completions(rt: HostRuntime) -> Result<(), Fail> {
+    begin(
+        &rt,
+        rt.alloc(),
+        &[
+            Step::Write(CC, DISABLE),
+            Step::Write(AQA, 0x0007_0001),
+            Step::Write(CC, ENABLE),
+            Step::Submit(0x00, identify(20, 1, 0, 0x5000)),
+            Step::Submit(0x40, identify(21, 1, 0, 0x5000)),
+            Step::Write(TAIL, 2),
+            Step::Turn(16, 0),
+            Step::Write(TAIL, 1),
+            Step::Turn(16, 1),
+            Step::Write(TAIL, 0),
+            Step::Turn(16, 1),
+            Step::Write(TAIL, 1),
+            Step::Turn(16, 1),
+            Step::Posted(0x1000, 20, 1, true, 0),
+            Step::Posted(0x1010, 21, 0, true, 0),
+            Step::Posted(0x1020, 20, 1, true, 0),
+        ],
+    )
+}
+
+#[test]
+fn stops_at_the_end_of_memory(rt: HostRuntime) -> Result<(), Fail> {
+    // A page holds 64 entries, or 256 completions.
+    for (aqa, asq, acq, tail, count) in [
+        (0x007f_0041, 0xf000, 0x1000, 65, 64),
+        (0x0101_0101, 0x0000, 0xf000, 257, 256),
+    ] {
+        begin(
+            &rt,
+            rt.alloc(),
+            &[
+                Step::Write(CC, DISABLE),
+                Step::Write(AQA, aqa),
+                Step::Write(ASQ, asq),
+                Step::Write(ACQ, acq),
+                Step::Write(CC, ENABLE),
+                Step::Write(TAIL, tail),
+                Step::Turn(count, count),
+                Step::Reads(CSTS, 1),
+                Step::Turn(1, 0),
+                Step::Reads(CSTS, 3),
+            ],
+        )?;
+    }
+    Ok(())
+}
+
+#[test]
+fn ignores_doorbells_while_it_is_not_ready(rt: HostRuntime) -> Result<(), Fail> {
+    begin(
+        &rt,
+        rt.alloc(),
+        &[
+            // Not enabled, and then with a fatal status from enabling.
+            Step::Write(CC, DISABLE),
+            Step::Write(TAIL, 1),
+            Step::Write(HEAD, 1),
+            Step::Turn(16, 0),
+            Step::Write(ASQ, 4),
+            Step::Write(CC, ENABLE),
+            Step::Reads(CSTS, 2),
+            Step::Write(TAIL, 1),
+            Step::Turn(16, 0),
+            Step::Write(CC, DISABLE),
+            Step::Write(ASQ, 0),
+            Step::Write(CC, ENABLE),
+            Step::Reads(CSTS, 1),
+            Step::Turn(16, 0),
+        ],
+    )
+}
+
+#[test]
+fn ignores_doorbells_that_mean_nothing(rt: HostRuntime) -> Result<(), Fail> {
+    begin(
+        &rt,
+        rt.alloc(),
+        &[
+            // Tails that name no slot.
+            Step::Write(TAIL, 4),
+            Step::Write(TAIL, 0x0001_0001),
+            Step::Write(TAIL, 0xffff_ffff),
+            Step::Turn(16, 0),
+            // Heads that name no slot: the completion ring stays full.
+            Step::Write(TAIL, 3),
+            Step::Turn(16, 3),
+            Step::Write(TAIL, 2),
+            Step::Write(HEAD, 4),
+            Step::Write(HEAD, 0x0001_0001),
+            Step::Write(HEAD, 0x0001_0003),
+            Step::Turn(16, 0),
+            Step::Write(HEAD, 3),
+            Step::Turn(16, 3),
+            // A head above what was posted.
+            Step::Write(HEAD, 2),
+            Step::Write(HEAD, 3),
+            Step::Write(TAIL, 1),
+            Step::Turn(16, 3),
+            Step::Write(TAIL, 2),
+            Step::Turn(16, 0),
+        ],
+    )
+}
+
+#[test]
+fn takes_the_page_size_that_it_was_enabled_with(rt: HostRuntime) -> Result<(), Fail> {
+    let mut machine = machine(rt.alloc())?;
+    let mut mem = memory(&rt, rt.alloc(), 8192)?;
+    let entry = identify(7, 0, 0x02, 0x4004);
+    take_steps(
+        &rt,
+        &mut machine,
+        &mut mem,
+        &[
+            Step::Write(CC, DISABLE),
+            Step::Write(ACQ, 0x2000),
+            Step::Write(CC, ENABLE + 0x80),
+            Step::Reads(CSTS, 1),
+            // The page ends at 6000h, so that PRP entry 2 is ignored.
+            Step::Submit(0, Sqe { prp2: 2, ..entry }),
+            Step::Write(TAIL, 1),
+            Step::Turn(16, 1),
+            Step::Posted(0x2000, 7, 1, true, 0),
+        ],
+    );
+    Ok(())
+}
+
+#[test]
+fn tests_the_memory_where_an_entry_is_taken(rt: HostRuntime) -> Result<(), Fail> {
+    let mut machine = machine(rt.alloc())?;
+    let mut mem = pages(&rt, rt.alloc())?;
+    let mut other = memory(&rt, rt.alloc(), 8192)?;
+    let full = [
+        Step::Write(TAIL, 3),
+        Step::Turn(16, 3),
+        Step::Write(TAIL, 2),
+    ];
+    take_steps(&rt, &mut machine, &mut mem, &full);
+    // Three entries wait, but no slot for a completion is free.
+    let fatal = [
+        Step::Turn(16, 0),
+        Step::Reads(CSTS, 1),
+        Step::Write(HEAD, 3),
+        Step::Turn(0, 0),
+        Step::Reads(CSTS, 1),
+        Step::Turn(16, 0),
+        Step::Reads(CSTS, 3),
+    ];
+    take_steps(&rt, &mut machine, &mut other, &fatal);
+    // A fatal status stays until EN is cleared.
+    let again = [
+        Step::Turn(16, 0),
+        Step::Reads(CSTS, 3),
+        Step::Write(CC, DISABLE),
+        Step::Reads(CSTS, 0),
+        Step::Turn(16, 0),
+        Step::Write(CC, ENABLE),
+        Step::Write(TAIL, 1),
+        Step::Turn(16, 1),
+        Step::Posted(0x1000, 0, 1, true, 0x6001),
+    ];
+    take_steps(&rt, &mut machine, &mut mem, &again);
+    Ok(())
+}
+
+#[test]
+fn has_data_and_rings_in_one_place(rt: HostRuntime) -> Result<(), Fail> {
+    // A list over the completion ring: the completion comes last.
+    begin(
+        &rt,
+        rt.alloc(),
+        &[
+            Step::Submit(0, identify(7, 0, 0x02, 0x1000)),
+            Step::Write(TAIL, 1),
+            Step::Turn(16, 1),
+            Step::Posted(0x1000, 7, 1, true, 0),
+        ],
+    )?;
+    // Both rings at one address: a completion lies over an entry that was taken.
+    begin(
+        &rt,
+        rt.alloc(),
+        &[
+            Step::Write(CC, DISABLE),
+            Step::Write(ASQ, 0x1000),
+            Step::Write(CC, ENABLE),
+            Step::Submit(0x1000, identify(8, 1, 0, 0x5000)),
+            Step::Submit(0x1040, identify(9, 0, 0, 0x5000)),
+            Step::Write(TAIL, 2),
+            Step::Turn(16, 2),
+            Step::Posted(0x1000, 8, 1, true, 0),
+            Step::Posted(0x1010, 9, 2, true, 0x600b),
+        ],
+    )
+}

@@ -1,0 +1,13 @@
+use Rattle.std.proofs.Common.{◌≡◌, drop, map}
+use Rattle.std.specs.List.{fold}
+use Rattle.nv_file.specs.FileValue.{namespace_entry_view}
+use Rattle.nv_subsystem.specs.FromFile.{with_recovery}
+use Rattle.nv_subsystem.proofs.from_file.fill_recoveries.Given as goal
+
+abbrev pub invariant-loop-entry : goal.invariant-loop-entry
+invariant-loop-entry l =
+    let at_start = l.initial.values in
+    let recover = fold (with_recovery l.cntlid l.value) in
+    (l.values.nn ≡ at_start.nn)
+    × (recover l.values.values (map namespace_entry_view (drop l.entry-index l.entries))
+    ≡ recover at_start.values (map namespace_entry_view l.entries))

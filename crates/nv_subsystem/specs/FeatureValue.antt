@@ -1,0 +1,22 @@
+-- The value of a feature, and how a controller treats the feature.
+use Rattle.std.specs.Prelude.{ℕ, Bool, true, false, Option, Some, None, refl, if◌then◌else◌}
+use Rattle.std.specs.Coded.{Coded, code_by, coded×, coded_ℕ, coded_option}
+use Rattle.nv_file.specs.declared.feature_rule.FeatureRule.{FeatureRule}
+use Rattle.nv_subsystem.specs.declared.feature_value.FeatureValue.{FeatureValue}
+
+abbrev pub feature_value_code : Coded FeatureValue
+feature_value_code = code_by (ℕ × Option ℕ) (coded× coded_ℕ (coded_option coded_ℕ))
+    (λ x. (x.current, x.saved))
+    (λ p. record { current = p.0; saved = p.1 }) (λ _. refl)
+
+-- the rule of a feature that has no table in the file
+abbrev pub default_rule : ℕ → FeatureRule
+default_rule fid = record { fid = fid; default = 0; saveable = false; changeable = true }
+
+-- before any value is set
+abbrev pub at_default : FeatureRule → FeatureValue
+at_default rule = record { current = rule.default; saved = None }
+
+-- with another current value, which is saved too where that is asked for
+abbrev pub written : ℕ → Bool → FeatureValue → FeatureValue
+written value save x = record { current = value; saved = if save then Some value else x.saved }

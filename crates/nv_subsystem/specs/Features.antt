@@ -1,0 +1,100 @@
+-- Get Features and Set Features: when they are refused, what they answer, and what they change.
+use Rattle.std.specs.Prelude.{ℕ, ◌+◌, ◌==◌, ◌&&◌, ◌||◌, not, nat_lt, Bool, true, List, [], ◌∷◌, Option, None, unwrap_or, if◌then◌else◌}
+use Rattle.std.specs.List.{fold}
+use Rattle.std.specs.Option.{option_map_or}
+use Rattle.std.specs.FinMap as map_of
+use Rattle.nv_layout.specs.Feature.{feature_of, is_accepted, row_of}
+use Rattle.nv_layout.specs.declared.feature.Feature.{Feature}
+use Rattle.nv_file.specs.declared.feature_rule.FeatureRule.{FeatureRule}
+use Rattle.nv_command.specs.declared.command.TheConstants.{BROADCAST_NSID}
+use Rattle.nv_command.specs.declared.status_code.StatusCode.TheVariants.{FeatureNotChangeable, FeatureNotNamespaceSpecific, FeatureIdentifierNotSaveable, InvalidFieldInCommand, InvalidNamespaceOrFormat}
+use Rattle.nv_subsystem.specs.FeatureValue.{default_rule, written}
+use Rattle.nv_subsystem.specs.Format.{concerned}
+use Rattle.nv_subsystem.specs.Nsid.{is_active, is_valid}
+use Rattle.nv_subsystem.specs.Row.{row}
+use Rattle.nv_subsystem.specs.State.{Controller, State, controller_at, rule_of, with_controller}
+use Rattle.nv_subsystem.specs.Supported.{supported}
+use Rattle.nv_subsystem.specs.ValueTable.{FeatureValues, key_of}
+use Rattle.nv_subsystem.specs.declared.feature_value.FeatureValue.{FeatureValue}
+use Rattle.nv_subsystem.specs.declared.row.Row.{Row}
+
+-- how a controller treats a feature
+abbrev pub rule_at : State → ℕ → Feature → FeatureRule
+rule_at s c f = option_map_or (λ x. rule_of x.rules f) (controller_at s c) (default_rule (row_of f).fid)
+
+-- the feature with an identifier, where the controller supports it
+abbrev pub supported_at : State → ℕ → ℕ → Option Feature
+supported_at s c fid = option_map_or (λ x. supported x.identity.numbers.vwc fid) (controller_at s c) None
+
+-- ---- rows
+
+-- an identifier of no supported feature; else the feature's rows
+abbrev pub supported_rows : State → ℕ → ℕ → (Feature → List Row) → List Row
+supported_rows s c fid rows = option_map_or rows (supported_at s c fid) (row true InvalidFieldInCommand ∷ [])
+
+-- a select above 3; and for a feature with a value for each namespace, an NSID that is not valid, or not active
+abbrev pub get_rows : State → ℕ → ℕ → ℕ → Feature → List Row
+get_rows s c sel n f =
+    row (nat_lt 3 sel) InvalidFieldInCommand
+    ∷ row ((row_of f).per_namespace && not (is_valid s n)) InvalidNamespaceOrFormat
+    ∷ row ((row_of f).per_namespace && not (is_active s c n)) InvalidFieldInCommand
+    ∷ []
+
+abbrev pub get_feature_rows : State → ℕ → ℕ → ℕ → ℕ → List Row
+get_feature_rows s c fid sel n = supported_rows s c fid (get_rows s c sel n)
+
+abbrev pub set_rows : State → ℕ → ℕ → Bool → ℕ → Feature → List Row
+set_rows s c value save n f =
+    row (not (is_accepted f value)) InvalidFieldInCommand
+    ∷ row ((row_of f).per_namespace && not (is_valid s n || n == BROADCAST_NSID)) InvalidNamespaceOrFormat
+    ∷ row ((row_of f).per_namespace && not (is_active s c n || n == BROADCAST_NSID)) InvalidFieldInCommand
+    ∷ row (not (row_of f).per_namespace && not (n == 0 || n == BROADCAST_NSID)) FeatureNotNamespaceSpecific
+    ∷ row (save && not (rule_at s c f).saveable) FeatureIdentifierNotSaveable
+    ∷ row (not (rule_at s c f).changeable) FeatureNotChangeable
+    ∷ []
+
+abbrev pub set_feature_rows : State → ℕ → ℕ → ℕ → Bool → ℕ → List Row
+set_feature_rows s c fid value save n = supported_rows s c fid (set_rows s c value save n)
+
+-- ---- replies
+
+-- what can be done with a feature: bit 0 save, bit 1 a value for each namespace, bit 2 change
+abbrev pub capabilities : FeatureRule → Feature → ℕ
+capabilities rule f =
+    (if rule.saveable then 1 else 0) + (if (row_of f).per_namespace then 2 else 0)
+    + (if rule.changeable then 4 else 0)
+
+-- what a select names: the current value, the default, the saved one, or the capabilities
+abbrev pub selected : FeatureRule → Feature → ℕ → FeatureValue → ℕ
+selected rule f sel x =
+    if sel == 0 then x.current
+    else if sel == 1 then rule.default
+    else if sel == 2 then unwrap_or x.saved rule.default
+    else capabilities rule f
+
+-- the same of a controller's feature
+abbrev pub told : Feature → ℕ → ℕ → Controller → ℕ
+told f sel n x = option_map_or (selected (rule_of x.rules f) f sel) (map_of.get x.values (key_of f n)) 0
+
+abbrev pub feature_number : State → ℕ → ℕ → ℕ → ℕ → ℕ
+feature_number s c fid sel n =
+    option_map_or (λ f. option_map_or (told f sel n) (controller_at s c) 0) (feature_of fid) 0
+
+-- ---- effects
+
+-- the NSIDs whose values a set changes
+abbrev pub changed_nsids : State → ℕ → ℕ → Feature → List ℕ
+changed_nsids s c n f = if (row_of f).per_namespace then concerned s c n else 0 ∷ []
+
+-- a value that is there is written over
+abbrev pub with_value : Feature → ℕ → Bool → FeatureValues → ℕ → FeatureValues
+with_value f value save values n =
+    option_map_or (λ x. map_of.insert values (key_of f n) (written value save x))
+    (map_of.get values (key_of f n)) values
+
+abbrev pub with_values : Feature → ℕ → Bool → List ℕ → Controller → Controller
+with_values f value save ns x = record x { values = fold (with_value f value save) x.values ns }
+
+abbrev pub with_feature : State → ℕ → ℕ → ℕ → Bool → ℕ → State
+with_feature s c fid value save n =
+    option_map_or (λ f. with_controller s c (with_values f value save (changed_nsids s c n f))) (feature_of fid) s

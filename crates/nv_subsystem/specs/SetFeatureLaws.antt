@@ -1,0 +1,230 @@
+-- Get Features and Set Features leave a well-formed subsystem well formed, and their replies fit.
+use Rattle.std.proofs.Common.{rules, ◌≡◌, ◌∙◌, ℕ, ◌+◌, ◌==◌, ◌<◌, ◌≤◌, ◌^◌, ◌&&◌, Bool, true, false, not, List, [], ◌∷◌, length, Option, Some, None, is_some, refl, sym, ap, subst, arith, lit<, bit_and}
+use Rattle.std.specs.Prelude.{IsSomeAnd, if◌then◌else◌, unwrap_or}
+use Rattle.std.specs.List.{fold}
+use Rattle.std.specs.Option.{option_map_or}
+use Rattle.std.specs.FinMap as map_of
+use Rattle.std.proofs.lemmas.Bool.Decides.{nat_tests}
+use Rattle.std.proofs.lemmas.Nat.{and_le_r}
+use Rattle.std.proofs.lemmas.Option.{get_or_from_slice_get, slice_get_within}
+use Rattle.nv_layout.specs.Feature.{feature_of, is_accepted, row_of}
+use Rattle.nv_layout.specs.declared.feature.Feature.{Feature}
+use Rattle.nv_layout.specs.declared.feature.Feature.TheVariants as feature
+use Rattle.nv_file.specs.declared.feature_rule.FeatureRule.{FeatureRule}
+use Rattle.nv_command.specs.RefusalLaws.{is_refusal-refusal_by}
+use Rattle.nv_subsystem.specs.ChangedAtLaws.{length-changed_at}
+use Rattle.nv_subsystem.specs.FeatureLaws.{accepted_at, default_accepted, feature_at, values-written}
+use Rattle.nv_subsystem.specs.Features.{capabilities, changed_nsids, feature_number, get_feature_rows, get_rows, selected, set_feature_rows, set_rows, supported_at, supported_rows, told, with_feature, with_value, with_values}
+use Rattle.nv_subsystem.specs.FeatureValue.{at_default, written}
+use Rattle.nv_subsystem.specs.KeepingLaws.{Keeps, keeps}
+use Rattle.nv_subsystem.specs.ManagementLaws.{AllRefuse, none_holds}
+use Rattle.nv_command.specs.declared.status_code.StatusCode.TheVariants.{InvalidFieldInCommand}
+use Rattle.nv_subsystem.specs.Row.{first_refusal, row}
+use Rattle.nv_subsystem.specs.State.{Controller, Nsids, State, controller_at, rule_of, with_controller}
+use Rattle.nv_subsystem.specs.Supported.{is_supported, supported}
+use Rattle.nv_subsystem.specs.ValueTable.{FeatureValues, key_of}
+use Rattle.nv_subsystem.specs.WellFormed.{AreValues, IsController, IsWellFormed, accepts, is_value_at}
+use Rattle.nv_subsystem.specs.declared.feature_value.FeatureValue.{FeatureValue}
+use Rattle.nv_subsystem.specs.declared.row.Row.{Row}
+
+-- ---- rows
+
+get_rows_fit : (s : State) (c sel n : ℕ) (f : Feature) → AllRefuse (get_rows s c sel n f)
+get_rows_fit s c sel n f = search (rules, is_refusal-refusal_by)
+
+set_rows_fit : (s : State) (c value : ℕ) (save : Bool) (n : ℕ) (f : Feature)
+    → AllRefuse (set_rows s c value save n f)
+set_rows_fit s c value save n f = search (rules, is_refusal-refusal_by)
+
+supported_rows_fit : (o : Option Feature) (rows : Feature → List Row) (others : List Row)
+    → ((f : Feature) → AllRefuse (rows f)) → AllRefuse others → AllRefuse (option_map_or rows o others)
+supported_rows_fit None rows others fit other = other
+supported_rows_fit (Some f) rows others fit other = fit f
+
+pub get_feature_rows_fit : (s : State) (c fid sel n : ℕ) → AllRefuse (get_feature_rows s c fid sel n)
+get_feature_rows_fit s c fid sel n = supported_rows_fit (supported_at s c fid) (get_rows s c sel n) _
+    (get_rows_fit s c sel n) (search (rules, is_refusal-refusal_by))
+
+pub set_feature_rows_fit : (s : State) (c fid value : ℕ) (save : Bool) (n : ℕ)
+    → AllRefuse (set_feature_rows s c fid value save n)
+set_feature_rows_fit s c fid value save n = supported_rows_fit (supported_at s c fid) (set_rows s c value save n) _
+    (set_rows_fit s c value save n) (search (rules, is_refusal-refusal_by))
+
+-- ---- a set
+
+and_parts : (a b : Bool) → (a && b) ≡ true → (a ≡ true) × (b ≡ true)
+and_parts true b e = (refl, e)
+and_parts false b e = absurd (cc e)
+
+-- what a feature accepts, by a key of it
+accepts_at : (f : Feature) (n : ℕ) (x : FeatureValue) → is_value_at (key_of f n) x ≡ true → accepts f x ≡ true
+accepts_at f n x e = sym (ap (λ o. option_map_or (λ g. accepts g x) o false) (feature_at f)) ∙ e
+
+accepts_written : (f : Feature) (value : ℕ) (save : Bool) (x : FeatureValue) → is_accepted f value ≡ true
+    → accepts f x ≡ true → accepts f (written value save x) ≡ true
+accepts_written f value true x fits e = rw fits refl
+accepts_written f value false x fits e = rw fits (and_parts (is_accepted f x.current) _ e).1
+
+module _ (f : Feature) (value : ℕ) (save : Bool) (fits : is_accepted f value ≡ true) (vwc : ℕ) (attached : Nsids) where
+  one_value : (values : FeatureValues) (n : ℕ) → AreValues vwc attached values
+      → AreValues vwc attached (with_value f value save values n)
+  one_value values n are = by (map_of.get values (key_of f n)) refl
+    where
+      by : (o : Option FeatureValue) → map_of.get values (key_of f n) ≡ o → AreValues vwc attached
+          (option_map_or (λ x. map_of.insert values (key_of f n) (written value save x)) o values)
+      by None e = are
+      by (Some x) e = values-written vwc attached values are (key_of f n) (written value save x) (ap is_some e)
+          (accepted_at f (if (row_of f).per_namespace then n else 0) (written value save x)
+          (accepts_written f value save x fits (accepts_at f n x (are.accepted (key_of f n) x e))))
+
+  all_values : (ns : List ℕ) (values : FeatureValues) → AreValues vwc attached values
+      → AreValues vwc attached (fold (with_value f value save) values ns)
+  all_values [] values are = are
+  all_values (n ∷ ns) values are = all_values ns (with_value f value save values n) (one_value values n are)
+
+set_keeps : (f : Feature) (value : ℕ) (save : Bool) (ns : List ℕ) → is_accepted f value ≡ true
+    → Keeps (with_values f value save ns)
+set_keeps f value save ns fits = record {
+  identity = λ x. refl;
+  attached = λ x. refl;
+  sound = λ s x h. record {
+    identity = h.identity;
+    rules = h.rules;
+    smart = h.smart;
+    log = h.log;
+    entries = h.entries;
+    refusals = h.refusals;
+    commands = h.commands;
+    attached = h.attached;
+    values = all_values f value save fits x.identity.numbers.vwc x.attached ns x.values h.values;
+  };
+}
+
+not_false : (b : Bool) → not b ≡ false → b ≡ true
+not_false true h = refl
+not_false false h = absurd (cc h)
+
+-- an accepted set gives a value that the feature accepts
+module _ (s : State) (c fid value : ℕ) (save : Bool) (n : ℕ) (f : Feature) where
+  abbrev accepted_by : Option Feature → Type 0
+  accepted_by o = first_refusal
+      (option_map_or (set_rows s c value save n) o (row true InvalidFieldInCommand ∷ [])) ≡ None
+
+  by_support : (b : Bool) (g : Feature) → accepted_by (if b then Some g else None) → g ≡ f
+      → is_accepted f value ≡ true
+  by_support true g accepted same =
+      let rows = none_holds (set_rows s c value save n g) accepted in
+      subst (λ h. is_accepted h value ≡ true) same (not_false (is_accepted g value) rows.0)
+  by_support false g accepted same = absurd (cc accepted)
+
+  by_feature : (x : Controller) (o : Option Feature)
+      → accepted_by (option_map_or (λ g. if is_supported x.identity.numbers.vwc g then Some g else None) o None)
+      → o ≡ Some f → is_accepted f value ≡ true
+  by_feature x None accepted e = absurd (cc e)
+  by_feature x (Some g) accepted e =
+      let same : g ≡ f = cc e in
+      by_support (is_supported x.identity.numbers.vwc g) g accepted same
+
+  by_controller : (x : Option Controller)
+      → accepted_by (option_map_or (λ x. supported x.identity.numbers.vwc fid) x None)
+      → feature_of fid ≡ Some f → is_accepted f value ≡ true
+  by_controller None accepted e = absurd (cc accepted)
+  by_controller (Some x) accepted e = by_feature x (feature_of fid) accepted e
+
+pub feature_keeps : (s : State) (c fid value : ℕ) (save : Bool) (n : ℕ) → IsWellFormed s
+    → first_refusal (set_feature_rows s c fid value save n) ≡ None → IsWellFormed (with_feature s c fid value save n)
+feature_keeps s c fid value save n w accepted = by (feature_of fid) refl
+  where
+    by : (o : Option Feature) → feature_of fid ≡ o → IsWellFormed
+        (option_map_or (λ f. with_controller s c (with_values f value save (changed_nsids s c n f))) o s)
+    by None e = w
+    by (Some f) e = keeps s c (with_values f value save (changed_nsids s c n f))
+        (set_keeps f value save (changed_nsids s c n f)
+        (by_controller s c fid value save n f (controller_at s c) accepted e)) w
+
+pub feature_controllers : (s : State) (c fid value : ℕ) (save : Bool) (n : ℕ)
+    → length (with_feature s c fid value save n).controllers ≡ length s.controllers
+feature_controllers s c fid value save n = by (feature_of fid)
+  where
+    by : (o : Option Feature)
+        → length (option_map_or (λ f. with_controller s c (with_values f value save (changed_nsids s c n f))) o s).controllers
+        ≡ length s.controllers
+    by None = refl
+    by (Some f) = length-changed_at (with_values f value save (changed_nsids s c n f)) s.controllers c
+
+-- ---- a number that is told
+
+mask_fits : (f : Feature) → (row_of f).mask < 2 ^ 32
+mask_fits feature.Arbitration = lit< tt
+mask_fits feature.PowerManagement = lit< tt
+mask_fits feature.ErrorRecovery = lit< tt
+mask_fits feature.VolatileWriteCache = lit< tt
+mask_fits feature.InterruptCoalescing = lit< tt
+mask_fits feature.WriteAtomicityNormal = lit< tt
+mask_fits feature.AsynchronousEventConfiguration = lit< tt
+
+value_fits : (f : Feature) (v : ℕ) → is_accepted f v ≡ true → v < 2 ^ 32
+value_fits f v e =
+    let masked = is_same (bit_and v (row_of f).mask) v
+    (and_parts (bit_and v (row_of f).mask == v) (bit_and v (row_of f).clear == 0) e).0 in
+    omega (arith, masked, and_le_r v (row_of f).mask, mask_fits f)
+  where
+    is_same : (a b : ℕ) → (a == b) ≡ true → a ≡ b
+    is_same a b e = grind (arith, nat_tests)
+
+chosen_fits : (b : Bool) (x y : ℕ) → x < 2 ^ 32 → y < 2 ^ 32 → (if b then x else y) < 2 ^ 32
+chosen_fits true x y h k = h
+chosen_fits false x y h k = k
+
+capabilities_fit : (a b c : Bool)
+    → (if a then 1 else 0) + (if b then 2 else 0) + (if c then 4 else 0) < 2 ^ 32
+capabilities_fit true true true = lit< tt
+capabilities_fit true true false = lit< tt
+capabilities_fit true false true = lit< tt
+capabilities_fit true false false = lit< tt
+capabilities_fit false true true = lit< tt
+capabilities_fit false true false = lit< tt
+capabilities_fit false false true = lit< tt
+capabilities_fit false false false = lit< tt
+
+selected_fits : (rule : FeatureRule) (f : Feature) (sel : ℕ) (x : FeatureValue) → is_accepted f rule.default ≡ true
+    → accepts f x ≡ true → selected rule f sel x < 2 ^ 32
+selected_fits rule f sel x default is =
+    let parts = and_parts (is_accepted f x.current) (option_map_or (is_accepted f) x.saved true) is in
+    chosen_fits (sel == 0) _ _ (value_fits f x.current parts.0)
+    (chosen_fits (sel == 1) _ _ (value_fits f rule.default default)
+    (chosen_fits (sel == 2) _ _ (saved_fits x.saved parts.1)
+    (capabilities_fit rule.saveable (row_of f).per_namespace rule.changeable)))
+  where
+    saved_fits : (o : Option ℕ) → option_map_or (is_accepted f) o true ≡ true
+        → unwrap_or o rule.default < 2 ^ 32
+    saved_fits None e = value_fits f rule.default default
+    saved_fits (Some v) e = value_fits f v e
+
+told_fits : (s : State) (x : Controller) → IsController s.namespaces x → (f : Feature) (sel n : ℕ)
+    → told f sel n x < 2 ^ 32
+told_fits s x is f sel n = by (map_of.get x.values (key_of f n)) refl
+  where
+    by : (o : Option FeatureValue) → map_of.get x.values (key_of f n) ≡ o
+        → option_map_or (selected (rule_of x.rules f) f sel) o 0 < 2 ^ 32
+    by None e = lit< tt
+    by (Some v) e = selected_fits (rule_of x.rules f) f sel v
+        (and_parts (is_accepted f (rule_of x.rules f).default) true (default_accepted x.rules is.rules f)).0
+        (accepts_at f n v (is.values.accepted (key_of f n) v e))
+
+pub feature_number_fits : (s : State) (c fid sel n : ℕ) → IsWellFormed s → feature_number s c fid sel n < 2 ^ 32
+feature_number_fits s c fid sel n w = by_feature (feature_of fid)
+  where
+    is_controller : (x : Controller) → controller_at s c ≡ Some x → IsController s.namespaces x
+    is_controller x e = subst (IsController s.namespaces) (get_or_from_slice_get s.controllers c x x e)
+        (w.controllers c x (slice_get_within s.controllers c x e))
+
+    by_controller : (f : Feature) (o : Option Controller) → controller_at s c ≡ o
+        → option_map_or (told f sel n) o 0 < 2 ^ 32
+    by_controller f None e = lit< tt
+    by_controller f (Some x) e = told_fits s x (is_controller x e) f sel n
+
+    by_feature : (o : Option Feature)
+        → option_map_or (λ f. option_map_or (told f sel n) (controller_at s c) 0) o 0 < 2 ^ 32
+    by_feature None = lit< tt
+    by_feature (Some f) = by_controller f (controller_at s c) refl

@@ -1,0 +1,255 @@
+//! Get Features and Set Features: when they are refused, what they answer, and what they change.
+//! Sections "Get Features command" and "Set Features command".
+
+ghost use Rattle.std.specs.Prelude.{◌≡◌, ◌<◌, ℕ, length};
+ghost use Rattle.std.specs.List.{fold};
+ghost use Rattle.nv_subsystem.specs.ControllerView.{controller_view};
+ghost use Rattle.nv_subsystem.specs.Features.{capabilities, feature_number, get_feature_rows, get_rows, rule_at, selected, set_feature_rows, set_rows, supported_at, told, with_feature, with_value, with_values};
+ghost use Rattle.nv_subsystem.specs.Nsid.{is_active};
+ghost use Rattle.nv_subsystem.specs.Row.{Checks};
+ghost use Rattle.nv_subsystem.specs.Sound.{IsSized};
+ghost use Rattle.nv_subsystem.specs.State.{with_controller};
+
+use crate::controller::{Controller, rule_of};
+use crate::feature_value::{FeatureValue, is_supported};
+use crate::feature_values::FeatureValues;
+use crate::listing::attached_above;
+use crate::row::{Row, check};
+use crate::subsystem::Subsystem;
+use nv_command::{BROADCAST_NSID, Refusal, StatusCode};
+use nv_file::FeatureRule;
+use nv_layout::{Feature, ThreeBits};
+
+/// What a host asks of a feature: another value, which is saved too where `save` says so. Section
+/// "Set Features command".
+#[derive(Clone, Copy, Debug, PartialEq, Eq)]
+pub struct NewValue {
+    pub value: u32,
+    pub save: bool,
+}
+
+impl NewValue {
+    /// The fields of a Set Features.
+    pub(crate) fn new(value: u32, save: bool) -> NewValue
+        ensures { result ≡ record { value = value; save = save } }
+    {
+        NewValue { value, save }
+    }
+}
+
+/// What can be done with a feature: bit 0 save it, bit 1 give each namespace a value of its own,
+/// bit 2 change it.
+fn capabilities(rule: FeatureRule, feature: Feature) -> u32
+    ensures { result ≡ capabilities rule feature }
+{
+    let saveable = if rule.saveable { 1 } else { 0 };
+    let per_namespace = if feature.is_per_namespace() { 2 } else { 0 };
+    let changeable = if rule.changeable { 4 } else { 0 };
+    saveable + per_namespace + changeable
+}
+
+/// What a select names: the current value, the default, the saved one, or the capabilities.
+fn selected(rule: FeatureRule, feature: Feature, sel: ThreeBits, value: FeatureValue) -> u32
+    ensures { result ≡ selected rule feature sel value }
+{
+    match sel.get() {
+        0 => value.current,
+        1 => rule.default,
+        2 => value.saved.unwrap_or(rule.default),
+        _ => capabilities(rule, feature),
+    }
+}
+
+/// Writes over a feature's values for some namespaces, where they are there.
+fn write_each(values: &mut FeatureValues, feature: Feature, asked: NewValue, nsids: &[u32])
+    ensures { values.new ≡ record values.old {
+      values = fold (with_value feature asked.value asked.save) values.old.values nsids.now;
+    } }
+{
+    for nsid in nsids {
+        values.write(feature, *nsid, asked.value, asked.save);
+    }
+}
+
+impl Controller {
+    /// What a Get Features answers.
+    fn told(&self, feature: Feature, sel: ThreeBits, nsid: u32) -> u32
+        ensures { result ≡ told feature sel nsid (controller_view self.now) }
+    {
+        match self.values.get(feature, nsid) {
+            Some(value) => selected(rule_of(&self.rules, feature), feature, sel, value),
+            None => 0,
+        }
+    }
+
+    /// Writes over a feature's values for some namespaces, where they are there.
+    fn write(&mut self, feature: Feature, asked: NewValue, nsids: &[u32])
+        ensures view { controller_view self.new
+            ≡ with_values feature asked.value asked.save nsids.now (controller_view self.old) }
+        ensures sized { (nn : ℕ) → IsSized nn self.old → IsSized nn self.new }
+    {
+        write_each(&mut self.values, feature, asked, nsids);
+    }
+}
+
+impl Subsystem {
+    /// How a controller treats a feature.
+    fn rule(&self, ctrl: u16, feature: Feature) -> FeatureRule
+        requires { ctrl < length self.now.controllers }
+        ensures { result ≡ rule_at self.now ctrl feature }
+    {
+        rule_of(&self.controllers[ctrl as usize].rules, feature)
+    }
+
+    /// The feature with an identifier, where a controller supports it.
+    fn supported(&self, ctrl: u16, fid: u8) -> Option<Feature>
+        requires { ctrl < length self.now.controllers }
+        ensures { result ≡ supported_at self.now ctrl fid }
+    {
+        let vwc = self.controllers[ctrl as usize].identity.numbers.vwc;
+        match Feature::of(fid) {
+            Some(feature) if is_supported(vwc, feature) => Some(feature),
+            _ => None,
+        }
+    }
+
+    /// Why a Get Features of a supported feature is refused. The conditions go in the order of the
+    /// rows.
+    fn check_get(
+        &self,
+        ctrl: u16,
+        sel: ThreeBits,
+        nsid: u32,
+        feature: Feature,
+    ) -> Result<(), Refusal>
+        requires { ctrl < length self.now.controllers }
+        ensures { Checks (get_rows self.now ctrl sel nsid feature) result }
+    {
+        let of_namespaces = feature.is_per_namespace();
+        check(&[
+            Row::new(sel.get() > 3, StatusCode::InvalidFieldInCommand),
+            Row::new(
+                of_namespaces && !self.is_valid(nsid),
+                StatusCode::InvalidNamespaceOrFormat,
+            ),
+            Row::new(
+                of_namespaces && !self.is_active(ctrl, nsid),
+                StatusCode::InvalidFieldInCommand,
+            ),
+        ])
+    }
+
+    /// Why a Get Features is refused.
+    pub(crate) fn check_get_feature(
+        &self,
+        ctrl: u16,
+        fid: u8,
+        sel: ThreeBits,
+        nsid: u32,
+    ) -> Result<(), Refusal>
+        requires { ctrl < length self.now.controllers }
+        ensures { Checks (get_feature_rows self.now ctrl fid sel nsid) result }
+    {
+        match self.supported(ctrl, fid) {
+            Some(feature) => self.check_get(ctrl, sel, nsid, feature),
+            None => Err(Refusal::from(StatusCode::InvalidFieldInCommand)),
+        }
+    }
+
+    /// Why a Set Features of a supported feature is refused. The conditions go in the order of the
+    /// rows.
+    fn check_set(
+        &self,
+        ctrl: u16,
+        asked: NewValue,
+        nsid: u32,
+        feature: Feature,
+    ) -> Result<(), Refusal>
+        requires { ctrl < length self.now.controllers }
+        ensures { Checks (set_rows self.now ctrl asked.value asked.save nsid feature) result }
+    {
+        let rule = self.rule(ctrl, feature);
+        let of_namespaces = feature.is_per_namespace();
+        let all = nsid == BROADCAST_NSID;
+        check(&[
+            Row::new(
+                !feature.accepts(asked.value),
+                StatusCode::InvalidFieldInCommand,
+            ),
+            Row::new(
+                of_namespaces && !(self.is_valid(nsid) || all),
+                StatusCode::InvalidNamespaceOrFormat,
+            ),
+            Row::new(
+                of_namespaces && !(self.is_active(ctrl, nsid) || all),
+                StatusCode::InvalidFieldInCommand,
+            ),
+            Row::new(
+                !of_namespaces && !(nsid == 0 || all),
+                StatusCode::FeatureNotNamespaceSpecific,
+            ),
+            Row::new(
+                asked.save && !rule.saveable,
+                StatusCode::FeatureIdentifierNotSaveable,
+            ),
+            Row::new(!rule.changeable, StatusCode::FeatureNotChangeable),
+        ])
+    }
+
+    /// Why a Set Features is refused.
+    pub(crate) fn check_set_feature(
+        &self,
+        ctrl: u16,
+        fid: u8,
+        asked: NewValue,
+        nsid: u32,
+    ) -> Result<(), Refusal>
+        requires { ctrl < length self.now.controllers }
+        ensures { Checks (set_feature_rows self.now ctrl fid asked.value asked.save nsid) result }
+    {
+        match self.supported(ctrl, fid) {
+            Some(feature) => self.check_set(ctrl, asked, nsid, feature),
+            None => Err(Refusal::from(StatusCode::InvalidFieldInCommand)),
+        }
+    }
+
+    /// The number that a Get Features answers.
+    pub(crate) fn feature_number(&self, ctrl: u16, fid: u8, sel: ThreeBits, nsid: u32) -> u32
+        requires { ctrl < length self.now.controllers }
+        ensures { result ≡ feature_number self.now ctrl fid sel nsid }
+    {
+        match Feature::of(fid) {
+            Some(feature) => self.controllers[ctrl as usize].told(feature, sel, nsid),
+            None => 0,
+        }
+    }
+
+    /// Writes over a feature's values for some namespaces.
+    fn write_values(&mut self, ctrl: u16, feature: Feature, asked: NewValue, nsids: &[u32])
+        requires { ctrl < length self.old.controllers }
+        ensures { self.new ≡ with_controller self.old ctrl
+            (with_values feature asked.value asked.save nsids.now) }
+    {
+        let controller = &mut self.controllers[ctrl as usize];
+        controller.write(feature, asked, nsids);
+    }
+
+    /// Gives a feature another value: for the namespace, or for all active ones, where each has one
+    /// of its own.
+    pub(crate) fn set_feature(&mut self, ctrl: u16, fid: u8, asked: NewValue, nsid: u32)
+        requires { ctrl < length self.old.controllers }
+        ensures { self.new ≡ with_feature self.old ctrl fid asked.value asked.save nsid }
+    {
+        let Some(feature) = Feature::of(fid) else {
+            return;
+        };
+        if !feature.is_per_namespace() {
+            self.write_values(ctrl, feature, asked, &[0]);
+        } else if nsid == BROADCAST_NSID {
+            let active = attached_above(&self.controllers[ctrl as usize].attached, 0);
+            self.write_values(ctrl, feature, asked, active.as_slice());
+        } else {
+            self.write_values(ctrl, feature, asked, &[nsid]);
+        }
+    }
+}
