@@ -4,9 +4,9 @@ ghost use Rattle.std.specs.Prelude.{◌≡◌, ◌<◌, All, IfOk, length};
 ghost use Rattle.nv_controller.specs.Bus.{IsBus, IsEnabledWhereReady};
 ghost use Rattle.nv_driver.specs.Registers.{ports_of};
 
-use nv_driver::*;
 use nv_command::{Command, Reply};
 use nv_controller::{Bus, Machine};
+use nv_driver::*;
 use nv_host::HostMemory;
 use nv_layout::Status;
 use nv_subsystem::{DEMO, Subsystem};

@@ -5,10 +5,10 @@ ghost use Rattle.nv_command.specs.Command.{CommandFits};
 ghost use Rattle.nv_controller.specs.Bus.{IsBus};
 ghost use Rattle.nv_driver.specs.Registers.{ports_of};
 
-use nv_driver::*;
 use crate::drivers::machine;
 use nv_command::{Command, Reply};
 use nv_controller::Machine;
+use nv_driver::*;
 use nv_layout::{ControllerIds, Status};
 use std::alloc::Global;
 use std::process::Abort;

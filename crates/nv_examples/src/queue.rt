@@ -3,9 +3,9 @@
 ghost use Rattle.std.specs.Prelude.{◌≡◌, ◌*◌, ◌<◌, ◌≤◌, length};
 ghost use Rattle.nv_queue.specs.Numbers.{IsDepth};
 
-use nv_queue::*;
 use nv_host::{FlatMemory, HostMemory};
 use nv_layout::{Cqe, Sqe, Status};
+use nv_queue::*;
 use std::alloc::AllocError;
 use std::process::Abort;
 

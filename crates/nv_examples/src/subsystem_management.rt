@@ -1,7 +1,7 @@
 //! Namespaces created, deleted, attached and detached, over the demonstration subsystem.
 
-use nv_subsystem::*;
 use nv_layout::{CtrlList, ErrorEntry};
+use nv_subsystem::*;
 use std::alloc::Global;
 use std::process::Abort;
 use std::test::Fail;

@@ -2,8 +2,8 @@
 
 ghost use Rattle.nv_controller.specs.Bus.{IsBus};
 
-use nv_controller::*;
 use crate::turns::{identify, machine, memory, pages};
+use nv_controller::*;
 use nv_host::{FlatMemory, HostMemory};
 use nv_layout::{Cqe, Sqe};
 use std::alloc::Global;

@@ -2,9 +2,9 @@
 
 ghost use Rattle.nv_controller.specs.Bus.{IsBus};
 
-use nv_controller::*;
 use crate::turns::{identify, machine, pages};
 use crate::turns_by_steps::{posted, submit};
+use nv_controller::*;
 use nv_host::{FlatMemory, HostMemory};
 use nv_layout::{Cqe, Sqe};
 use std::process::Abort;

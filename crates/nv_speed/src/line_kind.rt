@@ -49,7 +49,7 @@ impl LineKind {
     }
 
     /// The command that the line sends to the first controller, if it sends one.
-    pub(crate) fn command(self) -> Option<Command>
+    pub(crate) fn command(self) -> Option<Command<'static>>
         ensures { IfSome result CommandFits }
     {
         match self {
