@@ -50,6 +50,7 @@ fn change(subsystem: &mut Subsystem, nsid: u32, detach: bool, ids: &[u16]) -> An
             list.push(*id);
         }
     }
+    let list = list.ids();
     ask(subsystem, 0, 7, &Command::Attachment { nsid, detach, list })
 }
 
