@@ -1,6 +1,6 @@
 -- Get Features and Set Features leave a well-formed subsystem well formed, and their replies fit.
-use Rattle.std.proofs.Common.{rules, ◌≡◌, ◌∙◌, ℕ, ◌+◌, ◌==◌, ◌<◌, ◌≤◌, ◌^◌, ◌&&◌, Bool, true, false, not, List, [], ◌∷◌, length, Option, Some, None, is_some, refl, sym, ap, subst, arith, lit<, bit_and}
-use Rattle.std.specs.Prelude.{IsSomeAnd, if◌then◌else◌, unwrap_or}
+use Rattle.std.proofs.Common.{rules, ◌≡◌, ◌∙◌, ℕ, ◌+◌, ◌==◌, ◌<◌, ◌^◌, ◌&&◌, Bool, true, false, not, List, [], ◌∷◌, length, Option, Some, None, is_some, refl, sym, ap, subst, arith, lit<, bit_and}
+use Rattle.std.specs.Prelude.{if◌then◌else◌, unwrap_or}
 use Rattle.std.specs.List.{fold}
 use Rattle.std.specs.Option.{option_map_or}
 use Rattle.std.specs.FinMap as map_of
@@ -14,8 +14,8 @@ use Rattle.nv_file.specs.declared.feature_rule.FeatureRule.{FeatureRule}
 use Rattle.nv_command.specs.RefusalLaws.{is_refusal-refusal_by}
 use Rattle.nv_subsystem.specs.ChangedAtLaws.{length-changed_at}
 use Rattle.nv_subsystem.specs.FeatureLaws.{accepted_at, default_accepted, feature_at, values-written}
-use Rattle.nv_subsystem.specs.Features.{capabilities, changed_nsids, feature_number, get_feature_rows, get_rows, selected, set_feature_rows, set_rows, supported_at, supported_rows, told, with_feature, with_value, with_values}
-use Rattle.nv_subsystem.specs.FeatureValue.{at_default, written}
+use Rattle.nv_subsystem.specs.Features.{changed_nsids, feature_number, get_feature_rows, get_rows, selected, set_feature_rows, set_rows, supported_at, told, with_feature, with_value, with_values}
+use Rattle.nv_subsystem.specs.FeatureValue.{written}
 use Rattle.nv_subsystem.specs.KeepingLaws.{Keeps, keeps}
 use Rattle.nv_subsystem.specs.ManagementLaws.{AllRefuse, none_holds}
 use Rattle.nv_command.specs.declared.status_code.StatusCode.TheVariants.{InvalidFieldInCommand}

@@ -1,5 +1,5 @@
 -- What one command does: its answer, and the state after it.
-use Rattle.std.specs.Prelude.{ℕ, ◌+◌, ◌%◌, min, List, [], ◌∷◌, take, Option, Some, None, Result, Ok, Err}
+use Rattle.std.specs.Prelude.{ℕ, ◌+◌, ◌%◌, min, ◌∷◌, take, Option, Some, None, Result, Ok, Err}
 use Rattle.nv_layout.specs.declared.status.Status.{Status}
 use Rattle.nv_command.specs.Command.{namespace_of}
 use Rattle.nv_command.specs.declared.command.Command.{Command}

@@ -1,12 +1,10 @@
 -- A command leaves a well-formed subsystem well formed.
-use Rattle.std.proofs.Common.{◌≡◌, ◌∙◌, ℕ, ◌+◌, ◌<◌, ◌≤◌, ◌^◌, ap, sym, refl, subst, arith, suc, Bool, true, false, List, [], ◌∷◌, length, take, Option, Some, None, min}
+use Rattle.std.proofs.Common.{◌≡◌, ◌∙◌, ℕ, ◌+◌, ◌<◌, ◌≤◌, ◌^◌, refl, subst, arith, suc, Bool, true, false, List, [], ◌∷◌, length, take, Option, Some, None, min}
 use Rattle.std.proofs.lemmas.List.{length-take}
 use Rattle.std.proofs.lemmas.List.Elements.{All-cons, All-take}
 use Rattle.std.specs.Prelude.{All, if◌then◌else◌}
 use Rattle.std.specs.List.{AllByRecursion}
-use Rattle.std.specs.FinMap as map_of
-use Rattle.nv_file.specs.Identity.{Identity}
-use Rattle.nv_subsystem.specs.State.{Controller, Namespaces, Nsids, State}
+use Rattle.nv_subsystem.specs.State.{State}
 use Rattle.nv_subsystem.specs.declared.controller.TheConstants.{GREATEST_COUNT}
 use Rattle.nv_subsystem.specs.Step.{next_count, refused, step, step_by, with_command, with_refusal}
 use Rattle.nv_subsystem.specs.Effect.{effect_of}
@@ -16,7 +14,7 @@ use Rattle.nv_subsystem.specs.declared.row.Row.{Row}
 use Rattle.nv_command.specs.Command.{namespace_of}
 use Rattle.nv_command.specs.Refusal.{IsRefusal}
 use Rattle.nv_command.specs.RefusalLaws.{is_refusal-refusal_by}
-use Rattle.nv_subsystem.specs.WellFormed.{IsController, IsLogEntry, IsWellFormed}
+use Rattle.nv_subsystem.specs.WellFormed.{IsLogEntry, IsWellFormed}
 use Rattle.nv_command.specs.declared.command.Command.{Command}
 use Rattle.nv_command.specs.declared.command.Command.TheVariants.{IdentifyNamespace, AllocatedNamespace, ActiveList, AllocatedList, Create, Delete, Attachment, Format, GetFeature, SetFeature}
 use Rattle.nv_command.specs.declared.status_code.StatusCode.TheVariants.{InvalidNamespaceOrFormat}
