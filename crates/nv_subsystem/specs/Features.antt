@@ -20,19 +20,23 @@ use Rattle.nv_subsystem.specs.declared.row.Row.{Row}
 
 -- how a controller treats a feature
 abbrev pub rule_at : State → ℕ → Feature → FeatureRule
-rule_at s c f = option_map_or (λ x. rule_of x.rules f) (controller_at s c) (default_rule (row_of f).fid)
+rule_at s c f =
+    option_map_or (λ x. rule_of x.rules f) (controller_at s c) (default_rule (row_of f).fid)
 
 -- the feature with an identifier, where the controller supports it
 abbrev pub supported_at : State → ℕ → ℕ → Option Feature
-supported_at s c fid = option_map_or (λ x. supported x.identity.numbers.vwc fid) (controller_at s c) None
+supported_at s c fid =
+    option_map_or (λ x. supported x.identity.numbers.vwc fid) (controller_at s c) None
 
 -- ---- rows
 
 -- an identifier of no supported feature; else the feature's rows
 abbrev pub supported_rows : State → ℕ → ℕ → (Feature → List Row) → List Row
-supported_rows s c fid rows = option_map_or rows (supported_at s c fid) (row true InvalidFieldInCommand ∷ [])
+supported_rows s c fid rows =
+    option_map_or rows (supported_at s c fid) (row true InvalidFieldInCommand ∷ [])
 
--- a select above 3; and for a feature with a value for each namespace, an NSID that is not valid, or not active
+-- a select above 3; and where each namespace has a value of its own, an NSID that is not valid, or
+-- not active
 abbrev pub get_rows : State → ℕ → ℕ → ℕ → Feature → List Row
 get_rows s c sel n f =
     row (nat_lt 3 sel) InvalidFieldInCommand
@@ -45,10 +49,12 @@ get_feature_rows s c fid sel n = supported_rows s c fid (get_rows s c sel n)
 
 abbrev pub set_rows : State → ℕ → ℕ → Bool → ℕ → Feature → List Row
 set_rows s c value save n f =
+    let each = (row_of f).per_namespace in
+    let all = n == BROADCAST_NSID in
     row (not (is_accepted f value)) InvalidFieldInCommand
-    ∷ row ((row_of f).per_namespace && not (is_valid s n || n == BROADCAST_NSID)) InvalidNamespaceOrFormat
-    ∷ row ((row_of f).per_namespace && not (is_active s c n || n == BROADCAST_NSID)) InvalidFieldInCommand
-    ∷ row (not (row_of f).per_namespace && not (n == 0 || n == BROADCAST_NSID)) FeatureNotNamespaceSpecific
+    ∷ row (each && not (is_valid s n || all)) InvalidNamespaceOrFormat
+    ∷ row (each && not (is_active s c n || all)) InvalidFieldInCommand
+    ∷ row (not each && not (n == 0 || all)) FeatureNotNamespaceSpecific
     ∷ row (save && not (rule_at s c f).saveable) FeatureIdentifierNotSaveable
     ∷ row (not (rule_at s c f).changeable) FeatureNotChangeable
     ∷ []
@@ -74,7 +80,8 @@ selected rule f sel x =
 
 -- the same of a controller's feature
 abbrev pub told : Feature → ℕ → ℕ → Controller → ℕ
-told f sel n x = option_map_or (selected (rule_of x.rules f) f sel) (map_of.get x.values (key_of f n)) 0
+told f sel n x =
+    option_map_or (selected (rule_of x.rules f) f sel) (map_of.get x.values (key_of f n)) 0
 
 abbrev pub feature_number : State → ℕ → ℕ → ℕ → ℕ → ℕ
 feature_number s c fid sel n =
@@ -97,4 +104,5 @@ with_values f value save ns x = record x { values = fold (with_value f value sav
 
 abbrev pub with_feature : State → ℕ → ℕ → ℕ → Bool → ℕ → State
 with_feature s c fid value save n =
-    option_map_or (λ f. with_controller s c (with_values f value save (changed_nsids s c n f))) (feature_of fid) s
+    option_map_or (λ f. with_controller s c (with_values f value save (changed_nsids s c n f)))
+    (feature_of fid) s

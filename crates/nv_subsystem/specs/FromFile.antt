@@ -53,7 +53,8 @@ controller_of namespaces c = record {
   refusals = 0;
   commands = 0;
   attached = fold (with_attachment c.identity.cntlid) map_of.empty namespaces;
-  values = fold (with_recovery c.identity.cntlid (at_default (rule_of (rules_of c.rules) ErrorRecovery)))
+  values = fold
+      (with_recovery c.identity.cntlid (at_default (rule_of (rules_of c.rules) ErrorRecovery)))
       (defaults_of (rules_of c.rules) c.identity.numbers.vwc) namespaces;
 }
 

@@ -11,4 +11,5 @@ is_supported vwc f = not ((row_of f).fid == (row_of VolatileWriteCache).fid) || 
 
 -- the supported feature with an identifier
 abbrev pub supported : ℕ → ℕ → Option Feature
-supported vwc fid = option_map_or (λ f. if is_supported vwc f then Some f else None) (feature_of fid) None
+supported vwc fid =
+    option_map_or (λ f. if is_supported vwc f then Some f else None) (feature_of fid) None

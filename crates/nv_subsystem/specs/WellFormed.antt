@@ -26,7 +26,8 @@ pub record IsLogEntry (e : LogEntry) : Type 0 where
 
 -- each rule stands under its feature identifier
 abbrev pub AreRules : FeatureRules → Type 0
-AreRules rules = (fid : ℕ) (r : FeatureRule) → map_of.get rules fid ≡ Some r → IsFeatureRule r × (r.fid ≡ fid)
+AreRules rules = (fid : ℕ) (r : FeatureRule) → map_of.get rules fid ≡ Some r
+    → IsFeatureRule r × (r.fid ≡ fid)
 
 -- a feature accepts a value, the saved one too
 abbrev pub accepts : Feature → FeatureValue → Bool
@@ -39,13 +40,15 @@ is_value_at (fid ∷ []) x = false
 is_value_at (fid ∷ nsid ∷ []) x = option_map_or (λ f. accepts f x) (feature_of fid) false
 is_value_at (fid ∷ nsid ∷ other ∷ rest) x = false
 
--- Error Recovery has a value exactly for each attached NSID, any other supported feature has one, and the
--- features accept them
+-- Error Recovery has a value exactly for each attached NSID, any other supported feature has one, and
+-- the features accept them
 pub record AreValues (vwc : ℕ) (attached : Nsids) (values : FeatureValues) : Type 0 where
-  pub recovery : (n : ℕ) → map_of.contains_key values (recovery_key n) ≡ map_of.contains_key attached n
+  pub recovery : (n : ℕ)
+      → map_of.contains_key values (recovery_key n) ≡ map_of.contains_key attached n
   pub others : (f : Feature) → (row_of f).per_namespace ≡ false → (n : ℕ)
       → map_of.contains_key values (value_key (row_of f).fid n) ≡ (is_supported vwc f && (n == 0))
-  pub accepted : (k : List ℕ) (x : FeatureValue) → map_of.get values k ≡ Some x → is_value_at k x ≡ true
+  pub accepted : (k : List ℕ) (x : FeatureValue) → map_of.get values k ≡ Some x
+      → is_value_at k x ≡ true
 
 -- a controller of the subsystem: what its file table gives is in range, it has only namespaces of the
 -- subsystem, and its log has the newest of its refusals

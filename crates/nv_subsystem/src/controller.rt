@@ -69,7 +69,8 @@ impl Controller {
 
     /// Detaches all namespaces.
     pub(crate) fn detach_all(&mut self)
-        ensures view { controller_view self.new ≡ with_nsids without_any (controller_view self.old) }
+        ensures view { controller_view self.new
+            ≡ with_nsids without_any (controller_view self.old) }
         ensures sized { (nn : ℕ) → IsSized nn self.old → IsSized nn self.new }
     {
         self.attached.clear();

@@ -160,7 +160,8 @@ fn feature_values(
     ensures value { IfOk result (λ values. values ≡ record {
       nn = nn;
       values = fold
-          (with_recovery identity.now.cntlid (at_default (rule_of rules.now.values Feature.ErrorRecovery)))
+          (with_recovery identity.now.cntlid
+          (at_default (rule_of rules.now.values Feature.ErrorRecovery)))
           (defaults_of rules.now.values identity.now.numbers.vwc)
           (map namespace_entry_view namespaces.now);
     }) }
