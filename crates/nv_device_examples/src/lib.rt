@@ -1,0 +1,23 @@
+//! Worked examples of subsystem files, subsystems, controllers and drivers.
+#![tactic(auto)]
+
+#[cfg(test)]
+mod drivers;
+#[cfg(test)]
+mod drivers_with_data;
+#[cfg(test)]
+mod file_ranges;
+#[cfg(test)]
+mod file_values;
+#[cfg(test)]
+mod files;
+#[cfg(test)]
+mod mistakes;
+#[cfg(test)]
+mod subsystem_management;
+#[cfg(test)]
+mod turns;
+#[cfg(test)]
+mod turns_by_steps;
+#[cfg(test)]
+mod turns_of_management;
