@@ -9,7 +9,7 @@ use std::test::Fail;
 pub type Edit<'a> = (&'a str, &'a str, &'a str);
 
 /// Each edit of the demonstration file is answered with its text.
-pub fn tells(rt: &impl Abort, alloc: Global, edits: &[Edit<'_>]) -> Result<(), Fail> {
+pub(crate) fn tells(rt: &impl Abort, alloc: Global, edits: &[Edit<'_>]) -> Result<(), Fail> {
     for (old, new, want) in edits {
         let file = DEMO.replace(alloc, *old, *new)?;
         tells_of(rt, alloc, file.as_bytes(), *want)?;
@@ -21,7 +21,12 @@ pub fn tells(rt: &impl Abort, alloc: Global, edits: &[Edit<'_>]) -> Result<(), F
 pub const READ: &str = "read";
 
 /// A file is refused with this text, or read.
-pub fn tells_of(rt: &impl Abort, alloc: Global, file: &[u8], want: &str) -> Result<(), Fail> {
+pub(crate) fn tells_of(
+    rt: &impl Abort,
+    alloc: Global,
+    file: &[u8],
+    want: &str,
+) -> Result<(), Fail> {
     match Subsystem::from_toml(alloc, file) {
         Ok(_) => assert!(rt; want == READ, "a fault was let through: {want}"),
         Err(error) => {

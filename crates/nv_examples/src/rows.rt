@@ -16,14 +16,19 @@ pub struct Row<'a> {
 }
 
 /// What a run left is what the row says.
-pub fn expect(rt: &impl Abort, left: &Outcome, row: &Row<'_>) {
+pub(crate) fn expect(rt: &impl Abort, left: &Outcome, row: &Row<'_>) {
     assert!(rt; left.end == RunEnd::Status(row.status));
     assert!(rt; left.out.as_slice() == row.out.as_bytes());
     assert!(rt; left.messages.as_slice() == row.messages.as_bytes());
 }
 
 /// The script of a row, over the subsystem of a file, leaves what the row says.
-pub fn leaves(rt: &impl Abort, alloc: Global, file: &str, row: &Row<'_>) -> Result<(), Fail> {
+pub(crate) fn leaves(
+    rt: &impl Abort,
+    alloc: Global,
+    file: &str,
+    row: &Row<'_>,
+) -> Result<(), Fail> {
     let left = run_script(alloc, file, row.script)?;
     expect(rt, &left, row);
     Ok(())

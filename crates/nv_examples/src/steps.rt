@@ -19,7 +19,7 @@ pub enum Step<'a> {
 
 /// The script of some steps, over the subsystem of a file, writes what they say. What it leaves is
 /// answered.
-pub fn follow(
+pub(crate) fn follow(
     rt: &impl Abort,
     alloc: Global,
     file: &str,
