@@ -1,8 +1,7 @@
 -- Transfers whose entries are those of a buffer.
-use Rattle.std.proofs.Common.{◌≡◌, ◌∙◌, ◌⊎◌, ℕ, ◌+◌, ◌-◌, ◌*◌, ◌/◌, ◌%◌, ◌<◌, ◌≤◌, List, None, ap, arith, get_or, inl, inr, length, refl, subst, sym}
+use Rattle.std.proofs.Common.{◌≡◌, ◌∙◌, ◌⊎◌, ℕ, ◌+◌, ◌-◌, ◌*◌, ◌/◌, ◌%◌, ◌<◌, ◌≤◌, List, None, ap, arith, get_or, inl, inr, length, refl, subst}
 use Rattle.std.proofs.lemmas.Bool.{cases_lt, cases_order, lt-ltb}
 use Rattle.std.proofs.lemmas.Nat.{div_below, mod-mul-add}
-use Rattle.std.specs.Int.{from_le_bytes, w64}
 use Rattle.std.proofs.lemmas.Bool.Decides.{nat_tests}
 use Rattle.nv_host.specs.Bytes.{bytes_at}
 use Rattle.nv_host.specs.BytesLaws.{bytes_at-bytes_at}
@@ -45,24 +44,21 @@ is_for t pages start begins more prp2 list bases =
     let at = begins_at t pages start begins in
     let some : 0 < size = omega (arith, page_size_bounds size begins.size) in
     let whole : size ≡ 4 * (size / 4) = omega (arith, page_size_in_qwords size begins.size) in
+    let first : page_base t 0 ≡ get_or pages 0 0 * size = omega (arith, begins.prp1, at) in
     let base : (j : ℕ) → j < data_pages t → page_base t j ≡ get_or pages j 0 * size = λ j below. elim (cases_lt 0 j) [
       | inl later ↦ bases j later below
-      | inr first ↦
-          let is : 0 ≡ j = omega arith in
-          subst (λ k. page_base t k ≡ get_or pages k 0 * size) is (omega (arith, begins.prp1, at))
+      | inr none ↦ let is : j ≡ 0 = omega arith in cc
     ] in
     record {
       legal = record {
-        prp1 = ap (λ n. entry_fault size (length t.bytes) 4 n) begins.prp1
-            ∙ no_fault_at t.bytes (get_or pages 0 0) size start 4 begins.buffer.below (page_has t pages start 0 begins more)
-            (multiple_stays (get_or pages 0 0) size start 4 whole ∙ begins.buffer.aligned);
+        prp1 = no_fault_at t.bytes (get_or pages 0 0) size start 4 t.prp1 begins.prp1 begins.buffer.below (page_has t pages start 0 begins more)
+            (ap (λ n. n % 4) begins.prp1 ∙ multiple_stays (get_or pages 0 0) size start 4 whole ∙ begins.buffer.aligned);
         prp2 = prp2;
         list = list;
       };
       places = λ i below.
           let page : (offset t + i) / size < data_pages t = div_below (offset t + i) size (data_pages t) some (omega (arith, (pages_span t some).0)) in
-          ap (λ n. n + (offset t + i) % size) (base ((offset t + i) / size) page)
-          ∙ ap (λ o. get_or pages ((o + i) / size) 0 * size + (o + i) % size) at;
+          cc (base ((offset t + i) / size) page, at);
     }
 
 -- ---- one data page, or two
@@ -73,13 +69,9 @@ unfolding prp2_fault qwords
 few_pages t pages start begins more few second =
     let some : 0 < t.page_size = omega (arith, page_size_bounds t.page_size begins.size) in
     let two_fits : data_pages t ≡ 2 → entry_fault t.page_size (length t.bytes) t.page_size t.prp2 ≡ None = λ two.
-    ap (λ n. entry_fault t.page_size (length t.bytes) t.page_size n) (second two)
-    ∙ no_fault_of_page t.bytes (get_or pages 1 0) t.page_size some (page_has t pages start 1 begins (omega arith)) in
+    no_fault_of_page t.bytes (get_or pages 1 0) t.page_size t.prp2 (second two) some (page_has t pages start 1 begins (omega arith)) in
     is_for t pages start begins more (grind (arith, nat_tests)) (λ n used. absurd (grind (arith, nat_tests)))
-    (λ j later below.
-    let is : 1 ≡ j = omega arith in
-    let two : data_pages t ≡ 2 = omega arith in
-    subst (λ k. page_base t k ≡ get_or pages k 0 * t.page_size) is (base_of_two t two ∙ second two))
+    (λ j later below. let is : j ≡ 1 = omega arith in grind (arith, base_of_two t))
 
 -- ---- more
 
@@ -102,20 +94,20 @@ pub many_pages : (t : Transfer) (pages : List ℕ) (start first second at : ℕ)
 unfolding qword_fault prp2_fault qwords naming_qword qword_place
 many_pages t pages start first second at begins many prp2 place names =
     let size = t.page_size in
-    let some : 0 < size = omega (arith, page_size_bounds size begins.size) in
-    let even : t.prp2 % 8 ≡ 0 = list_even t.bytes size first second at t.prp2 begins.size place prp2 in
-    let space : 0 < room t = (whole_room t.prp2 size (room t) begins.size even refl).0 in
+    let bounds = page_size_bounds size begins.size in
+    let some : 0 < size = omega arith in
+    let even : t.prp2 % 8 ≡ 0 = ap (λ n. n % 8) prp2 ∙ list_even t.bytes size first second at begins.size place in
+    let whole = whole_room t.prp2 size begins.size even in
+    let space : 0 < room t = omega arith in
     let all : qwords t ≡ list_qwords (room t) (data_pages t) = rw (lt-ltb 2 (data_pages t) many) refl in
     let holds : (j : ℕ) → 0 < j → j < data_pages t → qword t.bytes (qword_place t (naming_qword t j)) ≡ get_or pages j 0 * size = λ j later below.
     grind (arith, nat_tests, names.each j later below, names.chain) in
-    let no_fault : (n page : ℕ) → HasPage t.bytes size page → qword t.bytes (qword_place t n) ≡ page * size → qword_fault t n ≡ None = λ n page has is.
-    ap (λ e. entry_fault size (length t.bytes) size e) is ∙ no_fault_of_page t.bytes page size some has in
     is_for t pages start begins (omega arith)
     (rw (lt-ltb 2 (data_pages t) many)
-    (ap (λ n. entry_fault size (length t.bytes) 8 n) prp2 ∙ no_fault_at t.bytes first size at 8 place.below place.has_first (ap (λ n. n % 8) (sym prp2) ∙ even)))
+    (no_fault_at t.bytes first size at 8 t.prp2 prp2 place.below place.has_first even))
     (λ n below. elim (qword_cases (room t) (data_pages t) n space (subst (λ m. n < m) all below)) [
-      | inl chained ↦ no_fault n second place.has_second (grind (arith, nat_tests, names.chain))
-      | inr (j, later, within, is) ↦ no_fault n (get_or pages j 0) (page_has t pages start j begins within) (grind (arith, holds j later within))
+      | inl chained ↦ no_fault_of_page t.bytes second size _ (grind (arith, nat_tests, names.chain)) some place.has_second
+      | inr (j, later, within, is) ↦ no_fault_of_page t.bytes (get_or pages j 0) size _ (grind (arith, holds j later within)) some (page_has t pages start j begins within)
     ])
     (λ j later below. base_by_list t j many later ∙ holds j later below)
 
@@ -128,9 +120,7 @@ qword_of_page : (old new : List ℕ) (q p addr : ℕ) → bytes_at new q p ≡ b
 unfolding qword
 qword_of_page old new q p addr same low high =
     let at : q + (addr - q) ≡ addr = omega arith in
-    let part : (m : List ℕ) → bytes_at (bytes_at m q p) (addr - q) 8 ≡ bytes_at m addr 8 = λ m.
-    bytes_at-bytes_at m q p (addr - q) 8 (omega arith) ∙ ap (λ a. bytes_at m a 8) at in
-    ap (λ l. from_le_bytes w64 l) (sym (part new) ∙ ap (λ l. bytes_at l (addr - q) 8) same ∙ part old)
+    cc (bytes_at-bytes_at new q p (addr - q) 8 (omega arith), bytes_at-bytes_at old q p (addr - q) 8 (omega arith))
 
 -- a list whose pages stay names the same data pages
 pub names_kept : (t : Transfer) (pages : List ℕ) (first second : ℕ) (later : List ℕ) → 2 < data_pages t → data_pages t ≤ 257
@@ -144,6 +134,6 @@ names_kept t pages first second later many few lies keeps names =
       | inr here ↦ qword_of_page t.bytes later (second * t.page_size) t.page_size addr (keeps.in_second many) here.0 here.1
     ] in
     record {
-      chain = λ chained. kept (t.prp2 + 8 * (room t - 1)) (chain_within _ _ _ _ _ lies) ∙ names.chain chained;
-      each = λ j after below. kept _ (place_within _ _ _ _ _ (data_pages t) j lies few after below) ∙ names.each j after below;
+      chain = λ chained. kept (t.prp2 + 8 * (room t - 1)) (chain_within _ _ _ _ _ _ lies refl) ∙ names.chain chained;
+      each = λ j after below. kept _ (place_within _ _ _ _ _ (data_pages t) j _ _ lies few after below refl refl) ∙ names.each j after below;
     }

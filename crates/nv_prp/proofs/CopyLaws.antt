@@ -1,7 +1,7 @@
 -- Copies part by part, and span by span, are copies byte by byte.
-use Rattle.std.proofs.Common.{◌≡◌, ◌∙◌, ℕ, ◌+◌, ◌≤◌, List, [], ◌++◌, ap, arith, drop, length, length-append, length-drop, length-take, sym, take, add-one, zero, suc, ◌<◌, ◌∷◌, get_or, refl, set, subst}
+use Rattle.std.proofs.Common.{append-nil, append_assoc, ◌≡◌, ◌∙◌, ℕ, ◌+◌, ◌≤◌, List, [], ◌++◌, ap, arith, drop, length, length-append, length-drop, length-take, sym, take, add-one, zero, suc, ◌<◌, ◌∷◌, get_or, refl, set, subst}
 use Rattle.std.proofs.Math.Seq.{take-add, take-suc}
-use Rattle.std.proofs.lemmas.List.{drop-drop, places as item_places, same_lists, take-append-drop, drop_more, get_or-drop, get_or-map, get_or-take, length-take-le, map-append, set_split}
+use Rattle.std.proofs.lemmas.List.{drop-drop, places as item_places, same_lists, take-append-drop, drop_all, drop_more, take_all, get_or-drop, get_or-map, get_or-take, length-take-le, map-append, set_split}
 use Rattle.std.proofs.lemmas.Slice.{take-put_mid}
 use Rattle.nv_host.specs.Bytes.{bytes_at, with_bytes}
 use Rattle.nv_host.specs.BytesLaws.{bytes_at-bytes_at, length-bytes_at, length-with_bytes}
@@ -24,64 +24,72 @@ with_more m a xs ys inside =
     same_lists _ _ (simp (length-append, length-take, length-drop) (omega arith)) (λ k d h. grind (arith, item_places))
 
 -- a page that is written in part
-with_part : (m : List ℕ) (q s n p : ℕ) (ys : List ℕ) → q + p ≤ length m → s + n ≤ p → length ys ≡ n
-    → with_bytes m q (put_mid s n (bytes_at m q p) ys) ≡ with_bytes m (q + s) ys
+pub with_part : (m : List ℕ) (q s k : ℕ) (page ys : List ℕ) → page ≡ bytes_at m q (length page) → q + length page ≤ length m
+    → s + k ≤ length page → length ys ≡ k → with_bytes m q (put_mid s k page ys) ≡ with_bytes m (q + s) ys
 unfolding with_bytes bytes_at
-with_part m q s n p ys inside within same =
-    same_lists _ _ (simp (length-append, length-take, length-drop) (omega arith)) (λ k d h. grind (arith, item_places))
+with_part m q s k page ys is inside within same =
+    let p = length page in
+    ap (λ l. with_bytes m q (put_mid s k l ys)) is
+    ∙ same_lists _ _ (simp (length-append, length-take, length-drop) (omega arith)) (λ i d h. grind (arith, item_places))
 
--- what was read, and more of it
-read_more : (m : List ℕ) (a i n : ℕ) → bytes_at m a (i + n) ≡ bytes_at m a i ++ bytes_at m (a + i) n
-unfolding bytes_at
-read_more m a i n = take-add i n (drop a m) ∙ ap (λ l. take i (drop a m) ++ take n l) (drop-drop i a m)
+-- and stays a page
+pub page_length : (page ys : List ℕ) (s k : ℕ) → s + k ≤ length page → length ys ≡ k → length (put_mid s k page ys) ≡ length page
+page_length page ys s k within same = simp (length-append, length-take, length-drop) (omega arith)
 
 -- ---- the next part of a range
 
--- a page that is written in part stays a page
-pub page_length : (page part : List ℕ) (s n k p : ℕ) → k ≡ n → s + n ≤ p → length page ≡ p → length part ≡ n → length (put_mid s k page part) ≡ p
-page_length page part s n k p same within whole all = simp (length-append, length-take, length-drop) (omega arith)
-
-pub write_step : (first now source page part : List ℕ) (addr i q s n k p : ℕ) → now ≡ with_bytes first addr (take i source) → k ≡ n
-    → q + s ≡ addr + i → s + n ≤ p → q + p ≤ length now → i + n ≤ length source → addr + length source ≤ length first
-    → page ≡ bytes_at now q p → part ≡ take n (drop i source) → with_bytes now q (put_mid s k page part) ≡ with_bytes first addr (take (i + n) source)
-write_step first now source page part addr i q s n k p before same place within inside most fits is_page is_part =
-    let front : length (take i source) ≡ i = simp length-take (omega arith) in
-    let next = take n (drop i source) in
-    (λ j. with_bytes now q (put_mid s (same j) (is_page j) (is_part j)))
-    ∙ with_part now q s n p next inside within (simp (length-take, length-drop) (omega arith))
-    ∙ (λ j. with_bytes (before j) ((place ∙ ap (λ k. addr + k) (sym front)) j) next)
-    ∙ with_more first addr (take i source) next (simp (length-take, length-drop) (omega arith))
-    ∙ ap (λ l. with_bytes first addr l) (sym (take-add i n source))
-
-pub read_step : (bytes out page part : List ℕ) (addr i q s n k p : ℕ) → take i out ≡ bytes_at bytes addr i → k ≡ n → q + s ≡ addr + i
-    → s + n ≤ p → q + p ≤ length bytes → i + n ≤ length out → page ≡ bytes_at bytes q p → part ≡ take n (drop s page)
-    → take (i + n) (put_mid i k out part) ≡ bytes_at bytes addr (i + n)
+pub read_part : (m : List ℕ) (q p s k : ℕ) → s + k ≤ p → take k (drop s (bytes_at m q p)) ≡ bytes_at m (q + s) k
 unfolding bytes_at
-read_step bytes out page part addr i q s n k p before same place within inside most is_page is_part =
-    let next : part ≡ bytes_at bytes (addr + i) n = is_part ∙ ap (λ l. take n (drop s l)) is_page
-    ∙ bytes_at-bytes_at bytes q p s n within ∙ ap (λ a. bytes_at bytes a n) place in
-    take-put_mid i k out part (i + n) (let size = ap length next ∙ length-bytes_at bytes (addr + i) n (omega arith) in omega arith) (omega arith)
-    ∙ (λ j. before j ++ next j) ∙ sym (read_more bytes addr i n)
+read_part m q p s k within = bytes_at-bytes_at m q p s k within
 
--- the span at an index, and those behind it
-pub record Next (size : ℕ) (spans : List Span) (i : ℕ) (s : Span) : Type 0 where
-  pub inside : s.address + s.len ≤ size
-  pub split : places (drop i spans) ≡ span_places s ++ places (drop (i + 1) spans)
-  pub count : length (places (drop i spans)) ≡ s.len + length (places (drop (i + 1) spans))
+pub read_more : (m : List ℕ) (a i n : ℕ) → bytes_at m a (i + n) ≡ bytes_at m a i ++ bytes_at m (a + i) n
+unfolding bytes_at
+read_more m a i n = take-add i n (drop a m) ∙ ap (λ l. take i (drop a m) ++ take n l) (drop-drop i a m)
 
-pub next : (size : ℕ) (spans items : List Span) (i : ℕ) (d : Span) → items ≡ spans → i < length items → LieIn size spans
-    → Next size spans i (get_or items i d)
-unfolding LieIn places
-next size spans items i d is below inside =
-    let P : List Span → Type 0 = λ l. Next size l i (get_or items i d) in
-    let split : flat_map span_places (drop i items) ≡ span_places (get_or items i d) ++ flat_map span_places (drop (i + 1) items) =
-    ap (λ l. flat_map span_places l) (drop_more items i d below) in
-    let all = subst (λ l. LieIn size l) (sym is) inside in
-    subst P is (record {
-      inside = all i d below;
-      split = split;
-      count = omega (arith, ap length split, length-append (span_places (get_or items i d)) (flat_map span_places (drop (i + 1) items)), length-span_places (get_or items i d));
-    })
+pub none_read : (m : List ℕ) (a : ℕ) → bytes_at m a 0 ≡ []
+unfolding bytes_at
+none_read m a = refl
+
+pub write_more : (m : List ℕ) (a i n from : ℕ) (xs : List ℕ) → from + i + n ≤ length xs → a + i + n ≤ length m
+    → with_bytes m a (take (i + n) (drop from xs)) ≡ with_bytes (with_bytes m a (take i (drop from xs))) (a + i) (take n (drop (from + i) xs))
+write_more m a i n from xs most fits =
+    let front : length (take i (drop from xs)) ≡ i = simp (length-take, length-drop) (omega arith) in
+    let next : length (take n (drop (from + i) xs)) ≡ n = simp (length-take, length-drop) (omega arith) in
+    ap (λ l. with_bytes m a l) (take-add i n (drop from xs) ∙ ap (λ l. take i (drop from xs) ++ take n l) (drop-drop i from xs))
+    ∙ sym (with_more m a (take i (drop from xs)) (take n (drop (from + i) xs)) (omega arith))
+    ∙ ap (λ k. with_bytes (with_bytes m a (take i (drop from xs))) (a + k) (take n (drop (from + i) xs))) front
+
+pub ruleset reads = (read_part, read_more, none_read, take-put_mid, length-bytes_at, length-take, length-drop)
+
+pub ruleset writes = (none_written, write_more, length-take, length-drop)
+
+pub ruleset parts = (with_part, page_length, length-with_bytes, length-take, length-drop)
+
+-- ---- the next span, and those behind it
+
+abbrev pub none : Span
+none = record { address = 0; len = 0 }
+
+places_left : (spans : List Span) (i : ℕ) → i < length spans
+    → places (drop i spans) ≡ span_places (get_or spans i none) ++ places (drop (i + 1) spans)
+unfolding places
+places_left spans i below = ap (λ l. flat_map span_places l) (drop_more spans i none below)
+
+pub count_left : (spans : List Span) (i : ℕ) → i < length spans
+    → length (places (drop i spans)) ≡ (get_or spans i none).len + length (places (drop (i + 1) spans))
+count_left spans i below =
+    let s = get_or spans i none in
+    let rest = places (drop (i + 1) spans) in
+    omega (arith, ap length (places_left spans i below), length-append (span_places s) rest, length-span_places s)
+
+pub none_left : (spans : List Span) (i : ℕ) → length spans ≤ i → places (drop i spans) ≡ []
+unfolding places
+none_left spans i past = ap (λ l. flat_map span_places l) (drop_all i spans past)
+
+pub next_inside : (size : ℕ) (spans : List Span) (i : ℕ) → LieIn size spans → i < length spans
+    → (get_or spans i none).address + (get_or spans i none).len ≤ size
+unfolding LieIn
+next_inside size spans i inside below = inside i none below
 
 -- ---- reading
 
@@ -90,17 +98,21 @@ unfolding read_at span_places bytes_at
 read_span bytes s inside =
     let size = length-read_at bytes (span_places s) ∙ length-span_places s in
     same_number_lists _ _ (size ∙ sym (length-bytes_at bytes s.address s.len inside))
-    (λ k h. let below : k < s.len = omega (arith, size) in
-    get_or-map (λ p. get_or bytes p 0) (span_places s) k 0 0 (omega (arith, length-span_places s))
-    ∙ ap (λ p. get_or bytes p 0) (get_or-table s.len (λ j. s.address + j) k 0 below)
-    ∙ sym (get_or-take s.len (drop s.address bytes) k 0 below ∙ get_or-drop s.address bytes k 0))
+    (λ k h. grind (arith, item_places, size, length-span_places s, get_or-map, get_or-table s.len (λ j. s.address + j) k 0))
 
--- what is read of a span, and then of the places behind it
-pub read_next : (bytes : List ℕ) (s : Span) (rest : List ℕ) → s.address + s.len ≤ length bytes
-    → read_at bytes (span_places s ++ rest) ≡ bytes_at bytes s.address s.len ++ read_at bytes rest
+pub read_left : (bytes : List ℕ) (spans : List Span) (i : ℕ) → LieIn (length bytes) spans → i < length spans
+    → read_at bytes (places (drop i spans))
+    ≡ bytes_at bytes (get_or spans i none).address (get_or spans i none).len ++ read_at bytes (places (drop (i + 1) spans))
 unfolding read_at
-read_next bytes s rest inside =
-    map-append (λ p. get_or bytes p 0) (span_places s) rest ∙ ap (λ l. l ++ read_at bytes rest) (read_span bytes s inside)
+read_left bytes spans i inside below =
+    let s = get_or spans i none in
+    let rest = places (drop (i + 1) spans) in
+    ap (λ l. read_at bytes l) (places_left spans i below) ∙ map-append (λ p. get_or bytes p 0) (span_places s) rest
+    ∙ ap (λ l. l ++ read_at bytes rest) (read_span bytes s (next_inside _ spans i inside below))
+
+pub read_none : (bytes : List ℕ) → read_at bytes [] ≡ []
+unfolding read_at
+read_none bytes = refl
 
 -- ---- writing
 
@@ -125,19 +137,30 @@ written_range bytes a (suc n) xs few inside =
     let b = get_or xs n 0 in
     let size : length ys ≡ n = length-take-le n xs (omega arith) in
     let more : take (suc n) xs ≡ ys ++ b ∷ [] = take-suc xs n 0 (omega arith) in
-    ap (λ l. written_at bytes (table n (λ k. a + k) ++ (a + n) ∷ []) l) more
-    ∙ written_at-append bytes (table n (λ k. a + k)) ((a + n) ∷ []) ys (b ∷ []) (length-table n (λ k. a + k) ∙ sym size)
-    ∙ (λ i. set (written_range bytes a n xs (omega arith) (omega arith) i) (a + sym size i) b)
-    ∙ one_written (with_bytes bytes a ys) (a + length ys) b (omega (arith, length-with_bytes bytes a ys (omega arith)))
-    ∙ with_more bytes a ys (b ∷ []) (omega arith)
-    ∙ sym (ap (λ l. with_bytes bytes a l) more)
+    cc (
+      written_at-append bytes (table n (λ k. a + k)) ((a + n) ∷ []) ys (b ∷ []) (length-table n (λ k. a + k) ∙ sym size),
+      written_range bytes a n xs (omega arith) (omega arith),
+      one_written (with_bytes bytes a ys) (a + n) b (omega (arith, length-with_bytes bytes a ys (omega arith))),
+      with_more bytes a ys (b ∷ []) (omega arith),
+    )
 
--- what is written to a span, and then to the places behind it
-pub write_next : (bytes : List ℕ) (s : Span) (rest xs : List ℕ) → s.len ≤ length xs → s.address + s.len ≤ length bytes
-    → written_at (with_bytes bytes s.address (take s.len xs)) rest (drop s.len xs) ≡ written_at bytes (span_places s ++ rest) xs
+pub write_left : (bytes : List ℕ) (spans : List Span) (i at : ℕ) (source : List ℕ) → LieIn (length bytes) spans → i < length spans
+    → at + length (places (drop i spans)) ≡ length source
+    → written_at bytes (places (drop i spans)) (drop at source)
+    ≡ written_at (with_bytes bytes (get_or spans i none).address (take (get_or spans i none).len (drop at source)))
+    (places (drop (i + 1) spans)) (drop (at + (get_or spans i none).len) source)
 unfolding span_places
-write_next bytes s rest xs few inside =
-    ap (λ b. written_at b rest (drop s.len xs)) (sym (written_range bytes s.address s.len xs few inside))
-    ∙ sym (written_at-append bytes (span_places s) rest (take s.len xs) (drop s.len xs)
-    (length-span_places s ∙ sym (length-take-le s.len xs few)))
-    ∙ ap (λ l. written_at bytes (span_places s ++ rest) l) (take-append-drop s.len xs)
+write_left bytes spans i at source inside below all =
+    let s = get_or spans i none in
+    let xs = drop at source in
+    let few : s.len ≤ length xs = omega (arith, length-drop at source, count_left spans i below) in
+    let same = length-span_places s ∙ sym (length-take-le s.len xs few) in
+    let range = written_range bytes s.address s.len xs few (next_inside _ spans i inside below) in
+    let behind = written_at-append bytes (span_places s) (places (drop (i + 1) spans)) (take s.len xs) (drop s.len xs) same in
+    cc (places_left spans i below, take-append-drop s.len xs, drop-drop s.len at source)
+
+pub written_none : (bytes source : List ℕ) → written_at bytes [] source ≡ bytes
+unfolding written_at
+written_none bytes source = refl
+
+pub ruleset lefts = (count_left, none_left, next_inside, read_left, read_none, write_left, written_none, length-bytes_at, length-take, length-drop, take_all, take-put_mid, append-nil, append_assoc)

@@ -1,18 +1,31 @@
 -- A single entry's fault, and which fault of a transfer is the first.
-use Rattle.std.proofs.Common.{◌≡◌, ◌∙◌, ℕ, ◌+◌, ◌-◌, ◌*◌, ◌/◌, ◌%◌, ◌<◌, ◌≤◌, List, None, Some, ap, arith, length, zero, suc, Option, inl, inr, refl}
+use Rattle.std.proofs.Common.{◌==◌, if◌then◌else◌, nat_le, ◌≡◌, ◌∙◌, ℕ, ◌+◌, ◌-◌, ◌*◌, ◌/◌, ◌%◌, ◌<◌, ◌≤◌, List, None, Some, ap, arith, length, zero, suc, inl, inr, refl}
 use Rattle.std.proofs.Math.Nat.{mul-add-mod_self_left, mul-mod_left}
 use Rattle.std.proofs.lemmas.Bool.Decides.{nat_tests}
-use Rattle.std.proofs.lemmas.Bool.{eq-eqb, ne_eqb, cases_lt, le-ltb, lt-ltb}
+use Rattle.std.proofs.lemmas.Bool.{cases_lt, lt-ltb}
 use Rattle.std.proofs.lemmas.Nat.{mod-mul-add}
-use Rattle.nv_host.specs.Pages.{HasPage}
+use Rattle.nv_host.specs.Pages.{HasPage, IsPageSize}
+use Rattle.nv_host.specs.PageLaws.{page_size_bounds}
 use Rattle.nv_prp.specs.Transfer.{entry_fault, IsLegal, Transfer, data_pages, fault_after_prp1, first_fault, first_qword_fault, list_qwords, prp1_fault, prp2_fault, qword_fault, qwords, room}
 use Rattle.std.specs.Option.{option_or}
 use Rattle.nv_prp.specs.declared.error.PrpError.{PrpError}
+use Rattle.nv_prp.specs.declared.error.PrpError.TheVariants.{Offset, Outside}
 
--- the page of an entry lies in a memory of whole pages where the entry does
-pub page_inside : (pages page_size size entry : ℕ) → pages * page_size ≡ size → 0 < page_size → entry < size
-    → entry - entry % page_size + page_size ≤ size
-page_inside pages page_size size entry whole some inside = grind (arith, nat_tests)
+-- an entry that lies in a memory of whole pages has its page there
+pub entry_inside : (pages page_size size alignment entry : ℕ) → pages * page_size ≡ size → IsPageSize page_size → entry < size
+    → entry % alignment ≡ 0 → entry_fault page_size size alignment entry ≡ None
+unfolding entry_fault
+entry_inside pages page_size size alignment entry whole is inside even =
+    let bounds = page_size_bounds page_size is in
+    let page : entry - entry % page_size + page_size ≤ size = grind (arith, nat_tests) in
+    grind (arith, nat_tests)
+
+pub fault_is : (page_size size alignment entry : ℕ) → entry_fault page_size size alignment entry
+    ≡ (if entry % alignment == 0 then (if nat_le (entry - entry % page_size + page_size) size then None else Some Outside) else Some Offset)
+unfolding entry_fault
+fault_is page_size size alignment entry = refl
+
+pub ruleset entries = (entry_inside, fault_is, page_size_bounds)
 
 -- what an entry without a fault is
 pub from_no_fault : (page_size size alignment entry : ℕ) → entry_fault page_size size alignment entry ≡ None
@@ -29,26 +42,17 @@ multiple_stays page size x k whole =
     let turned : page * (k * q) ≡ k * (page * q) = grind arith in
     ap (λ n. (n + x) % k) (ap (λ p. page * p) whole ∙ turned) ∙ mul-add-mod_self_left k (page * q) x
 
-pub no_fault_at : (bytes : List ℕ) (page size x alignment : ℕ) → x < size → HasPage bytes size page
-    → (page * size + x) % alignment ≡ 0 → entry_fault size (length bytes) alignment (page * size + x) ≡ None
+pub no_fault_at : (bytes : List ℕ) (page size x alignment entry : ℕ) → entry ≡ page * size + x → x < size → HasPage bytes size page
+    → entry % alignment ≡ 0 → entry_fault size (length bytes) alignment entry ≡ None
 unfolding entry_fault
-no_fault_at bytes page size x alignment below has even =
-    let rest : (page * size + x) % size ≡ x = mod-mul-add page size x below in
+no_fault_at bytes page size x alignment entry is below has even =
+    let rest : entry % size ≡ x = ap (λ n. n % size) is ∙ mod-mul-add page size x below in
     grind (arith, nat_tests)
 
-pub no_fault_of_page : (bytes : List ℕ) (page size : ℕ) → 0 < size → HasPage bytes size page → entry_fault size (length bytes) size (page * size) ≡ None
-unfolding entry_fault
-no_fault_of_page bytes page size some has =
-    let rest : (page * size) % size ≡ 0 = mul-mod_left page size in
-    grind (arith, nat_tests)
-
-or_none : (a b : Option PrpError) → option_or a b ≡ None → (a ≡ None) × (b ≡ None)
-or_none None b h = (refl, h)
-or_none (Some e) b h = absurd (cc)
-
-or_with_none : (a : Option PrpError) → option_or a None ≡ a
-or_with_none None = refl
-or_with_none (Some e) = refl
+pub no_fault_of_page : (bytes : List ℕ) (page size entry : ℕ) → entry ≡ page * size → 0 < size → HasPage bytes size page
+    → entry_fault size (length bytes) size entry ≡ None
+no_fault_of_page bytes page size entry is some has =
+    no_fault_at bytes page size 0 size entry (omega arith) some has (ap (λ n. n % size) is ∙ mul-mod_left page size)
 
 -- ---- a list's Qwords
 
@@ -56,10 +60,9 @@ or_with_none (Some e) = refl
 pub each_none : (t : Transfer) (n : ℕ) → first_qword_fault t n ≡ None → (k : ℕ) → k < n → qword_fault t k ≡ None
 each_none t zero none k below = absurd (omega arith)
 each_none t (suc n) none k below =
-    let parts = or_none (first_qword_fault t n) (qword_fault t n) none in
     elim (cases_lt k n) [
-      | inl before ↦ each_none t n parts.0 k before
-      | inr last ↦ let is : k ≡ n = omega arith in ap (λ i. qword_fault t i) is ∙ parts.1
+      | inl before ↦ each_none t n (grind (arith, nat_tests)) k before
+      | inr last ↦ let is : k ≡ n = omega arith in grind (arith, nat_tests)
     ]
 
 no_qword_fault : (t : Transfer) (n : ℕ) → ((k : ℕ) → k < n → qword_fault t k ≡ None) → first_qword_fault t n ≡ None
@@ -84,36 +87,29 @@ fault_stays t e m (suc n) le h =
 pub legal_from_none : (t : Transfer) → first_fault t ≡ None → IsLegal t
 unfolding first_fault
 legal_from_none t none =
-    let first = or_none (prp1_fault t) (fault_after_prp1 t) none in
-    let rest = or_none (prp2_fault t) (first_qword_fault t (qwords t)) first.1 in
-    record { prp1 = first.0; prp2 = rest.0; list = each_none t (qwords t) rest.1 }
+    record { prp1 = grind (arith, nat_tests); prp2 = grind (arith, nat_tests); list = each_none t (qwords t) (grind (arith, nat_tests)) }
 
 pub none_from_legal : (t : Transfer) → IsLegal t → first_fault t ≡ None
 unfolding first_fault
 none_from_legal t legal = rw (legal.prp1, legal.prp2) (no_qword_fault t (qwords t) legal.list)
 
-pub fault_at_prp1 : (t : Transfer) (e : PrpError) → prp1_fault t ≡ Some e → first_fault t ≡ Some e
+pub first_is : (t : Transfer) → first_fault t ≡ option_or (prp1_fault t) (fault_after_prp1 t)
 unfolding first_fault
-fault_at_prp1 t e h = rw h
-
-pub fault_past_prp1 : (t : Transfer) → prp1_fault t ≡ None → first_fault t ≡ fault_after_prp1 t
-unfolding first_fault
-fault_past_prp1 t h = rw h
+first_is t = refl
 
 -- of one data page, of two, and of more
 
 pub fault_of_one : (t : Transfer) → data_pages t ≡ 1 → fault_after_prp1 t ≡ None
 unfolding prp2_fault qwords
-fault_of_one t one = rw (le-ltb 2 (data_pages t) (omega arith), ne_eqb (data_pages t) 2 (λ two. omega arith))
+fault_of_one t one = grind (arith, nat_tests)
 
 pub fault_of_two : (t : Transfer) → data_pages t ≡ 2 → fault_after_prp1 t ≡ entry_fault t.page_size (length t.bytes) t.page_size t.prp2
 unfolding prp2_fault qwords
-fault_of_two t two = rw (le-ltb 2 (data_pages t) (omega arith), eq-eqb (data_pages t) 2 two) (or_with_none _)
+fault_of_two t two = grind (arith, nat_tests)
 
 pub fault_of_list : (t : Transfer) → 2 < data_pages t → fault_after_prp1 t
     ≡ option_or (entry_fault t.page_size (length t.bytes) 8 t.prp2) (first_qword_fault t (list_qwords (room t) (data_pages t)))
 unfolding prp2_fault qwords
 fault_of_list t many = rw (lt-ltb 2 (data_pages t) many)
 
-pub fault_at_prp2 : (t : Transfer) (e : PrpError) → 2 < data_pages t → entry_fault t.page_size (length t.bytes) 8 t.prp2 ≡ Some e → fault_after_prp1 t ≡ Some e
-fault_at_prp2 t e many h = fault_of_list t many ∙ ap (λ o. option_or o (first_qword_fault t (list_qwords (room t) (data_pages t)))) h
+pub ruleset faults = (first_is, fault_of_one, fault_of_two, fault_of_list)

@@ -1,5 +1,5 @@
 -- The Qwords of a list, by their numbers.
-use Rattle.std.proofs.Common.{◌≡◌, ◌∙◌, ℕ, zero, suc, ◌+◌, ◌-◌, ◌*◌, ◌/◌, ◌%◌, ◌<◌, ◌≤◌, None, Some, ap, arith, length, refl}
+use Rattle.std.proofs.Common.{◌≡◌, ◌∙◌, ℕ, zero, suc, ◌+◌, ◌-◌, ◌*◌, ◌/◌, ◌%◌, ◌<◌, ◌≤◌, None, Some, ap, arith, length}
 use Rattle.std.specs.Option.{option_or}
 use Rattle.std.proofs.lemmas.Bool.{lt-ltb}
 use Rattle.std.proofs.lemmas.Bool.Decides.{nat_tests}
@@ -10,7 +10,7 @@ use Rattle.nv_prp.specs.ListWalk.{Comes, IsList, Turn, cursor_of, used_of}
 use Rattle.nv_prp.specs.Transfer.{Transfer, data_pages, entry_fault, fault_after_prp1, first_qword_fault, list_place, list_qwords, naming_number, naming_qword, page_base, qword, qword_fault, qword_place, room, second_page}
 use Rattle.nv_prp.specs.declared.error.PrpError.{PrpError}
 use Rattle.nv_prp.proofs.FaultLaws.{from_no_fault, each_none, fault_of_list, fault_stays, next_fault}
-use Rattle.nv_prp.proofs.PageLaws.{at_most_257}
+use Rattle.nv_prp.proofs.PageLaws.{spans}
 
 -- ---- how many Qwords there are up to the page's end
 
@@ -25,28 +25,29 @@ qwords_stay x size is even =
     let same : x / size * size ≡ x / size * (8 * q) = ap (λ p. x / size * p) whole in
     omega arith
 
-pub whole_room : (x size space : ℕ) → IsPageSize size → x % 8 ≡ 0 → space ≡ (size - x % size) / 8 → (0 < space) × (x + 8 * space ≡ x - x % size + size)
-whole_room x size space is even e =
+pub whole_room : (x size : ℕ) → IsPageSize size → x % 8 ≡ 0 → x + 8 * ((size - x % size) / 8) ≡ x - x % size + size
+whole_room x size is even =
     let whole = page_size_in_qwords size is in
     let bounds = page_size_bounds size is in
     let stays = qwords_stay x size is even in
     let below : x % size < size = omega (arith, bounds) in
-    (omega arith, omega arith)
+    omega arith
 
 -- ---- a walk over the list
 
-pub is_list : (t : Transfer) → 2 < data_pages t → IsPageSize t.page_size → t.len ≤ 1048576
+pub is_list : (t : Transfer) → 2 < data_pages t → IsPageSize t.page_size → data_pages t ≤ 257
     → entry_fault t.page_size (length t.bytes) 8 t.prp2 ≡ None → IsList t
-is_list t many size limit none =
+is_list t many size few none =
     let entry = from_no_fault t.page_size (length t.bytes) 8 t.prp2 none in
-    let space = whole_room t.prp2 t.page_size (room t) size entry.0 refl in
+    let bounds = page_size_bounds t.page_size size in
+    let space = whole_room t.prp2 t.page_size size entry.0 in
     record {
       many = many;
-      few = at_most_257 t size limit;
+      few = few;
       size = size;
-      some = space.0;
+      some = omega arith;
       prp2 = none;
-      inside = omega (arith, entry.1, space.1);
+      inside = omega (arith, entry.1);
     }
 
 -- the faults of all Qwords are those of the list
@@ -116,3 +117,7 @@ turn_behind t j at entry list comes last more is none =
     let link = chain t j at comes last more in
     turn t j entry list comes.later (grind (arith, nat_tests)) (grind (arith, nat_tests)) (grind (arith, nat_tests))
     (omega (arith, is, in_page t (qword t.bytes at) 0 list (omega arith) none))
+
+pub ruleset list_steps = (fault_of_list, list_fault, spans)
+
+pub ruleset rooms = (whole_room, page_size_bounds)

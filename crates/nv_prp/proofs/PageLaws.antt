@@ -1,14 +1,15 @@
 -- Data pages by their numbers.
 use Rattle.std.proofs.lemmas.Bool.Decides.{nat_tests}
-use Rattle.std.proofs.Common.{◌≡◌, ◌∙◌, ℕ, zero, suc, ◌+◌, ◌-◌, ◌*◌, ◌/◌, ◌%◌, ◌<◌, ◌≤◌, List, ◌++◌, ◌∷◌, [], append-nil, ap, arith, refl, sym}
-use Rattle.std.proofs.Math.Nat.{mul-le-mul_right}
+use Rattle.std.proofs.Common.{◌≡◌, ◌∙◌, ℕ, zero, suc, ◌+◌, ◌-◌, ◌*◌, ◌<◌, ◌≤◌, ◌++◌, ◌∷◌, [], append-nil, ap, arith, length, refl, sym}
+use Rattle.std.specs.Int.{div_ceil}
+use Rattle.std.proofs.Math.Nat.{mul-le-mul, mul-le-mul_right}
 use Rattle.std.proofs.lemmas.Bool.{le-ltb}
 use Rattle.std.proofs.lemmas.Grind.{div_ceil_times, flat_map-append}
 use Rattle.std.proofs.lemmas.Nat.{div-mul-add, mod-mul-add}
 use Rattle.nv_host.specs.Pages.{IsPageSize}
 use Rattle.nv_host.specs.PageLaws.{page_size_bounds}
 use Rattle.nv_prp.specs.Place.{places, span_places, table}
-use Rattle.nv_prp.specs.PlaceLaws.{table-append, table-more, table-same}
+use Rattle.nv_prp.specs.PlaceLaws.{length-table, table-append, table-more, table-same}
 use Rattle.nv_prp.specs.declared.spans.Span.{Span}
 use Rattle.nv_prp.specs.Transfer.{Transfer, data_pages, first_byte, offset, page_base, place_of, span_of, spans_of, transfer_places}
 
@@ -24,11 +25,13 @@ page_begins t j some below = grind (arith, nat_tests)
 pub at_least_one : (t : Transfer) → 0 < t.page_size → 0 < t.len → 0 < data_pages t
 at_least_one t some bytes = let span = pages_span t some in grind arith
 
-pub at_most_257 : (t : Transfer) → IsPageSize t.page_size → t.len ≤ 1048576 → data_pages t ≤ 257
-at_most_257 t size limit =
-    let bounds = page_size_bounds t.page_size size in
-    let span = pages_span t (omega (arith, bounds)) in
+pub at_most_257 : (rest len size : ℕ) → IsPageSize size → rest < size → len ≤ 1048576 → div_ceil (rest + len) size ≤ 257
+at_most_257 rest len size is below limit =
+    let bounds = page_size_bounds size is in
+    let span = div_ceil_times (rest + len) size (omega arith) in
     grind arith
+
+pub ruleset page_counts = (at_most_257, page_size_bounds)
 
 -- the place of a byte of page j
 place_in_page : (t : Transfer) (j x : ℕ) → j * t.page_size ≤ offset t + x → offset t + x < j * t.page_size + t.page_size
@@ -37,11 +40,13 @@ unfolding place_of
 place_in_page t j x low high =
     let rest = offset t + x - j * t.page_size in
     let is : offset t + x ≡ j * t.page_size + rest = omega arith in
-    ap (λ n. page_base t (n / t.page_size) + n % t.page_size) is
-    ∙ ap (λ n. page_base t n + (j * t.page_size + rest) % t.page_size) (div-mul-add j t.page_size rest (omega arith))
-    ∙ ap (λ n. page_base t j + n) (mod-mul-add j t.page_size rest (omega arith))
+    cc (div-mul-add j t.page_size rest (omega arith), mod-mul-add j t.page_size rest (omega arith))
 
-next_page : (j size : ℕ) → (j + 1) * size ≡ j * size + size
+-- a bound on the address of page j
+pub page_times : (j size : ℕ) → IsPageSize size → j * size ≤ j * 65536
+page_times j size is = mul-le-mul (omega arith) (page_size_bounds size is).1
+
+pub next_page : (j size : ℕ) → (j + 1) * size ≡ j * size + size
 next_page j size = grind arith
 
 pub first_bytes_rise : (t : Transfer) (j : ℕ) → first_byte t j ≤ first_byte t (j + 1)
@@ -67,28 +72,26 @@ span_with : (t : Transfer) (j address : ℕ) → place_of t (first_byte t j) ≡
 unfolding span_of
 span_with t j address e = λ i. record { address = e i; len = first_byte t (j + 1) - first_byte t j }
 
-pub first_span : (t : Transfer) → 0 < t.page_size → 0 < t.len
-    → span_of t 0 ≡ record { address = t.prp1; len = first_byte t 1 - first_byte t 0 }
+pub first_span : (t : Transfer) → 0 < t.page_size → 0 < t.len → span_of t 0 ≡ record { address = t.prp1; len = first_byte t 1 - first_byte t 0 }
 unfolding page_base
 first_span t some bytes = span_with t 0 t.prp1 (grind (arith, place_in_page t 0 (first_byte t 0)))
 
-pub later_span : (t : Transfer) (j base : ℕ) → 0 < t.page_size → 0 < j → j < data_pages t → page_base t j ≡ base
-    → span_of t j ≡ record { address = base; len = first_byte t (j + 1) - first_byte t j }
-later_span t j base some later below is =
+pub later_span : (t : Transfer) (j : ℕ) → 0 < t.page_size → 0 < j → j < data_pages t
+    → span_of t j ≡ record { address = page_base t j; len = first_byte t (j + 1) - first_byte t j }
+later_span t j some later below =
     let begins = page_begins t j some below in
     let one : 1 * t.page_size ≤ j * t.page_size = mul-le-mul_right t.page_size (omega arith) in
-    span_with t j base (grind (arith, place_in_page t j (first_byte t j)))
+    span_with t j (page_base t j) (grind (arith, place_in_page t j (first_byte t j)))
 
--- one more span
-pub first_spans : (t : Transfer) (old new : List Span) (s : Span) → 0 < t.page_size → 0 < t.len → old ≡ []
-    → s ≡ record { address = t.prp1; len = first_byte t 1 - first_byte t 0 } → new ≡ old ++ s ∷ [] → new ≡ table 1 (span_of t)
-first_spans t old new s some bytes none is more = more ∙ (λ i. none i ++ (is ∙ sym (first_span t some bytes)) i ∷ [])
+-- a table of one more
+pub table_next : (n : ℕ) (f : ℕ → Span) → table (n + 1) f ≡ table n f ++ f n ∷ []
+table_next n f = table-more n (n + 1) f refl
 
-pub more_spans : (t : Transfer) (j base : ℕ) (old new : List Span) (s : Span) → 0 < t.page_size → 0 < j → j < data_pages t → page_base t j ≡ base
-    → old ≡ table j (span_of t) → s ≡ record { address = base; len = first_byte t (j + 1) - first_byte t j } → new ≡ old ++ s ∷ []
-    → new ≡ table (j + 1) (span_of t)
-more_spans t j base old new s some later below at before is more =
-    more ∙ (λ i. before i ++ (is ∙ sym (later_span t j base some later below at)) i ∷ []) ∙ sym (table-more j (j + 1) (span_of t) refl)
+pub all_spans : (t : Transfer) → spans_of t ≡ table (data_pages t) (span_of t)
+unfolding spans_of
+all_spans t = refl
+
+pub ruleset spans = (first_span, later_span, base_of_two, table_next, all_spans, page_size_bounds)
 
 places_of_span : (t : Transfer) (j : ℕ) → 0 < t.page_size → j < data_pages t
     → span_places (span_of t j) ≡ table (first_byte t (j + 1) - first_byte t j) (λ k. place_of t (first_byte t j + k))
@@ -114,3 +117,7 @@ unfolding spans_of transfer_places
 places_of_spans t some =
     let all : first_byte t (data_pages t) ≡ t.len = omega (arith, pages_span t some) in
     places_of_pages t (data_pages t) some (omega arith) ∙ ap (λ n. table n (place_of t)) all
+
+pub length_transfer_places : (t : Transfer) → length (transfer_places t) ≡ t.len
+unfolding transfer_places
+length_transfer_places t = length-table t.len (place_of t)

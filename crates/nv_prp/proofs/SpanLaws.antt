@@ -1,19 +1,16 @@
 -- The spans of a legal transfer.
-use Rattle.std.proofs.Common.{None, ◌≡◌, ◌∙◌, ℕ, ◌+◌, ◌*◌, ◌<◌, ◌≤◌, ap, arith, inl, inr, length, refl, subst, sym}
+use Rattle.std.proofs.Common.{None, ◌≡◌, ℕ, ◌+◌, ◌<◌, ◌≤◌, arith, inl, inr, length}
 use Rattle.std.proofs.lemmas.Bool.Decides.{nat_tests}
 use Rattle.std.proofs.lemmas.Bool.{cases_lt}
+use Rattle.nv_host.specs.PageLaws.{page_size_bounds}
 use Rattle.nv_prp.specs.Place.{LieIn}
 use Rattle.nv_prp.specs.PlaceLaws.{All-table}
-use Rattle.nv_prp.specs.Transfer.{IsLegal, Transfer, data_pages, entry_fault, list_qwords, naming_number, naming_qword, page_base, prp2_fault, qword_fault, qwords, span_of, spans_of}
-use Rattle.nv_prp.proofs.FaultLaws.{from_no_fault}
+use Rattle.nv_prp.specs.Transfer.{IsLegal, Transfer, data_pages, entry_fault, naming_qword, page_base, prp2_fault, qword_fault, qwords, span_of, spans_of}
+use Rattle.nv_prp.proofs.FaultLaws.{from_no_fault, legal_from_none, none_from_legal}
 use Rattle.nv_prp.proofs.ListLaws.{base_by_list}
-use Rattle.nv_prp.proofs.PageLaws.{base_of_two, first_span, later_span}
+use Rattle.nv_prp.proofs.PageLaws.{base_of_two, first_span, later_span, length_transfer_places, next_page, places_of_spans}
 
--- each data page but the first is named by a Qword that is used
-pub naming_used : (space pages j : ℕ) → 2 < pages → 0 < j → j < pages → naming_number space pages j < list_qwords space pages
-naming_used space pages j many later below = grind (arith, nat_tests)
-
--- and is a page of the memory
+-- a data page but the first is a page of the memory
 later_fault : (t : Transfer) (j : ℕ) → IsLegal t → 0 < j → j < data_pages t → entry_fault t.page_size (length t.bytes) t.page_size (page_base t j) ≡ None
 unfolding qword_fault prp2_fault qwords naming_qword
 later_fault t j legal later below = grind (arith, nat_tests, base_by_list t j, base_of_two t, legal.list (naming_qword t j), legal.prp2)
@@ -25,11 +22,8 @@ spans_lie_in t legal some bytes =
     (λ j below. elim (cases_lt 0 j) [
       | inl later ↦
           let base = from_no_fault t.page_size (length t.bytes) t.page_size (page_base t j) (later_fault t j legal later below) in
-          let next : (j + 1) * t.page_size ≡ j * t.page_size + t.page_size = grind arith in
-          subst (λ s. s.address + s.len ≤ length t.bytes) (sym (later_span t j (page_base t j) some later below refl)) (omega (arith, base.0, base.1))
-      | inr first ↦
-          let is : 0 ≡ j = omega arith in
-          let span = sym (ap (λ n. span_of t n) is) ∙ first_span t some bytes in
-          let inside = from_no_fault t.page_size (length t.bytes) 4 t.prp1 legal.prp1 in
-          subst (λ s. s.address + s.len ≤ length t.bytes) (sym span) (omega (arith, inside.1))
+          grind (arith, next_page j t.page_size, later_span t j some later below)
+      | inr first ↦ grind (arith, first_span t some bytes, from_no_fault t.page_size (length t.bytes) 4 t.prp1 legal.prp1)
     ])
+
+pub ruleset walks = (legal_from_none, none_from_legal, places_of_spans, spans_lie_in, length_transfer_places, page_size_bounds)

@@ -16,20 +16,14 @@ use Rattle.nv_prp.specs.Transfer.{list_place, naming_number, qword}
 
 -- ---- one Qword
 
--- its value is read, and other bytes stay
-pub qword_stored : (old new written : List ℕ) (addr value : ℕ) → addr + 8 ≤ length old → value < 2 ^ 64 → written ≡ to_le_bytes w64 value
-    → new ≡ with_bytes old addr written → (qword new addr ≡ value) × ChangesOnly addr 8 old new
+-- what was written is read
+pub stored_value : (bytes : List ℕ) (addr value : ℕ) → addr + 8 ≤ length bytes → value < 2 ^ 64
+    → qword (with_bytes bytes addr (to_le_bytes w64 value)) addr ≡ value
 unfolding qword
-qword_stored old new written addr value inside fits is stored =
-    let all : new ≡ with_bytes old addr (to_le_bytes w64 value) = stored ∙ ap (λ l. with_bytes old addr l) is in (
-      ap (λ l. from_le_bytes w64 l) (ap (λ l. bytes_at l addr 8) all ∙ bytes_at-with_same old addr 8 (to_le_bytes w64 value) inside refl)
-          ∙ from_le_bytes-to_le_bytes_8 value fits,
-      λ from k apart. ap (λ l. bytes_at l from k) all
-          ∙ elim apart [
-            | inl before ↦ bytes_at-with_before old addr (to_le_bytes w64 value) from k before inside
-            | inr after ↦ bytes_at-with_after old addr (to_le_bytes w64 value) from k after inside
-          ],
-    )
+stored_value bytes addr value inside fits =
+    ap (λ l. from_le_bytes w64 l) (bytes_at-with_same bytes addr 8 (to_le_bytes w64 value) inside refl) ∙ from_le_bytes-to_le_bytes_8 value fits
+
+pub ruleset stores = (stored_value, bytes_at-with_before, bytes_at-with_after)
 
 qword_kept : (addr n other : ℕ) (old new : List ℕ) → ChangesOnly addr n old new → IsApart addr n other 8 → qword new other ≡ qword old other
 unfolding qword
@@ -55,21 +49,21 @@ pages_apart size a b other =
     ]
 
 -- a list's address is a multiple of 8
-pub list_even : (bytes : List ℕ) (size first second offset start : ℕ) → IsPageSize size → IsListPlace bytes size first second offset
-    → start ≡ first * size + offset → start % 8 ≡ 0
-list_even bytes size first second offset start is place at =
-    ap (λ n. n % 8) at ∙ multiple_stays first size offset 8 (page_size_in_qwords size is) ∙ place.aligned
+pub list_even : (bytes : List ℕ) (size first second offset : ℕ) → IsPageSize size → IsListPlace bytes size first second offset
+    → (first * size + offset) % 8 ≡ 0
+list_even bytes size first second offset is place = multiple_stays first size offset 8 (page_size_in_qwords size is) ∙ place.aligned
 
 pub lies_at : (bytes : List ℕ) (size first second offset start space : ℕ) → IsPageSize size → IsListPlace bytes size first second offset
     → first ≢ second → start ≡ first * size + offset → space ≡ (size - start % size) / 8 → Lies size space start (first * size) (second * size)
 lies_at bytes size first second offset start space is place other at room =
     let rest : start % size ≡ offset = ap (λ n. n % size) at ∙ mod-mul-add first size offset place.below in
-    let ends = whole_room start size space is (list_even bytes size first second offset start is place at) room in
+    let bounds = page_size_bounds size is in
+    let ends = whole_room start size is (ap (λ n. n % 8) at ∙ list_even bytes size first second offset is place) in
     record {
       low = omega arith;
-      whole = omega (arith, ends.1, rest);
-      some = ends.0;
-      large = (page_size_bounds size is).0;
+      whole = omega arith;
+      some = omega arith;
+      large = bounds.0;
       apart = pages_apart size first second other;
     }
 
@@ -77,21 +71,18 @@ lies_at bytes size first second offset start space is place other at room =
 abbrev pub IsWithin : ℕ → ℕ → ℕ → ℕ → ℕ → Type 0
 IsWithin size first second addr n = ((first ≤ addr) × (addr + n ≤ first + size)) ⊎ ((second ≤ addr) × (addr + n ≤ second + size))
 
-pub within_memory : (bytes : List ℕ) (size first second offset addr n : ℕ) → IsListPlace bytes size first second offset
-    → IsWithin size (first * size) (second * size) addr n → addr + n ≤ length bytes
-within_memory bytes size first second offset addr n place within = grind (arith, place.has_first, place.has_second)
-
 -- the Qword that names data page j
 abbrev pub naming_place : ℕ → ℕ → ℕ → ℕ → ℕ → ℕ
 naming_place space start second count j = list_place space start second (naming_number space count j)
 
-pub place_within : (size space start first second count j : ℕ) → Lies size space start first second → count ≤ 257 → 0 < j → j < count
-    → IsWithin size first second (naming_place space start second count j) 8
-place_within size space start first second count j lies few later below = grind (arith, nat_tests)
+pub place_within : (size space start first second count j behind at : ℕ) → Lies size space start first second → count ≤ 257
+    → 0 < j → j < count → behind ≡ second → at ≡ naming_place space start behind count j → IsWithin size first second at 8
+place_within size space start first second count j behind at lies few later below same is = grind (arith, nat_tests)
 
 -- and so does the last one of the first page
-pub chain_within : (size space start first second : ℕ) → Lies size space start first second → IsWithin size first second (start + 8 * (space - 1)) 8
-chain_within size space start first second lies = inl (omega (arith, lies.low), omega (arith, lies.whole, lies.some))
+pub chain_within : (size space start first second at : ℕ) → Lies size space start first second → at ≡ start + 8 * (space - 1)
+    → IsWithin size first second at 8
+chain_within size space start first second at lies is = inl (omega arith, omega arith)
 
 -- ---- a list that is written
 
@@ -99,25 +90,25 @@ chain_within size space start first second lies = inl (omega (arith, lies.low), 
 abbrev pub HasNamed : List ℕ → ℕ → ℕ → ℕ → ℕ → List ℕ → ℕ → ℕ → Type 0
 HasNamed bytes size space start second pages count n = (j : ℕ) → 0 < j → j < n → qword bytes (naming_place space start second count j) ≡ get_or pages j 0 * size
 
-pub one_named : (old new : List ℕ) (size space start first second : ℕ) (pages : List ℕ) (count j at : ℕ) → Lies size space start first second
-    → count ≤ 257 → 0 < j → j < count → at ≡ naming_place space start second count j → HasNamed old size space start second pages count j
+pub one_named : (old new : List ℕ) (size space start first second : ℕ) (pages : List ℕ) (count j behind at : ℕ) → Lies size space start first second
+    → count ≤ 257 → 0 < j → j < count → behind ≡ second → at ≡ naming_place space start behind count j
+    → HasNamed old size space start second pages count j
     → qword new at ≡ get_or pages j 0 * size → ChangesOnly at 8 old new → HasNamed new size space start second pages count (j + 1)
-one_named old new size space start first second pages count j at lies few later below is named here others k after before =
+one_named old new size space start first second pages count j behind at lies few later below second_is at_is named here others k after before =
+    let is : at ≡ naming_place space start second count j = cc in
     elim (cases_lt k j) [
       | inl less ↦ qword_kept at 8 (naming_place space start second count k) old new others (grind (arith, nat_tests)) ∙ named k after less
-      | inr last ↦
-          let same : k ≡ j = omega arith in
-          ap (λ i. qword new (naming_place space start second count i)) same ∙ ap (λ a. qword new a) (sym is) ∙ here ∙ ap (λ i. get_or pages i 0 * size) (sym same)
+      | inr last ↦ let same : k ≡ j = omega arith in cc
     ]
 
-pub chain_names : (old new : List ℕ) (size space start first second : ℕ) (pages : List ℕ) (count at : ℕ) → Lies size space start first second
-    → count ≤ 257 → space + 1 < count → at ≡ start + 8 * (space - 1) → HasNamed old size space start second pages count count
+pub chain_names : (old new : List ℕ) (size space start first second : ℕ) (pages : List ℕ) (count n at : ℕ) → Lies size space start first second
+    → count ≤ 257 → space + 1 < count → at ≡ start + 8 * (space - 1) → count ≤ n → HasNamed old size space start second pages count n
     → qword new at ≡ second → ChangesOnly at 8 old new → NamesPages new size space start second pages count
-chain_names old new size space start first second pages count at lies few chained is named here others = record {
+chain_names old new size space start first second pages count n at lies few chained is all named here others = record {
   chain = λ _. ap (λ a. qword new a) (sym is) ∙ here;
   each = λ j later below.
       qword_kept at 8 (naming_place space start second count j) old new others (grind (arith, nat_tests))
-      ∙ named j later below;
+      ∙ named j later (omega arith);
 }
 
 -- bytes outside of the pages stay, where only bytes in them change

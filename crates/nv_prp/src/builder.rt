@@ -79,6 +79,7 @@ pub fn build<M: HostMemory>(mem: &mut M, buffer: &Buffer, list: &ListPlace, len:
 
 /// Writes the addresses of a buffer's data pages but the first, and that of the second list page
 /// where there is one. The result is the list's address.
+#[tactic(auto, using(crate::proofs::WriteLaws::list_even))]
 fn write_list<M: HostMemory>(mem: &mut M, pages: &[PageNo], list: &ListPlace, count: u32) -> u64
     requires few { count ≤ 257 }
     requires many { 2 < count }

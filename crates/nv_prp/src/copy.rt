@@ -1,12 +1,33 @@
-//! Bytes copied between a transfer's spans and a slice, in the order of the transfer. As in the
+//! Bytes copied between a transfer's spans and a slice or a payload, in the order of the transfer. As in the
 //! commands, "out" and "in" are meant from the controller's side.
 
-ghost use Rattle.std.specs.Prelude.{◌≡◌, length};
+ghost use Rattle.std.specs.Prelude.{◌≡◌, ◌<◌, ◌^◌, length};
 ghost use Rattle.nv_prp.specs.Place.{LieIn, places, read_at, written_at};
 
-use crate::Spans;
 use crate::range::{read_range, write_range};
+use crate::{Payload, Spans};
 use nv_host::HostMemory;
+
+/// Data from the controller to the host: writes a payload's bytes to the memory's spans, span by
+/// span. Of two bytes for one place the later one stays.
+///
+/// The spans lie in the memory, and have as many bytes as the payload.
+#[tactic(auto, using(crate::proofs::CopyLaws::lefts))]
+pub fn write_out<M: HostMemory, P: Payload>(mem: &mut M, spans: &Spans, payload: &P)
+    requires inside { LieIn (length (M.bytes mem.old)) spans.now }
+    requires len { length (places spans.now) ≡ length (P.bytes payload.now) }
+    requires limit { length (P.bytes payload.now) < 2 ^ 64 }
+    ensures bytes { M.bytes mem.new
+        ≡ written_at (M.bytes mem.old) (places spans.now) (P.bytes payload.now) }
+    ensures len { length (M.bytes mem.new) ≡ length (M.bytes mem.old) }
+    ensures page { M.page_len mem.new ≡ M.page_len mem.old }
+{
+    let mut at = 0;
+    for span in spans.as_slice() {
+        write_range(mem, span.address, payload, at, span.len as usize);
+        at += span.len as usize;
+    }
+}
 
 /// Data from the controller to the host: writes the source's bytes to the memory's spans. Of two
 /// bytes for one place the later one stays.
@@ -19,17 +40,13 @@ pub fn copy_out<M: HostMemory>(mem: &mut M, spans: &Spans, source: &[u8])
     ensures len { length (M.bytes mem.new) ≡ length (M.bytes mem.old) }
     ensures page { M.page_len mem.new ≡ M.page_len mem.old }
 {
-    let mut at = 0;
-    for span in spans.as_slice() {
-        let end = at + span.len as usize;
-        write_range(mem, span.address, &source[at..end]);
-        at = end;
-    }
+    write_out(mem, spans, &source);
 }
 
 /// Data from the host to the controller: reads the bytes of the memory's spans into `out`.
 ///
 /// The spans lie in the memory, and have as many bytes as `out`.
+#[tactic(auto, using(crate::proofs::CopyLaws::lefts))]
 pub fn copy_in<M: HostMemory>(mem: &M, spans: &Spans, out: &mut [u8])
     requires inside { LieIn (length (M.bytes mem.now)) spans.now }
     requires len { length (places spans.now) ≡ length out.old }

@@ -1,6 +1,6 @@
 //! Single entries of a transfer.
 
-ghost use Rattle.std.specs.Prelude.{◌≡◌, ◌+◌, ◌<◌, ◌≤◌, ◌^◌, IfOk, OnOk, length};
+ghost use Rattle.std.specs.Prelude.{◌≡◌, ◌%◌, ◌+◌, ◌<◌, ◌≤◌, ◌^◌, IfOk, OnOk, length};
 ghost use Rattle.nv_host.specs.Pages.{IsPageSize};
 ghost use Rattle.nv_prp.specs.Buffer.{ChangesOnly};
 ghost use Rattle.nv_prp.specs.Transfer.{HasFault, entry_fault, qword};
@@ -9,11 +9,13 @@ use crate::PrpError;
 use nv_host::{HostMemory, load_inside, size_of_memory, store_inside};
 
 /// Whether an entry is a multiple of its alignment and its page lies in the memory.
+#[tactic(auto, using(crate::proofs::FaultLaws::entries))]
 pub(crate) fn check<M: HostMemory>(mem: &M, alignment: u32, entry: u64) -> Result<(), PrpError>
     requires { 0 < alignment }
     ensures fault { let fault = entry_fault (M.page_len mem.now) (length
         (M.bytes mem.now)) alignment entry in
         HasFault result fault }
+    ensures multiple { OnOk result (entry % alignment ≡ 0) }
     ensures fits { OnOk result (length (M.bytes mem.now) < 2 ^ 64) }
     ensures size { OnOk result (IsPageSize (M.page_len mem.now)) }
 {
@@ -62,6 +64,7 @@ fn load_qword<M: HostMemory>(mem: &M, addr: u64) -> u64
 }
 
 /// Writes a Qword to an address.
+#[tactic(auto, using(crate::proofs::WriteLaws::stores))]
 pub(crate) fn store_qword<M: HostMemory>(mem: &mut M, addr: u64, value: u64)
     requires { addr + 8 ≤ length (M.bytes mem.old) }
     ensures value { qword (M.bytes mem.new) addr ≡ value }

@@ -4,7 +4,7 @@
 //! The host calls [`build`] for the pages of a buffer and puts the two entries that it answers into
 //! a command. The controller calls [`walk`] with these entries and finds the spans of memory that
 //! they describe; with [`copy_out`] it writes data to the host's memory, and with [`copy_in`] it
-//! reads data from there.
+//! reads data from there. [`write_out`] writes a [`Payload`], whose bytes needn't stand anywhere.
 //!
 //! ```text
 //! let buffer = Buffer { pages: &[5, 9, 3], offset: 4 };
@@ -28,14 +28,16 @@ mod entry;
 mod error;
 mod law;
 mod list_shape;
+mod payload;
 mod pointer;
 mod range;
 mod spans;
 mod walker;
 
 pub use builder::{Buffer, ListPlace, build};
-pub use copy::{copy_in, copy_out};
+pub use copy::{copy_in, copy_out, write_out};
 pub use error::PrpError;
 pub use law::{build_then_walk, copy_out_then_in, written_one_by_one};
+pub use payload::Payload;
 pub use spans::{Span, Spans};
 pub use walker::walk;

@@ -28,7 +28,7 @@ pub(crate) fn offset_in_page<M: HostMemory>(mem: &M, addr: u64) -> u32
 }
 
 /// How many Qwords there are from an address, a multiple of 8, to the end of its page.
-#[tactic(auto, using(nv_host::specs::PageLaws::page_size_bounds))]
+#[tactic(auto, using(crate::proofs::ListLaws::rooms))]
 pub(crate) fn qwords_in_page<M: HostMemory>(mem: &M, addr: u64) -> u32
     requires { addr % 8 ≡ 0 }
     ensures value { result ≡ (M.page_len mem.now - addr % M.page_len mem.now) / 8 }
@@ -39,6 +39,7 @@ pub(crate) fn qwords_in_page<M: HostMemory>(mem: &M, addr: u64) -> u32
 }
 
 /// The address of a page.
+#[tactic(auto, using(crate::proofs::PageLaws::page_times))]
 pub(crate) fn page_address<M: HostMemory>(mem: &M, page: PageNo) -> u64
     ensures value { result ≡ page * M.page_len mem.now }
     ensures small { result ≤ 2 ^ 48 }
@@ -49,17 +50,19 @@ pub(crate) fn page_address<M: HostMemory>(mem: &M, page: PageNo) -> u64
 
 impl DataPointer {
     /// In how many pages the bytes lie.
-    #[tactic(auto, using(nv_host::specs::PageLaws::page_size_bounds))]
+    #[tactic(auto, using(crate::proofs::PageLaws::page_counts))]
     pub(crate) fn data_pages<M: HostMemory>(self, mem: &M) -> u32
         requires { self.len ≤ 1048576 }
-        ensures { result ≡ div_ceil (self.prp1 % M.page_len mem.now + self.len)
+        ensures value { result ≡ div_ceil (self.prp1 % M.page_len mem.now + self.len)
             (M.page_len mem.now) }
+        ensures few { result ≤ 257 }
     {
         let page_size = mem.page_size();
         (offset_in_page(mem, self.prp1) + self.len).div_ceil(page_size)
     }
 
     /// The number of a data page's first byte, or of all bytes where there is no such page.
+    #[tactic(auto, using(crate::proofs::PageLaws::page_times))]
     fn first_byte<M: HostMemory>(self, mem: &M, page: u32) -> u32
         requires { page ≤ 257 }
         ensures { result ≡ first_byte (transfer_of (M.page_len mem.now)

@@ -1,9 +1,10 @@
 //! Ranges of the memory, read and written a page at a time.
 
-ghost use Rattle.std.specs.Prelude.{◌≡◌, ◌+◌, ◌*◌, ◌<◌, ◌≤◌, ◌^◌, length};
+ghost use Rattle.std.specs.Prelude.{◌≡◌, ◌+◌, ◌*◌, ◌<◌, ◌≤◌, ◌^◌, drop, length, take};
 ghost use Rattle.nv_host.specs.Bytes.{bytes_at, with_bytes};
 ghost use Rattle.nv_host.specs.Pages.{HasPage};
 
+use crate::payload::Payload;
 use nv_host::{HostMemory, PageNo};
 use std::cmp::min;
 
@@ -40,6 +41,7 @@ fn first_part<M: HostMemory>(mem: &M, addr: u64, len: usize) -> Part
 }
 
 /// Reads the bytes from an address on, a page at a time.
+#[tactic(auto, using(crate::proofs::CopyLaws::reads))]
 pub(crate) fn read_range<M: HostMemory>(mem: &M, addr: u64, out: &mut [u8])
     requires { addr + length out.old ≤ length (M.bytes mem.now) }
     ensures { out.new ≡ bytes_at (M.bytes mem.now) addr (length out.old) }
@@ -55,20 +57,44 @@ pub(crate) fn read_range<M: HostMemory>(mem: &M, addr: u64, out: &mut [u8])
     }
 }
 
-/// Writes the bytes from an address on, a page at a time.
-pub(crate) fn write_range<M: HostMemory>(mem: &mut M, addr: u64, source: &[u8])
-    requires { addr + length source.now ≤ length (M.bytes mem.old) }
-    ensures bytes { M.bytes mem.new ≡ with_bytes (M.bytes mem.old) addr source.now }
+/// Writes the bytes of a payload from a place on to a part of a page.
+#[tactic(auto, using(crate::proofs::CopyLaws::parts))]
+fn write_part<M: HostMemory, P: Payload>(mem: &mut M, part: Part, payload: &P, from: usize)
+    requires page { HasPage (M.bytes mem.old) (M.page_len mem.old) part.page }
+    requires within { part.start + part.len ≤ M.page_len mem.old }
+    requires has { from + part.len ≤ length (P.bytes payload.now) }
+    ensures bytes { M.bytes mem.new ≡ with_bytes (M.bytes mem.old)
+        (part.page * M.page_len mem.old + part.start)
+        (take part.len (drop from (P.bytes payload.now))) }
+    ensures len { length (M.bytes mem.new) ≡ length (M.bytes mem.old) }
+    ensures page { M.page_len mem.new ≡ M.page_len mem.old }
+{
+    let page = mem.page_mut(part.page);
+    payload.fill(from, &mut page[part.start..part.start + part.len]);
+}
+
+/// Writes so many bytes of a payload from an address on, a page at a time.
+#[tactic(auto, using(crate::proofs::CopyLaws::writes))]
+pub(crate) fn write_range<M: HostMemory, P: Payload>(
+    mem: &mut M,
+    addr: u64,
+    payload: &P,
+    from: usize,
+    len: usize,
+)
+    requires inside { addr + len ≤ length (M.bytes mem.old) }
+    requires has { from + len ≤ length (P.bytes payload.now) }
+    requires limit { from + len < 2 ^ 64 }
+    ensures bytes { M.bytes mem.new
+        ≡ with_bytes (M.bytes mem.old) addr (take len (drop from (P.bytes payload.now))) }
     ensures len { length (M.bytes mem.new) ≡ length (M.bytes mem.old) }
     ensures page { M.page_len mem.new ≡ M.page_len mem.old }
 {
     let mut at = addr;
     let mut done = 0;
-    while done < source.len() {
-        let part = first_part(mem, at, source.len() - done);
-        let now = &source[done..done + part.len];
-        let page = mem.page_mut(part.page);
-        page[part.start..part.start + part.len].copy_from_slice(now);
+    while done < len {
+        let part = first_part(mem, at, len - done);
+        write_part(mem, part, payload, from + done);
         at += part.len as u64;
         done += part.len;
     }

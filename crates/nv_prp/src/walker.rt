@@ -24,6 +24,7 @@ use nv_host::HostMemory;
 /// The error is that of the first entry that has one: PRP1, PRP2, then the list's Qwords in the
 /// order of their use. Of an entry its offset is looked at first. After an error there are no
 /// spans, whatever the spans were before.
+#[tactic(auto, using(crate::proofs::SpanLaws::walks))]
 pub fn walk<M: HostMemory>(
     mem: &M,
     prp1: u64,
@@ -56,6 +57,7 @@ pub fn walk<M: HostMemory>(
 }
 
 /// The walk, which leaves the spans of the data pages before a fault.
+#[tactic(auto, using(crate::proofs::FaultLaws::faults, crate::proofs::PageLaws::spans))]
 fn walk_entries<M: HostMemory>(
     mem: &M,
     pointer: DataPointer,
@@ -82,13 +84,14 @@ fn walk_entries<M: HostMemory>(
 }
 
 /// The walk from the list's address on, where there are more than two data pages.
+#[tactic(auto, using(crate::proofs::ListLaws::list_steps))]
 fn walk_list<M: HostMemory>(
     mem: &M,
     pointer: DataPointer,
     pages: u32,
     spans: &mut Spans,
 ) -> Result<(), PrpError>
-    requires limit { pointer.len ≤ 1048576 }
+    requires few { pages ≤ 257 }
     requires pages { pages ≡ pages_of (transfer_of (M.page_len mem.now) (M.bytes mem.now) pointer) }
     requires many { 2 < pages }
     requires first { let t = transfer_of (M.page_len mem.now) (M.bytes mem.now) pointer in
@@ -113,6 +116,7 @@ fn walk_list<M: HostMemory>(
 
 /// Where the Qword lies that names a data page. `next` is where the Qword lies that follows those
 /// that were used.
+#[tactic(auto, using(crate::proofs::ListLaws::next_inside))]
 fn naming_qword<M: HostMemory>(
     mem: &M,
     pointer: DataPointer,

@@ -5,9 +5,8 @@ use Rattle.nv_prp.specs.Buffer.{IsBuffer, NamesPages, StaysFor}
 use Rattle.nv_prp.specs.BufferLaws.{buffer_kept, list_place_kept}
 use Rattle.nv_prp.specs.Transfer.{data_pages, room, transfer}
 use Rattle.nv_prp.proofs.BuiltLaws.{Begins, keeps_itself, many_pages, names_kept, few_pages, pages_enough}
-use Rattle.nv_prp.proofs.PageLaws.{at_least_one, at_most_257}
+use Rattle.nv_prp.proofs.PageLaws.{at_least_one}
 use Rattle.nv_prp.proofs.WriteLaws.{lies_at}
-use Rattle.nv_prp.proofs.builder.build.Given.{Over}
 use Rattle.nv_prp.proofs.builder.build.Goals as goal
 
 -- the entries begin with that of the buffer's first byte
@@ -18,78 +17,61 @@ begins prp2 size buffer first rest = record { size = size; buffer = buffer; prp1
 pub bounds-buffer-1 : goal.bounds-buffer-1
 bounds-buffer-1 g c =
     let long = pages_enough _ _ _ (begins 0 c.page_address.ensures.size c.requires.buffer c.page_address.ensures.value c.from.ensures) in
-    omega (arith, long, c.data_pages.ensures, c.in-2.is)
-
-pub write_list-requires-clause-few : goal.write_list-requires-clause-few
-write_list-requires-clause-few g c =
-    let t = transfer (g.M.HostMemory.page_len c.args.mem.now) (g.M.HostMemory.bytes c.args.mem.now) (c.page_address.result + c.from.result) 0 c.args.len in
-    omega (arith, at_most_257 t c.page_address.ensures.size c.requires.limit, c.data_pages.ensures)
+    omega (arith, long, c.data_pages.ensures.value, c.in-2.is)
 
 pub write_list-requires-clause-enough : goal.write_list-requires-clause-enough
 write_list-requires-clause-enough g c =
     let long = pages_enough _ _ _ (begins 0 c.page_address.ensures.size c.requires.buffer c.page_address.ensures.value c.from.ensures) in
-    omega (arith, long, c.data_pages.ensures)
+    omega (arith, long, c.data_pages.ensures.value)
 
 pub write_list-requires-clause-apart : goal.write_list-requires-clause-apart
 write_list-requires-clause-apart g c = c.requires.distinct 0 1 0 (omega arith) (omega arith)
 
 -- ---- one data page, two, and more
 
-one : (g : Over) (c : goal.In-1 g) → StaysFor (transfer (g.M.HostMemory.page_len c.args.mem.now) (g.M.HostMemory.bytes c.args.mem.now) (c.page_address.result + c.from.result) 0 c.args.len)
-    c.args.buffer.now.pages.now c.args.buffer.now.offset c.args.list.now.first c.args.list.now.second
-one g c later keeps =
+pub returns-in-1-clause-stays : goal.returns-in-1-clause-stays
+returns-in-1-clause-stays g c later keeps =
     few_pages _ _ _ (begins 0 c.page_address.ensures.size (buffer_kept _ later _ _ _ _ keeps.len c.requires.buffer) c.page_address.ensures.value c.from.ensures)
-    (omega (arith, c.data_pages.ensures, c.in-1.is)) (omega (arith, c.data_pages.ensures, c.in-1.is)) (λ two. absurd (omega (arith, c.data_pages.ensures, c.in-1.is)))
+    (omega (arith, c.data_pages.ensures.value, c.in-1.is)) (omega (arith, c.data_pages.ensures.value, c.in-1.is)) (λ two. absurd (omega (arith, c.data_pages.ensures.value, c.in-1.is)))
 
 pub returns-in-1-clause-legal : goal.returns-in-1-clause-legal
-returns-in-1-clause-legal g c = (one g c _ (keeps_itself _ _ _)).legal
+returns-in-1-clause-legal g c = (returns-in-1-clause-stays g c _ (keeps_itself _ _ _)).legal
 
 pub returns-in-1-clause-places : goal.returns-in-1-clause-places
-returns-in-1-clause-places g c = (one g c _ (keeps_itself _ _ _)).places
-
-pub returns-in-1-clause-stays : goal.returns-in-1-clause-stays
-returns-in-1-clause-stays g c = one g c
-
-two : (g : Over) (c : goal.After-page_address-in-2 g) → StaysFor (transfer (g.M.HostMemory.page_len c.args.mem.now) (g.M.HostMemory.bytes c.args.mem.now) (c.page_address.result + c.from.result) c.page_address-in-2.result c.args.len)
-    c.args.buffer.now.pages.now c.args.buffer.now.offset c.args.list.now.first c.args.list.now.second
-two g c later keeps =
-    few_pages _ _ _ (begins _ c.page_address.ensures.size (buffer_kept _ later _ _ _ _ keeps.len c.requires.buffer) c.page_address.ensures.value c.from.ensures)
-    (omega (arith, c.data_pages.ensures, c.in-2.is)) (omega (arith, c.data_pages.ensures, c.in-2.is)) (λ _. c.page_address-in-2.ensures.value)
-
-pub returns-in-2-clause-legal : goal.returns-in-2-clause-legal
-returns-in-2-clause-legal g c = (two g c _ (keeps_itself _ _ _)).legal
-
-pub returns-in-2-clause-places : goal.returns-in-2-clause-places
-returns-in-2-clause-places g c = (two g c _ (keeps_itself _ _ _)).places
+returns-in-1-clause-places g c = (returns-in-1-clause-stays g c _ (keeps_itself _ _ _)).places
 
 pub returns-in-2-clause-stays : goal.returns-in-2-clause-stays
-returns-in-2-clause-stays g c = two g c
+returns-in-2-clause-stays g c later keeps =
+    few_pages _ _ _ (begins _ c.page_address.ensures.size (buffer_kept _ later _ _ _ _ keeps.len c.requires.buffer) c.page_address.ensures.value c.from.ensures)
+    (omega (arith, c.data_pages.ensures.value, c.in-2.is)) (omega (arith, c.data_pages.ensures.value, c.in-2.is)) (λ _. c.page_address-in-2.ensures.value)
 
-more : (g : Over) (c : goal.After-write_list g) → StaysFor (transfer (g.M.HostMemory.page_len c.write_list.new.mem) (g.M.HostMemory.bytes c.write_list.new.mem) (c.page_address.result + c.from.result) c.write_list.result c.args.len)
-    c.args.buffer.now.pages.now c.args.buffer.now.offset c.args.list.now.first c.args.list.now.second
-more g c =
+pub returns-in-2-clause-legal : goal.returns-in-2-clause-legal
+returns-in-2-clause-legal g c = (returns-in-2-clause-stays g c _ (keeps_itself _ _ _)).legal
+
+pub returns-in-2-clause-places : goal.returns-in-2-clause-places
+returns-in-2-clause-places g c = (returns-in-2-clause-stays g c _ (keeps_itself _ _ _)).places
+
+pub returns-in_default-clause-stays : goal.returns-in_default-clause-stays
+returns-in_default-clause-stays g c =
     let buffer = c.args.buffer.now in
     let list = c.args.list.now in
     let size = g.M.HostMemory.page_len c.args.mem.now in
     let after = g.M.HostMemory.bytes c.write_list.new.mem in
     let t = transfer size after (c.page_address.result + c.from.result) c.write_list.result c.args.len in
     let is = c.page_address.ensures.size in
-    let many : 2 < data_pages t = omega (arith, c.data_pages.ensures, at_least_one t (omega (arith, page_size_bounds size is)) c.requires.some) in
+    let many : 2 < data_pages t = omega (arith, c.data_pages.ensures.value, at_least_one t (omega (arith, page_size_bounds size is)) c.requires.some) in
     let lies = lies_at _ size list.first list.second list.offset t.prp2 (room t) is c.requires.list (c.requires.distinct 0 1 0 (omega arith) (omega arith)) c.write_list.ensures.value refl in
-    let names = subst (λ n. NamesPages after size (room t) t.prp2 (list.second * size) buffer.pages.now n) c.data_pages.ensures c.write_list.ensures.names in
+    let names = subst (λ n. NamesPages after size (room t) t.prp2 (list.second * size) buffer.pages.now n) c.data_pages.ensures.value c.write_list.ensures.names in
     let stays : StaysFor t buffer.pages.now buffer.offset list.first list.second = λ later keeps.
     let same = keeps.len ∙ c.write_list.ensures.len in
     many_pages (transfer size later t.prp1 t.prp2 t.len) buffer.pages.now buffer.offset list.first list.second list.offset
     (begins t.prp2 is (buffer_kept _ later _ _ _ _ same c.requires.buffer) c.page_address.ensures.value c.from.ensures)
     many c.write_list.ensures.value (list_place_kept _ later size list.first list.second list.offset same c.requires.list)
-    (names_kept t buffer.pages.now list.first list.second later many (at_most_257 t is c.requires.limit) lies keeps names) in
+    (names_kept t buffer.pages.now list.first list.second later many (omega (arith, c.data_pages.ensures)) lies keeps names) in
     subst (λ p. StaysFor (transfer p after t.prp1 t.prp2 t.len) buffer.pages.now buffer.offset list.first list.second) (sym c.write_list.ensures.page) stays
 
 pub returns-in_default-clause-legal : goal.returns-in_default-clause-legal
-returns-in_default-clause-legal g c = (more g c _ (keeps_itself _ _ _)).legal
+returns-in_default-clause-legal g c = (returns-in_default-clause-stays g c _ (keeps_itself _ _ _)).legal
 
 pub returns-in_default-clause-places : goal.returns-in_default-clause-places
-returns-in_default-clause-places g c = (more g c _ (keeps_itself _ _ _)).places
-
-pub returns-in_default-clause-stays : goal.returns-in_default-clause-stays
-returns-in_default-clause-stays g c = more g c
+returns-in_default-clause-places g c = (returns-in_default-clause-stays g c _ (keeps_itself _ _ _)).places

@@ -1,4 +1,4 @@
-use Rattle.std.proofs.Common.{length, ◌+◌, ◌-◌, ◌≡◌, ◌≤◌, take}
+use Rattle.std.proofs.Common.{drop, ◌+◌, ◌-◌, ◌≡◌, ◌≤◌, length, take}
 use Rattle.nv_host.specs.Bytes.{with_bytes}
 use Rattle.nv_prp.proofs.range.write_range.Given as goal
 
@@ -6,11 +6,11 @@ use Rattle.nv_prp.proofs.range.write_range.Given as goal
 abbrev pub invariant-loop-done : goal.invariant-loop-done
 invariant-loop-done g l = record {
   at : l.at ≡ l.addr + l.done;
-  within : l.done ≤ length l.source;
-  bytes : g.M.HostMemory.bytes l.mem ≡ with_bytes (g.M.HostMemory.bytes l.initial.mem) l.addr (take l.done l.source);
+  within : l.done ≤ l.len;
+  bytes : g.M.HostMemory.bytes l.mem ≡ with_bytes (g.M.HostMemory.bytes l.initial.mem) l.addr (take l.done (drop l.from (g.P.Payload.bytes l.payload)));
   len : length (g.M.HostMemory.bytes l.mem) ≡ length (g.M.HostMemory.bytes l.initial.mem);
   page : g.M.HostMemory.page_len l.mem ≡ g.M.HostMemory.page_len l.initial.mem;
 }
 
 abbrev pub decreases-loop-done : goal.decreases-loop-done
-decreases-loop-done g l = length l.source - l.done
+decreases-loop-done g l = l.len - l.done

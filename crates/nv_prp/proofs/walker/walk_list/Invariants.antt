@@ -1,4 +1,4 @@
-use Rattle.std.proofs.Common.{◌≡◌, ◌≤◌, length}
+use Rattle.std.proofs.Common.{◌≡◌, length}
 use Rattle.nv_prp.specs.ListWalk.{Comes, IsList}
 use Rattle.nv_prp.specs.Place.{table}
 use Rattle.nv_prp.specs.Transfer.{span_of, transfer_of}
@@ -10,7 +10,6 @@ invariant-loop-page g l =
     let t = transfer_of (g.M.HostMemory.page_len l.mem) (g.M.HostMemory.bytes l.mem) l.pointer in
     record {
       list : IsList t;
-      few : l.pages ≤ 257;
       comes : Comes t l.page l.next;
       count : length l.spans ≡ l.page;
       spans : l.spans ≡ table l.page (span_of t);

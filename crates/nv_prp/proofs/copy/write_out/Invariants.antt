@@ -1,13 +1,13 @@
 use Rattle.std.proofs.Common.{◌≡◌, ◌+◌, drop, length}
 use Rattle.nv_prp.specs.Place.{places, written_at}
-use Rattle.nv_prp.proofs.copy.copy_out.Given as goal
+use Rattle.nv_prp.proofs.copy.write_out.Given as goal
 
 -- the bytes that are left, written to the spans that are left, are all bytes written to all spans
 abbrev pub invariant-loop-span : goal.invariant-loop-span
 invariant-loop-span g l = record {
-  left : l.at + length (places (drop l.span-index l.spans)) ≡ length l.source;
-  bytes : written_at (g.M.HostMemory.bytes l.mem) (places (drop l.span-index l.spans)) (drop l.at l.source)
-      ≡ written_at (g.M.HostMemory.bytes l.initial.mem) (places l.spans) l.source;
+  left : l.at + length (places (drop l.span-index l.spans)) ≡ length (g.P.Payload.bytes l.payload);
+  bytes : written_at (g.M.HostMemory.bytes l.mem) (places (drop l.span-index l.spans)) (drop l.at (g.P.Payload.bytes l.payload))
+      ≡ written_at (g.M.HostMemory.bytes l.initial.mem) (places l.spans) (g.P.Payload.bytes l.payload);
   len : length (g.M.HostMemory.bytes l.mem) ≡ length (g.M.HostMemory.bytes l.initial.mem);
   page : g.M.HostMemory.page_len l.mem ≡ g.M.HostMemory.page_len l.initial.mem;
 }

@@ -1,0 +1,22 @@
+//! What is written to a transfer's spans.
+
+ghost use Rattle.std.specs.Prelude.{◌≡◌, ◌+◌, ◌≤◌, ℕ, List, drop, length, take};
+
+/// Bytes that are given part by part, so that they needn't stand anywhere as a whole.
+pub trait Payload {
+    // All of them, in order.
+    ghost bytes: { Self → List ℕ };
+
+    /// Fills `out` with the bytes from a place on.
+    fn fill(&self, at: usize, out: &mut [u8])
+        requires { at + length out.old ≤ length (bytes self.now) }
+        ensures { out.new ≡ take (length out.old) (drop at (bytes self.now)) };
+}
+
+impl<'a> Payload for &'a [u8] {
+    ghost bytes = { λ s. s.now };
+
+    fn fill(&self, at: usize, out: &mut [u8]) {
+        out.copy_from_slice(&self[at..at + out.len()]);
+    }
+}
