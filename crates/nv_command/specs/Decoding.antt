@@ -4,11 +4,12 @@ use Rattle.nv_layout.specs.declared.sqe.Sqe.{Sqe}
 use Rattle.nv_command.specs.Features.{get_feature_command, set_feature_command}
 use Rattle.nv_command.specs.Format.{format_command}
 use Rattle.nv_command.specs.Identify.{identify_command, identify_transfer}
+use Rattle.nv_command.specs.Logs.{get_log_command, get_log_transfer}
 use Rattle.nv_command.specs.Management.{attachment_command, attachment_transfer, management_command, management_transfer}
 use Rattle.nv_command.specs.Steps.{◌>>=◌}
 use Rattle.nv_command.specs.declared.command.Command.{Command}
 use Rattle.nv_command.specs.declared.entry.Opcode.{Opcode}
-use Rattle.nv_command.specs.declared.entry.Opcode.TheVariants.{Identify, NamespaceManagement, NamespaceAttachment, FormatNvm, GetFeatures, SetFeatures}
+use Rattle.nv_command.specs.declared.entry.Opcode.TheVariants.{Identify, NamespaceManagement, NamespaceAttachment, FormatNvm, GetFeatures, SetFeatures, GetLogPage}
 use Rattle.nv_command.specs.declared.status_code.StatusCode.{StatusCode}
 use Rattle.nv_command.specs.declared.status_code.StatusCode.TheVariants.{InvalidCommandOpcode, InvalidFieldInCommand}
 use Rattle.nv_command.specs.declared.transfer.Transfer.{Transfer}
@@ -22,7 +23,8 @@ opcode_by n =
     else (if n == 0x80 then Ok FormatNvm
     else (if n == 0x0a then Ok GetFeatures
     else (if n == 0x09 then Ok SetFeatures
-    else Err InvalidCommandOpcode)))))
+    else (if n == 0x02 then Ok GetLogPage
+    else Err InvalidCommandOpcode))))))
 
 -- neither fused nor by SGLs
 abbrev pub is_plain : Sqe → Bool
@@ -41,6 +43,7 @@ transfer_as NamespaceAttachment e = attachment_transfer e
 transfer_as FormatNvm e = Ok NoData
 transfer_as GetFeatures e = Ok NoData
 transfer_as SetFeatures e = Ok NoData
+transfer_as GetLogPage e = Ok (get_log_transfer e)
 
 -- which way the data goes, and how many bytes
 abbrev pub transfer_of : Sqe → Result Transfer StatusCode
@@ -55,6 +58,7 @@ command_as NamespaceAttachment e «data» = attachment_command e «data»
 command_as FormatNvm e «data» = Ok (format_command e)
 command_as GetFeatures e «data» = Ok (get_feature_command e)
 command_as SetFeatures e «data» = Ok (set_feature_command e)
+command_as GetLogPage e «data» = Ok (get_log_command e)
 
 -- the command, with the data from the host
 abbrev pub command_of : Sqe → List ℕ → Result Command StatusCode

@@ -5,10 +5,11 @@ use Rattle.nv_command.specs.Command.{namespace_of}
 use Rattle.nv_command.specs.Features.{get_feature_fields, set_feature_fields}
 use Rattle.nv_command.specs.Format.{format_fields}
 use Rattle.nv_command.specs.Identify.{identify_fields}
+use Rattle.nv_command.specs.Logs.{get_log_fields}
 use Rattle.nv_command.specs.Management.{attachment_fields, management_fields}
 use Rattle.nv_command.specs.declared.command.Command.{Command}
-use Rattle.nv_command.specs.declared.command.Command.TheVariants.{IdentifyNamespace, AllocatedNamespace, ActiveList, AllocatedList, Create, Delete, Attachment}
-use Rattle.nv_command.specs.declared.command.Command.TheVariants.{Format, GetFeature, SetFeature}
+use Rattle.nv_command.specs.declared.command.Command.TheVariants.{IdentifyController, IdentifyNamespace, AllocatedNamespace, ActiveList, AllocatedList, Create, Delete}
+use Rattle.nv_command.specs.declared.command.Command.TheVariants.{Attachment, Format, GetFeature, SetFeature, GetLog}
 use Rattle.nv_command.specs.declared.entry.Fields.{Fields}
 
 -- fields, an NSID and a command identifier; all else is 0
@@ -33,6 +34,7 @@ entry_with f nsid cid = record {
 -- the opcode of a command and its own dwords
 abbrev pub fields_of : Command → Fields
 fields_of (IdentifyNamespace n) = identify_fields 0x00
+fields_of IdentifyController = identify_fields 0x01
 fields_of (ActiveList after) = identify_fields 0x02
 fields_of (AllocatedList after) = identify_fields 0x10
 fields_of (AllocatedNamespace n) = identify_fields 0x11
@@ -42,6 +44,7 @@ fields_of (Attachment n detach ids) = attachment_fields detach
 fields_of (Format n lbaf mset pi pil ses) = format_fields lbaf mset pi pil ses
 fields_of (GetFeature fid sel n) = get_feature_fields fid sel
 fields_of (SetFeature fid value save n) = set_feature_fields fid value save
+fields_of (GetLog lid n offset dwords) = get_log_fields lid offset dwords
 
 -- a command with this command identifier
 abbrev pub entry_of : Command → ℕ → Sqe

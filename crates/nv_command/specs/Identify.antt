@@ -1,11 +1,12 @@
 -- The Identify commands: opcode 06h, with what is asked for (CNS) in CDW10 7:0.
 use Rattle.std.specs.Prelude.{ℕ, ◌%◌, ◌^◌, ◌<◌, ◌==◌, List, Result, Ok, Err, if◌then◌else◌}
+use Rattle.nv_layout.specs.IdCtrl.{id_ctrl_of_bytes}
 use Rattle.nv_layout.specs.IdNs.{id_ns_of_bytes}
 use Rattle.nv_layout.specs.NsList.{ns_list_of_bytes}
 use Rattle.nv_layout.specs.declared.sqe.Sqe.{Sqe}
 use Rattle.nv_command.specs.Steps.{◌>>=◌}
 use Rattle.nv_command.specs.declared.command.Command.{Command}
-use Rattle.nv_command.specs.declared.command.Command.TheVariants.{IdentifyNamespace, AllocatedNamespace, ActiveList, AllocatedList}
+use Rattle.nv_command.specs.declared.command.Command.TheVariants.{IdentifyController, IdentifyNamespace, AllocatedNamespace, ActiveList, AllocatedList}
 use Rattle.nv_command.specs.declared.entry.Fields.{Fields}
 use Rattle.nv_command.specs.declared.reply.Reply.{Reply}
 use Rattle.nv_command.specs.declared.reply.Reply.TheVariants as reply
@@ -27,10 +28,11 @@ identify_data = ToHost 4096
 abbrev pub identify_by : ℕ → ℕ → Result Command StatusCode
 identify_by cns n =
     if cns == 0x00 then Ok (IdentifyNamespace n)
+    else (if cns == 0x01 then Ok IdentifyController
     else (if cns == 0x02 then Ok (ActiveList n)
     else (if cns == 0x10 then Ok (AllocatedList n)
     else (if cns == 0x11 then Ok (AllocatedNamespace n)
-    else Err InvalidFieldInCommand)))
+    else Err InvalidFieldInCommand))))
 
 abbrev pub identify_command : Sqe → Result Command StatusCode
 identify_command e = identify_by (e.cdw10 % 2 ^ 8) e.nsid
@@ -39,6 +41,10 @@ abbrev pub identify_transfer : Sqe → Result Transfer StatusCode
 identify_transfer e = do
   command ← identify_command e
   Ok identify_data
+
+-- the controller that a page holds
+abbrev pub controller_in : List ℕ → Reply
+controller_in page = reply.Controller (id_ctrl_of_bytes page)
 
 -- the namespace that a page holds
 abbrev pub namespace_in : List ℕ → Reply

@@ -1,10 +1,11 @@
 -- What Identify asks and answers arrives.
 use Rattle.std.proofs.Common.{◌≡◌, ℕ, ◌<◌, ◌^◌, ap, length, lit<, arith}
-use Rattle.nv_layout.specs.RecordLaws.{id_ns_back, length-bytes_of_id_ns, length-bytes_of_ns_list, ns_list_back}
+use Rattle.nv_layout.specs.RecordLaws.{id_ctrl_back, id_ns_back, length-bytes_of_id_ctrl, length-bytes_of_id_ns, length-bytes_of_ns_list, ns_list_back}
 use Rattle.nv_command.specs.Command.{bytes_to_host}
 use Rattle.nv_command.specs.EntryLaws.{FieldsFit}
-use Rattle.nv_command.specs.Identify.{identify_data, identify_fields, list_in, namespace_in}
-use Rattle.nv_command.specs.Reply.{FitsRecord, IsList, IsNamespace, data_of}
+use Rattle.nv_command.specs.Identify.{controller_in, identify_data, identify_fields, list_in, namespace_in}
+use Rattle.nv_command.specs.Logs.{without_phases}
+use Rattle.nv_command.specs.Reply.{FitsRecord, IsController, IsList, IsNamespace, page_of}
 use Rattle.nv_command.specs.declared.reply.Reply.{Reply}
 use Rattle.nv_command.specs.declared.reply.Reply.TheVariants as reply
 
@@ -19,23 +20,26 @@ identify_fits cns h = record {
 
 -- data of a page, which gives the reply back
 pub record IsIn (r : Reply) (read : Reply) : Type 0 where
-  pub bytes : length (data_of r) ≡ bytes_to_host identify_data
-  pub reply : read ≡ r
+  pub bytes : length (page_of r) ≡ bytes_to_host identify_data
+  pub reply : read ≡ without_phases r
 
-pub namespace_arrives : (r : Reply) → IsNamespace r → FitsRecord r → IsIn r (namespace_in (data_of r))
+pub controller_arrives : (r : Reply) → IsController r → FitsRecord r → IsIn r (controller_in (page_of r))
+controller_arrives (reply.Controller r) is fits = record {
+  bytes = length-bytes_of_id_ctrl r fits.sn fits.mn fits.fr fits.subnqn;
+  reply = ap reply.Controller (id_ctrl_back r fits);
+}
+controller_arrives r is fits = absurd is
+
+pub namespace_arrives : (r : Reply) → IsNamespace r → FitsRecord r → IsIn r (namespace_in (page_of r))
 namespace_arrives (reply.Namespace r) is fits = record {
   bytes = length-bytes_of_id_ns r fits.formats;
   reply = ap reply.Namespace (id_ns_back r fits);
 }
-namespace_arrives (reply.List ids) is fits = absurd is
-namespace_arrives (reply.Number n) is fits = absurd is
-namespace_arrives reply.Done is fits = absurd is
+namespace_arrives r is fits = absurd is
 
-pub list_arrives : (r : Reply) → IsList r → FitsRecord r → IsIn r (list_in (data_of r))
-list_arrives (reply.Namespace r) is fits = absurd is
+pub list_arrives : (r : Reply) → IsList r → FitsRecord r → IsIn r (list_in (page_of r))
 list_arrives (reply.List ids) is fits = record {
   bytes = length-bytes_of_ns_list ids fits.count;
   reply = ap reply.List (ns_list_back ids fits.count fits.numbers);
 }
-list_arrives (reply.Number n) is fits = absurd is
-list_arrives reply.Done is fits = absurd is
+list_arrives r is fits = absurd is

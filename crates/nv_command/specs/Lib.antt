@@ -5,10 +5,12 @@ pub mod Identify
 pub mod Management
 pub mod Format
 pub mod Features
+pub mod Logs
 pub mod Command
 pub mod Entry
 pub mod Decoding
 pub mod Reply
+pub mod Room
 pub mod Travel
 pub mod RefusalLaws
 pub mod EntryLaws
@@ -16,4 +18,5 @@ pub mod IdentifyLaws
 pub mod ManagementLaws
 pub mod FormatLaws
 pub mod FeatureLaws
+pub mod LogLaws
 pub mod TravelLaws

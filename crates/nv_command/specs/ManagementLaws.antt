@@ -5,8 +5,9 @@ use Rattle.nv_layout.specs.CtrlList.{bytes_of_ctrl_list}
 use Rattle.nv_layout.specs.IdNs.{IdNsFits, LbafFits, bytes_of_id_ns}
 use Rattle.nv_layout.specs.RecordLaws.{ctrl_list_back, id_ns_back, length-bytes_of_ctrl_list, length-bytes_of_id_ns}
 use Rattle.nv_command.specs.EntryLaws.{FieldsFit}
+use Rattle.nv_command.specs.Logs.{without_phases}
 use Rattle.nv_command.specs.Management.{AttachmentFits, CreateFits, asked, attachment_fields, attachment_in, create_in, creation, management_fields, no_format}
-use Rattle.nv_command.specs.Reply.{IsDone, IsNumber, data_of, dword0_of}
+use Rattle.nv_command.specs.Reply.{IsDone, IsNumber, dword0_of, page_of}
 use Rattle.nv_command.specs.declared.command.Command.TheVariants.{Create, Attachment}
 use Rattle.nv_command.specs.declared.reply.Reply.{Reply}
 use Rattle.nv_command.specs.declared.reply.Reply.TheVariants as reply
@@ -69,17 +70,13 @@ attachment_back detach n ids fits =
 -- ---- replies without data
 
 pub record IsBare (r : Reply) (read : Reply) : Type 0 where
-  pub bytes : length (data_of r) ≡ 0
-  pub reply : read ≡ r
+  pub bytes : length (page_of r) ≡ 0
+  pub reply : read ≡ without_phases r
 
 pub number_arrives : (r : Reply) → IsNumber r → IsBare r (reply.Number (dword0_of r))
-number_arrives (reply.Namespace r) is = absurd is
-number_arrives (reply.List ids) is = absurd is
 number_arrives (reply.Number n) is = record { bytes = refl; reply = refl }
-number_arrives reply.Done is = absurd is
+number_arrives r is = absurd is
 
 pub done_arrives : (r : Reply) → IsDone r → IsBare r reply.Done
-done_arrives (reply.Namespace r) is = absurd is
-done_arrives (reply.List ids) is = absurd is
-done_arrives (reply.Number n) is = absurd is
 done_arrives reply.Done is = record { bytes = refl; reply = refl }
+done_arrives r is = absurd is

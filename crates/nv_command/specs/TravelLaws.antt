@@ -1,16 +1,28 @@
 -- The law of what travels, for those who cite it.
-use Rattle.std.proofs.Common.{ap, false, lit<, Ok, refl, true}
+use Rattle.std.proofs.Common.{◌≡◌, ◌*◌, ap, false, lit<, Ok, refl, true}
+use Rattle.nv_layout.specs.PartLaws.{length-part}
 use Rattle.nv_layout.specs.RecordLaws.{length-bytes_of_ctrl_list}
 use Rattle.nv_command.specs.EntryLaws.{entry_with_fits}
 use Rattle.nv_command.specs.FeatureLaws.{get_feature_back, get_feature_fits, set_feature_back, set_feature_fits}
 use Rattle.nv_command.specs.FormatLaws.{format_back, format_fits}
-use Rattle.nv_command.specs.IdentifyLaws.{identify_fits, list_arrives, namespace_arrives}
+use Rattle.nv_command.specs.IdentifyLaws.{controller_arrives, identify_fits, list_arrives, namespace_arrives}
+use Rattle.nv_command.specs.LogLaws.{dwords_back, get_log_back, get_log_fits, log_arrives}
+use Rattle.nv_command.specs.Logs.{IsSendable, is_error_log, log_data, received, without_phases}
 use Rattle.nv_command.specs.ManagementLaws.{attachment_back, attachment_fits, create_back, done_arrives, length_of_creation, management_fits, number_arrives}
-use Rattle.nv_command.specs.Travel.{CommandsTravel, RepliesTravel}
-use Rattle.nv_command.specs.declared.command.Command.TheVariants.{IdentifyNamespace, AllocatedNamespace, ActiveList, AllocatedList, Create, Delete, Attachment}
-use Rattle.nv_command.specs.declared.command.Command.TheVariants.{Format, GetFeature, SetFeature}
+use Rattle.nv_command.specs.Reply.{FitsRecord, IsReplyTo, data_of, dword0_of, log_of, reply_in}
+use Rattle.nv_command.specs.Travel.{CommandsTravel, RepliesFit, RepliesTravel}
+use Rattle.nv_command.specs.declared.command.Command.{Command}
+use Rattle.nv_command.specs.declared.command.Command.TheVariants.{IdentifyController, IdentifyNamespace, AllocatedNamespace, ActiveList, AllocatedList, Create, Delete}
+use Rattle.nv_command.specs.declared.command.Command.TheVariants.{Attachment, Format, GetFeature, SetFeature, GetLog}
+use Rattle.nv_command.specs.declared.reply.Reply.{Reply}
 
 pub commands_travel : CommandsTravel
+commands_travel IdentifyController cid fits low = record {
+  fits = entry_with_fits _ 0 cid (identify_fits 0x01 (lit< tt)) (lit< tt) low;
+  transfer = λ p q. refl;
+  command = λ p q. refl;
+  sent = refl;
+}
 commands_travel (IdentifyNamespace n) cid fits low = record {
   fits = entry_with_fits _ n cid (identify_fits 0x00 (lit< tt)) fits low;
   transfer = λ p q. refl;
@@ -77,25 +89,43 @@ commands_travel (SetFeature fid value save n) cid fits low = record {
   command = λ p q. ap Ok (set_feature_back fid value save n cid p q fits);
   sent = refl;
 }
+commands_travel (GetLog lid n offset dwords) cid fits low = record {
+  fits = entry_with_fits _ n cid (get_log_fits lid offset dwords fits.offset) fits.nsid low;
+  transfer = λ p q. ap (λ d. Ok (log_data d)) (dwords_back lid dwords fits.some fits.dwords);
+  command = λ p q. ap Ok (get_log_back lid n offset dwords cid p q fits);
+  sent = refl;
+}
+
+pub replies_fit : RepliesFit
+replies_fit IdentifyController r is fits = (controller_arrives r is fits).bytes
+replies_fit (IdentifyNamespace n) r is fits = (namespace_arrives r is fits).bytes
+replies_fit (AllocatedNamespace n) r is fits = (namespace_arrives r is fits).bytes
+replies_fit (ActiveList n) r is fits = (list_arrives r is fits).bytes
+replies_fit (AllocatedList n) r is fits = (list_arrives r is fits).bytes
+replies_fit (Create nsze ncap flbas dps nmic) r is fits = (number_arrives r is).bytes
+replies_fit (Delete n) r is fits = (done_arrives r is).bytes
+replies_fit (Attachment n detach ids) r is fits = (done_arrives r is).bytes
+replies_fit (Format n lbaf mset pi pil ses) r is fits = (done_arrives r is).bytes
+replies_fit (GetFeature fid sel n) r is fits = (number_arrives r is).bytes
+replies_fit (SetFeature fid value save n) r is fits = (done_arrives r is).bytes
+replies_fit (GetLog lid n offset dwords) r is fits = length-part (log_of r) offset (4 * dwords)
+
+replies_arrive : (k : Command) (r : Reply) → IsReplyTo k r → FitsRecord r → IsSendable k
+    → reply_in k (dword0_of r) (data_of k r) ≡ received k (without_phases r)
+replies_arrive IdentifyController r is fits sends = (controller_arrives r is fits).reply
+replies_arrive (IdentifyNamespace n) r is fits sends = (namespace_arrives r is fits).reply
+replies_arrive (AllocatedNamespace n) r is fits sends = (namespace_arrives r is fits).reply
+replies_arrive (ActiveList n) r is fits sends = (list_arrives r is fits).reply
+replies_arrive (AllocatedList n) r is fits sends = (list_arrives r is fits).reply
+replies_arrive (Create nsze ncap flbas dps nmic) r is fits sends = (number_arrives r is).reply
+replies_arrive (Delete n) r is fits sends = (done_arrives r is).reply
+replies_arrive (Attachment n detach ids) r is fits sends = (done_arrives r is).reply
+replies_arrive (Format n lbaf mset pi pil ses) r is fits sends = (done_arrives r is).reply
+replies_arrive (GetFeature fid sel n) r is fits sends = (number_arrives r is).reply
+replies_arrive (SetFeature fid value save n) r is fits sends = (done_arrives r is).reply
+replies_arrive (GetLog lid n offset dwords) r is fits sends =
+    log_arrives (is_error_log lid) r offset dwords is fits sends
 
 pub replies_travel : RepliesTravel
-replies_travel (IdentifyNamespace n) r is fits =
-    let back = namespace_arrives r is fits in record { bytes = back.bytes; reply = back.reply }
-replies_travel (AllocatedNamespace n) r is fits =
-    let back = namespace_arrives r is fits in record { bytes = back.bytes; reply = back.reply }
-replies_travel (ActiveList n) r is fits =
-    let back = list_arrives r is fits in record { bytes = back.bytes; reply = back.reply }
-replies_travel (AllocatedList n) r is fits =
-    let back = list_arrives r is fits in record { bytes = back.bytes; reply = back.reply }
-replies_travel (Create nsze ncap flbas dps nmic) r is fits =
-    let back = number_arrives r is in record { bytes = back.bytes; reply = back.reply }
-replies_travel (Delete n) r is fits =
-    let back = done_arrives r is in record { bytes = back.bytes; reply = back.reply }
-replies_travel (Attachment n detach ids) r is fits =
-    let back = done_arrives r is in record { bytes = back.bytes; reply = back.reply }
-replies_travel (Format n lbaf mset pi pil ses) r is fits =
-    let back = done_arrives r is in record { bytes = back.bytes; reply = back.reply }
-replies_travel (GetFeature fid sel n) r is fits =
-    let back = number_arrives r is in record { bytes = back.bytes; reply = back.reply }
-replies_travel (SetFeature fid value save n) r is fits =
-    let back = done_arrives r is in record { bytes = back.bytes; reply = back.reply }
+replies_travel k r is fits sends =
+    record { bytes = replies_fit k r is fits; reply = replies_arrive k r is fits sends }

@@ -8,10 +8,11 @@ ghost use Rattle.nv_command.specs.Entry.{entry_of, fields_of};
 ghost use Rattle.nv_command.specs.Reply.{with_data};
 ghost use Rattle.nv_command.specs.Travel.{Arrives};
 
+use crate::dword_count::DwordCount;
 use crate::entry::{Fields, Opcode};
 use crate::status_code::StatusCode;
 use crate::transfer::Transfer;
-use crate::{features, format, identify, management};
+use crate::{features, format, identify, logs, management};
 use nv_layout::{ControllerIds, CtrlList, FourBits, Sqe, ThreeBits};
 
 /// The NSID that stands for all namespaces. Section "Namespace Identifier".
@@ -21,6 +22,8 @@ pub const BROADCAST_NSID: u32 = 0xffff_ffff;
 /// Section "Admin Command Set".
 #[derive(Debug, Drop, PartialEq, Eq)]
 pub enum Command<'a> {
+    /// Identify, CNS 01h: the controller.
+    IdentifyController,
     /// Identify, CNS 00h: a namespace that is attached to the controller.
     IdentifyNamespace {
         nsid: u32,
@@ -78,6 +81,13 @@ pub enum Command<'a> {
         save: bool,
         nsid: u32,
     },
+    /// Get Log Page: so many dwords of a log, from the byte at `offset` on.
+    GetLog {
+        lid: u8,
+        nsid: u32,
+        offset: u64,
+        dwords: DwordCount,
+    },
 }
 
 /// A number of 32 bits fits them. The call does nothing.
@@ -87,17 +97,19 @@ fn nsid_fits(nsid: u32)
 
 impl<'a> Command<'a> {
     /// The NSID of its entry, with which a refusal of it is booked. For a list it is the one that
-    /// the list begins after; it is 0 for a namespace to create.
+    /// the list begins after; it is 0 for the controller and for a namespace to create.
     pub fn nsid(&self) -> u32
         ensures { result ≡ namespace_of self.now }
     {
         match self {
+            Command::IdentifyController => 0,
             Command::IdentifyNamespace { nsid } | Command::AllocatedNamespace { nsid } => *nsid,
             Command::ActiveList { after } | Command::AllocatedList { after } => *after,
             Command::Create { .. } => 0,
             Command::Delete { nsid } | Command::Attachment { nsid, .. } => *nsid,
             Command::Format { nsid, .. } => *nsid,
             Command::GetFeature { nsid, .. } | Command::SetFeature { nsid, .. } => *nsid,
+            Command::GetLog { nsid, .. } => *nsid,
         }
     }
 
@@ -106,6 +118,7 @@ impl<'a> Command<'a> {
         ensures { result ≡ transfer_by self.now }
     {
         match self {
+            Command::IdentifyController => identify::TRANSFER,
             Command::IdentifyNamespace { nsid: _ } => identify::TRANSFER,
             Command::AllocatedNamespace { nsid: _ } => identify::TRANSFER,
             Command::ActiveList { after: _ } => identify::TRANSFER,
@@ -116,6 +129,7 @@ impl<'a> Command<'a> {
             Command::Format { .. } => Transfer::NoData,
             Command::GetFeature { .. } => Transfer::NoData,
             Command::SetFeature { .. } => Transfer::NoData,
+            Command::GetLog { dwords, .. } => Transfer::ToHost(dwords.bytes()),
         }
     }
 
@@ -124,6 +138,7 @@ impl<'a> Command<'a> {
     {
         match self {
             Command::IdentifyNamespace { nsid: _ } => identify::fields(0x00),
+            Command::IdentifyController => identify::fields(0x01),
             Command::ActiveList { after: _ } => identify::fields(0x02),
             Command::AllocatedList { after: _ } => identify::fields(0x10),
             Command::AllocatedNamespace { nsid: _ } => identify::fields(0x11),
@@ -145,6 +160,12 @@ impl<'a> Command<'a> {
                 save,
                 ..
             } => features::set_fields(*fid, *value, *save),
+            Command::GetLog {
+                lid,
+                offset,
+                dwords,
+                ..
+            } => logs::fields(*lid, *offset, *dwords),
         }
     }
 
@@ -153,6 +174,7 @@ impl<'a> Command<'a> {
         ensures { CommandFits self.now }
     {
         match self {
+            Command::IdentifyController => {}
             Command::IdentifyNamespace { nsid } | Command::AllocatedNamespace { nsid } => {
                 nsid_fits(*nsid)
             }
@@ -180,6 +202,12 @@ impl<'a> Command<'a> {
                 nsid,
                 ..
             } => features::set_fits(*fid, *value, *nsid),
+            Command::GetLog {
+                lid,
+                nsid,
+                offset,
+                dwords,
+            } => logs::fits(*lid, *nsid, *offset, *dwords),
         }
     }
 
@@ -227,6 +255,7 @@ impl<'a> Command<'a> {
             Opcode::FormatNvm => Ok(format::command(entry)),
             Opcode::GetFeatures => Ok(features::get_command(entry)),
             Opcode::SetFeatures => Ok(features::set_command(entry)),
+            Opcode::GetLogPage => Ok(logs::command(entry)),
         }
     }
 }

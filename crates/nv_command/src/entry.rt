@@ -52,6 +52,7 @@ pub enum Opcode {
     FormatNvm,
     GetFeatures,
     SetFeatures,
+    GetLogPage,
 }
 
 impl Opcode {
@@ -66,6 +67,7 @@ impl Opcode {
             0x80 => Opcode::FormatNvm,
             0x0a => Opcode::GetFeatures,
             0x09 => Opcode::SetFeatures,
+            0x02 => Opcode::GetLogPage,
             _ => return Err(StatusCode::InvalidCommandOpcode),
         };
         if entry.fuse != 0 || entry.psdt != 0 {

@@ -1,14 +1,13 @@
 //! The Identify commands. Section "Identify command".
 
 ghost use Rattle.std.specs.Prelude.{◌≡◌};
-ghost use Rattle.nv_command.specs.Identify.{identify_command, identify_fields, identify_transfer, list_in, namespace_in};
+ghost use Rattle.nv_command.specs.Identify.{identify_command, identify_fields, identify_transfer};
 
 use crate::command::Command;
 use crate::entry::Fields;
-use crate::reply::Reply;
 use crate::status_code::StatusCode;
 use crate::transfer::Transfer;
-use nv_layout::{IdNs, NsList, Sqe};
+use nv_layout::Sqe;
 
 /// The data of every Identify command.
 pub const TRANSFER: Transfer = Transfer::ToHost(4096);
@@ -33,6 +32,7 @@ pub(crate) fn command<'a>(entry: &Sqe) -> Result<Command<'a>, StatusCode>
     let nsid = entry.nsid;
     match entry.cdw10 % 0x100 {
         0x00 => Ok(Command::IdentifyNamespace { nsid }),
+        0x01 => Ok(Command::IdentifyController),
         0x02 => Ok(Command::ActiveList { after: nsid }),
         0x10 => Ok(Command::AllocatedList { after: nsid }),
         0x11 => Ok(Command::AllocatedNamespace { nsid }),
@@ -46,18 +46,4 @@ pub(crate) fn transfer(entry: &Sqe) -> Result<Transfer, StatusCode>
 {
     command(entry)?;
     Ok(TRANSFER)
-}
-
-/// The namespace that a page holds.
-pub(crate) fn namespace(page: &[u8; 4096]) -> Reply
-    ensures { result ≡ namespace_in page.now }
-{
-    Reply::Namespace(IdNs::get(page))
-}
-
-/// The NSIDs that a page holds.
-pub(crate) fn list(page: &[u8; 4096]) -> Reply
-    ensures { result ≡ list_in page.now }
-{
-    Reply::List(NsList::get(page))
 }

@@ -5,29 +5,36 @@
 //! Sections are named as in the NVM Express Base Specification, revision 1.4.
 #![tactic(auto)]
 
-ghost use Rattle.nv_command.specs.Travel.{CommandsTravel, RepliesTravel};
+ghost use Rattle.nv_command.specs.Travel.{CommandsTravel, RepliesFit, RepliesTravel};
 
 mod command;
+mod dword_count;
 mod entry;
 mod features;
 mod format;
 mod identify;
+mod logs;
 mod management;
 mod refusal;
 mod reply;
+mod reply_room;
 mod status_code;
 mod transfer;
 
 pub use command::{BROADCAST_NSID, Command};
+pub use dword_count::DwordCount;
 pub use refusal::Refusal;
 pub use reply::Reply;
+pub use reply_room::ReplyRoom;
 pub use status_code::StatusCode;
 pub use transfer::Transfer;
 
 /// The law of this crate, which does nothing when it is called: a command whose fields fit is what
 /// its entry and its data to the controller say, and a reply that fits its record is what its
-/// dword 0 and its data to the host say, for the command that it replies to.
+/// dword 0 and its data to the host say, for the command that it replies to. Of a log the host
+/// takes as many entries as it asked for, without their phase tags.
 pub fn travels()
     ensures commands { CommandsTravel }
+    ensures sizes { RepliesFit }
     ensures replies { RepliesTravel }
 {}

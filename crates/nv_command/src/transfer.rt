@@ -5,7 +5,7 @@ ghost use Rattle.nv_command.specs.Decoding.{transfer_of};
 
 use crate::entry::Opcode;
 use crate::status_code::StatusCode;
-use crate::{identify, management};
+use crate::{identify, logs, management};
 use nv_layout::Sqe;
 
 /// Which way the data of a command goes beside its entry and its completion, and how many bytes it
@@ -33,6 +33,7 @@ impl Transfer {
             Opcode::FormatNvm => Ok(Transfer::NoData),
             Opcode::GetFeatures => Ok(Transfer::NoData),
             Opcode::SetFeatures => Ok(Transfer::NoData),
+            Opcode::GetLogPage => Ok(logs::transfer(entry)),
         }
     }
 }

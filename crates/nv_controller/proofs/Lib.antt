@@ -1,2 +1,4 @@
+pub mod LogLaws
 pub mod EntryLaws
 pub mod TurnLaws
+pub mod DataLaws

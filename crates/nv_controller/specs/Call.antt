@@ -1,6 +1,6 @@
 -- What is found of an entry before its command is executed: its command and where its data lies, or the status of
 -- the first rule that it breaks.
-use Rattle.std.specs.Prelude.{ℕ, ◌<◌, ◌≤◌, List, [], Option, Some, None, Result, Ok, Err}
+use Rattle.std.specs.Prelude.{ℕ, ◌<◌, ◌≤◌, List, [], nat_lt, if◌then◌else◌, Option, Some, None, Result, Ok, Err}
 use Rattle.nv_layout.specs.declared.sqe.Sqe.{Sqe}
 use Rattle.nv_prp.specs.Place.{read_at}
 use Rattle.nv_prp.specs.Transfer as prp
@@ -10,7 +10,7 @@ use Rattle.nv_command.specs.Decoding.{command_of, transfer_of}
 use Rattle.nv_command.specs.Steps.{◌>>=◌}
 use Rattle.nv_command.specs.declared.command.Command.{Command}
 use Rattle.nv_command.specs.declared.status_code.StatusCode.{StatusCode}
-use Rattle.nv_command.specs.declared.status_code.StatusCode.TheVariants.{DataTransferError, PrpOffsetInvalid}
+use Rattle.nv_command.specs.declared.status_code.StatusCode.TheVariants.{DataTransferError, InvalidFieldInCommand, PrpOffsetInvalid}
 use Rattle.nv_command.specs.declared.transfer.Transfer.{Transfer}
 use Rattle.nv_command.specs.declared.transfer.Transfer.TheVariants.{NoData, ToHost, FromHost}
 
@@ -38,6 +38,10 @@ length_of NoData = 0
 length_of (ToHost n) = n
 length_of (FromHost n) = n
 
+-- data that is longer than the limit is refused
+abbrev pub within : ℕ → Transfer → Result Transfer StatusCode
+within limit moves = if nat_lt limit (length_of moves) then Err InvalidFieldInCommand else Ok moves
+
 -- where the data of an entry lies in the host's memory; an entry without data has no use for its data pointer
 abbrev pub data_places : ℕ → List ℕ → Sqe → Transfer → Result (List ℕ) StatusCode
 data_places page_size bytes e NoData = Ok []
@@ -55,10 +59,12 @@ pub record Call : Type 0 where
   pub command : Command
   pub places : List ℕ
 
--- the rules in order: those of the entry alone, those of its data pointer, those of the data that the host sends
-abbrev pub call_of : ℕ → List ℕ → Sqe → Result Call StatusCode
-call_of page_size bytes e = do
-  moves ← transfer_of e
+-- the rules in order: those of the entry alone, that of how much data it moves, those of its data pointer, those of the
+-- data that the host sends
+abbrev pub call_of : ℕ → ℕ → List ℕ → Sqe → Result Call StatusCode
+call_of page_size limit bytes e = do
+  asked ← transfer_of e
+  moves ← within limit asked
   places ← data_places page_size bytes e moves
   command ← command_of e (sent_from moves bytes places)
   Ok (record { command = command; places = places })

@@ -1,7 +1,5 @@
 -- What taking one entry does.
-use Rattle.std.specs.Prelude.{◌≡◌, ℕ, false, List, [], Result, Ok, Err, length}
-use Rattle.nv_layout.specs.IdNs.{bytes_of_id_ns}
-use Rattle.nv_layout.specs.NsList.{bytes_of_ns_list}
+use Rattle.std.specs.Prelude.{◌≡◌, ℕ, false, List, Result, Ok, Err}
 use Rattle.nv_layout.specs.declared.cqe.Cqe.{Cqe}
 use Rattle.nv_layout.specs.declared.sqe.Sqe.{Sqe}
 use Rattle.nv_layout.specs.declared.status.Status.{Status}
@@ -9,16 +7,18 @@ use Rattle.nv_prp.specs.Place.{written_at}
 use Rattle.nv_queue.specs.Numbers.{next, slot_of}
 use Rattle.nv_queue.specs.Rings.{fetched_one, posted_one}
 use Rattle.nv_queue.specs.Slots.{next_submission, with_completion}
+use Rattle.nv_command.specs.Logs.{without_phases}
 use Rattle.nv_command.specs.Refusal.{refusal_by}
 use Rattle.nv_command.specs.Reply.{data_of, dword0_of}
 use Rattle.nv_command.specs.StatusCode.{status_of_code}
+use Rattle.nv_command.specs.declared.command.Command.{Command}
 use Rattle.nv_command.specs.declared.reply.Reply.{Reply}
-use Rattle.nv_command.specs.declared.reply.Reply.TheVariants as reply
 use Rattle.nv_command.specs.declared.status_code.StatusCode.{StatusCode}
 use Rattle.nv_subsystem.specs.State.{State}
 use Rattle.nv_subsystem.specs.Step.{Step, refused, step, with_command}
 use Rattle.nv_register.specs.declared.rings.Rings.{Rings}
 use Rattle.nv_controller.specs.Call.{Call, call_of}
+use Rattle.nv_controller.specs.Limit.{limit_of}
 use Rattle.nv_controller.specs.declared.entry.Told.{Told}
 
 -- what an entry reads and changes: the subsystem, its controller's rings, and the host's memory
@@ -33,8 +33,9 @@ scene state rings bytes = record { state = state; rings = rings; bytes = bytes }
 abbrev pub entry_in : Scene → Sqe
 entry_in x = next_submission x.bytes x.rings.submission
 
-abbrev pub call_in : Scene → Result Call StatusCode
-call_in x = call_of x.rings.page_size x.bytes (entry_in x)
+-- what controller c finds of it
+abbrev pub call_in : ℕ → Scene → Result Call StatusCode
+call_in c x = call_of x.rings.page_size (limit_of x.state c) x.bytes (entry_in x)
 
 -- an entry that breaks a rule is refused and booked with its own NSID; any other does its command's step
 abbrev pub step_unless : Result Call StatusCode → State → ℕ → Sqe → Step
@@ -43,24 +44,18 @@ step_unless (Err code) s c e =
 step_unless (Ok call) s c e = step s c call.command e.cid
 
 abbrev pub entry_step : ℕ → Scene → Step
-entry_step c x = step_unless (call_in x) x.state c (entry_in x)
+entry_step c x = step_unless (call_in c x) x.state c (entry_in x)
 
-abbrev pub places_in : Result Call StatusCode → List ℕ
-places_in (Ok call) = call.places
-places_in (Err code) = []
+-- the data of a reply, whose entries of the error log have their phase tags, goes to its places byte after byte, so
+-- that of two bytes for one place the later stays; a refusal moves none
+abbrev pub Moves : Command → List ℕ → Result Reply Status → List ℕ → List ℕ → Type 0
+Moves k places (Ok reply) old new =
+    (r : Reply) × (without_phases r ≡ reply) × (new ≡ written_at old places (data_of k r))
+Moves k places (Err status) old new = new ≡ old
 
--- the data of a reply goes to its places byte after byte, so that of two bytes for one place the later stays; a
--- refusal moves none
-abbrev pub Moves : Result Reply Status → List ℕ → List ℕ → List ℕ → Type 0
-Moves (Ok reply) places old new = new ≡ written_at old places (data_of reply)
-Moves (Err status) places old new = new ≡ old
-
--- a reply with data has a page of it, and as many places
-unfoldable pub HasPlaces : Reply → List ℕ → Type 0
-HasPlaces (reply.Namespace r) places = (length places ≡ 4096) × (length (bytes_of_id_ns r) ≡ 4096)
-HasPlaces (reply.List ids) places = (length places ≡ 4096) × (length (bytes_of_ns_list ids) ≡ 4096)
-HasPlaces (reply.Number n) places = Unit {0}
-HasPlaces reply.Done places = Unit {0}
+abbrev pub MovesBy : Result Call StatusCode → Result Reply Status → List ℕ → List ℕ → Type 0
+MovesBy (Ok call) answer old new = Moves call.command call.places answer old new
+MovesBy (Err code) answer old new = new ≡ old
 
 abbrev pub success : Status
 success = record { sc = 0; sct = 0; crd = 0; more = false; dnr = false }
@@ -101,5 +96,5 @@ completion_in c x =
 pub record One (c : ℕ) (old new : Scene) : Type 0 where
   pub state : new.state ≡ (entry_step c old).state
   pub rings : new.rings ≡ record old.rings { submission = fetched_one old.rings.submission; completion = posted_one old.rings.completion }
-  pub bytes : (moved : List ℕ) × Moves (entry_step c old).answer (places_in (call_in old)) old.bytes moved
+  pub bytes : (moved : List ℕ) × MovesBy (call_in c old) (entry_step c old).answer old.bytes moved
       × (new.bytes ≡ with_completion moved old.rings.completion (completion_in c old))

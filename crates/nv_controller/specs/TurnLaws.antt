@@ -8,7 +8,9 @@ use Rattle.nv_layout.specs.RecordLaws.{length-bytes_of_cqe}
 use Rattle.nv_layout.specs.declared.status.Status.{Status}
 use Rattle.nv_prp.specs.PlaceLaws.{length-written_at}
 use Rattle.nv_command.specs.Reply.{data_of}
+use Rattle.nv_command.specs.declared.command.Command.{Command}
 use Rattle.nv_command.specs.declared.reply.Reply.{Reply}
+use Rattle.nv_command.specs.declared.status_code.StatusCode.{StatusCode}
 use Rattle.nv_queue.specs.Numbers.{IsWithinRing, above, kept_number, next}
 use Rattle.nv_queue.specs.KeptLaws.{kept_next}
 use Rattle.nv_queue.specs.NumberLaws.{above_cases, above_next, above_none, next_above, slot_below, within_more, within_taken}
@@ -16,7 +18,8 @@ use Rattle.nv_queue.specs.Rings.{fetched_one, posted_one}
 use Rattle.nv_queue.specs.Slots.{completion_place, put_as, submission_place}
 use Rattle.nv_register.specs.declared.port.Port.{Port}
 use Rattle.nv_register.specs.declared.rings.Rings.{Rings}
-use Rattle.nv_controller.specs.Entry.{Moves, Scene, call_in, completion_in, entry_step, places_in, scene}
+use Rattle.nv_controller.specs.Call.{Call}
+use Rattle.nv_controller.specs.Entry.{Moves, MovesBy, Scene, call_in, completion_in, entry_step, scene}
 use Rattle.nv_controller.specs.Turn.{PortTurn, RingsLie, RingsTurn, Site, Taken, Takes, TakesCount, TurnBy, can_take, free_slots, reaches, turn_count, waiting}
 
 -- ---- one ring
@@ -109,9 +112,13 @@ none_can r page_size size is cannot =
 
 -- ---- the memory keeps its length
 
-pub length_moved : (answer : Result Reply Status) (places old new : List ℕ) → Moves answer places old new → length new ≡ length old
-length_moved (Ok reply) places old new h = ap length h ∙ length-written_at old places (data_of reply)
-length_moved (Err status) places old new h = ap length h
+pub length_moved : (k : Command) (places : List ℕ) (answer : Result Reply Status) (old new : List ℕ) → Moves k places answer old new → length new ≡ length old
+length_moved k places (Ok reply) old new h = ap length h.2 ∙ length-written_at old places (data_of k h.0)
+length_moved k places (Err status) old new h = ap length h
+
+length_by : (found : Result Call StatusCode) (answer : Result Reply Status) (old new : List ℕ) → MovesBy found answer old new → length new ≡ length old
+length_by (Ok call) answer old new h = length_moved call.command call.places answer old new h
+length_by (Err code) answer old new h = ap length h
 
 reached_slot : (r : Rings) (page_size size : ℕ) → reaches r page_size size ≡ true → completion_place r.completion.base r.completion.depth r.completion.posted + 16 ≤ size
 reached_slot r page_size size h =
@@ -123,7 +130,7 @@ length_one : (page_size c : ℕ) (old new : Scene) → Takes page_size c old new
 length_one page_size c old new t =
     let ring = old.rings.completion in
     let moved = t.one.bytes.0 in
-    let same : length moved ≡ length old.bytes = length_moved (entry_step c old).answer (places_in (call_in old)) old.bytes moved t.one.bytes.1 in
+    let same : length moved ≡ length old.bytes = length_by (call_in c old) (entry_step c old).answer old.bytes moved t.one.bytes.1 in
     let size = length-bytes_of_cqe (put_as ring (completion_in c old)) in
     let place = completion_place ring.base ring.depth ring.posted in
     let fits = reached_slot old.rings page_size (length old.bytes) t.reached in

@@ -5,7 +5,7 @@ ghost use Rattle.nv_command.specs.Command.{transfer_by};
 ghost use Rattle.nv_command.specs.Decoding.{command_of};
 ghost use Rattle.nv_prp.specs.Place.{LieIn, places};
 ghost use Rattle.nv_prp.specs.Transfer.{transfer};
-ghost use Rattle.nv_controller.specs.Call.{HasRoom, call_of, data_places, length_of, places_of};
+ghost use Rattle.nv_controller.specs.Call.{HasRoom, call_of, data_places, length_of, places_of, within};
 ghost use Rattle.nv_controller.specs.Call.{prp_status, sent_from};
 
 use nv_command::{Command, StatusCode, Transfer};
@@ -59,6 +59,7 @@ fn find_data<M: HostMemory>(
         MatchResult result (λ _. found ≡ Ok (places spans.new)) (λ code. found ≡ Err code) }
     ensures inside { OnOk result (LieIn (length (M.bytes mem.now)) spans.new) }
     ensures len { OnOk result (length (places spans.new) ≡ length_of moves) }
+    ensures few { OnOk result (length (places spans.new) ≤ 1048576) }
 {
     match moves {
         Transfer::NoData => {
@@ -94,25 +95,43 @@ fn read_command<'a, M: HostMemory>(
     }
 }
 
-/// The command of an entry, or the status of the first rule that the entry or its data breaks;
-/// `spans` get the places of its data, `page` what the host sends, and `listed` the controllers that
+/// The data of an entry's command, which is refused where it is longer than so many bytes.
+fn check_length(moves: Transfer, limit: u64) -> Result<Transfer, StatusCode>
+    ensures { result ≡ within limit moves }
+{
+    let len = match moves {
+        Transfer::NoData => 0,
+        Transfer::ToHost(len) | Transfer::FromHost(len) => len,
+    };
+    if limit < len {
+        return Err(StatusCode::InvalidFieldInCommand);
+    }
+    Ok(moves)
+}
+
+/// The command of an entry, or the status of the first rule that the entry or its data breaks. The
+/// data has at most so many bytes; `spans` get the places of its data, `page` what the host sends, and `listed` the controllers that
 /// it lists.
 pub(crate) fn read_call<'a, M: HostMemory>(
     mem: &M,
     entry: &Sqe,
+    limit: u64,
     spans: &mut Spans,
     page: &mut [u8; 4096],
     listed: &'a mut CtrlList,
 ) -> Result<Command<'a>, StatusCode>
-    ensures found { let found = call_of (M.page_len mem.now) (M.bytes mem.now) entry.now in
+    requires { limit ≤ 1048576 }
+    ensures found { let found = call_of (M.page_len mem.now) limit (M.bytes mem.now) entry.now in
         MatchResult result
         (λ command. found ≡ Ok (record { command = command; places = places spans.new }))
         (λ code. found ≡ Err code) }
     ensures inside { OnOk result (LieIn (length (M.bytes mem.now)) spans.new) }
     ensures len { IfOk result
         (λ command. length (places spans.new) ≡ length_of (transfer_by command)) }
+    ensures few { OnOk result (length (places spans.new) ≤ 1048576) }
 {
-    let moves = Transfer::of(entry)?;
+    let asked = Transfer::of(entry)?;
+    let moves = check_length(asked, limit)?;
     find_data(mem, entry, moves, spans)?;
     let command = read_command(mem, entry, moves, spans, page, listed)?;
     Ok(command)

@@ -1,19 +1,25 @@
 //! Taking one entry.
 
-ghost use Rattle.std.specs.Prelude.{◌≡◌, ◌<◌, Err, Ok, length, true};
-ghost use Rattle.nv_command.specs.Reply.{data_of};
+ghost use Rattle.std.specs.Prelude.{◌≡◌, ◌<◌, ◌≤◌, Err, Ok, length, true};
+ghost use Rattle.nv_layout.specs.Parts.{part};
+ghost use Rattle.nv_command.specs.Command.{transfer_by};
+ghost use Rattle.nv_command.specs.Reply.{FitsRecord, IsReplyTo, data_of, log_of, page_of};
 ghost use Rattle.nv_prp.specs.Place.{LieIn, places, written_at};
+ghost use Rattle.nv_subsystem.specs.Step.{step};
 ghost use Rattle.nv_subsystem.specs.WellFormed.{IsWellFormed};
-ghost use Rattle.nv_controller.specs.Call.{call_of};
-ghost use Rattle.nv_controller.specs.Entry.{HasPlaces, Moves, One, completion_of, places_in, scene, step_unless, told_by};
+ghost use Rattle.nv_controller.specs.Call.{call_of, length_of};
+ghost use Rattle.nv_controller.specs.Entry.{Moves, MovesBy, One, completion_of, scene};
+ghost use Rattle.nv_controller.specs.Entry.{step_unless, told_by};
+ghost use Rattle.nv_controller.specs.Limit.{limit_of};
 ghost use Rattle.nv_controller.specs.Turn.{can_take, reaches};
 
 use crate::call::read_call;
+use crate::log_part::LogPart;
 use crate::scratch::Scratch;
-use nv_command::{Refusal, Reply};
+use nv_command::{Command, Refusal, Reply, Transfer};
 use nv_host::HostMemory;
-use nv_layout::{Cqe, Sqe, Status};
-use nv_prp::{Spans, copy_out};
+use nv_layout::{Cqe, NsList, Sqe, Status};
+use nv_prp::{Spans, copy_out, write_out};
 use nv_register::Rings;
 use nv_subsystem::{Origin, Subsystem};
 
@@ -60,13 +66,13 @@ impl Told {
     }
 }
 
-/// Writes the data of a reply that has a page of it to its places.
+/// Writes the page of a reply to its places.
 fn deliver_page<M: HostMemory>(mem: &mut M, spans: &Spans, page: &mut [u8; 4096], reply: &Reply)
     requires inside { LieIn (length (M.bytes mem.old)) spans.now }
     requires len { length (places spans.now) ≡ 4096 }
-    requires page { length (data_of reply.now) ≡ 4096 }
+    requires page { length (page_of reply.now) ≡ 4096 }
     ensures bytes { M.bytes mem.new
-        ≡ written_at (M.bytes mem.old) (places spans.now) (data_of reply.now) }
+        ≡ written_at (M.bytes mem.old) (places spans.now) (page_of reply.now) }
     ensures len { length (M.bytes mem.new) ≡ length (M.bytes mem.old) }
     ensures page_len { M.page_len mem.new ≡ M.page_len mem.old }
 {
@@ -74,22 +80,121 @@ fn deliver_page<M: HostMemory>(mem: &mut M, spans: &Spans, page: &mut [u8; 4096]
     copy_out(mem, spans, page);
 }
 
-/// Writes the data of a reply to its places, where it has any.
-#[tactic(auto, unfolding(crate::specs::Entry::HasPlaces))]
-fn deliver<M: HostMemory>(mem: &mut M, spans: &Spans, page: &mut [u8; 4096], reply: &Reply)
+/// The most bytes of a log: 256 entries of 64 bytes.
+const LONGEST_LOG: u64 = 16_384;
+
+/// Writes part of the log of a reply to its places, span by span.
+fn deliver_log<M: HostMemory>(mem: &mut M, spans: &Spans, reply: &Reply, offset: u64, len: usize)
     requires inside { LieIn (length (M.bytes mem.old)) spans.now }
-    requires room { HasPlaces reply.now (places spans.now) }
-    ensures bytes { M.bytes mem.new
-        ≡ written_at (M.bytes mem.old) (places spans.now) (data_of reply.now) }
+    requires len { length (places spans.now) ≡ len }
+    requires short { length (log_of reply.now) ≤ 16384 }
+    requires few { len ≤ 1048576 }
+    ensures bytes { M.bytes mem.new ≡ written_at (M.bytes mem.old) (places spans.now)
+        (part (log_of reply.now) offset len) }
     ensures len { length (M.bytes mem.new) ≡ length (M.bytes mem.old) }
     ensures page_len { M.page_len mem.new ≡ M.page_len mem.old }
 {
-    match reply {
-        Reply::Namespace(_) => deliver_page(mem, spans, page, reply),
-        Reply::List(_) => deliver_page(mem, spans, page, reply),
-        Reply::Number(_) => {}
-        Reply::Done => {}
+    // past the log's end there are zeros, wherever the part begins
+    let from = offset.min(LONGEST_LOG) as usize;
+    write_out(mem, spans, &LogPart { reply, from, len });
+}
+
+/// Writes the data of a reply to its places, so many bytes.
+fn send<M: HostMemory>(
+    mem: &mut M,
+    spans: &Spans,
+    page: &mut [u8; 4096],
+    command: &Command,
+    reply: &Reply,
+    len: u64,
+)
+    requires inside { LieIn (length (M.bytes mem.old)) spans.now }
+    requires to_host { transfer_by command.now ≡ Transfer.ToHost len }
+    requires len { length (places spans.now) ≡ len }
+    requires few { len ≤ 1048576 }
+    requires is_reply { IsReplyTo command.now reply.now }
+    requires fits { FitsRecord reply.now }
+    ensures bytes { M.bytes mem.new
+        ≡ written_at (M.bytes mem.old) (places spans.now) (data_of command.now reply.now) }
+    ensures len { length (M.bytes mem.new) ≡ length (M.bytes mem.old) }
+    ensures page_len { M.page_len mem.new ≡ M.page_len mem.old }
+{
+    match command {
+        Command::GetLog { offset, .. } => deliver_log(mem, spans, reply, *offset, len as usize),
+        _ => deliver_page(mem, spans, page, reply),
     }
+}
+
+/// Writes the data of a reply to a command to its places, where it has any.
+fn deliver<M: HostMemory>(
+    mem: &mut M,
+    spans: &Spans,
+    page: &mut [u8; 4096],
+    command: &Command,
+    reply: &Reply,
+)
+    requires inside { LieIn (length (M.bytes mem.old)) spans.now }
+    requires len { length (places spans.now) ≡ length_of (transfer_by command.now) }
+    requires few { length (places spans.now) ≤ 1048576 }
+    requires is_reply { IsReplyTo command.now reply.now }
+    requires fits { FitsRecord reply.now }
+    ensures bytes { M.bytes mem.new
+        ≡ written_at (M.bytes mem.old) (places spans.now) (data_of command.now reply.now) }
+    ensures len { length (M.bytes mem.new) ≡ length (M.bytes mem.old) }
+    ensures page_len { M.page_len mem.new ≡ M.page_len mem.old }
+{
+    match command.transfer() {
+        Transfer::ToHost(len) => send(mem, spans, page, command, reply, len),
+        _ => {}
+    }
+}
+
+/// How many bytes of data a command of a controller has at most. Section "Identify Controller data
+/// structure", Maximum Data Transfer Size.
+#[tactic(auto, using(crate::specs::LimitLaws::limit_bounds))]
+fn limit(subsystem: &Subsystem, ctrl: u16) -> u64
+    requires ctrl { ctrl < length subsystem.now.controllers }
+    requires well_formed { IsWellFormed subsystem.now }
+    ensures limit { result ≡ limit_of subsystem.now ctrl }
+    ensures most { result ≤ 1048576 }
+{
+    4096 * (1 << subsystem.mdts(ctrl))
+}
+
+/// Answers a command and writes the data of its reply, and then does what the command changes.
+fn execute<M: HostMemory>(
+    subsystem: &mut Subsystem,
+    ctrl: u16,
+    mem: &mut M,
+    command: &Command,
+    origin: Origin,
+    spans: &Spans,
+    page: &mut [u8; 4096],
+    ids: &mut NsList,
+) -> Told
+    requires ctrl { ctrl < length subsystem.old.controllers }
+    requires well_formed { IsWellFormed subsystem.old }
+    requires inside { LieIn (length (M.bytes mem.old)) spans.now }
+    requires len { length (places spans.now) ≡ length_of (transfer_by command.now) }
+    requires few { length (places spans.now) ≤ 1048576 }
+    ensures told { result ≡ told_by (step subsystem.old ctrl command.now origin.cid).answer }
+    ensures state { subsystem.new ≡ (step subsystem.old ctrl command.now origin.cid).state }
+    ensures moved { Moves command.now (places spans.now)
+        (step subsystem.old ctrl command.now origin.cid).answer
+        (M.bytes mem.old) (M.bytes mem.new) }
+    ensures well_formed { IsWellFormed subsystem.new }
+    ensures len { length (M.bytes mem.new) ≡ length (M.bytes mem.old) }
+    ensures page_len { M.page_len mem.new ≡ M.page_len mem.old }
+{
+    let (told, refusal) = match subsystem.answer(ctrl, command, ids) {
+        Ok(reply) => {
+            deliver(mem, spans, page, command, &reply);
+            (Told::reply(&reply), None)
+        }
+        Err(refusal) => (Told::refusal(&refusal), Some(refusal)),
+    };
+    subsystem.settle(ctrl, command, origin, refusal);
+    told
 }
 
 /// Executes the command of an entry and writes the data of its reply, or refuses the entry. `phase`
@@ -104,12 +209,15 @@ fn answer_entry<M: HostMemory>(
 ) -> Told
     requires ctrl { ctrl < length subsystem.old.controllers }
     requires well_formed { IsWellFormed subsystem.old }
-    ensures told { let call = call_of (M.page_len mem.old) (M.bytes mem.old) entry.now in
+    ensures told { let call = call_of (M.page_len mem.old)
+        (limit_of subsystem.old ctrl) (M.bytes mem.old) entry.now in
         result ≡ told_by (step_unless call subsystem.old ctrl entry.now).answer }
-    ensures state { let call = call_of (M.page_len mem.old) (M.bytes mem.old) entry.now in
+    ensures state { let call = call_of (M.page_len mem.old)
+        (limit_of subsystem.old ctrl) (M.bytes mem.old) entry.now in
         subsystem.new ≡ (step_unless call subsystem.old ctrl entry.now).state }
-    ensures moved { let call = call_of (M.page_len mem.old) (M.bytes mem.old) entry.now in
-        Moves (step_unless call subsystem.old ctrl entry.now).answer (places_in call)
+    ensures moved { let call = call_of (M.page_len mem.old)
+        (limit_of subsystem.old ctrl) (M.bytes mem.old) entry.now in
+        MovesBy call (step_unless call subsystem.old ctrl entry.now).answer
         (M.bytes mem.old) (M.bytes mem.new) }
     ensures well_formed { IsWellFormed subsystem.new }
     ensures controllers { length subsystem.new.controllers ≡ length subsystem.old.controllers }
@@ -124,23 +232,16 @@ fn answer_entry<M: HostMemory>(
         spans,
         page,
         listed,
+        ids,
     } = scratch;
-    match read_call(mem, entry, spans, page, listed) {
+    let limit = limit(subsystem, ctrl);
+    match read_call(mem, entry, limit, spans, page, listed) {
         Err(code) => {
             let refusal = Refusal::from(code);
             subsystem.refuse(ctrl, origin, entry.nsid, refusal);
             Told::refusal(&refusal)
         }
-        Ok(command) => {
-            let answer = subsystem.execute(ctrl, &command, origin);
-            match &answer {
-                Ok(reply) => {
-                    deliver(mem, spans, page, reply);
-                    Told::reply(reply)
-                }
-                Err(refusal) => Told::refusal(refusal),
-            }
-        }
+        Ok(command) => execute(subsystem, ctrl, mem, &command, origin, spans, page, ids),
     }
 }
 

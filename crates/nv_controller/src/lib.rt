@@ -31,6 +31,7 @@
 mod bus;
 mod call;
 mod entry;
+mod log_part;
 mod machine;
 mod scratch;
 mod turn;

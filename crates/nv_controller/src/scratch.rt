@@ -2,7 +2,7 @@
 
 ghost use Rattle.std.specs.Prelude.{length};
 
-use nv_layout::CtrlList;
+use nv_layout::{CtrlList, NsList};
 use nv_prp::Spans;
 
 /// Places for one entry at a time, made once. What stands in them before is of no account.
@@ -14,6 +14,8 @@ pub struct Scratch {
     pub page: [u8; 4096],
     /// The controllers that it lists.
     pub listed: CtrlList,
+    /// The namespaces that its reply lists.
+    pub ids: NsList,
 }
 
 impl Scratch {
@@ -22,6 +24,7 @@ impl Scratch {
             spans: Spans::new(),
             page: [0; 4096],
             listed: CtrlList::new(),
+            ids: NsList::new(),
         }
     }
 }

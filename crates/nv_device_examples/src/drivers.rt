@@ -8,7 +8,6 @@ use nv_command::{Command, Reply};
 use nv_controller::{Bus, Machine};
 use nv_driver::*;
 use nv_host::HostMemory;
-use nv_layout::Status;
 use nv_subsystem::{DEMO, Subsystem};
 use std::alloc::Global;
 use std::process::Abort;
@@ -143,7 +142,8 @@ fn expect_list(rt: &impl Abort, driver: &mut Driver, machine: &mut Machine, ctrl
     ensures left { machine.new.ports ≡ ports_of driver.new }
     ensures lanes { length driver.new.lanes ≡ length driver.old.lanes }
 {
-    match driver.admin(machine, ctrl, &Command::ActiveList { after: 0 }) {
+    let mut slot = AnswerSlot::new();
+    match driver.admin(machine, ctrl, &Command::ActiveList { after: 0 }, &mut slot) {
         Ok(Reply::List(list)) => assert_eq!(rt; list.as_slice(), want),
         _ => assert!(rt; false),
     }
@@ -158,7 +158,13 @@ fn expect_refusal(rt: &impl Abort, driver: &mut Driver, machine: &mut Machine, c
     ensures left { machine.new.ports ≡ ports_of driver.new }
     ensures lanes { length driver.new.lanes ≡ length driver.old.lanes }
 {
-    match driver.admin(machine, ctrl, &Command::IdentifyNamespace { nsid: 0 }) {
+    let mut slot = AnswerSlot::new();
+    match driver.admin(
+        machine,
+        ctrl,
+        &Command::IdentifyNamespace { nsid: 0 },
+        &mut slot,
+    ) {
         Err(status) => assert_eq!(rt; status.number(), 0x600b),
         Ok(_) => assert!(rt; false),
     }
@@ -238,8 +244,8 @@ impl Bus for Counted {
 }
 
 /// An answer is a list of these NSIDs.
-fn expect_ids(rt: &impl Abort, answer: &Answer, want: &[u32]) {
-    match answer {
+fn expect_ids(rt: &impl Abort, slot: &AnswerSlot, want: &[u32]) {
+    match slot.answer() {
         Ok(Reply::List(list)) => assert_eq!(rt; list.as_slice(), want),
         _ => assert!(rt; false),
     }
@@ -264,15 +270,20 @@ fn expect_five(rt: &impl Abort, alloc: Global, geometry: Geometry) -> Result<[u1
         Command::ActiveList { after: 0 },
         Command::ActiveList { after: 1 },
     ];
-    let none = Status::from_number(0);
-    let mut answers = [Err(none), Err(none), Err(none), Err(none), Err(none)];
+    let mut answers = [
+        AnswerSlot::new(),
+        AnswerSlot::new(),
+        AnswerSlot::new(),
+        AnswerSlot::new(),
+        AnswerSlot::new(),
+    ];
     driver.admin_all(&mut bus, 0, &commands, &mut answers);
-    assert!(rt; answers[0].is_ok());
-    match &answers[1] {
+    assert!(rt; answers[0].answer().is_ok());
+    match answers[1].answer() {
         Err(status) => assert_eq!(rt; status.number(), 0x600b),
         Ok(_) => assert!(rt; false),
     }
-    assert!(rt; answers[2].is_ok());
+    assert!(rt; answers[2].answer().is_ok());
     expect_ids(rt, &answers[3], &[1, 3]);
     expect_ids(rt, &answers[4], &[3]);
     Ok(bus.taken)

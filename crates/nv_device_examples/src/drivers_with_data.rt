@@ -2,6 +2,7 @@
 
 ghost use Rattle.std.specs.Prelude.{◌≡◌, ◌≤◌, ◌<◌, IfOk, length};
 ghost use Rattle.nv_command.specs.Command.{CommandFits};
+ghost use Rattle.nv_command.specs.Logs.{IsSendable};
 ghost use Rattle.nv_controller.specs.Bus.{IsBus};
 ghost use Rattle.nv_driver.specs.Registers.{ports_of};
 
@@ -9,7 +10,7 @@ use crate::drivers::machine;
 use nv_command::{Command, Reply};
 use nv_controller::Machine;
 use nv_driver::*;
-use nv_layout::{ControllerIds, Status};
+use nv_layout::ControllerIds;
 use std::alloc::Global;
 use std::process::Abort;
 use std::test::Fail;
@@ -36,7 +37,8 @@ fn expect(rt: &impl Abort, answer: &Answer, want: Want) {
 
 /// A private namespace to create.
 fn create<'a>(nsze: u64, ncap: u64, flbas: u8) -> Command<'a>
-    ensures { CommandFits result }
+    ensures fits { CommandFits result }
+    ensures sends { IsSendable result }
 {
     Command::Create {
         nsze,
@@ -50,7 +52,8 @@ fn create<'a>(nsze: u64, ncap: u64, flbas: u8) -> Command<'a>
 /// A namespace to attach to the listed controllers, or to detach from them.
 fn attachment<'a>(nsid: u32, detach: bool, ids: &'a [u16]) -> Command<'a>
     requires { length ids.now ≤ 2047 }
-    ensures { CommandFits result }
+    ensures fits { CommandFits result }
+    ensures sends { IsSendable result }
 {
     let list = ControllerIds::new(ids);
     let command = Command::Attachment { nsid, detach, list };
@@ -84,11 +87,15 @@ impl Bench {
         requires bus { IsBus self.old.machine }
         requires left { self.old.machine.ports ≡ ports_of self.old.driver }
         requires fits { CommandFits command.now }
+        requires sends { IsSendable command.now }
         ensures bus { IsBus self.new.machine }
         ensures left { self.new.machine.ports ≡ ports_of self.new.driver }
         ensures lanes { length self.new.driver.lanes ≡ length self.old.driver.lanes }
     {
-        let answer = self.driver.admin(&mut self.machine, ctrl, command);
+        let mut slot = AnswerSlot::new();
+        let answer = self
+            .driver
+            .admin(&mut self.machine, ctrl, command, &mut slot);
         expect(rt, &answer, want);
     }
 }
@@ -216,26 +223,25 @@ fn manages_by_a_list(rt: &impl Abort, alloc: Global, geometry: Geometry) -> Resu
         create(0, 0, 0),
         Command::AllocatedList { after: 0 },
     ];
-    let none = Status::from_number(0);
     let mut answers = [
-        Err(none),
-        Err(none),
-        Err(none),
-        Err(none),
-        Err(none),
-        Err(none),
-        Err(none),
+        AnswerSlot::new(),
+        AnswerSlot::new(),
+        AnswerSlot::new(),
+        AnswerSlot::new(),
+        AnswerSlot::new(),
+        AnswerSlot::new(),
+        AnswerSlot::new(),
     ];
     bench
         .driver
         .admin_all(&mut bench.machine, 0, &commands, &mut answers);
-    expect(rt, &answers[0], Want::Number(2));
-    expect(rt, &answers[1], Want::Done);
-    expect(rt, &answers[2], Want::Ids(&[1, 2, 3]));
-    expect(rt, &answers[3], Want::Refused(0x600b));
-    expect(rt, &answers[4], Want::Done);
-    expect(rt, &answers[5], Want::Refused(0x6002));
-    expect(rt, &answers[6], Want::Ids(&[1, 3]));
+    expect(rt, &answers[0].answer(), Want::Number(2));
+    expect(rt, &answers[1].answer(), Want::Done);
+    expect(rt, &answers[2].answer(), Want::Ids(&[1, 2, 3]));
+    expect(rt, &answers[3].answer(), Want::Refused(0x600b));
+    expect(rt, &answers[4].answer(), Want::Done);
+    expect(rt, &answers[5].answer(), Want::Refused(0x6002));
+    expect(rt, &answers[6].answer(), Want::Ids(&[1, 3]));
     Ok(())
 }
 

@@ -14,10 +14,14 @@ mod files;
 #[cfg(test)]
 mod mistakes;
 #[cfg(test)]
+mod subsystem_logs;
+#[cfg(test)]
 mod subsystem_management;
 #[cfg(test)]
 mod turns;
 #[cfg(test)]
 mod turns_by_steps;
+#[cfg(test)]
+mod turns_of_logs;
 #[cfg(test)]
 mod turns_of_management;

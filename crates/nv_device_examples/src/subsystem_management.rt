@@ -1,5 +1,6 @@
 //! Namespaces created, deleted, attached and detached, over the demonstration subsystem.
 
+use nv_command::ReplyRoom;
 use nv_layout::{CtrlList, ErrorEntry};
 use nv_subsystem::*;
 use std::alloc::Global;
@@ -20,10 +21,12 @@ fn ask(subsystem: &mut Subsystem, ctrl: u16, cid: u16, command: &Command) -> Ans
     if ctrl >= subsystem.controllers() {
         return Answer::NoController;
     }
-    match subsystem.execute(ctrl, command, Origin { cid, phase: true }) {
+    let mut room = ReplyRoom::new();
+    let origin = Origin { cid, phase: true };
+    match subsystem.execute(ctrl, command, origin, &mut room) {
         Ok(Reply::Number(number)) => Answer::Number(number),
         Ok(Reply::Done) => Answer::Done,
-        Ok(Reply::Namespace(_) | Reply::List(_)) => Answer::Record,
+        Ok(_) => Answer::Record,
         Err(refusal) => Answer::Refused(refusal.status.number()),
     }
 }
@@ -90,7 +93,8 @@ fn check_list_of(
         cid: 7,
         phase: true,
     };
-    match subsystem.execute(ctrl, command, origin) {
+    let mut room = ReplyRoom::new();
+    match subsystem.execute(ctrl, command, origin, &mut room) {
         Ok(Reply::List(list)) => assert!(rt; list.as_slice() == nsids),
         _ => assert!(rt; false, "no list"),
     }

@@ -123,7 +123,8 @@ fn answers_each_structure(rt: HostRuntime) -> Result<(), Fail> {
         (0x11, 3, 0),
         (0x11, 2, 0),
         (0x11, 0xffff_ffff, 0x600b),
-        (0x01, 0, 0x6002),
+        (0x01, 0, 0),
+        (0x01, 0xffff_fffe, 0),
         (0x03, 0, 0x6002),
         (0xff, 0, 0x6002),
     ] {
@@ -133,8 +134,8 @@ fn answers_each_structure(rt: HostRuntime) -> Result<(), Fail> {
 }
 
 #[test]
-fn knows_six_opcodes(rt: HostRuntime) -> Result<(), Fail> {
-    for opcode in [0x00, 0x02, 0x0c, 0x81, 0xff] {
+fn knows_seven_opcodes(rt: HostRuntime) -> Result<(), Fail> {
+    for opcode in [0x00, 0x03, 0x0c, 0x81, 0xff] {
         let entry = Sqe {
             opcode,
             ..identify(7, 0, 0x02, 0x10002)

@@ -19,12 +19,18 @@ fn manage(opcode: u8, nsid: u32, select: u32) -> Sqe {
 }
 
 /// Writes bytes to the memory.
-fn store(rt: &impl Abort, mem: &mut FlatMemory, addr: u64, bytes: &[u8]) {
+pub(crate) fn store(rt: &impl Abort, mem: &mut FlatMemory, addr: u64, bytes: &[u8]) {
     assert!(rt; mem.store(addr, bytes).is_ok());
 }
 
 /// The completion of an entry that is put into a slot of the ring and taken alone.
-fn take(rt: &impl Abort, machine: &mut Machine, mem: &mut FlatMemory, slot: u16, entry: &Sqe) -> Cqe
+pub(crate) fn take(
+    rt: &impl Abort,
+    machine: &mut Machine,
+    mem: &mut FlatMemory,
+    slot: u16,
+    entry: &Sqe,
+) -> Cqe
     requires { IsBus machine.old }
     ensures { IsBus machine.new }
 {
@@ -36,7 +42,7 @@ fn take(rt: &impl Abort, machine: &mut Machine, mem: &mut FlatMemory, slot: u16,
 }
 
 /// Checks that the newest refusal of controller 0 is booked with this NSID.
-fn check_booked(rt: &impl Abort, machine: &Machine, nsid: u32)
+pub(crate) fn check_booked(rt: &impl Abort, machine: &Machine, nsid: u32)
     requires { IsBus machine.now }
 {
     assert!(rt; machine.subsystem().controllers() == 2);

@@ -1,14 +1,11 @@
 -- One command of a driver, over the lanes of its controllers.
 use Rattle.std.specs.Prelude.{slice_set}
-use Rattle.std.specs.Int.{div_ceil}
-use Rattle.std.proofs.Common.{◌≡◌, ◌≢◌, ◌∙◌, ◌⊎◌, ℕ, ◌+◌, ◌-◌, ◌*◌, ◌/◌, ◌^◌, ◌<◌, ◌≤◌, List, ap, arith, get_or, inl, inr, length, map, refl, subst, suc, sym, zero}
+use Rattle.std.proofs.Common.{◌≡◌, ◌≢◌, ◌∙◌, ◌⊎◌, ℕ, ◌+◌, ◌-◌, ◌*◌, ◌/◌, ◌^◌, ◌<◌, ◌≤◌, List, ap, arith, get_or, inl, inr, length, map, refl, subst, sym}
 use Rattle.std.proofs.Math.ListN.{length-set}
 use Rattle.std.proofs.Math.Nat.{mul-le-mul_left, mul-le-mul_right}
 use Rattle.std.proofs.lemmas.Bool.{cases_eq, cases_lt}
-use Rattle.std.proofs.lemmas.Grind.{div_ceil_times}
 use Rattle.std.proofs.lemmas.List.{get_or-map, get_or-set_other, get_or-set_same, get_or_default, length-map, map-set}
 use Rattle.std.proofs.lemmas.List.Elements.{All-set}
-use Rattle.nv_host.specs.PageLaws.{page_size_bounds}
 use Rattle.nv_host.specs.Pages.{PagedBytes}
 use Rattle.nv_layout.specs.Cqe.{cqe_of_bytes}
 use Rattle.nv_layout.specs.declared.cqe.Cqe.{Cqe}
@@ -19,9 +16,8 @@ use Rattle.nv_register.specs.declared.port.Port.{Port}
 use Rattle.nv_controller.specs.Bus.{BusValue, IsBus, port_at}
 use Rattle.nv_driver.specs.Driver.{IsDriver, IsPlaced, driver_value, lane_at, no_lane, page_count}
 use Rattle.nv_driver.specs.Exchange.{IsReady, KeepsOthers}
-use Rattle.nv_driver.specs.Geometry.{IsGeometry}
 use Rattle.nv_driver.specs.Lane.{IsLaid, Lane, idle_port}
-use Rattle.nv_driver.specs.Layout.{set_pages}
+use Rattle.nv_driver.specs.Layout.{pages_of_command, set_pages}
 use Rattle.nv_driver.specs.Quiet.{IsQuiet, lane_value}
 use Rattle.nv_driver.specs.Registers.{idle_ports, mps_of}
 use Rattle.nv_driver.specs.Settled.{DriverValue, IsSettled, end_of}
@@ -30,20 +26,10 @@ use Rattle.nv_driver.specs.declared.lane.Lane.{Lane as LaneFields}
 
 -- ---- before the command
 
--- a page set has room for four pages of each command
-set_room : (g : Geometry) → IsGeometry g → 4 * g.window ≤ set_pages g
+-- a page set has room for the pages of each command
+set_room : (g : Geometry) → g.window * pages_of_command g.page_size ≤ set_pages g
 unfolding set_pages
-set_room g is =
-    let bounds = page_size_bounds g.page_size is.page_size in
-    let times = div_ceil_times 16384 g.page_size (omega (arith, bounds)) in
-    let each : 4 ≤ div_ceil 16384 g.page_size + 3 = some (div_ceil 16384 g.page_size) times.0 in
-    let all = mul-le-mul_left g.window each in
-    let turned : 4 * g.window ≡ g.window * 4 = omega arith in
-    omega (arith, all, turned)
-  where
-    some : (n : ℕ) → 16384 ≤ n * g.page_size → 4 ≤ n + 3
-    some zero h = absurd (omega arith)
-    some (suc n) h = omega arith
+set_room g = omega arith
 
 value_at : (ls : List LaneFields) (c : ℕ) (d : LaneFields) (e : Lane) → c < length ls → get_or (map lane_value ls) c e ≡ lane_value (get_or ls c d)
 value_at ls c d e below = get_or-map lane_value ls c d e below
@@ -58,7 +44,7 @@ ready_at {g} {mem} {ls} {b} {c} {l} is bus ports below here =
       geometry = is.geometry;
       page_size = is.page_size;
       depth = ap (λ (v : Lane). v.depth) (sym at ∙ is.placed c no_lane below);
-      room = subst (λ n. 4 * g.window ≤ n) (sym (ap (λ (v : Lane). v.page_count) (sym at ∙ is.placed c no_lane below))) (set_room g is.geometry);
+      room = subst (λ n. g.window * pages_of_command g.page_size ≤ n) (sym (ap (λ (v : Lane). v.page_count) (sym at ∙ is.placed c no_lane below))) (set_room g);
       quiet = subst IsQuiet (sym here) (is.quiet c l below);
       laid = subst (λ p. IsLaid p (length mem.bytes) (lane_value l)) is.page_size
           (subst (IsLaid mem.page_size (length mem.bytes)) at (settled.laid c no_lane (omega arith)));

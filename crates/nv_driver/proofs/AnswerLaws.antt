@@ -1,11 +1,12 @@
 -- What an answer is, and that it is read as it is where its completion and its data lie.
-use Rattle.std.proofs.Common.{◌≡◌, ℕ, ◌<◌, ◌^◌, ◌==◌, ◌&&◌, false, Err, List, None, Ok, Option, Some, ap, arith, lit<, refl}
+use Rattle.std.proofs.Common.{◌≡◌, ℕ, ◌<◌, ◌^◌, ◌==◌, ◌&&◌, false, Err, List, None, Ok, Option, Some, ap, arith, lit<, refl, sym, ◌∙◌}
 use Rattle.std.proofs.lemmas.Bool.Decides.{nat_tests}
 use Rattle.nv_layout.specs.Cqe.{CqeFits}
 use Rattle.nv_layout.specs.Status.{StatusFits}
 use Rattle.nv_layout.specs.declared.status.Status.{Status}
 use Rattle.nv_command.specs.Refusal.{IsRefusal}
-use Rattle.nv_command.specs.Reply.{FitsRecord, IsReplyTo, data_of, dword0_of}
+use Rattle.nv_command.specs.Logs.{IsSendable, answer_received, received, without_phases}
+use Rattle.nv_command.specs.Reply.{FitsRecord, IsReplyTo, data_of, dword0_of, reply_in}
 use Rattle.nv_command.specs.TravelLaws.{replies_travel}
 use Rattle.nv_command.specs.declared.command.Command.{Command}
 use Rattle.nv_command.specs.declared.refusal.Refusal.{Refusal}
@@ -18,6 +19,7 @@ use Rattle.nv_subsystem.specs.Step.{step, step_by}
 use Rattle.nv_subsystem.specs.StepLaws.{refusal_fits}
 use Rattle.nv_subsystem.specs.WellFormed.{IsWellFormed}
 use Rattle.nv_controller.specs.Entry.{completion_with}
+use Rattle.nv_controller.specs.TagLaws.{dword0_tagged, tagged}
 use Rattle.nv_command.specs.Command.{transfer_by}
 use Rattle.nv_queue.specs.Slots.{posted_as}
 use Rattle.nv_driver.specs.Schedule.{Answer, Sent, Setting, answer_read, is_success, places, received_from}
@@ -44,10 +46,13 @@ answer_sound s c k cid w = answer_by (refusal_of s c k) s c k cid w (refusal_fit
 -- ---- completions
 
 dword0_fits : (r : Reply) → FitsRecord r → dword0_of r < 2 ^ 32
+dword0_fits (reply.Controller r) fits = lit< tt
 dword0_fits (reply.Namespace r) fits = lit< tt
 dword0_fits (reply.List ids) fits = lit< tt
 dword0_fits (reply.Number n) fits = fits
 dword0_fits reply.Done fits = lit< tt
+dword0_fits (reply.Errors es) fits = lit< tt
+dword0_fits (reply.Smart r) fits = lit< tt
 
 pub completion_fits : (k : Command) (cid head : ℕ) (a : Answer) → cid < 2 ^ 16 → head < 2 ^ 16 → IsAnswerTo k a → CqeFits (completion_with cid head a)
 completion_fits k cid head (Ok r) low below is = record {
@@ -65,15 +70,21 @@ completion_fits k cid head (Err status) low below is = record {
   status = is.0;
 }
 
--- what a reply's command receives is the data of the reply
+-- what a reply's command receives is the data of the reply, but for phase tags
 abbrev pub Delivers : Setting → Sent → List ℕ → Answer → Type 0
-Delivers t x mem (Ok r) =
-    received_from (transfer_by x.command) mem (places t.page_size x) ≡ data_of r
+Delivers t x mem (Ok reply) =
+    (r : Reply) × (without_phases r ≡ reply)
+    × (received_from (transfer_by x.command) mem (places t.page_size x) ≡ data_of x.command r)
 Delivers t x mem (Err status) = Unit {0}
 
-pub answer_back : (t : Setting) (x : Sent) (mem : List ℕ) (depth n cid head : ℕ) (a : Answer) → IsAnswerTo x.command a → Delivers t x mem a
-    → answer_read t.page_size x mem (posted_as depth n (completion_with cid head a)) ≡ a
-answer_back t x mem depth n cid head (Ok r) is delivered =
-    let back = (replies_travel x.command r is.0 is.1).reply in
-    rw delivered (ap Ok back)
-answer_back t x mem depth n cid head (Err status) is delivered = rw (is.1) refl
+pub answer_back : (t : Setting) (x : Sent) (mem : List ℕ) (depth n cid head : ℕ) (a : Answer) → IsSendable x.command → IsAnswerTo x.command a
+    → Delivers t x mem a → answer_read t.page_size x mem (posted_as depth n (completion_with cid head a)) ≡ answer_received x.command a
+answer_back t x mem depth n cid head (Ok reply) sends is delivered =
+    let k = x.command in
+    let r = delivered.0 in
+    let same : without_phases r ≡ reply = delivered.1 in
+    let with_tags = tagged k r reply same is in
+    let back = (replies_travel k r with_tags.0 with_tags.1 sends).reply in
+    rw delivered.2 (ap Ok (ap (λ (q : Reply). reply_in k (dword0_of q) (data_of k r)) (sym same)
+    ∙ ap (λ d. reply_in k d (data_of k r)) (dword0_tagged r) ∙ back ∙ ap (received k) same))
+answer_back t x mem depth n cid head (Err status) sends is delivered = rw (is.1) refl

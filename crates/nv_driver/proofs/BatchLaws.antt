@@ -3,6 +3,7 @@ use Rattle.std.proofs.Common.{◌≡◌, ◌∙◌, ℕ, zero, suc, ◌+◌, ◌
 use Rattle.std.proofs.Math.Nat.{add-mod_right, mod-add-mod, mod-eq_of_lt}
 use Rattle.std.proofs.lemmas.Bool.{cases_lt}
 use Rattle.std.proofs.lemmas.Nat.{mod_below}
+use Rattle.nv_command.specs.Logs.{answer_received}
 use Rattle.nv_command.specs.declared.command.Command.{Command}
 use Rattle.nv_subsystem.specs.State.{State}
 use Rattle.nv_subsystem.specs.Step.{Step, next_serial, step}
@@ -83,8 +84,9 @@ answers_are c s serial ks xs zero below short few are = refl
 answers_are c s serial ks [] (suc n) below short few are = absurd (omega arith)
 answers_are c s serial [] (x ∷ xs) (suc n) below short few are = absurd (omega arith)
 answers_are c s serial (k ∷ ks) (x ∷ xs) (suc n) below short few are =
-    ap (λ (p : Step). p.answer ∷ take n (answers_to c p.state xs)) (same_step c s serial k ks x xs below are)
-    ∙ ap (λ rest. (step s c k serial).answer ∷ rest)
+    ap (λ (q : Command). answer_received q (step s c x.command x.cid).answer ∷ take n (answers_to c (step s c x.command x.cid).state xs)) (are.command 0 x k (omega arith))
+    ∙ ap (λ (p : Step). answer_received k p.answer ∷ take n (answers_to c p.state xs)) (same_step c s serial k ks x xs below are)
+    ∙ ap (λ rest. answer_received k (step s c k serial).answer ∷ rest)
     (answers_are c (step s c k serial).state (next_serial serial) ks xs n (next_below serial) (omega arith) (omega arith) (those_after serial k ks x xs are))
 
 pub length-answers_of : (c : ℕ) (s : State) (serial : ℕ) (ks : List Command) → length (answers_of c s serial ks) ≡ length ks

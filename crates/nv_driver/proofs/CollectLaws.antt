@@ -16,10 +16,12 @@ use Rattle.nv_queue.specs.Rings.{CollectNumbers, SubmitNumbers, collected_one, k
 use Rattle.nv_queue.specs.Slots.{IsAwaitedThere, awaited_completion, completion_at}
 use Rattle.nv_queue.specs.TagLaws.{tag_there}
 use Rattle.nv_command.specs.Command.{transfer_by}
+use Rattle.nv_command.specs.Logs.{IsSendable}
 use Rattle.nv_command.specs.declared.command.Command.{Command}
 use Rattle.nv_controller.specs.Call.{length_of}
 use Rattle.nv_driver.specs.CommandPages.{AreTaken, all_pages, with_pages, without}
-use Rattle.nv_driver.specs.Schedule.{Answer, Sent, World, answer_from, answer_read, answers_to, awaited, collect_ring, data_length, number, own_pages, places, received_from, slot, submit_ring}
+use Rattle.nv_driver.specs.Schedule.{Answer, Sent, StaysNamed, World, answer_from, answer_read, answers_to, awaited, collect_ring, data_length, number, own_pages, places, received_from, slot, submit_ring}
+use Rattle.nv_driver.specs.Layout.{pages_of_command}
 use Rattle.nv_driver.specs.Submitting.{sent_by, transfer_at}
 use Rattle.nv_driver.specs.UnderWay.{HasAnswers, IsKept, IsUnderWay, Run, kept_at, pages_of_all, serial_at, setting_of}
 use Rattle.nv_driver.specs.declared.batch.Batch.{Batch}
@@ -28,6 +30,7 @@ use Rattle.nv_driver.specs.declared.submitting.Outstanding.{Outstanding}
 use Rattle.nv_driver.proofs.BatchLaws.{answers_are, distance_is}
 use Rattle.nv_driver.proofs.CountLaws.{number_above, number_below, number_next, numbers_differ, slot_inside}
 use Rattle.nv_driver.proofs.KeptLaws.{collect_keeps}
+use Rattle.nv_driver.proofs.PointerLaws.{names_in}
 use Rattle.nv_driver.proofs.SerialLaws.{length-answers}
 use Rattle.nv_driver.proofs.SubmittingLaws.{pages_are}
 use Rattle.nv_driver.proofs.TurnLaws.{no_command}
@@ -37,12 +40,8 @@ use Rattle.nv_driver.proofs.WindowPageLaws.{given_back, gone, taken_first, taken
 -- a command that was sent with these
 pub record IsOne (r : Run) (o : Outstanding) (x : Sent) : Type 0 where
   pub sent : x ≡ sent_by r.geometry x.command x.cid o
-  pub few : o.pages.data_pages ≤ 2
+  pub few : o.pages.data_pages + 2 ≤ pages_of_command r.geometry.page_size
   pub pages : all_pages o.pages ≡ own_pages x
-  pub legal : (mem : List ℕ) → length mem ≡ length r.bytes
-      → (0 < data_length x → IsLegal (transfer_at r.geometry.page_size mem o x.command))
-      × (transfer_places (transfer_at r.geometry.page_size mem o x.command)
-      ≡ places r.geometry.page_size x)
 
 is_one : (r : Run) (found : Option Outstanding) (o : Outstanding) (x : Sent) → IsKept r found x → found ≡ Some o → IsOne r o x
 is_one r found o x k is =
@@ -52,12 +51,6 @@ is_one r found o x k is =
       sent = as_sent;
       few = omega (arith, k.few, ap (λ (q : Outstanding). q.pages.data_pages) same);
       pages = ap (λ (q : Outstanding). all_pages q.pages) (sym same) ∙ pages_are k.one.pages k.seven ∙ ap own_pages (sym k.sent);
-      legal = λ mem size.
-          let page_size = r.geometry.page_size in
-          subst (λ (y : Sent). (0 < data_length x
-          → IsLegal (transfer page_size mem y.prp1 y.prp2 (data_length x)))
-          × (transfer_places (transfer page_size mem y.prp1 y.prp2 (data_length x)) ≡ places page_size x))
-          as_sent (k.legal mem size);
     }
 
 -- more was collected than was told
@@ -214,7 +207,7 @@ module _ {r : Run} {bells turns : ℕ} {b : Batch} {l : LaneFields} {now : ℕ} 
           let w' : World = record w { answers = w.answers ++ a ∷ [] } in
           record {
             begun = u.begun;
-            fits = u.fits;
+            can = u.can;
             geometry = u.geometry;
             controller = u.controller;
             page_size = u.page_size;
@@ -243,12 +236,27 @@ module _ {r : Run} {bells turns : ℕ} {b : Batch} {l : LaneFields} {now : ℕ} 
 
       -- ---- the answer
 
+      -- its data pointer names its data
+      names : (0 < data_length next_one → IsLegal (transfer_at r.geometry.page_size bytes o next_one.command))
+          × (transfer_places (transfer_at r.geometry.page_size bytes o next_one.command) ≡ places r.geometry.page_size next_one)
+      names =
+          let page_size = r.geometry.page_size in
+          let x = next_one in
+          subst (λ (y : Sent). (0 < data_length x → IsLegal (transfer page_size bytes y.prp1 y.prp2 (data_length x)))
+          × (transfer_places (transfer page_size bytes y.prp1 y.prp2 (data_length x)) ≡ places page_size x)) one_is.sent
+          (names_in page_size x bytes (subst (StaysNamed page_size x) u.mem
+          (u.keeps.named b.collected no_command (omega (arith, u.collected)) (omega (arith, no_more, more, u.sent)))))
+
       module _ {k : Command} (same : k ≡ next_one.command) where
+        pub answer_sends : IsSendable k
+        answer_sends =
+            subst IsSendable (sym same) (u.keeps.own b.collected no_command (omega (arith, u.collected)) (omega (arith, no_more, more, u.sent))).can.sends
+
         pub answer_legal : 0 < length_of (transfer_by k) → IsLegal (transfer_at now bytes o k)
         answer_legal =
             subst (λ c. 0 < length_of (transfer_by c) → IsLegal (transfer_at now bytes o c)) (sym same)
             (subst (λ p. 0 < data_length next_one → IsLegal (transfer_at p bytes o next_one.command))
-            (sym u.page_size) (one_is.legal bytes u.size).0)
+            (sym u.page_size) names.0)
 
         answer_is : (d : Answer)
             → answer_from k q (received_from (transfer_by k) bytes (transfer_places (transfer_at now bytes o k)))
@@ -261,7 +269,7 @@ module _ {r : Run} {bells turns : ℕ} {b : Batch} {l : LaneFields} {now : ℕ} 
             answer_from c q (received_from (transfer_by c) bytes ps) in
             ap (λ c. read c (transfer_places (transfer_at now bytes o c))) same
             ∙ ap (λ p. read k' (transfer_places (transfer_at p bytes o k'))) u.page_size
-            ∙ ap (read k') (one_is.legal bytes u.size).1
+            ∙ ap (read k') names.1
             ∙ ap (λ m. answer_read t.page_size next_one m q) (sym u.mem)
             ∙ ap (answer_read t.page_size next_one u.world.mem) completion_is
             ∙ held.answer d

@@ -1,59 +1,52 @@
--- The data of a command: none, or 4,096 bytes the one way or the other.
-use Rattle.std.proofs.Common.{◌≡◌, ◌∙◌, ◌<◌, ◌≤◌, ℕ, List, [], ◌∷◌, ◌++◌, ap, append-nil, arith, drop, get_or, length, length-drop, lit<, lit≤, refl, subst, sym}
+-- The data of a command: none, a page from the host, or up to 16,384 bytes from the controller.
+use Rattle.std.proofs.Common.{◌≡◌, ◌∙◌, ◌*◌, ◌<◌, ◌≤◌, ℕ, Bool, true, false, List, [], ◌∷◌, ◌++◌, ap, append-nil, arith, drop, get_or, length, length-drop, lit<, lit≤, refl, subst, sym}
 use Rattle.nv_prp.specs.Place.{AreDistinct, read_at, written_at}
 use Rattle.nv_prp.specs.PlaceLaws.{read_written}
 use Rattle.nv_command.specs.Command.{CommandFits, bytes_from_host, bytes_to_host, host_data_of, transfer_by}
-use Rattle.nv_command.specs.Reply.{reply_in, with_data}
+use Rattle.nv_command.specs.Logs.{IsSendable, IsWhole, is_error_log}
+use Rattle.nv_command.specs.Reply.{with_data}
 use Rattle.nv_command.specs.TravelLaws.{commands_travel}
 use Rattle.nv_command.specs.declared.command.Command.{Command}
-use Rattle.nv_command.specs.declared.command.Command.TheVariants.{IdentifyNamespace, AllocatedNamespace, ActiveList, AllocatedList, Create, Delete, Attachment}
-use Rattle.nv_command.specs.declared.command.Command.TheVariants.{Format, GetFeature, SetFeature}
+use Rattle.nv_command.specs.declared.command.Command.TheVariants.{IdentifyController, IdentifyNamespace, AllocatedNamespace, ActiveList, AllocatedList, Create, Delete, Attachment}
+use Rattle.nv_command.specs.declared.command.Command.TheVariants.{Format, GetFeature, SetFeature, GetLog}
 use Rattle.nv_command.specs.declared.transfer.Transfer.{Transfer}
 use Rattle.nv_command.specs.declared.transfer.Transfer.TheVariants.{NoData, ToHost, FromHost}
 use Rattle.nv_controller.specs.Call.{length_of, sent_from}
-use Rattle.nv_driver.specs.Schedule.{received_from}
+use Rattle.nv_driver.specs.Schedule.{CanBeSent, received_from}
 
 -- ---- by commands
 
 abbrev pub HasShape : Transfer → Type 0
 HasShape NoData = Unit {0}
-HasShape (ToHost n) = n ≡ 4096
+HasShape (ToHost n) = (0 < n) × (n ≤ 16384)
 HasShape (FromHost n) = n ≡ 4096
 
-pub shape : (k : Command) → HasShape (transfer_by k)
-shape (IdentifyNamespace n) = refl
-shape (AllocatedNamespace n) = refl
-shape (ActiveList after) = refl
-shape (AllocatedList after) = refl
-shape (Create nsze ncap flbas dps nmic) = refl
-shape (Delete n) = tt
-shape (Attachment n detach ids) = refl
-shape (Format n lbaf mset pi pil ses) = tt
-shape (GetFeature fid sel n) = tt
-shape (SetFeature fid value save n) = tt
+log_shape : (errors : Bool) (offset dwords : ℕ) → IsWhole errors offset dwords → HasShape (ToHost (4 * dwords))
+log_shape true offset dwords whole = let e = whole.1 in (omega (arith, e.whole, e.some), omega (arith, e.whole, e.few))
+log_shape false offset dwords whole = (omega (arith, whole.1), omega (arith, whole.1))
 
--- a reply without data is read from any page
-pub read_anywhere : (k : Command) (dword0 : ℕ) (page other : List ℕ)
-    → bytes_to_host (transfer_by k) ≡ 0 → reply_in k dword0 page ≡ reply_in k dword0 other
-read_anywhere (IdentifyNamespace n) dword0 page other none = absurd (omega (arith, none))
-read_anywhere (AllocatedNamespace n) dword0 page other none = absurd (omega (arith, none))
-read_anywhere (ActiveList after) dword0 page other none = absurd (omega (arith, none))
-read_anywhere (AllocatedList after) dword0 page other none = absurd (omega (arith, none))
-read_anywhere (Create nsze ncap flbas dps nmic) dword0 page other none = refl
-read_anywhere (Delete n) dword0 page other none = refl
-read_anywhere (Attachment n detach ids) dword0 page other none = refl
-read_anywhere (Format n lbaf mset pi pil ses) dword0 page other none = refl
-read_anywhere (GetFeature fid sel n) dword0 page other none = refl
-read_anywhere (SetFeature fid value save n) dword0 page other none = refl
+pub shape : (k : Command) → IsSendable k → HasShape (transfer_by k)
+shape IdentifyController sends = (lit< tt, lit≤ tt)
+shape (IdentifyNamespace n) sends = (lit< tt, lit≤ tt)
+shape (AllocatedNamespace n) sends = (lit< tt, lit≤ tt)
+shape (ActiveList after) sends = (lit< tt, lit≤ tt)
+shape (AllocatedList after) sends = (lit< tt, lit≤ tt)
+shape (Create nsze ncap flbas dps nmic) sends = refl
+shape (Delete n) sends = tt
+shape (Attachment n detach ids) sends = refl
+shape (Format n lbaf mset pi pil ses) sends = tt
+shape (GetFeature fid sel n) sends = tt
+shape (SetFeature fid value save n) sends = tt
+shape (GetLog lid n offset dwords) sends = log_shape (is_error_log lid) offset dwords sends
 
 -- ---- in general
 
-pub shape_as : (k : Command) (m : Transfer) → m ≡ transfer_by k → HasShape m
-shape_as k m e = subst HasShape (sym e) (shape k)
+pub shape_as : (k : Command) (m : Transfer) → IsSendable k → m ≡ transfer_by k → HasShape m
+shape_as k m sends e = subst HasShape (sym e) (shape k sends)
 
-pub most : (m : Transfer) → HasShape m → length_of m ≤ 4096
+pub most : (m : Transfer) → HasShape m → length_of m ≤ 16384
 most NoData is = lit≤ tt
-most (ToHost n) is = omega (arith, is)
+most (ToHost n) is = is.1
 most (FromHost n) is = omega (arith, is)
 
 some_from_host : (m : Transfer) → HasShape m → 0 < bytes_from_host m
@@ -61,16 +54,6 @@ some_from_host : (m : Transfer) → HasShape m → 0 < bytes_from_host m
 some_from_host NoData is some = absurd (omega (arith, some))
 some_from_host (ToHost n) is some = absurd (omega (arith, some))
 some_from_host (FromHost n) is some = (is, is)
-
-some_to_host : (m : Transfer) → HasShape m → 0 < bytes_to_host m → length_of m ≡ 4096
-some_to_host NoData is some = absurd (omega (arith, some))
-some_to_host (ToHost n) is some = is
-some_to_host (FromHost n) is some = absurd (omega (arith, some))
-
--- what the controller sends is a page
-pub page_received : (k : Command) → 0 < bytes_to_host (transfer_by k)
-    → length_of (transfer_by k) ≡ 4096
-page_received k some = some_to_host (transfer_by k) (shape k) some
 
 -- ---- what the host sends
 
@@ -96,14 +79,14 @@ none_sent k m bytes at fits is none =
     sym (ap (written_at bytes at) sent ∙ written-nothing bytes at)
 
 -- what the host sends is a page
-pub page_sent : (k : Command) (page : List ℕ) → CommandFits k
+pub page_sent : (k : Command) (page : List ℕ) → CanBeSent k
     → 0 < bytes_from_host (transfer_by k) → length page ≡ 4096
     → (with_data (host_data_of k) page ≡ host_data_of k)
     × (length_of (transfer_by k) ≡ 4096) × (length (host_data_of k) ≡ 4096)
-page_sent k page fits some size =
+page_sent k page can some size =
     let xs = host_data_of k in
-    let both = some_from_host (transfer_by k) (shape k) some in
-    let len = length-host_data k fits ∙ both.0 in
+    let both = some_from_host (transfer_by k) (shape k can.sends) some in
+    let len = length-host_data k can.fits ∙ both.0 in
     let rest = nothing (drop 4096 page) (let left = length-drop 4096 page in omega (arith, left, size)) in
     (ap (λ n. xs ++ drop n page) len ∙ ap (λ ys. xs ++ ys) rest ∙ append-nil xs, both.1, len)
 

@@ -4,7 +4,6 @@ use Rattle.std.proofs.Common.{◌≡◌, ◌∙◌, ℕ, ◌≤◌, All, List, [
 use Rattle.std.proofs.Math.Seq.{drop-length, take-length}
 use Rattle.std.proofs.lemmas.List.{set-get_or}
 use Rattle.nv_queue.specs.Slots.{HoldsTags}
-use Rattle.nv_command.specs.Command.{CommandFits}
 use Rattle.nv_command.specs.declared.command.Command.{Command}
 use Rattle.nv_register.specs.Port.{new_port}
 use Rattle.nv_controller.specs.Bus.{BusValue, port_at}
@@ -12,7 +11,7 @@ use Rattle.nv_driver.specs.Batch.{answers_of, state_after}
 use Rattle.nv_driver.specs.CommandPages.{without}
 use Rattle.nv_driver.specs.Exchange.{IsReady, KeepsOthers}
 use Rattle.nv_driver.specs.Quiet.{lane_value}
-use Rattle.nv_driver.specs.Schedule.{Answer, collect_ring, device_rings, number, port_with, submit_ring}
+use Rattle.nv_driver.specs.Schedule.{Answer, CanBeSent, collect_ring, device_rings, number, port_with, submit_ring}
 use Rattle.nv_driver.specs.UnderWay.{HasAnswers, IsBusOf, IsUnderWay, Run, pages_of_all, run_of, setting, setting_of}
 use Rattle.nv_driver.specs.declared.batch.Batch.{Batch}
 use Rattle.nv_driver.specs.declared.geometry.Geometry.{Geometry}
@@ -33,14 +32,14 @@ pub record HasBegun (r : Run) (b : Batch) (l : LaneFields) (now : ℕ) (bytes : 
   pub answers_are : HasAnswers r b.collected answers
 
 pub begins_all : {g : Geometry} {c : ℕ} {bus : BusValue} {l : LaneFields} {now : ℕ} {bytes : List ℕ} {commands : List Command} {answers : List Answer} {r : Run} {b : Batch}
-    → r ≡ run_of g c bus l bytes commands → IsReady g bus c l now bytes → All CommandFits commands → length answers ≡ length commands
+    → r ≡ run_of g c bus l bytes commands → IsReady g bus c l now bytes → All CanBeSent commands → length answers ≡ length commands
     → b.ctrl ≡ c → b.geometry ≡ g → length b.outstanding ≡ 16 → b.sent ≡ 0 → b.collected ≡ 0 → b.told ≡ 0 → HasBegun r b l now bytes bus answers
-begins_all {g} {c} {bus} {l} {now} {bytes} {commands} {answers} {r} {b} is ready fits size ctrl geometry room sent collected told =
+begins_all {g} {c} {bus} {l} {now} {bytes} {commands} {answers} {r} {b} is ready can size ctrl geometry room sent collected told =
     let q = run_of g c bus l bytes commands in
     let t = setting_of q in
     let ready_at = subst (λ n. IsReady g bus c l n bytes) ready.page_size ready in
     subst (λ x. HasBegun x b l now bytes bus answers) (sym is) (record {
-      under_way = begins q b now ready_at fits geometry ctrl ready.page_size room sent collected told;
+      under_way = begins q b now ready_at can geometry ctrl ready.page_size room sent collected told;
       bus_is = record {
         bus = ready.bus;
         state = ap (λ n. state_after c bus.state l.serial (take n commands)) (sym collected);

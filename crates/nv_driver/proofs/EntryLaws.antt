@@ -1,18 +1,20 @@
 -- What one entry of a turn keeps.
 use Rattle.std.proofs.Common.{◌≡◌, ◌∙◌, ℕ, ◌+◌, ◌*◌, ◌<◌, ◌≤◌, ◌^◌, List, ap, arith, get_or, inl, inr, length, lit<, refl, subst, sym}
 use Rattle.std.proofs.Math.Nat.{mul-le-mul_left}
-use Rattle.std.proofs.lemmas.Bool.{cases_lt}
+use Rattle.std.proofs.lemmas.Bool.{cases_lt, cases_order}
 use Rattle.std.proofs.lemmas.List.{get_or_default}
 use Rattle.nv_host.specs.Bytes.{bytes_at}
 use Rattle.nv_host.specs.PageLaws.{page_size_bounds}
 use Rattle.nv_layout.specs.Cqe.{CqeFits}
 use Rattle.nv_layout.specs.Sqe.{sqe_of_bytes}
 use Rattle.nv_layout.specs.declared.cqe.Cqe.{Cqe}
+use Rattle.nv_prp.specs.Buffer.{ChangesOnly, KeepsList}
 use Rattle.nv_queue.specs.SlotLaws.{length-with_completion, put_written}
 use Rattle.nv_queue.specs.Slots.{HoldsTags, WritesCompletion, completion_at, posted_as}
 use Rattle.nv_queue.specs.TagLaws.{tags_after}
 use Rattle.nv_command.specs.Command.{CommandFits, namespace_of}
 use Rattle.nv_command.specs.declared.command.Command.{Command}
+use Rattle.nv_command.specs.Logs.{answer_received}
 use Rattle.nv_command.specs.TravelLaws.{commands_travel}
 use Rattle.nv_subsystem.specs.WellFormed.{IsWellFormed}
 use Rattle.nv_subsystem.specs.State.{State}
@@ -21,14 +23,16 @@ use Rattle.nv_subsystem.specs.StepLaws.{step_controllers, step_keeps}
 use Rattle.nv_controller.specs.Entry.{Scene, completion_with, scene}
 use Rattle.nv_controller.specs.Turn.{Takes}
 use Rattle.nv_controller.specs.TurnLaws.{length_moved}
-use Rattle.nv_driver.specs.Schedule.{Answer, AreApart, Holds, Sent, Setting, World, answer_read, device_rings, number, places, port_with, slot}
+use Rattle.nv_driver.specs.Schedule.{Answer, AreApart, Holds, Sent, Setting, World, answer_read, device_rings, number, places, pointed, port_with, slot}
 use Rattle.nv_driver.proofs.AnswerLaws.{IsAnswerTo, answer_back, answer_sound, completion_fits}
 use Rattle.nv_driver.proofs.CountLaws.{number_below, number_next, slot_inside, slots_differ}
 use Rattle.nv_driver.proofs.HeldLaws.{holds_on}
 use Rattle.nv_driver.specs.Keeping.{IsOwn, Keeps}
+use Rattle.nv_driver.proofs.ListPageLaws.{list_beside, list_stays}
+use Rattle.nv_driver.proofs.PointerLaws.{stays_in}
 use Rattle.nv_driver.proofs.RegionLaws.{ChangesOnlyAt, apart-sym, completion_keeps, data_beside, data_stays, holds_sent_on, outside_part}
 use Rattle.nv_driver.proofs.SerialLaws.{after_more, answer_at}
-use Rattle.nv_driver.proofs.TakenLaws.{IsDone, can_go, delivered, is_done, moved_keeps, moved_slot, now}
+use Rattle.nv_driver.proofs.TakenLaws.{IsDone, can_go, delivered, is_done, moved_keeps, moved_list, moved_slot, now}
 
 slot_room : (size s depth : ℕ) → s < depth → size * s + size ≤ size * depth
 slot_room size s depth below =
@@ -64,7 +68,7 @@ one_more t s w y d k waits free one =
     let posted = completion_with x.cid (slot t (n + 1)) a in
     let head = slot_inside t (n + 1) (omega (arith, deep.0)) in
     let fits : CqeFits posted = completion_fits x.command x.cid (slot t (n + 1)) a own.cid (omega (arith, deep.1)) sound in
-    let size : length one.moved ≡ length w.mem = length_moved a (places t.page_size x) w.mem one.moved one.moves in
+    let size : length one.moved ≡ length w.mem = length_moved x.command (places t.page_size x) a w.mem one.moved one.moves in
     let inside : t.cq + 16 * t.depth ≤ length one.moved = omega (arith, p.inside) in
     let len : length y.bytes ≡ length w.mem =
     ap (λ (m : List ℕ). length m) one.bytes ∙ length-with_completion one.moved ring posted (omega (arith, deep.0)) inside ∙ size in
@@ -76,15 +80,22 @@ one_more t s w y d k waits free one =
     ∙ moved_keeps t x a w.mem one.moved from i some own.enough one.moves outside in
     let there : completion_at y.bytes t.cq (slot t n) ≡ posted_as t.depth (number t n) posted = written.here in
     let same_slot = λ (j : ℕ) (low : j < t.depth). moved_slot t x a w.mem one.moved j some own.enough one.moves own.completions low in
-    let same_data =
-    data_beside t x t.cq (16 * t.depth) one.moved y.bytes some own.enough own.completions
-    (λ from i apart. ap (λ m. bytes_at m from i) one.bytes
-    ∙ completion_keeps one.moved ring posted from i (omega (arith, deep.0)) inside apart) in
+    let beside : ChangesOnly t.cq (16 * t.depth) one.moved y.bytes = λ from i apart. ap (λ m. bytes_at m from i) one.bytes
+    ∙ completion_keeps one.moved ring posted from i (omega (arith, deep.0)) inside apart in
+    let same_data = data_beside t x t.cq (16 * t.depth) one.moved y.bytes some own.enough own.completions beside in
+    let moved_own = moved_list t x a w.mem one.moved some own.enough own.pages one.moves in
+    let own_list : KeepsList (pointed t.page_size x w.mem) x.first x.second y.bytes =
+    let rest = list_beside t x t.cq (16 * t.depth) one.moved y.bytes (len ∙ sym size) own.completions beside in
+    record {
+      len = rest.len ∙ moved_own.len;
+      in_first = λ many. rest.in_first many ∙ moved_own.in_first many;
+      in_second = λ many. rest.in_second many ∙ moved_own.in_second many;
+    } in
     let is_answer = λ (b : Answer).
-    answer_at t.controller s w.sent n d b below ∙ ap (λ (q : State). (step q t.controller x.command x.cid).answer) (sym k.state) in
+    answer_at t.controller s w.sent n d b below ∙ ap (λ (q : State). answer_received x.command (step q t.controller x.command x.cid).answer) (sym k.state) in
     let held_now : Holds t s (world_after t w y) n x = record {
       answer = λ b. ap (answer_read t.page_size x y.bytes) there
-          ∙ answer_back t x y.bytes t.depth (number t n) x.cid (slot t (n + 1)) a sound
+          ∙ answer_back t x y.bytes t.depth (number t n) x.cid (slot t (n + 1)) a own.can.sends sound
           (delivered t x a w.mem one.moved y.bytes sound one.moves own same_data)
           ∙ sym (is_answer b);
       cid = ap (λ (q : Cqe). q.cid) there;
@@ -96,10 +107,23 @@ one_more t s w y d k waits free one =
       port = refl;
       state = one.state ∙ ap (λ (q : State). (step q t.controller x.command x.cid).state) k.state ∙ sym (after_more t.controller s w.sent n d below);
       well_formed = subst IsWellFormed (sym one.state)
-          (step_keeps w.state t.controller x.command x.cid (nsid_fits x.command own.fits) own.cid k.well_formed);
+          (step_keeps w.state t.controller x.command x.cid (nsid_fits x.command own.can.fits) own.cid k.well_formed);
       controller = omega (arith, k.controller, ap (λ (q : State). length q.controllers) one.state, step_controllers w.state t.controller x.command x.cid);
       own = λ i e from high. subst (λ j. IsOwn t j (get_or w.sent i e)) (sym len) (k.own i e from high);
       apart = k.apart;
+      named = λ i e from high.
+          let z = get_or w.sent i e in
+          let other = k.own i e from high in
+          stays_in t.page_size z w.mem y.bytes
+          (elim (cases_order i n) [
+            | inl same ↦ subst (λ q. KeepsList (pointed t.page_size q w.mem) q.first q.second y.bytes)
+                (sym (ap (λ j. get_or w.sent j e) same ∙ get_or_default w.sent n e d below)) own_list
+            | inr (inl before) ↦ list_stays t x z t.cq (16 * t.depth) w.mem y.bytes len only
+                (subst (AreApart z) (get_or_default w.sent n e d below) (k.apart i n e from before below)) other.completions
+            | inr (inr behind) ↦ list_stays t x z t.cq (16 * t.depth) w.mem y.bytes len only
+                (apart-sym x z (subst (λ q. AreApart q z) (get_or_default w.sent n e d below) (k.apart n i e c.collected behind high))) other.completions
+          ])
+          (k.named i e from high);
       waiting = λ i e from high.
           let low = slot_inside t i (omega (arith, deep.0)) in
           let room = slot_room 64 (slot t i) t.depth low in

@@ -13,7 +13,7 @@ use Rattle.nv_queue.specs.KeptLaws.{between_kept, first_kept}
 use Rattle.nv_queue.specs.Slots.{HoldsTags, IsAwaitedThere, awaited_completion, completion_at, with_submission}
 use Rattle.nv_queue.specs.TagLaws.{tag_below_next_same}
 use Rattle.nv_subsystem.specs.Step.{step}
-use Rattle.nv_command.specs.Command.{CommandFits}
+use Rattle.nv_command.specs.Logs.{answer_received}
 use Rattle.nv_command.specs.declared.command.Command.{Command}
 use Rattle.nv_register.specs.Port.{new_port, with_register_at}
 use Rattle.nv_register.specs.declared.port.Port.{Port}
@@ -26,7 +26,7 @@ use Rattle.nv_prp.specs.Buffer.{IsApart}
 use Rattle.nv_driver.specs.Exchange.{IsReady, KeepsOthers}
 use Rattle.nv_driver.specs.Lane.{IsLaid}
 use Rattle.nv_driver.specs.Quiet.{IsQuiet, lane_value}
-use Rattle.nv_driver.specs.Schedule.{AreOutside, IsIdle, MaySubmit, Sent, Setting, World, answer_read, collect_ring, device_rings, entry, number, own_pages, port_with, slot, submit_ring}
+use Rattle.nv_driver.specs.Schedule.{AreOutside, CanBeSent, IsIdle, MaySubmit, Sent, Setting, World, answer_read, collect_ring, device_rings, entry, number, own_pages, port_with, slot, submit_ring}
 use Rattle.nv_driver.specs.Submitting.{IsSubmitted, sent_by}
 use Rattle.nv_driver.specs.UnderWay.{setting}
 use Rattle.nv_driver.specs.declared.geometry.Geometry.{Geometry}
@@ -35,6 +35,7 @@ use Rattle.nv_driver.specs.declared.submitting.Outstanding.{Outstanding}
 use Rattle.nv_driver.proofs.CountLaws.{head_told, number_above, number_below, number_next, slot_inside}
 use Rattle.nv_driver.specs.Keeping.{Keeps}
 use Rattle.nv_driver.proofs.KeptLaws.{bell_keeps, idle_keeps, number_zero}
+use Rattle.nv_driver.proofs.PointerLaws.{Names, names_in, seven_pages}
 use Rattle.nv_driver.proofs.SubmitLaws.{submit_keeps}
 use Rattle.nv_driver.proofs.SubmittingLaws.{Has, buffer_of, distinct_of, list_of, pages_are}
 use Rattle.nv_driver.proofs.TurnLaws.{is_turn, turn_keeps}
@@ -89,18 +90,18 @@ pub own_of_set : (s : Pages) (x : Sent) (pages : List ℕ) → pages ≡ own_pag
 own_of_set s x pages same = subst (λ ps. (i d : ℕ) → i < length ps → IsOf s.first s.count (get_or ps i d)) same
 
 may_submit : (g : Geometry) (b : BusValue) (c : ℕ) (l l' : LaneFields) (now : ℕ) (bytes after : List ℕ) (k : Command) (o : Outstanding)
-    → IsReady g b c l now bytes → CommandFits k → IsSubmitted g k o l l' bytes after
+    → IsReady g b c l now bytes → CanBeSent k → IsSubmitted g k o l l' bytes after
     → MaySubmit (setting g c bytes (lane_value l)) (beginning (setting g c bytes (lane_value l)) b.state) (sent_by g k l.serial o)
-may_submit g b c l l' now bytes after k o r fits sub =
+may_submit g b c l l' now bytes after k o r can sub =
     let laid = r.laid in
     let deep = laid.deep in
     let x = sent_by g k l.serial o in
     let own = own_of_set l.pages x (all_pages o.pages) (pages_are o.pages sub.seven) sub.taken.own in
     let has : Has l.pages o.pages g.page_size (length bytes) =
-    record { seven = sub.seven; few = omega (arith, sub.few); taken = sub.taken; inside = laid.inside } in
+    record { seven = sub.seven; few = omega (arith, sub.few, seven_pages g.page_size r.geometry.page_size); taken = sub.taken; inside = laid.inside } in
     record {
       free = omega (arith, deep.0);
-      fits = fits;
+      can = can;
       cid = omega (arith, laid.serial);
       buffer = buffer_of g l.pages o.pages bytes g.page_size _ r.geometry refl has sub.enough;
       list = list_of g l.pages o.pages bytes g.page_size r.geometry refl has;
@@ -135,16 +136,16 @@ collect_ring_is g c bytes l quiet below =
 
 -- the schedule where the command was submitted
 submitted_keeps : (g : Geometry) (b : BusValue) (c : ℕ) (l l' : LaneFields) (now : ℕ) (bytes mem : List ℕ) (k : Command) (o : Outstanding)
-    → IsReady g b c l now bytes → CommandFits k → IsSubmitted g k o l l' bytes mem
+    → IsReady g b c l now bytes → CanBeSent k → IsSubmitted g k o l l' bytes mem
     → Keeps (setting g c bytes (lane_value l)) b.state (sent_one (beginning (setting g c bytes (lane_value l)) b.state) (sent_by g k l.serial o) mem)
-submitted_keeps g b c l l' now bytes mem k o r fits sub =
+submitted_keeps g b c l l' now bytes mem k o r can sub =
     let t = setting g c bytes (lane_value l) in
     let x = sent_by g k l.serial o in
     let w = beginning t b.state in
     let idle = is_idle g b c l now bytes r in
     let put = sub.mem ∙ ap (λ ring. with_submission sub.ready ring (entry x)) (submit_ring_is g c bytes l r.quiet r.laid.number) in
     submit_keeps t b.state x w (sent_one w x mem) (idle_keeps t w idle)
-    (may_submit g b c l l' now bytes mem k o r fits sub, sub.ready, sub.prepared, ap (sent_one w x) put)
+    (may_submit g b c l l' now bytes mem k o r can sub, sub.ready, sub.prepared, ap (sent_one w x) put)
 
 -- the tail that is told is that after the command
 tail_is : (t : Setting) (start tail : ℕ) → start ≡ number t 0 → tail ≡ slot_of t.depth (next t.depth start) → tail ≡ slot t 1
@@ -193,13 +194,13 @@ turned t s w x mem port tail most count z is k before at some turn =
 
 -- what one command leaves before its answer is collected
 pub exchanged : {g : Geometry} {b b2 b3 : BusValue} {c : ℕ} {l l' : LaneFields} {now page : ℕ} {bytes mem mem' : List ℕ} {k : Command} {o : Outstanding}
-    {tail value most count : ℕ} → IsReady g b c l now bytes → CommandFits k → IsSubmitted g k o l l' bytes mem
+    {tail value most count : ℕ} → IsReady g b c l now bytes → CanBeSent k → IsSubmitted g k o l l' bytes mem
     → tail ≡ slot_of l.submission.depth (next l.submission.depth l.submission.submitted)
     → b2.state ≡ b.state → value ≡ tail → b2.ports ≡ slice_set b.ports c (with_register_at (port_at b.ports c) 0x1000 value)
     → page ≡ g.page_size → 1 ≤ most → T.Turn page c most count b2 mem b3 mem'
     → Keeps (setting g c bytes (lane_value l)) b.state
     (done_one (beginning (setting g c bytes (lane_value l)) b.state) (sent_by g k l.serial o) mem' b3.state (port_at b3.ports c))
-exchanged {g} {b} {b2} {b3} {c} {l} {l'} {now} {page} {bytes} {mem} {mem'} {k} {o} {tail} {value} {most} {count} r fits sub at state told ports size some turn =
+exchanged {g} {b} {b2} {b3} {c} {l} {l'} {now} {page} {bytes} {mem} {mem'} {k} {o} {tail} {value} {most} {count} r can sub at state told ports size some turn =
     let t = setting g c bytes (lane_value l) in
     let x = sent_by g k l.serial o in
     let port : port_at b2.ports c ≡ with_register_at t.port 0x1000 tail =
@@ -208,7 +209,7 @@ exchanged {g} {b} {b2} {b3} {c} {l} {l'} {now} {page} {bytes} {mem} {mem'} {k} {
     let own = subst (λ s. PortTurn t.page_size c most count (site s (port_at b2.ports c) mem) (site b3.state (port_at b3.ports c) mem')) state
     (subst (λ p. PortTurn p c most count (site b2.state (port_at b2.ports c) mem) (site b3.state (port_at b3.ports c) mem')) size turn.own) in
     turned t b.state (beginning t b.state) x mem (port_at b2.ports c) tail most count (site b3.state (port_at b3.ports c) mem') refl
-    (submitted_keeps g b c l l' now bytes mem k o r fits sub) port
+    (submitted_keeps g b c l l' now bytes mem k o r can sub) port
     (tail_is t l.submission.submitted tail (number_zero t r.laid.number) at) some own
 
 -- ---- what is collected
@@ -226,8 +227,11 @@ module _ {t : Setting} {s : State} {x : Sent} {mem : List ℕ} {s' : State} {p :
   pub head_is : (completion_at mem t.cq (slot t 0)).sq_head ≡ slot t 1
   head_is = (k.held 0 x (omega arith) (omega arith)).head
 
-  pub answer_is : answer_read t.page_size x mem (completion_at mem t.cq (slot t 0)) ≡ (step s t.controller x.command x.cid).answer
+  pub answer_is : answer_read t.page_size x mem (completion_at mem t.cq (slot t 0)) ≡ answer_received x.command (step s t.controller x.command x.cid).answer
   answer_is = (k.held 0 x (omega arith) (omega arith)).answer (step s t.controller x.command x.cid).answer
+
+  pub names_are : Names t.page_size x mem
+  names_are = names_in t.page_size x mem (k.named 0 x (omega arith) (omega arith))
 
   pub state_is : s' ≡ (step s t.controller x.command x.cid).state
   state_is = k.state

@@ -44,6 +44,7 @@ idle_keeps t w i =
       controller = i.controller;
       own = λ n d from below. absurd (omega (arith, no_sent));
       apart = λ n m d from later below. absurd (omega (arith, no_sent));
+      named = λ n d from below. absurd (omega (arith, no_sent));
       waiting = λ n d from below. absurd (omega (arith, no_sent));
       to_send = λ n d from below. absurd (omega (arith, no_sent));
       held = λ n d from below. absurd (omega (arith, i.done));
@@ -66,6 +67,7 @@ told_otherwise t s w rung told port k counts is = record {
   controller = k.controller;
   own = k.own;
   apart = k.apart;
+  named = k.named;
   waiting = k.waiting;
   to_send = k.to_send;
   held = λ n d from below. let h = k.held n d from below in record { answer = h.answer; cid = h.cid; head = h.head };
@@ -133,6 +135,7 @@ collected_one t s w d k below =
       controller = k.controller;
       own = λ i e from high. k.own i e (omega arith) high;
       apart = λ i j e from later high. k.apart i j e (omega arith) later high;
+      named = λ i e from high. k.named i e (omega arith) high;
       waiting = k.waiting;
       to_send = k.to_send;
       held = λ i e from high. let h = k.held i e (omega arith) high in record { answer = h.answer; cid = h.cid; head = h.head };

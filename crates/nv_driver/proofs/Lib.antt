@@ -12,6 +12,7 @@ pub mod SerialLaws
 pub mod CountLaws
 pub mod RegionLaws
 pub mod DataLaws
+pub mod ListPageLaws
 pub mod PointerLaws
 pub mod KeptLaws
 pub mod AnswerLaws

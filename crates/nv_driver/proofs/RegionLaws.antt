@@ -69,7 +69,7 @@ place_beside page_size x from n k some enough outside below =
     (outside (suc (suc page.index)) 0 (let h = page.is_one in omega arith))
 
 -- two pages that aren't one share no byte
-other_page : (page_size p q place : ℕ) → p ≢ q → p * page_size ≤ place → place < p * page_size + page_size → IsOutside page_size q place 1
+pub other_page : (page_size p q place : ℕ) → p ≢ q → p * page_size ≤ place → place < p * page_size + page_size → IsOutside page_size q place 1
 other_page page_size p q place differ low high =
     elim (cases_lt p q) [
       | inl l ↦

@@ -48,7 +48,7 @@ module _ {r : Run} {bells turns : ℕ} {b : Batch} {l : LaneFields} {now : ℕ} 
       let w' : World = record w { port = with_register_at w.port 0x1000 (slot (setting_of r) (length w.sent)); rung = length w.sent } in
       record {
         begun = u.begun;
-        fits = u.fits;
+        can = u.can;
         geometry = u.geometry;
         controller = u.controller;
         page_size = u.page_size;
@@ -101,7 +101,7 @@ module _ {r : Run} {bells turns : ℕ} {b : Batch} {l : LaneFields} {now : ℕ} 
       ∙ ap (λ e. record { base = t.cq; depth = t.depth; collected = number t b.collected; told = number t b.collected; untold = e }) (none_untold b.collected) in
       record {
         begun = u.begun;
-        fits = u.fits;
+        can = u.can;
         geometry = u.geometry;
         controller = u.controller;
         page_size = u.page_size;
@@ -197,7 +197,7 @@ turns_on {r} {bells} {turns} {b} {l} {now} {now'} {bytes} {mem} {bus} {bus'} {c}
     let done_is : w'.done ≡ turns + count = ap (λ n. n + count) u.done in
     let next : IsUnderWay r bells (turns + count) b l now' mem = record {
       begun = u.begun;
-      fits = u.fits;
+      can = u.can;
       geometry = u.geometry;
       controller = u.controller;
       page_size = page ∙ u.page_size;

@@ -1,5 +1,6 @@
 -- Commands one at a time: their answers, and the state after them.
 use Rattle.std.proofs.Common.{◌≡◌, ◌∙◌, ℕ, zero, suc, ◌+◌, ◌<◌, List, [], ◌∷◌, ◌++◌, add-one, ap, arith, get_or, length, refl, take}
+use Rattle.nv_command.specs.Logs.{answer_received}
 use Rattle.nv_subsystem.specs.State.{State}
 use Rattle.nv_subsystem.specs.Step.{Step, step}
 use Rattle.nv_driver.specs.Schedule.{Answer, Sent, after, answers_to}
@@ -14,7 +15,7 @@ length-answers c s (x ∷ xs) = ap suc (length-answers c (step s c x.command x.c
 
 pub answers-append : (c : ℕ) (s : State) (xs ys : List Sent) → answers_to c s (xs ++ ys) ≡ answers_to c s xs ++ answers_to c (after c s xs) ys
 answers-append c s [] ys = refl
-answers-append c s (x ∷ xs) ys = ap (λ rest. (step s c x.command x.cid).answer ∷ rest) (answers-append c (step s c x.command x.cid).state xs ys)
+answers-append c s (x ∷ xs) ys = ap (λ rest. answer_received x.command (step s c x.command x.cid).answer ∷ rest) (answers-append c (step s c x.command x.cid).state xs ys)
 
 -- the state after one more
 after-suc : (c : ℕ) (s : State) (xs : List Sent) (n : ℕ) (d : Sent) → n < length xs
@@ -30,7 +31,7 @@ after_more c s xs n d h = ap (λ k. after c s (take k xs)) (add-one n) ∙ after
 
 -- the answer to command n
 pub answer_at : (c : ℕ) (s : State) (xs : List Sent) (n : ℕ) (d : Sent) (e : Answer) → n < length xs
-    → get_or (answers_to c s xs) n e ≡ (step_after c s xs n (get_or xs n d)).answer
+    → get_or (answers_to c s xs) n e ≡ answer_received (get_or xs n d).command (step_after c s xs n (get_or xs n d)).answer
 answer_at c s [] n d e h = absurd (omega arith)
 answer_at c s (x ∷ xs) zero d e h = refl
 answer_at c s (x ∷ xs) (suc n) d e h = answer_at c (step s c x.command x.cid).state xs n d e (omega arith)

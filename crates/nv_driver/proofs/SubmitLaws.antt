@@ -6,16 +6,18 @@ use Rattle.std.proofs.lemmas.List.{get_or_append_left, get_or_push, take-append-
 use Rattle.nv_host.specs.PageLaws.{page_size_bounds}
 use Rattle.nv_layout.specs.Cqe.{cqe_of_bytes}
 use Rattle.nv_layout.specs.Sqe.{SqeFits, sqe_of_bytes}
+use Rattle.nv_prp.specs.Buffer.{ChangesOnly}
 use Rattle.nv_prp.specs.BufferLaws.{rest_distinct}
 use Rattle.nv_queue.specs.SlotLaws.{length-with_submission, push_written}
 use Rattle.nv_queue.specs.Slots.{completion_at, submission_at, with_submission}
 use Rattle.nv_command.specs.TravelLaws.{commands_travel}
 use Rattle.nv_subsystem.specs.State.{State}
-use Rattle.nv_driver.specs.Schedule.{AreApart, AreOutside, Happens, Holds, HoldsSent, IsPrepared, MaySubmit, Sent, Setting, Submit, World, after, answers_to, entry, slot, submit_ring}
+use Rattle.nv_driver.specs.Schedule.{AreApart, AreOutside, Happens, Holds, HoldsSent, IsPrepared, MaySubmit, Sent, Setting, StaysNamed, Submit, World, after, answers_to, entry, slot, submit_ring}
 use Rattle.nv_driver.proofs.CountLaws.{slot_inside, slots_differ}
 use Rattle.nv_driver.proofs.HeldLaws.{holds_on}
 use Rattle.nv_driver.specs.Keeping.{IsOwn, Keeps}
-use Rattle.nv_driver.proofs.PointerLaws.{entry_call}
+use Rattle.nv_driver.proofs.ListPageLaws.{list_beside, list_stays}
+use Rattle.nv_driver.proofs.PointerLaws.{stays_in}
 use Rattle.nv_driver.proofs.RegionLaws.{ChangesOnlyAt, buffer_data, data_beside, data_stays, holds_sent_on, outside_part, submission_keeps}
 use Rattle.nv_driver.proofs.SerialLaws.{answers-append, length-answers}
 
@@ -52,7 +54,7 @@ slot_stays t x old ready s prepared outside below =
 
 entry_fits : (t : Setting) (w : World) (x : Sent) (ready : List ℕ) → MaySubmit t w x → IsPrepared t.page_size x w.mem ready → SqeFits (entry x)
 entry_fits t w x ready may prepared =
-    let f = (commands_travel x.command x.cid may.fits may.cid).fits in
+    let f = (commands_travel x.command x.cid may.can.fits may.cid).fits in
     record {
       opcode = f.opcode;
       fuse = f.fuse;
@@ -70,21 +72,20 @@ entry_fits t w x ready may prepared =
       cdw15 = f.cdw15;
     }
 
-own_of : (t : Setting) (s : State) (w : World) (x : Sent) (ready : List ℕ) → Keeps t s w → MaySubmit t w x → IsPrepared t.page_size x w.mem ready
-    → IsOwn t (length w.mem) x
-own_of t s w x ready k may prepared =
+own_of : (t : Setting) (s : State) (w : World) (x : Sent) → Keeps t s w → MaySubmit t w x → IsOwn t (length w.mem) x
+own_of t s w x k may =
     let some : 0 < t.page_size = omega (arith, page_size_bounds t.page_size k.placed.page_size) in
     let at = buffer_data t.page_size x w.mem some may.buffer
     (rest_distinct x.first x.second x.pages may.distinct) in
     record {
-      fits = may.fits;
+      can = may.can;
       cid = may.cid;
       enough = may.buffer.enough;
       inside = λ i below. at.inside i (omega (arith, at.size));
       distinct = at.distinct;
+      pages = may.distinct;
       submissions = may.submissions;
       completions = may.completions;
-      call = λ mem same. entry_call t x w.mem ready mem k.placed.page_size may.fits may.cid prepared (same ∙ sym prepared.len);
     }
 
 -- ---- the schedule goes on
@@ -130,6 +131,8 @@ submitted t s x w ready k may prepared =
     let len : length new ≡ length w.mem = length-after t w x ready (omega arith) inside ∙ prepared.len in
     let more : length (w.sent ++ x ∷ []) ≡ m + 1 = length-append w.sent (x ∷ []) in
     let only = changes_only t w x ready (omega arith) inside prepared in
+    let beside : ChangesOnly t.sq (64 * t.depth) ready new = λ from i apart.
+    submission_keeps ready (submit_ring t m (length w.answers)) (entry x) from i (omega arith) inside apart in
     let written = push_written ready (submit_ring t m (length w.answers)) (entry x) (omega arith) inside (entry_fits t w x ready may prepared) in
     let all = answers_to t.controller s w.sent in
     let many : length all ≡ m = length-answers t.controller s w.sent in
@@ -144,8 +147,16 @@ submitted t s x w ready k may prepared =
       well_formed = k.well_formed;
       controller = k.controller;
       own = λ n d from below. subst (λ size. IsOwn t size (get_or (w.sent ++ x ∷ []) n d)) (sym len)
-          (each_more (λ _ y. IsOwn t (length w.mem) y) (length w.answers) w.sent x k.own (own_of t s w x ready k may prepared) n d from below);
+          (each_more (λ _ y. IsOwn t (length w.mem) y) (length w.answers) w.sent x k.own (own_of t s w x k may) n d from below);
       apart = λ n j d from later below. apart_more t (length w.answers) w.sent x k.apart may.apart n j d from later below;
+      named = each_more (λ n y. StaysNamed t.page_size y new) (length w.answers) w.sent x
+          (λ n d from below. let y = get_or w.sent n d in
+          stays_in t.page_size y w.mem new
+          (list_stays t x y t.sq (64 * t.depth) w.mem new len only (may.apart n d from below) (k.own n d from below).submissions)
+          (k.named n d from below))
+          (stays_in t.page_size x ready new
+          (list_beside t x t.sq (64 * t.depth) ready new (length-after t w x ready (omega arith) inside) may.submissions beside)
+          prepared.stays);
       waiting = each_more (λ n y. submission_at new t.sq (slot t n) ≡ entry y) w.done w.sent x
           (λ n d from below.
           let low = slot_inside t n (omega arith) in
@@ -161,10 +172,7 @@ submitted t s x w ready k may prepared =
           (may.apart n d (omega (arith, c.collected)) below) own.submissions)
           (k.to_send n d from below))
           (holds_sent_on t x ready new
-          (data_beside t x t.sq (64 * t.depth) ready new some may.buffer.enough may.submissions
-          (λ from i apart.
-          let ring = submit_ring t m (length w.answers) in
-          submission_keeps ready ring (entry x) from i (omega arith) inside apart))
+          (data_beside t x t.sq (64 * t.depth) ready new some may.buffer.enough may.submissions beside)
           prepared.sent);
       held = λ n d from below.
           let y = get_or w.sent n d in

@@ -1,23 +1,25 @@
 -- The pages of a command, as `build` wants them.
-use Rattle.std.proofs.Common.{refl, ◌≡◌, ◌∙◌, ℕ, suc, ◌+◌, ◌*◌, ◌^◌, ◌<◌, ◌≤◌, All, List, [], ◌∷◌, OnOk, Ok, Result, ap, arith, drop, get_or, length, length-drop, length-take, slice_index, subst, sym, take}
+use Rattle.std.proofs.Common.{◌≡◌, ◌∙◌, ℕ, suc, ◌+◌, ◌*◌, ◌^◌, ◌<◌, ◌≤◌, All, List, [], ◌∷◌, OnOk, Ok, Result, ap, arith, drop, get_or, length, length-drop, length-take, slice_index, subst, sym, take}
 use Rattle.std.proofs.Math.Nat.{mul-le-mul_right}
 use Rattle.nv_host.specs.PageSets.{IsOf, Pages}
 use Rattle.nv_host.specs.Pages.{HasPage, IsPageSize}
 use Rattle.nv_host.specs.Bytes.{bytes_at}
 use Rattle.nv_host.specs.PageLaws.{page_size_bounds}
 use Rattle.nv_prp.specs.PlaceLaws.{length-written_at}
-use Rattle.nv_prp.specs.Buffer.{IsBuffer, IsListPlace, IsOutside, KeepsOutside, StaysFor}
+use Rattle.nv_prp.specs.Buffer.{IsBuffer, IsListPlace, IsOutside, KeepsList, KeepsOutside, StaysFor}
+use Rattle.nv_prp.specs.BufferLaws.{rest_distinct}
 use Rattle.nv_prp.specs.Place.{AreDistinct, written_at}
 use Rattle.nv_prp.specs.Transfer.{transfer, transfer_places}
 use Rattle.nv_command.specs.Command.{CommandFits, host_data_of, transfer_by}
 use Rattle.nv_driver.specs.CommandPages.{AreTaken, all_pages, data_pages}
 use Rattle.nv_driver.specs.Geometry.{IsGeometry}
 use Rattle.nv_controller.specs.Call.{sent_from}
-use Rattle.nv_driver.specs.Schedule.{AreOutside, IsPrepared, Sent, data_length, places}
+use Rattle.nv_driver.specs.Schedule.{AreOutside, IsPrepared, Sent, StaysNamed, data_length, own_pages, places, pointed}
 use Rattle.nv_driver.specs.declared.command_pages.CommandPages.{CommandPages}
 use Rattle.nv_driver.specs.declared.geometry.Geometry.{Geometry}
 use Rattle.nv_driver.proofs.DataLaws.{ArePlaces, length-host_data, sent_back}
-use Rattle.nv_driver.proofs.PointerLaws.{StaysNamed, names_in, pointed, stays_in}
+use Rattle.nv_driver.proofs.ListPageLaws.{written_list}
+use Rattle.nv_driver.proofs.PointerLaws.{names_in, stays_in}
 use Rattle.nv_driver.proofs.RegionLaws.{buffer_data, data_keeps}
 
 -- two, and the rest
@@ -115,7 +117,7 @@ built_by g x old built page_size now len page after is_len first second stays ot
 -- and where what the host sends was written, the command is prepared
 pub prepared_by : (page_size : ℕ) (x : Sent) (old built new : List ℕ) → IsPageSize page_size
     → CommandFits x.command → IsBuffer old page_size x.pages x.offset (data_length x)
-    → AreDistinct x.pages → IsBuilt page_size x old built
+    → AreDistinct (own_pages x) → IsBuilt page_size x old built
     → new ≡ written_at built (transfer_places (pointed page_size x built)) (host_data_of x.command)
     → IsPrepared page_size x old new
 prepared_by page_size x old built new is fits buffer distinct b written =
@@ -123,11 +125,11 @@ prepared_by page_size x old built new is fits buffer distinct b written =
     let m = transfer_by x.command in
     let at = places page_size x in
     let xs = host_data_of x.command in
-    let named = (names_in page_size x built built is b.stays refl).1 in
+    let named = (names_in page_size x built b.stays).1 in
     let put : new ≡ written_at built at xs = written ∙ ap (λ ps. written_at built ps xs) named in
     let size : length new ≡ length built =
     ap (λ (q : List ℕ). length q) put ∙ length-written_at built at xs in
-    let theirs = subst (λ n. ArePlaces m n at) (sym b.len) (buffer_data page_size x old some buffer distinct) in
+    let theirs = subst (λ n. ArePlaces m n at) (sym b.len) (buffer_data page_size x old some buffer (rest_distinct x.first x.second x.pages distinct)) in
     record {
       others = λ from n outside.
           ap (λ q. bytes_at q from n) put
@@ -138,7 +140,8 @@ prepared_by page_size x old built new is fits buffer distinct b written =
       prp2 = b.prp2;
       sent = ap (λ q. sent_from m q at) put
           ∙ sent_back m built at xs theirs (length-host_data x.command fits);
-      stays = stays_in page_size x built new is b.stays size;
+      stays = stays_in page_size x built new
+          (subst (KeepsList (pointed page_size x built) x.first x.second) (sym put) (written_list page_size x built xs some buffer.enough distinct)) b.stays;
     }
 
 pub on_ok : {X E : Type 0} {P : Type 0} (r : Result X E) (x : X) → r ≡ Ok x → OnOk r P → P

@@ -1,29 +1,35 @@
 -- What taking one entry keeps of a schedule.
-use Rattle.std.proofs.Common.{◌≡◌, ◌∙◌, ℕ, ◌+◌, ◌-◌, ◌*◌, ◌<◌, ◌≤◌, true, Err, List, Ok, Result, ap, arith, get_or, inl, inr, length, refl, subst}
+use Rattle.std.proofs.Common.{◌≡◌, ◌∙◌, ℕ, ◌+◌, ◌-◌, ◌*◌, ◌<◌, ◌≤◌, true, Err, List, Ok, Result, ap, arith, get_or, inl, inr, length, refl, subst, sym}
 use Rattle.std.proofs.Math.Nat.{mul-le-mul_left}
 use Rattle.std.proofs.lemmas.Bool.{cases_lt}
 use Rattle.nv_host.specs.Bytes.{bytes_at}
 use Rattle.nv_layout.specs.Cqe.{cqe_of_bytes}
 use Rattle.nv_layout.specs.declared.sqe.Sqe.{Sqe}
-use Rattle.nv_prp.specs.Place.{read_at}
+use Rattle.nv_prp.specs.Buffer.{KeepsList}
+use Rattle.nv_prp.specs.Place.{AreDistinct, read_at}
 use Rattle.nv_queue.specs.Numbers.{above, slot_of}
 use Rattle.nv_queue.specs.Slots.{completion_at, with_completion}
 use Rattle.nv_command.specs.Command.{transfer_by}
 use Rattle.nv_command.specs.Reply.{data_of}
-use Rattle.nv_command.specs.TravelLaws.{replies_travel}
+use Rattle.nv_command.specs.TravelLaws.{replies_fit}
 use Rattle.nv_command.specs.declared.status_code.StatusCode.{StatusCode}
 use Rattle.nv_register.specs.declared.rings.Rings.{Rings}
 use Rattle.nv_subsystem.specs.State.{State}
 use Rattle.nv_subsystem.specs.Step.{Step, step}
 use Rattle.nv_controller.specs.Call.{Call, call_of}
-use Rattle.nv_controller.specs.Entry.{Moves, One, Scene, completion_with, entry_in, entry_step, places_in, scene, step_unless}
+use Rattle.nv_controller.specs.Entry.{Moves, MovesBy, One, Scene, completion_with, entry_in, entry_step, scene, step_unless}
+use Rattle.nv_controller.specs.TagLaws.{tagged}
 use Rattle.nv_controller.specs.TurnLaws.{can_means}
+use Rattle.nv_controller.specs.Limit.{limit_of}
+use Rattle.nv_controller.specs.LimitLaws.{limit_bounds}
 use Rattle.nv_controller.specs.Turn.{can_take}
-use Rattle.nv_driver.specs.Schedule.{Answer, AreOutside, Sent, Setting, World, data_length, device_rings, entry, number, places, received_from, slot}
+use Rattle.nv_driver.specs.Schedule.{Answer, AreOutside, Sent, Setting, World, data_length, device_rings, entry, number, own_pages, places, pointed, received_from, slot}
 use Rattle.nv_driver.proofs.AnswerLaws.{Delivers, IsAnswerTo}
 use Rattle.nv_driver.proofs.DataLaws.{ArePlaces, received_back, received_same}
 use Rattle.nv_driver.proofs.CountLaws.{number_above, number_next}
 use Rattle.nv_driver.specs.Keeping.{IsOwn, Keeps}
+use Rattle.nv_driver.proofs.ListPageLaws.{written_list}
+use Rattle.nv_driver.proofs.PointerLaws.{entry_call}
 use Rattle.nv_driver.proofs.RegionLaws.{data_keeps, length-places, outside_part}
 
 -- ---- which entry is taken
@@ -51,7 +57,7 @@ pub record IsDone (t : Setting) (w : World) (x : Sent) (y : Scene) : Type 0 wher
   pub state : y.state ≡ (step w.state t.controller x.command x.cid).state
   pub rings : y.rings ≡ device_rings t w.rung (w.done + 1) w.told
   pub moved : List ℕ
-  pub moves : Moves (step w.state t.controller x.command x.cid).answer (places t.page_size x) w.mem moved
+  pub moves : Moves x.command (places t.page_size x) (step w.state t.controller x.command x.cid).answer w.mem moved
   pub bytes : y.bytes ≡ with_completion moved (now t w).completion
       (completion_with x.cid (slot t (w.done + 1)) (step w.state t.controller x.command x.cid).answer)
 
@@ -59,7 +65,7 @@ done_by : (t : Setting) (w : World) (x : Sent) (y : Scene) (e : Sqe) (found : Re
     → found ≡ Ok (record { command = x.command; places = places t.page_size x })
     → y.state ≡ (step_unless found w.state t.controller e).state
     → y.rings ≡ device_rings t w.rung (w.done + 1) w.told
-    → (moved : List ℕ) → Moves (step_unless found w.state t.controller e).answer (places_in found) w.mem moved
+    → (moved : List ℕ) → MovesBy found (step_unless found w.state t.controller e).answer w.mem moved
     → y.bytes ≡ with_completion moved (now t w).completion (completion_with e.cid (slot t (w.done + 1)) (step_unless found w.state t.controller e).answer)
     → IsDone t w x y
 done_by t w x y e found is call state rings moved moves bytes =
@@ -69,8 +75,8 @@ done_by t w x y e found is call state rings moved moves bytes =
       state = state ∙ ap (λ (p : Step). p.state) both;
       rings = rings;
       moved = moved;
-      moves = subst (λ (p : Step). Moves p.answer (places t.page_size x) w.mem moved) both
-          (subst (λ (f : Result Call StatusCode). Moves (step_unless found w.state t.controller e).answer (places_in f) w.mem moved) call moves);
+      moves = subst (λ (p : Step). Moves x.command (places t.page_size x) p.answer w.mem moved) both
+          (subst (λ (f : Result Call StatusCode). MovesBy f (step_unless found w.state t.controller e).answer w.mem moved) call moves);
       bytes = bytes ∙ ap (λ (p : Step). with_completion moved (now t w).completion (completion_with e.cid (slot t (w.done + 1)) p.answer)) both
           ∙ ap (λ (q : Sqe). with_completion moved (now t w).completion
           (completion_with q.cid (slot t (w.done + 1)) (step w.state t.controller x.command x.cid).answer)) is;
@@ -82,9 +88,10 @@ is_done t s w y d k below one =
     let own = k.own w.done d k.counts.collected below in
     let is = k.waiting w.done d (omega arith) below in
     let next_one = number_next t w.done in
-    done_by t w (get_or w.sent w.done d) y (entry_in (scene w.state (now t w) w.mem)) (call_of t.page_size w.mem (entry_in (scene w.state (now t w) w.mem))) is
-    (ap (call_of t.page_size w.mem) is
-    ∙ own.call w.mem refl (k.to_send w.done d (omega arith) below)) one.state
+    let limit = limit_of w.state t.controller in
+    done_by t w (get_or w.sent w.done d) y (entry_in (scene w.state (now t w) w.mem)) (call_of t.page_size limit w.mem (entry_in (scene w.state (now t w) w.mem))) is
+    (ap (call_of t.page_size limit w.mem) is
+    ∙ entry_call t (get_or w.sent w.done d) limit w.mem (limit_bounds w.state t.controller k.well_formed k.controller).0 own.can own.cid (k.named w.done d k.counts.collected below) (k.to_send w.done d (omega arith) below)) one.state
     (one.rings ∙ ap (λ n. record (now t w) {
       submission = record (now t w).submission { fetched = n };
       completion = record (now t w).completion { posted = n };
@@ -97,19 +104,28 @@ is_done t s w y d k below one =
 
 -- the places of a command's data, and what is moved there
 pub moved_keeps : (t : Setting) (x : Sent) (a : Answer) (old moved : List ℕ) (from n : ℕ) → 0 < t.page_size
-    → x.offset + data_length x ≤ length x.pages * t.page_size → Moves a (places t.page_size x) old moved → AreOutside t.page_size x from n
+    → x.offset + data_length x ≤ length x.pages * t.page_size → Moves x.command (places t.page_size x) a old moved → AreOutside t.page_size x from n
     → bytes_at moved from n ≡ bytes_at old from n
-moved_keeps t x (Ok r) old moved from n some enough moves outside = ap (λ m. bytes_at m from n) moves ∙ data_keeps t.page_size x old (data_of r) from n some enough outside
+moved_keeps t x (Ok reply) old moved from n some enough moves outside =
+    ap (λ m. bytes_at m from n) moves.2 ∙ data_keeps t.page_size x old (data_of x.command moves.0) from n some enough outside
 moved_keeps t x (Err status) old moved from n some enough moves outside = ap (λ m. bytes_at m from n) moves
 
 pub moved_slot : (t : Setting) (x : Sent) (a : Answer) (old moved : List ℕ) (s : ℕ) → 0 < t.page_size
-    → x.offset + data_length x ≤ length x.pages * t.page_size → Moves a (places t.page_size x) old moved → AreOutside t.page_size x t.cq (16 * t.depth) → s < t.depth
+    → x.offset + data_length x ≤ length x.pages * t.page_size → Moves x.command (places t.page_size x) a old moved → AreOutside t.page_size x t.cq (16 * t.depth) → s < t.depth
     → completion_at moved t.cq s ≡ completion_at old t.cq s
 moved_slot t x a old moved s some enough moves outside below =
     let top : s + 1 ≤ t.depth = omega arith in
     let room = mul-le-mul_left 16 top in
     ap cqe_of_bytes (moved_keeps t x a old moved (t.cq + 16 * s) 16 some enough moves
     (outside_part t x t.cq (16 * t.depth) (t.cq + 16 * s) 16 outside (omega arith) (omega arith)))
+
+pub moved_list : (t : Setting) (x : Sent) (a : Answer) (old moved : List ℕ) → 0 < t.page_size
+    → x.offset + data_length x ≤ length x.pages * t.page_size → AreDistinct (own_pages x) → Moves x.command (places t.page_size x) a old moved
+    → KeepsList (pointed t.page_size x old) x.first x.second moved
+moved_list t x (Ok reply) old moved some enough distinct moves =
+    subst (KeepsList (pointed t.page_size x old) x.first x.second) (sym moves.2) (written_list t.page_size x old (data_of x.command moves.0) some enough distinct)
+moved_list t x (Err status) old moved some enough distinct moves =
+    subst (KeepsList (pointed t.page_size x old) x.first x.second) (sym moves) (record { len = refl; in_first = λ many. refl; in_second = λ many. refl })
 
 -- a command's places are for its data
 are_places : (t : Setting) (x : Sent) (old : List ℕ) → IsOwn t (length old) x
@@ -119,12 +135,17 @@ are_places t x old own =
     record { size = size; inside = λ i below. own.inside i (omega arith); distinct = own.distinct }
 
 -- the data of a command's reply is received, also after its completion was put
-pub delivered : (t : Setting) (x : Sent) (a : Answer) (old moved new : List ℕ) → IsAnswerTo x.command a → Moves a (places t.page_size x) old moved
+pub delivered : (t : Setting) (x : Sent) (a : Answer) (old moved new : List ℕ) → IsAnswerTo x.command a → Moves x.command (places t.page_size x) a old moved
     → IsOwn t (length old) x → read_at new (places t.page_size x) ≡ read_at moved (places t.page_size x) → Delivers t x new a
-delivered t x (Ok r) old moved new is moves own same =
-    let m = transfer_by x.command in
+delivered t x (Ok reply) old moved new is moves own same =
+    let k = x.command in
+    let m = transfer_by k in
     let at = places t.page_size x in
-    received_same m moved new at same ∙ ap (λ mem. received_from m mem at) moves
-    ∙ received_back m old at (data_of r) (are_places t x old own)
-    (replies_travel x.command r is.0 is.1).bytes
+    let r = moves.0 in
+    let with_tags = tagged k r reply moves.1 is in (
+      r,
+      moves.1,
+      received_same m moved new at same ∙ ap (λ mem. received_from m mem at) moves.2
+          ∙ received_back m old at (data_of k r) (are_places t x old own) (replies_fit k r with_tags.0 with_tags.1),
+    )
 delivered t x (Err status) old moved new is moves own same = tt

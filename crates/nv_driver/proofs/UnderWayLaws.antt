@@ -2,7 +2,7 @@
 use Rattle.std.specs.Prelude.{None, Some, set}
 use Rattle.std.proofs.Common.{◌≡◌, ◌≢◌, ◌∙◌, ℕ, ◌+◌, ◌-◌, ◌*◌, ◌%◌, ◌<◌, ◌≤◌, All, List, [], ◌∷◌, ◌++◌, ap, arith, drop, get_or, length, length-append, length-drop, refl, subst, sym, true}
 use Rattle.std.proofs.Math.ListN.{length-set}
-use Rattle.std.proofs.Math.Nat.{mod-eq_of_lt, mul-le-mul_left}
+use Rattle.std.proofs.Math.Nat.{mod-eq_of_lt, mul-le-mul_right}
 use Rattle.std.proofs.lemmas.List.{drop-append-le, get_or-drop, get_or-set_other, get_or-set_same, get_or_default}
 use Rattle.std.proofs.lemmas.Nat.{mod_below}
 use Rattle.std.specs.FinSet as set
@@ -11,13 +11,13 @@ use Rattle.nv_queue.specs.KeptLaws.{slots_apart}
 use Rattle.nv_queue.specs.Numbers.{next, slot_of}
 use Rattle.nv_queue.specs.Rings.{CollectNumbers, IsSubmitFull, SubmitNumbers, submitted_one}
 use Rattle.nv_queue.specs.Slots.{with_submission}
-use Rattle.nv_command.specs.Command.{CommandFits}
 use Rattle.nv_command.specs.declared.command.Command.{Command}
 use Rattle.nv_subsystem.specs.Step.{next_serial}
 use Rattle.nv_driver.specs.CommandPages.{AreTaken, all_pages, without}
 use Rattle.nv_driver.specs.Exchange.{IsReady}
 use Rattle.nv_driver.specs.Keeping.{Keeps}
-use Rattle.nv_driver.specs.Schedule.{IsPrepared, MaySubmit, Sent, collect_ring, entry, number, own_pages, slot, submit_ring}
+use Rattle.nv_driver.specs.Layout.{pages_of_command}
+use Rattle.nv_driver.specs.Schedule.{CanBeSent, IsPrepared, MaySubmit, Sent, collect_ring, entry, number, own_pages, slot, submit_ring}
 use Rattle.nv_driver.specs.Submitting.{IsSubmitted, sent_by}
 use Rattle.nv_driver.specs.UnderWay.{IsCommand, IsKept, IsUnderWay, Run, kept_at, pages_of_all, serial_at, setting_of}
 use Rattle.nv_driver.specs.declared.batch.Batch.{Batch}
@@ -29,7 +29,7 @@ use Rattle.nv_driver.proofs.CountLaws.{number_above, number_next}
 use Rattle.nv_driver.proofs.ExchangeLaws.{before_pages, beginning, collect_ring_is, is_idle, own_of_set, submit_ring_is}
 use Rattle.nv_driver.proofs.KeptLaws.{idle_keeps}
 use Rattle.nv_driver.proofs.PageSetLaws.{full_length, in_of, is_in}
-use Rattle.nv_driver.proofs.PointerLaws.{still_legal}
+use Rattle.nv_driver.proofs.PointerLaws.{seven_pages}
 use Rattle.nv_driver.proofs.SubmitLaws.{each_more, submit_keeps}
 use Rattle.nv_driver.proofs.SubmittingLaws.{Has, buffer_of, distinct_of, list_of, pages_are, length-data_pages}
 use Rattle.nv_driver.proofs.WindowPageLaws.{differ, few_pages, fresh, page_of_one, pages-append, taken_also, taken_len, taken_none, without_also}
@@ -61,14 +61,14 @@ lane_first r ready =
     }) (sym (taken_none l.pages).1)
 
 pub begins : (r : Run) (b : Batch) (now : ℕ) → IsReady r.geometry r.bus r.controller r.lane r.geometry.page_size r.bytes
-    → All CommandFits r.commands → b.geometry ≡ r.geometry → b.ctrl ≡ r.controller → now ≡ r.geometry.page_size → length b.outstanding ≡ 16
+    → All CanBeSent r.commands → b.geometry ≡ r.geometry → b.ctrl ≡ r.controller → now ≡ r.geometry.page_size → length b.outstanding ≡ 16
     → b.sent ≡ 0 → b.collected ≡ 0 → b.told ≡ 0 → IsUnderWay r b.sent b.collected b r.lane now r.bytes
-begins r b now ready fits geometry controller page room sent collected told =
+begins r b now ready can geometry controller page room sent collected told =
     let t = setting_of r in
     let w = beginning t r.bus.state in
     record {
       begun = ready;
-      fits = fits;
+      can = can;
       geometry = geometry;
       controller = controller;
       page_size = page;
@@ -97,9 +97,10 @@ begins r b now ready fits geometry controller page room sent collected told =
 abbrev pub held : {r : Run} {bells turns : ℕ} {b : Batch} {l : LaneFields} {now : ℕ} {bytes : List ℕ} → IsUnderWay r bells turns b l now bytes → List ℕ
 held {r} {bells} {turns} {b} u = pages_of_all (drop b.collected u.world.sent)
 
-pub own_length : (r : Run) (b : Batch) (n : ℕ) (x : Sent) → IsKept r (kept_at b n) x → length (own_pages x) ≤ 4
-own_length r b n x k =
-    let size = length-data_pages k.one.pages k.seven (omega (arith, k.few)) in
+pub own_length : (r : Run) (b : Batch) (n : ℕ) (x : Sent) → IsReady r.geometry r.bus r.controller r.lane r.geometry.page_size r.bytes
+    → IsKept r (kept_at b n) x → length (own_pages x) ≤ pages_of_command r.geometry.page_size
+own_length r b n x ready k =
+    let size = length-data_pages k.one.pages k.seven (omega (arith, k.few, seven_pages r.geometry.page_size ready.geometry.page_size)) in
     let same = ap (λ (y : Sent). length (own_pages y)) k.sent in omega (arith, size, same, k.few)
 
 module _ {r : Run} {bells turns : ℕ} {b : Batch} {l : LaneFields} {now : ℕ} {bytes : List ℕ} (u : IsUnderWay r bells turns b l now bytes) where
@@ -117,19 +118,22 @@ module _ {r : Run} {bells turns : ℕ} {b : Batch} {l : LaneFields} {now : ℕ} 
       let same = ap (λ (p : Pages). (p.first + p.count) * r.geometry.page_size) pages_left in
       let laid = u.begun.laid in omega (arith, same, laid.inside, u.size)
 
-  pub set_has : b.sent < b.collected + r.geometry.window → 4 ≤ set.len l.pages.members
+  pub set_has : b.sent < b.collected + r.geometry.window → pages_of_command r.geometry.page_size ≤ set.len l.pages.members
   set_has more =
+      let each = pages_of_command r.geometry.page_size in
       let pages = r.lane.pages in
       let quiet = u.begun.quiet in
       let all = ap (λ (m : Pages). set.len m.members) (ap (λ m. record pages { members = m }) quiet.free) ∙ full_length pages.first pages.count in
       let rest = taken_len pages (held u) u.taken in
       let now_has = ap (λ (p : Pages). set.len p.members) pages_left in
       let many = length-drop b.collected u.world.sent in
-      let few = few_pages (drop b.collected u.world.sent) (λ n d h.
-      subst (λ (x : Sent). length (own_pages x) ≤ 4) (sym (get_or-drop b.collected u.world.sent n d))
-      (own_length r b (b.collected + n) _ (u.kept (b.collected + n) d (omega arith) (omega (arith, u.sent))))) in
-      let times = mul-le-mul_left 4 more in
-      omega (arith, all, rest, now_has, many, few, u.begun.room, u.sent, more)
+      let few = few_pages each (drop b.collected u.world.sent) (λ n d h.
+      subst (λ (x : Sent). length (own_pages x) ≤ each) (sym (get_or-drop b.collected u.world.sent n d))
+      (own_length r b (b.collected + n) _ u.begun (u.kept (b.collected + n) d (omega arith) (omega (arith, u.sent))))) in
+      let c = u.keeps.counts in
+      let one_more : length (drop b.collected u.world.sent) + 1 ≤ r.geometry.window = omega (arith, many, u.sent, more, c.collected, c.done, c.rung, u.collected) in
+      let times = mul-le-mul_right each one_more in
+      omega (arith, all, rest, now_has, few, times, u.begun.room)
 
   pub serial_below : l.serial < 65535
   serial_below =
@@ -191,18 +195,18 @@ module _ {r : Run} {bells turns : ℕ} {b : Batch} {l l' : LaneFields} {now : �
   taken_new = subst (λ s. AreTaken s (own_pages (sent_by r.geometry k l.serial o))) (pages_left u)
       (subst (AreTaken l.pages) (pages_are o.pages sub.seven) sub.taken)
 
-  may : (fits : CommandFits k) → MaySubmit (setting_of r) u.world (sent_by r.geometry k l.serial o)
-  may fits =
+  may : (can : CanBeSent k) → MaySubmit (setting_of r) u.world (sent_by r.geometry k l.serial o)
+  may can =
       let x = sent_by r.geometry k l.serial o in
       let g = r.geometry in
       let laid = u.begun.laid in
       let mem_is = u.mem in
       let inside = subst (λ m. (l.pages.first + l.pages.count) * g.page_size ≤ length m) (sym mem_is) (still_inside u) in
       let has : Has l.pages o.pages g.page_size (length u.world.mem) =
-      record { seven = sub.seven; few = omega (arith, sub.few); taken = sub.taken; inside = inside } in
+      record { seven = sub.seven; few = omega (arith, sub.few, seven_pages g.page_size u.begun.geometry.page_size); taken = sub.taken; inside = inside } in
       record {
         free = omega (arith, more, u.sent, u.collected, u.begun.geometry.window.2, u.begun.depth);
-        fits = fits;
+        can = can;
         cid = omega (arith, serial_below u);
         buffer = buffer_of g l.pages o.pages u.world.mem g.page_size _ u.begun.geometry refl has sub.enough;
         list = list_of g l.pages o.pages u.world.mem g.page_size u.begun.geometry refl has;
@@ -220,9 +224,9 @@ module _ {r : Run} {bells turns : ℕ} {b : Batch} {l l' : LaneFields} {now : �
             differ (is_in (held u) p) there (ap (is_in (held u)) same ∙ fresh r.lane.pages (held u) (own_pages x) taken_new j f low);
       }
 
-  submitted_keeps : CommandFits k
+  submitted_keeps : CanBeSent k
       → Keeps (setting_of r) r.bus.state (record u.world { mem = mem; sent = u.world.sent ++ sent_by r.geometry k l.serial o ∷ [] })
-  submitted_keeps fits =
+  submitted_keeps can =
       let t = setting_of r in
       let x = sent_by r.geometry k l.serial o in
       let w = u.world in
@@ -230,7 +234,7 @@ module _ {r : Run} {bells turns : ℕ} {b : Batch} {l l' : LaneFields} {now : �
       ap (λ (q : LaneFields). q.submission) u.lane ∙ ap (λ n. submit_ring t n b.collected) (sym u.sent) ∙ ap (submit_ring t (length w.sent)) (sym u.collected) in
       let put = sub.mem ∙ ap (λ q. with_submission sub.ready q (entry x)) ring in
       submit_keeps t r.bus.state x w _ u.keeps
-      (may fits, sub.ready, subst (λ m. IsPrepared r.geometry.page_size x m sub.ready) (sym u.mem) sub.prepared, ap (λ m. record w { mem = m; sent = w.sent ++ x ∷ [] }) put)
+      (may can, sub.ready, subst (λ m. IsPrepared r.geometry.page_size x m sub.ready) (sym u.mem) sub.prepared, ap (λ m. record w { mem = m; sent = w.sent ++ x ∷ [] }) put)
 
   -- the window keeps the places of the others
   kept_on : (n : ℕ) (d : Sent) → b.collected ≤ n → n < b.sent
@@ -240,18 +244,15 @@ module _ {r : Run} {bells turns : ℕ} {b : Batch} {l l' : LaneFields} {now : �
       (sym (get_or-set_other b.outstanding (b.sent % 16) (n % 16) (Some o) None (two_places n b.sent below (omega (arith, from, more, u.begun.geometry.window.1)))))
       (u.kept n d from below)
 
-  kept_new : length mem ≡ length bytes → (n : ℕ) → n ≡ b.sent
+  kept_new : (n : ℕ) → n ≡ b.sent
       → IsKept r (kept_at (record b { outstanding = set b.outstanding (b.sent % 16) (Some o); sent = b.sent + 1 }) n) (sent_by r.geometry k l.serial o)
-  kept_new size n is = record {
+  kept_new n is = record {
     one = o;
     is_one = ap (λ i. get_or (set b.outstanding (b.sent % 16) (Some o)) (i % 16) None) is
         ∙ get_or-set_same b.outstanding (b.sent % 16) (Some o) None (omega (arith, u.room, mod_below b.sent 16 (omega arith)));
     sent = refl;
     few = sub.few;
     seven = sub.seven;
-    legal = λ m same.
-        still_legal r.geometry.page_size (sent_by r.geometry k l.serial o) bytes sub.ready m u.begun.geometry.page_size sub.prepared
-        (same ∙ sym u.size ∙ sym sub.prepared.len);
   }
 
   lane_new : l' ≡ record {
@@ -295,11 +296,11 @@ module _ {r : Run} {bells turns : ℕ} {b : Batch} {l l' : LaneFields} {now : �
       let x = sent_by r.geometry k l.serial o in
       let w = u.world in
       let c = u.keeps.counts in
-      let fits = subst CommandFits (sym (is k)) (u.fits b.sent k below) in
+      let can = subst CanBeSent (sym (is k)) (u.can b.sent k below) in
       let serial = ap (λ (q : LaneFields). q.serial) u.lane in
       record {
         begun = u.begun;
-        fits = u.fits;
+        can = u.can;
         geometry = u.geometry;
         controller = u.controller;
         page_size = page ∙ u.page_size;
@@ -308,7 +309,7 @@ module _ {r : Run} {bells turns : ℕ} {b : Batch} {l l' : LaneFields} {now : �
         some = omega (arith, below);
         room = length-set b.outstanding (b.sent % 16) (Some o) ∙ u.room;
         world = record w { mem = mem; sent = w.sent ++ x ∷ [] };
-        keeps = submitted_keeps fits;
+        keeps = submitted_keeps can;
         mem = refl;
         rung = u.rung;
         done = u.done;
@@ -320,7 +321,7 @@ module _ {r : Run} {bells turns : ℕ} {b : Batch} {l l' : LaneFields} {now : �
             n d (omega arith) (omega (arith, h, u.sent, length-append w.sent (x ∷ [])));
         kept = λ n d from h. each_more
             (λ i y. IsKept r (kept_at (record b { outstanding = set b.outstanding (b.sent % 16) (Some o); sent = b.sent + 1 }) i) y) b.collected w.sent x
-            (λ i e above low. kept_on i e above (omega (arith, u.sent))) (kept_new size (length w.sent) u.sent)
+            (λ i e above low. kept_on i e above (omega (arith, u.sent))) (kept_new (length w.sent) u.sent)
             n d from (omega (arith, h, u.sent, length-append w.sent (x ∷ [])));
         lane = lane_new;
         taken = subst (AreTaken r.lane.pages) (sym (held_more w.sent x b.collected (omega (arith, c.collected, c.done, c.rung, u.sent, u.collected))))

@@ -219,11 +219,11 @@ page_of_one (x ∷ xs) (suc n) d q h e =
     or_true true = refl
     or_true false = refl
 
--- commands of four pages or fewer
-pub few_pages : (xs : List Sent) → ((n : ℕ) (d : Sent) → n < length xs → length (own_pages (get_or xs n d)) ≤ 4) → length (pages_of_all xs) ≤ 4 * length xs
-few_pages [] few = omega arith
-few_pages (x ∷ xs) few =
+-- commands of so many pages or fewer
+pub few_pages : (m : ℕ) (xs : List Sent) → ((n : ℕ) (d : Sent) → n < length xs → length (own_pages (get_or xs n d)) ≤ m) → length (pages_of_all xs) ≤ length xs * m
+few_pages m [] few = omega arith
+few_pages m (x ∷ xs) few =
     let more = length-append (own_pages x) (pages_of_all xs) in
     let first = few 0 x (omega arith) in
-    let rest = few_pages xs (λ n d h. few (suc n) d (omega arith)) in
+    let rest = few_pages m xs (λ n d h. few (suc n) d (omega arith)) in
     omega (arith, more, first, rest)

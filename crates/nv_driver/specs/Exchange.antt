@@ -9,19 +9,20 @@ use Rattle.nv_subsystem.specs.declared.origin.TheConstants.{SERIALS}
 use Rattle.nv_controller.specs.Bus.{BusValue, IsBus, port_at}
 use Rattle.nv_driver.specs.Geometry.{IsGeometry}
 use Rattle.nv_driver.specs.Lane.{IsLaid, Lane, idle_port}
+use Rattle.nv_driver.specs.Layout.{pages_of_command}
 use Rattle.nv_driver.specs.Quiet.{IsQuiet, lane_value}
 use Rattle.nv_driver.specs.Registers.{mps_of}
 use Rattle.nv_driver.specs.Settled.{end_of}
 use Rattle.nv_driver.specs.declared.geometry.Geometry.{Geometry}
 use Rattle.nv_driver.specs.declared.lane.Lane.{Lane as LaneFields}
 
--- controller c of a bus and a quiet lane of it, with four pages or more for each command of the window, in a memory
--- that holds the tags that are due
+-- controller c of a bus and a quiet lane of it, with pages for each command of the window, in a memory that holds the
+-- tags that are due
 pub record IsReady (g : Geometry) (b : BusValue) (c : ℕ) (l : LaneFields) (now : ℕ) (bytes : List ℕ) : Type 0 where
   pub geometry : IsGeometry g
   pub page_size : now ≡ g.page_size
   pub depth : l.submission.depth ≡ g.depth
-  pub room : 4 * g.window ≤ l.pages.count
+  pub room : g.window * pages_of_command g.page_size ≤ l.pages.count
   pub quiet : IsQuiet l
   pub laid : IsLaid g.page_size (length bytes) (lane_value l)
   pub tags : HoldsTags bytes l.completion.base l.submission.depth l.submission.submitted

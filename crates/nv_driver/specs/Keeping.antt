@@ -1,15 +1,13 @@
 -- What holds along a schedule, after each of its events.
-use Rattle.std.proofs.Common.{◌≡◌, ℕ, ◌+◌, ◌*◌, ◌^◌, ◌<◌, ◌≤◌, List, get_or, length, take, Ok}
+use Rattle.std.proofs.Common.{◌≡◌, ℕ, ◌+◌, ◌*◌, ◌^◌, ◌<◌, ◌≤◌, get_or, length, take}
 use Rattle.nv_host.specs.Bytes.{bytes_at}
 use Rattle.nv_host.specs.Pages.{IsPageSize}
 use Rattle.nv_prp.specs.Place.{AreDistinct}
 use Rattle.nv_queue.specs.Numbers.{IsDepth}
 use Rattle.nv_queue.specs.Slots.{HoldsTags, submission_at}
-use Rattle.nv_command.specs.Command.{CommandFits}
 use Rattle.nv_subsystem.specs.State.{State}
 use Rattle.nv_subsystem.specs.WellFormed.{IsWellFormed}
-use Rattle.nv_controller.specs.Call.{call_of}
-use Rattle.nv_driver.specs.Schedule.{AreApart, AreOthers, AreOutside, Holds, HoldsSent, Sent, Setting, World, after, answers_to, data_length, device_rings, entry, number, places, port_with, slot}
+use Rattle.nv_driver.specs.Schedule.{AreApart, AreOthers, AreOutside, CanBeSent, Holds, HoldsSent, Sent, Setting, StaysNamed, World, after, answers_to, data_length, device_rings, entry, number, own_pages, places, port_with, slot}
 
 -- the rings lie in a memory of this size, the submission ring first
 pub record HasRings (t : Setting) (size : ℕ) : Type 0 where
@@ -18,18 +16,16 @@ pub record HasRings (t : Setting) (size : ℕ) : Type 0 where
   pub rings : t.sq + 64 * t.depth ≤ t.cq
   pub inside : t.cq + 16 * t.depth ≤ size
 
--- a command in the memory: its data lies in pages of its own, and while they hold what the host
--- sends, its entry is the command with the places of its data
+-- a command in the memory, whose data and list lie in pages of its own
 pub record IsOwn (t : Setting) (size : ℕ) (x : Sent) : Type 0 where
-  pub fits : CommandFits x.command
+  pub can : CanBeSent x.command
   pub cid : x.cid < 2 ^ 16
   pub enough : x.offset + data_length x ≤ length x.pages * t.page_size
   pub inside : (k : ℕ) → k < data_length x → get_or (places t.page_size x) k 0 < size
   pub distinct : AreDistinct (places t.page_size x)
+  pub pages : AreDistinct (own_pages x)
   pub submissions : AreOutside t.page_size x t.sq (64 * t.depth)
   pub completions : AreOutside t.page_size x t.cq (16 * t.depth)
-  pub call : (mem : List ℕ) → length mem ≡ size → HoldsSent t.page_size x mem
-      → call_of t.page_size mem (entry x) ≡ Ok (record { command = x.command; places = places t.page_size x })
 
 -- the counts of collected, done, rung, sent and told commands, in this order
 pub record AreInOrder (depth k d r m h : ℕ) : Type 0 where
@@ -50,6 +46,7 @@ pub record Keeps (t : Setting) (s : State) (w : World) : Type 0 where
   pub controller : t.controller < length w.state.controllers
   pub own : (n : ℕ) (d : Sent) → length w.answers ≤ n → n < length w.sent → IsOwn t (length w.mem) (get_or w.sent n d)
   pub apart : (n m : ℕ) (d : Sent) → length w.answers ≤ n → n < m → m < length w.sent → AreApart (get_or w.sent n d) (get_or w.sent m d)
+  pub named : (n : ℕ) (d : Sent) → length w.answers ≤ n → n < length w.sent → StaysNamed t.page_size (get_or w.sent n d) w.mem
   pub waiting : (n : ℕ) (d : Sent) → w.done ≤ n → n < length w.sent → submission_at w.mem t.sq (slot t n) ≡ entry (get_or w.sent n d)
   pub to_send : (n : ℕ) (d : Sent) → w.done ≤ n → n < length w.sent
       → HoldsSent t.page_size (get_or w.sent n d) w.mem

@@ -13,10 +13,14 @@ submission_pages g = div_ceil (64 * g.depth) g.page_size
 unfoldable pub completion_pages : Geometry → ℕ
 completion_pages g = div_ceil (16 * g.depth) g.page_size
 
--- for each outstanding command: pages for 16,384 bytes, one more where they begin inside a page, and two for a PRP
--- list that begins inside a page
+-- the most pages of one command: those of 16,384 bytes, one more where they begin inside a page, and two of a PRP list
+-- that begins inside a page
+abbrev pub pages_of_command : ℕ → ℕ
+pages_of_command page_size = div_ceil 16384 page_size + 3
+
+-- of all outstanding commands
 unfoldable pub set_pages : Geometry → ℕ
-set_pages g = g.window * (div_ceil 16384 g.page_size + 3)
+set_pages g = g.window * pages_of_command g.page_size
 
 abbrev pub lane_pages : Geometry → ℕ
 lane_pages g = submission_pages g + completion_pages g + set_pages g

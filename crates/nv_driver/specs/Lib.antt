@@ -8,6 +8,7 @@ pub mod Registers
 pub mod CommandPages
 pub mod Schedule
 pub mod Keeping
+pub mod Slot
 pub mod Submitting
 pub mod Exchange
 pub mod Batch

@@ -7,12 +7,13 @@ use Rattle.nv_layout.specs.declared.sqe.Sqe.{Sqe}
 use Rattle.nv_layout.specs.declared.status.Status.{Status}
 use Rattle.nv_prp.specs.Buffer.{IsApart, IsBuffer, IsListPlace, IsOutside, StaysFor, buffer_places}
 use Rattle.nv_prp.specs.Place.{AreDistinct, read_at}
-use Rattle.nv_prp.specs.Transfer.{transfer}
+use Rattle.nv_prp.specs.Transfer.{Transfer as Pointed, transfer}
 use Rattle.nv_queue.specs.Numbers.{IsDepth, kept_number, slot_of}
 use Rattle.nv_queue.specs.Rings.{CollectNumbers, SubmitNumbers}
 use Rattle.nv_queue.specs.Slots.{HoldsTags, IsAwaitedThere, awaited_completion, completion_at, with_submission}
 use Rattle.nv_command.specs.Command.{CommandFits, host_data_of, transfer_by}
 use Rattle.nv_command.specs.Entry.{entry_of, with_pointer}
+use Rattle.nv_command.specs.Logs.{IsSendable, answer_received}
 use Rattle.nv_command.specs.Reply.{reply_in}
 use Rattle.nv_command.specs.declared.command.Command.{Command}
 use Rattle.nv_command.specs.declared.reply.Reply.{Reply}
@@ -51,10 +52,10 @@ abbrev pub after : ℕ → State → List Sent → State
 after c s [] = s
 after c s (x ∷ xs) = after c (step s c x.command x.cid).state xs
 
--- and their answers
+-- and their answers, as they are received
 abbrev pub answers_to : ℕ → State → List Sent → List Answer
 answers_to c s [] = []
-answers_to c s (x ∷ xs) = (step s c x.command x.cid).answer ∷ answers_to c (step s c x.command x.cid).state xs
+answers_to c s (x ∷ xs) = answer_received x.command (step s c x.command x.cid).answer ∷ answers_to c (step s c x.command x.cid).state xs
 
 -- ---- what a schedule runs over
 
@@ -133,11 +134,16 @@ AreApart x y = All (λ p. All (λ q. p ≢ q) (own_pages y)) (own_pages x)
 abbrev pub AreOutside : ℕ → Sent → ℕ → ℕ → Type 0
 AreOutside page_size x from n = All (λ p. IsOutside page_size p from n) (own_pages x)
 
--- The ring has a free slot; the command fits its bits; its pages hold its data, and are distinct, of no ring and of no
+-- a command that can be sent: each field fits its bits, and its reply can be read from its data
+pub record CanBeSent (k : Command) : Type 0 where
+  pub fits : CommandFits k
+  pub sends : IsSendable k
+
+-- The ring has a free slot; the command can be sent; its pages hold its data, and are distinct, of no ring and of no
 -- outstanding command.
 pub record MaySubmit (t : Setting) (w : World) (x : Sent) : Type 0 where
   pub free : length w.sent + 1 < length w.answers + t.depth
-  pub fits : CommandFits x.command
+  pub can : CanBeSent x.command
   pub cid : x.cid < 2 ^ 16
   pub buffer : IsBuffer w.mem t.page_size x.pages x.offset (data_length x)
   pub list : IsListPlace w.mem t.page_size x.first x.second x.list_offset
@@ -155,17 +161,23 @@ abbrev pub HoldsSent : ℕ → Sent → List ℕ → Type 0
 HoldsSent page_size x mem =
     sent_from (transfer_by x.command) mem (places page_size x) ≡ host_data_of x.command
 
--- the command's pages were made ready: they hold what the host sends, and its data pointer, if it
--- has data, names the places of the data while its list stays
+-- the transfer of a command's data that its data pointer describes
+abbrev pub pointed : ℕ → Sent → List ℕ → Pointed
+pointed page_size x mem = transfer page_size mem x.prp1 x.prp2 (data_length x)
+
+-- the data pointer, if the command has data, names the places of the data while its list stays as it is in this memory
+abbrev pub StaysNamed : ℕ → Sent → List ℕ → Type 0
+StaysNamed page_size x mem =
+    0 < data_length x → StaysFor (pointed page_size x mem) x.pages x.offset x.first x.second
+
+-- the command's pages were made ready: they hold what the host sends, and its data pointer
 pub record IsPrepared (page_size : ℕ) (x : Sent) (old new : List ℕ) : Type 0 where
   pub others : (from n : ℕ) → AreOutside page_size x from n → bytes_at new from n ≡ bytes_at old from n
   pub len : length new ≡ length old
   pub prp1 : x.prp1 < 2 ^ 64
   pub prp2 : x.prp2 < 2 ^ 64
   pub sent : HoldsSent page_size x new
-  pub stays : 0 < data_length x
-      → StaysFor (transfer page_size new x.prp1 x.prp2 (data_length x))
-      x.pages x.offset x.first x.second
+  pub stays : StaysNamed page_size x new
 
 -- ---- collecting
 

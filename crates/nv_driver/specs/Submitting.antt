@@ -9,6 +9,7 @@ use Rattle.nv_controller.specs.Call.{length_of}
 use Rattle.nv_prp.specs.Transfer.{Transfer, transfer}
 use Rattle.nv_subsystem.specs.Step.{next_serial}
 use Rattle.nv_driver.specs.CommandPages.{AreTaken, all_pages, data_pages, without}
+use Rattle.nv_driver.specs.Layout.{pages_of_command}
 use Rattle.nv_driver.specs.Schedule.{IsPrepared, Sent, data_length, entry}
 use Rattle.nv_driver.specs.declared.geometry.Geometry.{Geometry}
 use Rattle.nv_driver.specs.declared.lane.Lane.{Lane as LaneFields}
@@ -35,7 +36,7 @@ transfer_at page_size bytes o k = transfer page_size bytes o.prp1 o.prp2 (length
 -- it took its pages, they were made ready, and its entry was put in the ring; a command without
 -- data has no data pointer
 pub record IsSubmitted (g : Geometry) (k : Command) (o : Outstanding) (old new : LaneFields) (before after : List ℕ) : Type 0 where
-  pub few : o.pages.data_pages ≤ 2
+  pub few : o.pages.data_pages + 2 ≤ pages_of_command g.page_size
   pub seven : length o.pages.numbers ≡ 7
   pub taken : AreTaken old.pages (all_pages o.pages)
   pub enough : g.offset + data_length (sent_by g k old.serial o) ≤ o.pages.data_pages * g.page_size

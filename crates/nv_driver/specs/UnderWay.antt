@@ -1,8 +1,6 @@
 -- A list of commands of one controller on its way, of which several are outstanding.
 use Rattle.std.specs.Prelude.{◌≡◌, ℕ, ◌+◌, ◌-◌, ◌*◌, ◌%◌, ◌<◌, ◌≤◌, All, List, [], ◌++◌, ◌∷◌, Option, None, Some, drop, length, min, slice_index_or, slice_set, take}
 use Rattle.nv_host.specs.PageSets.{IsOf}
-use Rattle.nv_prp.specs.Transfer.{IsLegal, transfer, transfer_places}
-use Rattle.nv_command.specs.Command.{CommandFits}
 use Rattle.nv_command.specs.declared.command.Command.{Command}
 use Rattle.nv_subsystem.specs.declared.origin.TheConstants.{SERIALS}
 use Rattle.nv_controller.specs.Bus.{BusValue, IsBus, port_at}
@@ -11,9 +9,10 @@ use Rattle.nv_driver.specs.CommandPages.{AreTaken, without}
 use Rattle.nv_driver.specs.Exchange.{IsReady}
 use Rattle.nv_driver.specs.Keeping.{Keeps}
 use Rattle.nv_driver.specs.Lane.{Lane, idle_port}
+use Rattle.nv_driver.specs.Layout.{pages_of_command}
 use Rattle.nv_driver.specs.Quiet.{lane_value}
 use Rattle.nv_driver.specs.Registers.{mps_of}
-use Rattle.nv_driver.specs.Schedule.{Answer, Sent, Setting, World, collect_ring, data_length, device_rings, own_pages, places, port_with, submit_ring}
+use Rattle.nv_driver.specs.Schedule.{Answer, CanBeSent, Sent, Setting, World, collect_ring, device_rings, own_pages, port_with, submit_ring}
 use Rattle.nv_driver.specs.Submitting.{sent_by}
 use Rattle.nv_driver.specs.declared.batch.Batch.{Batch}
 use Rattle.nv_driver.specs.declared.geometry.Geometry.{Geometry}
@@ -63,12 +62,8 @@ pub record IsKept (r : Run) (o : Option Outstanding) (x : Sent) : Type 0 where
   pub one : Outstanding
   pub is_one : o ≡ Some one
   pub sent : x ≡ sent_by r.geometry x.command x.cid one
-  pub few : one.pages.data_pages ≤ 2
+  pub few : one.pages.data_pages + 2 ≤ pages_of_command r.geometry.page_size
   pub seven : length one.pages.numbers ≡ 7
-  pub legal : (mem : List ℕ) → length mem ≡ length r.bytes
-      → (0 < data_length x
-      → IsLegal (transfer r.geometry.page_size mem x.prp1 x.prp2 (data_length x)))
-      × (transfer_places (transfer r.geometry.page_size mem x.prp1 x.prp2 (data_length x)) ≡ places r.geometry.page_size x)
 
 -- command n of the run, under its command identifier
 pub record IsCommand (r : Run) (n : ℕ) (x : Sent) : Type 0 where
@@ -82,7 +77,7 @@ kept_at b n = slice_index_or b.outstanding (n % 16) None
 -- of its commands so many were told by the tail doorbell, and so many were done by turns
 pub record IsUnderWay (r : Run) (bells turns : ℕ) (b : Batch) (l : LaneFields) (now : ℕ) (bytes : List ℕ) : Type 0 where
   pub begun : IsReady r.geometry r.bus r.controller r.lane r.geometry.page_size r.bytes
-  pub fits : All CommandFits r.commands
+  pub can : All CanBeSent r.commands
   pub geometry : b.geometry ≡ r.geometry
   pub controller : b.ctrl ≡ r.controller
   pub page_size : now ≡ r.geometry.page_size

@@ -1,7 +1,8 @@
 //! The answer to one command.
 
-ghost use Rattle.std.specs.Prelude.{◌≡◌, ◌<◌};
-ghost use Rattle.nv_command.specs.Command.{bytes_to_host, transfer_by};
+ghost use Rattle.std.specs.Prelude.{◌≡◌, ◌<◌, ◌≤◌, Ok};
+ghost use Rattle.nv_command.specs.Command.{transfer_by};
+ghost use Rattle.nv_command.specs.Logs.{IsSendable};
 ghost use Rattle.nv_command.specs.Reply.{reply_in};
 ghost use Rattle.nv_controller.specs.Call.{length_of};
 ghost use Rattle.nv_prp.specs.Place.{read_at};
@@ -9,92 +10,90 @@ ghost use Rattle.nv_prp.specs.Transfer.{IsLegal, transfer_places};
 ghost use Rattle.nv_driver.specs.Schedule.{answer_from, received_from};
 ghost use Rattle.nv_driver.specs.Submitting.{transfer_at};
 
+use crate::answer_slot::AnswerSlot;
 use crate::scratch::Scratch;
-use crate::submitting::{Outstanding, data_length};
-use nv_command::{Command, Reply, Transfer};
+use crate::submitting::Outstanding;
+use nv_command::{Command, Transfer};
 use nv_host::HostMemory;
-use nv_layout::{Cqe, Status};
-use nv_prp::{copy_in, walk};
+use nv_layout::Cqe;
+use nv_prp::{Spans, copy_in, walk};
 
-/// What a command is answered: its reply, or the status of its refusal.
-pub type Answer = Result<Reply, Status>;
+/// Reads the reply to a command from dword 0 of its completion and the bytes that the controller
+/// sent to its pages, so many.
+#[tactic(auto, using(crate::proofs::DataLaws::shape_as, crate::proofs::DataLaws::most))]
+fn read_data<M: HostMemory>(
+    mem: &M,
+    outstanding: &Outstanding,
+    command: &Command,
+    len: u64,
+    dword0: u32,
+    slot: &mut AnswerSlot,
+    spans: &mut Spans,
+    data: &mut [u8; 16384],
+)
+    requires sends { IsSendable command.now }
+    requires to_host { transfer_by command.now ≡ Transfer.ToHost len }
+    requires some { 0 < len }
+    requires few { len ≤ 16384 }
+    requires legal { IsLegal (transfer_at (M.page_len mem.now) (M.bytes mem.now)
+        outstanding.now command.now) }
+    ensures { slot.new ≡ Ok (reply_in command.now dword0 (read_at (M.bytes mem.now)
+        (transfer_places (transfer_at (M.page_len mem.now) (M.bytes mem.now)
+        outstanding.now command.now)))) }
+{
+    walk(mem, outstanding.prp1, outstanding.prp2, len as u32, spans).unwrap();
+    let sent = &mut data[..len as usize];
+    copy_in(mem, spans, sent);
+    slot.read(command, dword0, sent);
+}
 
-/// The page of a reply without data, which has no use for it.
-static NO_DATA: [u8; 4096] = [0; 4096];
-
-/// Reads the reply to a command whose data, a page, the controller sent, from dword 0 of its
-/// completion and from its pages.
-#[tactic(auto, using(crate::proofs::DataLaws::page_received))]
+/// Reads the reply to a command from dword 0 of its completion and what the controller sent.
 fn read_reply<M: HostMemory>(
     mem: &M,
     outstanding: &Outstanding,
     command: &Command,
     dword0: u32,
+    slot: &mut AnswerSlot,
     scratch: &mut Scratch,
-) -> Reply
-    requires comes { 0 < bytes_to_host (transfer_by command.now) }
-    requires legal { IsLegal (transfer_at (M.page_len mem.now) (M.bytes mem.now)
-        outstanding.now command.now) }
-    ensures { result ≡ reply_in command.now dword0 (read_at (M.bytes mem.now) (transfer_places
-        (transfer_at (M.page_len mem.now) (M.bytes mem.now) outstanding.now command.now))) }
-{
-    let len = data_length(command);
-    walk(
-        mem,
-        outstanding.prp1,
-        outstanding.prp2,
-        len,
-        &mut scratch.spans,
-    )
-    .unwrap();
-    copy_in(mem, &scratch.spans, &mut scratch.page);
-    Reply::read(command, dword0, &scratch.page)
-}
-
-/// The reply to a command, from dword 0 of its completion and the data that the controller sent.
-fn reply<M: HostMemory>(
-    mem: &M,
-    outstanding: &Outstanding,
-    command: &Command,
-    dword0: u32,
-    scratch: &mut Scratch,
-) -> Reply
-    requires { 0 < length_of (transfer_by command.now) → IsLegal (transfer_at
+)
+    requires sends { IsSendable command.now }
+    requires legal { 0 < length_of (transfer_by command.now) → IsLegal (transfer_at
         (M.page_len mem.now) (M.bytes mem.now) outstanding.now command.now) }
-    ensures { result ≡ reply_in command.now dword0
+    ensures { slot.new ≡ Ok (reply_in command.now dword0
         (received_from (transfer_by command.now) (M.bytes mem.now) (transfer_places
-        (transfer_at (M.page_len mem.now) (M.bytes mem.now) outstanding.now command.now))) }
+        (transfer_at (M.page_len mem.now) (M.bytes mem.now) outstanding.now command.now)))) }
 {
     match command.transfer() {
-        Transfer::ToHost(_) => read_reply(mem, outstanding, command, dword0, scratch),
-        Transfer::NoData => Reply::read(command, dword0, &NO_DATA),
-        Transfer::FromHost(_) => Reply::read(command, dword0, &NO_DATA),
+        Transfer::ToHost(len) => {
+            let Scratch { spans, data, .. } = scratch;
+            read_data(mem, outstanding, command, len, dword0, slot, spans, data)
+        }
+        Transfer::NoData => slot.read(command, dword0, &[]),
+        Transfer::FromHost(_) => slot.read(command, dword0, &[]),
     }
 }
 
-/// The answer to a command, from its completion and the data that the controller sent. Section
-/// "Completion Queue Entry".
+/// Puts the answer to a command in its slot, from its completion and the data that the controller
+/// sent. Section "Completion Queue Entry".
 pub(crate) fn answer<M: HostMemory>(
     mem: &M,
     outstanding: &Outstanding,
     command: &Command,
     completion: &Cqe,
+    slot: &mut AnswerSlot,
     scratch: &mut Scratch,
-) -> Answer
-    requires { 0 < length_of (transfer_by command.now) → IsLegal (transfer_at
+)
+    requires sends { IsSendable command.now }
+    requires legal { 0 < length_of (transfer_by command.now) → IsLegal (transfer_at
         (M.page_len mem.now) (M.bytes mem.now) outstanding.now command.now) }
-    ensures { result ≡ answer_from command.now completion.now
+    ensures { slot.new ≡ answer_from command.now completion.now
         (received_from (transfer_by command.now) (M.bytes mem.now) (transfer_places
         (transfer_at (M.page_len mem.now) (M.bytes mem.now) outstanding.now command.now))) }
 {
     if !completion.status.is_success() {
-        return Err(completion.status);
+        slot.refuse(completion.status);
+        return;
     }
-    Ok(reply(
-        mem,
-        outstanding,
-        command,
-        completion.command_specific,
-        scratch,
-    ))
+    let dword0 = completion.command_specific;
+    read_reply(mem, outstanding, command, dword0, slot, scratch);
 }

@@ -2,7 +2,6 @@
 
 ghost use Rattle.std.specs.Prelude.{◌≡◌, ◌+◌, ◌-◌, ◌%◌, ◌<◌, ◌≤◌, All, MatchOption, false, length};
 ghost use Rattle.std.specs.Prelude.{None, set, slice_set, true};
-ghost use Rattle.nv_command.specs.Command.{CommandFits};
 ghost use Rattle.nv_controller.specs.Bus.{IsBus, port_at};
 ghost use Rattle.nv_queue.specs.Numbers.{slot_of};
 ghost use Rattle.nv_queue.specs.Rings.{told_all};
@@ -11,11 +10,12 @@ ghost use Rattle.nv_subsystem.specs.declared.origin.TheConstants.{SERIALS};
 ghost use Rattle.nv_driver.specs.Batch.{answers_of, state_after};
 ghost use Rattle.nv_driver.specs.Exchange.{IsReady, KeepsOthers, after_some};
 ghost use Rattle.nv_driver.specs.Quiet.{lane_value};
-ghost use Rattle.nv_driver.specs.Schedule.{slot};
+ghost use Rattle.nv_driver.specs.Schedule.{CanBeSent, slot};
 ghost use Rattle.nv_driver.specs.UnderWay.{HasAnswers, IsBusOf, IsUnderWay, Moment, Run};
 ghost use Rattle.nv_driver.specs.UnderWay.{left_of, run_of, setting_of};
 
-use crate::answering::{Answer, answer};
+use crate::answer_slot::AnswerSlot;
+use crate::answering::answer;
 use crate::geometry::Geometry;
 use crate::lane::Lane;
 use crate::scratch::Scratch;
@@ -189,7 +189,7 @@ impl Batch {
         mem: &M,
         lane: &mut Lane,
         commands: &[Command],
-        answers: &mut [Answer],
+        answers: &mut [AnswerSlot],
         scratch: &mut Scratch,
     )
         ghost at: { Moment }
@@ -208,7 +208,14 @@ impl Batch {
         let number = self.sent - distance(completion.cid, lane.serial);
         let one = self.outstanding[number % MOST].unwrap();
         one.pages.give(&mut lane.pages);
-        answers[number] = answer(mem, &one, &commands[number], &completion, scratch);
+        answer(
+            mem,
+            &one,
+            &commands[number],
+            &completion,
+            &mut answers[number],
+            scratch,
+        );
         self.collected += 1;
     }
 
@@ -219,7 +226,7 @@ impl Batch {
         mem: &M,
         lane: &mut Lane,
         commands: &[Command],
-        answers: &mut [Answer],
+        answers: &mut [AnswerSlot],
         posted: u16,
         scratch: &mut Scratch,
     )
@@ -252,7 +259,7 @@ impl Batch {
         mem: &mut M,
         lane: &mut Lane,
         commands: &[Command],
-        answers: &mut [Answer],
+        answers: &mut [AnswerSlot],
         scratch: &mut Scratch,
     )
         ghost run: { Run }
@@ -286,7 +293,7 @@ pub(crate) fn exchange_all<B: Bus, M: HostMemory>(
     lane: &mut Lane,
     geometry: Geometry,
     commands: &[Command],
-    answers: &mut [Answer],
+    answers: &mut [AnswerSlot],
     scratch: &mut Scratch,
 )
     ghost run: { Run }
@@ -294,7 +301,7 @@ pub(crate) fn exchange_all<B: Bus, M: HostMemory>(
         ≡ run_of geometry ctrl (B.meaning bus.old) lane.old (M.bytes mem.old) commands.now }
     requires ready { IsReady geometry (B.meaning bus.old) ctrl
         lane.old (M.page_len mem.old) (M.bytes mem.old) }
-    requires fits { All CommandFits commands.now }
+    requires can { All CanBeSent commands.now }
     requires len { length answers.old ≡ length commands.now }
     ensures answers { answers.new
         ≡ answers_of ctrl (B.meaning bus.old).state lane.old.serial commands.now }

@@ -3,13 +3,14 @@
 ghost use Rattle.std.specs.Prelude.{◌≡◌, ◌≢◌, ◌<◌, ◌≤◌, ◌↔◌, All, Err, IfOk, OnErr, Some, length};
 ghost use Rattle.nv_controller.specs.Bus.{IsBus, IsEnabledWhereReady};
 ghost use Rattle.nv_command.specs.Command.{CommandFits};
+ghost use Rattle.nv_command.specs.Logs.{IsSendable, answer_received};
 ghost use Rattle.nv_subsystem.specs.Step.{step};
 ghost use Rattle.nv_driver.specs.Batch.{answers_of, state_after};
 ghost use Rattle.nv_driver.specs.Driver.{after_command, after_commands, lane_at, new_driver};
 ghost use Rattle.nv_driver.specs.Geometry.{IsGeometry, fault_of};
 ghost use Rattle.nv_driver.specs.Registers.{ports_of};
 
-use crate::answering::Answer;
+use crate::answer_slot::{Answer, AnswerSlot};
 use crate::batch::exchange_all;
 use crate::enabling::enable_all;
 use crate::error::DriverError;
@@ -94,14 +95,22 @@ impl Driver {
     }
 
     /// Sends a command to a controller and awaits its answer: the reply, or the status of the
-    /// refusal. It takes no memory. The bus is as this driver left it; each field of the command
-    /// fits its bits. Section "Command Processing".
-    pub fn admin<B: Bus>(&mut self, bus: &mut B, ctrl: u16, command: &Command) -> Answer
+    /// refusal. The answer stands in the slot; it takes no memory. The bus is as this driver left
+    /// it; each field of the command fits its bits, and its reply can be read from its data.
+    /// Section "Command Processing".
+    pub fn admin<'a, B: Bus>(
+        &mut self,
+        bus: &mut B,
+        ctrl: u16,
+        command: &Command,
+        slot: &'a mut AnswerSlot,
+    ) -> Answer<'a>
         requires ctrl { ctrl < length self.old.lanes }
         requires bus { IsBus (B.meaning bus.old) }
         requires left { (B.meaning bus.old).ports ≡ ports_of self.old }
         requires fits { CommandFits command.now }
-        ensures answer { result ≡ (step (B.meaning bus.old).state
+        requires sends { IsSendable command.now }
+        ensures answer { result ≡ answer_received command.now (step (B.meaning bus.old).state
             ctrl command.now (lane_at self.old.lanes ctrl).serial).answer }
         ensures state { (B.meaning bus.new).state ≡ (step (B.meaning bus.old).state
             ctrl command.now (lane_at self.old.lanes ctrl).serial).state }
@@ -117,26 +126,29 @@ impl Driver {
             lane,
             self.geometry,
             command,
+            slot,
             &mut self.scratch,
-        )
+        );
+        slot.answer()
     }
 
     /// Sends commands to a controller and awaits their answers, one for each. As many commands are
     /// outstanding at a time as the geometry's window allows, and they go on after a refusal; the
     /// answers and the subsystem are those of one command at a time. It takes no memory. The bus is
-    /// as this driver left it; each field of each command fits its bits. Section "Command
-    /// Processing".
+    /// as this driver left it; each field of each command fits its bits, and its reply can be read
+    /// from its data. Section "Command Processing".
     pub fn admin_all<B: Bus>(
         &mut self,
         bus: &mut B,
         ctrl: u16,
         commands: &[Command],
-        answers: &mut [Answer],
+        answers: &mut [AnswerSlot],
     )
         requires ctrl { ctrl < length self.old.lanes }
         requires bus { IsBus (B.meaning bus.old) }
         requires left { (B.meaning bus.old).ports ≡ ports_of self.old }
         requires fits { All CommandFits commands.now }
+        requires sends { All IsSendable commands.now }
         requires len { length answers.old ≡ length commands.now }
         ensures answers { answers.new ≡ answers_of ctrl (B.meaning bus.old).state
             (lane_at self.old.lanes ctrl).serial commands.now }

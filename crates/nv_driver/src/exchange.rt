@@ -1,13 +1,15 @@
 //! One command and its answer.
 
 ghost use Rattle.std.specs.Prelude.{◌≡◌, length, slice_set};
-ghost use Rattle.nv_command.specs.Command.{CommandFits};
+ghost use Rattle.nv_command.specs.Logs.{answer_received};
 ghost use Rattle.nv_subsystem.specs.Step.{step};
 ghost use Rattle.nv_controller.specs.Bus.{port_at};
 ghost use Rattle.nv_driver.specs.Exchange.{IsReady, KeepsOthers, after_one};
 ghost use Rattle.nv_driver.specs.Quiet.{lane_value};
+ghost use Rattle.nv_driver.specs.Schedule.{CanBeSent};
 
-use crate::answering::{Answer, answer};
+use crate::answer_slot::AnswerSlot;
+use crate::answering::answer;
 use crate::geometry::Geometry;
 use crate::lane::Lane;
 use crate::scratch::Scratch;
@@ -17,7 +19,7 @@ use nv_controller::Bus;
 use nv_host::HostMemory;
 use nv_register::offset;
 
-/// Sends a command to a controller and awaits its answer. No command of its lane is outstanding,
+/// Sends a command to a controller and awaits its answer, which it puts in the slot. No command of its lane is outstanding,
 /// before and after.
 pub(crate) fn exchange<B: Bus, M: HostMemory>(
     bus: &mut B,
@@ -26,13 +28,14 @@ pub(crate) fn exchange<B: Bus, M: HostMemory>(
     lane: &mut Lane,
     geometry: Geometry,
     command: &Command,
+    slot: &mut AnswerSlot,
     scratch: &mut Scratch,
-) -> Answer
+)
     requires ready { IsReady geometry (B.meaning bus.old) ctrl
         lane.old (M.page_len mem.old) (M.bytes mem.old) }
-    requires fits { CommandFits command.now }
-    ensures answer { result
-        ≡ (step (B.meaning bus.old).state ctrl command.now lane.old.serial).answer }
+    requires can { CanBeSent command.now }
+    ensures answer { slot.new ≡ answer_received command.now
+        (step (B.meaning bus.old).state ctrl command.now lane.old.serial).answer }
     ensures state { (B.meaning bus.new).state
         ≡ (step (B.meaning bus.old).state ctrl command.now lane.old.serial).state }
     ensures ready { IsReady geometry (B.meaning bus.new) ctrl
@@ -53,5 +56,5 @@ pub(crate) fn exchange<B: Bus, M: HostMemory>(
     let head = lane.completion.head_to_tell().unwrap();
     bus.write32(ctrl, offset::HEAD_DOORBELL, u32::from(head));
     outstanding.pages.give(&mut lane.pages);
-    answer(mem, &outstanding, command, &completion, scratch)
+    answer(mem, &outstanding, command, &completion, slot, scratch);
 }

@@ -11,10 +11,12 @@
 //! ```
 //!
 //! [`Driver::admin`] sends a command through a controller's rings, with its data behind PRP entries
-//! in the driver's pages, and gives its answer: the reply, or the status of the refusal.
+//! in the driver's pages, and gives its answer: the reply, or the status of the refusal. The answer
+//! stands in an [`AnswerSlot`], which is made once.
 //!
 //! ```
-//! match driver.admin(&mut machine, 0, &Command::ActiveList { after: 0 }) {
+//! let mut slot = AnswerSlot::new();
+//! match driver.admin(&mut machine, 0, &Command::ActiveList { after: 0 }, &mut slot) {
 //!     Ok(reply) => show(reply),
 //!     Err(status) => refused(status),
 //! }
@@ -26,6 +28,7 @@
 //! Sections are named as in the NVM Express Base Specification, revision 1.4.
 #![tactic(auto)]
 
+mod answer_slot;
 mod answering;
 mod batch;
 mod command_pages;
@@ -41,7 +44,7 @@ mod layout;
 mod scratch;
 mod submitting;
 
-pub use answering::Answer;
+pub use answer_slot::{Answer, AnswerSlot};
 pub use driver::Driver;
 pub use error::DriverError;
 pub use geometry::Geometry;

@@ -8,8 +8,10 @@ use nv_prp::Spans;
 pub struct Scratch {
     /// Where the data lies in the host's memory.
     pub spans: Spans,
-    /// The data, on its way from the controller or to it.
+    /// What the host sends.
     pub page: [u8; 4096],
+    /// What the controller sent.
+    pub data: [u8; 16384],
 }
 
 impl Scratch {
@@ -17,6 +19,7 @@ impl Scratch {
         Scratch {
             spans: Spans::new(),
             page: [0; 4096],
+            data: [0; 16384],
         }
     }
 }

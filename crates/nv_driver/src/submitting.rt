@@ -5,13 +5,16 @@ ghost use Rattle.std.specs.FinSet as set;
 ghost use Rattle.nv_prp.specs.Buffer.{IsBuffer, IsListPlace, KeepsOutside, StaysFor};
 ghost use Rattle.nv_prp.specs.Place.{AreDistinct, written_at};
 ghost use Rattle.nv_prp.specs.Transfer.{IsLegal, transfer, transfer_places};
-ghost use Rattle.nv_command.specs.Command.{CommandFits, bytes_from_host, host_data_of, transfer_by};
+ghost use Rattle.nv_command.specs.Command.{bytes_from_host, host_data_of, transfer_by};
+ghost use Rattle.nv_command.specs.Logs.{IsSendable};
 ghost use Rattle.nv_controller.specs.Call.{length_of};
 ghost use Rattle.nv_queue.specs.Numbers.{next, slot_of};
 ghost use Rattle.nv_queue.specs.Rings.{IsSubmitFull};
 ghost use Rattle.nv_subsystem.specs.declared.origin.TheConstants.{SERIALS};
 ghost use Rattle.nv_driver.specs.CommandPages.{data_pages};
 ghost use Rattle.nv_driver.specs.Geometry.{IsGeometry};
+ghost use Rattle.nv_driver.specs.Layout.{pages_of_command};
+ghost use Rattle.nv_driver.specs.Schedule.{CanBeSent};
 ghost use Rattle.nv_driver.specs.Submitting.{IsSubmitted, transfer_at};
 
 use crate::command_pages::CommandPages;
@@ -34,9 +37,10 @@ pub struct Outstanding {
 
 /// How many bytes of data a command has.
 #[tactic(auto, using(crate::proofs::DataLaws::shape_as, crate::proofs::DataLaws::most))]
-pub(crate) fn data_length(command: &Command) -> u32
+fn data_length(command: &Command) -> u32
+    requires { IsSendable command.now }
     ensures length { result ≡ length_of (transfer_by command.now) }
-    ensures most { result ≤ 4096 }
+    ensures most { result ≤ 16384 }
 {
     match command.transfer() {
         Transfer::NoData => 0,
@@ -48,9 +52,10 @@ pub(crate) fn data_length(command: &Command) -> u32
 /// In how many pages so many bytes lie, from the geometry's offset on.
 fn page_count(geometry: Geometry, len: u32) -> usize
     requires geometry { IsGeometry geometry }
-    requires len { len ≤ 4096 }
+    requires len { len ≤ 16384 }
     ensures enough { geometry.offset + len ≤ result * geometry.page_size }
-    ensures few { result ≤ 2 }
+    ensures few { result + 2 ≤ pages_of_command geometry.page_size }
+    ensures five { result ≤ 5 }
 {
     (geometry.offset + len).div_ceil(geometry.page_size) as usize
 }
@@ -64,7 +69,7 @@ fn build_pointer<M: HostMemory>(
     len: u32,
 ) -> (u64, u64)
     requires few { pages.now.data_pages ≤ 5 }
-    requires limit { len ≤ 4096 }
+    requires limit { len ≤ 16384 }
     requires buffer { IsBuffer (M.bytes mem.old) (M.page_len mem.old)
         (data_pages pages.now) geometry.offset len }
     requires list { IsListPlace (M.bytes mem.old) (M.page_len mem.old)
@@ -100,8 +105,8 @@ fn write_page<M: HostMemory>(
     command: &Command,
     scratch: &mut Scratch,
 )
-    requires fits { CommandFits command.now }
-    requires sends { 0 < bytes_from_host (transfer_by command.now) }
+    requires can { CanBeSent command.now }
+    requires some { 0 < bytes_from_host (transfer_by command.now) }
     requires legal { IsLegal (transfer_at (M.page_len mem.old) (M.bytes mem.old)
         outstanding.now command.now) }
     ensures bytes { M.bytes mem.new ≡ written_at (M.bytes mem.old) (transfer_places
@@ -131,7 +136,7 @@ fn write_data<M: HostMemory>(
     command: &Command,
     scratch: &mut Scratch,
 )
-    requires fits { CommandFits command.now }
+    requires can { CanBeSent command.now }
     requires legal { 0 < length_of (transfer_by command.now) → IsLegal (transfer_at
         (M.page_len mem.old) (M.bytes mem.old) outstanding.now command.now) }
     ensures bytes { M.bytes mem.new ≡ written_at (M.bytes mem.old) (transfer_places
@@ -159,9 +164,9 @@ pub(crate) fn submit<M: HostMemory>(
 ) -> (Outstanding, u16)
     requires geometry { IsGeometry geometry }
     requires page { M.page_len mem.old ≡ geometry.page_size }
-    requires fits { CommandFits command.now }
+    requires can { CanBeSent command.now }
     requires serial { lane.old.serial < SERIALS }
-    requires pages { 4 ≤ set.len lane.old.pages.members }
+    requires pages { pages_of_command geometry.page_size ≤ set.len lane.old.pages.members }
     requires inside { (lane.old.pages.first + lane.old.pages.count) * geometry.page_size
         ≤ length (M.bytes mem.old) }
     requires ring { lane.old.submission.base + 64 * lane.old.submission.depth

@@ -177,13 +177,25 @@ fn command_identifiers_begin_anew_after_65535_commands(rt: HostRuntime) -> Resul
     for _ in 0..65536u32 {
         script.extend_from_slice(b"list-ns /dev/nvme0 -n 3\n")?;
     }
-    script.extend_from_slice(b"id-ns /dev/nvme0 -n 0\n")?;
+    script.extend_from_slice(b"id-ns /dev/nvme0 -n 0\nerror-log /dev/nvme0\n")?;
     let left = run_script(rt.alloc(), DEMO, &script)?;
-    assert!(rt; left.end == RunEnd::Status(2));
-    assert!(rt; left.out.len() == 65536 * 11);
+    assert!(rt; left.end == RunEnd::Status(0));
+    let log = "entry               : 0
+error_count         : 1
+sqid                : 0
+cmdid               : 0x1
+status_field        : 0x600b
+parm_err_loc        : 0xffff
+lba                 : 0x0
+nsid                : 0x0
+vs                  : 0x0
+cs                  : 0x0
+";
+    let lists = left.out.len().saturating_sub(log.len());
+    assert!(rt; lists == 65536 * 11 && &left.out.as_slice()[lists..] == log.as_bytes());
     let subsystem = left.machine.subsystem();
     assert!(rt; subsystem.controllers() == 2);
-    assert!(rt; subsystem.counts(0) == (1, 65537));
+    assert!(rt; subsystem.counts(0) == (1, 65539));
     match subsystem.log_entry(0, 0) {
         None => panic!(rt; "an entry is missing"),
         Some(entry) => assert!(rt; entry.cid == 1),

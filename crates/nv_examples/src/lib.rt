@@ -22,7 +22,11 @@ mod lines;
 #[cfg(test)]
 mod lines_of_features;
 #[cfg(test)]
+mod lines_of_logs;
+#[cfg(test)]
 mod lines_of_management;
+#[cfg(test)]
+mod logs;
 #[cfg(test)]
 mod management;
 #[cfg(test)]

@@ -1,6 +1,7 @@
 //! What a script leaves in the error logs.
 
 use crate::harness::run_script;
+use nv_command::ReplyRoom;
 use nv_subsystem::{Command, DEMO, Origin, Subsystem};
 use std::process::Abort;
 use std::test::Fail;
@@ -34,12 +35,13 @@ fn books_refusals_on_their_controller(rt: HostRuntime) -> Result<(), Fail> {
 #[test]
 fn keeps_the_phase_tag_of_a_refusal(rt: HostRuntime) -> Result<(), Fail> {
     let mut subsystem = Subsystem::from_toml(rt.alloc(), DEMO.as_bytes())?;
+    let mut room = ReplyRoom::new();
     for (cid, phase) in [(7, true), (8, false)] {
         let command = Command::AllocatedNamespace { nsid: 0 };
         assert!(rt; subsystem.controllers() == 2);
         assert!(rt;
             subsystem
-                .execute(0, &command, Origin { cid, phase })
+                .execute(0, &command, Origin { cid, phase }, &mut room)
                 .is_err()
         );
         assert!(rt; subsystem.controllers() == 2);

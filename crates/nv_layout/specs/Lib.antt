@@ -5,8 +5,12 @@ pub mod Cqe
 pub mod NsList
 pub mod CtrlList
 pub mod IdNs
+pub mod IdCtrl
+pub mod Smart
+pub mod ErrorEntry
 pub mod Feature
 pub mod PartLaws
 pub mod TableLaws
 pub mod NsListLaws
 pub mod RecordLaws
+pub mod LogLaws

@@ -1,21 +1,13 @@
 -- Lists of identifiers that end at the first zero.
-use Rattle.std.proofs.Common.{◌≡◌, ◌≢◌, ◌∙◌, ℕ, zero, suc, ◌+◌, ◌-◌, ◌*◌, ◌^◌, ◌<◌, ◌≤◌, ap, refl, sym, not, arith, true, false, List, [], ◌∷◌, ◌++◌, drop, take, set, length, get_or}
-use Rattle.std.specs.List.{AllByRecursion, before_first, prefix_len}
-use Rattle.std.proofs.lemmas.List.{drop-drop, drop-replicate, drop-set-lt, length-append}
+use Rattle.std.proofs.Common.{◌≡◌, ◌≢◌, ◌∙◌, ℕ, zero, suc, ◌+◌, ◌-◌, ◌*◌, ◌^◌, ◌<◌, ◌≤◌, ap, refl, sym, not, arith, append-nil, true, false, List, [], ◌∷◌, ◌++◌, drop, take, length, get_or}
+use Rattle.std.specs.List.{AllByRecursion, before_first, flat_map, prefix_len}
 use Rattle.std.proofs.lemmas.Bool.{false_from_ne_true}
+use Rattle.std.proofs.lemmas.Grind.{flat_map-append}
+use Rattle.std.proofs.lemmas.List.{drop-replicate, drop_all, length-append}
+use Rattle.byteorder.specs.Endian.{little_bytes}
 use Rattle.nv_layout.specs.NsList.{is_zero, padded}
-use Rattle.nv_layout.specs.Parts.{number_at, numbers_at, zeros}
+use Rattle.nv_layout.specs.Parts.{number_at, numbers, numbers_at, placed, zeros}
 use Rattle.nv_layout.specs.PartLaws.{get_or-numbers_at, length-numbers_at, length_zeros}
-
--- ---- one more identifier in the list's array
-
--- the rest of the array is still zeros
-pub drop-set_zeros : (ids : List ℕ) (size n x : ℕ) → n < size → drop n ids ≡ zeros (size - n)
-    → drop (n + 1) (set ids n x) ≡ zeros (size - (n + 1))
-unfolding zeros
-drop-set_zeros ids size n x h e =
-    let after : drop (n + 1) (set ids n x) ≡ drop (n + 1) ids = drop-set-lt (n + 1) ids n x (omega arith) in
-    after ∙ sym (drop-drop 1 n ids) ∙ ap (drop 1) e ∙ drop-replicate 1 (size - n) 0 ∙ ap (λ m. zeros m) (omega arith)
 
 -- ---- what stands before the first zero
 
@@ -99,3 +91,32 @@ padded_fits n xs f = append_fits xs (n - length xs) f
 pub length-padded : (n : ℕ) (xs : List ℕ) → length xs ≤ n → length (padded n xs) ≡ n
 length-padded n xs h =
     length-append xs (zeros (n - length xs)) ∙ ap (λ m. length xs + m) (length_zeros (n - length xs)) ∙ omega arith
+
+-- ---- the bytes of the list
+
+each_zero : (n : ℕ) → flat_map (little_bytes 4) (zeros n) ≡ zeros (4 * n)
+unfolding zeros
+each_zero zero = refl
+each_zero (suc n) =
+    ap (λ (rest : List ℕ). 0 ∷ 0 ∷ 0 ∷ 0 ∷ rest) (each_zero n)
+    ∙ (let size : suc (suc (suc (suc (4 * n)))) ≡ 4 * suc n = omega arith in ap (λ m. zeros m) size)
+
+zeros_left : (n count : ℕ) → n ≤ count → drop (4 * n) (zeros (4 * count)) ≡ flat_map (little_bytes 4) (zeros (count - n))
+unfolding zeros
+zeros_left n count h =
+    let left : 4 * count - 4 * n ≡ 4 * (count - n) = omega arith in
+    drop-replicate (4 * n) (4 * count) 0 ∙ ap (λ m. zeros m) left ∙ sym (each_zero (count - n))
+
+none_left : (n : ℕ) → drop n (zeros n) ≡ []
+none_left n = drop_all n (zeros n) (omega (arith, length_zeros n))
+
+-- a list's numbers over zeros, with or without the zeros after them
+pub placed-padded : (count : ℕ) (ids : List ℕ) → length ids ≤ count
+    → placed (zeros (4 * count)) (numbers 0 4 (length ids) ids)
+    ≡ placed (zeros (4 * count)) (numbers 0 4 count (padded count ids))
+unfolding placed
+placed-padded count ids h =
+    ap (λ t. flat_map (little_bytes 4) ids ++ t) (zeros_left (length ids) count h)
+    ∙ sym (flat_map-append (little_bytes 4) ids (zeros (count - length ids)))
+    ∙ sym (append-nil (flat_map (little_bytes 4) (padded count ids)))
+    ∙ ap (λ t. flat_map (little_bytes 4) (padded count ids) ++ t) (sym (none_left (4 * count)))

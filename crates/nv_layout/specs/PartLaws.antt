@@ -1,13 +1,14 @@
 -- One field over some bytes, and the reading of numbers.
-use Rattle.std.proofs.Common.{◌≡◌, ◌∙◌, ℕ, zero, suc, ◌+◌, ◌-◌, ◌*◌, ◌%◌, ◌^◌, ◌<◌, ◌≤◌, ap, refl, sym, arith, mul-zero, List, [], ◌∷◌, ◌++◌, take, drop, set, length, get_or, map}
+use Rattle.std.proofs.Common.{◌≡◌, ◌∙◌, ℕ, zero, suc, ◌+◌, ◌-◌, ◌*◌, ◌%◌, ◌^◌, ◌<◌, ◌≤◌, ap, inl, inr, refl, sym, arith, mul-zero, List, [], ◌∷◌, ◌++◌, take, drop, set, length, get_or, map, min, replicate}
 use Rattle.std.specs.List.{AllByRecursion, flat_map}
+use Rattle.std.proofs.lemmas.Bool.{cases_lt}
 use Rattle.std.proofs.lemmas.Grind.{common_steps, same_number_lists}
-use Rattle.std.proofs.lemmas.List.{drop-append-le, drop-drop, drop-take, length-append, length-drop, length-replicate, length-take-le, set_split, take-append-le}
+use Rattle.std.proofs.lemmas.List.{drop-append-le, drop-drop, drop-take, drop_min, get_or-append_right, get_or-drop, get_or-take, get_or_append_left, length-append, length-drop, length-replicate, length-take-le, set_split, take-append-le, take_all}
 use Rattle.std.proofs.lemmas.Nat.{mod_below, one_shl, pow_pos, shl_whole}
 use Rattle.std.proofs.Math.Seq.{drop-append_seam, take-append_seam}
 use Rattle.byteorder.specs.Endian.{little_bytes, little_from, little_number}
 use Rattle.byteorder.specs.Numbers.{length-bytes_low_first, little_from-take}
-use Rattle.nv_layout.specs.Parts.{Part, at_bits, bytes_of, number, number_at, numbers, numbers_at, place_of, placed, text, text_at, width_of, zeros}
+use Rattle.nv_layout.specs.Parts.{Part, at_bits, bytes_of, number, number_at, numbers, numbers_at, part, place_of, placed, text, text_at, width_of, zeros}
 
 pub length_zeros : (n : ℕ) → length (zeros n) ≡ n
 unfolding zeros
@@ -170,3 +171,94 @@ map_read f (x ∷ xs) (y ∷ ys) d e l h =
     let rest = map_read f xs ys d e (omega arith)
     (λ k below. let here : get_or ys k e ≡ f (get_or xs k d) = h (suc k) (omega arith) in here) in
     (λ i. first i ∷ rest i)
+
+-- ---- a part of the bytes, with zeros past their end
+
+pub length-part : (bytes : List ℕ) (from n : ℕ) → length (part bytes from n) ≡ n
+unfolding part
+length-part bytes from n =
+    length-take-le n (drop from bytes ++ replicate n 0)
+    (simp (length-append, length-replicate) (omega arith))
+
+-- what is read past the end stands there too
+pub get_or-past : {X : Type 0} (xs : List X) (d : X) (n k : ℕ) → get_or (xs ++ replicate n d) k d ≡ get_or xs k d
+get_or-past [] d zero k = refl
+get_or-past [] d (suc n) zero = refl
+get_or-past [] d (suc n) (suc k) = get_or-past [] d n k
+get_or-past (x ∷ xs) d n zero = refl
+get_or-past (x ∷ xs) d n (suc k) = get_or-past xs d n k
+
+pub get_or-part : (bytes : List ℕ) (from n k : ℕ) → k < n → get_or (part bytes from n) k 0 ≡ get_or bytes (from + k) 0
+unfolding part
+get_or-part bytes from n k h =
+    get_or-take n (drop from bytes ++ replicate n 0) k 0 h
+    ∙ get_or-past (drop from bytes) 0 n k
+    ∙ get_or-drop from bytes k 0
+
+-- what agrees with the bytes at each index is the part
+pub is_part : (bytes : List ℕ) (from : ℕ) (xs : List ℕ)
+    → ((k : ℕ) → k < length xs → get_or xs k 0 ≡ get_or bytes (from + k) 0) → xs ≡ part bytes from (length xs)
+is_part bytes from xs h =
+    same_number_lists xs (part bytes from (length xs)) (sym (length-part bytes from (length xs)))
+    (λ k below. h k below ∙ sym (get_or-part bytes from (length xs) k below))
+
+byte_of_parts : (bytes : List ℕ) (from m n k : ℕ) → k < m + n
+    → get_or (part bytes from m ++ part bytes (from + m) n) k 0 ≡ get_or bytes (from + k) 0
+byte_of_parts bytes from m n k h =
+    let size = length-part bytes from m in
+    elim (cases_lt k m) [
+      | inl low ↦ get_or_append_left (part bytes from m) (part bytes (from + m) n) 0 k (omega (arith, size, low))
+          ∙ get_or-part bytes from m k low
+      | inr high ↦ get_or-append_right (part bytes from m) (part bytes (from + m) n) m k 0 size high
+          ∙ get_or-part bytes (from + m) n (k - m) (omega arith)
+          ∙ ap (λ i. get_or bytes i 0) (omega arith)
+    ]
+
+-- parts whose bytes agree
+pub same_parts : (xs ys : List ℕ) (i j n : ℕ)
+    → ((k : ℕ) → k < n → get_or xs (i + k) 0 ≡ get_or ys (j + k) 0) → part xs i n ≡ part ys j n
+same_parts xs ys i j n h =
+    let size = length-part xs i n in
+    same_number_lists (part xs i n) (part ys j n) (size ∙ sym (length-part ys j n))
+    (λ k below. let small : k < n = omega (arith, size) in
+    get_or-part xs i n k small ∙ h k small ∙ sym (get_or-part ys j n k small))
+
+-- one part after the other
+pub part-append : (bytes : List ℕ) (from m n : ℕ)
+    → part bytes from m ++ part bytes (from + m) n ≡ part bytes from (m + n)
+part-append bytes from m n =
+    let size : length (part bytes from m ++ part bytes (from + m) n) ≡ m + n =
+    length-append (part bytes from m) (part bytes (from + m) n)
+    ∙ (λ i. length-part bytes from m i + length-part bytes (from + m) n i) in
+    is_part bytes from (part bytes from m ++ part bytes (from + m) n)
+    (λ k below. byte_of_parts bytes from m n k (omega (arith, size, below)))
+    ∙ ap (part bytes from) size
+
+-- all that is past the end is zeros
+pub part_past : (bytes : List ℕ) (from n : ℕ) → part bytes (min from (length bytes)) n ≡ part bytes from n
+unfolding part
+part_past bytes from n = ap (λ rest. take n (rest ++ replicate n 0)) (drop_min from bytes)
+
+-- a part of a part
+pub part-part : (bytes : List ℕ) (from n i m : ℕ) → i + m ≤ n
+    → take m (drop i (part bytes from n)) ≡ part bytes (from + i) m
+part-part bytes from n i m h =
+    let whole = length-part bytes from n in
+    let size : length (take m (drop i (part bytes from n))) ≡ m =
+    length-take-le m (drop i (part bytes from n)) (simp length-drop (omega (arith, whole))) in
+    is_part bytes (from + i) (take m (drop i (part bytes from n)))
+    (λ k below. let small : k < m = omega (arith, size) in
+    get_or-take m (drop i (part bytes from n)) k 0 small
+    ∙ get_or-drop i (part bytes from n) k 0
+    ∙ get_or-part bytes from n (i + k) (omega arith)
+    ∙ ap (λ j. get_or bytes j 0) (omega arith))
+    ∙ ap (part bytes (from + i)) size
+
+-- a part within the bytes has no zeros of its own
+pub part_within : (bytes : List ℕ) (from n : ℕ) → from + n ≤ length bytes → part bytes from n ≡ take n (drop from bytes)
+unfolding part
+part_within bytes from n h =
+    take-append-le n (drop from bytes) (replicate n 0) (simp length-drop (omega arith))
+
+pub part_whole : (bytes : List ℕ) (n : ℕ) → length bytes ≡ n → part bytes 0 n ≡ bytes
+part_whole bytes n e = part_within bytes 0 n (omega (arith, e)) ∙ take_all n bytes (omega (arith, e))

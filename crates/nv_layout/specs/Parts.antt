@@ -43,6 +43,10 @@ laid_out size parts = fold placed (zeros size) parts
 unfoldable pub text_at : ℕ → ℕ → List ℕ → List ℕ
 text_at at width bytes = take width (drop at bytes)
 
+-- the `n` bytes from a place on, with zeros past the end
+unfoldable pub part : List ℕ → ℕ → ℕ → List ℕ
+part bytes from n = take n (drop from bytes ++ replicate n 0)
+
 -- the number in them
 unfoldable pub number_at : ℕ → ℕ → List ℕ → ℕ
 number_at at width bytes = little_number width (drop at bytes)

@@ -4,12 +4,14 @@ use Rattle.std.specs.List.{AllByRecursion, before_first}
 use Rattle.std.proofs.lemmas.List.{length-map}
 use Rattle.nv_layout.specs.Cqe.{CqeReadsBack, bytes_of_cqe, cqe_of_bytes, cqe_parts}
 use Rattle.nv_layout.specs.CtrlList.{CtrlListReadsBack, bytes_of_ctrl_list, ctrl_list_of_bytes, ctrl_list_parts}
+use Rattle.nv_layout.specs.IdCtrl.{IdCtrlReadsBack, bytes_of_id_ctrl, id_ctrl_of_bytes, id_ctrl_parts}
 use Rattle.nv_layout.specs.IdNs.{IdNsReadsBack, LbafFits, bytes_of_id_ns, id_ns_of_bytes, id_ns_parts, lbaf_of_number, number_of_lbaf}
 use Rattle.nv_layout.specs.NsList.{bytes_of_ns_list, is_zero, ns_list_of_bytes, ns_list_parts}
 use Rattle.nv_layout.specs.Parts.{Fits, at_bits, bit, bits, is_table, numbers}
 use Rattle.nv_layout.specs.Sqe.{SqeReadsBack, bytes_of_sqe, sqe_of_bytes, sqe_parts}
 use Rattle.nv_layout.specs.Status.{StatusReadsBack, number_of_status, status_of_number}
 use Rattle.nv_layout.specs.declared.cqe.Cqe.{Cqe}
+use Rattle.nv_layout.specs.declared.id_ctrl.IdCtrl.{IdCtrl}
 use Rattle.nv_layout.specs.declared.id_ns.IdNs.{IdNs}
 use Rattle.nv_layout.specs.declared.id_ns.Lbaf.{Lbaf}
 use Rattle.nv_layout.specs.declared.sqe.Sqe.{Sqe}
@@ -203,4 +205,280 @@ id_ns_back r fits =
       nmic = nmic i;
       nvmcap = nvmcap i;
       lbafs = (ap (map lbaf_of_number) lbafs ∙ lbafs_back r.lbafs fits.each_format) i;
+    }
+
+-- ---- controllers
+
+pub length-bytes_of_id_ctrl : (r : IdCtrl) → length r.sn ≡ 20 → length r.mn ≡ 40 → length r.fr ≡ 8
+    → length r.subnqn ≡ 256 → length (bytes_of_id_ctrl r) ≡ 4096
+unfolding bytes_of_id_ctrl
+length-bytes_of_id_ctrl r sn mn fr subnqn =
+    length-laid_out 4096 (id_ctrl_parts r) refl (
+      tt,
+      (
+        tt,
+        (
+          sn,
+          (
+            mn,
+            (
+              fr,
+              (
+                tt,
+                (
+                  tt,
+                  (
+                    tt,
+                    (
+                      tt,
+                      (
+                        tt,
+                        (
+                          tt,
+                          (
+                            tt,
+                            (
+                              tt,
+                              (
+                                tt,
+                                (
+                                  tt,
+                                  (
+                                    tt,
+                                    (
+                                      tt,
+                                      (
+                                        tt,
+                                        (
+                                          tt,
+                                          (
+                                            tt,
+                                            (
+                                              tt,
+                                              (
+                                                tt,
+                                                (tt, (tt, (tt, (tt, (subnqn, tt))))),
+                                              ),
+                                            ),
+                                          ),
+                                        ),
+                                      ),
+                                    ),
+                                  ),
+                                ),
+                              ),
+                            ),
+                          ),
+                        ),
+                      ),
+                    ),
+                  ),
+                ),
+              ),
+            ),
+          ),
+        ),
+      ),
+    )
+
+ieee_bits : (x : ℕ) → x < 2 ^ 24 → (at_bits 0 24 x < 256 ^ 3) × (at_bits 0 24 x ≡ x)
+ieee_bits x h = (omega arith, omega arith)
+
+pub id_ctrl_back : IdCtrlReadsBack
+unfolding bytes_of_id_ctrl id_ctrl_of_bytes
+id_ctrl_back r fits =
+    let (small, whole) = ieee_bits r.ieee fits.ieee in
+    let parts_fit : AllByRecursion Fits (id_ctrl_parts r) = (
+      fits.vid,
+      (
+        fits.ssvid,
+        (
+          fits.sn,
+          (
+            fits.mn,
+            (
+              fits.fr,
+              (
+                fits.rab,
+                (
+                  small,
+                  (
+                    fits.cmic,
+                    (
+                      fits.mdts,
+                      (
+                        fits.cntlid,
+                        (
+                          fits.ver,
+                          (
+                            fits.oacs,
+                            (
+                              fits.frmw,
+                              (
+                                fits.lpa,
+                                (
+                                  fits.elpe,
+                                  (
+                                    fits.npss,
+                                    (
+                                      fits.wctemp,
+                                      (
+                                        fits.cctemp,
+                                        (
+                                          fits.tnvmcap,
+                                          (
+                                            fits.unvmcap,
+                                            (
+                                              fits.sqes,
+                                              (
+                                                fits.cqes,
+                                                (
+                                                  fits.nn,
+                                                  (
+                                                    fits.oncs,
+                                                    (
+                                                      fits.fna,
+                                                      (
+                                                        fits.vwc,
+                                                        (
+                                                          fits.subnqn,
+                                                          tt,
+                                                        ),
+                                                      ),
+                                                    ),
+                                                  ),
+                                                ),
+                                              ),
+                                            ),
+                                          ),
+                                        ),
+                                      ),
+                                    ),
+                                  ),
+                                ),
+                              ),
+                            ),
+                          ),
+                        ),
+                      ),
+                    ),
+                  ),
+                ),
+              ),
+            ),
+          ),
+        ),
+      ),
+    ) in
+    let (
+      vid,
+      (
+        ssvid,
+        (
+          sn,
+          (
+            mn,
+            (
+              fr,
+              (
+                rab,
+                (
+                  ieee,
+                  (
+                    cmic,
+                    (
+                      mdts,
+                      (
+                        cntlid,
+                        (
+                          ver,
+                          (
+                            oacs,
+                            (
+                              frmw,
+                              (
+                                lpa,
+                                (
+                                  elpe,
+                                  (
+                                    npss,
+                                    (
+                                      wctemp,
+                                      (
+                                        cctemp,
+                                        (
+                                          tnvmcap,
+                                          (
+                                            unvmcap,
+                                            (
+                                              sqes,
+                                              (
+                                                cqes,
+                                                (
+                                                  nn,
+                                                  (
+                                                    oncs,
+                                                    (
+                                                      fna,
+                                                      (
+                                                        vwc,
+                                                        (
+                                                          subnqn,
+                                                          end,
+                                                        ),
+                                                      ),
+                                                    ),
+                                                  ),
+                                                ),
+                                              ),
+                                            ),
+                                          ),
+                                        ),
+                                      ),
+                                    ),
+                                  ),
+                                ),
+                              ),
+                            ),
+                          ),
+                        ),
+                      ),
+                    ),
+                  ),
+                ),
+              ),
+            ),
+          ),
+        ),
+      ),
+    ) =
+    table_back 4096 (id_ctrl_parts r) refl parts_fit in
+    λ i. record {
+      vid = vid i;
+      ssvid = ssvid i;
+      sn = sn i;
+      mn = mn i;
+      fr = fr i;
+      rab = rab i;
+      ieee = (ieee ∙ whole) i;
+      cmic = cmic i;
+      mdts = mdts i;
+      cntlid = cntlid i;
+      ver = ver i;
+      oacs = oacs i;
+      frmw = frmw i;
+      lpa = lpa i;
+      elpe = elpe i;
+      npss = npss i;
+      wctemp = wctemp i;
+      cctemp = cctemp i;
+      tnvmcap = tnvmcap i;
+      unvmcap = unvmcap i;
+      sqes = sqes i;
+      cqes = cqes i;
+      nn = nn i;
+      oncs = oncs i;
+      fna = fna i;
+      vwc = vwc i;
+      subnqn = subnqn i;
     }

@@ -17,32 +17,43 @@
 
 ghost use Rattle.nv_layout.specs.Cqe.{CqeReadsBack};
 ghost use Rattle.nv_layout.specs.CtrlList.{CtrlListReadsBack};
+ghost use Rattle.nv_layout.specs.ErrorEntry.{ErrorEntryReadsBack};
+ghost use Rattle.nv_layout.specs.IdCtrl.{IdCtrlReadsBack};
 ghost use Rattle.nv_layout.specs.IdNs.{IdNsReadsBack};
 ghost use Rattle.nv_layout.specs.NsList.{NsListReadsBack};
+ghost use Rattle.nv_layout.specs.Smart.{SmartReadsBack};
 ghost use Rattle.nv_layout.specs.Sqe.{SqeReadsBack};
 ghost use Rattle.nv_layout.specs.Status.{StatusReadsBack};
 
 mod controller_ids;
 mod cqe;
 mod ctrl_list;
+mod error_entries;
 mod error_entry;
 mod feature;
+mod id_ctrl;
 mod id_ns;
+mod namespace_ids;
 mod narrow;
 mod ns_list;
 mod parts;
+mod smart;
 mod sqe;
 mod status;
 
 pub use controller_ids::ControllerIds;
 pub use cqe::Cqe;
 pub use ctrl_list::{CtrlList, LayoutError};
+pub use error_entries::ErrorEntries;
 pub use error_entry::ErrorEntry;
 pub use feature::Feature;
+pub use id_ctrl::IdCtrl;
 pub use id_ns::{IdNs, Lbaf};
+pub use namespace_ids::NamespaceIds;
 pub use narrow::{Below, FourBits, ThreeBits};
 pub use ns_list::NsList;
 pub use parts::{bits_of, to_bits};
+pub use smart::Smart;
 pub use sqe::Sqe;
 pub use status::Status;
 
@@ -52,7 +63,10 @@ pub fn reads_back()
     ensures sqe { SqeReadsBack }
     ensures cqe { CqeReadsBack }
     ensures status { StatusReadsBack }
+    ensures id_ctrl { IdCtrlReadsBack }
     ensures id_ns { IdNsReadsBack }
     ensures ns_list { NsListReadsBack }
     ensures ctrl_list { CtrlListReadsBack }
+    ensures smart { SmartReadsBack }
+    ensures error_entry { ErrorEntryReadsBack }
 {}

@@ -1,10 +1,10 @@
 //! Namespace lists.
 
-ghost use Rattle.std.specs.Prelude.{◌≡◌, ◌≤◌, ◌<◌, ◌-◌, ◌↔◌, ◌++◌, ◌∷◌, [], ℕ, IsTrue, List, drop, length, take};
+ghost use Rattle.std.specs.Prelude.{◌≡◌, ◌≤◌, ◌<◌, ◌↔◌, ◌++◌, ◌∷◌, [], ℕ, IsTrue, List, length, take};
 ghost use Rattle.nv_layout.specs.NsList.{bytes_of_ns_list, ns_list_of_bytes};
-ghost use Rattle.nv_layout.specs.Parts.{zeros};
 
-use crate::parts::{clear, put_u32s, u32_at};
+use crate::namespace_ids::NamespaceIds;
+use crate::parts::u32_at;
 use std::fmt;
 use std::marker::Model;
 
@@ -21,7 +21,7 @@ impl Model for NsList {
 
     ghost view = { λ s. take s.len s.ids };
 
-    ghost invariant = { λ s. (s.len ≤ 1024) × (drop s.len s.ids ≡ zeros (1024 - s.len)) };
+    ghost invariant = { λ s. s.len ≤ 1024 };
 }
 
 /// Lists are equal where their identifiers are, in order.
@@ -54,7 +54,6 @@ impl fmt::Debug for NsList {
 
 impl NsList {
     /// The list of no identifiers.
-    #[tactic(auto, unfolding(crate::specs::Parts::zeros))]
     pub fn new() -> NsList
         ensures { result ≡ [] }
     {
@@ -96,13 +95,25 @@ impl NsList {
         self.len += 1;
     }
 
+    /// Takes all identifiers out.
+    pub fn clear(&mut self)
+        ensures { self.new ≡ [] }
+    {
+        self.len = 0;
+    }
+
+    /// The identifiers in order, as they stand in the list.
+    pub fn ids(&self) -> NamespaceIds<'_>
+        ensures { result ≡ self.now }
+    {
+        NamespaceIds::new(self.as_slice())
+    }
+
     /// Writes the list's bytes, all 4,096 of them.
-    #[tactic(auto, unfolding(crate::specs::NsList::bytes_of_ns_list))]
     pub fn put(&self, out: &mut [u8; 4096])
         ensures { out.new ≡ bytes_of_ns_list self.now }
     {
-        clear(out);
-        put_u32s(out, 0, &self.ids);
+        self.ids().put(out);
     }
 
     /// Reads a list from its bytes. It ends at the first zero.
@@ -110,13 +121,21 @@ impl NsList {
         ensures { result ≡ ns_list_of_bytes bytes.now }
     {
         let mut list = NsList::new();
+        list.read(bytes);
+        list
+    }
+
+    /// Reads a list from its bytes, as `get` does, in place of this one.
+    pub fn read(&mut self, bytes: &[u8; 4096])
+        ensures { self.new ≡ ns_list_of_bytes bytes.now }
+    {
+        self.clear();
         for i in 0..1024 {
             let nsid = u32_at(bytes, 4 * i);
             if nsid == 0 {
-                return list;
+                return;
             }
-            list.push(nsid);
+            self.push(nsid);
         }
-        list
     }
 }

@@ -2,7 +2,7 @@
 
 ghost use Rattle.std.specs.Prelude.{◌≡◌, ◌≤◌, ◌<◌, ◌+◌, ◌*◌, ◌^◌, length};
 ghost use Rattle.std.specs.List.{AllByRecursion};
-ghost use Rattle.nv_layout.specs.Parts.{at_bits, bits, number, number_at, numbers, numbers_at, placed, zeros};
+ghost use Rattle.nv_layout.specs.Parts.{at_bits, bits, number, number_at, numbers, numbers_at, placed, text, text_at, zeros};
 
 use byteorder::{ByteOrder, LittleEndian};
 
@@ -31,6 +31,15 @@ pub(crate) fn put_u16(out: &mut [u8], at: usize, value: u16)
 }
 
 #[tactic(auto, unfolding(crate::specs::Parts::placed))]
+pub(crate) fn put_u24(out: &mut [u8], at: usize, value: u32)
+    requires room { at + 3 ≤ length out.old }
+    requires small { value < 2 ^ 24 }
+    ensures { out.new ≡ placed out.old (number at 3 value) }
+{
+    LittleEndian::write_u24(&mut out[at..], value);
+}
+
+#[tactic(auto, unfolding(crate::specs::Parts::placed))]
 pub(crate) fn put_u32(out: &mut [u8], at: usize, value: u32)
     requires { at + 4 ≤ length out.old }
     ensures { out.new ≡ placed out.old (number at 4 value) }
@@ -55,11 +64,11 @@ pub(crate) fn put_u128(out: &mut [u8], at: usize, value: u128)
 }
 
 #[tactic(auto, unfolding(crate::specs::Parts::placed))]
-pub(crate) fn put_u32s<const N: usize>(out: &mut [u8], at: usize, values: &[u32; N])
-    requires { at + 4 * N ≤ length out.old }
-    ensures { out.new ≡ placed out.old (numbers at 4 N values.now) }
+pub(crate) fn put_u32s(out: &mut [u8], at: usize, values: &[u32])
+    requires { at + 4 * length values.now ≤ length out.old }
+    ensures { out.new ≡ placed out.old (numbers at 4 (length values.now) values.now) }
 {
-    LittleEndian::write_u32_into(values, &mut out[at..at + 4 * N]);
+    LittleEndian::write_u32_into(values, &mut out[at..at + 4 * values.len()]);
 }
 
 #[tactic(auto, unfolding(crate::specs::Parts::placed))]
@@ -68,6 +77,14 @@ pub(crate) fn put_u16s(out: &mut [u8], at: usize, values: &[u16])
     ensures { out.new ≡ placed out.old (numbers at 2 (length values.now) values.now) }
 {
     LittleEndian::write_u16_into(values, &mut out[at..at + 2 * values.len()]);
+}
+
+#[tactic(auto, unfolding(crate::specs::Parts::placed))]
+pub(crate) fn put_bytes(out: &mut [u8], at: usize, bytes: &[u8])
+    requires { at + length bytes.now ≤ length out.old }
+    ensures { out.new ≡ placed out.old (text at (length bytes.now) bytes.now) }
+{
+    out[at..at + bytes.len()].copy_from_slice(bytes);
 }
 
 #[tactic(auto, unfolding(crate::specs::Parts::number_at))]
@@ -84,6 +101,14 @@ pub(crate) fn u16_at(bytes: &[u8], at: usize) -> u16
     ensures { result ≡ number_at at 2 bytes.now }
 {
     LittleEndian::read_u16(&bytes[at..])
+}
+
+#[tactic(auto, unfolding(crate::specs::Parts::number_at))]
+pub(crate) fn u24_at(bytes: &[u8], at: usize) -> u32
+    requires { at + 3 ≤ length bytes.now }
+    ensures { result ≡ number_at at 3 bytes.now }
+{
+    LittleEndian::read_u24(&bytes[at..])
 }
 
 #[tactic(auto, unfolding(crate::specs::Parts::number_at))]
@@ -130,6 +155,16 @@ pub(crate) fn u32s_at<const N: usize>(bytes: &[u8], at: usize) -> [u32; N]
     let mut values = [0; N];
     LittleEndian::read_u32_into(&bytes[at..at + 4 * N], &mut values);
     values
+}
+
+#[tactic(auto, unfolding(crate::specs::Parts::text_at))]
+pub(crate) fn bytes_at<const N: usize>(bytes: &[u8], at: usize) -> [u8; N]
+    requires { at + N ≤ length bytes.now }
+    ensures { result ≡ text_at at N bytes.now }
+{
+    let mut part = [0; N];
+    part.copy_from_slice(&bytes[at..at + N]);
+    part
 }
 
 /// The `count` bits of a number from bit `low` on.

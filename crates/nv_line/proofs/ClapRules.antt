@@ -9,7 +9,7 @@ use Rattle.nv_line.specs.LineFault.{IsUnlessMemory}
 use Rattle.nv_line.specs.ClapRule.{app_for, clap_rows, is_taken, rows_of_words}
 use Rattle.nv_line.specs.declared.fault.LineFault.TheVariants as fault
 use Rattle.nv_line.specs.declared.verb.Verb.{Verb}
-use Rattle.nv_line.specs.declared.verb.Verb.TheVariants.{ListNs, IdNs, CreateNs, AttachNs, DetachNs, DeleteNs, Format, GetFeature, SetFeature}
+use Rattle.nv_line.specs.declared.verb.Verb.TheVariants.{ListNs, IdNs, CreateNs, AttachNs, DetachNs, DeleteNs, Format, GetFeature, SetFeature, SmartLog, ErrorLog}
 
 each_is_simple : (v : Verb) → is_simple_and_free (app_for v) ≡ true
 each_is_simple ListNs = refl
@@ -21,6 +21,8 @@ each_is_simple DeleteNs = refl
 each_is_simple Format = refl
 each_is_simple GetFeature = refl
 each_is_simple SetFeature = refl
+each_is_simple SmartLog = refl
+each_is_simple ErrorLog = refl
 
 pub simple_as : (v : Verb) (a : App) → a ≡ app_for v → is_simple_and_free a ≡ true
 simple_as v a e = ap is_simple_and_free e ∙ each_is_simple v

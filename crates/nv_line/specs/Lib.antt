@@ -12,5 +12,6 @@ pub mod Identify
 pub mod Management
 pub mod Format
 pub mod Features
+pub mod Logs
 pub mod Request
 pub mod Line

@@ -3,7 +3,7 @@ use Rattle.std.specs.Prelude.{codes}
 use Rattle.clap.specs.Words.{Text}
 use Rattle.nv_line.specs.declared.option.OptionName.{OptionName}
 use Rattle.nv_line.specs.declared.option.OptionName.TheVariants.{NamespaceId, All, Force, Nsze, Ncap, Flbas, Dps, Nmic, Controllers}
-use Rattle.nv_line.specs.declared.option.OptionName.TheVariants.{Lbaf, Ses, Pi, Pil, Ms, FeatureId, Sel, Value, Save}
+use Rattle.nv_line.specs.declared.option.OptionName.TheVariants.{Lbaf, Ses, Pi, Pil, Ms, FeatureId, Sel, Value, Save, LogEntries}
 
 abbrev pub name_of : OptionName → Text
 name_of NamespaceId = codes "namespace-id"
@@ -24,3 +24,4 @@ name_of FeatureId = codes "feature-id"
 name_of Sel = codes "sel"
 name_of Value = codes "value"
 name_of Save = codes "save"
+name_of LogEntries = codes "log-entries"

@@ -8,6 +8,7 @@ use Rattle.nv_line.specs.Features.{get_feature_of, set_feature_of}
 use Rattle.nv_line.specs.Format.{format_of}
 use Rattle.nv_line.specs.Identify.{id_ns_of, list_ns_of}
 use Rattle.nv_line.specs.LineFault.{◌>>=◌}
+use Rattle.nv_line.specs.Logs.{error_log_of, smart_log_of}
 use Rattle.nv_line.specs.Management.{attachment_of, create_ns_of, delete_ns_of}
 use Rattle.nv_line.specs.Verb.{verb_of}
 use Rattle.nv_line.specs.declared.device.Device.{Device}
@@ -16,7 +17,7 @@ use Rattle.nv_line.specs.declared.fault.LineFault.TheVariants as fault
 use Rattle.nv_line.specs.declared.request.Ask.{Ask}
 use Rattle.nv_line.specs.declared.request.Request.{Request}
 use Rattle.nv_line.specs.declared.verb.Verb.{Verb}
-use Rattle.nv_line.specs.declared.verb.Verb.TheVariants.{ListNs, IdNs, CreateNs, AttachNs, DetachNs, DeleteNs, Format, GetFeature, SetFeature}
+use Rattle.nv_line.specs.declared.verb.Verb.TheVariants.{ListNs, IdNs, CreateNs, AttachNs, DetachNs, DeleteNs, Format, GetFeature, SetFeature, SmartLog, ErrorLog}
 
 -- what a command word asks for, in one line each
 abbrev pub ask_of : Verb → List Row → Device → Result Ask LineFault
@@ -29,6 +30,8 @@ ask_of DeleteNs = delete_ns_of
 ask_of Format = format_of
 ask_of GetFeature = get_feature_of
 ask_of SetFeature = set_feature_of
+ask_of SmartLog = smart_log_of
+ask_of ErrorLog = error_log_of
 
 abbrev pub device_in : ℕ → List Row → Result Device LineFault
 device_in controllers rows =

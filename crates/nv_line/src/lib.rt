@@ -15,6 +15,7 @@ mod features;
 mod format;
 mod identify;
 mod line;
+mod logs;
 mod management;
 mod number;
 mod option;

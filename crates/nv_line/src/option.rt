@@ -28,6 +28,7 @@ pub enum OptionName {
     Sel,
     Value,
     Save,
+    LogEntries,
 }
 
 impl OptionName {
@@ -54,6 +55,7 @@ impl OptionName {
             OptionName::Sel => "sel",
             OptionName::Value => "value",
             OptionName::Save => "save",
+            OptionName::LogEntries => "log-entries",
         }
     }
 }

@@ -12,6 +12,7 @@ use crate::fault::LineFault;
 use crate::features::{get_feature, set_feature};
 use crate::format::format;
 use crate::identify::{id_ns, list_ns};
+use crate::logs::{error_log, smart_log};
 use crate::management::{attachment, create_ns, delete_ns};
 use crate::verb::Verb;
 use clap::ArgMatches;
@@ -73,6 +74,14 @@ pub enum Ask {
         save: bool,
         nsid: u32,
     },
+    /// The SMART log of a namespace, or of all ("SMART / Health Information").
+    SmartLog {
+        nsid: u32,
+    },
+    /// At most so many entries of the error log, from the newest on ("Error Information").
+    ErrorLog {
+        entries: u32,
+    },
 }
 
 /// What a line asks for.
@@ -111,6 +120,8 @@ fn read_ask(
         Verb::Format => format(matches, device),
         Verb::GetFeature => get_feature(matches, device),
         Verb::SetFeature => set_feature(matches, device),
+        Verb::SmartLog => smart_log(matches, device),
+        Verb::ErrorLog => error_log(matches, device),
     }
 }
 

@@ -157,7 +157,24 @@ pub const SAVE: FlagOption = FlagOption {
     letter: 's',
 };
 
-static VERBS: [Verb; 9] = [
+/// The NSID of a SMART log, by default that of all namespaces.
+pub const SMART_NSID: NumberOption = NumberOption {
+    takes_path: false,
+    default: Some(NSID_LIMIT),
+    ..NSID
+};
+
+/// How many entries of an error log are wanted.
+pub const LOG_ENTRIES: NumberOption = NumberOption {
+    name: OptionName::LogEntries,
+    letter: 'e',
+    least: 1,
+    most: 0xffff_ffff,
+    takes_path: false,
+    default: Some(64),
+};
+
+static VERBS: [Verb; 11] = [
     Verb::ListNs,
     Verb::IdNs,
     Verb::CreateNs,
@@ -167,6 +184,8 @@ static VERBS: [Verb; 9] = [
     Verb::Format,
     Verb::GetFeature,
     Verb::SetFeature,
+    Verb::SmartLog,
+    Verb::ErrorLog,
 ];
 
 static LIST_NS: [CommandOption; 2] = [CommandOption::Number(FIRST_NSID), CommandOption::Flag(ALL)];
@@ -210,6 +229,10 @@ static SET_FEATURE: [CommandOption; 4] = [
     CommandOption::Flag(SAVE),
 ];
 
+static SMART_LOG: [CommandOption; 1] = [CommandOption::Number(SMART_NSID)];
+
+static ERROR_LOG: [CommandOption; 1] = [CommandOption::Number(LOG_ENTRIES)];
+
 /// A command word.
 #[derive(Clone, Copy, PartialEq, Eq)]
 pub enum Verb {
@@ -222,6 +245,8 @@ pub enum Verb {
     Format,
     GetFeature,
     SetFeature,
+    SmartLog,
+    ErrorLog,
 }
 
 impl Verb {
@@ -239,6 +264,8 @@ impl Verb {
             Verb::Format => "format",
             Verb::GetFeature => "get-feature",
             Verb::SetFeature => "set-feature",
+            Verb::SmartLog => "smart-log",
+            Verb::ErrorLog => "error-log",
         }
     }
 
@@ -255,6 +282,8 @@ impl Verb {
             Verb::Format => FORMAT.as_slice(),
             Verb::GetFeature => GET_FEATURE.as_slice(),
             Verb::SetFeature => SET_FEATURE.as_slice(),
+            Verb::SmartLog => SMART_LOG.as_slice(),
+            Verb::ErrorLog => ERROR_LOG.as_slice(),
         }
     }
 

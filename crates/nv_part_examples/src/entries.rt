@@ -1,7 +1,7 @@
 //! Commands of Identify by their entries, and status codes.
 
 use nv_command::*;
-use nv_layout::{CtrlList, IdNs, Lbaf, NsList, Sqe, Status};
+use nv_layout::{CtrlList, IdNs, Lbaf, NamespaceIds, Sqe, Status};
 use std::process::Abort;
 
 /// An entry with this opcode and Command Dword 10, for NSID 7.
@@ -118,7 +118,9 @@ fn replies_by_their_pages(rt: HostRuntime) {
     assert_eq!(rt; reply.dword0(), 0);
     assert_eq!(rt; IdNs::get(&page), namespace);
     let command = Command::IdentifyNamespace { nsid: 3 };
-    match Reply::read(&command, 0, &page) {
+    let mut room = ReplyRoom::new();
+    room.read(&command, 0, &page);
+    match room.reply() {
         Reply::Namespace(read) => assert_eq!(rt; read, namespace),
         _ => panic!(rt; "no namespace"),
     }
@@ -126,13 +128,12 @@ fn replies_by_their_pages(rt: HostRuntime) {
 
 #[test]
 fn lists_by_their_pages(rt: HostRuntime) {
-    let mut list = NsList::new();
-    list.push(1);
-    list.push(3);
     let mut page = [0xff; 4096];
-    Reply::List(list).put(&mut page);
+    Reply::List(NamespaceIds::new(&[1, 3])).put(&mut page);
     assert_eq!(rt; &page[..9], [1, 0, 0, 0, 3, 0, 0, 0, 0].as_slice());
-    match Reply::read(&Command::ActiveList { after: 0 }, 0, &page) {
+    let mut room = ReplyRoom::new();
+    room.read(&Command::ActiveList { after: 0 }, 0, &page);
+    match room.reply() {
         Reply::List(read) => assert_eq!(rt; read.as_slice(), [1, 3].as_slice()),
         _ => panic!(rt; "no list"),
     }

@@ -108,9 +108,31 @@ fn their_entries_are_plain(rt: HostRuntime) {
 
 #[test]
 fn their_replies(rt: HostRuntime) {
-    let page = [0; 4096];
-    assert!(rt; matches!(Reply::read(&get(6, 0), 5, &page), Reply::Number(5)));
-    assert!(rt; matches!(Reply::read(&set(6, 0, true), 5, &page), Reply::Done));
-    let done = Reply::read(&format(0, false, 0, false, 0), 5, &page);
-    assert!(rt; matches!(done, Reply::Done));
+    let mut room = ReplyRoom::new();
+    let get = Command::GetFeature {
+        fid: 6,
+        sel: ThreeBits::low(0),
+        nsid: 7,
+    };
+    room.read(&get, 5, &[]);
+    assert!(rt; matches!(room.reply(), Reply::Number(5)));
+    let set = Command::SetFeature {
+        fid: 6,
+        value: 0,
+        save: true,
+        nsid: 7,
+    };
+    room.read(&set, 5, &[]);
+    assert!(rt; matches!(room.reply(), Reply::Done));
+    room.keep(&Reply::Number(7));
+    let format = Command::Format {
+        nsid: 7,
+        lbaf: FourBits::low(0),
+        mset: false,
+        pi: ThreeBits::low(0),
+        pil: false,
+        ses: ThreeBits::low(0),
+    };
+    room.read(&format, 5, &[]);
+    assert!(rt; matches!(room.reply(), Reply::Done));
 }

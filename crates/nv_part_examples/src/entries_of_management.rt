@@ -185,11 +185,21 @@ fn replies_of_management(rt: HostRuntime) {
     assert_eq!(rt; Reply::Done.dword0(), 0);
     Reply::Done.put(&mut page);
     assert_eq!(rt; page, [0xee; 4096]);
-    match Reply::read(&creation(), 4, &page) {
+    let mut room = ReplyRoom::new();
+    let create = Command::Create {
+        nsze: 9,
+        ncap: 9,
+        flbas: 0,
+        dps: 0,
+        nmic: 1,
+    };
+    room.read(&create, 4, &[]);
+    match room.reply() {
         Reply::Number(nsid) => assert_eq!(rt; nsid, 4),
         _ => panic!(rt; "no number"),
     }
-    match Reply::read(&Command::Delete { nsid: 7 }, 0, &page) {
+    room.read(&Command::Delete { nsid: 7 }, 0, &[]);
+    match room.reply() {
         Reply::Done => {}
         _ => panic!(rt; "more than done"),
     }

@@ -5,7 +5,7 @@ use std::process::Abort;
 use std::test::Fail;
 
 /// Writes pieces of a record's bytes at their places.
-fn write_pieces(rt: &impl Abort, bytes: &mut [u8], pieces: &[(usize, &[u8])]) {
+pub(crate) fn write_pieces(rt: &impl Abort, bytes: &mut [u8], pieces: &[(usize, &[u8])]) {
     for (at, piece) in pieces {
         assert!(rt; *at <= bytes.len() && piece.len() <= bytes.len() - *at);
         bytes[*at..*at + piece.len()].copy_from_slice(piece);

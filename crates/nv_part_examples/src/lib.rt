@@ -9,6 +9,8 @@ mod entries;
 #[cfg(test)]
 mod entries_of_features;
 #[cfg(test)]
+mod entries_of_logs;
+#[cfg(test)]
 mod entries_of_management;
 #[cfg(test)]
 mod host;
@@ -18,5 +20,7 @@ mod layout;
 mod prp;
 #[cfg(test)]
 mod queue;
+#[cfg(test)]
+mod records_of_logs;
 #[cfg(test)]
 mod register;

@@ -1,7 +1,7 @@
 //! Data pointers: built, walked, and copied over.
 
 use nv_host::{FlatMemory, HostMemory, is_page_size};
-use nv_prp::*;
+use nv_prp::{Buffer, ListPlace, PrpError, Spans, build, copy_in, copy_out, walk};
 use std::process::Abort;
 
 const PAGE_SIZES: [u32; 5] = [4096, 8192, 16384, 32768, 65536];

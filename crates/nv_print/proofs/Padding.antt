@@ -3,7 +3,7 @@ use Rattle.std.proofs.Common.{◌≡◌, ◌∙◌, ℕ, ◌-◌, ◌^◌, zero,
 use Rattle.std.specs.Prelude.{◌&&◌, ◌==◌, replicate}
 use Rattle.std.proofs.lemmas.Bool.Decides.{nat_tests}
 use Rattle.std.specs.List.{repeat}
-use Rattle.std.specs.Fmt.{char_count, decimal, format_spec, padded_integral, styled_decimal, before_digits, fill_after_digits, fill_text, number_padding}
+use Rattle.std.specs.Fmt.{char_count, decimal, format_spec, padded_integral, styled_decimal, styled_text, before_digits, fill_after_digits, fill_text, number_padding, padded, take_chars}
 use lib.Utf8.{encode}
 use Rattle.nv_print.specs.Texts.{right}
 
@@ -34,3 +34,14 @@ right_decimal width n = at_test (width == 0) refl
         let none : 0 ≡ width - length (decimal n) = grind (arith, nat_tests) in
         ap (λ (k : ℕ). replicate {A = ℕ} k 32 ++ decimal n) none
     at_test false e = right_aligned width (decimal n)
+
+-- no text in so many places
+pub filled : (n : ℕ) → styled_text (format_spec 32 0 0 n (2 ^ 64 - 1)) [] ≡ replicate n 32
+unfolding padded char_count take_chars encode
+filled n = at_test (n == 0) refl
+  where
+    at_test : (t : Bool) → (n == 0) ≡ t → cond (t && true) [] (padded (format_spec 32 0 0 n (2 ^ 64 - 1)) []) ≡ replicate n 32
+    at_test true e =
+        let none : 0 ≡ n = grind (arith, nat_tests) in ap (λ (k : ℕ). replicate {A = ℕ} k 32) none
+    at_test false e =
+        let all : n - 0 - 0 ≡ n = omega arith in ap (λ k. repeat k (32 ∷ [])) all ∙ repeated n 32

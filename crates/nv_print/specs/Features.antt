@@ -33,11 +33,8 @@ value_text fid sel value =
 
 -- the value that the first reply says; nothing where it says none
 abbrev pub text_of_get_feature : ℕ → ℕ → List Reply → List ℕ
-text_of_get_feature fid sel [] = []
 text_of_get_feature fid sel (reply.Number value ∷ rest) = value_text fid sel value
-text_of_get_feature fid sel (reply.Namespace r ∷ rest) = []
-text_of_get_feature fid sel (reply.List nsids ∷ rest) = []
-text_of_get_feature fid sel (reply.Done ∷ rest) = []
+text_of_get_feature fid sel _ = []
 
 -- "set-feature:0x6 (Volatile Write Cache), value:0x0, save:1", and a newline
 abbrev pub text_of_set_feature : ℕ → ℕ → Bool → List ℕ

@@ -10,11 +10,8 @@ success words nsid = words ++ (decimal nsid ++ 10 ∷ [])
 
 -- the NSID that the first reply says; nothing where it says none
 abbrev pub text_of_create : List Reply → List ℕ
-text_of_create [] = []
 text_of_create (reply.Number n ∷ rest) = success (codes "create-ns: Success, created nsid:") n
-text_of_create (reply.Namespace r ∷ rest) = []
-text_of_create (reply.List nsids ∷ rest) = []
-text_of_create (reply.Done ∷ rest) = []
+text_of_create _ = []
 
 abbrev pub text_of_attachment : ℕ → Bool → List ℕ
 text_of_attachment nsid detach =

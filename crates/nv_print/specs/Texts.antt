@@ -1,7 +1,7 @@
 -- What a line prints.
 use Rattle.std.specs.Prelude.{ℕ, ◌+◌, ◌-◌, ◌%◌, min, take, ◌==◌, List, [], ◌∷◌, ◌++◌, length, replicate, codes, if◌then◌else◌}
 use Rattle.std.specs.Fmt.{decimal}
-use Rattle.std.specs.List.{fold}
+use Rattle.std.specs.List.{concat}
 use Rattle.nv_layout.specs.Status.{number_of_status}
 use Rattle.nv_layout.specs.declared.status.Status.{Status}
 use Rattle.nv_layout.specs.declared.id_ns.IdNs.{IdNs}
@@ -10,8 +10,10 @@ use Rattle.nv_command.specs.StatusCode.{name_of_status}
 use Rattle.nv_command.specs.declared.reply.Reply.{Reply}
 use Rattle.nv_command.specs.declared.reply.Reply.TheVariants as reply
 use Rattle.nv_print.specs.Features.{text_of_get_feature, text_of_set_feature}
+use Rattle.nv_print.specs.FieldLine.{field_line, lines_of}
 use Rattle.nv_print.specs.Format.{text_of_format}
 use Rattle.nv_print.specs.Hexadecimal.{hexadecimal}
+use Rattle.nv_print.specs.Logs.{text_of_error_log, text_of_smart_log}
 use Rattle.nv_print.specs.Management.{text_of_attachment, text_of_create, text_of_delete}
 use Rattle.nv_line.specs.declared.request.Ask.{Ask}
 use Rattle.nv_line.specs.declared.request.Ask.TheVariants as ask
@@ -24,18 +26,9 @@ right width text = replicate (width - length text) 32 ++ text
 abbrev pub nsid_line : ℕ → ℕ → List ℕ
 nsid_line i nsid = codes "[" ++ (right 4 (decimal i) ++ (codes "]:" ++ (hexadecimal nsid ++ 10 ∷ [])))
 
--- a line for each element, by its index
-abbrev pub lines_of : {A : Type 0} → (ℕ → A → List ℕ) → ℕ → List A → List ℕ
-lines_of line i [] = []
-lines_of line i (x ∷ xs) = line i x ++ lines_of line (i + 1) xs
-
 -- the text of a list of NSIDs
 abbrev pub text_of_nsids : List ℕ → List ℕ
 text_of_nsids nsids = lines_of nsid_line 0 nsids
-
--- a field: its key on the left of 20 places, and its value
-abbrev pub field_line : List ℕ → List ℕ → List ℕ
-field_line key value = key ++ (replicate (20 - length key) 32 ++ (codes ": " ++ (value ++ 10 ∷ [])))
 
 -- a format with its index, whose key has 7 of the 20 places: "lbaf  0             : ms:0 lbads:9 rp:0 (in use)"
 abbrev pub lbaf_line : ℕ → ℕ → Lbaf → List ℕ
@@ -44,13 +37,9 @@ lbaf_line in_use i f =
     ++ (codes ": ms:" ++ (decimal f.ms ++ (codes " lbads:" ++ (decimal f.lbads ++ (codes " rp:" ++ (decimal f.rp
     ++ ((if in_use == i then codes " (in use)" else []) ++ 10 ∷ [])))))))))
 
--- texts, one after another
-abbrev pub joined : List (List ℕ) → List ℕ
-joined texts = fold (λ text next. text ++ next) [] texts
-
 -- the fields of a namespace before its formats
-unfoldable pub namespace_fields : IdNs → List ℕ
-namespace_fields r = joined (
+unfoldable pub namespace_lines : IdNs → List (List ℕ)
+namespace_lines r =
     field_line (codes "nsze") (hexadecimal r.nsze)
     ∷ field_line (codes "ncap") (hexadecimal r.ncap)
     ∷ field_line (codes "nuse") (hexadecimal r.nuse)
@@ -62,27 +51,21 @@ namespace_fields r = joined (
     ∷ field_line (codes "dps") (hexadecimal r.dps)
     ∷ field_line (codes "nmic") (hexadecimal r.nmic)
     ∷ field_line (codes "nvmcap") (decimal r.nvmcap)
-    ∷ [])
+    ∷ []
 
 -- the text of a namespace: its formats are NLBAF + 1, the one in use is FLBAS 3:0
 unfoldable pub text_of_namespace : IdNs → List ℕ
-text_of_namespace r = namespace_fields r ++ lines_of (lbaf_line (r.flbas % 16)) 0 (take (min r.nlbaf 15 + 1) r.lbafs)
+text_of_namespace r = concat (namespace_lines r) ++ lines_of (lbaf_line (r.flbas % 16)) 0 (take (min r.nlbaf 15 + 1) r.lbafs)
 
 -- the NSIDs of the first reply, and the namespace of the first reply; nothing where it is no such
 -- reply
 abbrev pub text_of_list : List Reply → List ℕ
-text_of_list [] = []
 text_of_list (reply.List nsids ∷ rest) = text_of_nsids nsids
-text_of_list (reply.Namespace r ∷ rest) = []
-text_of_list (reply.Number n ∷ rest) = []
-text_of_list (reply.Done ∷ rest) = []
+text_of_list _ = []
 
 abbrev pub text_of_identify : List Reply → List ℕ
-text_of_identify [] = []
 text_of_identify (reply.Namespace r ∷ rest) = text_of_namespace r
-text_of_identify (reply.List nsids ∷ rest) = []
-text_of_identify (reply.Number n ∷ rest) = []
-text_of_identify (reply.Done ∷ rest) = []
+text_of_identify _ = []
 
 -- what is printed of the replies to an ask
 abbrev pub text_of : Ask → List Reply → List ℕ
@@ -94,6 +77,8 @@ text_of (ask.Delete nsid) replies = text_of_delete nsid
 text_of (ask.Format nsid lbaf mset pi pil ses) replies = text_of_format nsid
 text_of (ask.GetFeature fid sel nsid) replies = text_of_get_feature fid sel replies
 text_of (ask.SetFeature fid value save nsid) replies = text_of_set_feature fid value save
+text_of (ask.SmartLog nsid) replies = text_of_smart_log replies
+text_of (ask.ErrorLog entries) replies = text_of_error_log replies
 
 -- ---- messages
 

@@ -65,7 +65,7 @@ pub(crate) fn get_feature_text(
             let value = Hexadecimal(u64::from(*value));
             format!(in alloc; "get-feature:{feature}, {select} value:{value}\n")
         }
-        Some(Reply::Namespace(_) | Reply::List(_) | Reply::Done) | None => Ok(String::new(alloc)),
+        _ => Ok(String::new(alloc)),
     }
 }
 

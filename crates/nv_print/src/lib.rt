@@ -4,8 +4,10 @@
 #![tactic(auto)]
 
 mod features;
+mod field_line;
 mod format;
 mod hexadecimal;
+mod logs;
 mod management;
 mod texts;
 

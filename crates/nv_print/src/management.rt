@@ -13,7 +13,7 @@ pub(crate) fn create_text(alloc: Global, replies: &[Reply]) -> Result<String, Al
 {
     match replies.first() {
         Some(Reply::Number(nsid)) => format!(in alloc; "create-ns: Success, created nsid:{nsid}\n"),
-        Some(Reply::Namespace(_) | Reply::List(_) | Reply::Done) | None => Ok(String::new(alloc)),
+        _ => Ok(String::new(alloc)),
     }
 }
 

@@ -2,14 +2,16 @@
 
 ghost use Rattle.std.specs.Prelude.{◌≡◌, IfOk, string_bytes};
 ghost use Rattle.nv_line.specs.LineFault.{fault_text};
-ghost use Rattle.nv_print.specs.Texts.{message_of, namespace_fields, refusal_text, text_of, text_of_identify, text_of_list, text_of_namespace, text_of_nsids};
+ghost use Rattle.nv_print.specs.Texts.{message_of, namespace_lines, refusal_text, text_of, text_of_identify, text_of_list, text_of_namespace, text_of_nsids};
 
 use crate::features::{get_feature_text, set_feature_text};
+use crate::field_line::{FieldLine, push_lines};
 use crate::format::format_text;
 use crate::hexadecimal::Hexadecimal;
+use crate::logs::{error_log_text, smart_log_text};
 use crate::management::{attachment_text, create_text, delete_text};
 use nv_command::{Reply, StatusCode};
-use nv_layout::{IdNs, Lbaf, NsList, Status};
+use nv_layout::{IdNs, Lbaf, NamespaceIds, Status};
 use nv_line::{Ask, LineFault};
 use std::alloc::{AllocError, Global};
 use std::{cmp, fmt};
@@ -58,7 +60,7 @@ impl fmt::Display for NsidLine {
 }
 
 /// The text of a list of NSIDs.
-fn list_text(alloc: Global, list: &NsList) -> Result<String, AllocError>
+fn list_text(alloc: Global, list: &NamespaceIds<'_>) -> Result<String, AllocError>
     ensures { IfOk result (λ text. string_bytes text ≡ text_of_nsids list.now) }
 {
     let nsids = list.as_slice();
@@ -106,34 +108,23 @@ impl fmt::Display for LbafLine {
 }
 
 /// The fields of a namespace before its formats.
-#[tactic(auto, unfolding(crate::specs::Texts::namespace_fields))]
-fn namespace_fields(alloc: Global, namespace: &IdNs) -> Result<String, AllocError>
-    ensures { IfOk result (λ text. string_bytes text ≡ namespace_fields namespace.now) }
+#[tactic(auto, unfolding(crate::specs::Texts::namespace_lines))]
+fn namespace_lines(namespace: &IdNs) -> [FieldLine; 11]
+    ensures { result ≡ namespace_lines namespace.now }
 {
-    let nsze = Hexadecimal(namespace.nsze);
-    let ncap = Hexadecimal(namespace.ncap);
-    let nuse = Hexadecimal(namespace.nuse);
-    let nsfeat = Hexadecimal(namespace.nsfeat as u64);
-    let nlbaf = namespace.nlbaf;
-    let flbas = Hexadecimal(namespace.flbas as u64);
-    let mc = Hexadecimal(namespace.mc as u64);
-    let dpc = Hexadecimal(namespace.dpc as u64);
-    let dps = Hexadecimal(namespace.dps as u64);
-    let nmic = Hexadecimal(namespace.nmic as u64);
-    let nvmcap = namespace.nvmcap;
-    let mut text = String::new(alloc);
-    write!(text, "nsze                : {nsze}\n")?;
-    write!(text, "ncap                : {ncap}\n")?;
-    write!(text, "nuse                : {nuse}\n")?;
-    write!(text, "nsfeat              : {nsfeat}\n")?;
-    write!(text, "nlbaf               : {nlbaf}\n")?;
-    write!(text, "flbas               : {flbas}\n")?;
-    write!(text, "mc                  : {mc}\n")?;
-    write!(text, "dpc                 : {dpc}\n")?;
-    write!(text, "dps                 : {dps}\n")?;
-    write!(text, "nmic                : {nmic}\n")?;
-    write!(text, "nvmcap              : {nvmcap}\n")?;
-    Ok(text)
+    [
+        FieldLine::hexadecimal("nsze", namespace.nsze),
+        FieldLine::hexadecimal("ncap", namespace.ncap),
+        FieldLine::hexadecimal("nuse", namespace.nuse),
+        FieldLine::hexadecimal("nsfeat", namespace.nsfeat as u64),
+        FieldLine::decimal("nlbaf", namespace.nlbaf as u128),
+        FieldLine::hexadecimal("flbas", namespace.flbas as u64),
+        FieldLine::hexadecimal("mc", namespace.mc as u64),
+        FieldLine::hexadecimal("dpc", namespace.dpc as u64),
+        FieldLine::hexadecimal("dps", namespace.dps as u64),
+        FieldLine::hexadecimal("nmic", namespace.nmic as u64),
+        FieldLine::decimal("nvmcap", namespace.nvmcap),
+    ]
 }
 
 /// The text of a namespace ("Identify Namespace Data Structure").
@@ -142,7 +133,8 @@ fn namespace_text(alloc: Global, namespace: &IdNs) -> Result<String, AllocError>
 {
     let in_use = namespace.flbas as usize % 16;
     let formats = cmp::min(namespace.nlbaf, 15) as usize + 1;
-    let mut text = namespace_fields(alloc, namespace)?;
+    let mut text = String::new(alloc);
+    push_lines(&mut text, &namespace_lines(namespace))?;
     for index in 0..formats {
         let line = LbafLine {
             index,
@@ -160,7 +152,7 @@ fn text_of_list(alloc: Global, replies: &[Reply]) -> Result<String, AllocError>
 {
     match replies.first() {
         Some(Reply::List(list)) => list_text(alloc, list),
-        Some(Reply::Namespace(_) | Reply::Number(_) | Reply::Done) | None => Ok(String::new(alloc)),
+        _ => Ok(String::new(alloc)),
     }
 }
 
@@ -170,7 +162,7 @@ fn text_of_identify(alloc: Global, replies: &[Reply]) -> Result<String, AllocErr
 {
     match replies.first() {
         Some(Reply::Namespace(namespace)) => namespace_text(alloc, namespace),
-        Some(Reply::List(_) | Reply::Number(_) | Reply::Done) | None => Ok(String::new(alloc)),
+        _ => Ok(String::new(alloc)),
     }
 }
 
@@ -192,6 +184,8 @@ pub fn text_of(alloc: Global, ask: &Ask, replies: &[Reply]) -> Result<String, Al
             save,
             ..
         } => set_feature_text(alloc, *fid, *value, *save),
+        Ask::SmartLog { nsid: _ } => smart_log_text(alloc, replies),
+        Ask::ErrorLog { entries: _ } => error_log_text(alloc, replies),
     }
 }
 

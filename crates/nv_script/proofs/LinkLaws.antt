@@ -1,9 +1,10 @@
 -- What a new driver and its commands make of serials and ports.
 use Rattle.std.proofs.Common.{◌≡◌, ◌∙◌, ℕ, ◌+◌, ◌<◌, zero, suc, arith, zero-add, List, [], ◌∷◌, ◌++◌, ap, sym, subst, refl, true, false, length, map, get_or, set, Result}
 use Rattle.std.specs.Prelude.{All, replicate}
-use Rattle.std.proofs.lemmas.List.{get_or-map, length-map, map-append, map-set, replicate_more}
+use Rattle.std.proofs.lemmas.List.{get_or-map, length-map, length-set, map-append, map-set, replicate_more}
 use Rattle.std.proofs.lemmas.List.FromFn.{map-range_with_len_more}
 use Rattle.nv_layout.specs.declared.status.Status.{Status}
+use Rattle.nv_command.specs.Logs.{answer_received}
 use Rattle.nv_command.specs.declared.reply.Reply.{Reply}
 use Rattle.nv_subsystem.specs.Step.{next_serial, step}
 use Rattle.nv_subsystem.specs.State.{State}
@@ -15,10 +16,12 @@ use Rattle.nv_driver.specs.Layout.{lane_of, lanes_of}
 use Rattle.nv_driver.specs.Registers.{mps_of, ports_of}
 use Rattle.nv_driver.specs.Settled.{DriverValue}
 use Rattle.nv_driver.specs.declared.geometry.Geometry.{Geometry}
-use Rattle.nv_script.specs.Exchange.{Exchange, exchange_of}
+use Rattle.nv_command.specs.declared.command.Command.{Command}
+use Rattle.nv_line.specs.declared.request.Request.{Request}
+use Rattle.nv_script.specs.Exchange.{Exchange, Order, exchange_of}
+use Rattle.nv_script.specs.Outcomes.{order_of}
 use Rattle.nv_script.specs.Link.{IsFirst, IsLinked, serials_of}
 use Rattle.nv_script.specs.declared.session.Session.{Session}
-use Rattle.nv_script.specs.declared.order.Order.{Order}
 
 abbrev serial : Lane → ℕ
 serial l = l.serial
@@ -40,12 +43,12 @@ first_serials g (suc n) =
     ∙ replicate_more n 0)
 
 pub first_session : (g : Geometry) (old new : BusValue) (d : DriverValue) (session : Session) → IsBus old → new.state ≡ old.state
-    → d ≡ new_driver g (length old.ports) → session ≡ record { driver = d; number = 0; status = 0 } → IsFirst new.state session
-first_session g old new d session bus same is first = record {
-  next = ap (λ (x : Session). serials_of x.driver) first ∙ ap serials_of is ∙ first_serials g (length old.ports)
+    → d ≡ new_driver g (length old.ports) → session.driver ≡ d → session.number ≡ 0 → session.status ≡ 0 → IsFirst new.state session
+first_session g old new d session bus same is driver number status = record {
+  next = ap serials_of (driver ∙ is) ∙ first_serials g (length old.ports)
       ∙ ap (λ n. replicate n 0) (bus.ports ∙ ap (λ (s : State). length s.controllers) (sym same));
-  number = ap (λ (x : Session). x.number) first;
-  status = ap (λ (x : Session). x.status) first;
+  number = number;
+  status = status;
 }
 
 -- a driver's ports are enabled
@@ -58,12 +61,25 @@ enabled_ports b d is = subst (λ ports. All IsEnabledWhereReady ports) (sym is) 
 
 -- a command of a controller
 pub exchanged : (b new : BusValue) (d after : DriverValue) (o : Order) (answer : Result Reply Status) → o.controller < length d.lanes
-    → answer ≡ (step b.state o.controller o.command (lane_at d.lanes o.controller).serial).answer
+    → answer ≡ answer_received o.command (step b.state o.controller o.command (lane_at d.lanes o.controller).serial).answer
     → new.state ≡ (step b.state o.controller o.command (lane_at d.lanes o.controller).serial).state → after ≡ after_command d o.controller
     → ◌≡◌ {A = Exchange} (record { answer = answer; state = new.state; serials = serials_of after }) (exchange_of b.state (serials_of d) o)
 exchanged b new d after o answer below a s is =
     let at : (lane_at d.lanes o.controller).serial ≡ get_or (serials_of d) o.controller 0 = sym (get_or-map serial d.lanes o.controller no_lane 0 below) in
-    let same = a ∙ ap (λ n. (step b.state o.controller o.command n).answer) at in
+    let same = a ∙ ap (λ n. answer_received o.command (step b.state o.controller o.command n).answer) at in
     let reached = s ∙ ap (λ n. (step b.state o.controller o.command n).state) at in
     let next = ap serials_of is ∙ map-set serial d.lanes o.controller (after_one (lane_at d.lanes o.controller)) ∙ ap (λ n. set (serials_of d) o.controller (next_serial n)) at in
     λ i. record { answer = same i; state = reached i; serials = next i }
+
+-- a command of a request, which is known
+pub sent : (b new : BusValue) (d after : DriverValue) (r : Request) (k said : Command) (answer : Result Reply Status) → k ≡ said → r.controller < length d.lanes
+    → answer ≡ answer_received k (step b.state r.controller k (lane_at d.lanes r.controller).serial).answer
+    → new.state ≡ (step b.state r.controller k (lane_at d.lanes r.controller).serial).state → after ≡ after_command d r.controller
+    → ◌≡◌ {A = Exchange} (record { answer = answer; state = new.state; serials = serials_of after }) (exchange_of b.state (serials_of d) (order_of r said))
+sent b new d after r k said answer is below a s e =
+    exchanged b new d after (order_of r k) answer below a s e ∙ ap (λ x. exchange_of b.state (serials_of d) (order_of r x)) is
+
+-- a command leaves as many lanes
+pub still_known : (d after : DriverValue) (ctrl : ℕ) → after ≡ after_command d ctrl → ctrl < length d.lanes → ctrl < length after.lanes
+still_known d after ctrl e below =
+    subst (λ n. ctrl < n) (sym (ap (λ (x : DriverValue). length x.lanes) e ∙ length-set d.lanes ctrl (after_one (lane_at d.lanes ctrl)))) below

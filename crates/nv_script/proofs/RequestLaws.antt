@@ -1,66 +1,131 @@
 -- What a request leaves, by how far its commands were sent.
-use Rattle.std.proofs.Common.{◌≡◌, ◌∙◌, ℕ, ◌+◌, ◌<◌, ◌≤◌, ap, sym, subst, arith, List, [], ◌∷◌, ◌++◌, length, take, drop, get_or, add-one, String, string_bytes, Some, Ok, Err}
-use Rattle.std.specs.Prelude.{zero, suc}
-use Rattle.std.proofs.Math.Seq.{drop-cons, take-suc}
-use Rattle.std.proofs.lemmas.List.{take-append-drop, take_all}
+use Rattle.std.proofs.Common.{◌≡◌, ◌∙◌, ℕ, ◌+◌, arith, ap, sym, refl, List, [], ◌∷◌, length, take, String, string_bytes, Option, None, Some, Result, Ok, Err}
+use Rattle.std.specs.Option.{option_map_or}
+use Rattle.std.proofs.lemmas.List.{take_all}
 use Rattle.nv_layout.specs.declared.status.Status.{Status}
-use Rattle.nv_subsystem.specs.State.{State}
+use Rattle.nv_command.specs.Logs.{answer_received}
+use Rattle.nv_command.specs.declared.command.Command.{Command}
+use Rattle.nv_command.specs.declared.command.Command.TheVariants.{IdentifyController}
+use Rattle.nv_command.specs.declared.refusal.Refusal.{Refusal}
 use Rattle.nv_command.specs.declared.reply.Reply.{Reply}
+use Rattle.nv_command.specs.declared.reply.Reply.TheVariants as reply
+use Rattle.nv_subsystem.specs.IdentifyController.{id_ctrl_of, no_controller}
+use Rattle.nv_subsystem.specs.Logs.{entry_count}
+use Rattle.nv_subsystem.specs.Refusal.{refusal_of}
+use Rattle.nv_subsystem.specs.State.{Controller, State, controller_at}
+use Rattle.nv_subsystem.specs.Step.{step, step_by}
+use Rattle.nv_line.specs.declared.request.Ask.{Ask}
+use Rattle.nv_line.specs.declared.request.Ask.TheVariants as ask
 use Rattle.nv_line.specs.declared.request.Request.{Request}
 use Rattle.nv_script.specs.Exchange.{Exchange, exchange_of}
-use Rattle.nv_script.specs.Outcomes.{Outcome, commands_of, outcome_of}
+use Rattle.nv_script.specs.Outcomes.{Outcome, commands_of, errors_command, first_command, later_orders, next_command, order_of, outcome_after, outcome_of, second_command}
 use Rattle.nv_script.specs.Performing.{IsReached, RequestLeaves}
 use Rattle.nv_print.specs.Texts.{text_of}
-use Rattle.nv_script.specs.declared.order.Order.{Order}
-use Rattle.nv_script.proofs.OutcomeLaws.{accepted_with, outcome_accepted, outcome_refused}
+use Rattle.nv_script.proofs.OutcomeLaws.{accepted_first, accepted_with, refused_at_once, refused_with}
 
--- ---- the controllers of the commands are known
+-- ---- the second command is known from the first reply
 
-below_at : (o : Order) (n i : ℕ) (d : Order) → o.controller < n → i < length (o ∷ []) → (get_or (o ∷ []) i d).controller < n
-below_at o n zero d h inside = h
-below_at o n (suc i) d h inside = absurd (omega arith)
+-- the reply of an answer, and of a refusal any
+reply_or_done : Result Reply Status → Reply
+reply_or_done (Ok r) = r
+reply_or_done (Err status) = reply.Done
 
-pub controller_known : (s : State) (r : Request) (n m : ℕ) (orders : List Order) (i : ℕ) (d : Order) → orders ≡ commands_of s r → r.controller < n → m ≡ n → i < length orders
-    → (get_or orders i d).controller < m
-controller_known s r n m orders i d e h same inside =
-    let known : (get_or orders i d).controller < n = rw e (below_at _ n i d h (subst (λ (x : List Order). i < length x) e inside)) in
-    subst (λ k. (get_or orders i d).controller < k) (sym same) known
+-- the structure tells how many errors a controller keeps
+kept_told : (s : State) (o : Option Controller)
+    → (option_map_or (id_ctrl_of s) o no_controller).elpe + 1 ≡ option_map_or (λ x. x.identity.numbers.elpe + 1) o 1
+kept_told s None = refl
+kept_told s (Some x) = refl
+
+module _ (s : State) (c serial : ℕ) where
+  errors_next : (entries : ℕ) (refusal : Option Refusal) (r : Reply)
+      → Ok r ≡ answer_received IdentifyController (step_by refusal s c IdentifyController serial).answer
+      → next_command (ask.ErrorLog entries) r ≡ second_command (entry_count s c) (ask.ErrorLog entries)
+  unfolding reply_or_done
+  errors_next entries None r e =
+      ap (λ a. next_command (ask.ErrorLog entries) (reply_or_done a)) e
+      ∙ ap (λ n. Some (errors_command entries n)) (kept_told s (controller_at s c))
+  errors_next entries (Some refusal) r e = absurd (cc)
+
+  pub second_is_next : (a : Ask) (reply : Reply) → Ok reply ≡ answer_received (first_command a) (step s c (first_command a) serial).answer
+      → next_command a reply ≡ second_command (entry_count s c) a
+  second_is_next (ask.ListNs first all) reply e = refl
+  second_is_next (ask.IdNs nsid force) reply e = refl
+  second_is_next (ask.Create nsze ncap flbas dps nmic) reply e = refl
+  second_is_next (ask.Attachment nsid detach controllers) reply e = refl
+  second_is_next (ask.Delete nsid) reply e = refl
+  second_is_next (ask.Format nsid lbaf mset pi pil ses) reply e = refl
+  second_is_next (ask.GetFeature fid sel nsid) reply e = refl
+  second_is_next (ask.SetFeature fid value save nsid) reply e = refl
+  second_is_next (ask.SmartLog nsid) reply e = refl
+  second_is_next (ask.ErrorLog entries) reply e = errors_next entries (refusal_of s c IdentifyController) reply e
 
 -- ---- where an outcome leads
 
-reached : (o : Outcome) (replies : List Reply) (s : State) (serials : List ℕ) → o ≡ accepted_with replies s serials → IsReached o s serials
-reached o replies s serials e = record { subsystem = sym (ap (λ (x : Outcome). x.state) e); next = sym (ap (λ (x : Outcome). x.serials) e) }
+reached : (o : Outcome) (s : State) (serials : List ℕ) → s ≡ o.state → serials ≡ o.serials → IsReached o s serials
+reached o s serials state next = record { subsystem = state; next = next }
 
-module _ (s now : State) (serials next : List ℕ) (r : Request) (orders : List Order) (i : ℕ) (replies : List Reply)
-    (known : orders ≡ commands_of s r) (sofar : outcome_of s serials (take i orders) ≡ accepted_with replies now next) where
-  -- memory was refused after so many commands
-  pub left_memory : (k : ℕ) × IsReached (outcome_of s serials (take k (commands_of s r))) now next
-  left_memory = (i, reached _ replies now next (ap (λ x. outcome_of s serials (take i x)) (sym known) ∙ sofar))
+module _ (s now : State) (serials next : List ℕ) (r : Request) where
+  abbrev whole : Outcome
+  whole = outcome_of s serials (commands_of s r)
 
-  -- all commands were accepted
-  pub left_text : {Z : Type 0} (text : String Z) → length orders ≤ i → string_bytes text ≡ text_of r.ask replies → RequestLeaves (Ok text) r s serials now next
-  left_text text all bytes =
-      let whole : outcome_of s serials (commands_of s r) ≡ accepted_with replies now next = ap (outcome_of s serials) (sym (take_all i orders all ∙ known)) ∙ sofar in (
-        ap (λ (x : Outcome). x.refusal) whole,
-        bytes ∙ ap (λ (x : Outcome). text_of r.ask x.replies) (sym whole),
-        reached _ replies now next whole,
+  pub left_refused : (replies : List Reply) (status : Status) → whole ≡ refused_with replies status now next
+      → (whole.refusal ≡ Some status) × IsReached whole now next
+  left_refused replies status e = (
+    ap (λ (x : Outcome). x.refusal) e,
+    reached whole now next (sym (ap (λ (x : Outcome). x.state) e)) (sym (ap (λ (x : Outcome). x.serials) e)),
+  )
+
+  -- memory was refused after all commands
+  pub left_memory : (replies : List Reply) → whole ≡ accepted_with replies now next
+      → (k : ℕ) × IsReached (outcome_of s serials (take k (commands_of s r))) now next
+  left_memory replies e =
+      let all = ap (outcome_of s serials) (take_all (length (commands_of s r)) (commands_of s r) (omega arith)) ∙ e in (
+        length (commands_of s r),
+        reached _ now next (sym (ap (λ (x : Outcome). x.state) all)) (sym (ap (λ (x : Outcome). x.serials) all)),
       )
 
-  module _ (d : Order) (new : State) (last : List ℕ) (inside : i < length orders) where
-    -- one command more was accepted
-    pub accepted_next : (reply : Reply) → ◌≡◌ {A = Exchange} (record { answer = Ok reply; state = new; serials = last }) (exchange_of now next (get_or orders i d))
-        → outcome_of s serials (take (i + 1) orders) ≡ accepted_with (replies ++ reply ∷ []) new last
-    accepted_next reply e =
-        ap (λ n. outcome_of s serials (take n orders)) (add-one i) ∙ ap (outcome_of s serials) (take-suc orders i d inside)
-        ∙ outcome_accepted s now new serials next last (take i orders) (get_or orders i d) replies sofar reply e
+  pub left_text : {Z : Type 0} (text : String Z) (replies : List Reply) → whole ≡ accepted_with replies now next
+      → string_bytes text ≡ text_of r.ask replies → RequestLeaves (Ok text) r s serials now next
+  left_text text replies e bytes = (
+    ap (λ (x : Outcome). x.refusal) e,
+    bytes ∙ ap (λ (x : Outcome). text_of r.ask x.replies) (sym e),
+    reached whole now next (sym (ap (λ (x : Outcome). x.state) e)) (sym (ap (λ (x : Outcome). x.serials) e)),
+  )
 
-    -- the next command was refused
-    pub left_refused : (status : Status) → ◌≡◌ {A = Exchange} (record { answer = Err status; state = new; serials = last }) (exchange_of now next (get_or orders i d))
-        → ((outcome_of s serials (commands_of s r)).refusal ≡ Some status) × IsReached (outcome_of s serials (commands_of s r)) new last
-    left_refused status e =
-        let parts : orders ≡ take i orders ++ get_or orders i d ∷ drop (suc i) orders = sym (take-append-drop i orders) ∙ ap (λ x. take i orders ++ x) (drop-cons orders i d inside) in
-        let whole : outcome_of s serials (commands_of s r) ≡ record { replies = replies ++ []; refusal = Some status; state = new; serials = last } =
-        ap (outcome_of s serials) (sym known ∙ parts) ∙ outcome_refused s now new serials next last (take i orders) (get_or orders i d) replies sofar (drop (suc i) orders) status e in (
-          ap (λ (x : Outcome). x.refusal) whole,
-          record { subsystem = sym (ap (λ (x : Outcome). x.state) whole); next = sym (ap (λ (x : Outcome). x.serials) whole) },
-        )
+-- ---- the commands of a request
+
+module _ (s now : State) (serials next : List ℕ) (r : Request) where
+  abbrev first : Exchange
+  first = exchange_of s serials (order_of r (first_command r.ask))
+
+  -- the first was refused
+  pub first_refused : (status : Status) → ◌≡◌ {A = Exchange} (record { answer = Err status; state = now; serials = next }) first
+      → outcome_of s serials (commands_of s r) ≡ refused_with [] status now next
+  first_refused status e = refused_at_once s now serials next (order_of r (first_command r.ask)) (later_orders r (second_command (entry_count s r.controller) r.ask)) status e
+
+  module _ (reply : Reply) (e : ◌≡◌ {A = Exchange} (record { answer = Ok reply; state = now; serials = next }) first) (later : Option Command)
+      (is : later ≡ next_command r.ask reply) where
+    begun : outcome_of s serials (commands_of s r) ≡ outcome_after (Ok reply) now next (outcome_of now next (later_orders r later))
+    begun =
+        accepted_first s now serials next (order_of r (first_command r.ask)) (later_orders r (second_command (entry_count s r.controller) r.ask)) reply e
+        ∙ ap (λ x. outcome_after (Ok reply) now next (outcome_of now next (later_orders r x)))
+        (sym (is ∙ second_is_next s r.controller _ r.ask reply (ap (λ (x : Exchange). x.answer) e)))
+
+  -- the first was all
+  pub one_accepted : (reply : Reply) → ◌≡◌ {A = Exchange} (record { answer = Ok reply; state = now; serials = next }) first
+      → None ≡ next_command r.ask reply → outcome_of s serials (commands_of s r) ≡ accepted_with (reply ∷ []) now next
+  one_accepted reply e is = begun reply e None is
+
+  module _ (last : State) (end : List ℕ) (reply : Reply) (e : ◌≡◌ {A = Exchange} (record { answer = Ok reply; state = now; serials = next }) first) (k : Command)
+      (is : Some k ≡ next_command r.ask reply) where
+    pub second_refused : (status : Status) → ◌≡◌ {A = Exchange} (record { answer = Err status; state = last; serials = end }) (exchange_of now next (order_of r k))
+        → outcome_of s serials (commands_of s r) ≡ refused_with (reply ∷ []) status last end
+    second_refused status e2 =
+        begun reply e (Some k) is
+        ∙ ap (outcome_after (Ok reply) now next) (refused_at_once now last next end (order_of r k) [] status e2)
+
+    pub two_accepted : (second : Reply) → ◌≡◌ {A = Exchange} (record { answer = Ok second; state = last; serials = end }) (exchange_of now next (order_of r k))
+        → outcome_of s serials (commands_of s r) ≡ accepted_with (reply ∷ second ∷ []) last end
+    two_accepted second e2 =
+        begun reply e (Some k) is
+        ∙ ap (outcome_after (Ok reply) now next) (accepted_first now last next end (order_of r k) [] second e2)

@@ -4,9 +4,15 @@ use Rattle.nv_layout.specs.declared.status.Status.{Status}
 use Rattle.nv_subsystem.specs.State.{State}
 use Rattle.nv_subsystem.specs.Step.{next_serial, step}
 use Rattle.nv_command.specs.declared.reply.Reply.{Reply}
-use Rattle.nv_script.specs.declared.order.Order.{Order}
+use Rattle.nv_command.specs.Logs.{answer_received}
+use Rattle.nv_command.specs.declared.command.Command.{Command}
 
--- the answer to a command, and the state and the serials of the controllers after it
+-- a command for a controller, named by its place in the subsystem's file
+pub record Order : Type 0 where
+  pub controller : ℕ
+  pub command : Command
+
+-- the answer to a command as the host gets it, and the state and the serials of the controllers after it
 pub record Exchange : Type 0 where
   pub answer : Result Reply Status
   pub state : State
@@ -17,7 +23,7 @@ exchange_of s serials o =
     let serial = slice_index serials o.controller in
     let step = step s o.controller o.command serial in
     record {
-      answer = step.answer;
+      answer = answer_received o.command step.answer;
       state = step.state;
       serials = slice_set serials o.controller (next_serial serial);
     }

@@ -112,7 +112,13 @@ pub(crate) fn execute_line<B: Bus, O: Sink, M: Sink>(
     };
     match said {
         Line::Skipped => Ok(()),
-        Line::Request(request) => match perform(alloc, bus, &mut session.driver, request) {
+        Line::Request(request) => match perform(
+            alloc,
+            bus,
+            &mut session.driver,
+            &mut session.answers,
+            &request,
+        ) {
             Ok(text) => {
                 session.status = 0;
                 print(out, Ok(text), RunEnd::OutWrite)

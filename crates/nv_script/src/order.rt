@@ -1,20 +1,13 @@
 //! The commands that a request stands for.
 
-ghost use Rattle.std.specs.Prelude.{◌≡◌, All, IfOk};
-ghost use Rattle.nv_command.specs.Command.{CommandFits};
-ghost use Rattle.nv_subsystem.specs.State.{State};
-ghost use Rattle.nv_script.specs.Outcomes.{command_of, commands_of, list_command, namespace_command};
+ghost use Rattle.std.specs.Prelude.{◌≡◌, ◌+◌, IfSome};
+ghost use Rattle.nv_command.specs.Logs.{IsSendable};
+ghost use Rattle.nv_script.specs.Outcomes.{errors_command, first_command, list_command, namespace_command, next_command};
 
-use nv_command::Command;
-use nv_line::{Ask, Request};
-use std::alloc::{AllocError, Global};
-
-/// A command for a controller, named by its place in the subsystem's file.
-#[derive(Drop)]
-pub struct Order<'a> {
-    pub controller: u16,
-    pub command: Command<'a>,
-}
+use nv_command::{Command, DwordCount, Reply};
+use nv_line::Ask;
+use nv_subsystem::{ERROR_INFORMATION, HEALTH};
+use std::cmp;
 
 /// The command for the NSIDs above one: those attached to the controller, or all allocated ones.
 fn list_command<'a>(all: bool, after: u32) -> Command<'a>
@@ -38,9 +31,10 @@ fn namespace_command<'a>(force: bool, nsid: u32) -> Command<'a>
     }
 }
 
-/// The command for what a controller is asked.
-fn command_of(ask: &Ask) -> Command<'_>
-    ensures { result ≡ command_of ask.now }
+/// The command that is sent first for what a controller is asked.
+pub(crate) fn first_command(ask: &Ask) -> Command<'_>
+    ensures command { result ≡ first_command ask.now }
+    ensures sendable { IsSendable result }
 {
     match ask {
         Ask::ListNs { first, all } => list_command(*all, first.saturating_sub(1)),
@@ -99,20 +93,42 @@ fn command_of(ask: &Ask) -> Command<'_>
             save: *save,
             nsid: *nsid,
         },
+        Ask::SmartLog { nsid } => Command::GetLog {
+            lid: HEALTH,
+            nsid: *nsid,
+            offset: 0,
+            dwords: DwordCount::from_zeros_based(127),
+        },
+        Ask::ErrorLog { entries: _ } => Command::IdentifyController,
     }
 }
 
-/// The commands of a request, in order. They are known from the request alone, before the first
-/// reply.
-pub(crate) fn commands_of(alloc: Global, request: &Request) -> Result<Vec<Order<'_>>, AllocError>
-    ensures orders { IfOk result (λ orders. (s : State) → orders.items ≡ commands_of s request.now) }
-    ensures fits { IfOk result (λ orders. All (λ o. CommandFits o.command) orders.items) }
+/// The command for the entries of an error log: so many, as far as a controller keeps them, and one
+/// at least.
+fn errors_command<'a>(entries: u32, elpe: u8) -> Command<'a>
+    ensures command { result ≡ errors_command entries (elpe + 1) }
+    ensures sendable { IsSendable result }
 {
-    let command = command_of(&request.ask);
-    command.fits();
-    let order = Order {
-        controller: request.controller,
-        command,
-    };
-    Ok(Vec::from_array(alloc, [order])?)
+    let kept = u32::from(elpe) + 1;
+    let count = cmp::max(cmp::min(entries, kept), 1);
+    Command::GetLog {
+        lid: ERROR_INFORMATION,
+        nsid: 0,
+        offset: 0,
+        dwords: DwordCount::from_zeros_based(16 * count - 1),
+    }
+}
+
+/// The command that follows on the reply to the first one, if any: the controller tells how many
+/// errors it keeps before they are asked for.
+pub(crate) fn next_command<'a>(ask: &Ask, reply: &Reply) -> Option<Command<'a>>
+    ensures command { result ≡ next_command ask.now reply.now }
+    ensures sendable { IfSome result IsSendable }
+{
+    match (ask, reply) {
+        (Ask::ErrorLog { entries }, Reply::Controller(controller)) => {
+            Some(errors_command(*entries, controller.elpe))
+        }
+        _ => None,
+    }
 }

@@ -1,15 +1,18 @@
 //! One request: its commands, and the text of their replies.
 
-ghost use Rattle.std.specs.Prelude.{◌≡◌, ◌<◌, length};
+ghost use Rattle.std.specs.Prelude.{◌≡◌, ◌<◌, ◌∷◌, [], IfOk, length, string_bytes};
+ghost use Rattle.nv_print.specs.Texts.{text_of};
 ghost use Rattle.nv_script.specs.Link.{IsLinked, serials_of};
 ghost use Rattle.nv_script.specs.Performing.{RequestLeaves};
 ghost use Rattle.nv_script.specs.declared.performing.Stop.TheVariants.{Refused, Memory};
 
-use crate::order::commands_of;
+use crate::order::{first_command, next_command};
+use crate::session::Answers;
+use nv_command::Reply;
 use nv_controller::Bus;
 use nv_driver::Driver;
 use nv_layout::Status;
-use nv_line::Request;
+use nv_line::{Ask, Request};
 use nv_print::text_of;
 use std::alloc::{AllocError, AllocFailed, Global};
 
@@ -46,25 +49,44 @@ impl<T: Drop> From<AllocFailed<T>> for Stop {
     }
 }
 
-/// Sends the commands of a request, up to the first refusal, and makes the text of their replies.
+/// The text of two replies.
+fn text_of_two<'a>(
+    alloc: Global,
+    ask: &Ask,
+    first: Reply<'a>,
+    second: Reply<'a>,
+) -> Result<String, AllocError>
+    ensures { IfOk result
+        (λ text. string_bytes text ≡ text_of ask.now (first.entry ∷ second.entry ∷ [])) }
+{
+    text_of(alloc, ask, &[first, second])
+}
+
+/// Sends the commands of a request, up to the first refusal, and makes the text of their replies,
+/// which stay in `answers` until then.
 pub(crate) fn perform<B: Bus>(
     alloc: Global,
     bus: &mut B,
     driver: &mut Driver,
-    request: Request,
+    answers: &mut Answers,
+    request: &Request,
 ) -> Result<String, Stop>
     requires linked { IsLinked (B.meaning bus.old) driver.old }
-    requires controller { request.controller < length driver.old.lanes }
-    ensures left { RequestLeaves result request
+    requires controller { request.now.controller < length driver.old.lanes }
+    ensures left { RequestLeaves result request.now
         (B.meaning bus.old).state (serials_of driver.old)
         (B.meaning bus.new).state (serials_of driver.new) }
     ensures linked { IsLinked (B.meaning bus.new) driver.new }
 {
-    let orders = commands_of(alloc, &request)?;
-    let mut replies = Vec::new(alloc);
-    for order in &orders {
-        let reply = driver.admin(bus, order.controller, &order.command)?;
-        replies.push(reply)?;
-    }
-    Ok(text_of(alloc, &request.ask, &replies)?)
+    let Answers { first, second } = answers;
+    let ctrl = request.controller;
+    let command = first_command(&request.ask);
+    command.fits();
+    let reply = driver.admin(bus, ctrl, &command, first)?;
+    let Some(command) = next_command(&request.ask, &reply) else {
+        return Ok(text_of(alloc, &request.ask, &[reply])?);
+    };
+    command.fits();
+    let next = driver.admin(bus, ctrl, &command, second)?;
+    Ok(text_of_two(alloc, &request.ask, reply, next)?)
 }

@@ -2,15 +2,16 @@
 
 ghost use Rattle.std.specs.Prelude.{All, IfOk};
 ghost use Rattle.nv_command.specs.Command.{CommandFits};
+ghost use Rattle.nv_command.specs.Logs.{IsSendable};
 ghost use Rattle.nv_controller.specs.Bus.{IsBus, IsEnabledWhereReady};
 ghost use Rattle.nv_subsystem.specs.WellFormed.{IsWellFormed};
 
 use crate::counting_sink::CountingSink;
 use crate::line_kind::LineKind;
 use crate::line_times::{LINES, LineTimes};
-use nv_command::Command;
+use nv_command::{Command, ReplyRoom};
 use nv_controller::Machine;
-use nv_driver::{Driver, Geometry};
+use nv_driver::{AnswerSlot, Driver, Geometry};
 use nv_script::{OverRead, RunEnd, read_line, run};
 use nv_subsystem::{DEMO, Origin, Subsystem};
 use std::alloc::Global;
@@ -128,15 +129,17 @@ fn time_readings(rt: &HostRuntime, line: &str) -> io::Result<Duration> {
 
 /// What it takes to send a command so many times to the first controller.
 fn time_admin(rt: &HostRuntime, geometry: Geometry, command: &Command) -> io::Result<Duration>
-    requires { CommandFits command.now }
+    requires fits { CommandFits command.now }
+    requires sends { IsSendable command.now }
 {
     let mut machine = demo_machine(rt.alloc())?;
     let Ok(mut driver) = Driver::bring_up(rt.alloc(), &mut machine, geometry) else {
         return Err(io::Error::from(ErrorKind::InvalidInput));
     };
+    let mut slot = AnswerSlot::new();
     let start = Instant::now(rt)?;
     for round in 0..LINES {
-        let _ = driver.admin(&mut machine, 0, command);
+        let _ = driver.admin(&mut machine, 0, command, &mut slot);
     }
     start.elapsed(rt)
 }
@@ -148,9 +151,10 @@ fn time_commands(rt: &HostRuntime, command: &Command) -> io::Result<Duration> {
         cid: 0,
         phase: true,
     };
+    let mut room = ReplyRoom::new();
     let start = Instant::now(rt)?;
     for round in 0..LINES {
-        let _ = subsystem.execute(0, command, origin);
+        let _ = subsystem.execute(0, command, origin, &mut room);
     }
     start.elapsed(rt)
 }

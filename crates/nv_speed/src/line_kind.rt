@@ -2,6 +2,7 @@
 
 ghost use Rattle.std.specs.Prelude.{IfSome};
 ghost use Rattle.nv_command.specs.Command.{CommandFits};
+ghost use Rattle.nv_command.specs.Logs.{IsSendable};
 
 use nv_command::Command;
 
@@ -50,7 +51,8 @@ impl LineKind {
 
     /// The command that the line sends to the first controller, if it sends one.
     pub(crate) fn command(self) -> Option<Command<'static>>
-        ensures { IfSome result CommandFits }
+        ensures fits { IfSome result CommandFits }
+        ensures sends { IfSome result IsSendable }
     {
         match self {
             LineKind::ListNs => Some(Command::ActiveList { after: 0 }),

@@ -11,6 +11,7 @@ use Rattle.nv_file.specs.declared.namespace.Namespace.{Namespace}
 use Rattle.nv_command.specs.RefusalLaws.{is_refusal-refusal_by}
 use Rattle.nv_subsystem.specs.Attachment.{attach_rows, attached, attachment_rows, detached, fewer, has_attached, is_listed, is_private, more, unchanged, with_attachments, with_one}
 use Rattle.nv_layout.specs.declared.feature.Feature.TheVariants.{ErrorRecovery}
+use Rattle.nv_subsystem.specs.ChoiceLaws.{not_false}
 use Rattle.nv_subsystem.specs.FeatureLaws.{default_accepted, values-with, values-without}
 use Rattle.nv_subsystem.specs.FeatureValue.{at_default}
 use Rattle.nv_subsystem.specs.Management.{with_attached, with_nsids, without}
@@ -69,15 +70,11 @@ attach_keeps s n ids w accepted = attached_keep s (more n ids) s.namespaces w (r
         (at_default (rule_of x.rules ErrorRecovery)) (default_accepted x.rules is.rules ErrorRecovery)
     with_values x is false = is.values
 
-    is_true : (b : Bool) → not b ≡ false → b ≡ true
-    is_true true h = refl
-    is_true false h = absurd (cc h)
-
     at_nsid : (x : Controller) → IsController s.namespaces x → (q : ℕ) (b : Bool) → (q == n) ≡ b
         → (cond b (is_listed ids x) false || map_of.contains_key x.attached q) ≡ true
         → map_of.contains_key s.namespaces q ≡ true
     at_nsid x is q true e t = let same : q ≡ n = grind (arith, nat_tests) in
-        ap (map_of.contains_key s.namespaces) same ∙ is_true (is_allocated s n) rows.1.0
+        ap (map_of.contains_key s.namespaces) same ∙ not_false (is_allocated s n) rows.1.0
     at_nsid x is q false e t = is.attached q t
 
     few : (b c : Bool) → b ≡ true → (b && c) ≡ false → c ≡ false

@@ -1,7 +1,7 @@
 -- What an accepted command changes.
 use Rattle.std.specs.Prelude.{ℕ}
 use Rattle.nv_command.specs.declared.command.Command.{Command}
-use Rattle.nv_command.specs.declared.command.Command.TheVariants.{IdentifyNamespace, AllocatedNamespace, ActiveList, AllocatedList, Create, Delete, Attachment, Format, GetFeature, SetFeature}
+use Rattle.nv_command.specs.declared.command.Command.TheVariants.{IdentifyController, IdentifyNamespace, AllocatedNamespace, ActiveList, AllocatedList, Create, Delete, Attachment, Format, GetFeature, SetFeature, GetLog}
 use Rattle.nv_subsystem.specs.Attachment.{with_attachments}
 use Rattle.nv_subsystem.specs.Features.{with_feature}
 use Rattle.nv_subsystem.specs.Format.{formatted, new_format}
@@ -9,6 +9,7 @@ use Rattle.nv_subsystem.specs.Management.{created, deleted, wanted}
 use Rattle.nv_subsystem.specs.State.{State}
 
 abbrev pub effect_of : State → ℕ → Command → State
+effect_of s c IdentifyController = s
 effect_of s c (IdentifyNamespace n) = s
 effect_of s c (AllocatedNamespace n) = s
 effect_of s c (ActiveList after) = s
@@ -19,3 +20,4 @@ effect_of s c (Attachment n detach ids) = with_attachments s n detach ids
 effect_of s c (Format n lbaf mset pi pil ses) = formatted s c n (new_format lbaf mset pi pil ses)
 effect_of s c (GetFeature fid sel n) = s
 effect_of s c (SetFeature fid value save n) = with_feature s c fid value save n
+effect_of s c (GetLog lid n offset dwords) = s

@@ -1,23 +1,53 @@
 -- The error log as a value.
-use Rattle.std.specs.Prelude.{ℕ, Bool, List, refl}
+use Rattle.std.specs.Prelude.{ℕ, Bool, false, List, refl}
 use Rattle.std.specs.Coded.{Coded, code_by, coded×, coded_ℕ, coded_bool, coded_list}
+use Rattle.nv_command.specs.declared.refusal.Refusal.{Refusal}
+use Rattle.nv_layout.specs.declared.error_entry.ErrorEntry.{ErrorEntry}
 use Rattle.nv_layout.specs.declared.status.Status.{Status}
-use Rattle.nv_subsystem.specs.declared.error_log.LogEntry.{LogEntry}
 
--- the entries newest first, and how many there may be
+-- the entry of a refusal: no field of the command is told, and no logical block
+abbrev pub log_entry : ℕ → ℕ → ℕ → Refusal → ErrorEntry
+log_entry count cid nsid r = record {
+  count = count;
+  sqid = 0;
+  cid = cid;
+  status = r.status;
+  phase = false;
+  location = 0xffff;
+  lba = 0;
+  nsid = nsid;
+  vendor = 0;
+  specific = r.specific;
+}
+
+-- the entries newest first, without phase tags, and how many there may be
 pub record Log : Type 0 where
   pub most : ℕ
-  pub entries : List LogEntry
+  pub entries : List ErrorEntry
 
 abbrev pub status_code : Coded Status
 status_code = code_by (ℕ × (ℕ × (ℕ × (Bool × Bool)))) (coded× coded_ℕ (coded× coded_ℕ (coded× coded_ℕ (coded× coded_bool coded_bool))))
     (λ s. (s.sc, (s.sct, (s.crd, (s.more, s.dnr)))))
     (λ p. record { sc = p.0; sct = p.1.0; crd = p.1.1.0; more = p.1.1.1.0; dnr = p.1.1.1.1 }) (λ _. refl)
 
-abbrev pub entry_code : Coded LogEntry
-entry_code = code_by (ℕ × (ℕ × (Status × (ℕ × ℕ)))) (coded× coded_ℕ (coded× coded_ℕ (coded× status_code (coded× coded_ℕ coded_ℕ))))
-    (λ e. (e.count, (e.cid, (e.status, (e.nsid, e.specific)))))
-    (λ p. record { count = p.0; cid = p.1.0; status = p.1.1.0; nsid = p.1.1.1.0; specific = p.1.1.1.1 }) (λ _. refl)
+abbrev pub entry_code : Coded ErrorEntry
+entry_code = code_by (ℕ × (ℕ × (ℕ × (Status × (Bool × (ℕ × (ℕ × (ℕ × (ℕ × ℕ)))))))))
+    (coded× coded_ℕ (coded× coded_ℕ (coded× coded_ℕ (coded× status_code (coded× coded_bool (coded× coded_ℕ (coded× coded_ℕ (coded× coded_ℕ (coded× coded_ℕ coded_ℕ)))))))))
+    (λ e. (e.count, (e.sqid, (e.cid, (e.status, (e.phase, (e.location, (e.lba, (e.nsid, (e.vendor, e.specific))))))))))
+    (λ p. record {
+      count = p.0;
+      sqid = p.1.0;
+      cid = p.1.1.0;
+      status = p.1.1.1.0;
+      phase = p.1.1.1.1.0;
+      location = p.1.1.1.1.1.0;
+      lba = p.1.1.1.1.1.1.0;
+      nsid = p.1.1.1.1.1.1.1.0;
+      vendor = p.1.1.1.1.1.1.1.1.0;
+      specific = p.1.1.1.1.1.1.1.1.1;
+    }) (λ _. refl)
 
 abbrev pub log_code : Coded Log
-log_code = code_by (ℕ × List LogEntry) (coded× coded_ℕ (coded_list entry_code)) (λ l. (l.most, l.entries)) (λ p. record { most = p.0; entries = p.1 }) (λ _. refl)
+log_code = code_by (ℕ × List ErrorEntry) (coded× coded_ℕ (coded_list entry_code))
+    (λ l. (l.most, l.entries))
+    (λ p. record { most = p.0; entries = p.1 }) (λ _. refl)

@@ -1,6 +1,5 @@
 -- Get Features and Set Features: when they are refused, what they answer, and what they change.
-use Rattle.std.specs.Prelude.{ℕ, ◌+◌, ◌==◌, ◌&&◌, ◌||◌, not, nat_lt, Bool, true, List, [], ◌∷◌, Option, None, unwrap_or, if◌then◌else◌}
-use Rattle.std.specs.List.{fold}
+use Rattle.std.specs.Prelude.{ℕ, ◌+◌, ◌==◌, ◌&&◌, ◌||◌, not, nat_lt, Bool, true, List, [], ◌∷◌, Option, None, unwrap_or, if◌then◌else◌, map}
 use Rattle.std.specs.Option.{option_map_or}
 use Rattle.std.specs.FinMap as map_of
 use Rattle.nv_layout.specs.Feature.{feature_of, is_accepted, row_of}
@@ -8,9 +7,9 @@ use Rattle.nv_layout.specs.declared.feature.Feature.{Feature}
 use Rattle.nv_file.specs.declared.feature_rule.FeatureRule.{FeatureRule}
 use Rattle.nv_command.specs.declared.command.TheConstants.{BROADCAST_NSID}
 use Rattle.nv_command.specs.declared.status_code.StatusCode.TheVariants.{FeatureNotChangeable, FeatureNotNamespaceSpecific, FeatureIdentifierNotSaveable, InvalidFieldInCommand, InvalidNamespaceOrFormat}
+use Rattle.nv_subsystem.specs.ChangedKeys.{changed_at_keys}
 use Rattle.nv_subsystem.specs.FeatureValue.{default_rule, written}
-use Rattle.nv_subsystem.specs.Format.{concerned}
-use Rattle.nv_subsystem.specs.Nsid.{is_active, is_valid}
+use Rattle.nv_subsystem.specs.Nsid.{concerned, is_active, is_valid}
 use Rattle.nv_subsystem.specs.Row.{row}
 use Rattle.nv_subsystem.specs.State.{Controller, State, controller_at, rule_of, with_controller}
 use Rattle.nv_subsystem.specs.Supported.{supported}
@@ -100,7 +99,9 @@ with_value f value save values n =
     (map_of.get values (key_of f n)) values
 
 abbrev pub with_values : Feature → ℕ → Bool → List ℕ → Controller → Controller
-with_values f value save ns x = record x { values = fold (with_value f value save) x.values ns }
+with_values f value save ns x = record x {
+  values = changed_at_keys (map (key_of f) ns) (written value save) x.values;
+}
 
 abbrev pub with_feature : State → ℕ → ℕ → ℕ → Bool → ℕ → State
 with_feature s c fid value save n =

@@ -1,13 +1,14 @@
 -- Format NVM: when a format is refused, and what it changes.
-use Rattle.std.specs.Prelude.{ℕ, ◌^◌, ◌==◌, ◌&&◌, ◌||◌, not, nat_lt, Bool, false, List, [], ◌∷◌, slice_get, if◌then◌else◌}
-use Rattle.std.specs.List.{fold, list_any}
+use Rattle.std.specs.Prelude.{ℕ, ◌^◌, ◌==◌, ◌&&◌, ◌||◌, not, nat_lt, Bool, false, List, [], ◌∷◌}
+use Rattle.std.specs.List.{list_any}
 use Rattle.std.specs.Option.{option_map_or}
 use Rattle.std.specs.FinMap as map_of
-use Rattle.nv_bits.specs.Numbers.{above}
 use Rattle.nv_command.specs.declared.command.TheConstants.{BROADCAST_NSID}
 use Rattle.nv_command.specs.declared.status_code.StatusCode.TheVariants.{InvalidFieldInCommand, InvalidFormat, InvalidNamespaceOrFormat}
-use Rattle.nv_file.specs.Tables.{may_extend}
-use Rattle.nv_subsystem.specs.Nsid.{active_nsids, is_active, is_valid}
+use Rattle.nv_file.specs.declared.namespace.Namespace.{Namespace}
+use Rattle.nv_subsystem.specs.ChangedKeys.{changed_at_keys}
+use Rattle.nv_subsystem.specs.Formats.{can_have, format_at}
+use Rattle.nv_subsystem.specs.Nsid.{concerned, is_active, is_valid}
 use Rattle.nv_subsystem.specs.Row.{row}
 use Rattle.nv_subsystem.specs.State.{Namespaces, State, controller_at}
 use Rattle.nv_subsystem.specs.declared.format.NewFormat.{NewFormat}
@@ -22,15 +23,6 @@ new_format lbaf mset pi pil ses = record {
   ses = ses;
 }
 
--- the NSIDs that a format concerns: for the broadcast one all that are active on the controller
-abbrev pub concerned : State → ℕ → ℕ → List ℕ
-concerned s c n = if n == BROADCAST_NSID then above 0 (active_nsids s c) else n ∷ []
-
--- the table has the format, and metadata can lie at the end of its logical blocks where it shall
-abbrev pub is_possible : State → NewFormat → Bool
-is_possible s f =
-    option_map_or (λ format. may_extend s.mc format f.mset) (slice_get s.formats f.lbaf) false
-
 -- a namespace with a capacity below a size
 abbrev pub is_below : State → ℕ → ℕ → Bool
 is_below s size n = option_map_or (λ x. nat_lt x.capacity size) (map_of.get s.namespaces n) false
@@ -39,7 +31,7 @@ is_below s size n = option_map_or (λ x. nat_lt x.capacity size) (map_of.get s.n
 abbrev pub has_one_below : State → ℕ → List ℕ → Bool
 has_one_below s lbaf ns =
     option_map_or (λ format. list_any (is_below s (2 ^ format.lbads)) ns)
-    (slice_get s.formats lbaf) false
+    (format_at s lbaf) false
 
 -- the controller can erase by a key
 abbrev pub can_erase_by_key : State → ℕ → Bool
@@ -49,18 +41,23 @@ abbrev pub format_rows : State → ℕ → ℕ → NewFormat → List Row
 format_rows s c n f =
     row (not (is_valid s n || n == BROADCAST_NSID)) InvalidNamespaceOrFormat
     ∷ row (not (is_active s c n || n == BROADCAST_NSID)) InvalidFieldInCommand
-    ∷ row (not (is_possible s f)) InvalidFormat
+    ∷ row (not (can_have s f.lbaf f.mset)) InvalidFormat
     ∷ row (not (f.pi == 0) || f.pil) InvalidFormat
     ∷ row (has_one_below s f.lbaf (concerned s c n)) InvalidFormat
     ∷ row (nat_lt 2 f.ses || (f.ses == 2 && not (can_erase_by_key s c))) InvalidFieldInCommand
     ∷ []
 
--- a namespace changes its format, and where its metadata lies; its capacity stays
+-- a namespace in another format, with its metadata elsewhere; its capacity stays
+abbrev pub in_format : ℕ → Bool → Namespace → Namespace
+in_format lbaf mset x = record x { format = lbaf; extended = mset }
+
+-- one of the namespaces, where it is there
 abbrev pub with_format : ℕ → Bool → Namespaces → ℕ → Namespaces
 with_format lbaf mset m n =
-    option_map_or (λ x. map_of.insert m n (record x { format = lbaf; extended = mset }))
-    (map_of.get m n) m
+    option_map_or (λ x. map_of.insert m n (in_format lbaf mset x)) (map_of.get m n) m
 
 abbrev pub formatted : State → ℕ → ℕ → NewFormat → State
 formatted s c n f =
-    record s { namespaces = fold (with_format f.lbaf f.mset) s.namespaces (concerned s c n) }
+    record s {
+      namespaces = changed_at_keys (concerned s c n) (in_format f.lbaf f.mset) s.namespaces;
+    }

@@ -1,5 +1,5 @@
 -- A format leaves a well-formed subsystem well formed.
-use Rattle.std.proofs.Common.{rules, ◌≡◌, ◌∙◌, ℕ, ◌-◌, ◌==◌, ◌<◌, ◌≤◌, ◌^◌, ◌||◌, ◌&&◌, Bool, true, false, not, cond, List, [], ◌∷◌, Option, Some, None, bit_and, nat_lt, refl, sym, ap, subst, arith}
+use Rattle.std.proofs.Common.{rules, ◌≡◌, ◌∙◌, ℕ, ◌-◌, ◌==◌, ◌≤◌, ◌^◌, ◌||◌, Bool, true, false, cond, List, [], ◌∷◌, Option, Some, None, nat_lt, refl, sym, ap, subst, arith}
 use Rattle.std.specs.Prelude.{IsSomeAnd, slice_get}
 use Rattle.std.specs.List.{AllByRecursion, fold, list_any}
 use Rattle.std.specs.Option.{option_map_or}
@@ -12,8 +12,15 @@ use Rattle.nv_file.specs.Tables.{may_extend}
 use Rattle.nv_file.specs.declared.format.Format.{Format}
 use Rattle.nv_file.specs.declared.namespace.Namespace.{Namespace}
 use Rattle.nv_command.specs.RefusalLaws.{is_refusal-refusal_by}
-use Rattle.nv_subsystem.specs.Format.{concerned, format_rows, formatted, is_below, is_possible, with_format}
-use Rattle.nv_subsystem.specs.ManagementLaws.{AllRefuse, none_holds}
+use Rattle.nv_subsystem.specs.Format.{format_rows, formatted, in_format, is_below, with_format}
+use Rattle.std.specs.Cmp.{nat_cmp_total}
+use Rattle.std.specs.FinMap.{nat_cmp-IsAntisymmetric}
+use Rattle.nv_subsystem.specs.ChangedKeys.{changed_at_keys}
+use Rattle.nv_subsystem.specs.ChangedKeysLaws.{folded}
+use Rattle.nv_subsystem.specs.ChoiceLaws.{not_false}
+use Rattle.nv_subsystem.specs.Formats.{can_have, format_at}
+use Rattle.nv_subsystem.specs.ManagementLaws.{AllRefuse, extends_by, none_holds}
+use Rattle.nv_subsystem.specs.Nsid.{concerned}
 use Rattle.nv_subsystem.specs.Row.{first_refusal}
 use Rattle.nv_subsystem.specs.State.{Namespaces, State}
 use Rattle.nv_subsystem.specs.UsedLaws.{used-change}
@@ -23,10 +30,6 @@ use Rattle.nv_subsystem.specs.declared.format.NewFormat.{NewFormat}
 pub format_rows_fit : (s : State) (c n : ℕ) (f : NewFormat) → AllRefuse (format_rows s c n f)
 format_rows_fit s c n f = search (rules, is_refusal-refusal_by)
 
-not_false : (b : Bool) → not b ≡ false → b ≡ true
-not_false true h = refl
-not_false false h = absurd (cc h)
-
 -- a capacity below a size
 abbrev below : ℕ → Option Namespace → Bool
 below size o = option_map_or (λ x. nat_lt x.capacity size) o false
@@ -35,7 +38,7 @@ below size o = option_map_or (λ x. nat_lt x.capacity size) o false
 
 module _ (format : Format) (lbaf : ℕ) (mset : Bool) where
   abbrev as_format : Namespace → Namespace
-  as_format x = record x { format = lbaf; extended = mset }
+  as_format x = in_format lbaf mset x
 
   -- the subsystem with one namespace in the format
   abbrev with_one : State → ℕ → State
@@ -52,12 +55,6 @@ module _ (format : Format) (lbaf : ℕ) (mset : Bool) where
       let big : nat_lt x.capacity (2 ^ format.lbads) ≡ false
       = sym (ap (below (2 ^ format.lbads)) found) ∙ room in
       grind (arith, nat_tests)
-
-  extends_by : (mc : ℕ) (b : Bool)
-      → (not b || (nat_lt 0 format.ms && (bit_and mc 1 == 1))) ≡ true → b ≡ true
-      → (0 < format.ms) × (bit_and mc 1 ≡ 1)
-  extends_by mc true h e = grind (arith, nat_tests)
-  extends_by mc false h e = absurd (cc e)
 
   few : (mc : ℕ) (x : Namespace) (o : Option Format) → IsSomeAnd o (λ f. IsInFormat mc f x)
       → x.capacity ≤ 2 ^ 63 - 1
@@ -104,12 +101,12 @@ module _ (format : Format) (lbaf : ℕ) (mset : Bool) where
       kept true h = refl
       kept false h = h
 
-      in_format : IsInFormat s.mc format (as_format x)
-      in_format =
+      fits_format : IsInFormat s.mc format (as_format x)
+      fits_format =
           let old = w.namespaces n x at in
           record {
             capacity = (size_of s n x at room, few s.mc x (slice_get s.formats x.format) old.format);
-            extended = extends_by s.mc mset can.extends;
+            extended = extends_by format.ms s.mc mset can.extends;
           }
 
       named : (q : ℕ) (y : Namespace) (b : Bool) → (q == n) ≡ b
@@ -124,7 +121,7 @@ module _ (format : Format) (lbaf : ℕ) (mset : Bool) where
           subst (λ m. IsNamespace to m y) here (subst (IsNamespace to n) same (record {
             nsid = old.nsid;
             format = subst (λ o. IsSomeAnd o (λ f. IsInFormat s.mc f (as_format x)))
-                (sym can.found) in_format;
+                (sym can.found) fits_format;
             private = old.private;
           }))
       named q y false is e = let old = w.namespaces q y e in
@@ -176,21 +173,26 @@ none_passes p (n ∷ ns) h = both (p n) (list_any p ns) h (none_passes p ns)
 
 -- ---- a format
 
+pub formatted_each : (lbaf : ℕ) (mset : Bool) (ns : List ℕ) (m : Namespaces)
+    → fold (with_format lbaf mset) m ns ≡ changed_at_keys ns (in_format lbaf mset) m
+formatted_each lbaf mset ns m = folded nat_cmp_total nat_cmp-IsAntisymmetric (in_format lbaf mset) (λ x. refl) ns m
+
 format_by : (s : State) (ns : List ℕ) (f : NewFormat) (o : Option Format)
     → slice_get s.formats f.lbaf ≡ o
     → option_map_or (λ format. may_extend s.mc format f.mset) o false ≡ true
     → option_map_or (λ format. list_any (is_below s (2 ^ format.lbads)) ns) o false ≡ false
     → IsWellFormed s
     → IsWellFormed
-    (record s { namespaces = fold (with_format f.lbaf f.mset) s.namespaces ns })
+    (record s { namespaces = changed_at_keys ns (in_format f.lbaf f.mset) s.namespaces })
 format_by s ns f None at can room w = absurd (cc can)
 format_by s ns f (Some format) at can room w =
-    all_keep format f.lbaf f.mset ns s (record { found = at; extends = can })
-    (none_passes (is_below s (2 ^ format.lbads)) ns room) w
+    subst (λ m. IsWellFormed (record s { namespaces = m })) (formatted_each f.lbaf f.mset ns s.namespaces)
+    (all_keep format f.lbaf f.mset ns s (record { found = at; extends = can })
+    (none_passes (is_below s (2 ^ format.lbads)) ns room) w)
 
 pub format_keeps : (s : State) (c n : ℕ) (f : NewFormat) → IsWellFormed s
     → first_refusal (format_rows s c n f) ≡ None → IsWellFormed (formatted s c n f)
 format_keeps s c n f w accepted =
     let rows = none_holds (format_rows s c n f) accepted in
-    format_by s (concerned s c n) f (slice_get s.formats f.lbaf) refl
-    (not_false (is_possible s f) rows.1.1.0) rows.1.1.1.1.0 w
+    format_by s (concerned s c n) f (format_at s f.lbaf) refl
+    (not_false (can_have s f.lbaf f.mset) rows.1.1.0) rows.1.1.1.1.0 w

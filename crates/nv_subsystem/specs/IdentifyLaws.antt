@@ -1,5 +1,5 @@
 -- What Identify says of a namespace fits its record.
-use Rattle.std.proofs.Common.{◌≡◌, ◌∙◌, ℕ, zero, suc, ◌+◌, ◌-◌, ◌/◌, ◌<◌, ◌≤◌, ◌^◌, refl, arith, lit<, Bool, true, false, List, [], ◌∷◌, ◌++◌, length, map, get_or, Option, Some, None}
+use Rattle.std.proofs.Common.{◌≡◌, ◌∙◌, ℕ, zero, suc, ◌+◌, ◌-◌, ◌/◌, ◌<◌, ◌≤◌, ◌^◌, refl, arith, lit<, true, false, List, [], ◌∷◌, ◌++◌, length, map, get_or, Option, Some, None}
 use Rattle.std.specs.Prelude.{All, replicate, slice_get, if◌then◌else◌}
 use Rattle.std.specs.List.{AllByRecursion}
 use Rattle.std.specs.Option.{option_map_or}
@@ -7,6 +7,7 @@ use Rattle.std.proofs.lemmas.List.{length-append, length-map, length-replicate}
 use native.Mathlib.Nat.{div-le_self}
 use Rattle.nv_layout.specs.IdNs.{IdNsFits, LbafFits}
 use Rattle.nv_file.specs.Ranges.{IsFormat}
+use Rattle.nv_subsystem.specs.ChoiceLaws.{chosen_fits}
 use Rattle.nv_subsystem.specs.Identify.{blank, common_of, id_ns_of, flbas_of, lbaf_of, lbafs_of, no_lbaf}
 use Rattle.nv_file.specs.declared.format.Format.{Format}
 use Rattle.nv_file.specs.declared.namespace.Namespace.{Namespace}
@@ -70,10 +71,6 @@ blocks_of (Some f) capacity h = omega (arith, div-le_self capacity (2 ^ f.lbads)
 flbas_fits : (x : Namespace) → x.format < 16 → flbas_of x < 2 ^ 8
 flbas_fits x h = elim x.extended as (λ b. x.format + (if b then 16 else 0) < 2 ^ 8) [ true ↦ omega arith | false ↦ omega arith ]
 
-nmic_fits : (b : Bool) → (if b then 1 else 0) < 2 ^ 8
-nmic_fits true = lit< tt
-nmic_fits false = lit< tt
-
 pub id_ns_fits : (fs : List Format) (mc : ℕ) (x : Namespace) → mc ≤ 3 → length fs ≤ 16 → All IsFormat fs → x.format < 16 → x.capacity < 2 ^ 64 → IdNsFits (id_ns_of fs mc x)
 id_ns_fits fs mc x m few h f c =
     let common = common_fits fs mc m few h in
@@ -88,7 +85,7 @@ id_ns_fits fs mc x m few h f c =
       mc = common.mc;
       dpc = common.dpc;
       dps = common.dps;
-      nmic = nmic_fits x.shared;
+      nmic = chosen_fits (λ n. n < 2 ^ 8) x.shared 1 0 (lit< tt) (lit< tt);
       nvmcap = omega arith;
       formats = common.formats;
       each_format = common.each_format;

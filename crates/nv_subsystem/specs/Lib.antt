@@ -8,9 +8,15 @@ pub mod ValueTable
 pub mod Supported
 pub mod State
 pub mod StateCode
+pub mod Formats
+pub mod ChangedKeys
+pub mod ChangedKeysLaws
+pub mod ChoiceLaws
 pub mod Capacity
 pub mod Nsid
 pub mod Identify
+pub mod IdentifyController
+pub mod Logs
 pub mod Management
 pub mod Format
 pub mod Features
@@ -35,8 +41,10 @@ pub mod MappedLaws
 pub mod ManagementLaws
 pub mod AttachmentLaws
 pub mod FormatLaws
+pub mod LogLaws
 pub mod StepLaws
 pub mod IdentifyLaws
+pub mod IdentifyControllerLaws
 pub mod ListLaws
 pub mod InFormatLaws
 pub mod ReplyLaws

@@ -1,15 +1,14 @@
 -- Namespace Management: when a create or a delete is refused, what it answers, and what it changes.
-use Rattle.std.specs.Prelude.{ℕ, ◌*◌, ◌-◌, ◌^◌, ◌==◌, ◌||◌, not, min, nat_lt, bit_and, Bool, false, List, [], ◌∷◌, Option, is_some, unwrap_or, slice_get, if◌then◌else◌, map}
+use Rattle.std.specs.Prelude.{ℕ, ◌*◌, ◌-◌, ◌^◌, ◌==◌, ◌||◌, not, min, nat_lt, bit_and, Bool, List, [], ◌∷◌, is_some, unwrap_or, if◌then◌else◌, map}
 use Rattle.std.specs.Option.{option_map_or}
 use Rattle.std.specs.FinMap as map_of
 use Rattle.nv_command.specs.StatusCode.{status_of_code}
 use Rattle.nv_command.specs.declared.command.TheConstants.{BROADCAST_NSID}
 use Rattle.nv_command.specs.declared.refusal.Refusal.{Refusal}
 use Rattle.nv_command.specs.declared.status_code.StatusCode.TheVariants.{InvalidFieldInCommand, InvalidFormat, InvalidNamespaceOrFormat, NamespaceIdentifierUnavailable, NamespaceInsufficientCapacity, ThinProvisioningNotSupported}
-use Rattle.nv_file.specs.Tables.{may_extend}
-use Rattle.nv_file.specs.declared.format.Format.{Format}
 use Rattle.nv_file.specs.declared.namespace.Namespace.{Namespace}
 use Rattle.nv_subsystem.specs.Capacity.{unallocated}
+use Rattle.nv_subsystem.specs.Formats.{can_have, format_at}
 use Rattle.nv_subsystem.specs.Nsid.{free_nsid, is_allocated, is_valid}
 use Rattle.nv_subsystem.specs.Row.{row}
 use Rattle.nv_subsystem.specs.State.{Controller, Nsids, State}
@@ -28,22 +27,17 @@ wanted nsze ncap flbas dps nmic = record {
   nmic = nmic;
 }
 
--- the format that FLBAS 3:0 names
-abbrev pub format_in : State → ℕ → Option Format
-format_in s flbas = slice_get s.formats (bit_and flbas 0xf)
+-- FLBAS 3:0: the index of the format
+abbrev pub format_index : ℕ → ℕ
+format_index flbas = bit_and flbas 0xf
 
 -- FLBAS bit 4: metadata lies at the end of each logical block
 abbrev pub is_extended : ℕ → Bool
 is_extended flbas = not (bit_and flbas 0x10 == 0)
 
--- the table has the format, and metadata can lie there
-abbrev pub can_have : State → ℕ → Bool
-can_have s flbas =
-    option_map_or (λ f. may_extend s.mc f (is_extended flbas)) (format_in s flbas) false
-
 -- the bytes of NSZE logical blocks; metadata isn't counted
 abbrev pub bytes_needed : State → NewNamespace → ℕ
-bytes_needed s w = option_map_or (λ f. w.nsze * 2 ^ f.lbads) (format_in s w.flbas) 0
+bytes_needed s w = option_map_or (λ f. w.nsze * 2 ^ f.lbads) (format_at s (format_index w.flbas)) 0
 
 -- too little capacity: the bytes that are needed are told, up to the greatest number of 64 bits
 abbrev pub capacity_refusal : ℕ → Refusal
@@ -54,7 +48,7 @@ capacity_refusal bytes = record {
 
 abbrev pub create_rows : State → NewNamespace → List Row
 create_rows s w =
-    row (not (can_have s w.flbas)) InvalidFormat
+    row (not (can_have s (format_index w.flbas) (is_extended w.flbas))) InvalidFormat
     ∷ row (not (w.dps == 0)) InvalidFieldInCommand
     ∷ row (w.nsze == 0) InvalidFieldInCommand
     ∷ row (nat_lt w.ncap w.nsze) ThinProvisioningNotSupported
@@ -70,7 +64,7 @@ create_rows s w =
 abbrev pub new_namespace : State → NewNamespace → Namespace
 new_namespace s w = record {
   capacity = bytes_needed s w;
-  format = bit_and w.flbas 0xf;
+  format = format_index w.flbas;
   extended = is_extended w.flbas;
   shared = bit_and w.nmic 1 == 1;
 }

@@ -20,7 +20,9 @@ use Rattle.nv_command.specs.RefusalLaws.{is_refusal-refusal_by}
 use Rattle.nv_command.specs.declared.command.TheConstants.{BROADCAST_NSID}
 use Rattle.nv_command.specs.declared.status_code.StatusCode.TheVariants.{NamespaceInsufficientCapacity}
 use Rattle.nv_subsystem.specs.Capacity.{unallocated, used}
-use Rattle.nv_subsystem.specs.Management.{Attached, bytes_needed, capacity_refusal, create_rows, created, created_nsid, delete_rows, deleted, format_in, is_extended, new_namespace, with_attached, with_nsids, without, without_all, without_any, without_one}
+use Rattle.nv_subsystem.specs.ChoiceLaws.{not_false}
+use Rattle.nv_subsystem.specs.Formats.{format_at}
+use Rattle.nv_subsystem.specs.Management.{Attached, bytes_needed, capacity_refusal, create_rows, created, created_nsid, delete_rows, deleted, format_index, is_extended, new_namespace, with_attached, with_nsids, without, without_all, without_any, without_one}
 use Rattle.nv_subsystem.specs.FeatureLaws.{values-without, values-without_any}
 use Rattle.nv_subsystem.specs.MappedLaws.{count_by-map_le, none_pass, pairs_map, untrue}
 use Rattle.nv_subsystem.specs.Nsid.{free_nsid, is_allocated}
@@ -100,10 +102,11 @@ none_of : (o : Option Namespace) → is_some o ≡ false → o ≡ None
 none_of None e = refl
 none_of (Some x) e = absurd (cc e)
 
-both : (ms mc : ℕ) (e : Bool) → (not e || (nat_lt 0 ms && (bit_and mc 1 == 1))) ≡ true → e ≡ true
+-- what lets metadata lie at the end of logical blocks
+pub extends_by : (ms mc : ℕ) (e : Bool) → (not e || (nat_lt 0 ms && (bit_and mc 1 == 1))) ≡ true → e ≡ true
     → (0 < ms) × (bit_and mc 1 ≡ 1)
-both ms mc true h e = grind (arith, nat_tests)
-both ms mc false h e = absurd (cc e)
+extends_by ms mc true h e = grind (arith, nat_tests)
+extends_by ms mc false h e = absurd (cc e)
 
 some_blocks : (n b : ℕ) → 0 < n → b ≤ n * b
 some_blocks n b h = grind arith
@@ -119,12 +122,8 @@ in_format mc bytes nsze format extended shared (Some f) h some is few =
     let can : may_extend mc f extended ≡ true = not_false (may_extend mc f extended) h in
     record {
       capacity = (omega (arith, some_blocks nsze (2 ^ f.lbads) some), omega arith);
-      extended = both f.ms mc extended can;
+      extended = extends_by f.ms mc extended can;
     }
-  where
-    not_false : (b : Bool) → not b ≡ false → b ≡ true
-    not_false true h = refl
-    not_false false h = absurd (cc h)
 
 -- no controller has an NSID attached that no namespace has
 none_attached : (s : State) (n : ℕ) → IsWellFormed s → is_allocated s n ≡ false
@@ -199,7 +198,7 @@ create_by s w (Some n) e well accepted =
         subst (IsNamespace _ q) same (record {
           nsid = (omega (arith, free.0.0), omega (arith, free.0.1));
           format = in_format s.mc (bytes_needed s w) w.nsze (bit_and w.flbas 0xf)
-              (is_extended w.flbas) (new_namespace s w).shared (format_in s w.flbas) rows.0
+              (is_extended w.flbas) (new_namespace s w).shared (format_at s (format_index w.flbas)) rows.0
               (blocks rows.1.1.0) refl (omega (arith, fits, well.keys.tnvmcap));
           private = λ p. omega (arith, none_attached s q well (ap (is_allocated s) here ∙ free.1));
         })

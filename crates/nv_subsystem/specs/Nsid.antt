@@ -1,8 +1,10 @@
 -- The NSIDs of a subsystem.
-use Rattle.std.specs.Prelude.{ℕ, ◌&&◌, not, nat_le, List, [], Bool, false, Option}
+use Rattle.std.specs.Prelude.{ℕ, ◌==◌, ◌&&◌, not, nat_le, List, [], ◌∷◌, Bool, false, Option, if◌then◌else◌}
 use Rattle.std.specs.List.{find, range_with_len}
 use Rattle.std.specs.Option.{option_map_or}
 use Rattle.std.specs.FinMap as map_of
+use Rattle.nv_bits.specs.Numbers.{above}
+use Rattle.nv_command.specs.declared.command.TheConstants.{BROADCAST_NSID}
 use Rattle.nv_subsystem.specs.State.{State, controller_at, ascending}
 
 -- an NSID that a namespace of the subsystem could have
@@ -15,6 +17,10 @@ active_nsids s c = option_map_or (λ x. ascending x.attached) (controller_at s c
 
 abbrev pub is_active : State → ℕ → ℕ → Bool
 is_active s c n = option_map_or (λ x. map_of.contains_key x.attached n) (controller_at s c) false
+
+-- the NSIDs that a command concerns: for the broadcast one all that are active on the controller
+abbrev pub concerned : State → ℕ → ℕ → List ℕ
+concerned s c n = if n == BROADCAST_NSID then above 0 (active_nsids s c) else n ∷ []
 
 -- an NSID that a namespace has
 abbrev pub is_allocated : State → ℕ → Bool

@@ -1,15 +1,18 @@
 -- What an accepted command is answered.
 use Rattle.std.specs.Prelude.{ℕ}
 use Rattle.nv_command.specs.declared.command.Command.{Command}
-use Rattle.nv_command.specs.declared.command.Command.TheVariants.{IdentifyNamespace, AllocatedNamespace, ActiveList, AllocatedList, Create, Delete, Attachment, Format, GetFeature, SetFeature}
+use Rattle.nv_command.specs.declared.command.Command.TheVariants.{IdentifyController, IdentifyNamespace, AllocatedNamespace, ActiveList, AllocatedList, Create, Delete, Attachment, Format, GetFeature, SetFeature, GetLog}
 use Rattle.nv_command.specs.declared.reply.Reply.{Reply}
 use Rattle.nv_subsystem.specs.Features.{feature_number}
 use Rattle.nv_subsystem.specs.Identify.{active_list_reply, active_reply, allocated_list_reply, allocated_reply}
 use Rattle.nv_command.specs.declared.reply.Reply.TheVariants as reply
+use Rattle.nv_subsystem.specs.IdentifyController.{controller_reply}
+use Rattle.nv_subsystem.specs.Logs.{log_reply}
 use Rattle.nv_subsystem.specs.Management.{created_nsid}
 use Rattle.nv_subsystem.specs.State.{State}
 
 abbrev pub reply_of : State → ℕ → Command → Reply
+reply_of s c IdentifyController = controller_reply s c
 reply_of s c (IdentifyNamespace n) = active_reply s c n
 reply_of s c (AllocatedNamespace n) = allocated_reply s n
 reply_of s c (ActiveList after) = active_list_reply s c after
@@ -20,3 +23,4 @@ reply_of s c (Attachment n detach ids) = reply.Done
 reply_of s c (Format n lbaf mset pi pil ses) = reply.Done
 reply_of s c (GetFeature fid sel n) = reply.Number (feature_number s c fid sel n)
 reply_of s c (SetFeature fid value save n) = reply.Done
+reply_of s c (GetLog lid n offset dwords) = log_reply s c lid

@@ -5,8 +5,12 @@ use Rattle.std.specs.Option.{option_map_or}
 use Rattle.std.proofs.lemmas.Option.{get_or_from_slice_get, slice_get_within}
 use Rattle.nv_layout.specs.IdNs.{IdNsFits}
 use Rattle.std.specs.Prelude.{if◌then◌else◌, slice_get}
-use Rattle.nv_command.specs.Reply.{IsNsidList}
+use Rattle.nv_command.specs.Logs.{is_error_log}
+use Rattle.nv_command.specs.Reply.{FitsRecord, IsLog, IsNsidList}
+use Rattle.nv_command.specs.declared.reply.Reply.{Reply}
+use Rattle.nv_command.specs.declared.reply.Reply.TheVariants as reply
 use Rattle.nv_command.specs.declared.command.TheConstants.{BROADCAST_NSID}
+use Rattle.nv_subsystem.specs.ChoiceLaws.{chosen_fits}
 use Rattle.nv_subsystem.specs.Fits.{RepliesFit}
 use Rattle.nv_subsystem.specs.Identify.{blank, id_ns_of}
 use Rattle.nv_bits.specs.Numbers.{above}
@@ -14,10 +18,13 @@ use Rattle.nv_subsystem.specs.ManagementLaws.{created_nsid_fits}
 use Rattle.nv_subsystem.specs.Nsid.{is_active}
 use Rattle.nv_subsystem.specs.State.{Controller, State, ascending, controller_at}
 use Rattle.nv_subsystem.specs.WellFormed.{IsController, IsWellFormed}
-use Rattle.nv_command.specs.declared.command.Command.TheVariants.{IdentifyNamespace, AllocatedNamespace, ActiveList, AllocatedList, Create, Delete, Attachment, Format, GetFeature, SetFeature}
+use Rattle.nv_command.specs.declared.command.Command.TheVariants.{IdentifyController, IdentifyNamespace, AllocatedNamespace, ActiveList, AllocatedList, Create, Delete, Attachment, Format, GetFeature, SetFeature, GetLog}
 use Rattle.nv_file.specs.declared.namespace.Namespace.{Namespace}
 use Rattle.nv_subsystem.specs.SetFeatureLaws.{feature_number_fits}
 use Rattle.nv_subsystem.specs.IdentifyLaws.{blank_fits, common_fits, id_ns_fits}
+use Rattle.nv_subsystem.specs.IdentifyControllerLaws.{id_ctrl_fits}
+use Rattle.nv_subsystem.specs.LogLaws.{errors_fit, smart_fits}
+use Rattle.nv_subsystem.specs.Logs.{errors_at, smart_at}
 use Rattle.nv_subsystem.specs.InFormatLaws.{capacity_fits, format_below}
 use Rattle.nv_subsystem.specs.ListLaws.{keys_fit}
 
@@ -32,9 +39,8 @@ allocated_fits s w n (Some x) e =
     let is = w.namespaces n x e in
     id_ns_fits s.formats s.mc x w.keys.mc w.format_count.1 w.formats (omega (arith, format_below s.mc x s.formats is.format, w.format_count.1)) (capacity_fits s.mc x (slice_get s.formats x.format) is.format)
 
-chosen_fits : (b : Bool) (r q : _) → IdNsFits r → IdNsFits q → IdNsFits (if b then r else q)
-chosen_fits true r q a b = a
-chosen_fits false r q a b = b
+abbrev ReplyIs : (Reply → Type 0) → Reply → Type 0
+ReplyIs is r = is r × FitsRecord r
 
 list_fits : (s : State) (after : ℕ) → IsWellFormed s → (o : Option Controller) → ((x : Controller) → o ≡ Some x → IsController s.namespaces x) → IsNsidList (above after (option_map_or (λ x. ascending x.attached) o []))
 list_fits s after w None is = record { count = omega arith; numbers = tt }
@@ -42,16 +48,31 @@ list_fits s after w (Some x) is =
     let c = is x refl in
     keys_fit after s.nn x.attached w.keys.nn.1 (λ n t. inside s w n (map_of.get s.namespaces n) refl (c.attached n t))
 
+logs_fit : (s : State) (c : ℕ) (is_errors : Bool)
+    → ((x : Controller) → controller_at s c ≡ Some x → IsController s.namespaces x)
+    → ReplyIs (IsLog is_errors) (if is_errors then reply.Errors (errors_at s c) else reply.Smart (smart_at s c))
+logs_fit s c true is = (tt, errors_fit s.namespaces (controller_at s c) is)
+logs_fit s c false is = (tt, smart_fits s.namespaces (controller_at s c) is)
+
+is_controller : (s : State) (c : ℕ) → IsWellFormed s → (x : Controller) → controller_at s c ≡ Some x
+    → IsController s.namespaces x
+is_controller s c w x e = subst (IsController s.namespaces) (get_or_from_slice_get s.controllers c x x e)
+    (w.controllers c x (slice_get_within s.controllers c x e))
+
 pub reply_fits : RepliesFit
+reply_fits s c IdentifyController w = record {
+  is_reply = tt;
+  fits = id_ctrl_fits s w (controller_at s c) (is_controller s c w);
+}
 reply_fits s c (IdentifyNamespace n) w = record {
   is_reply = tt;
-  fits = chosen_fits (n == BROADCAST_NSID) _ _ (common_fits s.formats s.mc w.keys.mc w.format_count.1 w.formats)
-      (chosen_fits (is_active s c n) _ _ (allocated_fits s w n (map_of.get s.namespaces n) refl) blank_fits);
+  fits = chosen_fits IdNsFits (n == BROADCAST_NSID) _ _ (common_fits s.formats s.mc w.keys.mc w.format_count.1 w.formats)
+      (chosen_fits IdNsFits (is_active s c n) _ _ (allocated_fits s w n (map_of.get s.namespaces n) refl) blank_fits);
 }
 reply_fits s c (AllocatedNamespace n) w = record { is_reply = tt; fits = allocated_fits s w n (map_of.get s.namespaces n) refl }
 reply_fits s c (ActiveList after) w = record {
   is_reply = tt;
-  fits = list_fits s after w (controller_at s c) (λ x e. subst (IsController s.namespaces) (get_or_from_slice_get s.controllers c x x e) (w.controllers c x (slice_get_within s.controllers c x e)));
+  fits = list_fits s after w (controller_at s c) (is_controller s c w);
 }
 reply_fits s c (AllocatedList after) w = record {
   is_reply = tt;
@@ -63,3 +84,6 @@ reply_fits s c (Attachment n detach ids) w = record { is_reply = tt; fits = tt }
 reply_fits s c (Format n lbaf mset pi pil ses) w = record { is_reply = tt; fits = tt }
 reply_fits s c (GetFeature fid sel n) w = record { is_reply = tt; fits = feature_number_fits s c fid sel n w }
 reply_fits s c (SetFeature fid value save n) w = record { is_reply = tt; fits = tt }
+reply_fits s c (GetLog lid n offset dwords) w =
+    let fits = logs_fit s c (is_error_log lid) (is_controller s c w) in
+    record { is_reply = fits.0; fits = fits.1 }

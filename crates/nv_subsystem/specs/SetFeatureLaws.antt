@@ -1,5 +1,5 @@
 -- Get Features and Set Features leave a well-formed subsystem well formed, and their replies fit.
-use Rattle.std.proofs.Common.{rules, ◌≡◌, ◌∙◌, ℕ, ◌+◌, ◌==◌, ◌<◌, ◌^◌, ◌&&◌, Bool, true, false, not, List, [], ◌∷◌, length, Option, Some, None, is_some, refl, sym, ap, subst, arith, lit<, bit_and}
+use Rattle.std.proofs.Common.{rules, ◌≡◌, ◌∙◌, ℕ, ◌+◌, ◌==◌, ◌<◌, ◌^◌, ◌&&◌, Bool, true, false, List, [], ◌∷◌, length, Option, Some, None, is_some, refl, sym, ap, subst, arith, lit<, bit_and, map}
 use Rattle.std.specs.Prelude.{if◌then◌else◌, unwrap_or}
 use Rattle.std.specs.List.{fold}
 use Rattle.std.specs.Option.{option_map_or}
@@ -12,7 +12,13 @@ use Rattle.nv_layout.specs.declared.feature.Feature.{Feature}
 use Rattle.nv_layout.specs.declared.feature.Feature.TheVariants as feature
 use Rattle.nv_file.specs.declared.feature_rule.FeatureRule.{FeatureRule}
 use Rattle.nv_command.specs.RefusalLaws.{is_refusal-refusal_by}
+use Rattle.std.proofs.lemmas.List.Folds.{fold-map}
+use Rattle.std.specs.Cmp.Lexicographic.{nat_list_cmp_total}
+use Rattle.std.specs.FinMap.{nat_cmp-IsAntisymmetric, slice_cmp-IsAntisymmetric}
+use Rattle.nv_subsystem.specs.ChangedKeys.{changed_at_keys}
+use Rattle.nv_subsystem.specs.ChangedKeysLaws.{folded}
 use Rattle.nv_subsystem.specs.ChangedAtLaws.{length-changed_at}
+use Rattle.nv_subsystem.specs.ChoiceLaws.{chosen_fits, not_false}
 use Rattle.nv_subsystem.specs.FeatureLaws.{accepted_at, default_accepted, feature_at, values-written}
 use Rattle.nv_subsystem.specs.Features.{changed_nsids, feature_number, get_feature_rows, get_rows, selected, set_feature_rows, set_rows, supported_at, told, with_feature, with_value, with_values}
 use Rattle.nv_subsystem.specs.FeatureValue.{written}
@@ -82,6 +88,18 @@ module _ (f : Feature) (value : ℕ) (save : Bool) (fits : is_accepted f value �
   all_values [] values are = are
   all_values (n ∷ ns) values are = all_values ns (with_value f value save values n) (one_value values n are)
 
+pub written_each : (f : Feature) (value : ℕ) (save : Bool) (ns : List ℕ) (values : FeatureValues)
+    → fold (with_value f value save) values ns ≡ changed_at_keys (map (key_of f) ns) (written value save) values
+written_each f value save ns values =
+    sym (fold-map (λ m k. option_map_or (λ x. map_of.insert m k (written value save x)) (map_of.get m k) m)
+    (key_of f) values ns)
+    ∙ folded nat_list_cmp_total (slice_cmp-IsAntisymmetric nat_cmp-IsAntisymmetric) (written value save)
+    (twice save) (map (key_of f) ns) values
+  where
+    twice : (b : Bool) (x : FeatureValue) → written value b (written value b x) ≡ written value b x
+    twice true x = refl
+    twice false x = refl
+
 set_keeps : (f : Feature) (value : ℕ) (save : Bool) (ns : List ℕ) → is_accepted f value ≡ true
     → Keeps (with_values f value save ns)
 set_keeps f value save ns fits = record {
@@ -96,13 +114,10 @@ set_keeps f value save ns fits = record {
     refusals = h.refusals;
     commands = h.commands;
     attached = h.attached;
-    values = all_values f value save fits x.identity.numbers.vwc x.attached ns x.values h.values;
+    values = subst (AreValues x.identity.numbers.vwc x.attached) (written_each f value save ns x.values)
+        (all_values f value save fits x.identity.numbers.vwc x.attached ns x.values h.values);
   };
 }
-
-not_false : (b : Bool) → not b ≡ false → b ≡ true
-not_false true h = refl
-not_false false h = absurd (cc h)
 
 -- an accepted set gives a value that the feature accepts
 module _ (s : State) (c fid value : ℕ) (save : Bool) (n : ℕ) (f : Feature) where
@@ -172,10 +187,6 @@ value_fits f v e =
     is_same : (a b : ℕ) → (a == b) ≡ true → a ≡ b
     is_same a b e = grind (arith, nat_tests)
 
-chosen_fits : (b : Bool) (x y : ℕ) → x < 2 ^ 32 → y < 2 ^ 32 → (if b then x else y) < 2 ^ 32
-chosen_fits true x y h k = h
-chosen_fits false x y h k = k
-
 capabilities_fit : (a b c : Bool)
     → (if a then 1 else 0) + (if b then 2 else 0) + (if c then 4 else 0) < 2 ^ 32
 capabilities_fit true true true = lit< tt
@@ -191,9 +202,9 @@ selected_fits : (rule : FeatureRule) (f : Feature) (sel : ℕ) (x : FeatureValue
     → accepts f x ≡ true → selected rule f sel x < 2 ^ 32
 selected_fits rule f sel x default is =
     let parts = and_parts (is_accepted f x.current) (option_map_or (is_accepted f) x.saved true) is in
-    chosen_fits (sel == 0) _ _ (value_fits f x.current parts.0)
-    (chosen_fits (sel == 1) _ _ (value_fits f rule.default default)
-    (chosen_fits (sel == 2) _ _ (saved_fits x.saved parts.1)
+    chosen_fits (λ n. n < 2 ^ 32) (sel == 0) _ _ (value_fits f x.current parts.0)
+    (chosen_fits (λ n. n < 2 ^ 32) (sel == 1) _ _ (value_fits f rule.default default)
+    (chosen_fits (λ n. n < 2 ^ 32) (sel == 2) _ _ (saved_fits x.saved parts.1)
     (capabilities_fit rule.saveable (row_of f).per_namespace rule.changeable)))
   where
     saved_fits : (o : Option ℕ) → option_map_or (is_accepted f) o true ≡ true

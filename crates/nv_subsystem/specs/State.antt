@@ -8,7 +8,7 @@ use Rattle.nv_layout.specs.declared.feature.Feature.{Feature}
 use Rattle.nv_file.specs.Identity.{Identity}
 use Rattle.nv_subsystem.specs.FeatureValue.{default_rule}
 use Rattle.nv_subsystem.specs.ValueTable.{FeatureValues}
-use Rattle.nv_subsystem.specs.declared.error_log.LogEntry.{LogEntry}
+use Rattle.nv_layout.specs.declared.error_entry.ErrorEntry.{ErrorEntry}
 use Rattle.nv_file.specs.declared.feature_rule.FeatureRule.{FeatureRule}
 use Rattle.nv_file.specs.declared.format.Format.{Format}
 use Rattle.nv_file.specs.declared.namespace.Namespace.{Namespace}
@@ -29,13 +29,13 @@ FeatureRules = map_of.FinMap nat_cmp FeatureRule
 abbrev pub rule_of : FeatureRules → Feature → FeatureRule
 rule_of rules f = unwrap_or (map_of.get rules (row_of f).fid) (default_rule (row_of f).fid)
 
--- a controller: what its file table gives, its error log newest first, how many commands it refused and
--- how many it took, the NSIDs that are attached to it, and the values of its features
+-- a controller: what its file table gives, its error log newest first and without phase tags, how many
+-- commands it refused and how many it took, the NSIDs that are attached to it, and the values of its features
 pub record Controller : Type 0 where
   pub identity : Identity
   pub rules : FeatureRules
   pub smart : SmartBase
-  pub log : List LogEntry
+  pub log : List ErrorEntry
   pub refusals : ℕ
   pub commands : ℕ
   pub attached : Nsids

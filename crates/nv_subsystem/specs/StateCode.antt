@@ -7,7 +7,7 @@ use Rattle.nv_subsystem.specs.ErrorLog.{entry_code}
 use Rattle.nv_file.specs.Identity.{Identity}
 use Rattle.nv_subsystem.specs.State.{Controller, FeatureRules, State, Namespaces, Nsids}
 use Rattle.nv_subsystem.specs.ValueTable.{FeatureValues, feature_values_code}
-use Rattle.nv_subsystem.specs.declared.error_log.LogEntry.{LogEntry}
+use Rattle.nv_layout.specs.declared.error_entry.ErrorEntry.{ErrorEntry}
 use Rattle.nv_file.specs.declared.smart_base.Counters.{Counters}
 use Rattle.nv_file.specs.declared.feature_rule.FeatureRule.{FeatureRule}
 use Rattle.nv_file.specs.declared.format.Format.{Format}
@@ -58,7 +58,7 @@ smart_code = code_by (ℕ × (ℕ × (ℕ × (ℕ × (ℕ × (Counters × (ℕ �
     (λ p. record { critical_warning = p.0; temperature = p.1.0; avail_spare = p.1.1.0; spare_thresh = p.1.1.1.0; percent_used = p.1.1.1.1.0; counters = p.1.1.1.1.1.0; warning_temp_time = p.1.1.1.1.1.1.0; critical_comp_time = p.1.1.1.1.1.1.1.0; sensors = p.1.1.1.1.1.1.1.1 }) (λ _. refl)
 
 abbrev pub controller_code : Coded Controller
-controller_code = code_by (Identity × (FeatureRules × (SmartBase × (List LogEntry × (ℕ × (ℕ × (Nsids × FeatureValues)))))))
+controller_code = code_by (Identity × (FeatureRules × (SmartBase × (List ErrorEntry × (ℕ × (ℕ × (Nsids × FeatureValues)))))))
     (coded× identity_code (coded× (map_of.code coded_ℕ rule_code) (coded× smart_code (coded× (coded_list entry_code) (coded× coded_ℕ (coded× coded_ℕ (coded× (set_of.code coded_ℕ) feature_values_code)))))))
     (λ x. (x.identity, (x.rules, (x.smart, (x.log, (x.refusals, (x.commands, (x.attached, x.values))))))))
     (λ p. record { identity = p.0; rules = p.1.0; smart = p.1.1.0; log = p.1.1.1.0; refusals = p.1.1.1.1.0; commands = p.1.1.1.1.1.0; attached = p.1.1.1.1.1.1.0; values = p.1.1.1.1.1.1.1 }) (λ _. refl)

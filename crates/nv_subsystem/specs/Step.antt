@@ -2,30 +2,21 @@
 use Rattle.std.specs.Prelude.{ℕ, ◌+◌, ◌%◌, min, ◌∷◌, take, Option, Some, None, Result, Ok, Err}
 use Rattle.nv_layout.specs.declared.status.Status.{Status}
 use Rattle.nv_command.specs.Command.{namespace_of}
+use Rattle.nv_command.specs.Logs.{without_phases}
 use Rattle.nv_command.specs.declared.command.Command.{Command}
 use Rattle.nv_command.specs.declared.refusal.Refusal.{Refusal}
 use Rattle.nv_command.specs.declared.reply.Reply.{Reply}
 use Rattle.nv_subsystem.specs.Effect.{effect_of}
+use Rattle.nv_subsystem.specs.ErrorLog.{log_entry}
 use Rattle.nv_subsystem.specs.Refusal.{refusal_of}
 use Rattle.nv_subsystem.specs.Reply.{reply_of}
 use Rattle.nv_subsystem.specs.State.{Controller, State, with_controller}
 use Rattle.nv_subsystem.specs.declared.controller.TheConstants.{GREATEST_COUNT}
-use Rattle.nv_subsystem.specs.declared.error_log.LogEntry.{LogEntry}
 use Rattle.nv_subsystem.specs.declared.origin.TheConstants.{SERIALS}
 
 -- one more, up to the greatest count
 abbrev pub next_count : ℕ → ℕ
 next_count n = min (n + 1) GREATEST_COUNT
-
--- the entry of a refusal in the error log
-abbrev pub log_entry : ℕ → ℕ → ℕ → Refusal → LogEntry
-log_entry count cid nsid r = record {
-  count = count;
-  cid = cid;
-  status = r.status;
-  nsid = nsid;
-  specific = r.specific;
-}
 
 -- a controller with one refusal more: the newest entry stands first, and ELPE + 1 are kept
 abbrev pub with_refusal : ℕ → ℕ → Refusal → Controller → Controller
@@ -48,6 +39,11 @@ with_command s c = with_controller s c (λ x. record x { commands = next_count x
 abbrev pub answer_by : Option Refusal → Reply → Result Reply Refusal
 answer_by None reply = Ok reply
 answer_by (Some r) reply = Err r
+
+-- the same, where entries of logs that differ in the phase tag alone count as the same
+abbrev pub answer_without_phases : Result Reply Refusal → Result Reply Refusal
+answer_without_phases (Ok reply) = Ok (without_phases reply)
+answer_without_phases (Err r) = Err r
 
 abbrev pub answer_to : State → ℕ → Command → Result Reply Refusal
 answer_to s c k = answer_by (refusal_of s c k) (reply_of s c k)

@@ -1,5 +1,5 @@
 -- A command leaves a well-formed subsystem well formed.
-use Rattle.std.proofs.Common.{◌≡◌, ◌∙◌, ℕ, ◌+◌, ◌<◌, ◌≤◌, ◌^◌, refl, subst, arith, suc, Bool, true, false, List, [], ◌∷◌, length, take, Option, Some, None, min}
+use Rattle.std.proofs.Common.{◌≡◌, ◌∙◌, ℕ, ◌+◌, ◌<◌, ◌≤◌, ◌^◌, lit<, refl, subst, arith, suc, Bool, true, false, List, [], ◌∷◌, length, take, Option, Some, None, min}
 use Rattle.std.proofs.lemmas.List.{length-take}
 use Rattle.std.proofs.lemmas.List.Elements.{All-cons, All-take}
 use Rattle.std.specs.Prelude.{All, if◌then◌else◌}
@@ -8,22 +8,25 @@ use Rattle.nv_subsystem.specs.State.{State}
 use Rattle.nv_subsystem.specs.declared.controller.TheConstants.{GREATEST_COUNT}
 use Rattle.nv_subsystem.specs.Step.{next_count, refused, step, step_by, with_command, with_refusal}
 use Rattle.nv_subsystem.specs.Effect.{effect_of}
+use Rattle.nv_subsystem.specs.ErrorLog.{log_entry}
 use Rattle.nv_subsystem.specs.Refusal.{refusal_of, rows_of}
 use Rattle.nv_subsystem.specs.Row.{first_refusal}
 use Rattle.nv_subsystem.specs.declared.row.Row.{Row}
 use Rattle.nv_command.specs.Command.{namespace_of}
 use Rattle.nv_command.specs.Refusal.{IsRefusal}
 use Rattle.nv_command.specs.RefusalLaws.{is_refusal-refusal_by}
-use Rattle.nv_subsystem.specs.WellFormed.{IsLogEntry, IsWellFormed}
+use Rattle.nv_subsystem.specs.WellFormed.{IsWellFormed}
 use Rattle.nv_command.specs.declared.command.Command.{Command}
-use Rattle.nv_command.specs.declared.command.Command.TheVariants.{IdentifyNamespace, AllocatedNamespace, ActiveList, AllocatedList, Create, Delete, Attachment, Format, GetFeature, SetFeature}
+use Rattle.nv_command.specs.declared.command.Command.TheVariants.{IdentifyController, IdentifyNamespace, AllocatedNamespace, ActiveList, AllocatedList, Create, Delete, Attachment, Format, GetFeature, SetFeature, GetLog}
 use Rattle.nv_command.specs.declared.status_code.StatusCode.TheVariants.{InvalidNamespaceOrFormat}
 use Rattle.nv_command.specs.declared.refusal.Refusal.{Refusal}
-use Rattle.nv_subsystem.specs.declared.error_log.LogEntry.{LogEntry}
+use Rattle.nv_layout.specs.ErrorEntry.{ErrorEntryFits}
+use Rattle.nv_layout.specs.declared.error_entry.ErrorEntry.{ErrorEntry}
 use Rattle.nv_subsystem.specs.AttachmentLaws.{attachment_controllers, attachment_keeps, attachment_rows_fit}
 use Rattle.nv_subsystem.specs.Management.{wanted}
 use Rattle.nv_subsystem.specs.Format.{new_format}
 use Rattle.nv_subsystem.specs.FormatLaws.{format_keeps, format_rows_fit}
+use Rattle.nv_subsystem.specs.LogLaws.{log_rows_fit}
 use Rattle.nv_subsystem.specs.ManagementLaws.{create_keeps, create_rows_fit, created_controllers, delete_keeps, delete_rows_fit, deleted_controllers}
 use Rattle.nv_subsystem.specs.ChangedAtLaws.{length-changed_at}
 use Rattle.nv_subsystem.specs.KeepingLaws.{Keeps, keeps}
@@ -39,12 +42,27 @@ counting_keeps = record {
   sound = λ s x h. record { identity = h.identity; rules = h.rules; smart = h.smart; log = h.log; entries = h.entries; refusals = h.refusals; commands = next_count-le x.commands; attached = h.attached; values = h.values };
 }
 
-length-with_refusal : (most refusals : ℕ) (e : LogEntry) (log : List LogEntry) → 0 < most → most ≤ 256 → refusals ≤ GREATEST_COUNT → length log ≡ min refusals most → length (take most (e ∷ log)) ≡ min (next_count refusals) most
+length-with_refusal : (most refusals : ℕ) (e : ErrorEntry) (log : List ErrorEntry) → 0 < most → most ≤ 256 → refusals ≤ GREATEST_COUNT → length log ≡ min refusals most → length (take most (e ∷ log)) ≡ min (next_count refusals) most
 length-with_refusal most refusals e log some few low len =
     length-take most (e ∷ log) ∙ (let up : length (e ∷ log) ≡ suc (length log) = refl in omega arith)
 
-all_entries : (most : ℕ) (e : LogEntry) (log : List LogEntry) → IsLogEntry e → All IsLogEntry log → All IsLogEntry (take most (e ∷ log))
-all_entries most e log h all = All-take IsLogEntry most (e ∷ log) (All-cons IsLogEntry e log h all)
+all_entries : (most : ℕ) (e : ErrorEntry) (log : List ErrorEntry) → ErrorEntryFits e
+    → All ErrorEntryFits log → All ErrorEntryFits (take most (e ∷ log))
+all_entries most e log h all = All-take ErrorEntryFits most (e ∷ log) (All-cons ErrorEntryFits e log h all)
+
+entry_fits : (count cid nsid : ℕ) (r : Refusal) → count ≤ GREATEST_COUNT → nsid < 2 ^ 32 → cid < 2 ^ 16
+    → IsRefusal r → ErrorEntryFits (log_entry count cid nsid r)
+entry_fits count cid nsid r low a b fits = record {
+  count = omega (arith, low);
+  sqid = lit< tt;
+  cid = b;
+  status = fits.status;
+  location = lit< tt;
+  lba = lit< tt;
+  nsid = a;
+  vendor = lit< tt;
+  specific = omega (arith, fits.specific);
+}
 
 pub booking_keeps : (nsid cid : ℕ) (r : Refusal) → nsid < 2 ^ 32 → cid < 2 ^ 16 → IsRefusal r → Keeps (with_refusal nsid cid r)
 booking_keeps nsid cid r a b fits = record {
@@ -55,7 +73,7 @@ booking_keeps nsid cid r a b fits = record {
     rules = h.rules;
     smart = h.smart;
     log = length-with_refusal (x.identity.numbers.elpe + 1) x.refusals _ x.log (omega arith) (omega (arith, h.identity.numbers.elpe)) h.refusals h.log;
-    entries = all_entries (x.identity.numbers.elpe + 1) (record { count = next_count x.refusals; cid = cid; status = r.status; nsid = nsid; specific = r.specific }) x.log (record { count = next_count-le x.refusals; cid = b; status = fits.status; nsid = a; specific = omega (arith, fits.specific) }) h.entries;
+    entries = all_entries (x.identity.numbers.elpe + 1) (log_entry (next_count x.refusals) cid nsid r) x.log (entry_fits (next_count x.refusals) cid nsid r (next_count-le x.refusals) a b fits) h.entries;
     refusals = next_count-le x.refusals;
     commands = h.commands;
     attached = h.attached;
@@ -72,6 +90,7 @@ refused_keeps s c nsid cid r a b fits w = with_command_keeps (refused s c nsid c
 -- ---- one command
 
 pub rows_fit : (s : State) (c : ℕ) (k : Command) → AllByRecursion (λ row. IsRefusal row.refusal) (rows_of s c k)
+rows_fit s c IdentifyController = tt
 rows_fit s c (IdentifyNamespace n) = (is_refusal-refusal_by InvalidNamespaceOrFormat, tt)
 rows_fit s c (AllocatedNamespace n) = (is_refusal-refusal_by InvalidNamespaceOrFormat, tt)
 rows_fit s c (ActiveList after) = (is_refusal-refusal_by InvalidNamespaceOrFormat, tt)
@@ -82,6 +101,7 @@ rows_fit s c (Attachment n detach ids) = attachment_rows_fit s n detach ids
 rows_fit s c (Format n lbaf mset pi pil ses) = format_rows_fit s c n (new_format lbaf mset pi pil ses)
 rows_fit s c (GetFeature fid sel n) = get_feature_rows_fit s c fid sel n
 rows_fit s c (SetFeature fid value save n) = set_feature_rows_fit s c fid value save n
+rows_fit s c (GetLog lid n offset dwords) = log_rows_fit s c lid n offset
 
 chosen_fits : (b : Bool) (first r : Refusal) (later : Option Refusal) → IsRefusal first → (later ≡ Some r → IsRefusal r)
     → (if b then Some first else later) ≡ Some r → IsRefusal r
@@ -97,6 +117,7 @@ refusal_fits s c k r e = first_fits (rows_of s c k) r (rows_fit s c k) e
 
 -- what an accepted command changes keeps well-formedness, and makes and takes no controller
 pub effect_keeps : (s : State) (c : ℕ) (k : Command) → refusal_of s c k ≡ None → IsWellFormed s → IsWellFormed (effect_of s c k)
+effect_keeps s c IdentifyController accepted w = w
 effect_keeps s c (IdentifyNamespace n) accepted w = w
 effect_keeps s c (AllocatedNamespace n) accepted w = w
 effect_keeps s c (ActiveList after) accepted w = w
@@ -108,8 +129,10 @@ effect_keeps s c (Format n lbaf mset pi pil ses) accepted w =
     format_keeps s c n (new_format lbaf mset pi pil ses) w accepted
 effect_keeps s c (GetFeature fid sel n) accepted w = w
 effect_keeps s c (SetFeature fid value save n) accepted w = feature_keeps s c fid value save n w accepted
+effect_keeps s c (GetLog lid n offset dwords) accepted w = w
 
 pub effect_controllers : (s : State) (c : ℕ) (k : Command) → length (effect_of s c k).controllers ≡ length s.controllers
+effect_controllers s c IdentifyController = refl
 effect_controllers s c (IdentifyNamespace n) = refl
 effect_controllers s c (AllocatedNamespace n) = refl
 effect_controllers s c (ActiveList after) = refl
@@ -120,6 +143,7 @@ effect_controllers s c (Attachment n detach ids) = attachment_controllers s n de
 effect_controllers s c (Format n lbaf mset pi pil ses) = refl
 effect_controllers s c (GetFeature fid sel n) = refl
 effect_controllers s c (SetFeature fid value save n) = feature_controllers s c fid value save n
+effect_controllers s c (GetLog lid n offset dwords) = refl
 
 step_by_keeps : (o : Option Refusal) (s : State) (c : ℕ) (k : Command) (cid : ℕ) → refusal_of s c k ≡ o → ((r : Refusal) → o ≡ Some r → IsRefusal r) → namespace_of k < 2 ^ 32 → cid < 2 ^ 16 → IsWellFormed s → IsWellFormed (step_by o s c k cid).state
 step_by_keeps None s c k cid is fits a b w = with_command_keeps (effect_of s c k) c (effect_keeps s c k is w)

@@ -1,5 +1,5 @@
 -- What holds of every subsystem that a file gives, and after every command.
-use Rattle.std.specs.Prelude.{◌≡◌, ◌≢◌, ℕ, ◌+◌, ◌^◌, ◌<◌, ◌≤◌, ◌==◌, ◌&&◌, Bool, List, [], ◌∷◌, min, true, false, length, count_by, All, AllPairs, Some, IsSomeAnd, slice_get}
+use Rattle.std.specs.Prelude.{◌≡◌, ◌≢◌, ℕ, ◌+◌, ◌≤◌, ◌==◌, ◌&&◌, Bool, List, [], ◌∷◌, min, true, false, length, count_by, All, AllPairs, Some, IsSomeAnd, slice_get}
 use Rattle.std.specs.FinMap as map_of
 use Rattle.nv_subsystem.specs.Capacity.{used}
 use Rattle.nv_file.specs.Ranges.{AreTopKeys, IsFeatureRule, IsFormat, IsIdentity, IsInFormat, IsSmart}
@@ -12,17 +12,8 @@ use Rattle.nv_subsystem.specs.ValueTable.{FeatureValues, recovery_key, value_key
 use Rattle.nv_subsystem.specs.declared.feature_value.FeatureValue.{FeatureValue}
 use Rattle.nv_subsystem.specs.State.{Controller, FeatureRules, Namespaces, Nsids, State}
 use Rattle.nv_subsystem.specs.declared.controller.TheConstants.{GREATEST_COUNT}
-use Rattle.nv_layout.specs.Status.{StatusFits}
-use Rattle.nv_subsystem.specs.declared.error_log.LogEntry.{LogEntry}
+use Rattle.nv_layout.specs.ErrorEntry.{ErrorEntryFits}
 use Rattle.nv_file.specs.declared.namespace.Namespace.{Namespace}
-
--- the numbers of an entry fit their fields
-pub record IsLogEntry (e : LogEntry) : Type 0 where
-  pub count : e.count ≤ GREATEST_COUNT
-  pub cid : e.cid < 2 ^ 16
-  pub status : StatusFits e.status
-  pub nsid : e.nsid < 2 ^ 32
-  pub specific : e.specific ≤ GREATEST_COUNT
 
 -- each rule stands under its feature identifier
 abbrev pub AreRules : FeatureRules → Type 0
@@ -57,7 +48,7 @@ pub record IsController (namespaces : Namespaces) (x : Controller) : Type 0 wher
   pub rules : AreRules x.rules
   pub smart : IsSmart x.smart
   pub log : length x.log ≡ min x.refusals (x.identity.numbers.elpe + 1)
-  pub entries : All IsLogEntry x.log
+  pub entries : All ErrorEntryFits x.log
   pub refusals : x.refusals ≤ GREATEST_COUNT
   pub commands : x.commands ≤ GREATEST_COUNT
   pub attached : (n : ℕ) → map_of.contains_key x.attached n ≡ true → map_of.contains_key namespaces n ≡ true

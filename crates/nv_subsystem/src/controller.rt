@@ -9,7 +9,7 @@ ghost use Rattle.nv_subsystem.specs.Sound.{IsSized};
 ghost use Rattle.nv_subsystem.specs.State.{rule_of};
 ghost use Rattle.nv_subsystem.specs.Step.{next_count, with_refusal};
 
-use crate::error_log::{ErrorLog, LogEntry};
+use crate::error_log::ErrorLog;
 use crate::feature_value::{FeatureValue, default_rule};
 use crate::feature_values::FeatureValues;
 use crate::origin::Origin;
@@ -97,13 +97,6 @@ impl Controller {
         ensures sized { (nn : ℕ) → IsSized nn self.old → IsSized nn self.new }
     {
         self.refusals = self.refusals.saturating_add(1);
-        let entry = LogEntry {
-            count: self.refusals,
-            cid: origin.cid,
-            status: refusal.status,
-            nsid,
-            specific: refusal.specific,
-        };
-        self.log.book(entry, origin.phase);
+        self.log.book(self.refusals, origin, nsid, refusal);
     }
 }

@@ -1,101 +1,95 @@
 //! The error log of a controller.
 
-ghost use Rattle.std.specs.Prelude.{◌≡◌, ◌≤◌, ◌+◌, ◌<◌, ◌∷◌, [], take, length, slice_get, IfOk, option_map};
+ghost use Rattle.std.specs.Prelude.{◌≡◌, ◌-◌, ◌≤◌, ◌∷◌, ◌++◌, [], length, map, replicate, take, slice_get, IfOk, option_map};
+ghost use Rattle.nv_layout.specs.ErrorEntry.{no_entry, without_phase};
+ghost use Rattle.nv_subsystem.specs.ErrorLog.{log_entry};
 
-use nv_layout::{ErrorEntry, Status};
+use crate::origin::Origin;
+use circular_buffer::HeapCircularBuffer;
+use nv_command::Refusal;
+use nv_layout::{ErrorEntries, ErrorEntry};
 use std::alloc::{AllocError, Global};
 use std::marker::Model;
 
-/// An entry of the error log ("Error Information"), without its phase tag.
-#[derive(Clone, Copy, Debug, PartialEq, Eq)]
-pub struct LogEntry {
-    /// The count of refusals after this one.
-    pub count: u64,
-    pub cid: u16,
-    pub status: Status,
-    pub nsid: u32,
-    /// The command specific information.
-    pub specific: u64,
-}
-
-/// An entry, and the phase tag that its completion had.
-#[derive(Clone, Copy, Debug, PartialEq, Eq)]
-pub struct Booked {
-    pub entry: LogEntry,
-    pub phase: bool,
-}
-
-impl From<Booked> for ErrorEntry {
-    ghost use Rattle.nv_subsystem.specs.Entry.{error_entry};
-
-    ghost from_gives = { λ b r. r ≡ error_entry b.entry b.phase };
-
-    /// A refusal of a command of the admin queue: no field of the command and no logical block is
-    /// told.
-    fn from(booked: Booked) -> ErrorEntry {
-        ErrorEntry {
-            count: booked.entry.count,
-            sqid: 0,
-            cid: booked.entry.cid,
-            status: booked.entry.status,
-            phase: booked.phase,
-            location: 0xffff,
-            lba: 0,
-            nsid: booked.entry.nsid,
-            vendor: 0,
-            specific: booked.entry.specific,
-        }
-    }
-}
-
-/// The newest refusals of a controller, newest first, in room that was made once.
+/// The newest refusals of a controller, newest first, in room that was made once. Each entry has
+/// the phase tag of its completion, of which the log's value says nothing.
 #[derive(Drop)]
 pub struct ErrorLog {
-    booked: Vec<Booked>,
-    most: u16,
+    entries: HeapCircularBuffer<ErrorEntry>,
 }
 
 impl Model for ErrorLog {
-    ghost use Rattle.std.specs.Prelude.{◌≤◌, ◌<◌, map, vec_len};
-    ghost use Rattle.std.specs.Vec.{vec_capacity};
+    ghost use Rattle.std.specs.Prelude.{◌≤◌, length, map};
+    ghost use Rattle.nv_layout.specs.ErrorEntry.{without_phase};
     ghost use Rattle.nv_subsystem.specs.ErrorLog.{Log, log_code};
 
     ghost Value = { Log };
 
     ghost coded = { log_code };
 
-    ghost view = { λ l. record { most = l.most; entries = map (λ b. b.entry) l.booked.items } };
+    ghost view = { λ l. record {
+      most = l.entries.capacity;
+      entries = map without_phase l.entries.items;
+    } };
 
     ghost invariant = { λ l.
-        (0 < l.most) × (vec_len l.booked ≤ l.most) × (l.most ≤ vec_capacity l.booked) };
+        (length l.entries.items ≤ l.entries.capacity) × (l.entries.capacity ≤ 256) };
+}
+
+/// The entry of a refusal of a command of the admin queue: no field of the command and no logical
+/// block is told. Section "Error Information (Log Identifier 01h)".
+fn log_entry(count: u64, origin: Origin, nsid: u32, refusal: Refusal) -> ErrorEntry
+    ensures { without_phase result ≡ log_entry count origin.cid nsid refusal }
+{
+    ErrorEntry {
+        count,
+        sqid: 0,
+        cid: origin.cid,
+        status: refusal.status,
+        phase: origin.phase,
+        location: 0xffff,
+        lba: 0,
+        nsid,
+        vendor: 0,
+        specific: refusal.specific,
+    }
 }
 
 impl ErrorLog {
     /// An empty log with room for this many entries.
     pub(crate) fn new(alloc: Global, most: u16) -> Result<ErrorLog, AllocError>
-        requires { 0 < most }
+        requires { most ≤ 256 }
         ensures { IfOk result (λ l. l ≡ record { most = most; entries = [] }) }
     {
-        let booked = Vec::with_capacity(alloc, most as usize)?;
-        Ok(ErrorLog { booked, most })
+        let entries = HeapCircularBuffer::with_capacity(alloc, most as usize)?;
+        Ok(ErrorLog { entries })
     }
 
     /// Books a refusal as the newest entry, in place of the oldest where the log is full.
-    pub(crate) fn book(&mut self, entry: LogEntry, phase: bool)
-        ensures { self.new
-            ≡ record self.old { entries = take self.old.most (entry ∷ self.old.entries) } }
+    pub(crate) fn book(&mut self, count: u64, origin: Origin, nsid: u32, refusal: Refusal)
+        ensures { self.new ≡ record self.old {
+          entries = take self.old.most
+              (log_entry count origin.cid nsid refusal ∷ self.old.entries);
+        } }
     {
-        if self.booked.len() == self.most as usize {
-            self.booked.pop();
-        }
-        let done = self.booked.insert(0, Booked { entry, phase });
-        done.unwrap();
+        self.entries
+            .push_front(log_entry(count, origin, nsid, refusal));
     }
 
     /// The entry at an index from the newest on.
-    pub(crate) fn get(&self, index: usize) -> Option<Booked>
-        ensures { option_map (λ b. b.entry) result ≡ slice_get self.now.entries index }
+    pub(crate) fn get(&self, index: usize) -> Option<ErrorEntry>
+        ensures { option_map without_phase result ≡ slice_get self.now.entries index }
     {
-        self.booked.get(index).copied()
+        self.entries.get(index).copied()
+    }
+
+    /// All entries where they stand, newest first, and as many without an error as there is room
+    /// for.
+    pub(crate) fn entries(&self) -> ErrorEntries<'_>
+        ensures { map without_phase result
+            ≡ self.now.entries ++ replicate (self.now.most - length self.now.entries) no_entry }
+    {
+        let (newest, older) = self.entries.as_slices();
+        ErrorEntries::new(newest, older, self.entries.capacity())
     }
 }

@@ -1,19 +1,19 @@
 //! Get Features and Set Features: when they are refused, what they answer, and what they change.
 //! Sections "Get Features command" and "Set Features command".
 
-ghost use Rattle.std.specs.Prelude.{◌≡◌, ◌<◌, ℕ, length};
-ghost use Rattle.std.specs.List.{fold};
+ghost use Rattle.std.specs.Prelude.{◌≡◌, ◌<◌, ℕ, length, map};
+ghost use Rattle.nv_subsystem.specs.ChangedKeys.{changed_at_keys};
 ghost use Rattle.nv_subsystem.specs.ControllerView.{controller_view};
-ghost use Rattle.nv_subsystem.specs.Features.{capabilities, feature_number, get_feature_rows, get_rows, rule_at, selected, set_feature_rows, set_rows, supported_at, told, with_feature, with_value, with_values};
-ghost use Rattle.nv_subsystem.specs.Nsid.{is_active};
+ghost use Rattle.nv_subsystem.specs.Features.{capabilities, feature_number, get_feature_rows, get_rows, rule_at, selected, set_feature_rows, set_rows, supported_at, told, with_feature, with_values};
+ghost use Rattle.nv_subsystem.specs.FeatureValue.{written};
 ghost use Rattle.nv_subsystem.specs.Row.{Checks};
 ghost use Rattle.nv_subsystem.specs.Sound.{IsSized};
 ghost use Rattle.nv_subsystem.specs.State.{with_controller};
+ghost use Rattle.nv_subsystem.specs.ValueTable.{key_of};
 
 use crate::controller::{Controller, rule_of};
 use crate::feature_value::{FeatureValue, is_supported};
 use crate::feature_values::FeatureValues;
-use crate::listing::attached_above;
 use crate::row::{Row, check};
 use crate::subsystem::Subsystem;
 use nv_command::{BROADCAST_NSID, Refusal, StatusCode};
@@ -63,7 +63,8 @@ fn selected(rule: FeatureRule, feature: Feature, sel: ThreeBits, value: FeatureV
 /// Writes over a feature's values for some namespaces, where they are there.
 fn write_each(values: &mut FeatureValues, feature: Feature, asked: NewValue, nsids: &[u32])
     ensures { values.new ≡ record values.old {
-      values = fold (with_value feature asked.value asked.save) values.old.values nsids.now;
+      values = changed_at_keys (map (key_of feature) nsids.now) (written asked.value asked.save)
+          values.old.values;
     } }
 {
     for nsid in nsids {
@@ -243,13 +244,11 @@ impl Subsystem {
         let Some(feature) = Feature::of(fid) else {
             return;
         };
-        if !feature.is_per_namespace() {
-            self.write_values(ctrl, feature, asked, &[0]);
-        } else if nsid == BROADCAST_NSID {
-            let active = attached_above(&self.controllers[ctrl as usize].attached, 0);
-            self.write_values(ctrl, feature, asked, active.as_slice());
+        if feature.is_per_namespace() {
+            let concerned = self.concerned(ctrl, nsid);
+            self.write_values(ctrl, feature, asked, concerned.as_slice());
         } else {
-            self.write_values(ctrl, feature, asked, &[nsid]);
+            self.write_values(ctrl, feature, asked, &[0]);
         }
     }
 }

@@ -1,16 +1,15 @@
 //! Format NVM: when a format is refused, and what it changes. Section "Format NVM command".
 
-ghost use Rattle.std.specs.Prelude.{◌≡◌, ◌<◌, ◌≤◌, IfSome, length, slice_get};
-ghost use Rattle.std.specs.List.{fold, list_any};
-ghost use Rattle.nv_subsystem.specs.Format.{can_erase_by_key, concerned, format_rows, formatted, has_one_below, is_below, is_possible, new_format, with_format};
-ghost use Rattle.nv_subsystem.specs.Nsid.{is_active};
+ghost use Rattle.std.specs.Prelude.{◌≡◌, ◌<◌, length};
+ghost use Rattle.std.specs.List.{list_any};
+ghost use Rattle.nv_subsystem.specs.ChangedKeys.{changed_at_keys};
+ghost use Rattle.nv_subsystem.specs.Format.{can_erase_by_key, format_rows, formatted, has_one_below, in_format, is_below, new_format};
+ghost use Rattle.nv_subsystem.specs.Nsid.{concerned};
 ghost use Rattle.nv_subsystem.specs.Row.{Checks};
 
-use crate::listing::attached_above;
 use crate::row::{Row, check};
 use crate::subsystem::Subsystem;
 use nv_command::{BROADCAST_NSID, Refusal, StatusCode};
-use nv_file::Format;
 use nv_layout::{FourBits, ThreeBits};
 
 /// What a host asks of a format, by the names of its fields. Section "Format NVM command".
@@ -45,24 +44,6 @@ impl NewFormat {
 }
 
 impl Subsystem {
-    /// The format that is asked for.
-    fn format_of(&self, lbaf: FourBits) -> Option<Format>
-        ensures value { result ≡ slice_get self.now.formats lbaf }
-        ensures small { IfSome result (λ f. f.lbads ≤ 16) }
-    {
-        self.formats.get(lbaf.get() as usize).copied()
-    }
-
-    /// Whether the table has the format, and metadata can lie where it shall.
-    fn is_possible(&self, asked: &NewFormat) -> bool
-        ensures { result ≡ is_possible self.now asked.now }
-    {
-        match self.format_of(asked.lbaf) {
-            Some(format) => !asked.mset || (format.ms > 0 && self.mc & 1 == 1),
-            None => false,
-        }
-    }
-
     /// Whether a namespace has a capacity below a size.
     fn is_below(&self, size: u64, nsid: u32) -> bool
         ensures { result ≡ is_below self.now size nsid }
@@ -84,7 +65,7 @@ impl Subsystem {
     fn has_one_below(&self, lbaf: FourBits, nsids: &[u32]) -> bool
         ensures { result ≡ has_one_below self.now lbaf nsids.now }
     {
-        match self.format_of(lbaf) {
+        match self.format_at(lbaf.get()) {
             Some(format) => self.one_is_below(1 << format.lbads, nsids),
             None => false,
         }
@@ -95,20 +76,8 @@ impl Subsystem {
         requires { ctrl < length self.now.controllers }
         ensures { result ≡ has_one_below self.now lbaf (concerned self.now ctrl nsid) }
     {
-        if nsid == BROADCAST_NSID {
-            let active = attached_above(&self.controllers[ctrl as usize].attached, 0);
-            self.has_one_below(lbaf, active.as_slice())
-        } else {
-            self.has_one_below(lbaf, &[nsid])
-        }
-    }
-
-    /// Whether a namespace is attached to a controller.
-    pub(crate) fn is_active(&self, ctrl: u16, nsid: u32) -> bool
-        requires { ctrl < length self.now.controllers }
-        ensures { result ≡ is_active self.now ctrl nsid }
-    {
-        self.controllers[ctrl as usize].attached.contains(nsid)
+        let concerned = self.concerned(ctrl, nsid);
+        self.has_one_below(lbaf, concerned.as_slice())
     }
 
     /// Whether a controller can erase by a key (FNA bit 2).
@@ -140,7 +109,10 @@ impl Subsystem {
                 !(self.is_active(ctrl, nsid) || all),
                 StatusCode::InvalidFieldInCommand,
             ),
-            Row::new(!self.is_possible(asked), StatusCode::InvalidFormat),
+            Row::new(
+                !self.can_have(asked.lbaf.get(), asked.mset),
+                StatusCode::InvalidFormat,
+            ),
             Row::new(asked.pi.get() != 0 || asked.pil, StatusCode::InvalidFormat),
             Row::new(
                 self.leaves_one_below(ctrl, nsid, asked.lbaf),
@@ -156,7 +128,7 @@ impl Subsystem {
     /// Formats some namespaces.
     fn format_each(&mut self, nsids: &[u32], lbaf: FourBits, mset: bool)
         ensures { self.new ≡ record self.old {
-          namespaces = fold (with_format lbaf mset) self.old.namespaces nsids.now;
+          namespaces = changed_at_keys nsids.now (in_format lbaf mset) self.old.namespaces;
         } }
     {
         for nsid in nsids {
@@ -170,11 +142,7 @@ impl Subsystem {
         ensures { self.new ≡ formatted self.old ctrl nsid asked.now }
     {
         let NewFormat { lbaf, mset, .. } = *asked;
-        if nsid == BROADCAST_NSID {
-            let active = attached_above(&self.controllers[ctrl as usize].attached, 0);
-            self.format_each(active.as_slice(), lbaf, mset);
-        } else {
-            self.change_format(nsid, lbaf, mset);
-        }
+        let concerned = self.concerned(ctrl, nsid);
+        self.format_each(concerned.as_slice(), lbaf, mset);
     }
 }

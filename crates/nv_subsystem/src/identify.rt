@@ -3,6 +3,7 @@
 ghost use Rattle.std.specs.Prelude.{◌≡◌, ◌≤◌, ◌<◌, length, All};
 ghost use Rattle.nv_subsystem.specs.Capacity.{blocks};
 ghost use Rattle.nv_subsystem.specs.Identify.{active_list_reply, active_namespace, active_reply, active_rows, allocated_list_reply, allocated_namespace, allocated_reply, allocated_rows, blank, common_of, flbas_of, id_ns_of, lbaf_of, lbafs_of, list_rows};
+ghost use Rattle.nv_subsystem.specs.Nsid.{is_active};
 ghost use Rattle.nv_subsystem.specs.Row.{Checks};
 
 use crate::listing::{allocated_above, attached_above};
@@ -10,7 +11,7 @@ use crate::row::refuse_if;
 use crate::subsystem::Subsystem;
 use nv_command::{BROADCAST_NSID, Refusal, Reply, StatusCode};
 use nv_file::{Format, Namespace};
-use nv_layout::{IdNs, Lbaf};
+use nv_layout::{IdNs, Lbaf, NsList};
 
 /// The least NSID after which no list can be asked for.
 pub const LIST_LIMIT: u32 = 0xffff_fffe;
@@ -50,12 +51,20 @@ impl Subsystem {
         }
     }
 
+    /// Whether a namespace is attached to a controller.
+    pub(crate) fn is_active(&self, ctrl: u16, nsid: u32) -> bool
+        requires { ctrl < length self.now.controllers }
+        ensures { result ≡ is_active self.now ctrl nsid }
+    {
+        self.controllers[ctrl as usize].attached.contains(nsid)
+    }
+
     /// A namespace that is attached to a controller; zeros where it isn't.
     fn active(&self, ctrl: u16, nsid: u32) -> IdNs
         requires { ctrl < length self.now.controllers }
         ensures { result ≡ active_namespace self.now ctrl nsid }
     {
-        if self.controllers[ctrl as usize].attached.contains(nsid) {
+        if self.is_active(ctrl, nsid) {
             self.allocated(nsid)
         } else {
             blank_namespace()
@@ -63,7 +72,7 @@ impl Subsystem {
     }
 
     /// An active namespace; what all have in common for the broadcast NSID.
-    pub(crate) fn active_reply(&self, ctrl: u16, nsid: u32) -> Reply
+    pub(crate) fn active_reply<'a>(&self, ctrl: u16, nsid: u32) -> Reply<'a>
         requires { ctrl < length self.now.controllers }
         ensures { result ≡ active_reply self.now ctrl nsid }
     {
@@ -75,25 +84,32 @@ impl Subsystem {
     }
 
     /// An allocated namespace.
-    pub(crate) fn allocated_reply(&self, nsid: u32) -> Reply
+    pub(crate) fn allocated_reply<'a>(&self, nsid: u32) -> Reply<'a>
         ensures { result ≡ allocated_reply self.now nsid }
     {
         Reply::Namespace(self.allocated(nsid))
     }
 
-    /// The NSIDs above one that are attached to a controller.
-    pub(crate) fn active_list_reply(&self, ctrl: u16, after: u32) -> Reply
+    /// The NSIDs above one that are attached to a controller, in a list that is made for them.
+    pub(crate) fn active_list_reply<'a>(
+        &self,
+        ctrl: u16,
+        after: u32,
+        list: &'a mut NsList,
+    ) -> Reply<'a>
         requires { ctrl < length self.now.controllers }
         ensures { result ≡ active_list_reply self.now ctrl after }
     {
-        Reply::List(attached_above(&self.controllers[ctrl as usize].attached, after))
+        attached_above(&self.controllers[ctrl as usize].attached, after, list);
+        Reply::List(list.ids())
     }
 
-    /// The allocated NSIDs above one.
-    pub(crate) fn allocated_list_reply(&self, after: u32) -> Reply
+    /// The allocated NSIDs above one, in a list that is made for them.
+    pub(crate) fn allocated_list_reply<'a>(&self, after: u32, list: &'a mut NsList) -> Reply<'a>
         ensures { result ≡ allocated_list_reply self.now after }
     {
-        Reply::List(allocated_above(&self.slots, after))
+        allocated_above(&self.slots, after, list);
+        Reply::List(list.ids())
     }
 }
 

@@ -9,15 +9,19 @@ mod feature_value;
 mod feature_values;
 mod features;
 mod format;
+mod formats;
 mod from_file;
 mod identify;
+mod identify_controller;
 mod listing;
+mod logs;
 mod management;
 mod origin;
 mod row;
 mod subsystem;
 
 pub use controller::GREATEST_COUNT;
+pub use logs::{ERROR_INFORMATION, HEALTH};
 pub use nv_command::{Command, Refusal, Reply, StatusCode};
 pub use nv_file::{
     Counters, DEMO, FeatureRule, Format, Identity, IdentityNumbers, Key, Namespace, SmartBase,

@@ -1,20 +1,23 @@
-//! Lists of NSIDs above one.
+//! Lists of NSIDs.
 
-ghost use Rattle.std.specs.Prelude.{◌≡◌, ◌≤◌};
+ghost use Rattle.std.specs.Prelude.{◌≡◌, ◌≤◌, ◌<◌, length};
 ghost use Rattle.std.specs.FinMap as map_of;
 ghost use Rattle.nv_bits.specs.Numbers.{above};
+ghost use Rattle.nv_subsystem.specs.Nsid.{concerned};
 ghost use Rattle.nv_subsystem.specs.State.{ascending};
 
+use crate::subsystem::Subsystem;
 use nv_bits::{BitSet, Slots};
+use nv_command::BROADCAST_NSID;
 use nv_file::Namespace;
 use nv_layout::NsList;
 
 /// The attached NSIDs above one.
-pub(crate) fn attached_above(attached: &BitSet, after: u32) -> NsList
+pub(crate) fn attached_above(attached: &BitSet, after: u32, list: &mut NsList)
     requires { attached.now.count ≤ 1024 }
-    ensures { result ≡ above after (ascending attached.now.members) }
+    ensures { list.new ≡ above after (ascending attached.now.members) }
 {
-    let mut list = NsList::new();
+    list.clear();
     let mut last = after;
     for _ in 0..attached.len() {
         let Some(nsid) = attached.next_above(last) else {
@@ -23,15 +26,14 @@ pub(crate) fn attached_above(attached: &BitSet, after: u32) -> NsList
         list.push(nsid);
         last = nsid;
     }
-    list
 }
 
 /// The allocated NSIDs above one.
-pub(crate) fn allocated_above(slots: &Slots<Namespace>, after: u32) -> NsList
+pub(crate) fn allocated_above(slots: &Slots<Namespace>, after: u32, list: &mut NsList)
     requires { slots.now.count ≤ 1024 }
-    ensures { result ≡ above after (map_of.keys slots.now.values) }
+    ensures { list.new ≡ above after (map_of.keys slots.now.values) }
 {
-    let mut list = NsList::new();
+    list.clear();
     let mut last = after;
     for _ in 0..slots.len() {
         let Some(nsid) = slots.next_above(last) else {
@@ -40,5 +42,21 @@ pub(crate) fn allocated_above(slots: &Slots<Namespace>, after: u32) -> NsList
         list.push(nsid);
         last = nsid;
     }
-    list
+}
+
+impl Subsystem {
+    /// The NSIDs that a command concerns: for the broadcast one all that are active on the
+    /// controller.
+    pub(crate) fn concerned(&self, ctrl: u16, nsid: u32) -> NsList
+        requires { ctrl < length self.now.controllers }
+        ensures { result ≡ concerned self.now ctrl nsid }
+    {
+        let mut list = NsList::new();
+        if nsid == BROADCAST_NSID {
+            attached_above(&self.controllers[ctrl as usize].attached, 0, &mut list);
+        } else {
+            list.push(nsid);
+        }
+        list
+    }
 }

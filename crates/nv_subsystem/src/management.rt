@@ -1,9 +1,9 @@
 //! Namespace Management: when a create or a delete is refused, what it answers, and what it
 //! changes. Section "Namespace Management command".
 
-ghost use Rattle.std.specs.Prelude.{◌≡◌, ◌≤◌, None, IfSome};
+ghost use Rattle.std.specs.Prelude.{◌≡◌, ◌≤◌, None};
 ghost use Rattle.nv_subsystem.specs.Capacity.{unallocated};
-ghost use Rattle.nv_subsystem.specs.Management.{bytes_needed, can_have, capacity_refusal, create_rows, created, created_nsid, delete_rows, deleted, format_in, is_extended, new_namespace, wanted, without_all, without_one};
+ghost use Rattle.nv_subsystem.specs.Management.{bytes_needed, capacity_refusal, create_rows, created, created_nsid, delete_rows, deleted, format_index, is_extended, new_namespace, wanted, without_all, without_one};
 ghost use Rattle.nv_subsystem.specs.Nsid.{free_nsid};
 ghost use Rattle.nv_subsystem.specs.Row.{Checks, first_refusal};
 
@@ -11,7 +11,7 @@ use crate::attachment::{detach_all, detach_everywhere};
 use crate::row::{Row, check};
 use crate::subsystem::Subsystem;
 use nv_command::{BROADCAST_NSID, Refusal, StatusCode};
-use nv_file::{Format, Namespace};
+use nv_file::Namespace;
 
 /// What a host asks of a new namespace, by the names of its fields. Sections "Namespace Management
 /// command" and "Identify Namespace data structure".
@@ -39,6 +39,13 @@ impl NewNamespace {
     }
 }
 
+/// The index of the format (FLBAS 3:0).
+fn format_index(flbas: u8) -> u8
+    ensures { result ≡ format_index flbas }
+{
+    flbas & 0x0f
+}
+
 /// Whether metadata is to lie at the end of each logical block (FLBAS bit 4).
 fn is_extended(flbas: u8) -> bool
     ensures { result ≡ is_extended flbas }
@@ -57,30 +64,12 @@ fn capacity_refusal(bytes: u128) -> Refusal
 }
 
 impl Subsystem {
-    /// The format that FLBAS 3:0 names.
-    fn format_in(&self, flbas: u8) -> Option<Format>
-        ensures value { result ≡ format_in self.now flbas }
-        ensures small { IfSome result (λ f. f.lbads ≤ 16) }
-    {
-        self.formats.get((flbas & 0x0f) as usize).copied()
-    }
-
-    /// Whether a namespace can have the format of an FLBAS, and its metadata where that says.
-    fn can_have(&self, flbas: u8) -> bool
-        ensures { result ≡ can_have self.now flbas }
-    {
-        match self.format_in(flbas) {
-            Some(format) => !is_extended(flbas) || (format.ms > 0 && self.mc & 1 == 1),
-            None => false,
-        }
-    }
-
     /// The bytes of the logical blocks that are asked for, without their metadata.
     fn bytes_needed(&self, wanted: &NewNamespace) -> u128
         ensures { result ≡ bytes_needed self.now wanted.now }
     {
         let NewNamespace { nsze, flbas, .. } = *wanted;
-        match self.format_in(flbas) {
+        match self.format_at(format_index(flbas)) {
             Some(format) => u128::from(nsze) << format.lbads,
             None => 0,
         }
@@ -106,7 +95,10 @@ impl Subsystem {
         } = *wanted;
         let bytes = self.bytes_needed(wanted);
         check(&[
-            Row::new(!self.can_have(flbas), StatusCode::InvalidFormat),
+            Row::new(
+                !self.can_have(format_index(flbas), is_extended(flbas)),
+                StatusCode::InvalidFormat,
+            ),
             Row::new(dps != 0, StatusCode::InvalidFieldInCommand),
             Row::new(nsze == 0, StatusCode::InvalidFieldInCommand),
             Row::new(ncap < nsze, StatusCode::ThinProvisioningNotSupported),
@@ -140,7 +132,7 @@ impl Subsystem {
         prove!(has_room);
         Namespace {
             capacity: bytes as u64,
-            format: wanted.flbas & 0x0f,
+            format: format_index(wanted.flbas),
             extended: is_extended(wanted.flbas),
             shared: wanted.nmic & 1 == 1,
         }

@@ -1,7 +1,9 @@
 //! A subsystem, and what its commands do.
 
 ghost use Rattle.std.specs.Prelude.{◌≡◌, ◌<◌, ◌^◌, ℕ, length, option_map, None, IfOk, IfErr};
-ghost use Rattle.nv_subsystem.specs.Entry.{counts_of, log_entry_of, without_phase};
+ghost use Rattle.nv_subsystem.specs.Entry.{counts_of, log_entry_of, mdts_of};
+ghost use Rattle.nv_layout.specs.ErrorEntry.{without_phase};
+ghost use Rattle.nv_command.specs.Logs.{without_phases};
 ghost use Rattle.nv_file.specs.Fault.{IsUnlessMemory};
 ghost use Rattle.nv_file.specs.FileValue.{file_view};
 ghost use Rattle.nv_subsystem.specs.FromFile.{state_of, subsystem};
@@ -12,7 +14,7 @@ ghost use Rattle.nv_subsystem.specs.Nsid.{is_valid};
 ghost use Rattle.nv_subsystem.specs.Refusal.{refusal_of, rows_of};
 ghost use Rattle.nv_subsystem.specs.Reply.{reply_of};
 ghost use Rattle.nv_subsystem.specs.Row.{Checks};
-ghost use Rattle.nv_subsystem.specs.Step.{answer_to, refused, step, with_command};
+ghost use Rattle.nv_subsystem.specs.Step.{answer_to, answer_without_phases, refused, step, with_command};
 ghost use Rattle.nv_subsystem.specs.WellFormed.{IsWellFormed};
 ghost use Rattle.nv_command.specs.Refusal.{IsRefusal};
 
@@ -24,9 +26,9 @@ use crate::identify::check_list;
 use crate::management::NewNamespace;
 use crate::origin::Origin;
 use nv_bits::Slots;
-use nv_command::{Command, Refusal, Reply};
+use nv_command::{Command, Refusal, Reply, ReplyRoom};
 use nv_file::{File, Format, Namespace, SubsystemError};
-use nv_layout::ErrorEntry;
+use nv_layout::{ErrorEntry, NsList};
 use std::alloc::Global;
 use std::marker::Model;
 
@@ -121,14 +123,22 @@ impl Subsystem {
         (controller.refusals, controller.commands)
     }
 
+    /// MDTS: a command moves at most 4,096 × 2^MDTS bytes of data. Section "Identify Controller
+    /// data structure (CNS 01h)".
+    pub fn mdts(&self, ctrl: u16) -> u8
+        requires { ctrl < length self.now.controllers }
+        ensures { result ≡ mdts_of self.now ctrl }
+    {
+        self.controllers[ctrl as usize].identity.numbers.mdts
+    }
+
     /// The entry of a controller's error log at this index, from the newest on, with the phase tag
     /// that its completion had. "Error Information (Log Identifier 01h)".
     pub fn log_entry(&self, ctrl: u16, index: usize) -> Option<ErrorEntry>
         requires { ctrl < length self.now.controllers }
         ensures { option_map without_phase result ≡ log_entry_of self.now ctrl index }
     {
-        let booked = self.controllers[ctrl as usize].log.get(index)?;
-        Some(ErrorEntry::from(booked))
+        self.controllers[ctrl as usize].log.get(index)
     }
 
     /// Whether the subsystem could have a namespace of this NSID.
@@ -144,6 +154,7 @@ impl Subsystem {
         ensures { Checks (rows_of self.now ctrl command.now) result }
     {
         match command {
+            Command::IdentifyController => Ok(()),
             Command::IdentifyNamespace { nsid } => self.check_active(*nsid),
             Command::AllocatedNamespace { nsid } => self.check_allocated(*nsid),
             Command::ActiveList { after } => check_list(*after),
@@ -176,19 +187,27 @@ impl Subsystem {
                 save,
                 nsid,
             } => self.check_set_feature(ctrl, *fid, NewValue::new(*value, *save), *nsid),
+            Command::GetLog {
+                lid,
+                nsid,
+                offset,
+                ..
+            } => self.check_log(ctrl, *lid, *nsid, *offset),
         }
     }
 
-    /// What a command that isn't refused is answered.
-    fn reply(&self, ctrl: u16, command: &Command) -> Reply
+    /// What a command that isn't refused is answered. A list is made in the place for one; a log
+    /// stands where it is.
+    fn reply<'a>(&'a self, ctrl: u16, command: &Command, list: &'a mut NsList) -> Reply<'a>
         requires { ctrl < length self.now.controllers }
-        ensures { result ≡ reply_of self.now ctrl command.now }
+        ensures { without_phases result ≡ reply_of self.now ctrl command.now }
     {
         match command {
+            Command::IdentifyController => self.controller_reply(ctrl),
             Command::IdentifyNamespace { nsid } => self.active_reply(ctrl, *nsid),
             Command::AllocatedNamespace { nsid } => self.allocated_reply(*nsid),
-            Command::ActiveList { after } => self.active_list_reply(ctrl, *after),
-            Command::AllocatedList { after } => self.allocated_list_reply(*after),
+            Command::ActiveList { after } => self.active_list_reply(ctrl, *after, list),
+            Command::AllocatedList { after } => self.allocated_list_reply(*after, list),
             Command::Create { .. } => Reply::Number(self.created_nsid()),
             Command::Delete { nsid: _ } => Reply::Done,
             Command::Attachment { .. } => Reply::Done,
@@ -197,6 +216,7 @@ impl Subsystem {
                 Reply::Number(self.feature_number(ctrl, *fid, *sel, *nsid))
             }
             Command::SetFeature { .. } => Reply::Done,
+            Command::GetLog { lid, .. } => self.log_reply(ctrl, *lid),
         }
     }
 
@@ -207,6 +227,7 @@ impl Subsystem {
         ensures { self.new ≡ effect_of self.old ctrl command.now }
     {
         match command {
+            Command::IdentifyController => {}
             Command::IdentifyNamespace { nsid: _ } => {}
             Command::AllocatedNamespace { nsid: _ } => {}
             Command::ActiveList { after: _ } => {}
@@ -237,6 +258,7 @@ impl Subsystem {
                 save,
                 nsid,
             } => self.set_feature(ctrl, *fid, NewValue::new(*value, *save), *nsid),
+            Command::GetLog { .. } => {}
         }
     }
 
@@ -272,27 +294,64 @@ impl Subsystem {
         self.count(ctrl);
     }
 
-    /// Executes a command of a controller. A refusal books itself in that controller's error log;
-    /// the controller counts the command in both cases.
-    pub fn execute(
+    /// What a command of a controller is answered now. A list is made in the place for one, which
+    /// is of no account before; a log stands where it is.
+    pub fn answer<'a>(
+        &'a self,
+        ctrl: u16,
+        command: &Command,
+        list: &'a mut NsList,
+    ) -> Result<Reply<'a>, Refusal>
+        requires { ctrl < length self.now.controllers }
+        ensures { answer_without_phases result ≡ answer_to self.now ctrl command.now }
+    {
+        self.check(ctrl, command)?;
+        Ok(self.reply(ctrl, command, list))
+    }
+
+    /// Ends a command that was answered: changes what it changes, or books its refusal in the error
+    /// log of its controller, which counts the command in both cases.
+    pub fn settle(&mut self, ctrl: u16, command: &Command, origin: Origin, refusal: Option<Refusal>)
+        requires ctrl { ctrl < length self.old.controllers }
+        requires answered { refusal ≡ refusal_of self.old ctrl command.now }
+        ensures state { self.new ≡ (step self.old ctrl command.now origin.cid).state }
+        ensures well_formed { IsWellFormed self.old → IsWellFormed self.new }
+    {
+        if let Some(refusal) = refusal {
+            self.refuse(ctrl, origin, command.nsid(), refusal);
+        } else {
+            self.apply(ctrl, command);
+            self.count(ctrl);
+        }
+    }
+
+    /// Executes a command of a controller, and keeps its reply in the room. A refusal books itself
+    /// in that controller's error log; the controller counts the command in both cases.
+    pub fn execute<'a>(
         &mut self,
         ctrl: u16,
         command: &Command,
         origin: Origin,
-    ) -> Result<Reply, Refusal>
+        room: &'a mut ReplyRoom,
+    ) -> Result<Reply<'a>, Refusal>
         requires { ctrl < length self.old.controllers }
-        ensures answer { result ≡ answer_to self.old ctrl command.now }
+        ensures answer { answer_without_phases result ≡ answer_to self.old ctrl command.now }
         ensures state { self.new ≡ (step self.old ctrl command.now origin.cid).state }
         ensures well_formed { IsWellFormed self.old → IsWellFormed self.new }
     {
-        if let Err(refusal) = self.check(ctrl, command) {
-            self.refuse(ctrl, origin, command.nsid(), refusal);
-            return Err(refusal);
+        let mut list = NsList::new();
+        let refusal = match self.answer(ctrl, command, &mut list) {
+            Ok(reply) => {
+                room.keep(&reply);
+                None
+            }
+            Err(refusal) => Some(refusal),
+        };
+        self.settle(ctrl, command, origin, refusal);
+        match refusal {
+            None => Ok(room.reply()),
+            Some(refusal) => Err(refusal),
         }
-        let reply = self.reply(ctrl, command);
-        self.apply(ctrl, command);
-        self.count(ctrl);
-        Ok(reply)
     }
 }
 

@@ -1,4 +1,5 @@
-use Rattle.nv_layout.specs.RecordLaws.{cqe_back, ctrl_list_back, id_ns_back, ns_list_back, sqe_back, status_back}
+use Rattle.nv_layout.specs.LogLaws.{error_entry_back, smart_back}
+use Rattle.nv_layout.specs.RecordLaws.{cqe_back, ctrl_list_back, id_ctrl_back, id_ns_back, ns_list_back, sqe_back, status_back}
 use Rattle.nv_layout.proofs.reads_back.Goals as goal
 
 pub returns-clause-sqe : goal.returns-clause-sqe
@@ -18,3 +19,12 @@ returns-clause-ns_list c = ns_list_back
 
 pub returns-clause-ctrl_list : goal.returns-clause-ctrl_list
 returns-clause-ctrl_list c = ctrl_list_back
+
+pub returns-clause-id_ctrl : goal.returns-clause-id_ctrl
+returns-clause-id_ctrl c = id_ctrl_back
+
+pub returns-clause-smart : goal.returns-clause-smart
+returns-clause-smart c = smart_back
+
+pub returns-clause-error_entry : goal.returns-clause-error_entry
+returns-clause-error_entry c = error_entry_back

@@ -1,4 +1,4 @@
-use Rattle.std.proofs.Common.{◌∙◌, ap, sym, length}
+use Rattle.std.proofs.Common.{◌∙◌, ap, arith, sym, length}
 use Rattle.nv_prp.specs.Place.{places}
 use Rattle.nv_controller.specs.Call.{length_of}
 use Rattle.nv_controller.specs.CallLaws.{no_places, nothing_lies_in, places-nil}
@@ -14,3 +14,6 @@ returns-in-NoData-clause-inside g c = rw c.clear.ensures (nothing_lies_in _)
 pub returns-in-NoData-clause-len : goal.returns-in-NoData-clause-len
 returns-in-NoData-clause-len g c =
     ap length (ap places c.clear.ensures ∙ places-nil) ∙ sym (ap length_of c.in-NoData.is)
+
+pub returns-in-NoData-clause-few : goal.returns-in-NoData-clause-few
+returns-in-NoData-clause-few g c = omega (arith, ap length (ap places c.clear.ensures ∙ places-nil))

@@ -1,17 +1,10 @@
 use Rattle.std.proofs.Common.{◌∙◌, ap, sym}
-use Rattle.nv_command.specs.Reply.{data_of}
-use Rattle.nv_prp.specs.Place.{places, written_at}
-use Rattle.nv_controller.proofs.EntryLaws.{written_nothing}
+use Rattle.nv_command.specs.Command.{bytes_to_host}
+use Rattle.nv_prp.specs.Place.{places}
+use Rattle.nv_controller.proofs.DataLaws.{none_to_host, nothing_sent}
 use Rattle.nv_controller.proofs.entry.deliver.Goals as goal
 
-pub returns-in-Number-clause-bytes : goal.returns-in-Number-clause-bytes
-returns-in-Number-clause-bytes g c =
-    let at = places c.args.spans.now in
-    written_nothing _ at
-    ∙ ap (λ reply. written_at (g.M.HostMemory.bytes c.args.mem.now) at (data_of reply)) (sym c.in-Number.is)
-
-pub returns-in-Done-clause-bytes : goal.returns-in-Done-clause-bytes
-returns-in-Done-clause-bytes g c =
-    let at = places c.args.spans.now in
-    written_nothing _ at
-    ∙ ap (λ reply. written_at (g.M.HostMemory.bytes c.args.mem.now) at (data_of reply)) (sym c.in-Done.is)
+pub returns-in_default-clause-bytes : goal.returns-in_default-clause-bytes
+returns-in_default-clause-bytes g c =
+    nothing_sent c.args.command.now c.args.reply.now _ (places c.args.spans.now) c.requires.is_reply c.requires.fits
+    (ap bytes_to_host (sym c.transfer.ensures) ∙ none_to_host c.transfer.result c.in_default.not-ToHost)

@@ -2,13 +2,13 @@ use Rattle.std.proofs.Common.{rules, ◌≡◌, ◌∙◌, ◌+◌, ◌*◌, ◌
 use Rattle.std.specs.FinSet as set
 use Rattle.nv_layout.specs.declared.sqe.Sqe.{Sqe}
 use Rattle.nv_host.specs.PageSets.{Pages}
-use Rattle.nv_prp.specs.BufferLaws.{rest_distinct}
 use Rattle.nv_prp.specs.Place.{written_at}
 use Rattle.nv_prp.specs.Transfer.{transfer_places}
 use Rattle.nv_queue.specs.Rings.{SubmitNumbers, submitted_one}
 use Rattle.nv_queue.specs.Slots.{with_submission}
 use Rattle.nv_command.specs.Command.{host_data_of}
 use Rattle.nv_command.specs.Entry.{with_pointer}
+use Rattle.nv_driver.specs.Layout.{pages_of_command}
 use Rattle.nv_driver.specs.Submitting.{sent_by, transfer_at}
 use Rattle.nv_driver.specs.declared.submitting.Outstanding.{Outstanding}
 use Rattle.nv_driver.proofs.SubmittingLaws.{buffer_of, built_by, distinct_of, list_of, on_ok, prepared_by}
@@ -21,13 +21,12 @@ build_pointer-prp1-requires-clause-buffer g c =
     let len = c.data_length-len.result in
     let pages = c.args.lane.now.pages in
     let bytes = g.M.HostMemory.bytes c.args.mem.now in
-    let few = c.page_count.ensures.few in
     let enough = subst (λ n. geometry.offset + len ≤ n * geometry.page_size)
     (sym t.count) c.page_count.ensures.enough in
     buffer_of geometry pages c.take-pages.result bytes _ len c.requires.geometry c.requires.page
     (record {
       seven = t.seven;
-      few = omega (arith, t.count, few);
+      few = omega (arith, t.count, c.page_count.ensures.five);
       taken = t.taken;
       inside = c.requires.inside;
     })
@@ -38,11 +37,10 @@ build_pointer-prp1-requires-clause-list g c =
     let t = c.take-pages.ensures in
     let pages = c.args.lane.now.pages in
     let bytes = g.M.HostMemory.bytes c.args.mem.now in
-    let few = c.page_count.ensures.few in
     list_of c.args.geometry pages c.take-pages.result bytes _ c.requires.geometry c.requires.page
     (record {
       seven = t.seven;
-      few = omega (arith, t.count, few);
+      few = omega (arith, t.count, c.page_count.ensures.five);
       taken = t.taken;
       inside = c.requires.inside;
     })
@@ -68,14 +66,14 @@ returns-clause-submitted g c =
     let built = g.M.HostMemory.bytes c.build_pointer-prp1.new.mem in
     let ready = g.M.HostMemory.bytes c.write_data.new.mem in
     let len = c.data_length-len.ensures.length in
-    let few : pages.data_pages ≤ 2 = omega (arith, t.count, c.page_count.ensures.few) in
+    let few : pages.data_pages + 2 ≤ pages_of_command geometry.page_size = omega (arith, t.count, c.page_count.ensures.few) in
     let enough = subst (λ n. geometry.offset + n ≤ pages.data_pages * geometry.page_size) len
     (subst (λ n. geometry.offset + c.data_length-len.result ≤ n * geometry.page_size)
     (sym t.count) c.page_count.ensures.enough) in
     let buffer = buffer_of geometry lane.pages pages before geometry.page_size _ c.requires.geometry refl
     (record {
       seven = t.seven;
-      few = omega (arith, few);
+      few = omega (arith, t.count, c.page_count.ensures.five);
       taken = t.taken;
       inside = c.requires.inside;
     })
@@ -90,7 +88,7 @@ returns-clause-submitted g c =
       enough = enough;
       ready = ready;
       prepared = prepared_by geometry.page_size x before built ready c.requires.geometry.page_size
-          c.requires.fits buffer (rest_distinct x.first x.second x.pages distinct) is_built
+          c.requires.can.fits buffer distinct is_built
           (c.write_data.ensures.bytes
           ∙ ap (λ n. written_at built (transfer_places (transfer_at n built o k)) (host_data_of k))
           (b.page ∙ c.requires.page));

@@ -1,5 +1,6 @@
 use Rattle.std.proofs.Common.{◌≡◌, take, string_bytes}
-use Rattle.nv_print.specs.Texts.{lines_of, nsid_line}
+use Rattle.nv_print.specs.FieldLine.{lines_of}
+use Rattle.nv_print.specs.Texts.{nsid_line}
 use Rattle.nv_print.proofs.texts.list_text.Given as goal
 
 abbrev pub invariant-loop-index : goal.invariant-loop-index

@@ -1,70 +1,73 @@
-use Rattle.std.proofs.Common.{◌∙◌, ◌+◌, ◌<◌, ap, subst, sym, length, Ok, Err}
-use Rattle.std.proofs.lemmas.List.{length-set}
+use Rattle.std.proofs.Common.{Err, Ok, refl}
 use Rattle.std.proofs.lemmas.Result.{err_from_is_err_and}
-use Rattle.nv_driver.specs.Driver.{lane_at}
-use Rattle.nv_driver.specs.Exchange.{after_one}
-use Rattle.nv_driver.specs.Settled.{DriverValue}
-use Rattle.nv_script.specs.Exchange.{exchange_of}
-use Rattle.nv_script.specs.Link.{serials_of}
-use Rattle.nv_script.specs.declared.order.Order.{Order}
-use Rattle.nv_print.specs.Texts.{text_of}
-use Rattle.nv_script.proofs.LinkLaws.{exchanged}
-use Rattle.nv_script.proofs.RequestLaws.{accepted_next, controller_known, left_memory, left_refused, left_text}
-use Rattle.nv_script.proofs.OutcomeLaws.{accepted_with}
+use Rattle.nv_script.proofs.LinkLaws.{sent, still_known}
+use Rattle.nv_script.proofs.RequestLaws.{first_refused, left_memory, left_refused, left_text, one_accepted, second_refused, two_accepted}
 use Rattle.nv_script.proofs.performing.perform.Goals as goal
 
-pub admin-requires-clause-ctrl : goal.admin-requires-clause-ctrl
-admin-requires-clause-ctrl g c =
-    let s = (g.B.Bus.meaning c.args.bus.now).state in
-    let known = c.deref-order-items.ensures.value ∙ c.in_ok-orders.ensures.orders s in
-    subst (λ (o : Order). o.controller < length c.loop-order.driver.lanes) (sym c.order-item.is) (controller_known s c.args.request _ _ c.deref-order-items.result.now c.loop-order.order-index c.order-item.result known c.requires.controller c.loop-order.invariant.lanes c.loop-order-test.true)
+pub admin-requires-2-clause-ctrl : goal.admin-requires-2-clause-ctrl
+admin-requires-2-clause-ctrl g c =
+    still_known c.args.driver.now c.admin.new.self c.args.request.now.controller c.in_ok-reply.ensures.driver c.requires.controller
 
 pub returns-in_err-reply-clause-left : goal.returns-in_err-reply-clause-left
 returns-in_err-reply-clause-left g c =
-    let s = (g.B.Bus.meaning c.args.bus.now).state in
-    let known = c.deref-order-items.ensures.value ∙ c.in_ok-orders.ensures.orders s in
-    let at = subst (λ (o : Order). o.controller < length c.loop-order.driver.lanes) (sym c.order-item.is) (controller_known s c.args.request _ _ c.deref-order-items.result.now c.loop-order.order-index c.order-item.result known c.requires.controller c.loop-order.invariant.lanes c.loop-order-test.true) in
-    let e = err_from_is_err_and c.from_residual-in_err-reply.result c.from_residual-in_err-reply.ensures.1 in
+    let r = c.args.request.now in
+    let e = err_from_is_err_and c.from_residual.result c.from_residual.ensures.1 in
     let done = c.in_err-reply.ensures in
-    let exchange = exchanged (g.B.Bus.meaning c.loop-order.bus) (g.B.Bus.meaning c.admin.new.bus) c.loop-order.driver c.admin.new.self c.order-item.result (Err c.in_err-reply.field-0.0) at done.answer done.state done.driver
-    ∙ ap (exchange_of (g.B.Bus.meaning c.loop-order.bus).state (serials_of c.loop-order.driver)) c.order-item.is in
-    rw (e.1, e.2) (left_refused s _ (serials_of c.args.driver.now) _ c.args.request _ c.loop-order.order-index _ known c.loop-order.invariant.sofar c.order-item.result _ _ c.loop-order-test.true _ exchange)
-
-pub returns-in_err-push-clause-left : goal.returns-in_err-push-clause-left
-returns-in_err-push-clause-left g c =
-    let s = (g.B.Bus.meaning c.args.bus.now).state in
-    let known = c.deref-order-items.ensures.value ∙ c.in_ok-orders.ensures.orders s in
-    let at = subst (λ (o : Order). o.controller < length c.loop-order.driver.lanes) (sym c.order-item.is) (controller_known s c.args.request _ _ c.deref-order-items.result.now c.loop-order.order-index c.order-item.result known c.requires.controller c.loop-order.invariant.lanes c.loop-order-test.true) in
-    let e = err_from_is_err_and c.from_residual-in_err-push.result c.from_residual-in_err-push.ensures.1 in
-    let done = c.in_ok-reply.ensures in
-    let exchange = exchanged (g.B.Bus.meaning c.loop-order.bus) (g.B.Bus.meaning c.admin.new.bus) c.loop-order.driver c.admin.new.self c.order-item.result (Ok c.in_ok-reply.reply) at done.answer done.state done.driver
-    ∙ ap (exchange_of (g.B.Bus.meaning c.loop-order.bus).state (serials_of c.loop-order.driver)) c.order-item.is in
-    rw (e.1, e.2) (left_memory s _ (serials_of c.args.driver.now) _ c.args.request _ (c.loop-order.order-index + 1) _ known
-    (accepted_next s _ (serials_of c.args.driver.now) _ c.args.request _ c.loop-order.order-index _ known c.loop-order.invariant.sofar c.order-item.result _ _ c.loop-order-test.true c.in_ok-reply.reply exchange))
-
-pub loop-order-preserved : goal.loop-order-preserved
-loop-order-preserved g c =
-    let s = (g.B.Bus.meaning c.args.bus.now).state in
-    let known = c.deref-order-items.ensures.value ∙ c.in_ok-orders.ensures.orders s in
-    let at = subst (λ (o : Order). o.controller < length c.loop-order.driver.lanes) (sym c.order-item.is) (controller_known s c.args.request _ _ c.deref-order-items.result.now c.loop-order.order-index c.order-item.result known c.requires.controller c.loop-order.invariant.lanes c.loop-order-test.true) in
-    let done = c.in_ok-reply.ensures in
-    let exchange = exchanged (g.B.Bus.meaning c.loop-order.bus) (g.B.Bus.meaning c.admin.new.bus) c.loop-order.driver c.admin.new.self c.order-item.result (Ok c.in_ok-reply.reply) at done.answer done.state done.driver
-    ∙ ap (exchange_of (g.B.Bus.meaning c.loop-order.bus).state (serials_of c.loop-order.driver)) c.order-item.is in
-    let next = accepted_next s _ (serials_of c.args.driver.now) _ c.args.request _ c.loop-order.order-index _ known c.loop-order.invariant.sofar c.order-item.result _ _ c.loop-order-test.true c.in_ok-reply.reply exchange in
-    record {
-      sofar = next ∙ ap (λ replies. accepted_with replies (g.B.Bus.meaning c.admin.new.bus).state (serials_of c.admin.new.self)) (sym c.in_ok-push.ensures.items);
-      linked = record { bus = done.bus; left = done.left };
-      lanes = ap (λ (d : DriverValue). length d.lanes) done.driver ∙ length-set c.loop-order.driver.lanes _ (after_one (lane_at c.loop-order.driver.lanes _)) ∙ c.loop-order.invariant.lanes;
-    }
+    let first = sent (g.B.Bus.meaning c.args.bus.now) (g.B.Bus.meaning c.admin.new.bus) c.args.driver.now c.admin.new.self r _ _ (Err c.in_err-reply.field-0.0)
+    c.first_command-command.ensures.command c.requires.controller done.answer done.state done.driver in
+    rw (e.1, e.2) (left_refused _ _ _ _ r _ _ (first_refused _ _ _ _ r _ first))
 
 pub returns-in_err-text_of-clause-left : goal.returns-in_err-text_of-clause-left
 returns-in_err-text_of-clause-left g c =
-    let s = (g.B.Bus.meaning c.args.bus.now).state in
+    let r = c.args.request.now in
     let e = err_from_is_err_and c.from_residual-in_err-text_of.result c.from_residual-in_err-text_of.ensures.1 in
-    rw (e.1, e.2) (left_memory s _ (serials_of c.args.driver.now) _ c.args.request _ c.loop-order.order-index _ (c.deref-order-items.ensures.value ∙ c.in_ok-orders.ensures.orders s) c.loop-order.invariant.sofar)
+    let done = c.in_ok-reply.ensures in
+    let first = sent (g.B.Bus.meaning c.args.bus.now) (g.B.Bus.meaning c.admin.new.bus) c.args.driver.now c.admin.new.self r _ _ (Ok c.in_ok-reply.reply)
+    c.first_command-command.ensures.command c.requires.controller done.answer done.state done.driver in
+    rw (e.1, e.2) (left_memory _ _ _ _ r _ (one_accepted _ _ _ _ r _ first c.in_default.ensures.command))
+
+pub returns-in_default-clause-left : goal.returns-in_default-clause-left
+returns-in_default-clause-left g c =
+    let r = c.args.request.now in
+    let done = c.in_ok-reply.ensures in
+    let first = sent (g.B.Bus.meaning c.args.bus.now) (g.B.Bus.meaning c.admin.new.bus) c.args.driver.now c.admin.new.self r _ _ (Ok c.in_ok-reply.reply)
+    c.first_command-command.ensures.command c.requires.controller done.answer done.state done.driver in
+    left_text _ _ _ _ r c.in_ok-text_of.field-0 _ (one_accepted _ _ _ _ r _ first c.in_default.ensures.command) c.in_ok-text_of.ensures
+
+pub returns-in_err-next-clause-left : goal.returns-in_err-next-clause-left
+returns-in_err-next-clause-left g c =
+    let r = c.args.request.now in
+    let e = err_from_is_err_and c.from_residual-in_err-next.result c.from_residual-in_err-next.ensures.1 in
+    let done = c.in_ok-reply.ensures in
+    let first = sent (g.B.Bus.meaning c.args.bus.now) (g.B.Bus.meaning c.admin.new.bus) c.args.driver.now c.admin.new.self r _ _ (Ok c.in_ok-reply.reply)
+    c.first_command-command.ensures.command c.requires.controller done.answer done.state done.driver in
+    let known = still_known c.args.driver.now c.admin.new.self r.controller done.driver c.requires.controller in
+    let more = c.in_err-next.ensures in
+    let second = sent (g.B.Bus.meaning c.admin.new.bus) (g.B.Bus.meaning c.admin-2.new.bus) c.admin.new.self c.admin-2.new.self r c.in-Some.command _ (Err c.in_err-next.field-0.0)
+    refl known more.answer more.state more.driver in
+    rw (e.1, e.2) (left_refused _ _ _ _ r _ _ (second_refused _ _ _ _ r _ _ _ first _ c.in-Some.ensures.command _ second))
+
+pub returns-in_err-text_of_two-clause-left : goal.returns-in_err-text_of_two-clause-left
+returns-in_err-text_of_two-clause-left g c =
+    let r = c.args.request.now in
+    let e = err_from_is_err_and c.from_residual-in_err-text_of_two.result c.from_residual-in_err-text_of_two.ensures.1 in
+    let done = c.in_ok-reply.ensures in
+    let first = sent (g.B.Bus.meaning c.args.bus.now) (g.B.Bus.meaning c.admin.new.bus) c.args.driver.now c.admin.new.self r _ _ (Ok c.in_ok-reply.reply)
+    c.first_command-command.ensures.command c.requires.controller done.answer done.state done.driver in
+    let known = still_known c.args.driver.now c.admin.new.self r.controller done.driver c.requires.controller in
+    let more = c.in_ok-next.ensures in
+    let second = sent (g.B.Bus.meaning c.admin.new.bus) (g.B.Bus.meaning c.admin-2.new.bus) c.admin.new.self c.admin-2.new.self r c.in-Some.command _ (Ok c.in_ok-next.next)
+    refl known more.answer more.state more.driver in
+    rw (e.1, e.2) (left_memory _ _ _ _ r _ (two_accepted _ _ _ _ r _ _ _ first _ c.in-Some.ensures.command _ second))
 
 pub returns-clause-left : goal.returns-clause-left
 returns-clause-left g c =
-    let s = (g.B.Bus.meaning c.args.bus.now).state in
-    left_text s _ (serials_of c.args.driver.now) _ c.args.request _ c.loop-order.order-index _ (c.deref-order-items.ensures.value ∙ c.in_ok-orders.ensures.orders s) c.loop-order.invariant.sofar
-    c.in_ok-text_of.field-0 c.loop-order-test.false (c.in_ok-text_of.ensures ∙ ap (text_of c.args.request.ask) c.deref.ensures.value)
+    let r = c.args.request.now in
+    let done = c.in_ok-reply.ensures in
+    let first = sent (g.B.Bus.meaning c.args.bus.now) (g.B.Bus.meaning c.admin.new.bus) c.args.driver.now c.admin.new.self r _ _ (Ok c.in_ok-reply.reply)
+    c.first_command-command.ensures.command c.requires.controller done.answer done.state done.driver in
+    let known = still_known c.args.driver.now c.admin.new.self r.controller done.driver c.requires.controller in
+    let more = c.in_ok-next.ensures in
+    let second = sent (g.B.Bus.meaning c.admin.new.bus) (g.B.Bus.meaning c.admin-2.new.bus) c.admin.new.self c.admin-2.new.self r c.in-Some.command _ (Ok c.in_ok-next.next)
+    refl known more.answer more.state more.driver in
+    left_text _ _ _ _ r c.in_ok-text_of_two.field-0 _ (two_accepted _ _ _ _ r _ _ _ first _ c.in-Some.ensures.command _ second) c.in_ok-text_of_two.ensures

@@ -9,7 +9,7 @@ use Rattle.nv_script.proofs.running.run.Goals as goal
 pub run_within-requires-clause-first : goal.run_within-requires-clause-first
 run_within-requires-clause-first g c =
     first_session c.args.geometry (g.B.Bus.meaning c.args.bus.now) (g.B.Bus.meaning c.bring_up.new.bus) c.in-Ok.driver c.new-session.result
-    c.requires.bus c.in-Ok.ensures.state c.in-Ok.ensures.value c.new-session.ensures
+    c.requires.bus c.in-Ok.ensures.state c.in-Ok.ensures.value c.new-session.ensures.driver c.new-session.ensures.number c.new-session.ensures.status
 
 pub returns-in-Ok-clause-ends : goal.returns-in-Ok-clause-ends
 returns-in-Ok-clause-ends g c =

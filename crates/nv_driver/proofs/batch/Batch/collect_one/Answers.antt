@@ -1,7 +1,8 @@
 use Rattle.std.proofs.Common.{◌%◌, List, None, ap, arith, length, slice_index_or, sym}
 use Rattle.nv_command.specs.declared.command.Command.{Command}
-use Rattle.nv_driver.proofs.CollectLaws.{answer_legal, answers_more, cid_below, collects, command_at, distance_to, freed_between, give_distinct, give_none, give_own, is_some, is_there, no_more, number_is, one_is}
+use Rattle.nv_driver.proofs.CollectLaws.{answer_legal, answer_sends, answers_more, cid_below, collects, command_at, distance_to, freed_between, give_distinct, give_none, give_own, is_some, is_there, no_more, number_is, one_is}
 use Rattle.nv_driver.proofs.ExchangeLaws.{in_some}
+use Rattle.nv_driver.proofs.PointerLaws.{seven_pages}
 use Rattle.nv_driver.proofs.batch.Batch.collect_one.Goals as goal
 
 pub unwrap-completion-requires : goal.unwrap-completion-requires
@@ -56,7 +57,7 @@ give-requires-clause-few g c =
     let value = c.poll.ensures.value in
     let at = number_is u more some value c.distance.ensures in
     let place = ap (λ n. slice_index_or c.args.self.now.outstanding (n % 16) None) (sym at) in
-    omega (arith, (one_is u more some value place c.unwrap-one.ensures).few)
+    omega (arith, (one_is u more some value place c.unwrap-one.ensures).few, seven_pages _ u.begun.geometry.page_size)
 
 pub give-requires-clause-own : goal.give-requires-clause-own
 give-requires-clause-own g c =
@@ -101,8 +102,20 @@ bounds-commands-number g c =
     let at = number_is u more some value c.distance.ensures in
     omega (arith, at, more, no_more u, u.some, ap (λ (ks : List Command). length ks) c.requires.1.0)
 
-pub answer-requires : goal.answer-requires
-answer-requires g c =
+pub answer-requires-clause-sends : goal.answer-requires-clause-sends
+answer-requires-clause-sends g c =
+    let asked = c.requires.1.1 in
+    let u = asked.0 in
+    let more = asked.1.1 in
+    let some = c.unwrap-completion.ensures in
+    let value = c.poll.ensures.value in
+    let at = number_is u more some value c.distance.ensures in
+    let place = ap (λ n. slice_index_or c.args.self.now.outstanding (n % 16) None) (sym at) in
+    let same = command_at u _ (omega (arith, more, no_more u)) at c.requires.1.0 c.index-commands-number.is in
+    answer_sends u more some value place c.unwrap-one.ensures same
+
+pub answer-requires-clause-legal : goal.answer-requires-clause-legal
+answer-requires-clause-legal g c =
     let asked = c.requires.1.1 in
     let u = asked.0 in
     let more = asked.1.1 in

@@ -1,5 +1,7 @@
-use Rattle.std.proofs.Common.{◌+◌, ◌<◌, List, ap, arith, length, sym}
+use Rattle.std.proofs.Common.{◌+◌, ◌<◌, ◌≤◌, List, ap, arith, length, subst, sym}
+use Rattle.std.specs.FinSet as set
 use Rattle.nv_command.specs.declared.command.Command.{Command}
+use Rattle.nv_driver.specs.Layout.{pages_of_command}
 use Rattle.nv_driver.specs.declared.geometry.Geometry.{Geometry}
 use Rattle.nv_driver.proofs.UnderWayLaws.{has_slot, set_has, submits_at, tail_after}
 use Rattle.nv_driver.proofs.batch.Batch.fill.Goals as goal
@@ -8,8 +10,9 @@ pub submit-next-requires-clause-pages : goal.submit-next-requires-clause-pages
 submit-next-requires-clause-pages g c =
     let i = c.loop-number.invariant in
     let first = c.requires.1.1 in
-    set_has i.under_way
-    (omega (arith, i.sent, i.collected, c.loop-number-test.true, c.min.ensures, first.window, ap (λ (q : Geometry). q.window) first.geometry))
+    let u = i.under_way in
+    subst (λ (q : Geometry). pages_of_command q.page_size ≤ set.len c.loop-number.lane.pages.members) (sym u.geometry)
+    (set_has u (omega (arith, i.sent, i.collected, c.loop-number-test.true, c.min.ensures, first.window, ap (λ (q : Geometry). q.window) first.geometry)))
 
 pub submit-next-requires-clause-free : goal.submit-next-requires-clause-free
 submit-next-requires-clause-free g c =

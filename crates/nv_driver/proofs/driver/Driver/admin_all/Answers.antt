@@ -9,7 +9,7 @@ use Rattle.nv_driver.proofs.driver.Driver.admin_all.Goals as goal
 pub exchange_all-requires : goal.exchange_all-requires
 exchange_all-requires g c κs within =
     let ready = ready_at c.self.invariant c.requires.bus (c.requires.left ∙ ap ports_of (sym c.self.view_is)) (inside_of _ _ _ _ _ c.requires.ctrl c.self.view_is) c.index_mut-lane.ensures.value in
-    (search rules, (search rules, (refl, (ready, (c.requires.fits, c.requires.len)))))
+    (search rules, (search rules, (refl, (ready, (λ i d h. record { fits = c.requires.fits i d h; sends = c.requires.sends i d h }, c.requires.len)))))
 
 pub invariant_of-self : goal.invariant_of-self
 invariant_of-self g c =

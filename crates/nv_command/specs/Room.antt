@@ -1,0 +1,22 @@
+-- The reply that is kept in a room.
+use Rattle.std.specs.Prelude.{ℕ, ◌≤◌, List, take}
+use Rattle.nv_layout.specs.declared.error_entry.ErrorEntry.{ErrorEntry}
+use Rattle.nv_command.specs.declared.reply.Reply.{Reply}
+use Rattle.nv_command.specs.declared.reply.Reply.TheVariants as reply
+use Rattle.nv_command.specs.declared.reply_room.Held.{Held}
+use Rattle.nv_command.specs.declared.reply_room.Held.TheVariants as held
+
+-- what is held, with the list and the entries beside it
+abbrev pub reply_held : Held → List ℕ → List ErrorEntry → Reply
+reply_held (held.Controller r) ids es = reply.Controller r
+reply_held (held.Namespace r) ids es = reply.Namespace r
+reply_held held.List ids es = reply.List ids
+reply_held (held.Number n) ids es = reply.Number n
+reply_held held.Done ids es = reply.Done
+reply_held (held.Errors count) ids es = reply.Errors (take count es)
+reply_held (held.Smart r) ids es = reply.Smart r
+
+-- there is room for 256 entries
+abbrev pub IsRoom : Held → Type 0
+IsRoom (held.Errors count) = count ≤ 256
+IsRoom h = Unit {0}

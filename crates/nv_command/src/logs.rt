@@ -1,0 +1,54 @@
+//! The command that reads logs. Section "Get Log Page command".
+
+ghost use Rattle.std.specs.Prelude.{◌≡◌};
+ghost use Rattle.nv_command.specs.Logs.{GetLogFits, get_log_command, get_log_fields, get_log_transfer};
+
+use crate::command::Command;
+use crate::dword_count::DwordCount;
+use crate::entry::Fields;
+use crate::transfer::Transfer;
+use nv_layout::{Sqe, bits_of, to_bits};
+
+/// The identifier of the log of Error Information.
+pub(crate) const ERRORS: u8 = 0x01;
+
+/// The fields of a Get Log Page command.
+pub(crate) fn fields(lid: u8, offset: u64, dwords: DwordCount) -> Fields
+    ensures { result ≡ get_log_fields lid offset dwords }
+{
+    let numd = dwords.zeros_based();
+    Fields {
+        opcode: 0x02,
+        cdw10: to_bits(lid as u32, 0, 8) + to_bits(numd, 16, 16),
+        cdw11: bits_of(numd, 16, 16),
+        cdw12: (offset % 0x1_0000_0000) as u32,
+        cdw13: (offset / 0x1_0000_0000) as u32,
+    }
+}
+
+/// What is asked of a log fits its bits, as its types say. The call does nothing.
+pub(crate) fn fits(lid: u8, nsid: u32, offset: u64, dwords: DwordCount)
+    ensures { GetLogFits lid nsid offset dwords }
+{
+    dwords.zeros_based();
+}
+
+/// The command of a Get Log Page entry.
+pub(crate) fn command<'a>(entry: &Sqe) -> Command<'a>
+    ensures { result ≡ get_log_command entry.now }
+{
+    let numd = bits_of(entry.cdw10, 16, 16) + to_bits(entry.cdw11, 16, 16);
+    Command::GetLog {
+        lid: bits_of(entry.cdw10, 0, 8) as u8,
+        nsid: entry.nsid,
+        offset: u64::from(entry.cdw12) + u64::from(entry.cdw13) * 0x1_0000_0000,
+        dwords: DwordCount::from_zeros_based(numd),
+    }
+}
+
+/// The data of a Get Log Page entry.
+pub(crate) fn transfer(entry: &Sqe) -> Transfer
+    ensures { result ≡ get_log_transfer entry.now }
+{
+    command(entry).transfer()
+}

@@ -1,0 +1,170 @@
+//! Room for one reply, with what it borrows.
+
+ghost use Rattle.std.specs.Prelude.{◌≡◌, ◌≤◌, List, length, map, take};
+ghost use Rattle.std.specs.Simd.{first_chunks};
+ghost use Rattle.nv_layout.specs.declared.error_entry.ErrorEntry.{ErrorEntry};
+ghost use Rattle.nv_command.specs.Command.{bytes_to_host, transfer_by};
+ghost use Rattle.nv_command.specs.Logs.{IsSendable, entry_received};
+ghost use Rattle.nv_command.specs.Reply.{reply_in};
+ghost use Rattle.nv_command.specs.declared.reply.Reply.TheVariants.{Done};
+
+use crate::command::Command;
+use crate::logs;
+use crate::reply::Reply;
+use nv_layout::{ErrorEntries, ErrorEntry, IdCtrl, IdNs, NsList, Smart};
+use std::marker::Model;
+
+/// What the room holds. A list and entries stand beside it.
+#[derive(Clone, Copy)]
+enum Held {
+    Controller(IdCtrl),
+    Namespace(IdNs),
+    List,
+    Number(u32),
+    Done,
+    /// So many entries of the error log.
+    Errors(usize),
+    Smart(Smart),
+}
+
+/// Room for one reply, which is made once and then used again and again.
+#[derive(Drop)]
+pub struct ReplyRoom {
+    held: Held,
+    list: NsList,
+    entries: [ErrorEntry; 256],
+}
+
+impl Model for ReplyRoom {
+    ghost use Rattle.nv_command.specs.declared.reply.Reply.{Reply};
+
+    ghost Value = { Reply };
+
+    ghost use Rattle.nv_command.specs.Room.{IsRoom, reply_held};
+
+    ghost view = { λ s. reply_held s.held s.list s.entries };
+
+    ghost invariant = { λ s. IsRoom s.held };
+}
+
+impl ReplyRoom {
+    /// Room that holds `Done`.
+    pub fn new() -> ReplyRoom
+        ensures { result ≡ Done }
+    {
+        ReplyRoom {
+            held: Held::Done,
+            list: NsList::new(),
+            entries: [ErrorEntry::NONE; 256],
+        }
+    }
+
+    /// The reply that it holds.
+    pub fn reply(&self) -> Reply<'_>
+        ensures { result ≡ self.now }
+    {
+        match self.held {
+            Held::Controller(controller) => Reply::Controller(controller),
+            Held::Namespace(namespace) => Reply::Namespace(namespace),
+            Held::List => Reply::List(self.list.ids()),
+            Held::Number(number) => Reply::Number(number),
+            Held::Done => Reply::Done,
+            Held::Errors(count) => {
+                let entries = &self.entries[..count];
+                Reply::Errors(ErrorEntries::new(entries, &[], count))
+            }
+            Held::Smart(smart) => Reply::Smart(smart),
+        }
+    }
+
+    /// Keeps a copy of a reply in place of what it held.
+    pub fn keep(&mut self, reply: &Reply)
+        ensures { self.new ≡ reply.now }
+    {
+        self.held = match reply {
+            Reply::Controller(controller) => Held::Controller(*controller),
+            Reply::Namespace(namespace) => Held::Namespace(*namespace),
+            Reply::List(ids) => {
+                keep_ids(ids.as_slice(), &mut self.list);
+                Held::List
+            }
+            Reply::Number(number) => Held::Number(*number),
+            Reply::Done => Held::Done,
+            Reply::Errors(entries) => {
+                keep_entries(entries, &mut self.entries);
+                Held::Errors(entries.len())
+            }
+            Reply::Smart(smart) => Held::Smart(*smart),
+        };
+    }
+
+    /// Reads the reply to a command in place of what it held, from dword 0 of its completion and
+    /// the data to the host. What the command has no use for is ignored.
+    pub fn read(&mut self, command: &Command, dword0: u32, bytes: &[u8])
+        requires sendable { IsSendable command.now }
+        requires size { length bytes.now ≡ bytes_to_host (transfer_by command.now) }
+        ensures { self.new ≡ reply_in command.now dword0 bytes.now }
+    {
+        self.held = match command {
+            Command::IdentifyController => Held::Controller(IdCtrl::get(part_of(bytes))),
+            Command::IdentifyNamespace { nsid: _ } => Held::Namespace(IdNs::get(part_of(bytes))),
+            Command::AllocatedNamespace { nsid: _ } => Held::Namespace(IdNs::get(part_of(bytes))),
+            Command::ActiveList { after: _ } | Command::AllocatedList { after: _ } => {
+                self.list.read(part_of(bytes));
+                Held::List
+            }
+            Command::Create { .. } | Command::GetFeature { .. } => Held::Number(dword0),
+            Command::Delete { nsid: _ } => Held::Done,
+            Command::Attachment { .. } => Held::Done,
+            Command::Format { .. } => Held::Done,
+            Command::SetFeature { .. } => Held::Done,
+            Command::GetLog { lid, .. } if *lid == logs::ERRORS => {
+                let (chunks, _) = bytes.as_chunks();
+                read_entries(chunks, &mut self.entries);
+                Held::Errors(chunks.len())
+            }
+            Command::GetLog { .. } => Held::Smart(Smart::get(part_of(bytes))),
+        };
+    }
+}
+
+/// Bytes as an array.
+fn part_of<const N: usize>(bytes: &[u8]) -> &[u8; N]
+    requires { length bytes.now ≡ N }
+    ensures { result.now ≡ bytes.now }
+{
+    bytes.first_chunk().unwrap()
+}
+
+/// Copies identifiers to a list, in place of what it had.
+fn keep_ids(ids: &[u32], list: &mut NsList)
+    requires { length ids.now ≤ 1024 }
+    ensures { list.new ≡ ids.now }
+{
+    list.clear();
+    for nsid in ids {
+        list.push(*nsid);
+    }
+}
+
+/// Copies entries to the front of those that are kept.
+fn keep_entries(entries: &ErrorEntries, out: &mut [ErrorEntry; 256])
+    ensures { take (length entries.now) out.new ≡ entries.now }
+{
+    for index in 0..entries.len() {
+        out[index] = entries.get(index);
+    }
+}
+
+/// Reads entries to the front of those that are kept, without their phase tags.
+fn read_entries(chunks: &[[u8; 64]], out: &mut [ErrorEntry; 256])
+    requires { length chunks.now ≤ 256 }
+    ensures { take (length chunks.now) out.new ≡ map entry_received chunks.now }
+{
+    for (index, chunk) in chunks.iter().enumerate() {
+        out[index] = ErrorEntry {
+            phase: false,
+            ..ErrorEntry::get(chunk)
+        };
+    }
+}

@@ -1,0 +1,38 @@
+use Rattle.std.proofs.Common.{◌∙◌, Option, ap}
+use Rattle.nv_prp.specs.Place.{places}
+use Rattle.nv_command.specs.declared.refusal.Refusal.{Refusal}
+use Rattle.nv_controller.specs.Entry.{told_by}
+use Rattle.nv_controller.specs.declared.entry.Told.{Told}
+use Rattle.nv_controller.proofs.EntryLaws.{answered, moved_none, moved_reply, refused_by}
+use Rattle.nv_controller.proofs.entry.execute.Goals.{in-Ok, in-Err}
+use Rattle.nv_controller.proofs.entry.execute.Goals as goal
+
+pub deliver-requires-clause-is_reply : goal.deliver-requires-clause-is_reply
+deliver-requires-clause-is_reply g c =
+    (answered _ c.args.ctrl c.args.command.now c.args.origin.cid _ c.in-Ok.reply c.requires.well_formed c.in-Ok.is c.answer.ensures).is_reply
+
+pub deliver-requires-clause-fits : goal.deliver-requires-clause-fits
+deliver-requires-clause-fits g c =
+    (answered _ c.args.ctrl c.args.command.now c.args.origin.cid _ c.in-Ok.reply c.requires.well_formed c.in-Ok.is c.answer.ensures).fits
+
+pub returns-clause-told : goal.returns-clause-told
+returns-clause-told g c = elim c.match-answer.branch [
+  | in-Ok w ↦
+      ap (λ (p : Told × Option Refusal). p.0) w.refusal-is ∙ w.reply.ensures
+      ∙ (answered _ c.args.ctrl c.args.command.now c.args.origin.cid _ w.in-Ok.reply c.requires.well_formed w.in-Ok.is c.answer.ensures).told
+  | in-Err w ↦
+      ap (λ (p : Told × Option Refusal). p.0) w.refusal-is ∙ w.refusal.ensures
+      ∙ ap told_by (refused_by _ c.args.ctrl c.args.command.now c.args.origin.cid _ _ w.in-Err.is c.answer.ensures).answer
+]
+
+pub returns-clause-moved : goal.returns-clause-moved
+returns-clause-moved g c = elim c.match-answer.branch [
+  | in-Ok w ↦
+      let of = answered _ c.args.ctrl c.args.command.now c.args.origin.cid _ w.in-Ok.reply c.requires.well_formed w.in-Ok.is c.answer.ensures in
+      moved_reply c.args.command.now (places c.args.spans.now) (g.M.HostMemory.bytes c.args.mem.now) (g.M.HostMemory.bytes c.match-answer.mem) w.in-Ok.reply _
+      of.answer (ap g.M.HostMemory.bytes w.mem-is ∙ w.deliver.ensures.bytes)
+  | in-Err w ↦
+      let of = refused_by _ c.args.ctrl c.args.command.now c.args.origin.cid _ _ w.in-Err.is c.answer.ensures in
+      moved_none c.args.command.now (places c.args.spans.now) (g.M.HostMemory.bytes c.args.mem.now) (g.M.HostMemory.bytes c.match-answer.mem) _ _
+      of.answer (ap g.M.HostMemory.bytes w.mem-is)
+]

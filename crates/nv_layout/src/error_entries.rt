@@ -1,0 +1,88 @@
+//! The entries of an error log, where they stand.
+
+ghost use Rattle.std.specs.Prelude.{◌≡◌, ◌≤◌, ◌<◌, ◌+◌, ◌-◌, ◌++◌, List, get_or, length, replicate};
+ghost use Rattle.nv_layout.specs.ErrorEntry.{bytes_of_entries, bytes_of_error_entry, no_entry};
+ghost use Rattle.nv_layout.specs.Parts.{part};
+ghost use Rattle.nv_layout.specs.declared.error_entry.ErrorEntry.{ErrorEntry};
+
+use crate::error_entry::ErrorEntry;
+use std::marker::Model;
+
+/// Up to 256 entries of an error log that stand elsewhere, the newest first. Those that the log
+/// doesn't have hold no error. Section "Error Information (Log Identifier 01h)".
+#[derive(Drop)]
+pub struct ErrorEntries<'a> {
+    newest: &'a [ErrorEntry],
+    older: &'a [ErrorEntry],
+    count: usize,
+}
+
+impl<'a> Model for ErrorEntries<'a> {
+    ghost Value = { List ErrorEntry };
+
+    ghost view = { λ s. s.newest.now ++ s.older.now ++ replicate (s.count - (length s.newest.now + length s.older.now)) no_entry };
+
+    ghost invariant = { λ s. (length s.newest.now + length s.older.now ≤ s.count) × (s.count ≤ 256) };
+}
+
+impl<'a> ErrorEntries<'a> {
+    /// These entries, and as many without an error as make `count`.
+    pub fn new(newest: &'a [ErrorEntry], older: &'a [ErrorEntry], count: usize) -> ErrorEntries<'a>
+        requires room { length newest.now + length older.now ≤ count }
+        requires within { count ≤ 256 }
+        ensures { result ≡ newest.now ++ older.now ++ replicate (count - (length newest.now + length older.now)) no_entry }
+    {
+        ErrorEntries {
+            newest,
+            older,
+            count,
+        }
+    }
+
+    /// How many entries there are.
+    pub fn len(&self) -> usize
+        ensures count { result ≡ length self.now }
+        ensures within { result ≤ 256 }
+    {
+        self.count
+    }
+
+    /// The entry at an index from the newest on. Past the last it holds no error.
+    pub fn get(&self, index: usize) -> ErrorEntry
+        ensures { result ≡ get_or self.now index no_entry }
+    {
+        let newest = self.newest.len();
+        if index < newest {
+            return self.newest[index];
+        }
+        match self.older.get(index - newest) {
+            Some(entry) => *entry,
+            None => ErrorEntry::NONE,
+        }
+    }
+
+    /// Writes their bytes from a place on, and zeros past their end.
+    pub fn fill(&self, from: usize, out: &mut [u8])
+        ensures { out.new ≡ part (bytes_of_entries self.now) from (length out.old) }
+    {
+        let from = from.min(64 * self.len());
+        let mut done = 0;
+        while done < out.len() {
+            let place = from + done;
+            let end = done + (64 - place % 64).min(out.len() - done);
+            put_part(&self.get(place / 64), place % 64, &mut out[done..end]);
+            done = end;
+        }
+    }
+}
+
+/// Writes the bytes of an entry from a place on, as many as there is room for.
+#[tactic(auto, using(crate::specs::PartLaws::part_within))]
+fn put_part(entry: &ErrorEntry, from: usize, out: &mut [u8])
+    requires { from + length out.old ≤ 64 }
+    ensures { out.new ≡ part (bytes_of_error_entry entry.now) from (length out.old) }
+{
+    let mut bytes = [0; 64];
+    entry.put(&mut bytes);
+    out.copy_from_slice(&bytes[from..from + out.len()]);
+}

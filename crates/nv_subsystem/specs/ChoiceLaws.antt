@@ -1,0 +1,12 @@
+-- Choices by a test.
+use Rattle.std.proofs.Common.{◌≡◌, Bool, true, false, not, refl}
+use Rattle.std.specs.Prelude.{if◌then◌else◌}
+
+-- what holds of both holds of the one that is chosen
+pub chosen_fits : {A : Type 0} (P : A → Type 0) (b : Bool) (x y : A) → P x → P y → P (if b then x else y)
+chosen_fits P true x y p q = p
+chosen_fits P false x y p q = q
+
+pub not_false : (b : Bool) → not b ≡ false → b ≡ true
+not_false true h = refl
+not_false false h = absurd (cc h)

@@ -1,0 +1,85 @@
+//! What Identify tells of a controller. Section "Identify Controller data structure (CNS 01h)".
+
+ghost use Rattle.std.specs.Prelude.{◌≡◌, ◌<◌, length};
+ghost use Rattle.nv_subsystem.specs.ControllerView.{controller_view};
+ghost use Rattle.nv_subsystem.specs.IdentifyController.{cmic_of, controller_reply, fna_of, id_ctrl_of, padded};
+
+use crate::controller::Controller;
+use crate::subsystem::Subsystem;
+use nv_command::Reply;
+use nv_layout::IdCtrl;
+
+/// A text with padding after it.
+fn padded<const N: usize>(text: &[u8], padding: u8) -> [u8; N]
+    ensures { result ≡ padded N padding text.now }
+{
+    let mut bytes = [padding; N];
+    let count = text.len().min(N);
+    bytes[..count].copy_from_slice(&text[..count]);
+    bytes
+}
+
+impl Controller {
+    /// What it can do at a format: bit 2 erase by a key.
+    fn fna(&self) -> u8
+        ensures { result ≡ fna_of (controller_view self.now) }
+    {
+        if self.identity.crypto_erase { 0x04 } else { 0 }
+    }
+}
+
+impl Subsystem {
+    /// How it shares namespaces: bit 1 where it has two controllers or more.
+    fn cmic(&self) -> u8
+        ensures { result ≡ cmic_of self.now }
+    {
+        if self.controllers.len() >= 2 { 0x02 } else { 0 }
+    }
+
+    /// What is told of a controller: version 1.4, with Format NVM and Namespace Management (OACS),
+    /// one firmware slot (FRMW), offsets into logs (LPA), entries of 64 and of 16 bytes (SQES,
+    /// CQES), and values of features that are saved (ONCS).
+    fn id_ctrl(&self, controller: &Controller) -> IdCtrl
+        ensures { result ≡ id_ctrl_of self.now (controller_view controller.now) }
+    {
+        let identity = &controller.identity;
+        let numbers = identity.numbers;
+        IdCtrl {
+            vid: numbers.vid,
+            ssvid: numbers.ssvid,
+            sn: padded(identity.sn.as_bytes(), b' '),
+            mn: padded(identity.mn.as_bytes(), b' '),
+            fr: padded(identity.fr.as_bytes(), b' '),
+            rab: numbers.rab,
+            ieee: numbers.ieee,
+            cmic: self.cmic(),
+            mdts: numbers.mdts,
+            cntlid: identity.cntlid,
+            ver: 0x0001_0400,
+            oacs: 0x0a,
+            frmw: 0x02,
+            lpa: 0x04,
+            elpe: numbers.elpe,
+            npss: 0,
+            wctemp: numbers.wctemp,
+            cctemp: numbers.cctemp,
+            tnvmcap: u128::from(self.tnvmcap),
+            unvmcap: u128::from(self.unallocated()),
+            sqes: 0x66,
+            cqes: 0x44,
+            nn: self.slots.count(),
+            oncs: 0x10,
+            fna: controller.fna(),
+            vwc: numbers.vwc,
+            subnqn: padded(self.subnqn.as_bytes(), 0),
+        }
+    }
+
+    /// A controller.
+    pub(crate) fn controller_reply<'a>(&self, ctrl: u16) -> Reply<'a>
+        requires { ctrl < length self.now.controllers }
+        ensures { result ≡ controller_reply self.now ctrl }
+    {
+        Reply::Controller(self.id_ctrl(&self.controllers[ctrl as usize]))
+    }
+}

@@ -1,0 +1,115 @@
+//! The logs of a controller: when a Get Log Page is refused, and what it answers. Section "Get Log
+//! Page command".
+
+ghost use Rattle.std.specs.Prelude.{◌≡◌, ◌+◌, ◌<◌, ◌≤◌, length, map};
+ghost use Rattle.nv_layout.specs.ErrorEntry.{without_phase};
+ghost use Rattle.nv_command.specs.Logs.{without_phases};
+ghost use Rattle.nv_subsystem.specs.ControllerView.{controller_view};
+ghost use Rattle.nv_subsystem.specs.Logs.{entry_count, errors_of, log_length, log_reply, log_rows, smart_of};
+ghost use Rattle.nv_subsystem.specs.Row.{Checks};
+
+use crate::controller::Controller;
+use crate::row::{Row, check};
+use crate::subsystem::Subsystem;
+use nv_command::{BROADCAST_NSID, Refusal, Reply, StatusCode};
+use nv_layout::{ErrorEntries, Smart};
+
+/// Error Information, by its log page identifier.
+pub const ERROR_INFORMATION: u8 = 0x01;
+
+/// SMART / Health Information, by its log page identifier.
+pub const HEALTH: u8 = 0x02;
+
+impl Controller {
+    /// The error log, newest first, with entries without an error up to ELPE + 1.
+    fn errors(&self) -> ErrorEntries<'_>
+        requires { self.now.log.most ≡ self.now.identity.numbers.elpe + 1 }
+        ensures { map without_phase result ≡ errors_of (controller_view self.now) }
+    {
+        self.log.entries()
+    }
+
+    /// The health log: what the file gives, and how many commands were refused.
+    fn health(&self) -> Smart
+        ensures { result ≡ smart_of (controller_view self.now) }
+    {
+        let smart = self.smart;
+        let counters = smart.counters;
+        let sensors = smart.sensors;
+        Smart {
+            critical_warning: smart.critical_warning,
+            temperature: smart.temperature,
+            avail_spare: smart.avail_spare,
+            spare_thresh: smart.spare_thresh,
+            percent_used: smart.percent_used,
+            data_units_read: u128::from(counters.data_units_read),
+            data_units_written: u128::from(counters.data_units_written),
+            host_read_commands: u128::from(counters.host_read_commands),
+            host_write_commands: u128::from(counters.host_write_commands),
+            controller_busy_time: u128::from(counters.controller_busy_time),
+            power_cycles: u128::from(counters.power_cycles),
+            power_on_hours: u128::from(counters.power_on_hours),
+            unsafe_shutdowns: u128::from(counters.unsafe_shutdowns),
+            media_errors: u128::from(counters.media_errors),
+            num_err_log_entries: u128::from(self.refusals),
+            warning_temp_time: smart.warning_temp_time,
+            critical_comp_time: smart.critical_comp_time,
+            sensors,
+        }
+    }
+}
+
+impl Subsystem {
+    /// The bytes of a log.
+    fn log_length(&self, ctrl: u16, lid: u8) -> u64
+        requires { ctrl < length self.now.controllers }
+        ensures { result ≡ log_length self.now ctrl lid }
+    {
+        if lid == ERROR_INFORMATION {
+            let elpe = self.controllers[ctrl as usize].identity.numbers.elpe;
+            64 * (u64::from(elpe) + 1)
+        } else {
+            512
+        }
+    }
+
+    /// Why a log is refused. The conditions go in the order of the rows.
+    pub(crate) fn check_log(
+        &self,
+        ctrl: u16,
+        lid: u8,
+        nsid: u32,
+        offset: u64,
+    ) -> Result<(), Refusal>
+        requires { ctrl < length self.now.controllers }
+        ensures { Checks (log_rows self.now ctrl lid nsid offset) result }
+    {
+        check(&[
+            Row::new(
+                !(lid == ERROR_INFORMATION || lid == HEALTH),
+                StatusCode::InvalidLogPage,
+            ),
+            Row::new(
+                !(nsid == 0 || nsid == BROADCAST_NSID),
+                StatusCode::InvalidFieldInCommand,
+            ),
+            Row::new(
+                self.log_length(ctrl, lid) < offset || offset % 4 != 0,
+                StatusCode::InvalidFieldInCommand,
+            ),
+        ])
+    }
+
+    /// A log of a controller.
+    pub(crate) fn log_reply(&self, ctrl: u16, lid: u8) -> Reply<'_>
+        requires { ctrl < length self.now.controllers }
+        ensures { without_phases result ≡ log_reply self.now ctrl lid }
+    {
+        let controller = &self.controllers[ctrl as usize];
+        if lid == ERROR_INFORMATION {
+            Reply::Errors(controller.errors())
+        } else {
+            Reply::Smart(controller.health())
+        }
+    }
+}
