@@ -23,6 +23,7 @@ mod transfer;
 
 pub use command::{BROADCAST_NSID, Command};
 pub use dword_count::DwordCount;
+pub use logs::{ERROR_INFORMATION, HEALTH};
 pub use refusal::Refusal;
 pub use reply::Reply;
 pub use reply_room::ReplyRoom;

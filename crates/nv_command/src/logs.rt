@@ -9,8 +9,11 @@ use crate::entry::Fields;
 use crate::transfer::Transfer;
 use nv_layout::{Sqe, bits_of, to_bits};
 
-/// The identifier of the log of Error Information.
-pub(crate) const ERRORS: u8 = 0x01;
+/// Error Information, by its log page identifier.
+pub const ERROR_INFORMATION: u8 = 0x01;
+
+/// SMART / Health Information, by its log page identifier.
+pub const HEALTH: u8 = 0x02;
 
 /// The fields of a Get Log Page command.
 pub(crate) fn fields(lid: u8, offset: u64, dwords: DwordCount) -> Fields

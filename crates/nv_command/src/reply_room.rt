@@ -9,7 +9,7 @@ ghost use Rattle.nv_command.specs.Reply.{reply_in};
 ghost use Rattle.nv_command.specs.declared.reply.Reply.TheVariants.{Done};
 
 use crate::command::Command;
-use crate::logs;
+use crate::logs::ERROR_INFORMATION;
 use crate::reply::Reply;
 use nv_layout::{ErrorEntries, ErrorEntry, IdCtrl, IdNs, NsList, Smart};
 use std::marker::Model;
@@ -118,7 +118,7 @@ impl ReplyRoom {
             Command::Attachment { .. } => Held::Done,
             Command::Format { .. } => Held::Done,
             Command::SetFeature { .. } => Held::Done,
-            Command::GetLog { lid, .. } if *lid == logs::ERRORS => {
+            Command::GetLog { lid, .. } if *lid == ERROR_INFORMATION => {
                 let (chunks, _) = bytes.as_chunks();
                 read_entries(chunks, &mut self.entries);
                 Held::Errors(chunks.len())

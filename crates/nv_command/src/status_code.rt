@@ -119,9 +119,11 @@ impl StatusCode {
         }
     }
 
-    /// Its name, as the standard spells it.
+    /// Its name, as the standard spells it. It is that of its status too.
+    #[tactic(auto, using(crate::proofs::StatusNames::named_by_status))]
     pub fn name(self) -> &'static str
-        ensures { result.now ≡ name_of_code self }
+        ensures name { result.now ≡ name_of_code self }
+        ensures status { name_of_status (status_of_code self) ≡ name_of_code self }
     {
         self.row().name
     }

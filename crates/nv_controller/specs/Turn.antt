@@ -35,11 +35,11 @@ Taken zero page_size c old new = new ≡ old
 Taken (suc k) page_size c old new = (mid : Scene) × Takes page_size c old mid × Taken k page_size c mid new
 
 -- where a turn stops: after the most entries that it may take, where none can be taken, or where the memory does not
--- reach, which is a fatal status
+-- reach the next one that it may take, which is a fatal status
 abbrev pub Stops : ℕ → ℕ → ℕ → Scene → Bool → Type 0
 Stops page_size most count x fatal =
     (count ≤ most) × (count < most → can_take x.rings ≡ true → fatal ≡ true)
-    × (fatal ≡ true → (can_take x.rings ≡ true) × (reaches x.rings page_size (length x.bytes) ≡ false))
+    × (fatal ≡ true → (count < most) × (can_take x.rings ≡ true) × (reaches x.rings page_size (length x.bytes) ≡ false))
 
 -- a turn of a ready controller
 pub record RingsTurn (page_size c most count : ℕ) (old new : Scene) (fatal : Bool) : Type 0 where

@@ -187,7 +187,7 @@ pub turn_count_is : (page_size c most count : ℕ) (old new : Scene) (fatal : Bo
 turn_count_is page_size c most count old new fatal is turn =
     let less = taken_less count page_size c old new is turn.entries in
     let reached = lying_rings_reach new.rings page_size (length new.bytes) less.rings.lie in
-    let well : fatal ≡ true → ⊥ = λ e. let beyond = (turn.stop.2 e).1 in cc in
+    let well : fatal ≡ true → ⊥ = λ e. let beyond = (turn.stop.2 e).2 in cc in
     let stop = λ (more : count < most). none_can new.rings page_size (length new.bytes) less.rings.lie (λ can. well (turn.stop.1 more can)) in (
       least most (waiting old.rings) (free_slots old.rings) count (waiting new.rings) (free_slots new.rings) turn.stop.0 less.rings.wait less.rings.free stop,
       not_true fatal well,

@@ -22,12 +22,6 @@ fn after_300_refusals(rt: &impl Abort, alloc: Global, elpe: u8) -> Result<Subsys
     Ok(subsystem)
 }
 
-/// The error log of the first controller.
-const ERRORS: u8 = 0x01;
-
-/// The log of its health.
-const HEALTH: u8 = 0x02;
-
 /// Asks for a log from its start on.
 fn log<'a>(
     rt: &impl Abort,
@@ -71,7 +65,7 @@ fn keeps_the_newest_errors(rt: HostRuntime) -> Result<(), Fail> {
     for (elpe, oldest) in [(0, 300), (3, 297), (255, 45)] {
         let mut subsystem = after_300_refusals(&rt, rt.alloc(), elpe)?;
         let mut room = ReplyRoom::new();
-        match log(&rt, &mut subsystem, ERRORS, &mut room) {
+        match log(&rt, &mut subsystem, ERROR_INFORMATION, &mut room) {
             Ok(Reply::Errors(entries)) => {
                 assert_eq!(rt; entries.len(), usize::from(elpe) + 1);
                 assert_eq!(rt; (entries.get(0).count, entries.get(0).cid), (300, 299));
@@ -88,7 +82,7 @@ fn keeps_the_newest_errors(rt: HostRuntime) -> Result<(), Fail> {
 fn fills_the_log_up(rt: HostRuntime) -> Result<(), Fail> {
     let mut subsystem = Subsystem::from_toml(rt.alloc(), DEMO.as_bytes())?;
     let mut room = ReplyRoom::new();
-    match log(&rt, &mut subsystem, ERRORS, &mut room) {
+    match log(&rt, &mut subsystem, ERROR_INFORMATION, &mut room) {
         Ok(Reply::Errors(entries)) => {
             assert_eq!(rt; (entries.len(), entries.get(0).count), (4, 0));
             expect_parts(&rt, &entries);

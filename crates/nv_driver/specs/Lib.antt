@@ -13,4 +13,5 @@ pub mod Submitting
 pub mod Exchange
 pub mod Batch
 pub mod UnderWay
+pub mod Pace
 pub mod Driver

@@ -1,7 +1,7 @@
 //! A list of commands and their answers, with several commands outstanding.
 
 ghost use Rattle.std.specs.Prelude.{◌≡◌, ◌+◌, ◌-◌, ◌%◌, ◌<◌, ◌≤◌, All, MatchOption, false, length};
-ghost use Rattle.std.specs.Prelude.{None, set, slice_set, true};
+ghost use Rattle.std.specs.Prelude.{None, min, set, slice_set, true};
 ghost use Rattle.nv_controller.specs.Bus.{IsBus, port_at};
 ghost use Rattle.nv_queue.specs.Numbers.{slot_of};
 ghost use Rattle.nv_queue.specs.Rings.{told_all};
@@ -13,6 +13,7 @@ ghost use Rattle.nv_driver.specs.Quiet.{lane_value};
 ghost use Rattle.nv_driver.specs.Schedule.{CanBeSent, slot};
 ghost use Rattle.nv_driver.specs.UnderWay.{HasAnswers, IsBusOf, IsUnderWay, Moment, Run};
 ghost use Rattle.nv_driver.specs.UnderWay.{left_of, run_of, setting_of};
+ghost use Rattle.nv_driver.specs.Pace.{IsToldByPace, IsToldInTime, taken_by_turn};
 
 use crate::answer_slot::AnswerSlot;
 use crate::answering::answer;
@@ -88,6 +89,8 @@ impl Batch {
             self.new lane.new (M.page_len mem.new) (M.bytes mem.new) }
         ensures tail { MatchOption result (self.new.sent ≡ self.old.sent)
             (λ tail. tail ≡ slot (setting_of run) self.new.sent) }
+        ensures sent { self.new.sent ≡ min (self.old.collected + self.old.geometry.window)
+            (length commands.now) }
         ensures some { self.old.collected < length commands.now
             → self.old.collected < self.new.sent }
         ensures collected { self.new.collected ≡ self.old.collected }
@@ -125,6 +128,8 @@ impl Batch {
             self.new lane.new (M.page_len mem.new) (M.bytes mem.new) }
         ensures bus { IsBusOf run self.new.sent self.new.collected self.new.told
             (B.meaning bus.new) }
+        ensures sent { self.new.sent ≡ min (self.old.collected + self.old.geometry.window)
+            (length commands.now) }
         ensures some { self.old.collected < length commands.now
             → self.old.collected < self.new.sent }
         ensures collected { self.new.collected ≡ self.old.collected }
@@ -167,11 +172,15 @@ impl Batch {
         requires bus { IsBusOf run self.old.sent self.old.collected self.old.told
             (B.meaning bus.old) }
         requires some { self.old.collected < self.old.sent }
+        requires near { IsToldInTime self.old }
         ensures under_way { IsUnderWay run self.new.sent (self.new.collected + result)
             self.new lane.new (M.page_len mem.new) (M.bytes mem.new) }
         ensures bus { IsBusOf run self.new.sent (self.new.collected + result) self.new.told
             (B.meaning bus.new) }
         ensures collected { self.new.collected ≡ self.old.collected }
+        ensures count { result ≡ taken_by_turn run self.old }
+        ensures near { IsToldInTime self.new }
+        ensures some { 0 < result → self.new.told ≡ self.old.told }
         ensures none { result ≡ 0
             → (self.old.told < self.old.collected) × (self.new.told ≡ self.old.collected) }
     {
@@ -237,11 +246,14 @@ impl Batch {
         requires bus { IsBusOf at.run self.old.sent at.done self.old.told (B.meaning bus.old) }
         requires answers { HasAnswers at.run self.old.collected answers.old }
         requires posted { self.old.collected + posted ≡ at.done }
+        requires near { IsToldInTime self.old }
         ensures under_way { IsUnderWay at.run self.new.sent at.done
             self.new lane.new (M.page_len mem.now) (M.bytes mem.now) }
         ensures bus { IsBusOf at.run self.new.sent at.done self.new.told (B.meaning bus.new) }
         ensures answers { HasAnswers at.run self.new.collected answers.new }
         ensures collected { self.new.collected ≡ at.done }
+        ensures near { IsToldInTime self.new }
+        ensures paced { IsToldByPace self.old.geometry.pace self.old.told self.new.told }
         ensures told { posted ≡ 0 → self.new.told ≡ self.old.told }
     {
         for _ in 0..posted {
@@ -270,11 +282,13 @@ impl Batch {
             (B.meaning bus.old) }
         requires answers { HasAnswers run self.old.collected answers.old }
         requires some { self.old.collected < length commands.now }
+        requires near { IsToldInTime self.old }
         ensures under_way { IsUnderWay run self.new.sent self.new.collected
             self.new lane.new (M.page_len mem.new) (M.bytes mem.new) }
         ensures bus { IsBusOf run self.new.sent self.new.collected self.new.told
             (B.meaning bus.new) }
         ensures answers { HasAnswers run self.new.collected answers.new }
+        ensures near { IsToldInTime self.new }
         ensures further { left_of (length commands.now) self.new
             < left_of (length commands.now) self.old }
     {

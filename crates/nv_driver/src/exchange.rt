@@ -19,8 +19,8 @@ use nv_controller::Bus;
 use nv_host::HostMemory;
 use nv_register::offset;
 
-/// Sends a command to a controller and awaits its answer, which it puts in the slot. No command of its lane is outstanding,
-/// before and after.
+/// Sends a command to a controller and awaits its answer, which it puts in the slot. No command of
+/// its lane is outstanding, before and after.
 pub(crate) fn exchange<B: Bus, M: HostMemory>(
     bus: &mut B,
     ctrl: u16,

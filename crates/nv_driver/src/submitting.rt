@@ -4,7 +4,8 @@ ghost use Rattle.std.specs.Prelude.{◌≡◌, ◌+◌, ◌*◌, ◌-◌, ◌/�
 ghost use Rattle.std.specs.FinSet as set;
 ghost use Rattle.nv_prp.specs.Buffer.{IsBuffer, IsListPlace, KeepsOutside, StaysFor};
 ghost use Rattle.nv_prp.specs.Place.{AreDistinct, written_at};
-ghost use Rattle.nv_prp.specs.Transfer.{IsLegal, transfer, transfer_places};
+ghost use Rattle.nv_prp.specs.Transfer.{IsLegal, data_pages as pages_of};
+ghost use Rattle.nv_prp.specs.Transfer.{transfer, transfer_places};
 ghost use Rattle.nv_command.specs.Command.{bytes_from_host, host_data_of, transfer_by};
 ghost use Rattle.nv_command.specs.Logs.{IsSendable};
 ghost use Rattle.nv_controller.specs.Call.{length_of};
@@ -82,6 +83,9 @@ fn build_pointer<M: HostMemory>(
     ensures legal { 0 < len → IsLegal (transfer (M.page_len mem.new)
         (M.bytes mem.new) result.0 result.1 len) }
     ensures none { len ≡ 0 → (result.0 ≡ 0) × (result.1 ≡ 0) }
+    ensures list { 0 < len → 2 < pages_of (transfer (M.page_len mem.new)
+        (M.bytes mem.new) result.0 result.1 len) → result.1
+        ≡ slice_index pages.now.numbers 0 * M.page_len mem.new + geometry.list_offset }
     ensures others { KeepsOutside (M.page_len mem.old) (slice_index pages.now.numbers 0)
         (slice_index pages.now.numbers 1) (M.bytes mem.old) (M.bytes mem.new) }
     ensures len { length (M.bytes mem.new) ≡ length (M.bytes mem.old) }

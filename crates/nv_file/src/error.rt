@@ -6,29 +6,51 @@ ghost use Rattle.nv_file.specs.Fault.{ensure};
 use crate::key::Key;
 use crate::table_name::TableName;
 use std::alloc::{AllocError, AllocFailed};
+use std::fmt;
 use thiserror::Error;
 
 /// The first fault of a subsystem file, or want of memory.
 #[derive(Clone, Copy, Debug, PartialEq, Eq, Error)]
 pub enum SubsystemError {
-    #[error("not TOML")]
+    /// It isn't TOML.
     NotToml,
-    #[error("missing {table}.{key}")]
+    /// A table lacks a key that it must have.
     Missing { table: TableName, key: Key },
-    #[error("wrong kind {table}.{key}")]
+    /// The value of a key isn't of its kind.
     Kind { table: TableName, key: Key },
-    #[error("out of range {table}.{key}")]
+    /// The value of a key is out of its limits.
     Range { table: TableName, key: Key },
-    #[error("repeated {table}.{key}")]
+    /// The value of a key stands in a table before too.
     Repeated { table: TableName, key: Key },
-    #[error("unknown key in {table}")]
+    /// A table has a key that it may not have.
     Unknown { table: TableName },
-    #[error("capacity")]
+    /// The namespaces have more capacity than there is.
     Capacity,
-    #[error("attachment")]
+    /// A namespace is attached where it can't be.
     Attachment,
-    #[error("out of memory")]
+    /// Memory was refused.
     Memory,
+}
+
+impl fmt::Display for SubsystemError {
+    ghost use Rattle.std.specs.Prelude.{Some};
+    ghost use Rattle.nv_file.specs.FaultText.{fault_text};
+
+    ghost output = { λ fault. Some (fault_text fault) };
+
+    fn fmt<W: fmt::Write>(&self, f: &mut fmt::Formatter<W>) -> fmt::Result {
+        match self {
+            SubsystemError::NotToml => write!(f, "not TOML"),
+            SubsystemError::Missing { table, key } => write!(f, "missing {table}.{key}"),
+            SubsystemError::Kind { table, key } => write!(f, "wrong kind {table}.{key}"),
+            SubsystemError::Range { table, key } => write!(f, "out of range {table}.{key}"),
+            SubsystemError::Repeated { table, key } => write!(f, "repeated {table}.{key}"),
+            SubsystemError::Unknown { table } => write!(f, "unknown key in {table}"),
+            SubsystemError::Capacity => write!(f, "capacity"),
+            SubsystemError::Attachment => write!(f, "attachment"),
+            SubsystemError::Memory => write!(f, "out of memory"),
+        }
+    }
 }
 
 impl From<AllocError> for SubsystemError {

@@ -14,7 +14,6 @@ use Rattle.nv_subsystem.specs.Nsid.{active_nsids, is_active, is_valid}
 use Rattle.nv_subsystem.specs.Row.{row}
 use Rattle.nv_subsystem.specs.declared.row.Row.{Row}
 use Rattle.nv_subsystem.specs.State.{State, allocated_nsids}
-use Rattle.nv_subsystem.specs.declared.identify.TheConstants.{LIST_LIMIT}
 use Rattle.nv_file.specs.declared.format.Format.{Format}
 use Rattle.nv_file.specs.declared.namespace.Namespace.{Namespace}
 
@@ -30,7 +29,7 @@ allocated_rows s n = row (not (is_valid s n)) InvalidNamespaceOrFormat ∷ []
 
 -- a list: an NSID above FFFFFFFDh
 abbrev pub list_rows : ℕ → List Row
-list_rows after = row (nat_le LIST_LIMIT after) InvalidNamespaceOrFormat ∷ []
+list_rows after = row (nat_le 0xffff_fffe after) InvalidNamespaceOrFormat ∷ []
 
 -- ---- records
 

@@ -12,7 +12,6 @@ use Rattle.nv_subsystem.specs.Refusal.{refusal_of}
 use Rattle.nv_subsystem.specs.Reply.{reply_of}
 use Rattle.nv_subsystem.specs.State.{Controller, State, with_controller}
 use Rattle.nv_subsystem.specs.declared.controller.TheConstants.{GREATEST_COUNT}
-use Rattle.nv_subsystem.specs.declared.origin.TheConstants.{SERIALS}
 
 -- one more, up to the greatest count
 abbrev pub next_count : ℕ → ℕ
@@ -68,4 +67,4 @@ step s c k cid = step_by (refusal_of s c k) s c k cid
 
 -- the command identifier after one: FFFFh is never used
 abbrev pub next_serial : ℕ → ℕ
-next_serial serial = (serial + 1) % SERIALS
+next_serial serial = (serial + 1) % 0xffff

@@ -39,7 +39,8 @@ impl Model for ErrorLog {
 /// The entry of a refusal of a command of the admin queue: no field of the command and no logical
 /// block is told. Section "Error Information (Log Identifier 01h)".
 fn log_entry(count: u64, origin: Origin, nsid: u32, refusal: Refusal) -> ErrorEntry
-    ensures { without_phase result ≡ log_entry count origin.cid nsid refusal }
+    ensures entry { without_phase result ≡ log_entry count origin.cid nsid refusal }
+    ensures phase { result.phase ≡ origin.phase }
 {
     ErrorEntry {
         count,

@@ -21,8 +21,7 @@ mod row;
 mod subsystem;
 
 pub use controller::GREATEST_COUNT;
-pub use logs::{ERROR_INFORMATION, HEALTH};
-pub use nv_command::{Command, Refusal, Reply, StatusCode};
+pub use nv_command::{Command, ERROR_INFORMATION, HEALTH, Refusal, Reply, StatusCode};
 pub use nv_file::{
     Counters, DEMO, FeatureRule, Format, Identity, IdentityNumbers, Key, Namespace, SmartBase,
     SubsystemError, TableName,

@@ -11,14 +11,8 @@ ghost use Rattle.nv_subsystem.specs.Row.{Checks};
 use crate::controller::Controller;
 use crate::row::{Row, check};
 use crate::subsystem::Subsystem;
-use nv_command::{BROADCAST_NSID, Refusal, Reply, StatusCode};
+use nv_command::{BROADCAST_NSID, ERROR_INFORMATION, HEALTH, Refusal, Reply, StatusCode};
 use nv_layout::{ErrorEntries, Smart};
-
-/// Error Information, by its log page identifier.
-pub const ERROR_INFORMATION: u8 = 0x01;
-
-/// SMART / Health Information, by its log page identifier.
-pub const HEALTH: u8 = 0x02;
 
 impl Controller {
     /// The error log, newest first, with entries without an error up to ELPE + 1.

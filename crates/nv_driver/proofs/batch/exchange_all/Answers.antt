@@ -1,4 +1,5 @@
-use Rattle.std.proofs.Common.{◌≤◌, arith, length, refl}
+use Rattle.std.proofs.Common.{◌≤◌, ap, arith, length, refl}
+use Rattle.nv_driver.specs.declared.geometry.Geometry.{Geometry}
 use Rattle.nv_driver.proofs.EndLaws.{all_collected, answers_all, begins_all, ends_all}
 use Rattle.nv_driver.proofs.RoundLaws.{tells_on}
 use Rattle.nv_driver.proofs.batch.exchange_all.Goals as goal
@@ -8,7 +9,13 @@ loop-batch-init g c =
     let asked = c.requires.1.1 in
     let b = c.new-batch.ensures in
     let begun = begins_all asked.0 asked.1.0 asked.1.1.0 asked.1.1.1 b.ctrl b.geometry b.outstanding b.sent b.collected b.told in
-    record { under_way = begun.under_way; bus = begun.bus_is; answers = begun.answers_are }
+    let u = begun.under_way in
+    record {
+      under_way = u;
+      bus = begun.bus_is;
+      answers = begun.answers_are;
+      near = omega (arith, b.collected, b.told, u.begun.geometry.pace, ap (λ (q : Geometry). q.pace) u.geometry);
+    }
 
 pub returns-clause-answers : goal.returns-clause-answers
 returns-clause-answers g c =

@@ -1,4 +1,5 @@
 use Rattle.std.proofs.Common.{length}
+use Rattle.nv_driver.specs.Pace.{IsToldInTime}
 use Rattle.nv_driver.specs.UnderWay.{HasAnswers, IsBusOf, IsUnderWay, left_of}
 use Rattle.nv_driver.proofs.batch.exchange_all.Given as goal
 
@@ -10,6 +11,7 @@ invariant-loop-batch g l = record {
   under_way : IsUnderWay g.run l.batch.sent l.batch.collected l.batch l.lane (g.M.HostMemory.page_len l.mem) (g.M.HostMemory.bytes l.mem);
   bus : IsBusOf g.run l.batch.sent l.batch.collected l.batch.told (g.B.Bus.meaning l.bus);
   answers : HasAnswers g.run l.batch.collected l.answers;
+  near : IsToldInTime l.batch;
 }
 
 abbrev pub decreases-loop-batch : goal.decreases-loop-batch

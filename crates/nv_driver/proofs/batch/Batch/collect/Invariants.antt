@@ -1,4 +1,5 @@
 use Rattle.std.proofs.Common.{◌≡◌, ◌+◌}
+use Rattle.nv_driver.specs.Pace.{IsToldByPace, IsToldInTime}
 use Rattle.nv_driver.specs.UnderWay.{HasAnswers, IsBusOf, IsUnderWay}
 use Rattle.nv_driver.proofs.batch.Batch.collect.Given as goal
 
@@ -11,5 +12,7 @@ invariant-loop g l = record {
   bus : IsBusOf g.at.run l.self.sent g.at.done l.self.told (g.B.Bus.meaning l.bus);
   answers : HasAnswers g.at.run l.self.collected l.answers;
   collected : l.self.collected ≡ l.fn.self.collected + l.counter;
+  near : IsToldInTime l.self;
+  paced : IsToldByPace l.fn.self.geometry.pace l.fn.self.told l.self.told;
   told : l.counter ≡ 0 → l.self.told ≡ l.fn.self.told;
 }

@@ -32,7 +32,7 @@ returns-then-posted-eq0-clause-none g c = λ none.
     let e = c.turn-posted.ensures in
     let h = turns_on u c.requires.1.1.1.0 u.controller e.turn e.bus e.len e.page in
     let pace = u.begun.geometry.pace in
-    (none_free h none (omega (arith, pace.0, ap (λ (q : Geometry). q.pace) u.geometry)) c.requires.1.1.1.1, ap (λ (x : Batch). x.told) c.tell.ensures.batch)
+    (none_free h none (omega (arith, pace.0, ap (λ (q : Geometry). q.pace) u.geometry)) c.requires.1.1.1.1.0, ap (λ (x : Batch). x.told) c.tell.ensures.batch)
 
 pub returns-else-posted-eq0-clause-under_way : goal.returns-else-posted-eq0-clause-under_way
 returns-else-posted-eq0-clause-under_way g c =
@@ -45,3 +45,28 @@ returns-else-posted-eq0-clause-bus g c =
     let u = c.requires.1.1.0 in
     let e = c.turn-posted.ensures in
     (turns_on u c.requires.1.1.1.0 u.controller e.turn e.bus e.len e.page).bus_is
+
+pub returns-then-posted-eq0-clause-count : goal.returns-then-posted-eq0-clause-count
+returns-then-posted-eq0-clause-count g c =
+    let u = c.requires.1.1.0 in
+    let e = c.turn-posted.ensures in
+    (turns_on u c.requires.1.1.1.0 u.controller e.turn e.bus e.len e.page).number_is
+
+pub returns-then-posted-eq0-clause-near : goal.returns-then-posted-eq0-clause-near
+returns-then-posted-eq0-clause-near g c =
+    let u = c.requires.1.1.0 in
+    let b = c.tell.ensures.batch in
+    omega (
+      arith,
+      u.begun.geometry.pace,
+      ap (λ (q : Geometry). q.pace) u.geometry,
+      ap (λ (x : Batch). x.collected) b,
+      ap (λ (x : Batch). x.told) b,
+      ap (λ (x : Batch). x.geometry.pace) b,
+    )
+
+pub returns-else-posted-eq0-clause-count : goal.returns-else-posted-eq0-clause-count
+returns-else-posted-eq0-clause-count g c =
+    let u = c.requires.1.1.0 in
+    let e = c.turn-posted.ensures in
+    (turns_on u c.requires.1.1.1.0 u.controller e.turn e.bus e.len e.page).number_is

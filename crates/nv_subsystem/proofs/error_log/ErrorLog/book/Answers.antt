@@ -14,4 +14,4 @@ returns c =
     rw c.push_front.ensures.items
     (ap (λ (es : List ErrorEntry). record { most = inside.capacity; entries = es })
     (sym (take-map without_phase inside.capacity (c.log_entry.result ∷ inside.items)))
-    ∙ λ i. with_newest (c.log_entry.ensures i) (c.self.view_is i))
+    ∙ λ i. with_newest (c.log_entry.ensures.entry i) (c.self.view_is i))
