@@ -8,11 +8,15 @@ pub use harness::{Outcome, geometries, run_at, run_script};
 #[cfg(test)]
 mod every_geometry;
 #[cfg(test)]
+mod extremes;
+#[cfg(test)]
 mod feature_rules;
 #[cfg(test)]
 mod features;
 #[cfg(test)]
 mod format;
+#[cfg(test)]
+mod hostile_lines;
 #[cfg(test)]
 mod identify;
 #[cfg(test)]
@@ -26,6 +30,14 @@ mod lines_of_logs;
 #[cfg(test)]
 mod lines_of_management;
 #[cfg(test)]
+mod lines_of_output;
+#[cfg(test)]
+mod list;
+#[cfg(test)]
+mod list_turns;
+#[cfg(test)]
+mod listed;
+#[cfg(test)]
 mod logs;
 #[cfg(test)]
 mod management;
@@ -36,8 +48,12 @@ mod rows;
 #[cfg(test)]
 mod scripts;
 #[cfg(test)]
+mod shown;
+#[cfg(test)]
 mod steps;
 #[cfg(test)]
 mod streams;
+#[cfg(test)]
+mod turn_counts;
 #[cfg(test)]
 mod watch;

@@ -1,7 +1,9 @@
 //! Lines that are read or refused.
 
 use crate::rows::{Row, leaves};
-use nv_script::{Ask, Line, LineFault, OptionName, Request, read_line};
+use nv_script::{
+    Ask, Line, LineFault, OptionName, OutputFormat, Query, Question, Request, read_line,
+};
 use nv_subsystem::DEMO;
 use std::test::Fail;
 
@@ -84,9 +86,17 @@ fn holds_lines_of_4095_bytes(rt: HostRuntime) -> Result<(), Fail> {
     leaves(&rt, rt.alloc(), DEMO, &too_long(&[b' '; 4096]))
 }
 
+/// A line that asks one controller something, and wants the answer as text.
+pub(crate) fn question(controller: u16, ask: Ask) -> Line {
+    Line::Request(Request {
+        query: Query::One(Question { controller, ask }),
+        format: OutputFormat::Normal,
+    })
+}
+
 /// What a line says to a subsystem with two controllers, if it asks one of them something.
 fn asks(controller: u16, ask: Ask) -> Result<Line, LineFault> {
-    Ok(Line::Request(Request { controller, ask }))
+    Ok(question(controller, ask))
 }
 
 fn lists(first: u32, all: bool) -> Result<Line, LineFault> {

@@ -1,13 +1,13 @@
 //! What lines of logs ask, and their faults.
 
-use nv_script::{Ask, Line, LineFault, OptionName, Request, read_line};
+use crate::lines::question;
+use nv_script::{Ask, LineFault, OptionName, read_line};
 use std::alloc::Global;
 use std::process::Abort;
 
 /// Checks what a line says to a subsystem with two controllers: it asks controller 0 something.
 fn check(rt: &impl Abort, alloc: Global, line: &str, ask: Ask) {
-    let want = Line::Request(Request { controller: 0, ask });
-    assert_eq!(rt; read_line(alloc, line.as_bytes(), 2), Ok(want));
+    assert_eq!(rt; read_line(alloc, line.as_bytes(), 2), Ok(question(0, ask)));
 }
 
 #[test]

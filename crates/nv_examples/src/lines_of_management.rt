@@ -2,15 +2,15 @@
 
 ghost use Rattle.std.specs.Prelude.{◌≤◌, length};
 
-use nv_script::{Ask, ControllerList, Line, LineFault, OptionName, Request, read_line};
+use crate::lines::question;
+use nv_script::{Ask, ControllerList, LineFault, OptionName, read_line};
 use std::alloc::{AllocError, Global};
 use std::process::Abort;
 use std::test::Fail;
 
 /// Checks what a line says to a subsystem with two controllers: it asks controller 0 something.
 fn check(rt: &impl Abort, alloc: Global, line: &str, ask: Ask) {
-    let want = Line::Request(Request { controller: 0, ask });
-    assert_eq!(rt; read_line(alloc, line.as_bytes(), 2), Ok(want));
+    assert_eq!(rt; read_line(alloc, line.as_bytes(), 2), Ok(question(0, ask)));
 }
 
 /// A list of these identifiers.
@@ -106,15 +106,12 @@ fn reads_a_long_list(rt: HostRuntime) -> Result<(), Fail> {
     for _ in 0..2033 {
         line.extend_from_slice(b",7")?;
     }
-    let want = Line::Request(Request {
-        controller: 0,
-        ask: Ask::Attachment {
-            nsid: 1,
-            detach: false,
-            controllers: list(rt.alloc(), &[7; 2034])?,
-        },
-    });
-    assert_eq!(rt; read_line(alloc, &line, 2), Ok(want));
+    let ask = Ask::Attachment {
+        nsid: 1,
+        detach: false,
+        controllers: list(rt.alloc(), &[7; 2034])?,
+    };
+    assert_eq!(rt; read_line(alloc, &line, 2), Ok(question(0, ask)));
     // The last item is empty.
     line.extend_from_slice(b",")?;
     let empty = Err(LineFault::Number(OptionName::Controllers));

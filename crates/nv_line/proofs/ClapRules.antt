@@ -9,20 +9,25 @@ use Rattle.nv_line.specs.LineFault.{IsUnlessMemory}
 use Rattle.nv_line.specs.ClapRule.{app_for, clap_rows, is_taken, rows_of_words}
 use Rattle.nv_line.specs.declared.fault.LineFault.TheVariants as fault
 use Rattle.nv_line.specs.declared.verb.Verb.{Verb}
-use Rattle.nv_line.specs.declared.verb.Verb.TheVariants.{ListNs, IdNs, CreateNs, AttachNs, DetachNs, DeleteNs, Format, GetFeature, SetFeature, SmartLog, ErrorLog}
+use Rattle.nv_line.specs.declared.verb.Verb.TheVariants.{Of, List as ListAll}
+use Rattle.nv_line.specs.declared.verb.DeviceVerb.TheVariants.{IdCtrl, IdNs, ListNs, CreateNs}
+use Rattle.nv_line.specs.declared.verb.DeviceVerb.TheVariants.{AttachNs, DetachNs, DeleteNs, Format}
+use Rattle.nv_line.specs.declared.verb.DeviceVerb.TheVariants.{GetFeature, SetFeature, SmartLog, ErrorLog}
 
 each_is_simple : (v : Verb) → is_simple_and_free (app_for v) ≡ true
-each_is_simple ListNs = refl
-each_is_simple IdNs = refl
-each_is_simple CreateNs = refl
-each_is_simple AttachNs = refl
-each_is_simple DetachNs = refl
-each_is_simple DeleteNs = refl
-each_is_simple Format = refl
-each_is_simple GetFeature = refl
-each_is_simple SetFeature = refl
-each_is_simple SmartLog = refl
-each_is_simple ErrorLog = refl
+each_is_simple (Of IdCtrl) = refl
+each_is_simple (Of IdNs) = refl
+each_is_simple (Of ListNs) = refl
+each_is_simple (Of CreateNs) = refl
+each_is_simple (Of AttachNs) = refl
+each_is_simple (Of DetachNs) = refl
+each_is_simple (Of DeleteNs) = refl
+each_is_simple (Of Format) = refl
+each_is_simple (Of GetFeature) = refl
+each_is_simple (Of SetFeature) = refl
+each_is_simple (Of SmartLog) = refl
+each_is_simple (Of ErrorLog) = refl
+each_is_simple ListAll = refl
 
 pub simple_as : (v : Verb) (a : App) → a ≡ app_for v → is_simple_and_free a ≡ true
 simple_as v a e = ap is_simple_and_free e ∙ each_is_simple v

@@ -10,9 +10,10 @@ use Rattle.nv_line.specs.Verb.{options_of, word_of}
 use Rattle.nv_line.specs.declared.fault.LineFault.{LineFault}
 use Rattle.nv_line.specs.declared.fault.LineFault.TheVariants.{Usage}
 use Rattle.nv_line.specs.declared.option.CommandOption.{CommandOption}
-use Rattle.nv_line.specs.declared.option.CommandOption.TheVariants.{Flag, Number, List as ListOf}
+use Rattle.nv_line.specs.declared.option.CommandOption.TheVariants.{Flag, Number, Format, List as ListOf}
 use Rattle.nv_line.specs.declared.option.OptionName.{OptionName}
 use Rattle.nv_line.specs.declared.verb.Verb.{Verb}
+use Rattle.nv_line.specs.declared.verb.Verb.TheVariants as verb
 
 -- the rule of an option with a long name and a letter
 abbrev pub rule_for : OptionName → ℕ → ArgAction → Bool → Rule
@@ -28,17 +29,22 @@ abbrev pub option_rule : CommandOption → Rule
 option_rule (Flag o) = rule_for o.name o.letter SetTrue false
 option_rule (Number o) = rule_for o.name o.letter Set (is_required o)
 option_rule (ListOf o) = rule_for o.name o.letter Set true
+option_rule (Format o) = rule_for o.name o.letter Set false
 
 abbrev pub device_rule : Rule
 device_rule = record (new_rule (codes "device")) { required = true }
 
--- a command with a device and these options
-abbrev pub command_app : Text → List CommandOption → App
-command_app name options =
-    fold (λ a o. with_rule a (option_rule o)) (with_rule (new_app name) device_rule) options
+-- a command without its options: all but `list` take a device
+abbrev pub bare_app : Verb → App
+bare_app (verb.Of v) = with_rule (new_app (word_of (verb.Of v))) device_rule
+bare_app verb.List = new_app (word_of verb.List)
+
+-- with these options too
+abbrev pub with_options : App → List CommandOption → App
+with_options app options = fold (λ a o. with_rule a (option_rule o)) app options
 
 abbrev pub app_for : Verb → App
-app_for verb = command_app (word_of verb) (options_of verb)
+app_for v = with_options (bare_app v) (options_of v)
 
 -- clap finds no fault in the words, of which the first is the command word
 unfoldable pub is_taken : Verb → List Text → Bool

@@ -5,6 +5,7 @@ pub mod Device
 pub mod OptionName
 pub mod LineFault
 pub mod NumberOption
+pub mod OutputFormat
 pub mod Verb
 pub mod ClapRule
 pub mod OptionValue

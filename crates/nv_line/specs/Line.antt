@@ -1,9 +1,9 @@
 -- What a line says: it is skipped, it asks for something, or it has a fault.
-use Rattle.std.specs.Prelude.{ℕ, ◌<◌, not, nat_lt, length, if◌then◌else◌, Result, Ok, Err}
+use Rattle.std.specs.Prelude.{ℕ, not, nat_lt, length, if◌then◌else◌, Result, Ok, Err}
 use Rattle.std.specs.Str.{is_utf8}
 use Rattle.clap.specs.Words.{Text}
 use Rattle.nv_line.specs.LineFault.{◌>>=◌}
-use Rattle.nv_line.specs.Request.{request_of}
+use Rattle.nv_line.specs.Request.{IsQueryKnown, request_of}
 use Rattle.nv_line.specs.Word.{is_skipped, without_nvme, words_of}
 use Rattle.nv_line.specs.declared.fault.LineFault.{LineFault}
 use Rattle.nv_line.specs.declared.fault.LineFault.TheVariants.{NotText, TooLong}
@@ -20,7 +20,7 @@ reading text controllers =
       request ← request_of controllers (without_nvme (words_of text))
       Ok (line.Request request))))
 
--- a request is for one of the subsystem's controllers
+-- a request is for the subsystem's controllers
 abbrev pub IsKnown : ℕ → Line → Type 0
 IsKnown controllers line.Skipped = Unit {0}
-IsKnown controllers (line.Request request) = request.controller < controllers
+IsKnown controllers (line.Request request) = IsQueryKnown controllers request.query

@@ -2,8 +2,9 @@
 use Rattle.std.specs.Prelude.{codes}
 use Rattle.clap.specs.Words.{Text}
 use Rattle.nv_line.specs.declared.option.OptionName.{OptionName}
-use Rattle.nv_line.specs.declared.option.OptionName.TheVariants.{NamespaceId, All, Force, Nsze, Ncap, Flbas, Dps, Nmic, Controllers}
-use Rattle.nv_line.specs.declared.option.OptionName.TheVariants.{Lbaf, Ses, Pi, Pil, Ms, FeatureId, Sel, Value, Save, LogEntries}
+use Rattle.nv_line.specs.declared.option.OptionName.TheVariants.{NamespaceId, All, Force, Nsze, Ncap, Flbas, Dps}
+use Rattle.nv_line.specs.declared.option.OptionName.TheVariants.{Nmic, Controllers, Lbaf, Ses, Pi, Pil, Ms}
+use Rattle.nv_line.specs.declared.option.OptionName.TheVariants.{FeatureId, Sel, Value, Save, LogEntries, OutputFormat}
 
 abbrev pub name_of : OptionName → Text
 name_of NamespaceId = codes "namespace-id"
@@ -25,3 +26,4 @@ name_of Sel = codes "sel"
 name_of Value = codes "value"
 name_of Save = codes "save"
 name_of LogEntries = codes "log-entries"
+name_of OutputFormat = codes "output-format"

@@ -1,5 +1,6 @@
 -- What the words of a command line ask for.
-use Rattle.std.specs.Prelude.{ℕ, List, [], ◌∷◌, codes, true, false, Result, Ok, Err, unwrap_or}
+use Rattle.std.specs.Prelude.{ℕ, ◌<◌, List as ListOf, [], ◌∷◌, codes, true, false}
+use Rattle.std.specs.Prelude.{Result, Ok, Err, unwrap_or}
 use Rattle.std.specs.Option.{ok_or}
 use Rattle.clap.specs.Words.{Row, Text, first_of}
 use Rattle.nv_line.specs.ClapRule.{rows_of_words}
@@ -10,19 +11,29 @@ use Rattle.nv_line.specs.Identify.{id_ns_of, list_ns_of}
 use Rattle.nv_line.specs.LineFault.{◌>>=◌}
 use Rattle.nv_line.specs.Logs.{error_log_of, smart_log_of}
 use Rattle.nv_line.specs.Management.{attachment_of, create_ns_of, delete_ns_of}
+use Rattle.nv_line.specs.OptionValue.{format_in}
 use Rattle.nv_line.specs.Verb.{verb_of}
 use Rattle.nv_line.specs.declared.device.Device.{Device}
 use Rattle.nv_line.specs.declared.fault.LineFault.{LineFault}
 use Rattle.nv_line.specs.declared.fault.LineFault.TheVariants as fault
 use Rattle.nv_line.specs.declared.request.Ask.{Ask}
+use Rattle.nv_line.specs.declared.request.Ask.TheVariants as ask
+use Rattle.nv_line.specs.declared.request.Query.{Query}
+use Rattle.nv_line.specs.declared.request.Query.TheVariants as query
 use Rattle.nv_line.specs.declared.request.Request.{Request}
+use Rattle.nv_line.specs.declared.verb.DeviceVerb.{DeviceVerb}
+use Rattle.nv_line.specs.declared.verb.DeviceVerb.TheVariants.{IdCtrl, IdNs, ListNs, CreateNs}
+use Rattle.nv_line.specs.declared.verb.DeviceVerb.TheVariants.{AttachNs, DetachNs, DeleteNs, Format}
+use Rattle.nv_line.specs.declared.verb.DeviceVerb.TheVariants.{GetFeature, SetFeature, SmartLog, ErrorLog}
+use Rattle.nv_line.specs.declared.verb.TheConstants.{OUTPUT_FORMAT}
 use Rattle.nv_line.specs.declared.verb.Verb.{Verb}
-use Rattle.nv_line.specs.declared.verb.Verb.TheVariants.{ListNs, IdNs, CreateNs, AttachNs, DetachNs, DeleteNs, Format, GetFeature, SetFeature, SmartLog, ErrorLog}
+use Rattle.nv_line.specs.declared.verb.Verb.TheVariants.{Of, List}
 
 -- what a command word asks for, in one line each
-abbrev pub ask_of : Verb → List Row → Device → Result Ask LineFault
-ask_of ListNs = list_ns_of
+abbrev pub ask_of : DeviceVerb → ListOf Row → Device → Result Ask LineFault
+ask_of IdCtrl = λ rows device. Ok ask.IdCtrl
 ask_of IdNs = id_ns_of
+ask_of ListNs = list_ns_of
 ask_of CreateNs = create_ns_of
 ask_of AttachNs = attachment_of false
 ask_of DetachNs = attachment_of true
@@ -33,16 +44,29 @@ ask_of SetFeature = set_feature_of
 ask_of SmartLog = smart_log_of
 ask_of ErrorLog = error_log_of
 
-abbrev pub device_in : ℕ → List Row → Result Device LineFault
+abbrev pub device_in : ℕ → ListOf Row → Result Device LineFault
 device_in controllers rows =
     ok_or (device_of controllers (unwrap_or (first_of (codes "device") rows) [])) fault.Device
 
--- the words after `nvme`: usage by the command word or by clap, the device, then the options
-abbrev pub request_of : ℕ → List Text → Result Request LineFault
+-- one controller is asked, or each of them: the device, then the options
+abbrev pub query_of : ℕ → Verb → ListOf Row → Result Query LineFault
+query_of controllers (Of verb) rows = do
+  device ← device_in controllers rows
+  ask ← ask_of verb rows device
+  Ok (query.One (record { controller = device.controller; ask = ask }))
+query_of controllers List rows = Ok query.List
+
+-- the words after `nvme`: usage by the command word, by clap or by the output format, then what is asked
+abbrev pub request_of : ℕ → ListOf Text → Result Request LineFault
 request_of controllers [] = Err fault.Usage
 request_of controllers (word ∷ rest) = do
   verb ← ok_or (verb_of word) fault.Usage
   rows ← rows_of_words verb (word ∷ rest)
-  device ← device_in controllers rows
-  ask ← ask_of verb rows device
-  Ok (record { controller = device.controller; ask = ask })
+  format ← format_in rows OUTPUT_FORMAT
+  asked ← query_of controllers verb rows
+  Ok (record { query = asked; format = format })
+
+-- who is asked is one of the subsystem's controllers
+abbrev pub IsQueryKnown : ℕ → Query → Type 0
+IsQueryKnown controllers (query.One question) = question.controller < controllers
+IsQueryKnown controllers query.List = Unit {0}

@@ -2,7 +2,7 @@
 
 ghost use Rattle.std.specs.Prelude.{◌≡◌, IfOk, map, option_map, false};
 ghost use Rattle.clap.specs.Words.{app_of, first_of, found_of, rows_of, rule_of};
-ghost use Rattle.nv_line.specs.ClapRule.{app_for, option_rule, rows_of_words, rule_for};
+ghost use Rattle.nv_line.specs.ClapRule.{app_for, bare_app, option_rule, rows_of_words, rule_for};
 ghost use Rattle.nv_line.specs.LineFault.{IsUnlessMemory, ok_map};
 
 use crate::fault::LineFault;
@@ -34,6 +34,9 @@ fn option_arg<'a>(alloc: Global, option: CommandOption) -> Arg<'a>
         CommandOption::List(list) => {
             named_arg(alloc, list.name, list.letter, ArgAction::Set).required(true)
         }
+        CommandOption::Format(format) => {
+            named_arg(alloc, format.name, format.letter, ArgAction::Set)
+        }
         CommandOption::Number(number) => {
             named_arg(alloc, number.name, number.letter, ArgAction::Set).required(
                 number.is_required(),
@@ -42,12 +45,22 @@ fn option_arg<'a>(alloc: Global, option: CommandOption) -> Arg<'a>
     }
 }
 
-/// The `clap` command of a command word: a device, and its options.
+/// The `clap` command of a command word without its options: all but `list` take a device.
+fn bare_command<'a>(alloc: Global, verb: Verb) -> Result<Command<'a>, AllocError>
+    ensures { IfOk result (λ c. app_of c ≡ bare_app verb) }
+{
+    let command = Command::new(alloc, verb.word());
+    match verb {
+        Verb::Of(_) => command.arg(Arg::new(alloc, "device").required(true)),
+        Verb::List => Ok(command),
+    }
+}
+
+/// The `clap` command of a command word with its options.
 fn clap_command<'a>(alloc: Global, verb: Verb) -> Result<Command<'a>, AllocError>
     ensures { IfOk result (λ c. app_of c ≡ app_for verb) }
 {
-    let device = Arg::new(alloc, "device").required(true);
-    let mut command = Command::new(alloc, verb.word()).arg(device)?;
+    let mut command = bare_command(alloc, verb)?;
     let options = verb.options();
     for option in options {
         command = command.arg(option_arg(alloc, *option))?;

@@ -3,8 +3,9 @@
 //! The command words and their options are one table, in `verb`. What `clap` is told of a command, and how
 //! its options are read, follow from its rows.
 //!
-//! `read_line(alloc, b"list-ns /dev/nvme0 -n 2", 1)` is `Ok(Line::Request(Request { controller: 0, ask }))`
-//! where `ask` is `Ask::ListNs { first: 2, all: false }`; with no controller it is `Err(LineFault::Device)`.
+//! `read_line(alloc, b"list-ns /dev/nvme0 -n 2", 1)` is `Ok(Line::Request(Request { query, format }))` where
+//! `query` is `Query::One(Question { controller: 0, ask: Ask::ListNs { first: 2, all: false } })` and `format`
+//! is `OutputFormat::Normal`; with no controller it is `Err(LineFault::Device)`.
 #![tactic(auto)]
 
 mod clap_rule;
@@ -20,6 +21,7 @@ mod management;
 mod number;
 mod option;
 mod option_value;
+mod output_format;
 mod request;
 mod verb;
 mod word;
@@ -29,4 +31,5 @@ pub use fault::LineFault;
 pub use line::{LINE_LIMIT, Line, read_line};
 pub use number::parse_number;
 pub use option::OptionName;
-pub use request::{Ask, Request};
+pub use output_format::OutputFormat;
+pub use request::{Ask, Query, Question, Request};

@@ -29,6 +29,7 @@ pub enum OptionName {
     Value,
     Save,
     LogEntries,
+    OutputFormat,
 }
 
 impl OptionName {
@@ -56,6 +57,7 @@ impl OptionName {
             OptionName::Value => "value",
             OptionName::Save => "save",
             OptionName::LogEntries => "log-entries",
+            OptionName::OutputFormat => "output-format",
         }
     }
 }
@@ -119,10 +121,18 @@ pub struct ListOption {
     pub letter: char,
 }
 
+/// An option that takes the name of an output format.
+#[derive(Clone, Copy)]
+pub struct FormatOption {
+    pub name: OptionName,
+    pub letter: char,
+}
+
 /// An option of a command.
 #[derive(Clone, Copy)]
 pub enum CommandOption {
     Flag(FlagOption),
     Number(NumberOption),
     List(ListOption),
+    Format(FormatOption),
 }

@@ -4,14 +4,15 @@ ghost use Rattle.std.specs.Prelude.{◌≡◌, ◌≤◌, IfOk};
 ghost use Rattle.clap.specs.Words.{found_of, rows_of};
 ghost use Rattle.nv_line.specs.LineFault.{IsUnlessMemory};
 ghost use Rattle.nv_line.specs.NumberOption.{IsSound};
-ghost use Rattle.nv_line.specs.OptionValue.{flag_in, list_option_in, number_option_in};
+ghost use Rattle.nv_line.specs.OptionValue.{flag_in, format_in, list_option_in, number_option_in};
 
 use crate::clap_rule::text_of;
 use crate::controller_list::{ControllerList, parse_list};
 use crate::device::Device;
 use crate::fault::LineFault;
 use crate::number::parse_number;
-use crate::option::{FlagOption, ListOption, NumberOption};
+use crate::option::{FlagOption, FormatOption, ListOption, NumberOption};
+use crate::output_format::OutputFormat;
 use clap::ArgMatches;
 use std::alloc::Global;
 
@@ -54,5 +55,18 @@ pub(crate) fn is_set(matches: &ArgMatches<'_>, flag: FlagOption) -> bool
     match text_of(matches, flag.name.text()) {
         Some(text) => text == "true",
         None => false,
+    }
+}
+
+/// How the answer is written: as text, unless the line says otherwise.
+pub(crate) fn read_format(
+    matches: &ArgMatches<'_>,
+    option: FormatOption,
+) -> Result<OutputFormat, LineFault>
+    ensures { result ≡ format_in (rows_of (found_of matches.now)) option }
+{
+    match text_of(matches, option.name.text()) {
+        Some(name) => OutputFormat::of(name).ok_or(LineFault::Usage),
+        None => Ok(OutputFormat::Normal),
     }
 }

@@ -3,7 +3,7 @@
 ghost use Rattle.std.specs.Prelude.{◌≡◌, ◌<◌, IfOk, map};
 ghost use Rattle.clap.specs.Words.{found_of, rows_of};
 ghost use Rattle.nv_line.specs.LineFault.{IsUnlessMemory};
-ghost use Rattle.nv_line.specs.Request.{ask_of, device_in, request_of};
+ghost use Rattle.nv_line.specs.Request.{IsQueryKnown, ask_of, device_in, query_of, request_of};
 
 use crate::clap_rule::{clap_matches, text_of};
 use crate::controller_list::ControllerList;
@@ -14,7 +14,9 @@ use crate::format::format;
 use crate::identify::{id_ns, list_ns};
 use crate::logs::{error_log, smart_log};
 use crate::management::{attachment, create_ns, delete_ns};
-use crate::verb::Verb;
+use crate::option_value::read_format;
+use crate::output_format::OutputFormat;
+use crate::verb::{DeviceVerb, OUTPUT_FORMAT, Verb};
 use clap::ArgMatches;
 use nv_layout::{FourBits, ThreeBits};
 use std::alloc::Global;
@@ -22,6 +24,8 @@ use std::alloc::Global;
 /// What a controller is asked.
 #[derive(Debug, Drop, PartialEq, Eq)]
 pub enum Ask {
+    /// What the controller is ("Identify command").
+    IdCtrl,
     /// The NSIDs from `first` on, those attached to the controller or all allocated ones ("Identify
     /// command").
     ListNs {
@@ -84,12 +88,28 @@ pub enum Ask {
     },
 }
 
-/// What a line asks for.
+/// What one controller is asked.
 #[derive(Debug, Drop, PartialEq, Eq)]
-pub struct Request {
+pub struct Question {
     /// The place of the controller in the subsystem's file, counted from 0.
     pub controller: u16,
     pub ask: Ask,
+}
+
+/// What is asked, and of whom.
+#[derive(Debug, Drop, PartialEq, Eq)]
+pub enum Query {
+    /// One controller is asked.
+    One(Question),
+    /// Each controller is asked for the namespaces that are attached to it.
+    List,
+}
+
+/// What a line asks for, and how the answer is written.
+#[derive(Debug, Drop, PartialEq, Eq)]
+pub struct Request {
+    pub query: Query,
+    pub format: OutputFormat,
 }
 
 /// The device that was named.
@@ -105,23 +125,47 @@ fn chosen_device(matches: &ArgMatches<'_>, controllers: u16) -> Result<Device, L
 fn read_ask(
     alloc: Global,
     matches: &ArgMatches<'_>,
-    verb: Verb,
+    verb: DeviceVerb,
     device: Device,
 ) -> Result<Ask, LineFault>
     ensures { IsUnlessMemory (ask_of verb (rows_of (found_of matches.now)) device) result }
 {
     match verb {
-        Verb::ListNs => list_ns(matches, device),
-        Verb::IdNs => id_ns(matches, device),
-        Verb::CreateNs => create_ns(matches, device),
-        Verb::AttachNs => attachment(alloc, matches, device, false),
-        Verb::DetachNs => attachment(alloc, matches, device, true),
-        Verb::DeleteNs => delete_ns(matches, device),
-        Verb::Format => format(matches, device),
-        Verb::GetFeature => get_feature(matches, device),
-        Verb::SetFeature => set_feature(matches, device),
-        Verb::SmartLog => smart_log(matches, device),
-        Verb::ErrorLog => error_log(matches, device),
+        DeviceVerb::IdCtrl => Ok(Ask::IdCtrl),
+        DeviceVerb::IdNs => id_ns(matches, device),
+        DeviceVerb::ListNs => list_ns(matches, device),
+        DeviceVerb::CreateNs => create_ns(matches, device),
+        DeviceVerb::AttachNs => attachment(alloc, matches, device, false),
+        DeviceVerb::DetachNs => attachment(alloc, matches, device, true),
+        DeviceVerb::DeleteNs => delete_ns(matches, device),
+        DeviceVerb::Format => format(matches, device),
+        DeviceVerb::GetFeature => get_feature(matches, device),
+        DeviceVerb::SetFeature => set_feature(matches, device),
+        DeviceVerb::SmartLog => smart_log(matches, device),
+        DeviceVerb::ErrorLog => error_log(matches, device),
+    }
+}
+
+/// What a command word asks for, and of whom.
+fn read_query(
+    alloc: Global,
+    matches: &ArgMatches<'_>,
+    verb: Verb,
+    controllers: u16,
+) -> Result<Query, LineFault>
+    ensures value { IsUnlessMemory (query_of controllers verb (rows_of (found_of matches.now))) result }
+    ensures known { IfOk result (IsQueryKnown controllers) }
+{
+    match verb {
+        Verb::Of(verb) => {
+            let device = chosen_device(matches, controllers)?;
+            let ask = read_ask(alloc, matches, verb, device)?;
+            Ok(Query::One(Question {
+                controller: device.controller,
+                ask,
+            }))
+        }
+        Verb::List => Ok(Query::List),
     }
 }
 
@@ -132,17 +176,14 @@ pub(crate) fn read_request<'a>(
     controllers: u16,
 ) -> Result<Request, LineFault>
     ensures value { IsUnlessMemory (request_of controllers (map (λ w. w.now) words.now)) result }
-    ensures known { IfOk result (λ r. r.controller < controllers) }
+    ensures known { IfOk result (λ r. IsQueryKnown controllers r.query) }
 {
     if words.is_empty() {
         return Err(LineFault::Usage);
     }
     let verb = Verb::of(words[0]).ok_or(LineFault::Usage)?;
     let matches = clap_matches(alloc, verb, words)?;
-    let device = chosen_device(&matches, controllers)?;
-    let ask = read_ask(alloc, &matches, verb, device)?;
-    Ok(Request {
-        controller: device.controller,
-        ask,
-    })
+    let format = read_format(&matches, OUTPUT_FORMAT)?;
+    let query = read_query(alloc, &matches, verb, controllers)?;
+    Ok(Request { query, format })
 }

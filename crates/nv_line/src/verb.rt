@@ -1,10 +1,18 @@
 //! The command words, each with its options: the table of all commands.
 
-ghost use Rattle.std.specs.Prelude.{◌≡◌};
-ghost use Rattle.nv_line.specs.Verb.{options_of, verb_of, word_of};
+ghost use Rattle.std.specs.Prelude.{◌≡◌, Some};
+ghost use Rattle.nv_line.specs.Verb.{
+  device_options_of,
+  device_word_of,
+  options_of,
+  verb_of,
+  word_of,
+};
 
 use crate::device::NSID_LIMIT;
-use crate::option::{CommandOption, FlagOption, ListOption, NumberOption, OptionName};
+use crate::option::{
+    CommandOption, FlagOption, FormatOption, ListOption, NumberOption, OptionName,
+};
 
 /// An NSID, by default that of the path; one is needed.
 pub const NSID: NumberOption = NumberOption {
@@ -174,23 +182,42 @@ pub const LOG_ENTRIES: NumberOption = NumberOption {
     default: Some(64),
 };
 
-static VERBS: [Verb; 11] = [
-    Verb::ListNs,
-    Verb::IdNs,
-    Verb::CreateNs,
-    Verb::AttachNs,
-    Verb::DetachNs,
-    Verb::DeleteNs,
-    Verb::Format,
-    Verb::GetFeature,
-    Verb::SetFeature,
-    Verb::SmartLog,
-    Verb::ErrorLog,
+/// How the answer is written.
+pub const OUTPUT_FORMAT: FormatOption = FormatOption {
+    name: OptionName::OutputFormat,
+    letter: 'o',
+};
+
+static VERBS: [Verb; 13] = [
+    Verb::Of(DeviceVerb::IdCtrl),
+    Verb::Of(DeviceVerb::IdNs),
+    Verb::Of(DeviceVerb::ListNs),
+    Verb::Of(DeviceVerb::CreateNs),
+    Verb::Of(DeviceVerb::AttachNs),
+    Verb::Of(DeviceVerb::DetachNs),
+    Verb::Of(DeviceVerb::DeleteNs),
+    Verb::Of(DeviceVerb::Format),
+    Verb::Of(DeviceVerb::GetFeature),
+    Verb::Of(DeviceVerb::SetFeature),
+    Verb::Of(DeviceVerb::SmartLog),
+    Verb::Of(DeviceVerb::ErrorLog),
+    Verb::List,
 ];
 
-static LIST_NS: [CommandOption; 2] = [CommandOption::Number(FIRST_NSID), CommandOption::Flag(ALL)];
+/// The options of a command that has no other.
+static FORMAT_ALONE: [CommandOption; 1] = [CommandOption::Format(OUTPUT_FORMAT)];
 
-static ID_NS: [CommandOption; 2] = [CommandOption::Number(NSID), CommandOption::Flag(FORCE)];
+static ID_NS: [CommandOption; 3] = [
+    CommandOption::Number(NSID),
+    CommandOption::Flag(FORCE),
+    CommandOption::Format(OUTPUT_FORMAT),
+];
+
+static LIST_NS: [CommandOption; 3] = [
+    CommandOption::Number(FIRST_NSID),
+    CommandOption::Flag(ALL),
+    CommandOption::Format(OUTPUT_FORMAT),
+];
 
 static CREATE_NS: [CommandOption; 5] = [
     CommandOption::Number(NSZE),
@@ -229,15 +256,22 @@ static SET_FEATURE: [CommandOption; 4] = [
     CommandOption::Flag(SAVE),
 ];
 
-static SMART_LOG: [CommandOption; 1] = [CommandOption::Number(SMART_NSID)];
+static SMART_LOG: [CommandOption; 2] = [
+    CommandOption::Number(SMART_NSID),
+    CommandOption::Format(OUTPUT_FORMAT),
+];
 
-static ERROR_LOG: [CommandOption; 1] = [CommandOption::Number(LOG_ENTRIES)];
+static ERROR_LOG: [CommandOption; 2] = [
+    CommandOption::Number(LOG_ENTRIES),
+    CommandOption::Format(OUTPUT_FORMAT),
+];
 
-/// A command word.
+/// The word of a command that is given to one device.
 #[derive(Clone, Copy, PartialEq, Eq)]
-pub enum Verb {
-    ListNs,
+pub enum DeviceVerb {
+    IdCtrl,
     IdNs,
+    ListNs,
     CreateNs,
     AttachNs,
     DetachNs,
@@ -249,23 +283,66 @@ pub enum Verb {
     ErrorLog,
 }
 
-impl Verb {
-    /// As a script writes it.
-    pub(crate) fn word<'a>(self) -> &'a str
-        ensures { result.now ≡ word_of self }
+/// A command word.
+#[derive(Clone, Copy, PartialEq, Eq)]
+pub enum Verb {
+    /// The line names a device.
+    Of(DeviceVerb),
+    /// The line names none: all controllers are asked.
+    List,
+}
+
+impl DeviceVerb {
+    /// The word that a script writes, by which the command is found.
+    fn word<'a>(self) -> &'a str
+        ensures value { result.now ≡ device_word_of self }
+        ensures found { verb_of (device_word_of self) ≡ Some (Verb.Of self) }
     {
         match self {
-            Verb::ListNs => "list-ns",
-            Verb::IdNs => "id-ns",
-            Verb::CreateNs => "create-ns",
-            Verb::AttachNs => "attach-ns",
-            Verb::DetachNs => "detach-ns",
-            Verb::DeleteNs => "delete-ns",
-            Verb::Format => "format",
-            Verb::GetFeature => "get-feature",
-            Verb::SetFeature => "set-feature",
-            Verb::SmartLog => "smart-log",
-            Verb::ErrorLog => "error-log",
+            DeviceVerb::IdCtrl => "id-ctrl",
+            DeviceVerb::IdNs => "id-ns",
+            DeviceVerb::ListNs => "list-ns",
+            DeviceVerb::CreateNs => "create-ns",
+            DeviceVerb::AttachNs => "attach-ns",
+            DeviceVerb::DetachNs => "detach-ns",
+            DeviceVerb::DeleteNs => "delete-ns",
+            DeviceVerb::Format => "format",
+            DeviceVerb::GetFeature => "get-feature",
+            DeviceVerb::SetFeature => "set-feature",
+            DeviceVerb::SmartLog => "smart-log",
+            DeviceVerb::ErrorLog => "error-log",
+        }
+    }
+
+    /// Its options in order.
+    fn options(self) -> &'static [CommandOption]
+        ensures { result.now ≡ device_options_of self }
+    {
+        match self {
+            DeviceVerb::IdCtrl => FORMAT_ALONE.as_slice(),
+            DeviceVerb::IdNs => ID_NS.as_slice(),
+            DeviceVerb::ListNs => LIST_NS.as_slice(),
+            DeviceVerb::CreateNs => CREATE_NS.as_slice(),
+            DeviceVerb::AttachNs | DeviceVerb::DetachNs => ATTACHMENT.as_slice(),
+            DeviceVerb::DeleteNs => DELETE_NS.as_slice(),
+            DeviceVerb::Format => FORMAT.as_slice(),
+            DeviceVerb::GetFeature => GET_FEATURE.as_slice(),
+            DeviceVerb::SetFeature => SET_FEATURE.as_slice(),
+            DeviceVerb::SmartLog => SMART_LOG.as_slice(),
+            DeviceVerb::ErrorLog => ERROR_LOG.as_slice(),
+        }
+    }
+}
+
+impl Verb {
+    /// The word that a script writes, by which the command is found.
+    pub(crate) fn word<'a>(self) -> &'a str
+        ensures value { result.now ≡ word_of self }
+        ensures found { verb_of (word_of self) ≡ Some self }
+    {
+        match self {
+            Verb::Of(verb) => verb.word(),
+            Verb::List => "list",
         }
     }
 
@@ -274,16 +351,8 @@ impl Verb {
         ensures { result.now ≡ options_of self }
     {
         match self {
-            Verb::ListNs => LIST_NS.as_slice(),
-            Verb::IdNs => ID_NS.as_slice(),
-            Verb::CreateNs => CREATE_NS.as_slice(),
-            Verb::AttachNs | Verb::DetachNs => ATTACHMENT.as_slice(),
-            Verb::DeleteNs => DELETE_NS.as_slice(),
-            Verb::Format => FORMAT.as_slice(),
-            Verb::GetFeature => GET_FEATURE.as_slice(),
-            Verb::SetFeature => SET_FEATURE.as_slice(),
-            Verb::SmartLog => SMART_LOG.as_slice(),
-            Verb::ErrorLog => ERROR_LOG.as_slice(),
+            Verb::Of(verb) => verb.options(),
+            Verb::List => FORMAT_ALONE.as_slice(),
         }
     }
 

@@ -1,2 +1,16 @@
 pub mod Padding
+pub mod Fields
+pub mod Items
+pub mod NoFloats
 pub mod NumberedLines
+pub mod PrintableLaws
+pub mod Lengths
+pub mod JsonLengths
+pub mod FieldLengths
+pub mod RecordLengths
+pub mod MessageLengths
+pub mod ListLengths
+pub mod ShownFacts
+pub mod DeviceLengths
+pub mod Bounds
+pub mod SentenceLengths

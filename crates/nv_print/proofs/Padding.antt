@@ -3,27 +3,27 @@ use Rattle.std.proofs.Common.{◌≡◌, ◌∙◌, ℕ, ◌-◌, ◌^◌, zero,
 use Rattle.std.specs.Prelude.{◌&&◌, ◌==◌, replicate}
 use Rattle.std.proofs.lemmas.Bool.Decides.{nat_tests}
 use Rattle.std.specs.List.{repeat}
-use Rattle.std.specs.Fmt.{char_count, decimal, format_spec, padded_integral, styled_decimal, styled_text, before_digits, fill_after_digits, fill_text, number_padding, padded, take_chars}
+use Rattle.std.specs.Fmt.{char_count, decimal, format_spec, padded_integral, styled_decimal, styled_text, fill_after_digits, number_padding, padded, take_chars}
 use lib.Utf8.{encode}
-use Rattle.nv_print.specs.Texts.{right}
+use Rattle.nv_print.specs.Padding.{right}
 
 repeated : (n x : ℕ) → repeat n (x ∷ []) ≡ replicate n x
 repeated zero x = refl
 repeated (suc n) x = ap (λ t. x ∷ t) (repeated n x)
 
+-- the pieces of a padded number: fill, neither sign nor prefix, digits, and fill
+aligned : (ds : List ℕ) (before wanted after : ℕ) → before ≡ wanted → after ≡ 0
+    → (((repeat before (32 ∷ []) ++ []) ++ []) ++ []) ++ (ds ++ repeat after (32 ∷ [])) ≡ replicate wanted 32 ++ ds
+aligned ds before wanted after is none =
+    ap (λ fill. fill ++ (ds ++ repeat after (32 ∷ []))) (append-nil _ ∙ append-nil _ ∙ append-nil _ ∙ ap (λ k. repeat k (32 ∷ [])) is ∙ repeated wanted 32)
+    ∙ ap (λ k. replicate wanted 32 ++ (ds ++ repeat k (32 ∷ []))) none
+    ∙ ap (λ t. replicate wanted 32 ++ t) (append-nil ds)
+
 pub right_aligned : (width : ℕ) (ds : List ℕ) → padded_integral (format_spec 32 3 0 width (2 ^ 64 - 1)) false [] ds ≡ right width ds
 unfolding padded_integral char_count encode
 right_aligned width ds =
     let s = format_spec 32 3 0 width (2 ^ 64 - 1) in
-    let none : fill_after_digits s false [] (length ds) ≡ 0 = omega arith in
-    let pad : number_padding s false [] (length ds) ≡ width - length ds = omega arith in
-    let whole : padded_integral s false [] ds ≡ before_digits s false [] (length ds) ++ (ds ++ fill_text s (fill_after_digits s false [] (length ds))) = refl in
-    let front : before_digits s false [] (length ds) ≡ ((repeat (number_padding s false [] (length ds)) (32 ∷ []) ++ []) ++ []) ++ [] = refl in
-    let bare : ((repeat (number_padding s false [] (length ds)) (32 ∷ []) ++ []) ++ []) ++ [] ≡ repeat (number_padding s false [] (length ds)) (32 ∷ []) = append-nil _ ∙ append-nil _ ∙ append-nil _ in
-    whole
-    ∙ ap (λ k. before_digits s false [] (length ds) ++ (ds ++ fill_text s k)) none
-    ∙ ap (λ t. before_digits s false [] (length ds) ++ t) (append-nil ds)
-    ∙ ap (λ t. t ++ ds) (front ∙ bare ∙ ap (λ k. repeat k (32 ∷ [])) pad ∙ repeated (width - length ds) 32)
+    aligned ds (number_padding s false [] (length ds)) (width - length ds) (fill_after_digits s false [] (length ds)) (omega arith) (omega arith)
 
 -- the same of a number, also where no place is wanted
 pub right_decimal : (width n : ℕ) → styled_decimal (format_spec 32 3 0 width (2 ^ 64 - 1)) n ≡ right width (decimal n)
@@ -45,3 +45,10 @@ filled n = at_test (n == 0) refl
         let none : 0 ≡ n = grind (arith, nat_tests) in ap (λ (k : ℕ). replicate {A = ℕ} k 32) none
     at_test false e =
         let all : n - 0 - 0 ≡ n = omega arith in ap (λ k. repeat k (32 ∷ [])) all ∙ repeated n 32
+
+-- digits behind zeros
+pub zero_padded : (width : ℕ) (ds : List ℕ) → padded_integral (format_spec 32 0 4 width (2 ^ 64 - 1)) false [] ds ≡ replicate (width - length ds) 48 ++ ds
+unfolding padded_integral char_count encode
+zero_padded width ds =
+    let pad : width - length ds - 0 - 0 ≡ width - length ds = omega arith in
+    ap (λ (k : ℕ). replicate {A = ℕ} k 48 ++ (ds ++ [])) pad ∙ ap (λ t. replicate (width - length ds) 48 ++ t) (append-nil ds)

@@ -16,3 +16,19 @@ impl fmt::Display for Hexadecimal {
         write!(f, "0x{:x}", self.0)
     }
 }
+
+/// A number in six lower case hexadecimal digits, and in more where it needs them.
+#[derive(Clone, Copy)]
+pub(crate) struct SixDigits(pub(crate) u32);
+
+impl fmt::Display for SixDigits {
+    ghost use Rattle.std.specs.Prelude.{Some};
+    ghost use Rattle.nv_print.specs.Hexadecimal.{six_digits};
+
+    ghost output = { λ n. Some (six_digits n.0) };
+
+    #[tactic(auto, using(crate::proofs::Padding::zero_padded))]
+    fn fmt<W: fmt::Write>(&self, f: &mut fmt::Formatter<W>) -> fmt::Result {
+        write!(f, "{:06x}", self.0)
+    }
+}

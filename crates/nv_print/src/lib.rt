@@ -1,14 +1,31 @@
-//! What a run prints: the text of replies, and the message of a refusal or of a faulty line.
+//! What a line of a script prints: what it shows, as text or as JSON, and the message of a fault.
+//!
+//! A record is a table of fields. Its text and its JSON are both made of that table. JSON is what
+//! `serde_json` writes of a value.
 //!
 //! Sections are named as in the NVM Express Base Specification, revision 1.4.
 #![tactic(auto)]
 
-mod features;
-mod field_line;
-mod format;
+mod column;
+mod data;
+mod device;
+mod device_list;
+mod devices;
+mod fault;
+mod field;
 mod hexadecimal;
+mod identity;
+mod log_fields;
 mod logs;
-mod management;
-mod texts;
+mod namespace;
+mod ns_list;
+mod printable;
+mod select;
+mod sentence;
+mod shown;
 
-pub use texts::{fault_message, refusal_message, text_of};
+pub use device::Device;
+pub use device_list::DeviceList;
+pub use fault::{Fault, FaultCause, message};
+pub use select::Select;
+pub use shown::{Shown, json, text};

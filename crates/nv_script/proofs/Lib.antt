@@ -1,5 +1,11 @@
 pub mod OutcomeLaws
-pub mod RequestLaws
+pub mod QueryLaws
+pub mod LookupLaws
+pub mod BatchLaws
+pub mod ListLaws
+pub mod ListOrderLaws
+pub mod GreetingLaws
+pub mod ListedLaws
 pub mod Taking
 pub mod LineLaws
 pub mod PieceSteps

@@ -17,9 +17,9 @@ use Rattle.nv_driver.specs.Registers.{mps_of, ports_of}
 use Rattle.nv_driver.specs.Settled.{DriverValue}
 use Rattle.nv_driver.specs.declared.geometry.Geometry.{Geometry}
 use Rattle.nv_command.specs.declared.command.Command.{Command}
-use Rattle.nv_line.specs.declared.request.Request.{Request}
+use Rattle.nv_line.specs.declared.request.Question.{Question}
 use Rattle.nv_script.specs.Exchange.{Exchange, Order, exchange_of}
-use Rattle.nv_script.specs.Outcomes.{order_of}
+use Rattle.nv_script.specs.Orders.{order_of}
 use Rattle.nv_script.specs.Link.{IsFirst, IsLinked, serials_of}
 use Rattle.nv_script.specs.declared.session.Session.{Session}
 
@@ -71,13 +71,13 @@ exchanged b new d after o answer below a s is =
     let next = ap serials_of is ∙ map-set serial d.lanes o.controller (after_one (lane_at d.lanes o.controller)) ∙ ap (λ n. set (serials_of d) o.controller (next_serial n)) at in
     λ i. record { answer = same i; state = reached i; serials = next i }
 
--- a command of a request, which is known
-pub sent : (b new : BusValue) (d after : DriverValue) (r : Request) (k said : Command) (answer : Result Reply Status) → k ≡ said → r.controller < length d.lanes
-    → answer ≡ answer_received k (step b.state r.controller k (lane_at d.lanes r.controller).serial).answer
-    → new.state ≡ (step b.state r.controller k (lane_at d.lanes r.controller).serial).state → after ≡ after_command d r.controller
-    → ◌≡◌ {A = Exchange} (record { answer = answer; state = new.state; serials = serials_of after }) (exchange_of b.state (serials_of d) (order_of r said))
-sent b new d after r k said answer is below a s e =
-    exchanged b new d after (order_of r k) answer below a s e ∙ ap (λ x. exchange_of b.state (serials_of d) (order_of r x)) is
+-- a command of a question, which is known
+pub sent : (b new : BusValue) (d after : DriverValue) (q : Question) (k said : Command) (answer : Result Reply Status) → k ≡ said → q.controller < length d.lanes
+    → answer ≡ answer_received k (step b.state q.controller k (lane_at d.lanes q.controller).serial).answer
+    → new.state ≡ (step b.state q.controller k (lane_at d.lanes q.controller).serial).state → after ≡ after_command d q.controller
+    → ◌≡◌ {A = Exchange} (record { answer = answer; state = new.state; serials = serials_of after }) (exchange_of b.state (serials_of d) (order_of q.controller said))
+sent b new d after q k said answer is below a s e =
+    exchanged b new d after (order_of q.controller k) answer below a s e ∙ ap (λ x. exchange_of b.state (serials_of d) (order_of q.controller x)) is
 
 -- a command leaves as many lanes
 pub still_known : (d after : DriverValue) (ctrl : ℕ) → after ≡ after_command d ctrl → ctrl < length d.lanes → ctrl < length after.lanes

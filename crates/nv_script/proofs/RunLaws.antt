@@ -1,6 +1,6 @@
 -- How the pieces of a run make the whole run.
 use Rattle.std.proofs.Common.{◌≡◌, ◌∙◌, ℕ, ◌+◌, ◌<◌, ◌≤◌, List, [], ◌∷◌, ◌++◌, length, take, sym, ap, subst, append-nil, arith, inl, inr, ◌≢◌, ◌↔◌, refl, Option, None, Some, Result, Ok, Err}
-use Rattle.std.specs.Prelude.{IfSome, replicate}
+use Rattle.std.specs.Prelude.{IfSome, MatchResult, replicate}
 use Rattle.std.specs.Io.KnownBytes.{Appends, Consumes, IsAtEnd, Keeps}
 use Rattle.std.proofs.lemmas.List.{length-append, length-take-le}
 use Rattle.nv_subsystem.specs.State.{State}
@@ -10,7 +10,7 @@ use Rattle.nv_driver.specs.declared.error.DriverError.{DriverError}
 use Rattle.nv_driver.specs.declared.error.DriverError.TheVariants as error
 use Rattle.nv_driver.specs.declared.geometry.Geometry.{Geometry as DriverGeometry}
 use Rattle.nv_driver.specs.declared.geometry_field.GeometryField.{GeometryField}
-use Rattle.nv_script.specs.Ends.{Headline, IsEndOf, IsEndWithout, Leaves, RunState, Runs, RunsWithin, WasRead, end_without, left_by}
+use Rattle.nv_script.specs.Ends.{Headline, IsEndOf, IsEndWithout, IsFaultOf, Leaves, RunState, Runs, RunsWithin, WasRead, end_without, left_by}
 use Rattle.nv_script.specs.Feeding.{IsFailureOf, LastLeaves, PieceLeaves, Stands}
 use Rattle.nv_script.specs.Results.{Progress, whole}
 use Rattle.nv_script.specs.ScriptLines.{as_line, pieces, script_lines}
@@ -141,21 +141,22 @@ none_by : {F : Type 0} (o : Option F) → ((f : F) → o ≢ Some f) → o ≡ N
 none_by None h = refl
 none_by (Some f) h = absurd (h f refl)
 
--- what a driver's geometry and its readiness make of how it was brought up
-abbrev IsBrought : {D : Type 0} → DriverGeometry → Result D DriverError → Type 0
-IsBrought {D = D} g r =
-    ((field : GeometryField) → ◌≡◌ {A = Result D DriverError} r (Err (error.Geometry field)) ↔ (fault_of g ≡ Some field))
-    × (◌≢◌ {A = Result D DriverError} r (Err error.NoReady))
+-- why there is none
+pub fault_is : {D : Type 0} (g : DriverGeometry) (r : Result D DriverError) → ((field : GeometryField) → ◌≡◌ {A = Result D DriverError} r (Err (error.Geometry field)) ↔ (fault_of g ≡ Some field))
+    → ◌≢◌ {A = Result D DriverError} r (Err error.NoReady) → MatchResult r (λ _. fault_of g ≡ None) (IsFaultOf g)
+fault_is g (Ok d) h ready = none_by (fault_of g) (λ field k. let never = (h field).1 k in absurd (cc))
+fault_is g (Err (error.Geometry field)) h ready = (h field).0 refl
+fault_is g (Err error.Memory) h ready = none_by (fault_of g) (λ field k. let same = (h field).1 k in absurd (cc))
+fault_is g (Err error.NoReady) h ready = absurd (ready refl)
 
-pub without : {D : Type 0} (g : DriverGeometry) (e : DriverError) → IsBrought {D = D} g (Err e) → IsEndWithout g (end_without e)
-without g (error.Geometry field) h = (h.0 field).0 refl
-without g error.Memory h = none_by (fault_of g) (λ field k. let same = (h.0 field).1 k in absurd (cc))
-without g error.NoReady h = absurd (h.1 refl)
+pub without : (g : DriverGeometry) (e : DriverError) → IsFaultOf g e → IsEndWithout g (end_without e)
+without g (error.Geometry field) h = h
+without g error.Memory h = h
+without g error.NoReady h = absurd h
 
-pub with_driver : {D : Type 0} (g : DriverGeometry) (d : D) (reads : ℕ) (end : RunEnd) (old mid new : RunState) → IsBrought g (Ok d) → mid ≡ old
+pub with_driver : (g : DriverGeometry) (reads : ℕ) (end : RunEnd) (old mid new : RunState) → fault_of g ≡ None → mid ≡ old
     → RunsWithin reads end mid new → Runs g reads end old new
-with_driver g d reads end old mid new h same runs =
-    inr (none_by (fault_of g) (λ field k. let never = (h.0 field).1 k in absurd (cc)), subst (λ (x : RunState). RunsWithin reads end x new) same runs)
+with_driver g reads end old mid new is same runs = inr (is, subst (λ (x : RunState). RunsWithin reads end x new) same runs)
 
 pub runs_headline : (g : DriverGeometry) (reads : ℕ) (end : RunEnd) (old new : RunState) → Runs g reads end old new → Headline end old new
 runs_headline g reads end old new (inl h) status e = absurd (subst (IsEndWithout g) e h.0)

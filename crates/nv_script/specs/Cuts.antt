@@ -2,7 +2,8 @@
 use Rattle.std.specs.Prelude.{◌≡◌, ℕ, ◌+◌, ◌<◌, List, [], ◌∷◌, ◌++◌, length, take, flat_map, Option, Result, Ok, Err}
 use Rattle.std.specs.Io.KnownBytes.{Appends}
 use Rattle.nv_subsystem.specs.State.{State}
-use Rattle.nv_script.specs.Outcomes.{commands_of, outcome_of}
+use Rattle.nv_script.specs.Orders.{commands_of}
+use Rattle.nv_script.specs.Outcomes.{outcome_of}
 use Rattle.nv_script.specs.Results.{Progress, result_at, said_at, whole}
 use Rattle.nv_script.specs.ScriptLines.{script_lines}
 use Rattle.nv_script.specs.Streams.{IsBeginning}
@@ -47,7 +48,7 @@ HoldsWhole s lines left =
 abbrev pub state_amid : State → List ℕ → Result Line LineFault → ℕ → State
 state_amid s serials (Ok line.Skipped) k = s
 state_amid s serials (Ok (line.Request r)) k =
-    (outcome_of s serials (take k (commands_of s r))).state
+    (outcome_of s serials (take k (commands_of s r.query))).state
 state_amid s serials (Err fault) k = s
 
 -- The beginnings, at a line after p. The output failed: the texts before the line stand whole, and

@@ -73,13 +73,20 @@ pub record RunsWithin (reads : ℕ) (end : RunEnd) (old new : RunState) : Type 0
   pub end_of : IsEndOf end reads new
   pub calls : new.script.calls ≤ reads
 
--- the end of a run that got no driver
+-- the end of a run that got no driver or no room for answers
 abbrev pub end_without : DriverError → RunEnd
 end_without (error.Geometry field) = Geometry field
 end_without error.Memory = Memory
 end_without error.NoReady = NoReady
 
--- A run that got no driver ends by the first field of the geometry that is out of its limits, or, where no field is,
+-- why there is no driver or no room for answers: the first field of the geometry that is out of its limits, or, where
+-- no field is, want of memory
+abbrev pub IsFaultOf : DriverGeometry → DriverError → Type 0
+IsFaultOf g (error.Geometry field) = fault_of g ≡ Some field
+IsFaultOf g error.Memory = fault_of g ≡ None
+IsFaultOf g error.NoReady = ⊥
+
+-- A run that got no driver or no room for answers ends by the first field of the geometry that is out of its limits, or, where no field is,
 -- by want of memory.
 abbrev pub IsEndWithout : DriverGeometry → RunEnd → Type 0
 IsEndWithout g (Geometry field) = fault_of g ≡ Some field

@@ -3,10 +3,13 @@ pub use Rattle.nv_line.specs.Line
 pub mod Streams
 pub mod Link
 pub mod Exchange
+pub mod Orders
 pub mod Outcomes
-pub mod Performing
+pub mod Shown
 pub mod ScriptLines
 pub mod Results
+pub mod Listing
+pub mod Performing
 pub mod Cuts
 pub mod Ends
 pub mod Feeding

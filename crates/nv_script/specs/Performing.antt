@@ -1,10 +1,17 @@
 -- What performing a request leaves.
-use Rattle.std.specs.Prelude.{◌≡◌, ℕ, List, take, string_bytes, None, Some, Result, Ok, Err}
+use Rattle.std.specs.Prelude.{◌≡◌, ℕ, List, take, string_bytes, Option, None, Some, Result, Ok, Err}
 use Rattle.std.specs.declared.string.String.{String}
 use Rattle.nv_subsystem.specs.State.{State}
+use Rattle.nv_line.specs.declared.request.Query.{Query}
+use Rattle.nv_line.specs.declared.request.Query.TheVariants as query
 use Rattle.nv_line.specs.declared.request.Request.{Request}
-use Rattle.nv_script.specs.Outcomes.{Outcome, commands_of, outcome_of}
-use Rattle.nv_print.specs.Texts.{text_of}
+use Rattle.nv_print.specs.declared.device.Device.{Device}
+use Rattle.nv_print.specs.declared.shown.Shown.{Shown}
+use Rattle.nv_print.specs.declared.shown.Shown.TheVariants as shown
+use Rattle.nv_script.specs.Orders.{commands_of}
+use Rattle.nv_script.specs.Outcomes.{Outcome, outcome_of}
+use Rattle.nv_script.specs.Results.{output_for}
+use Rattle.nv_script.specs.Shown.{shown_of}
 use Rattle.nv_script.specs.declared.performing.Stop.{Stop}
 use Rattle.nv_script.specs.declared.performing.Stop.TheVariants as stop
 
@@ -13,15 +20,31 @@ pub record IsReached (o : Outcome) (state : State) (serials : List ℕ) : Type 0
   pub subsystem : state ≡ o.state
   pub next : serials ≡ o.serials
 
--- the text of the replies to all commands, or the first refusal; where memory was refused, some of
--- the commands were executed
+-- a query was refused, or memory was, after some of its commands
+abbrev pub StopLeaves : Stop → Query → State → List ℕ → State → List ℕ → Type 0
+StopLeaves (stop.Refused status) q s serials state next =
+    let o = outcome_of s serials (commands_of s q) in
+    (o.refusal ≡ Some status) × IsReached o state next
+StopLeaves stop.Memory q s serials state next = (k : ℕ)
+    × IsReached (outcome_of s serials (take k (commands_of s q))) state next
+
+-- what the replies to all commands show, or why there is nothing to show
+abbrev pub QueryLeaves : Result (Option Shown) Stop → Query → State → List ℕ → State → List ℕ → Type 0
+QueryLeaves (Ok shown) q s serials state next =
+    let o = outcome_of s serials (commands_of s q) in
+    (o.refusal ≡ None) × (shown ≡ shown_of (commands_of s q) q o.replies) × IsReached o state next
+QueryLeaves (Err stop) q s serials state next = StopLeaves stop q s serials state next
+
+-- the devices that `list` shows, or why there are none
+abbrev pub ListedAll : Result (List Device) Stop → State → List ℕ → State → List ℕ → Type 0
+ListedAll (Ok devices) s serials state next =
+    QueryLeaves (Ok (Some (shown.Devices devices))) query.List s serials state next
+ListedAll (Err stop) s serials state next = StopLeaves stop query.List s serials state next
+
+-- its text, or why there is none
 abbrev pub RequestLeaves : {Z : Type 0} → Result (String Z) Stop → Request
     → State → List ℕ → State → List ℕ → Type 0
 RequestLeaves (Ok text) r s serials state next =
-    let o = outcome_of s serials (commands_of s r) in
-    (o.refusal ≡ None) × (string_bytes text ≡ text_of r.ask o.replies) × IsReached o state next
-RequestLeaves (Err (stop.Refused status)) r s serials state next =
-    let o = outcome_of s serials (commands_of s r) in
-    (o.refusal ≡ Some status) × IsReached o state next
-RequestLeaves (Err stop.Memory) r s serials state next = (k : ℕ)
-    × IsReached (outcome_of s serials (take k (commands_of s r))) state next
+    let o = outcome_of s serials (commands_of s r.query) in
+    (o.refusal ≡ None) × (string_bytes text ≡ output_for s r o.replies) × IsReached o state next
+RequestLeaves (Err stop) r s serials state next = StopLeaves stop r.query s serials state next

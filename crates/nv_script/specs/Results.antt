@@ -2,10 +2,14 @@
 use Rattle.std.specs.Prelude.{ℕ, ◌+◌, List, [], ◌++◌, length, replicate, Option, None, Some, Result, Ok, Err, unwrap_or, fold}
 use Rattle.nv_layout.specs.declared.status.Status.{Status}
 use Rattle.nv_subsystem.specs.State.{State}
-use Rattle.nv_line.specs.LineFault.{fault_text}
-use Rattle.nv_script.specs.Outcomes.{Outcome, commands_of, outcome_of}
+use Rattle.nv_command.specs.declared.reply.Reply.{Reply}
+use Rattle.nv_script.specs.Orders.{commands_of}
+use Rattle.nv_script.specs.Outcomes.{Outcome, outcome_of}
+use Rattle.nv_script.specs.Shown.{output_of, shown_of}
 use Rattle.nv_line.specs.Line.{reading}
-use Rattle.nv_print.specs.Texts.{message_of, refusal_text, text_of}
+use Rattle.nv_print.specs.Message.{message_of}
+use Rattle.nv_print.specs.declared.fault.FaultCause.{FaultCause}
+use Rattle.nv_print.specs.declared.fault.FaultCause.TheVariants as cause
 use Rattle.nv_line.specs.declared.fault.LineFault.{LineFault}
 use Rattle.nv_line.specs.declared.line.Line.{Line}
 use Rattle.nv_line.specs.declared.line.Line.TheVariants as line
@@ -20,25 +24,33 @@ pub record LineResult : Type 0 where
   pub state : State
   pub serials : List ℕ
 
--- a request prints its text, or the message of its refusal
-abbrev pub answer_result : Option Status → ℕ → Request → Outcome → LineResult
-answer_result None number r o = record {
-  output = text_of r.ask o.replies;
+-- the message of what is wrong with the line of this number
+abbrev pub message_at : ℕ → FaultCause → List ℕ
+message_at number cause = message_of (record { line = number; cause = cause })
+
+-- what a request prints in state s by these replies, in its format
+abbrev pub output_for : State → Request → List Reply → List ℕ
+output_for s r replies = output_of r.format (shown_of (commands_of s r.query) r.query replies)
+
+-- a request in state s prints what it shows, or the message of its refusal
+abbrev pub answer_result : Option Status → ℕ → State → Request → Outcome → LineResult
+answer_result None number s r o = record {
+  output = output_for s r o.replies;
   message = [];
   status = Some 0;
   state = o.state;
   serials = o.serials;
 }
-answer_result (Some status) number r o = record {
+answer_result (Some status) number s r o = record {
   output = [];
-  message = message_of number (refusal_text status);
+  message = message_at number (cause.Refused status);
   status = Some 2;
   state = o.state;
   serials = o.serials;
 }
 
-abbrev pub request_result : ℕ → Request → Outcome → LineResult
-request_result number r o = answer_result o.refusal number r o
+abbrev pub request_result : ℕ → State → Request → Outcome → LineResult
+request_result number s r o = answer_result o.refusal number s r o
 
 -- a line that sends no command
 abbrev pub quiet_result : State → List ℕ → List ℕ → Option ℕ → LineResult
@@ -54,9 +66,9 @@ quiet_result s serials message status = record {
 abbrev pub line_result : State → List ℕ → ℕ → Result Line LineFault → LineResult
 line_result s serials number (Ok line.Skipped) = quiet_result s serials [] None
 line_result s serials number (Ok (line.Request r)) =
-    request_result number r (outcome_of s serials (commands_of s r))
+    request_result number s r (outcome_of s serials (commands_of s r.query))
 line_result s serials number (Err fault) =
-    quiet_result s serials (message_of number (fault_text fault)) (Some 1)
+    quiet_result s serials (message_at number (cause.Line fault)) (Some 1)
 
 -- where a script stands between two lines: what was printed, the status of the last line that has
 -- one, the subsystem, the next serial of each controller, and how many lines there were

@@ -17,7 +17,7 @@ use crate::session::Session;
 use crate::streams::Sink;
 use nv_controller::Bus;
 use nv_line::{Line, LineFault, read_line};
-use nv_print::{fault_message, refusal_message};
+use nv_print::{Fault, FaultCause, message};
 use std::alloc::{AllocError, Global};
 
 /// Writes a text, in as many writes as it takes. After a failing write the sink has taken a
@@ -105,8 +105,11 @@ pub(crate) fn execute_line<B: Bus, O: Sink, M: Sink>(
             LineFault::Memory => return Err(RunEnd::Memory),
             fault => {
                 session.status = 1;
-                let text = fault_message(alloc, session.number, fault);
-                return print(messages, text, RunEnd::MessageWrite);
+                let fault = Fault {
+                    line: session.number,
+                    cause: FaultCause::Line(fault),
+                };
+                return print(messages, message(alloc, &fault), RunEnd::MessageWrite);
             }
         },
     };
@@ -126,8 +129,11 @@ pub(crate) fn execute_line<B: Bus, O: Sink, M: Sink>(
             Err(Stop::Memory) => Err(RunEnd::Memory),
             Err(Stop::Refused(status)) => {
                 session.status = 2;
-                let text = refusal_message(alloc, session.number, status);
-                print(messages, text, RunEnd::MessageWrite)
+                let fault = Fault {
+                    line: session.number,
+                    cause: FaultCause::Refused(status),
+                };
+                print(messages, message(alloc, &fault), RunEnd::MessageWrite)
             }
         },
     }

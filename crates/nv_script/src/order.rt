@@ -2,7 +2,7 @@
 
 ghost use Rattle.std.specs.Prelude.{◌≡◌, ◌+◌, IfSome};
 ghost use Rattle.nv_command.specs.Logs.{IsSendable};
-ghost use Rattle.nv_script.specs.Outcomes.{errors_command, first_command, list_command, namespace_command, next_command};
+ghost use Rattle.nv_script.specs.Orders.{errors_command, first_command, list_command, namespace_command, next_command};
 
 use nv_command::{Command, DwordCount, Reply};
 use nv_line::Ask;
@@ -37,6 +37,7 @@ pub(crate) fn first_command(ask: &Ask) -> Command<'_>
     ensures sendable { IsSendable result }
 {
     match ask {
+        Ask::IdCtrl => Command::IdentifyController,
         Ask::ListNs { first, all } => list_command(*all, first.saturating_sub(1)),
         Ask::IdNs { nsid, force } => namespace_command(*force, *nsid),
         Ask::Create {

@@ -1,20 +1,22 @@
-//! One request: its commands, and the text of their replies.
+//! One request: its commands, and the text of what their replies show.
 
-ghost use Rattle.std.specs.Prelude.{◌≡◌, ◌<◌, ◌∷◌, [], IfOk, length, string_bytes};
-ghost use Rattle.nv_print.specs.Texts.{text_of};
+ghost use Rattle.std.specs.Prelude.{◌≡◌, ◌<◌, length};
+ghost use Rattle.nv_line.specs.Request.{IsQueryKnown};
+ghost use Rattle.nv_line.specs.declared.request.Query.TheVariants.{One};
 ghost use Rattle.nv_script.specs.Link.{IsLinked, serials_of};
-ghost use Rattle.nv_script.specs.Performing.{RequestLeaves};
+ghost use Rattle.nv_script.specs.Performing.{QueryLeaves, RequestLeaves};
 ghost use Rattle.nv_script.specs.declared.performing.Stop.TheVariants.{Refused, Memory};
 
+use crate::listing::list;
 use crate::order::{first_command, next_command};
 use crate::session::Answers;
-use nv_command::Reply;
+use crate::shown::{shown, write};
 use nv_controller::Bus;
 use nv_driver::Driver;
 use nv_layout::Status;
-use nv_line::{Ask, Request};
-use nv_print::text_of;
-use std::alloc::{AllocError, AllocFailed, Global};
+use nv_line::{Query, Question, Request};
+use nv_print::Shown;
+use std::alloc::{AllocError, Global};
 
 /// Why a request has no text.
 #[derive(Drop)]
@@ -41,29 +43,57 @@ impl From<AllocError> for Stop {
     }
 }
 
-impl<T: Drop> From<AllocFailed<T>> for Stop {
-    ghost from_gives = { λ _ stop. stop ≡ Memory };
+/// Sends the commands of a question, up to the first refusal. What the last reply shows stays in
+/// `answers`.
+fn ask_one<'a, B: Bus>(
+    bus: &mut B,
+    driver: &mut Driver,
+    answers: &'a mut Answers,
+    question: &Question,
+) -> Result<Option<Shown<'a>>, Stop>
+    requires linked { IsLinked (B.meaning bus.old) driver.old }
+    requires controller { question.now.controller < length driver.old.lanes }
+    ensures left { QueryLeaves result (One question.now)
+        (B.meaning bus.old).state (serials_of driver.old)
+        (B.meaning bus.new).state (serials_of driver.new) }
+    ensures linked { IsLinked (B.meaning bus.new) driver.new }
+{
+    let Answers { first, second, .. } = answers;
+    let ctrl = question.controller;
+    let command = first_command(&question.ask);
+    command.fits();
+    let reply = driver.admin(bus, ctrl, &command, first)?;
+    let Some(command) = next_command(&question.ask, &reply) else {
+        return Ok(shown(&question.ask, reply));
+    };
+    command.fits();
+    let next = driver.admin(bus, ctrl, &command, second)?;
+    Ok(shown(&question.ask, next))
+}
 
-    fn from(_: AllocFailed<T>) -> Stop {
-        Stop::Memory
+/// Sends the commands of a query, up to the first refusal, and tells what their replies show.
+fn ask<'a, B: Bus>(
+    alloc: Global,
+    bus: &mut B,
+    driver: &mut Driver,
+    answers: &'a mut Answers,
+    query: &Query,
+) -> Result<Option<Shown<'a>>, Stop>
+    requires linked { IsLinked (B.meaning bus.old) driver.old }
+    requires known { IsQueryKnown (length driver.old.lanes) query.now }
+    ensures left { QueryLeaves result query.now
+        (B.meaning bus.old).state (serials_of driver.old)
+        (B.meaning bus.new).state (serials_of driver.new) }
+    ensures linked { IsLinked (B.meaning bus.new) driver.new }
+{
+    match query {
+        Query::One(question) => ask_one(bus, driver, answers, question),
+        Query::List => Ok(Some(Shown::Devices(list(alloc, bus, driver, answers)?))),
     }
 }
 
-/// The text of two replies.
-fn text_of_two<'a>(
-    alloc: Global,
-    ask: &Ask,
-    first: Reply<'a>,
-    second: Reply<'a>,
-) -> Result<String, AllocError>
-    ensures { IfOk result
-        (λ text. string_bytes text ≡ text_of ask.now (first.entry ∷ second.entry ∷ [])) }
-{
-    text_of(alloc, ask, &[first, second])
-}
-
-/// Sends the commands of a request, up to the first refusal, and makes the text of their replies,
-/// which stay in `answers` until then.
+/// Sends the commands of a request, up to the first refusal, and makes the text of what their
+/// replies show, in the format that is asked for.
 pub(crate) fn perform<B: Bus>(
     alloc: Global,
     bus: &mut B,
@@ -72,21 +102,12 @@ pub(crate) fn perform<B: Bus>(
     request: &Request,
 ) -> Result<String, Stop>
     requires linked { IsLinked (B.meaning bus.old) driver.old }
-    requires controller { request.now.controller < length driver.old.lanes }
+    requires known { IsQueryKnown (length driver.old.lanes) request.now.query }
     ensures left { RequestLeaves result request.now
         (B.meaning bus.old).state (serials_of driver.old)
         (B.meaning bus.new).state (serials_of driver.new) }
     ensures linked { IsLinked (B.meaning bus.new) driver.new }
 {
-    let Answers { first, second } = answers;
-    let ctrl = request.controller;
-    let command = first_command(&request.ask);
-    command.fits();
-    let reply = driver.admin(bus, ctrl, &command, first)?;
-    let Some(command) = next_command(&request.ask, &reply) else {
-        return Ok(text_of(alloc, &request.ask, &[reply])?);
-    };
-    command.fits();
-    let next = driver.admin(bus, ctrl, &command, second)?;
-    Ok(text_of_two(alloc, &request.ask, reply, next)?)
+    let shown = ask(alloc, bus, driver, answers, &request.query)?;
+    Ok(write(alloc, request.format, shown)?)
 }

@@ -18,7 +18,7 @@ use crate::line_buffer::LineBuffer;
 use crate::session::Session;
 use crate::streams::{READ_SIZE, Sink, Source};
 use nv_controller::Bus;
-use nv_driver::{Driver, Geometry, GeometryField};
+use nv_driver::{Geometry, GeometryField};
 use std::alloc::Global;
 
 /// Executes the lines that a piece of a script ends, and holds what follows its last newline.
@@ -90,7 +90,7 @@ fn finish<B: Bus, O: Sink, M: Sink>(
 }
 
 /// Runs a script with at most this many reads: each line is executed once its newline is read.
-fn run_within<B: Bus, R: Source, O: Sink, M: Sink>(
+fn run_session<B: Bus, R: Source, O: Sink, M: Sink>(
     alloc: Global,
     bus: &mut B,
     session: &mut Session,
@@ -138,6 +138,56 @@ fn run_within<B: Bus, R: Source, O: Sink, M: Sink>(
 /// The most reads of one run.
 pub const READ_LIMIT: u32 = u32::MAX;
 
+/// Runs a script as `run` does, with at most this many reads. The last read's bytes count, and a
+/// read fault follows it whatever it gave.
+pub fn run_within<B: Bus, R: Source, O: Sink, M: Sink>(
+    alloc: Global,
+    bus: &mut B,
+    geometry: Geometry,
+    script: &mut R,
+    out: &mut O,
+    messages: &mut M,
+    reads: u32,
+) -> RunEnd
+    requires bus { IsBus (B.meaning bus.old) }
+    requires enabled { All IsEnabledWhereReady (B.meaning bus.old).ports }
+    requires fresh_script { IsFresh (R.state script.old) }
+    requires fresh_out { (O.state out.old).has_failed ≡ false }
+    requires fresh_messages { (M.state messages.old).has_failed ≡ false }
+    requires some_read { 0 < reads }
+    // A script that is told and was read to its end: the fold over its lines.
+    ensures headline { Headline result
+        (run_state (B.meaning bus.old).state (R.state script.old) (O.state out.old)
+        (M.state messages.old))
+        (run_state (B.meaning bus.new).state (R.state script.new) (O.state out.new)
+        (M.state messages.new)) }
+    // Each end: when it comes, what it leaves, and how many reads there were.
+    ensures ends { Runs geometry reads result
+        (run_state (B.meaning bus.old).state (R.state script.old) (O.state out.old)
+        (M.state messages.old))
+        (run_state (B.meaning bus.new).state (R.state script.new) (O.state out.new)
+        (M.state messages.new)) }
+    // When each fault comes.
+    ensures geometry { (field : GeometryField)
+        → (result ≡ RunEnd.Geometry field) ↔ (fault_of geometry ≡ Some field) }
+    ensures ready { result ≢ RunEnd.NoReady }
+    ensures out_write { (result ≡ RunEnd.OutWrite) ↔ ((O.state out.new).has_failed ≡ true) }
+    ensures message_write { (result ≡ RunEnd.MessageWrite)
+        ↔ ((M.state messages.new).has_failed ≡ true) }
+    ensures read_fault { (result ≡ RunEnd.Read)
+        ↔ ((has_stopped reads (R.state script.new) ≡ true)
+        × ((O.state out.new).has_failed ≡ false)
+        × ((M.state messages.new).has_failed ≡ false) × (result ≢ RunEnd.Memory)) }
+    // The bus can be run on again.
+    ensures bus { IsBus (B.meaning bus.new) }
+    ensures enabled { All IsEnabledWhereReady (B.meaning bus.new).ports }
+{
+    match Session::begin(alloc, bus, geometry) {
+        Ok(mut session) => run_session(alloc, bus, &mut session, script, out, messages, reads),
+        Err(error) => RunEnd::from(error),
+    }
+}
+
 /// Runs a script on the subsystem of a bus, by a driver of this geometry: its lines in order, each
 /// executed as soon as its newline is read, with the texts of what they ask on `out` and the
 /// messages of faults and refusals on `messages`. At most 4,294,967,295 reads are made, and none
@@ -183,11 +233,5 @@ pub fn run<B: Bus, R: Source, O: Sink, M: Sink>(
     ensures bus { IsBus (B.meaning bus.new) }
     ensures enabled { All IsEnabledWhereReady (B.meaning bus.new).ports }
 {
-    match Driver::bring_up(alloc, bus, geometry) {
-        Ok(driver) => {
-            let mut session = Session::new(driver);
-            run_within(alloc, bus, &mut session, script, out, messages, READ_LIMIT)
-        }
-        Err(error) => RunEnd::from(error),
-    }
+    run_within(alloc, bus, geometry, script, out, messages, READ_LIMIT)
 }

@@ -4,35 +4,57 @@ ghost use Rattle.std.specs.Prelude.{IfSome};
 ghost use Rattle.nv_command.specs.Command.{CommandFits};
 ghost use Rattle.nv_command.specs.Logs.{IsSendable};
 
-use nv_command::Command;
+use nv_command::{BROADCAST_NSID, Command, DwordCount, ERROR_INFORMATION, HEALTH};
 
 /// A kind of line.
 #[derive(Clone, Copy)]
 pub enum LineKind {
     ListNs,
     IdNs,
+    IdNsJson,
     /// An `id-ns` that the controller refuses.
     Refused,
+    List,
+    SmartLog,
+    /// An `error-log` of four errors.
+    ErrorLog,
     /// A line with an option that its command doesn't have.
     UsageFault,
     Comment,
 }
 
 /// Each kind of line.
-pub const LINE_KINDS: [LineKind; 5] = [
+pub const LINE_KINDS: [LineKind; 9] = [
     LineKind::ListNs,
     LineKind::IdNs,
+    LineKind::IdNsJson,
     LineKind::Refused,
+    LineKind::List,
+    LineKind::SmartLog,
+    LineKind::ErrorLog,
     LineKind::UsageFault,
     LineKind::Comment,
 ];
+
+/// The most commands that a line sends.
+pub const MOST_COMMANDS: u32 = 6;
+
+/// How many dwords four errors have.
+const FOUR_ERRORS: u32 = 64;
+
+/// How many dwords the health has.
+const HEALTH_DWORDS: u32 = 128;
 
 impl LineKind {
     pub(crate) fn name(self) -> &'static str {
         match self {
             LineKind::ListNs => "list-ns",
             LineKind::IdNs => "id-ns",
+            LineKind::IdNsJson => "id-ns -o json",
             LineKind::Refused => "id-ns, refused",
+            LineKind::List => "list",
+            LineKind::SmartLog => "smart-log",
+            LineKind::ErrorLog => "error-log",
             LineKind::UsageFault => "usage error",
             LineKind::Comment => "comment",
         }
@@ -43,22 +65,71 @@ impl LineKind {
         match self {
             LineKind::ListNs => "list-ns /dev/nvme0\n",
             LineKind::IdNs => "id-ns /dev/nvme0 -n 1\n",
+            LineKind::IdNsJson => "id-ns /dev/nvme0 -n 1 -o json\n",
             LineKind::Refused => "id-ns /dev/nvme0 -n 0\n",
+            LineKind::List => "list\n",
+            LineKind::SmartLog => "smart-log /dev/nvme0\n",
+            LineKind::ErrorLog => "error-log /dev/nvme0\n",
             LineKind::UsageFault => "list-ns /dev/nvme0 -x\n",
             LineKind::Comment => "# The namespaces of the first controller\n",
         }
     }
 
-    /// The command that the line sends to the first controller, if it sends one.
-    pub(crate) fn command(self) -> Option<Command<'static>>
+    /// How many commands the first controller refused before.
+    pub(crate) fn refusals(self) -> u32 {
+        match self {
+            LineKind::ErrorLog => 4,
+            _ => 0,
+        }
+    }
+
+    /// The command at a place among those that the line sends, counted from 0. What `list` sends to the
+    /// second controller is sent to the first.
+    pub(crate) fn command(self, place: u32) -> Option<Command<'static>>
         ensures fits { IfSome result CommandFits }
         ensures sends { IfSome result IsSendable }
     {
-        match self {
-            LineKind::ListNs => Some(Command::ActiveList { after: 0 }),
-            LineKind::IdNs => Some(Command::IdentifyNamespace { nsid: 1 }),
-            LineKind::Refused => Some(Command::IdentifyNamespace { nsid: 0 }),
-            LineKind::UsageFault | LineKind::Comment => None,
+        match (self, place) {
+            (LineKind::ListNs, 0) => Some(Command::ActiveList { after: 0 }),
+            (LineKind::IdNs | LineKind::IdNsJson, 0) => {
+                Some(Command::IdentifyNamespace { nsid: 1 })
+            }
+            (LineKind::Refused, 0) => Some(Command::IdentifyNamespace { nsid: 0 }),
+            (LineKind::List, _) => list_command(place),
+            (LineKind::SmartLog, 0) => {
+                let dwords = DwordCount::from_zeros_based(HEALTH_DWORDS - 1);
+                Some(Command::GetLog {
+                    lid: HEALTH,
+                    nsid: BROADCAST_NSID,
+                    offset: 0,
+                    dwords,
+                })
+            }
+            (LineKind::ErrorLog, 0) => Some(Command::IdentifyController),
+            (LineKind::ErrorLog, 1) => {
+                let dwords = DwordCount::from_zeros_based(FOUR_ERRORS - 1);
+                Some(Command::GetLog {
+                    lid: ERROR_INFORMATION,
+                    nsid: 0,
+                    offset: 0,
+                    dwords,
+                })
+            }
+            _ => None,
         }
+    }
+}
+
+/// What `list` sends to two controllers, of which the first has namespaces 1 and 3.
+fn list_command(place: u32) -> Option<Command<'static>>
+    ensures fits { IfSome result CommandFits }
+    ensures sends { IfSome result IsSendable }
+{
+    match place {
+        0 | 4 => Some(Command::IdentifyController),
+        1 | 5 => Some(Command::ActiveList { after: 0 }),
+        2 => Some(Command::IdentifyNamespace { nsid: 1 }),
+        3 => Some(Command::IdentifyNamespace { nsid: 3 }),
+        _ => None,
     }
 }

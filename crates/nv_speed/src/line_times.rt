@@ -15,7 +15,7 @@ pub struct LineTimes {
     pub empty_run: Duration,
     /// `read_line` alone.
     pub reading: Duration,
-    /// `Driver::admin` alone, with the command in it.
+    /// `Driver::admin` alone, with the commands in it.
     pub admin: Duration,
     /// `Subsystem::execute` alone.
     pub command: Duration,
@@ -25,6 +25,15 @@ pub struct LineTimes {
 pub const HEADS: &str = "  whole  reading  transport  command  printing";
 
 impl LineTimes {
+    /// The times with those of one more command.
+    pub(crate) fn with_command(self, admin: Duration, command: Duration) -> LineTimes {
+        LineTimes {
+            admin: self.admin.saturating_add(admin),
+            command: self.command.saturating_add(command),
+            ..self
+        }
+    }
+
     /// The least of each time.
     pub(crate) fn least(self, other: LineTimes) -> LineTimes {
         LineTimes {
@@ -43,7 +52,7 @@ fn a_line(time: Duration) -> u128 {
 }
 
 impl fmt::Display for LineTimes {
-    /// Nanoseconds a line. Transport is what the driver takes beside the command. Printing is what
+    /// Nanoseconds a line. Transport is what the driver takes beside the commands. Printing is what
     /// the run takes beside reading and the driver: it cuts the line out of the script, makes its
     /// text and writes it.
     fn fmt<W: fmt::Write>(&self, f: &mut fmt::Formatter<W>) -> fmt::Result {

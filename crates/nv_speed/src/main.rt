@@ -1,16 +1,20 @@
-//! How fast it is: lines of each kind at several geometries, and transfers of 1 MiB at each page
-//! size. Each is done so many times; the times go to standard error.
+//! How fast it is: lines of each kind at several geometries, `list` over the largest subsystem, and
+//! transfers of 1 MiB at each page size. The times go to standard error.
 #![tactic(auto)]
 
 mod counting_sink;
+mod largest_list;
 mod line;
 mod line_kind;
 mod line_times;
+mod machines;
 mod row;
+mod script_run;
 mod shape;
 mod transfer;
 mod transfer_times;
 
+use largest_list::{DEVICES, measure_list};
 use line::MeasuredLine;
 use line_times::HEADS;
 use nv_host::is_page_size;
@@ -35,6 +39,17 @@ fn measure_lines(rt: &HostRuntime) -> io::Result<()> {
     Ok(())
 }
 
+/// Measures `list` over the largest subsystem, with one command outstanding and with sixteen.
+fn measure_lists(rt: &HostRuntime) -> io::Result<()> {
+    for window in [1, 16] {
+        let measured = measure_list(rt, window)?;
+        let label = format!(in rt.alloc(); "list of {DEVICES} namespaces, window {window}")?;
+        println!(rt; "{label}: {} bytes", measured.written.out)?;
+        eprintln!(rt; "{label}: {} nanoseconds a namespace", measured.a_device())?;
+    }
+    Ok(())
+}
+
 /// Measures a transfer over pages of each size.
 fn measure_transfers(rt: &HostRuntime) -> io::Result<()> {
     for page_size in [4096, 8192, 16384, 32768, 65536] {
@@ -47,9 +62,10 @@ fn measure_transfers(rt: &HostRuntime) -> io::Result<()> {
     Ok(())
 }
 
-/// Measures lines, then transfers.
+/// Measures lines, then lists, then transfers.
 fn measure_all(rt: &HostRuntime) -> io::Result<()> {
     measure_lines(rt)?;
+    measure_lists(rt)?;
     measure_transfers(rt)
 }
 

@@ -1,7 +1,6 @@
 use Rattle.std.proofs.Common.{◌≡◌, string_bytes, take}
-use Rattle.nv_print.specs.FieldLine.{lines_of}
-use Rattle.nv_print.specs.Logs.{entry_text}
+use Rattle.nv_print.specs.Logs.{entries_text}
 use Rattle.nv_print.proofs.logs.entries_text.Given as goal
 
 abbrev pub invariant-loop-index : goal.invariant-loop-index
-invariant-loop-index l = string_bytes l.text ≡ lines_of entry_text 0 (take l.index l.entries)
+invariant-loop-index l = string_bytes l.text ≡ entries_text (take l.index l.entries)

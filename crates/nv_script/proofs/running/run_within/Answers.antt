@@ -1,92 +1,31 @@
-use Rattle.std.proofs.Common.{◌∙◌, ◌≤◌, ◌++◌, [], arith, length, refl, take}
-use Rattle.std.proofs.lemmas.Bool.Decides.{nat_tests}
-use Rattle.std.proofs.lemmas.List.{length-take-le}
-use Rattle.nv_script.specs.declared.streams.TheConstants.{READ_SIZE}
-use Rattle.nv_script.proofs.RunLaws.{cut_ends, cut_leaves, last_cut, piece_cut, read_first, read_more, read_none, stands_first}
+use Rattle.std.proofs.Common.{◌≡◌, ap, inl, subst, sym}
+use Rattle.nv_subsystem.specs.State.{State}
+use Rattle.nv_script.specs.Ends.{IsEndWithout, RunState, run_state}
+use Rattle.nv_script.proofs.LinkLaws.{enabled_ports}
+use Rattle.nv_script.proofs.RunLaws.{runs_geometry, runs_headline, with_driver, without}
 use Rattle.nv_script.proofs.running.run_within.Goals as goal
 
-pub returns-in-Ok-clause-runs : goal.returns-in-Ok-clause-runs
-returns-in-Ok-clause-runs g c =
-    let run = c.loop-call.invariant.run in
-    let read = read_none _ _ _ run.0 c.read.new.buf c.in-Some.count run.1 c.in-Some.ensures.bytes.0 c.if-count-eq0.true c.in-Some.ensures.count in
-    record {
-      bytes = run.0;
-      was_read = read;
-      left = c.in-Ok.ensures.left (g.B.Bus.meaning c.args.bus.now).state run.0 _ _ run.2 run.3;
-      end_of = (
-        grind (arith, nat_tests, c.in-Some.ensures.failure, c.in-Some.ensures.call, c.loop-call.invariant.calls, c.if-call-reads.false),
-        c.in-Ok.ensures.failure.0,
-        c.in-Ok.ensures.failure.1,
-        grind (arith, nat_tests, c.in-Some.ensures.end, c.if-count-eq0.true),
-        c.in-Some.ensures.bytes.1 c.if-count-eq0.true,
-      );
-      calls = omega (arith, c.in-Some.ensures.call, c.loop-call.invariant.calls, c.loop-call-test.true);
-    }
+pub returns-in-Ok-clause-ends : goal.returns-in-Ok-clause-ends
+returns-in-Ok-clause-ends g c =
+    let old : RunState = run_state (g.B.Bus.meaning c.args.bus.now).state (g.R.Source.state c.args.script.now) (g.O.Sink.state c.args.out.now) (g.M.Sink.state c.args.messages.now) in
+    let mid : RunState = record old { subsystem = (g.B.Bus.meaning c.begin.new.bus).state } in
+    let same : mid ≡ old = λ i. record old { subsystem = c.in-Ok.ensures.state i } in
+    with_driver c.args.geometry c.args.reads c.run_session.result old mid _ c.in-Ok.ensures.fault same c.run_session.ensures.runs
 
-pub returns-in-Err-clause-runs : goal.returns-in-Err-clause-runs
-returns-in-Err-clause-runs g c =
-    let run = c.loop-call.invariant.run in
-    let s = (g.B.Bus.meaning c.args.bus.now).state in
-    let read = read_none _ _ _ run.0 c.read.new.buf c.in-Some.count run.1 c.in-Some.ensures.bytes.0 c.if-count-eq0.true c.in-Some.ensures.count in
-    record {
-      bytes = run.0;
-      was_read = read;
-      left = cut_leaves c.in-Err.end s run.0 _ (last_cut c.in-Err.end s run.0 _ (c.in-Err.ensures.left s run.0 _ _ run.2 run.3));
-      end_of = cut_ends c.in-Err.end c.args.reads _ c.in-Err.ensures.failure;
-      calls = omega (arith, c.in-Some.ensures.call, c.loop-call.invariant.calls, c.loop-call-test.true);
-    }
+pub returns-in-Ok-clause-headline : goal.returns-in-Ok-clause-headline
+returns-in-Ok-clause-headline g c = runs_headline c.args.geometry c.args.reads c.run_session.result _ _ (returns-in-Ok-clause-ends g c)
 
-pub returns-in-Err-feed-clause-runs : goal.returns-in-Err-feed-clause-runs
-returns-in-Err-feed-clause-runs g c =
-    let run = c.loop-call.invariant.run in
-    let s = (g.B.Bus.meaning c.args.bus.now).state in
-    let piece = take c.in-Some.count c.read.new.buf in
-    let small : length piece ≤ READ_SIZE = omega (arith, length-take-le c.in-Some.count c.read.new.buf c.in-Some.ensures.bound, c.in-Some.ensures.bound, c.read.auto.buf, c.loop-call.invariant.room) in
-    let cut = piece_cut c.in-Err-feed.end s run.0 piece c.feed.new.line _ c.feed.new.session small (c.in-Err-feed.ensures.left s run.0 _ _ run.2 run.3) in
-    record {
-      bytes = run.0 ++ piece;
-      was_read = read_more _ _ _ run.0 c.read.new.buf c.in-Some.count run.1 c.in-Some.ensures.bytes.0 c.in-Some.ensures.bound c.in-Some.ensures.count;
-      left = cut_leaves c.in-Err-feed.end s (run.0 ++ piece) _ cut;
-      end_of = cut_ends c.in-Err-feed.end c.args.reads _ c.in-Err-feed.ensures.failure;
-      calls = omega (arith, c.in-Some.ensures.call, c.loop-call.invariant.calls, c.loop-call-test.true);
-    }
+pub returns-in-Ok-clause-geometry : goal.returns-in-Ok-clause-geometry
+returns-in-Ok-clause-geometry g c field = runs_geometry c.args.geometry c.args.reads c.run_session.result _ _ field (returns-in-Ok-clause-ends g c)
 
-pub loop-call-preserved : goal.loop-call-preserved
-loop-call-preserved g c =
-    let inv = c.loop-call.invariant in
-    let run = inv.run in
-    let piece = take c.in-Some.count c.read.new.buf in
-    let fed = c.in_default-feed.ensures.left (g.B.Bus.meaning c.args.bus.now).state run.0 _ _ run.2 run.3 in
-    record {
-      not_failed = c.in-Some.ensures.failure;
-      not_ended = grind (arith, nat_tests, c.in-Some.ensures.end, c.if-count-eq0.false);
-      calls = omega (arith, c.in-Some.ensures.call, inv.calls);
-      few = omega (arith, c.in-Some.ensures.count, c.in-Some.ensures.bound, c.read.auto.buf, inv.room, inv.few);
-      room = c.read.auto.buf ∙ inv.room;
-      numbered = omega (arith, c.in_default-feed.ensures.number, inv.numbered, c.in-Some.ensures.count, length-take-le c.in-Some.count c.read.new.buf c.in-Some.ensures.bound);
-      out_ready = c.in_default-feed.ensures.failure.0;
-      messages_ready = c.in_default-feed.ensures.failure.1;
-      linked = c.feed.ensures.linked;
-      run = (
-        run.0 ++ piece,
-        read_more _ _ _ run.0 c.read.new.buf c.in-Some.count run.1 c.in-Some.ensures.bytes.0 c.in-Some.ensures.bound c.in-Some.ensures.count,
-        fed.0,
-        fed.1,
-      );
-    }
+pub returns-in-Ok-clause-enabled : goal.returns-in-Ok-clause-enabled
+returns-in-Ok-clause-enabled g c = enabled_ports (g.B.Bus.meaning c.run_session.new.bus) c.run_session.new.session.driver c.run_session.ensures.linked.left
 
-pub loop-call-init : goal.loop-call-init
-loop-call-init g c =
-    let s = (g.B.Bus.meaning c.args.bus.now).state in
-    record {
-      not_failed = c.requires.fresh_script.not_failed;
-      not_ended = c.requires.fresh_script.not_ended;
-      calls = c.requires.fresh_script.no_call;
-      few = omega (arith, c.requires.fresh_script.no_byte);
-      room = refl;
-      numbered = omega (arith, c.requires.first.number);
-      out_ready = c.requires.fresh_out;
-      messages_ready = c.requires.fresh_messages;
-      linked = c.requires.linked;
-      run = ([], read_first (g.R.Source.state c.args.script.now) c.requires.fresh_script.no_byte, c.new-line.ensures, stands_first s _ _ refl refl refl c.requires.first.next c.requires.first.number c.requires.first.status);
-    }
+pub returns-in-Err-clause-ends : goal.returns-in-Err-clause-ends
+returns-in-Err-clause-ends g c =
+    let end = without c.args.geometry c.in-Err.error c.in-Err.ensures.fault in
+    let same = ap (λ (s : State). run_state s (g.R.Source.state c.args.script.now) (g.O.Sink.state c.args.out.now) (g.M.Sink.state c.args.messages.now)) c.in-Err.ensures.state in
+    inl (subst (IsEndWithout c.args.geometry) (sym c.from.ensures) end, same)
+
+pub returns-in-Err-clause-geometry : goal.returns-in-Err-clause-geometry
+returns-in-Err-clause-geometry g c field = runs_geometry c.args.geometry c.args.reads c.from.result _ _ field (returns-in-Err-clause-ends g c)

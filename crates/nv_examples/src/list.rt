@@ -1,0 +1,208 @@
+//! `list`: the namespaces of all controllers.
+
+use crate::harness::{run_at, run_script};
+use crate::listed::{Listed, json_of, lines_of};
+use crate::rows::{Row, expect, leaves};
+use crate::steps::{Step, follow};
+use nv_script::{Geometry, RunEnd};
+use nv_subsystem::DEMO;
+use std::alloc::{AllocError, Global};
+use std::process::Abort;
+use std::test::Fail;
+
+const NAMESPACE: &str = "Invalid Namespace or Format (0x600b)";
+
+/// The demonstration subsystem, in two lines of 120 bytes.
+const DEMO_ROWS: [Row<'static>; 2] = [
+    Row {
+        script: b"list\n",
+        out: concat!(
+            "/dev/nvme0n1       S0                   Demo Controller                         ",
+            "          1              1048576    512\n",
+            "/dev/nvme0n3       S0                   Demo Controller                         ",
+            "          3                 4608    512\n"
+        ),
+        messages: "",
+        status: 0,
+    },
+    Row {
+        script: b"nvme list -o json",
+        out: "{\"devices\":[{\"block_size\":512,\"bytes\":1048576,\"model\":\"Demo Controller\",\
+\"namespace\":1,\"node\":\"/dev/nvme0n1\",\"serial\":\"S0\"},{\"block_size\":512,\"bytes\":4608,\
+\"model\":\"Demo Controller\",\"namespace\":3,\"node\":\"/dev/nvme0n3\",\"serial\":\"S0\"}]}\n",
+        messages: "",
+        status: 0,
+    },
+];
+
+/// What is listed follows what is attached, and the formats: the one block of 4,096 bytes that
+/// namespace 3 has room for, then nine of 512 bytes with metadata beside them.
+const CHANGES: [Step<'static>; 11] = [
+    Step::Prints("format /dev/nvme0n3 -l 1", "format: Success, nsid:3"),
+    Step::Prints("attach-ns /dev/nvme0n1 -c 1", "attach-ns: Success, nsid:1"),
+    Step::Prints(
+        "list",
+        concat!(
+            "/dev/nvme0n1       S0                   Demo Controller                         ",
+            "          1              1048576    512\n",
+            "/dev/nvme0n3       S0                   Demo Controller                         ",
+            "          3                 4096   4096\n",
+            "/dev/nvme1n1       S1                   Demo Controller                         ",
+            "          1              1048576    512"
+        ),
+    ),
+    Step::Prints("detach-ns /dev/nvme0n1 -c 0", "detach-ns: Success, nsid:1"),
+    Step::Prints("format /dev/nvme0n3 -l 2 -m 1", "format: Success, nsid:3"),
+    Step::Prints(
+        "create-ns /dev/nvme1 -s 2 -c 2 -f 1",
+        "create-ns: Success, created nsid:2",
+    ),
+    Step::Prints("attach-ns /dev/nvme0n2 -c 0", "attach-ns: Success, nsid:2"),
+    Step::Prints(
+        "list -o json",
+        "{\"devices\":[{\"block_size\":4096,\"bytes\":8192,\"model\":\"Demo Controller\",\
+\"namespace\":2,\"node\":\"/dev/nvme0n2\",\"serial\":\"S0\"},{\"block_size\":512,\"bytes\":4608,\
+\"model\":\"Demo Controller\",\"namespace\":3,\"node\":\"/dev/nvme0n3\",\"serial\":\"S0\"},\
+{\"block_size\":512,\"bytes\":1048576,\"model\":\"Demo Controller\",\"namespace\":1,\
+\"node\":\"/dev/nvme1n1\",\"serial\":\"S1\"}]}",
+    ),
+    Step::Refused("id-ns /dev/nvme1 -n 0", NAMESPACE),
+    // The second controller had the creation, and three commands of each list.
+    Step::Prints(
+        "error-log /dev/nvme1 -o json",
+        "{\"errors\":[{\"cmdid\":7,\"cs\":0,\"error_count\":1,\"lba\":0,\"nsid\":0,\
+\"parm_err_loc\":65535,\"sqid\":0,\"status_field\":24587,\"vs\":0}]}",
+    ),
+    Step::Faulty("list -o xml", "usage error"),
+];
+
+/// Where nothing is attached, nothing is listed.
+const NOTHING: Row<'static> = Row {
+    script: b"delete-ns /dev/nvme0 -n 0xffffffff\nlist\nlist -o json\nlist\n",
+    out: "delete-ns: Success, deleted nsid:4294967295\n{\"devices\":[]}\n",
+    messages: "",
+    status: 0,
+};
+
+#[test]
+fn lists_the_demonstration_subsystem(rt: HostRuntime) -> Result<(), Fail> {
+    for row in &DEMO_ROWS {
+        leaves(&rt, rt.alloc(), DEMO, row)?;
+    }
+    assert!(rt; DEMO_ROWS[0].out.len() == 240);
+    leaves(&rt, rt.alloc(), DEMO, &NOTHING)
+}
+
+#[test]
+fn lists_what_is_attached_now(rt: HostRuntime) -> Result<(), Fail> {
+    follow(&rt, rt.alloc(), DEMO, &CHANGES)?;
+    Ok(())
+}
+
+#[test]
+fn counts_two_commands_and_one_for_each_namespace(rt: HostRuntime) -> Result<(), Fail> {
+    let left = run_script(rt.alloc(), DEMO, b"list\n")?;
+    let subsystem = left.machine.subsystem();
+    assert!(rt; subsystem.controllers() == 2);
+    assert!(rt; subsystem.counts(0) == (0, 4) && subsystem.counts(1) == (0, 2));
+    let script = b"list -o json\nerror-log /dev/nvme0 -o json\nerror-log /dev/nvme1\n";
+    let left = run_script(rt.alloc(), DEMO, script)?;
+    assert!(rt; left.end == RunEnd::Status(0) && left.messages.is_empty());
+    assert!(rt;
+        left.out
+            .as_slice()
+            .ends_with("]}\n{\"errors\":[]}\n".as_bytes())
+    );
+    let subsystem = left.machine.subsystem();
+    assert!(rt; subsystem.controllers() == 2);
+    assert!(rt; subsystem.counts(0) == (0, 6) && subsystem.counts(1) == (0, 4));
+    Ok(())
+}
+
+/// A file of two controllers and forty namespaces that both have. Namespace n has room for n blocks
+/// and one byte more.
+pub(crate) fn shared_file(alloc: Global) -> Result<String, AllocError> {
+    let mut file = String::new(alloc);
+    write!(
+        file,
+        "version = 1\nnn = 40\ntnvmcap = 419880\nsubnqn = \"n\"\n"
+    )?;
+    write!(file, "\n[[format]]\nlbads = 9\n")?;
+    write!(
+        file,
+        "\n[[controller]]\ncntlid = 7\nsn = \"S0\"\nmn = \"M\"\nfr = \"1\"\n"
+    )?;
+    write!(
+        file,
+        "\n[[controller]]\ncntlid = 3\nsn = \"S1\"\nmn = \"M\"\nfr = \"1\"\n"
+    )?;
+    for nsid in 1..41u32 {
+        let bytes = 512 * nsid + 1;
+        write!(file, "\n[[namespace]]\nnsid = {nsid}\nbytes = {bytes}\n")?;
+        write!(file, "format = 0\nshared = true\ncontrollers = [3, 7]\n")?;
+    }
+    Ok(file)
+}
+
+/// The namespaces of this file, controller by controller.
+pub(crate) fn shared_namespaces(alloc: Global) -> Result<Vec<Listed<'static>>, AllocError> {
+    let mut all = Vec::new(alloc);
+    for (controller, serial) in [(0, "S0"), (1, "S1")] {
+        for nsid in 1..41u32 {
+            all.push(Listed {
+                controller,
+                serial,
+                model: "M",
+                nsid,
+                blocks: u64::from(nsid),
+            })?;
+        }
+    }
+    Ok(all)
+}
+
+/// `list` of the forty namespaces, as text and as JSON, is the same by a driver of any geometry.
+fn lists_shared(rt: &impl Abort, alloc: Global, geometry: Geometry) -> Result<(), Fail> {
+    let file = shared_file(alloc)?;
+    let all = shared_namespaces(alloc)?;
+    let mut want = lines_of(alloc, &all)?;
+    assert!(rt; want.len() == 9600);
+    want.push_str(json_of(alloc, &all)?.as_str())?;
+    let row = Row {
+        script: b"list\nlist -o json\n",
+        out: want.as_str(),
+        messages: "",
+        status: 0,
+    };
+    let left = run_at(alloc, file.as_str(), geometry, row.script)?;
+    expect(rt, &left, &row);
+    let subsystem = left.machine.subsystem();
+    assert!(rt; subsystem.controllers() == 2);
+    assert!(rt; subsystem.counts(0) == (0, 84) && subsystem.counts(1) == (0, 84));
+    Ok(())
+}
+
+#[test]
+fn lists_the_same_whatever_window_depth_and_pace_are(rt: HostRuntime) -> Result<(), Fail> {
+    let plain = Geometry::default();
+    for (depth, window) in [(2, 1), (17, 16), (4, 3), (4096, 16)] {
+        for pace in [1, 5] {
+            let geometry = Geometry {
+                depth,
+                window,
+                pace,
+                ..plain
+            };
+            lists_shared(&rt, rt.alloc(), geometry)?;
+        }
+    }
+    let last = Geometry {
+        depth: 17,
+        window: 16,
+        pace: 16,
+        page_size: 65536,
+        offset: 65532,
+        list_offset: 65528,
+    };
+    lists_shared(&rt, rt.alloc(), last)
+}

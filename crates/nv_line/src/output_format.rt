@@ -1,0 +1,26 @@
+//! How answers are written.
+
+ghost use Rattle.std.specs.Prelude.{◌≡◌};
+ghost use Rattle.nv_line.specs.OutputFormat.{format_named};
+
+/// How an answer is written.
+#[derive(Clone, Copy, Debug, PartialEq, Eq)]
+pub enum OutputFormat {
+    /// As text.
+    Normal,
+    /// As JSON, where the answer has a JSON form.
+    Json,
+}
+
+impl OutputFormat {
+    /// The format of this name.
+    pub(crate) fn of(name: &str) -> Option<OutputFormat>
+        ensures { result ≡ format_named name.now }
+    {
+        match name {
+            "normal" => Some(OutputFormat::Normal),
+            "json" => Some(OutputFormat::Json),
+            _ => None,
+        }
+    }
+}

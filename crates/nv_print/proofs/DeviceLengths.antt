@@ -1,0 +1,125 @@
+-- How long what is shown of a device is.
+use Rattle.std.proofs.Common.{◌≡◌, ℕ, zero, suc, ◌+◌, ◌*◌, ◌/◌, ◌%◌, ◌^◌, ◌<◌, ◌≤◌, arith, Bool, true, false, refl, List, [], ◌∷◌, ◌++◌, length, length-append, get_or}
+use Rattle.std.specs.Prelude.{codes, ◌==◌, nat_le, if◌then◌else◌}
+use Rattle.std.specs.Fmt.{decimal, digit_glyph, digits, digits_onto}
+use Rattle.std.specs.List.{All, list_all, take_while}
+use Rattle.std.proofs.lemmas.Bool.Decides.{nat_tests}
+use Rattle.std.proofs.lemmas.List.Elements.{All-append, All-take}
+use Rattle.std.proofs.lemmas.List.Sums.{AllPass-from_list_all}
+use Rattle.json.specs.Print.{escape, escape_byte, quoted}
+use Rattle.serde_json.specs.Written.{compact_text}
+use Rattle.nv_print.specs.DeviceList.{device_line, fields_of_device, node_of}
+use Rattle.nv_print.specs.Field.{object_of}
+use Rattle.nv_print.specs.Padding.{left, right}
+use Rattle.nv_print.specs.Printable.{is_printable, printable}
+use Rattle.nv_print.specs.declared.device.Device.{Device}
+use Rattle.nv_print.proofs.JsonLengths.{object_length}
+use Rattle.nv_print.proofs.Lengths.{decimal_length, decimal_short, left_length, printable_length, right_length}
+use Rattle.nv_print.proofs.PrintableLaws.{each_printable}
+
+-- ---- its line
+
+node_length : (controller nsid : ℕ) → length (node_of controller nsid) ≤ 138
+node_length controller nsid = omega (arith, decimal_length controller, decimal_length nsid, length-append (decimal controller) (codes "n" ++ decimal nsid))
+
+pub node_short : (controller nsid : ℕ) → controller < 2 ^ 64 → nsid < 2 ^ 64 → length (node_of controller nsid) ≤ 64
+node_short controller nsid c n = omega (arith, decimal_short controller c, decimal_short nsid n, length-append (decimal controller) (codes "n" ++ decimal nsid))
+
+columns_length : (a b c d e f : List ℕ) → length (a ++ (32 ∷ b ++ (32 ∷ c ++ (32 ∷ d ++ (32 ∷ e ++ (32 ∷ f ++ 10 ∷ []))))))
+    ≡ (length a + length b) + (length c + length d) + (length e + length f) + 6
+columns_length a b c d e f = simp length-append (omega arith)
+
+pub device_line_length : (d : Device) → length d.serial ≡ 20 → length d.model ≡ 40 → length (device_line d) ≤ 512
+device_line_length d has_20 has_40 =
+    let serial = printable d.serial in
+    let model = printable d.model in
+    omega (
+      arith,
+      columns_length (left 18 (node_of d.controller d.nsid)) (left 20 serial) (left 40 model) (right 10 (decimal d.nsid)) (right 20 (decimal d.bytes)) (right 6 (decimal d.block_size)),
+      left_length 18 (node_of d.controller d.nsid),
+      left_length 20 serial,
+      left_length 40 model,
+      right_length 10 (decimal d.nsid),
+      right_length 20 (decimal d.bytes),
+      right_length 6 (decimal d.block_size),
+      node_length d.controller d.nsid,
+      printable_length d.serial,
+      printable_length d.model,
+      decimal_length d.nsid,
+      decimal_length d.bytes,
+      decimal_length d.block_size,
+    )
+
+-- ---- its JSON
+
+-- no byte of it is a control character
+abbrev IsPlain : List ℕ → Type 0
+IsPlain s = All (λ b. 32 ≤ b) s
+
+escape_byte-plain : (x : ℕ) → 32 ≤ x → length (escape_byte x) ≤ 2
+unfolding escape_byte
+escape_byte-plain x h = grind (arith, nat_tests)
+
+escape_plain : (s : List ℕ) → IsPlain s → length (escape s) ≤ 2 * length s
+escape_plain [] h = omega arith
+escape_plain (x ∷ s) h =
+    let first : length (escape_byte x) ≤ 2 = escape_byte-plain x (h 0 x (omega arith)) in
+    let others = escape_plain s (λ k d l. h (suc k) d (omega arith)) in
+    omega (arith, length-append (escape_byte x) (escape s))
+
+quoted_plain : (s : List ℕ) → IsPlain s → length (quoted s) ≤ 2 * length s + 2
+quoted_plain s h = omega (arith, length-append (escape s) (34 ∷ []), escape_plain s h)
+
+cons_plain : (x : ℕ) (s : List ℕ) → 32 ≤ x → IsPlain s → IsPlain (x ∷ s)
+cons_plain x s hx h zero d l = hx
+cons_plain x s hx h (suc k) d l = h k d (omega arith)
+
+glyph_plain : (upper : Bool) (n : ℕ) → 32 ≤ digit_glyph upper n
+glyph_plain upper n = grind (arith, nat_tests)
+
+either : (t : Bool) (x y : List ℕ) → IsPlain x → IsPlain y → IsPlain (if t then x else y)
+either true x y hx hy = hx
+either false x y hx hy = hy
+
+digits_plain : (k base : ℕ) (upper : Bool) (n : ℕ) (acc : List ℕ) → IsPlain acc → IsPlain (digits_onto k base upper n acc)
+digits_plain zero base upper n acc h = h
+digits_plain (suc k) base upper n acc h =
+    let more = cons_plain (digit_glyph upper (n % base)) acc (glyph_plain upper (n % base)) h in
+    either (n / base == 0) _ _ more (digits_plain k base upper (n / base) (digit_glyph upper (n % base) ∷ acc) more)
+
+decimal_plain : (n : ℕ) → IsPlain (decimal n)
+unfolding digits
+decimal_plain n = digits_plain 64 10 false n [] (λ k d l. absurd (omega arith))
+
+literal_plain : (s : List ℕ) → list_all (λ b. nat_le 32 b) s ≡ true → IsPlain s
+literal_plain s e k d h =
+    let at : nat_le 32 (get_or s k d) ≡ true = AllPass-from_list_all (λ b. nat_le 32 b) s e k d h in
+    grind (arith, nat_tests)
+
+node_plain : (controller nsid : ℕ) → IsPlain (node_of controller nsid)
+node_plain controller nsid = All-append (λ b. 32 ≤ b) (codes "/dev/nvme") (decimal controller ++ (codes "n" ++ decimal nsid)) (literal_plain (codes "/dev/nvme") refl)
+    (All-append (λ b. 32 ≤ b) (decimal controller) (codes "n" ++ decimal nsid) (decimal_plain controller)
+    (cons_plain 110 (decimal nsid) (omega arith) (decimal_plain nsid)))
+
+printable_plain : (bs : List ℕ) → IsPlain (printable bs)
+printable_plain bs = All-take (λ b. 32 ≤ b) _ (take_while is_printable bs) (λ k d h. plain _ (each_printable bs k d h))
+  where
+    plain : (b : ℕ) → is_printable b ≡ true → 32 ≤ b
+    plain b p = grind (arith, nat_tests)
+
+pub device_json_length : (d : Device) → length d.serial ≡ 20 → length d.model ≡ 40 → length (node_of d.controller d.nsid) ≤ 64
+    → d.nsid < 2 ^ 64 → d.bytes < 2 ^ 64 → d.block_size < 2 ^ 64 → length (compact_text (object_of (fields_of_device d))) ≤ 511
+unfolding fields_of_device escape_byte
+device_json_length d has_20 has_40 node nsid bytes block_size =
+    omega (
+      arith,
+      object_length (fields_of_device d),
+      quoted_plain (node_of d.controller d.nsid) (node_plain d.controller d.nsid),
+      quoted_plain (printable d.serial) (printable_plain d.serial),
+      printable_length d.serial,
+      quoted_plain (printable d.model) (printable_plain d.model),
+      printable_length d.model,
+      decimal_short d.nsid nsid,
+      decimal_short d.bytes bytes,
+      decimal_short d.block_size block_size,
+    )

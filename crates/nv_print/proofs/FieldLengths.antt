@@ -1,0 +1,82 @@
+-- How long the text and the JSON of fields are.
+use Rattle.std.proofs.Common.{ℕ, ◌+◌, ◌*◌, ◌≤◌, arith, List, [], ◌∷◌, ◌++◌, length, length-append}
+use Rattle.std.specs.Prelude.{codes, flat_map}
+use Rattle.std.specs.Fmt.{decimal}
+use Rattle.serde_json.specs.Written.{compact_text}
+use Rattle.nv_print.specs.Field.{Field, Shape, as_text, in_decimal, in_hexadecimal, in_six_digits, wide, field_line, fields_text, object_of, shape_data, shape_text}
+use Rattle.nv_print.specs.Hexadecimal.{six_digits}
+use Rattle.nv_print.specs.IdNs.{field_within}
+use Rattle.nv_print.specs.Padding.{left}
+use Rattle.nv_print.proofs.JsonLengths.{members_length, object_length}
+use Rattle.nv_print.proofs.Lengths.{decimal_length, hexadecimal_length, left_length, quoted_length, six_digits_length}
+
+-- ---- text
+
+-- no number has more than 66 characters
+abbrev pub shape_width : Shape → ℕ
+shape_width (in_decimal n) = 66
+shape_width (in_hexadecimal n) = 66
+shape_width (wide n) = 66
+shape_width (in_six_digits n) = 66
+shape_width (as_text t) = length t
+
+shape_text-width : (s : Shape) → length (shape_text s) ≤ shape_width s
+shape_text-width (in_decimal n) = omega (arith, decimal_length n)
+shape_text-width (in_hexadecimal n) = hexadecimal_length n
+shape_text-width (wide n) = omega (arith, decimal_length n)
+shape_text-width (in_six_digits n) = omega (arith, six_digits_length n)
+shape_text-width (as_text t) = omega arith
+
+pub field_line-length : (f : Field) → length (field_line f) ≤ 23 + (length f.key + shape_width f.shape)
+field_line-length f = omega (
+  arith,
+  left_length 20 f.key,
+  shape_text-width f.shape,
+  length-append (left 20 f.key) (codes ": " ++ (shape_text f.shape ++ 10 ∷ [])),
+  length-append (shape_text f.shape) (10 ∷ []),
+)
+
+abbrev pub fields_width : List Field → ℕ
+fields_width [] = 0
+fields_width (f ∷ fields) = 23 + (length f.key + shape_width f.shape) + fields_width fields
+
+pub fields_text-length : (fields : List Field) → length (fields_text fields) ≤ fields_width fields
+fields_text-length [] = omega arith
+fields_text-length (f ∷ fields) = omega (arith, length-append (field_line f) (fields_text fields), field_line-length f, fields_text-length fields)
+
+pub within_length : (fields : List Field) → length (flat_map field_within fields) ≤ fields_width fields
+within_length [] = omega arith
+within_length (f ∷ fields) = omega (
+  arith,
+  length-append (field_within f) (flat_map field_within fields),
+  length-append f.key (58 ∷ shape_text f.shape),
+  shape_text-width f.shape,
+  within_length fields,
+)
+
+-- ---- JSON
+
+abbrev pub data_width : Shape → ℕ
+data_width (in_decimal n) = 64
+data_width (in_hexadecimal n) = 64
+data_width (wide n) = 6 * 64 + 2
+data_width (in_six_digits n) = 6 * 64 + 2
+data_width (as_text t) = 6 * length t + 2
+
+shape_data-width : (s : Shape) → length (compact_text (shape_data s)) ≤ data_width s
+shape_data-width (in_decimal n) = decimal_length n
+shape_data-width (in_hexadecimal n) = decimal_length n
+shape_data-width (wide n) = omega (arith, quoted_length (decimal n), decimal_length n)
+shape_data-width (in_six_digits n) = omega (arith, quoted_length (six_digits n), six_digits_length n)
+shape_data-width (as_text t) = quoted_length t
+
+abbrev pub members_width : List Field → ℕ
+members_width [] = 0
+members_width (f ∷ fields) = 4 + (6 * length f.key + data_width f.shape) + members_width fields
+
+pub members_length-width : (fields : List Field) → members_length fields ≤ members_width fields
+members_length-width [] = omega arith
+members_length-width (f ∷ fields) = omega (arith, quoted_length f.key, shape_data-width f.shape, members_length-width fields)
+
+pub object_width : (fields : List Field) → length (compact_text (object_of fields)) ≤ 2 + members_width fields
+object_width fields = omega (arith, object_length fields, members_length-width fields)

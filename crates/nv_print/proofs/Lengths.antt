@@ -1,0 +1,75 @@
+-- How long texts are.
+use Rattle.std.proofs.Common.{◌≡◌, ◌∙◌, ℕ, zero, suc, ◌+◌, ◌-◌, ◌*◌, ◌/◌, ◌%◌, ◌^◌, ◌<◌, ◌≤◌, arith, Bool, true, false, ap, List, [], ◌∷◌, length, length-append}
+use Rattle.std.specs.Prelude.{◌==◌, replicate, if◌then◌else◌}
+use Rattle.std.specs.Fmt.{decimal, digit_glyph, digits, digits_onto}
+use Rattle.std.proofs.lemmas.Fmt.{length-decimal-le}
+use Rattle.std.proofs.lemmas.List.{length-replicate, length-take}
+use Rattle.std.proofs.lemmas.Bool.Decides.{nat_tests}
+use Rattle.json.specs.Print.{escape, escape_byte, quoted}
+use Rattle.nv_print.specs.Hexadecimal.{hexadecimal, six_digits}
+use Rattle.nv_print.specs.Padding.{left, right}
+use Rattle.nv_print.specs.Printable.{printable}
+
+either : (t : Bool) (x y : List ℕ) (n : ℕ) → length x ≤ n → length y ≤ n → length (if t then x else y) ≤ n
+either true x y n hx hy = hx
+either false x y n hx hy = hy
+
+digits_onto-length : (k base : ℕ) (upper : Bool) (n : ℕ) (acc : List ℕ) → length (digits_onto k base upper n acc) ≤ k + length acc
+digits_onto-length zero base upper n acc = omega arith
+digits_onto-length (suc k) base upper n acc =
+    let more = digits_onto-length k base upper (n / base) (digit_glyph upper (n % base) ∷ acc) in
+    either (n / base == 0) _ _ (suc k + length acc) (omega arith) (omega arith)
+
+pub digits_length : (base : ℕ) (upper : Bool) (n : ℕ) → length (digits base upper n) ≤ 64
+unfolding digits
+digits_length base upper n = omega (arith, digits_onto-length 64 base upper n [])
+
+pub decimal_length : (n : ℕ) → length (decimal n) ≤ 64
+decimal_length n = digits_length 10 false n
+
+pub hexadecimal_length : (n : ℕ) → length (hexadecimal n) ≤ 66
+hexadecimal_length n = omega (arith, digits_length 16 false n)
+
+pub six_digits_length : (n : ℕ) → length (six_digits n) ≤ 64
+six_digits_length n = omega (arith, digits_length 16 false n, length-append (replicate {A = ℕ} (6 - length (digits 16 false n)) 48) (digits 16 false n), length-replicate {A = ℕ} (6 - length (digits 16 false n)) 48)
+
+pub left_length : (width : ℕ) (text : List ℕ) → length (left width text) ≡ length text + (width - length text)
+left_length width text = length-append text _ ∙ ap (λ n. length text + n) (length-replicate (width - length text) 32)
+
+pub right_length : (width : ℕ) (text : List ℕ) → length (right width text) ≡ (width - length text) + length text
+right_length width text = length-append _ text ∙ ap (λ n. n + length text) (length-replicate (width - length text) 32)
+
+pub printable_length : (bs : List ℕ) → length (printable bs) ≤ length bs
+printable_length bs = omega (arith, length-take {A = ℕ})
+
+-- a byte is escaped in six bytes at most
+escape_byte-length : (x : ℕ) → length (escape_byte x) ≤ 6
+unfolding escape_byte
+escape_byte-length x = grind (arith)
+
+pub escape_length : (s : List ℕ) → length (escape s) ≤ 6 * length s
+escape_length [] = omega arith
+escape_length (x ∷ s) = omega (arith, length-append (escape_byte x) (escape s), escape_byte-length x, escape_length s)
+
+pub quoted_length : (s : List ℕ) → length (quoted s) ≤ 6 * length s + 2
+quoted_length s = omega (arith, length-append (escape s) (34 ∷ []), escape_length s)
+
+-- ---- numbers of a type
+
+pub decimal_short : (n : ℕ) → n < 2 ^ 64 → length (decimal n) ≤ 20
+decimal_short n h = length-decimal-le 20 n (omega arith) (omega arith) h
+
+-- a number below p sixteens more has one digit more at most
+hexadecimal_onto : (k fuel n : ℕ) (acc : List ℕ) → n < 16 ^ suc k → length (digits_onto fuel 16 false n acc) ≤ suc k + length acc
+hexadecimal_onto k zero n acc h = omega arith
+hexadecimal_onto zero (suc fuel) n acc h =
+    let one : (n / 16 == 0) ≡ true = grind (arith, nat_tests) in
+    rw one (omega arith)
+hexadecimal_onto (suc k) (suc fuel) n acc h =
+    let below : n / 16 < 16 ^ suc k = omega arith in
+    let more = hexadecimal_onto k fuel (n / 16) (digit_glyph false (n % 16) ∷ acc) below in
+    either (n / 16 == 0) _ _ (suc (suc k) + length acc) (omega arith) (omega arith)
+
+pub hexadecimal_short : (n : ℕ) → n < 2 ^ 64 → length (hexadecimal n) ≤ 18
+unfolding digits
+hexadecimal_short n h = omega (arith, hexadecimal_onto 15 64 n [] h)

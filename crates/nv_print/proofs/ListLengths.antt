@@ -1,0 +1,128 @@
+-- How long what is shown of lists is.
+use Rattle.std.proofs.Common.{ℕ, suc, ◌+◌, ◌*◌, ◌^◌, ◌<◌, ◌≤◌, arith, Bool, true, false, List, [], ◌∷◌, ◌++◌, length, length-append, map, min, get_or, ◌%◌}
+use Rattle.std.specs.Prelude.{codes, ◌==◌, filter, flat_map, if◌then◌else◌, ⊤}
+use Rattle.std.specs.Fmt.{decimal}
+use Rattle.std.specs.List.{All}
+use Rattle.std.proofs.lemmas.List.{length-take}
+use Rattle.serde_json.specs.Data.{Data, array, no_members, number, unsigned}
+use Rattle.serde_json.specs.View.{items_of}
+use Rattle.serde_json.specs.Written.{compact_text}
+use Rattle.nv_layout.specs.declared.error_entry.ErrorEntry.{ErrorEntry}
+use Rattle.nv_layout.specs.declared.id_ns.IdNs.{IdNs}
+use Rattle.nv_layout.specs.declared.id_ns.Lbaf.{Lbaf}
+use Rattle.nv_print.specs.Field.{field, field_line, fields_text, in_decimal, members_of, object_of}
+use Rattle.nv_print.specs.Hexadecimal.{hexadecimal}
+use Rattle.nv_print.specs.IdNs.{field_within, fields_of_id_ns, fields_of_lbaf, formats_of, lbaf_key, lbaf_line, mark_of, namespace_data, namespace_text}
+use Rattle.nv_print.specs.Logs.{entries_data, entries_text, entry_text, fields_of_entry, holds_error}
+use Rattle.nv_print.specs.NsList.{nsid_line, nsids_data, nsids_text}
+use Rattle.nv_print.specs.Padding.{lines_of, right}
+use Rattle.nv_print.proofs.FieldLengths.{field_line-length, members_length-width, within_length}
+use Rattle.nv_print.proofs.JsonLengths.{items_length, list_object_length, put_length, with_fields_length}
+use Rattle.nv_print.proofs.Lengths.{decimal_length, decimal_short, hexadecimal_short, quoted_length, right_length}
+use Rattle.nv_print.proofs.RecordLengths.{entry_json, entry_text_length, id_ns_members, id_ns_text, lbaf_json, lbaf_width}
+
+-- lines of so many bytes at most, while their indexes are below a limit
+lines_length : {A : Type 0} (line : ℕ → A → List ℕ) (fits : A → Type 0) (limit most : ℕ) → ((i : ℕ) (x : A) → i < limit → fits x → length (line i x) ≤ most)
+    → (i : ℕ) (xs : List A) → i + length xs ≤ limit → All fits xs → length (lines_of line i xs) ≤ most * length xs
+lines_length line fits limit most each i [] within all = omega arith
+lines_length line fits limit most each i (x ∷ xs) within all =
+    let first : length (line i x) ≤ most = each i x (omega arith) (all 0 x (omega arith)) in
+    let others = lines_length line fits limit most each (i + 1) xs (omega arith) (λ k d h. all (suc k) d (omega arith)) in
+    omega (arith, length-append (line i x) (lines_of line (i + 1) xs))
+
+-- ---- namespaces
+
+nsid_line_length : (i nsid : ℕ) → i < 2 ^ 64 → nsid < 2 ^ 64 → length (nsid_line i nsid) ≤ 42
+nsid_line_length i nsid hi hn = omega (
+  arith,
+  right_length 4 (decimal i),
+  decimal_short i hi,
+  hexadecimal_short nsid hn,
+  length-append (right 4 (decimal i)) (codes "]:" ++ (hexadecimal nsid ++ 10 ∷ [])),
+  length-append (hexadecimal nsid) (10 ∷ []),
+)
+
+pub nsids_text_length : (nsids : List ℕ) → length nsids ≤ 1024 → All (λ n. n < 2 ^ 64) nsids → length (nsids_text nsids) ≤ 65536
+nsids_text_length nsids few fit = omega (arith, lines_length nsid_line (λ n. n < 2 ^ 64) (2 ^ 64) 42 nsid_line_length 0 nsids (omega arith) fit)
+
+pub nsids_json_length : (nsids : List ℕ) → length nsids ≤ 1024 → All (λ n. n < 2 ^ 64) nsids → length (compact_text (nsids_data nsids)) ≤ 65000
+nsids_json_length nsids few fit =
+    omega (arith, list_object_length (codes "nsids") (λ n. number (unsigned n)) 20 nsids (λ k d h. decimal_short (get_or nsids k d) (fit k d h)))
+
+-- ---- formats of a namespace
+
+mark_length : (in_use i : ℕ) → length (mark_of in_use i) ≤ 9
+mark_length in_use i = at_test (in_use == i)
+  where
+    at_test : (b : Bool) → length (if b then codes " (in use)" else []) ≤ 9
+    at_test true = omega arith
+    at_test false = omega arith
+
+lbaf_line_length : (in_use i : ℕ) (f : Lbaf) → length (lbaf_line in_use i f) ≤ 400
+lbaf_line_length in_use i f =
+    let rest : List ℕ = mark_of in_use i ++ 10 ∷ [] in
+    let fields : List ℕ = flat_map field_within (fields_of_lbaf f) in
+    omega (
+      arith,
+      right_length 2 (decimal i),
+      decimal_length i,
+      within_length (fields_of_lbaf f),
+      lbaf_width f,
+      mark_length in_use i,
+      length-append (lbaf_key i) (fields ++ rest),
+      length-append (right 2 (decimal i)) (codes "             :"),
+      length-append fields rest,
+      length-append (mark_of in_use i) (10 ∷ []),
+    )
+
+formats_length : (r : IdNs) → length (formats_of r) ≤ 16
+formats_length r = omega (arith, length-take (min r.nlbaf 15 + 1) r.lbafs)
+
+pub namespace_text_length : (r : IdNs) → length (namespace_text r) ≤ 65536
+namespace_text_length r = omega (
+  arith,
+  id_ns_text r,
+  formats_length r,
+  length-append (fields_text (fields_of_id_ns r)) (lines_of (lbaf_line (r.flbas % 16)) 0 (formats_of r)),
+  lines_length (lbaf_line (r.flbas % 16)) (λ f. ⊤) 16 400 (λ i f h t. lbaf_line_length (r.flbas % 16) i f) 0 (formats_of r) (omega (arith, formats_length r)) (λ k d h. tt),
+)
+
+pub namespace_json_length : (r : IdNs) → length (compact_text (namespace_data r)) ≤ 65000
+namespace_json_length r =
+    let formats : Data = array (items_of (map (λ f. object_of (fields_of_lbaf f)) (formats_of r))) in
+    omega (
+      arith,
+      put_length false (codes "lbafs") formats (members_of (fields_of_id_ns r)),
+      quoted_length (codes "lbafs"),
+      with_fields_length (fields_of_id_ns r) no_members,
+      members_length-width (fields_of_id_ns r),
+      id_ns_members r,
+      formats_length r,
+      items_length (λ f. object_of (fields_of_lbaf f)) 300 false (formats_of r) (λ k d h. lbaf_json (get_or (formats_of r) k d)),
+    )
+
+-- ---- entries of an error log
+
+entry_length : (i : ℕ) (e : ErrorEntry) (b : Bool) → length (if b then field_line (field (codes "entry") (in_decimal i)) ++ fields_text (fields_of_entry e) else []) ≤ (if b then 1024 else 0)
+entry_length i e true = omega (
+  arith,
+  field_line-length (field (codes "entry") (in_decimal i)),
+  entry_text_length e,
+  length-append (field_line (field (codes "entry") (in_decimal i))) (fields_text (fields_of_entry e)),
+)
+entry_length i e false = omega arith
+
+entries_length : (i : ℕ) (es : List ErrorEntry) → length (lines_of entry_text i es) ≤ 1024 * length (filter holds_error es)
+entries_length i [] = omega arith
+entries_length i (e ∷ es) = at_test (holds_error e) (entry_length i e (holds_error e)) (entries_length (i + 1) es)
+  where
+    at_test : (b : Bool) → length (entry_text i e) ≤ (if b then 1024 else 0) → length (lines_of entry_text (i + 1) es) ≤ 1024 * length (filter holds_error es)
+        → length (lines_of entry_text i (e ∷ es)) ≤ 1024 * length (if b then e ∷ filter holds_error es else filter holds_error es)
+    at_test true first others = omega (arith, length-append (entry_text i e) (lines_of entry_text (i + 1) es))
+    at_test false first others = omega (arith, length-append (entry_text i e) (lines_of entry_text (i + 1) es))
+
+pub entries_text_length : (es : List ErrorEntry) → length (entries_text es) ≤ 1024 * length (filter holds_error es)
+entries_text_length es = entries_length 0 es
+
+pub entries_json_length : (es : List ErrorEntry) → length (compact_text (entries_data es)) ≤ 65000 + 1024 * length (filter holds_error es)
+entries_json_length es = omega (arith, list_object_length (codes "errors") (λ e. object_of (fields_of_entry e)) 1000 (filter holds_error es) (λ k d h. entry_json _))

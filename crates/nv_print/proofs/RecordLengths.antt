@@ -1,0 +1,54 @@
+-- How long what is shown of a record is.
+use Rattle.std.proofs.Common.{◌+◌, ◌*◌, ◌≤◌, arith, length}
+use Rattle.serde_json.specs.Written.{compact_text}
+use Rattle.nv_layout.specs.declared.error_entry.ErrorEntry.{ErrorEntry}
+use Rattle.nv_layout.specs.declared.id_ctrl.IdCtrl.{IdCtrl}
+use Rattle.nv_layout.specs.declared.id_ns.IdNs.{IdNs}
+use Rattle.nv_layout.specs.declared.id_ns.Lbaf.{Lbaf}
+use Rattle.nv_layout.specs.declared.smart.Smart.{Smart}
+use Rattle.nv_print.specs.Field.{fields_text, object_of}
+use Rattle.nv_print.specs.IdCtrl.{fields_of_id_ctrl, texts_length}
+use Rattle.nv_print.specs.IdNs.{fields_of_id_ns, fields_of_lbaf}
+use Rattle.nv_print.specs.Logs.{fields_of_entry, fields_of_smart}
+use Rattle.nv_print.proofs.FieldLengths.{fields_text-length, fields_width, members_width, object_width}
+use Rattle.nv_print.proofs.Lengths.{printable_length}
+
+pub id_ctrl_text : (c : IdCtrl) → length (fields_text (fields_of_id_ctrl c)) ≤ 5000 + texts_length c
+unfolding fields_of_id_ctrl
+id_ctrl_text c = omega (arith, fields_text-length (fields_of_id_ctrl c), printable_length c.sn, printable_length c.mn, printable_length c.fr, printable_length c.subnqn)
+
+pub id_ctrl_json : (c : IdCtrl) → length (compact_text (object_of (fields_of_id_ctrl c))) ≤ 5000 + 6 * texts_length c
+unfolding fields_of_id_ctrl
+id_ctrl_json c = omega (arith, object_width (fields_of_id_ctrl c), printable_length c.sn, printable_length c.mn, printable_length c.fr, printable_length c.subnqn)
+
+pub smart_text : (s : Smart) → length (fields_text (fields_of_smart s)) ≤ 5000
+unfolding fields_of_smart
+smart_text s = omega (arith, fields_text-length (fields_of_smart s))
+
+pub smart_json : (s : Smart) → length (compact_text (object_of (fields_of_smart s))) ≤ 10000
+unfolding fields_of_smart
+smart_json s = omega (arith, object_width (fields_of_smart s))
+
+pub entry_text_length : (e : ErrorEntry) → length (fields_text (fields_of_entry e)) ≤ 900
+unfolding fields_of_entry
+entry_text_length e = omega (arith, fields_text-length (fields_of_entry e))
+
+pub entry_json : (e : ErrorEntry) → length (compact_text (object_of (fields_of_entry e))) ≤ 1000
+unfolding fields_of_entry
+entry_json e = omega (arith, object_width (fields_of_entry e))
+
+pub lbaf_width : (f : Lbaf) → fields_width (fields_of_lbaf f) ≤ 300
+unfolding fields_of_lbaf
+lbaf_width f = omega arith
+
+pub lbaf_json : (f : Lbaf) → length (compact_text (object_of (fields_of_lbaf f))) ≤ 300
+unfolding fields_of_lbaf
+lbaf_json f = omega (arith, object_width (fields_of_lbaf f))
+
+pub id_ns_text : (r : IdNs) → length (fields_text (fields_of_id_ns r)) ≤ 5000
+unfolding fields_of_id_ns
+id_ns_text r = omega (arith, fields_text-length (fields_of_id_ns r))
+
+pub id_ns_members : (r : IdNs) → members_width (fields_of_id_ns r) ≤ 5000
+unfolding fields_of_id_ns
+id_ns_members r = omega arith

@@ -1,0 +1,6 @@
+use Rattle.std.proofs.Common.{◌≡◌, string_bytes, take}
+use Rattle.nv_print.specs.NsList.{nsids_text}
+use Rattle.nv_print.proofs.ns_list.nsids_text.Given as goal
+
+abbrev pub invariant-loop-index : goal.invariant-loop-index
+invariant-loop-index l = string_bytes l.text ≡ nsids_text (take l.index l.nsids)

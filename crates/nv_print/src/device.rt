@@ -1,0 +1,48 @@
+//! A namespace that is attached to a controller, as `list` shows it.
+
+use nv_layout::{IdCtrl, IdNs};
+
+/// A namespace that is attached to a controller, as `list` shows it.
+#[derive(Clone, Copy, Debug, PartialEq, Eq)]
+pub struct Device {
+    /// The place of the controller in the subsystem's file, counted from 0.
+    pub controller: u16,
+    /// The namespace's identifier.
+    pub nsid: u32,
+    /// The controller's serial number.
+    pub serial: [u8; 20],
+    /// The controller's model number.
+    pub model: [u8; 40],
+    /// The namespace's size in bytes, and at most 2^64 - 1.
+    pub bytes: u64,
+    /// The size of a logical block in bytes, and at most 2^64 - 1.
+    pub block_size: u64,
+}
+
+impl Device {
+    ghost use Rattle.std.specs.Prelude.{◌≡◌};
+    ghost use Rattle.nv_print.specs.Device.{block_size_of, device_of};
+
+    /// The bytes of a logical block of the format in use.
+    fn block_size_of(namespace: &IdNs) -> u64
+        ensures { result ≡ block_size_of namespace.now }
+    {
+        let format = namespace.lbafs[usize::from(namespace.flbas % 16)];
+        2u64.saturating_pow(u32::from(format.lbads))
+    }
+
+    /// What Identify tells of a controller and of a namespace that is attached to it.
+    pub fn new(controller: u16, nsid: u32, identity: &IdCtrl, namespace: &IdNs) -> Device
+        ensures { result ≡ device_of controller nsid identity.now namespace.now }
+    {
+        let block_size = Device::block_size_of(namespace);
+        Device {
+            controller,
+            nsid,
+            serial: identity.sn,
+            model: identity.mn,
+            bytes: namespace.nsze.saturating_mul(block_size),
+            block_size,
+        }
+    }
+}

@@ -1,0 +1,48 @@
+//! The devices that `list` shows.
+
+ghost use Rattle.std.specs.Prelude.{◌≡◌, ◌∷◌, ◌++◌, [], IfOk};
+
+use crate::device::Device;
+use std::alloc::{AllocError, Global};
+use std::marker::Model;
+
+/// Namespaces that are attached to controllers, in the order in which they are shown.
+#[derive(Drop)]
+pub struct DeviceList {
+    devices: Vec<Device>,
+}
+
+impl Model for DeviceList {
+    ghost use Rattle.std.specs.Prelude.{List};
+    ghost use Rattle.nv_print.specs.declared.device.Device.{Device};
+
+    ghost Value = { List Device };
+
+    ghost view = { λ l. l.devices.items };
+}
+
+impl DeviceList {
+    /// The list of no devices.
+    pub fn new(alloc: Global) -> DeviceList
+        ensures { result ≡ [] }
+    {
+        DeviceList {
+            devices: Vec::new(alloc),
+        }
+    }
+
+    /// Adds a device at the end.
+    pub fn push(&mut self, device: Device) -> Result<(), AllocError>
+        ensures { IfOk result (λ _. self.new ≡ self.old ++ device ∷ []) }
+    {
+        self.devices.push(device)?;
+        Ok(())
+    }
+
+    /// The devices in order.
+    pub fn as_slice(&self) -> &[Device]
+        ensures { result.now ≡ self.now }
+    {
+        self.devices.as_slice()
+    }
+}

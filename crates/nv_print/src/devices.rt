@@ -1,0 +1,128 @@
+//! What is shown of devices: a line in columns for each, or an object.
+
+ghost use Rattle.std.specs.Prelude.{◌≡◌, ◌≤◌, ◌+◌, ◌*◌, ◌++◌, IfOk, OnOk, length, string_bytes};
+ghost use Rattle.serde_json.specs.Written.{compact_text};
+ghost use Rattle.nv_print.specs.DeviceList.{device_line, devices_data, devices_text, fields_of_device, node_of};
+ghost use Rattle.nv_print.specs.Field.{object_of};
+ghost use Rattle.serde_json.specs.View.{view};
+
+use crate::column::{Left, Right};
+use crate::data::list_object;
+use crate::device::Device;
+use crate::field::{Field, object_of};
+use crate::printable::printable;
+use serde_json::Value;
+use std::alloc::{AllocError, Global};
+
+/// The name of the node of a controller's namespace.
+#[tactic(auto, using(crate::proofs::DeviceLengths::node_short))]
+fn node_of(alloc: Global, controller: u16, nsid: u32) -> Result<String, AllocError>
+    ensures value { IfOk result (λ node. string_bytes node ≡ node_of controller nsid) }
+    ensures bound { length (node_of controller nsid) ≤ 64 }
+{
+    format!(in alloc; "/dev/nvme{controller}n{nsid}")
+}
+
+/// Adds the line of a device to a text.
+#[tactic(auto, using(crate::proofs::DeviceLengths::device_line_length))]
+fn push_device(text: &mut String, alloc: Global, device: &Device) -> Result<(), AllocError>
+    ensures value { IfOk result
+        (λ _. string_bytes text.new ≡ string_bytes text.old ++ device_line device.now) }
+    ensures bound { OnOk result (length (device_line device.now) ≤ 512) }
+{
+    let Device {
+        controller,
+        nsid,
+        bytes,
+        block_size,
+        ..
+    } = *device;
+    let node = node_of(alloc, controller, nsid)?;
+    let node = Left {
+        text: node.as_str(),
+        width: 18,
+    };
+    let serial = Left {
+        text: printable(&device.serial),
+        width: 20,
+    };
+    let model = Left {
+        text: printable(&device.model),
+        width: 40,
+    };
+    let nsid = Right {
+        number: u64::from(nsid),
+        width: 10,
+    };
+    let bytes = Right {
+        number: bytes,
+        width: 20,
+    };
+    let block_size = Right {
+        number: block_size,
+        width: 6,
+    };
+    write!(
+        text,
+        "{node} {serial} {model} {nsid} {bytes} {block_size}\n"
+    )
+}
+
+/// The text of devices.
+#[tactic(auto, using(crate::proofs::Fields::flat_map_next))]
+pub(crate) fn devices_text(alloc: Global, devices: &[Device]) -> Result<String, AllocError>
+    ensures value { IfOk result (λ t. string_bytes t ≡ devices_text devices.now) }
+    ensures bound { IfOk result (λ t. length (string_bytes t) ≤ 512 * length devices.now) }
+{
+    let mut text = String::new(alloc);
+    for device in devices {
+        push_device(&mut text, alloc, device)?;
+    }
+    Ok(text)
+}
+
+/// The fields of a device, whose node has this name.
+#[tactic(auto, using(crate::proofs::DeviceLengths::device_json_length), unfolding(crate::specs::DeviceList::fields_of_device))]
+fn device_fields<'a>(node: &'a str, device: &'a Device) -> [Field<'a>; 6]
+    requires name { node.now ≡ node_of device.now.controller device.now.nsid }
+    requires short { length node.now ≤ 64 }
+    ensures value { result ≡ fields_of_device device.now }
+    ensures bound { length (compact_text (object_of (fields_of_device device.now))) ≤ 511 }
+{
+    let Device {
+        nsid,
+        bytes,
+        block_size,
+        ..
+    } = *device;
+    [
+        Field::text("node", node),
+        Field::ascii("serial", &device.serial),
+        Field::ascii("model", &device.model),
+        Field::decimal("namespace", u64::from(nsid)),
+        Field::decimal("bytes", bytes),
+        Field::decimal("block_size", block_size),
+    ]
+}
+
+/// The object of a device.
+fn device_data(alloc: Global, device: &Device) -> Result<Value, AllocError>
+    ensures value { IfOk result (λ v. view v ≡ object_of (fields_of_device device.now)) }
+    ensures bound { IfOk result (λ v. length (compact_text (view v)) ≤ 511) }
+{
+    let node = node_of(alloc, device.controller, device.nsid)?;
+    object_of(alloc, &device_fields(&node, device))
+}
+
+/// The JSON of devices.
+#[tactic(auto, using(crate::proofs::Items::items_next))]
+pub(crate) fn devices_data(alloc: Global, devices: &[Device]) -> Result<Value, AllocError>
+    ensures value { IfOk result (λ v. view v ≡ devices_data devices.now) }
+    ensures bound { IfOk result (λ v. length (compact_text (view v)) ≤ 65000 + 512 * length devices.now) }
+{
+    let mut objects = Vec::new(alloc);
+    for device in devices {
+        objects.push(device_data(alloc, device)?)?;
+    }
+    list_object(alloc, "devices", objects)
+}

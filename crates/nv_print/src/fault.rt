@@ -1,0 +1,56 @@
+//! Messages of lines that went wrong.
+
+ghost use Rattle.std.specs.Prelude.{◌≡◌, ◌≤◌, IfOk, length, string_bytes};
+ghost use Rattle.nv_print.specs.Message.{message_of};
+
+use crate::hexadecimal::Hexadecimal;
+use nv_command::StatusCode;
+use nv_layout::Status;
+use nv_line::LineFault;
+use std::alloc::{AllocError, Global};
+use std::fmt;
+
+/// What is wrong with a line, by its number.
+#[derive(Clone, Copy, Debug, PartialEq, Eq)]
+pub struct Fault {
+    /// The line's number, counted from 1.
+    pub line: u64,
+    pub cause: FaultCause,
+}
+
+/// What can be wrong with a line.
+#[derive(Clone, Copy, Debug, PartialEq, Eq)]
+pub enum FaultCause {
+    /// It couldn't be read.
+    Line(LineFault),
+    /// One of its commands was refused with a status.
+    Refused(Status),
+}
+
+impl fmt::Display for FaultCause {
+    ghost use Rattle.std.specs.Prelude.{Some};
+    ghost use Rattle.nv_print.specs.Message.{cause_text};
+
+    ghost output = { λ cause. Some (cause_text cause) };
+
+    fn fmt<W: fmt::Write>(&self, f: &mut fmt::Formatter<W>) -> fmt::Result {
+        match self {
+            FaultCause::Line(fault) => write!(f, "{fault}"),
+            FaultCause::Refused(status) => {
+                let name = StatusCode::name_of(*status);
+                let field = Hexadecimal(u64::from(status.number()));
+                write!(f, "NVMe status: {name} ({field})")
+            }
+        }
+    }
+}
+
+/// The message of a fault.
+#[tactic(auto, using(crate::proofs::MessageLengths::message_length))]
+pub fn message(alloc: Global, fault: &Fault) -> Result<String, AllocError>
+    ensures exact { IfOk result (λ t. string_bytes t ≡ message_of fault.now) }
+    ensures bound { IfOk result (λ t. length (string_bytes t) ≤ 65536) }
+{
+    let Fault { line, cause } = *fault;
+    format!(in alloc; "line {line}: {cause}\n")
+}

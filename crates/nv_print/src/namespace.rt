@@ -1,0 +1,99 @@
+//! What is shown of a namespace: its fields, and its formats.
+
+ghost use Rattle.std.specs.Prelude.{◌≡◌, ◌++◌, IfOk, map, string_bytes};
+ghost use Rattle.serde_json.specs.Data.{array};
+ghost use Rattle.serde_json.specs.View.{items_of, view};
+ghost use Rattle.nv_print.specs.Field.{object_of};
+ghost use Rattle.nv_print.specs.IdNs.{fields_of_lbaf, formats_of, lbaf_line, mark_of, namespace_data, namespace_text};
+ghost use Rattle.nv_print.specs.Padding.{lines_of};
+
+use crate::column::Right;
+use crate::field::{object_of, push_fields, push_within, put_fields};
+use crate::identity::{id_ns_fields, lbaf_fields};
+use nv_layout::{IdNs, Lbaf};
+use serde_json::{Map, Value};
+use std::alloc::{AllocError, Global};
+use std::cmp;
+
+/// The formats that a namespace has.
+fn formats_of(namespace: &IdNs) -> &[Lbaf]
+    ensures { result.now ≡ formats_of namespace.now }
+{
+    let count = cmp::min(namespace.nlbaf, 15) as usize + 1;
+    &namespace.lbafs[..count]
+}
+
+/// What stands behind the format in use.
+fn mark_of<'a>(in_use: usize, index: usize) -> &'a str
+    ensures { result.now ≡ mark_of in_use index }
+{
+    if in_use == index { " (in use)" } else { "" }
+}
+
+/// Adds the line of a format with its index, which tells the one in use.
+#[tactic(auto, using(crate::proofs::Fields::three_more))]
+fn push_format(
+    text: &mut String,
+    in_use: usize,
+    index: usize,
+    format: &Lbaf,
+) -> Result<(), AllocError>
+    ensures { IfOk result (λ _. string_bytes text.new
+        ≡ string_bytes text.old ++ lbaf_line in_use index format.now) }
+{
+    let number = Right {
+        number: index as u64,
+        width: 2,
+    };
+    let mark = mark_of(in_use, index);
+    write!(text, "lbaf {number}             :")?;
+    push_within(text, &lbaf_fields(format))?;
+    write!(text, "{mark}\n")?;
+    Ok(())
+}
+
+/// Adds the lines of formats, which tell the one in use.
+fn push_formats(text: &mut String, in_use: usize, formats: &[Lbaf]) -> Result<(), AllocError>
+    ensures { IfOk result (λ _. string_bytes text.new
+        ≡ string_bytes text.old ++ lines_of (lbaf_line in_use) 0 formats.now) }
+{
+    for index in 0..formats.len() {
+        push_format(text, in_use, index, &formats[index])?;
+    }
+    Ok(())
+}
+
+/// The text of a namespace.
+pub(crate) fn namespace_text(alloc: Global, namespace: &IdNs) -> Result<String, AllocError>
+    ensures { IfOk result (λ t. string_bytes t ≡ namespace_text namespace.now) }
+{
+    let mut text = String::new(alloc);
+    push_fields(&mut text, &id_ns_fields(namespace))?;
+    let in_use = namespace.flbas as usize % 16;
+    push_formats(&mut text, in_use, formats_of(namespace))?;
+    Ok(text)
+}
+
+/// The JSON of a namespace's formats.
+#[tactic(auto, using(crate::proofs::Items::items_next))]
+fn formats_data(alloc: Global, formats: &[Lbaf]) -> Result<Value, AllocError>
+    ensures { IfOk result (λ v. view v
+        ≡ array (items_of (map (λ f. object_of (fields_of_lbaf f)) formats.now))) }
+{
+    let mut objects = Vec::new(alloc);
+    for format in formats {
+        objects.push(object_of(alloc, &lbaf_fields(format))?)?;
+    }
+    Ok(Value::Array(objects))
+}
+
+/// The JSON of a namespace.
+pub(crate) fn namespace_data(alloc: Global, namespace: &IdNs) -> Result<Value, AllocError>
+    ensures { IfOk result (λ v. view v ≡ namespace_data namespace.now) }
+{
+    let formats = formats_data(alloc, formats_of(namespace))?;
+    let mut members = Map::new(alloc);
+    put_fields(&mut members, alloc, &id_ns_fields(namespace))?;
+    serde_json::put(&mut members, alloc, "lbafs", formats)?;
+    Ok(Value::Object(members))
+}

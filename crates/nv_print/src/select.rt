@@ -1,0 +1,48 @@
+//! Which value of a feature is shown.
+
+ghost use Rattle.std.specs.Prelude.{◌≡◌};
+ghost use Rattle.nv_print.specs.Sentences.{select_of};
+
+use nv_layout::ThreeBits;
+use std::fmt;
+
+/// Which value of a feature is shown. Section "Get Features command".
+#[derive(Clone, Copy, Debug, PartialEq, Eq)]
+pub enum Select {
+    Current,
+    Default,
+    Saved,
+    /// What the controller can do with the feature.
+    Capabilities,
+}
+
+impl Select {
+    /// The value that a number selects, where it selects one.
+    pub fn of(select: ThreeBits) -> Option<Select>
+        ensures { result ≡ select_of select }
+    {
+        match select.get() {
+            0 => Some(Select::Current),
+            1 => Some(Select::Default),
+            2 => Some(Select::Saved),
+            3 => Some(Select::Capabilities),
+            _ => None,
+        }
+    }
+}
+
+impl fmt::Display for Select {
+    ghost use Rattle.std.specs.Prelude.{Some};
+    ghost use Rattle.nv_print.specs.Sentences.{select_text};
+
+    ghost output = { λ select. Some (select_text select) };
+
+    fn fmt<W: fmt::Write>(&self, f: &mut fmt::Formatter<W>) -> fmt::Result {
+        match self {
+            Select::Current => write!(f, "Current"),
+            Select::Default => write!(f, "Default"),
+            Select::Saved => write!(f, "Saved"),
+            Select::Capabilities => write!(f, "Supported capabilities"),
+        }
+    }
+}

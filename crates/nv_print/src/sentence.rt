@@ -1,0 +1,63 @@
+//! What is shown of a command that has no record: one line.
+
+ghost use Rattle.std.specs.Prelude.{◌≡◌, IfOk, string_bytes};
+ghost use Rattle.nv_print.specs.Sentences.{feature_set, feature_value, success};
+
+use crate::hexadecimal::Hexadecimal;
+use crate::select::Select;
+use nv_layout::Feature;
+use std::alloc::{AllocError, Global};
+use std::fmt;
+
+/// The line of a command on a namespace that was done.
+pub(crate) fn success(alloc: Global, words: &str, nsid: u32) -> Result<String, AllocError>
+    ensures { IfOk result (λ t. string_bytes t ≡ success words.now nsid) }
+{
+    format!(in alloc; "{words}{nsid}\n")
+}
+
+/// A feature by its identifier, with its name.
+#[derive(Clone, Copy)]
+struct FeatureName(Feature);
+
+impl fmt::Display for FeatureName {
+    ghost use Rattle.std.specs.Prelude.{Some};
+    ghost use Rattle.nv_print.specs.Sentences.{feature_text};
+
+    ghost output = { λ feature. Some (feature_text feature.0) };
+
+    fn fmt<W: fmt::Write>(&self, f: &mut fmt::Formatter<W>) -> fmt::Result {
+        let fid = Hexadecimal(u64::from(self.0.fid()));
+        let name = self.0.name();
+        write!(f, "{fid} ({name})")
+    }
+}
+
+/// The line of a value of a feature.
+pub(crate) fn feature_value(
+    alloc: Global,
+    feature: Feature,
+    select: Select,
+    value: u32,
+) -> Result<String, AllocError>
+    ensures { IfOk result (λ t. string_bytes t ≡ feature_value feature select value) }
+{
+    let feature = FeatureName(feature);
+    let value = Hexadecimal(u64::from(value));
+    format!(in alloc; "get-feature:{feature}, {select} value:{value}\n")
+}
+
+/// The line of a value that a feature was given.
+pub(crate) fn feature_set(
+    alloc: Global,
+    feature: Feature,
+    value: u32,
+    save: bool,
+) -> Result<String, AllocError>
+    ensures { IfOk result (λ t. string_bytes t ≡ feature_set feature value save) }
+{
+    let feature = FeatureName(feature);
+    let value = Hexadecimal(u64::from(value));
+    let save = save as u8;
+    format!(in alloc; "set-feature:{feature}, value:{value}, save:{save}\n")
+}

@@ -1,0 +1,158 @@
+-- A batch of commands that ask a controller for namespaces, and one command at a time.
+use Rattle.std.proofs.Common.{◌≡◌, ◌∙◌, ℕ, suc, ◌+◌, ◌<◌, ◌%◌, arith, ap, sym, refl, List, [], ◌∷◌, ◌++◌, length, map, get_or, set, Ok, Err, take, drop}
+use Rattle.std.proofs.Math.Nat.{mod-add-mod}
+use Rattle.std.proofs.Math.Seq.{take-append_seam}
+use Rattle.std.proofs.lemmas.List.{ext_get_or, get_or-map, get_or-set_same, get_or-take, length-map, length-set, length-take-le, map-append, map-set, set-set, take-append-drop}
+use Rattle.nv_command.specs.Logs.{answer_received}
+use Rattle.nv_command.specs.declared.command.Command.{Command}
+use Rattle.nv_command.specs.declared.command.Command.TheVariants.{IdentifyController, IdentifyNamespace}
+use Rattle.nv_command.specs.declared.reply.Reply.TheVariants as reply
+use Rattle.nv_driver.specs.Batch.{answers_of, state_after}
+use Rattle.nv_driver.specs.Driver.{after_commands, lane_at, no_lane}
+use Rattle.nv_driver.specs.Exchange.{after_some}
+use Rattle.nv_driver.specs.Lane.{Lane}
+use Rattle.nv_driver.specs.Schedule.{Answer}
+use Rattle.nv_driver.specs.Settled.{DriverValue}
+use Rattle.nv_layout.specs.declared.id_ctrl.IdCtrl.{IdCtrl}
+use Rattle.nv_print.specs.declared.device.Device.{Device}
+use Rattle.nv_subsystem.specs.State.{State}
+use Rattle.nv_subsystem.specs.Step.{next_serial, step}
+use Rattle.nv_subsystem.specs.declared.origin.TheConstants.{SERIALS}
+use Rattle.nv_script.specs.Link.{serials_of}
+use Rattle.nv_script.specs.Listing.{IsListed, Standing, asked, asked_all, devices_more, devices_with, listing_answered}
+use Rattle.nv_script.specs.Orders.{namespace_orders, order_of}
+use Rattle.nv_script.specs.Shown.{Listing}
+
+-- ---- the commands
+
+-- so many commands that ask for these NSIDs
+pub commands_are : (ks : List Command) (ns : List ℕ) → length ns < length ks + 1
+    → ((k : ℕ) (d : Command) → k < length ns → get_or ks k d ≡ IdentifyNamespace (get_or ns k 0)) → take (length ns) ks ≡ map IdentifyNamespace ns
+commands_are ks ns few h =
+    let same : length (take (length ns) ks) ≡ length (map {A = ℕ} {B = Command} IdentifyNamespace ns) = length-take-le (length ns) ks (omega arith) ∙ sym (length-map ns IdentifyNamespace) in
+    ext_get_or IdentifyController (take (length ns) ks) (map IdentifyNamespace ns) same
+    (λ i below.
+    let b : i < length ns = omega (arith, length-take-le (length ns) ks (omega arith)) in
+    get_or-take (length ns) ks i IdentifyController b ∙ h i IdentifyController b ∙ sym (get_or-map IdentifyNamespace ns i 0 IdentifyController b))
+
+-- those of some NSIDs and of more, and of the first ones, the next ones and the rest
+pub namespaces_join : (c : ℕ) (ns more : List ℕ) → namespace_orders c (ns ++ more) ≡ namespace_orders c ns ++ namespace_orders c more
+namespaces_join c ns more = map-append (λ n. order_of c (IdentifyNamespace n)) ns more
+
+pub namespaces_split : (c : ℕ) (ns done rest : List ℕ) (n : ℕ) → ns ≡ done ++ rest
+    → namespace_orders c ns ≡ namespace_orders c done ++ (namespace_orders c (take n rest) ++ namespace_orders c (drop n rest))
+namespaces_split c ns done rest n e =
+    ap (namespace_orders c) (e ∙ ap (λ x. done ++ x) (sym (take-append-drop n rest)))
+    ∙ namespaces_join c done (take n rest ++ drop n rest)
+    ∙ ap (λ x. namespace_orders c done ++ x) (namespaces_join c (take n rest) (drop n rest))
+
+-- ---- their answers, one at a time
+
+module _ (c : ℕ) where
+  -- what an answer adds
+  adds : (l : Listing) (n : ℕ) (a : Answer)
+      → listing_answered l (order_of c (IdentifyNamespace n)) a ≡ record { identity = l.identity; devices = devices_more c l.identity l.devices n a }
+  adds l n (Ok (reply.Controller r)) = refl
+  adds l n (Ok (reply.Namespace r)) = refl
+  adds l n (Ok (reply.List ids)) = refl
+  adds l n (Ok (reply.Number v)) = refl
+  adds l n (Ok reply.Done) = refl
+  adds l n (Ok (reply.Errors es)) = refl
+  adds l n (Ok (reply.Smart r)) = refl
+  adds l n (Err status) = refl
+
+  abbrev next : Standing → ℕ → Standing
+  next w n = asked w (order_of c (IdentifyNamespace n))
+
+  abbrev all_after : Standing → List ℕ → Standing
+  all_after w ns = asked_all w (namespace_orders c ns)
+
+  abbrev due : Standing → ℕ
+  due w = get_or w.serials c 0
+
+  next_due : (w : Standing) (n : ℕ) → c < length w.serials → due (next w n) ≡ next_serial (due w)
+  next_due w n h = get_or-set_same w.serials c (next_serial (due w)) 0 h
+
+  still : (w : Standing) (n : ℕ) → c < length w.serials → c < length (next w n).serials
+  still w n h = omega (arith, length-set w.serials c (next_serial (due w)))
+
+  pub identity_stays : (w : Standing) (ns : List ℕ) → (all_after w ns).listing.identity ≡ w.listing.identity
+  identity_stays w [] = refl
+  identity_stays w (n ∷ ns) =
+      identity_stays (next w n) ns
+      ∙ ap (λ (l : Listing). l.identity) (adds w.listing n (answer_received (IdentifyNamespace n) (step w.state c (IdentifyNamespace n) (due w)).answer))
+
+  states : (w : Standing) (ns : List ℕ) → c < length w.serials → (all_after w ns).state ≡ state_after c w.state (due w) (map IdentifyNamespace ns)
+  states w [] h = refl
+  states w (n ∷ ns) h =
+      states (next w n) ns (still w n h) ∙ ap (λ x. state_after c (next w n).state x (map IdentifyNamespace ns)) (next_due w n h)
+
+  listings : (w : Standing) (ns : List ℕ) → c < length w.serials
+      → (all_after w ns).listing.devices ≡ devices_with c w.listing.identity w.listing.devices ns (answers_of c w.state (due w) (map IdentifyNamespace ns))
+  listings w [] h = refl
+  listings w (n ∷ ns) h =
+      let more = adds w.listing n (answer_received (IdentifyNamespace n) (step w.state c (IdentifyNamespace n) (due w)).answer) in
+      listings (next w n) ns (still w n h)
+      ∙ ap (λ (l : Listing). devices_with c l.identity l.devices ns (answers_of c (next w n).state (due (next w n)) (map IdentifyNamespace ns))) more
+      ∙ ap (λ x. devices_with c w.listing.identity (devices_more c w.listing.identity w.listing.devices n (answer_received (IdentifyNamespace n) (step w.state c (IdentifyNamespace n) (due w)).answer)) ns (answers_of c (next w n).state x (map IdentifyNamespace ns))) (next_due w n h)
+
+  serials : (w : Standing) (n : ℕ) (ns : List ℕ) → c < length w.serials → (all_after w (n ∷ ns)).serials ≡ set w.serials c ((due w + length (n ∷ ns)) % SERIALS)
+  serials w n [] h = refl
+  serials w n (m ∷ ns) h =
+      let sum : due w + 1 + length (m ∷ ns) ≡ due w + length (n ∷ m ∷ ns) = omega arith in
+      serials (next w n) m ns (still w n h)
+      ∙ set-set w.serials c (next_serial (due w)) ((due (next w n) + length (m ∷ ns)) % SERIALS)
+      ∙ ap (λ x. set w.serials c ((x + length (m ∷ ns)) % SERIALS)) (next_due w n h)
+      ∙ ap (set w.serials c) (mod-add-mod (due w + 1) SERIALS (length (m ∷ ns)) ∙ ap (λ x. x % SERIALS) sum)
+
+-- ---- the driver's batch
+
+abbrev serial_at : Lane → ℕ
+serial_at l = l.serial
+
+length_answers : (c : ℕ) (s : State) (serial : ℕ) (ks : List Command) → length (answers_of c s serial ks) ≡ length ks
+length_answers c s serial [] = refl
+length_answers c s serial (k ∷ ks) = ap suc (length_answers c (step s c k serial).state (next_serial serial) ks)
+
+module _ (w : Standing) (c : ℕ) (s : State) (d : DriverValue) (devices : List Device) (is : IsListed w s (serials_of d) devices) (below : c < length d.lanes)
+    (ns : List ℕ) (ks : List Command) (are : ks ≡ map IdentifyNamespace ns) where
+  abbrev now_due : ℕ
+  now_due = (lane_at d.lanes c).serial
+
+  is_due : now_due ≡ due c w
+  is_due = sym (get_or-map serial_at d.lanes c no_lane 0 below) ∙ ap (λ xs. get_or xs c 0) is.next
+
+  known : c < length w.serials
+  known = omega (arith, ap length is.next, length-map d.lanes serial_at)
+
+  many : length ks ≡ length ns
+  many = ap length are ∙ length-map ns IdentifyNamespace
+
+  pub batch_state : (now : State) → now ≡ state_after c s now_due ks → now ≡ (all_after c w ns).state
+  batch_state now e =
+      e ∙ ap (λ x. state_after c x now_due ks) is.subsystem ∙ ap (λ x. state_after c w.state x ks) is_due ∙ ap (state_after c w.state (due c w)) are
+      ∙ sym (states c w ns known)
+
+  -- a batch has a command
+  some_serials : (ns : List ℕ) → 0 < length ns → set w.serials c ((due c w + length ns) % SERIALS) ≡ (all_after c w ns).serials
+  some_serials [] h = absurd (omega arith)
+  some_serials (n ∷ ns) h = sym (serials c w n ns known)
+
+  pub batch_serials : (after : DriverValue) → 0 < length ns → after ≡ after_commands d c (length ks) → serials_of after ≡ (all_after c w ns).serials
+  batch_serials after some e =
+      ap serials_of e ∙ map-set serial_at d.lanes c (after_some (length ks) (lane_at d.lanes c))
+      ∙ ap (λ xs. set xs c ((now_due + length ks) % SERIALS)) is.next
+      ∙ ap (λ x. set w.serials c ((x + length ks) % SERIALS)) is_due
+      ∙ ap (λ x. set w.serials c ((due c w + x) % SERIALS)) many
+      ∙ some_serials ns some
+
+  pub batch_devices : (identity : IdCtrl) (answers rest : List Answer) (now : List Device) → w.listing.identity ≡ identity → answers ≡ answers_of c s now_due ks
+      → now ≡ devices_with c identity devices ns (take (length ns) (answers ++ rest)) → now ≡ (all_after c w ns).listing.devices
+  batch_devices identity answers rest now same a e =
+      let so_many : length ns ≡ length answers = sym (ap length a ∙ length_answers c s now_due ks ∙ many) in
+      let all = ap (λ n. take n (answers ++ rest)) so_many ∙ take-append_seam answers rest in
+      e
+      ∙ ap (devices_with c identity devices ns) (all ∙ a ∙ ap (λ x. answers_of c x now_due ks) is.subsystem ∙ ap (λ x. answers_of c w.state x ks) is_due ∙ ap (answers_of c w.state (due c w)) are)
+      ∙ ap (λ i. devices_with c i devices ns (answers_of c w.state (due c w) (map IdentifyNamespace ns))) (sym same)
+      ∙ ap (λ x. devices_with c w.listing.identity x ns (answers_of c w.state (due c w) (map IdentifyNamespace ns))) is.listed
+      ∙ sym (listings c w ns known)

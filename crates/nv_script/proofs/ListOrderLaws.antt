@@ -1,0 +1,93 @@
+-- The commands of `list` in a well-formed subsystem, controller by controller.
+use Rattle.std.proofs.Common.{◌≡◌, ◌∙◌, ℕ, suc, ◌+◌, ◌-◌, ◌<◌, ◌≤◌, arith, ap, subst, refl, Bool, true, false, List, [], ◌∷◌, ◌++◌, append-nil, length, Option, None, Some}
+use Rattle.std.specs.Prelude.{All, filter, flat_map, if◌then◌else◌, is_some, nat_lt}
+use Rattle.std.specs.List.{range_with_len}
+use Rattle.std.specs.Option.{option_map_or}
+use Rattle.std.specs.FinMap as map_of
+use Rattle.std.specs.FinMap.{contains_key-keys}
+use Rattle.std.proofs.lemmas.Cmp.{eq_by_cmp_equiv, nat_cmp_total}
+use Rattle.std.proofs.lemmas.List.Elements.{All-tail}
+use Rattle.std.proofs.lemmas.Map.Views.{All-from_any}
+use Rattle.std.proofs.lemmas.Option.{get_or_from_slice_get, slice_get_within}
+use Rattle.nv_command.specs.declared.command.Command.TheVariants.{ActiveList, IdentifyController}
+use Rattle.nv_bits.specs.Numbers.{above}
+use Rattle.nv_subsystem.specs.Nsid.{active_nsids}
+use Rattle.nv_subsystem.specs.State.{Controller, State, ascending, controller_at}
+use Rattle.nv_subsystem.specs.WellFormed.{IsController, IsWellFormed}
+use Rattle.nv_script.specs.Exchange.{Order}
+use Rattle.nv_script.specs.Orders.{namespace_orders, order_of, orders_of_controller, orders_of_list}
+use Rattle.nv_script.proofs.LookupLaws.{AreLookups, IsAlike}
+
+-- ---- NSIDs that are attached are from 1 to NN
+
+abbrev IsInside : ℕ → ℕ → Type 0
+IsInside nn n = (1 ≤ n) × (n ≤ nn)
+
+of_some : {A : Type 0} (P : Type 0) (o : Option A) → ((x : A) → o ≡ Some x → P) → is_some o ≡ true → P
+of_some P None h t = absurd (cc)
+of_some P (Some x) h t = h x refl
+
+attached_inside : (s : State) → IsWellFormed s → (o : Option Controller) → ((x : Controller) → o ≡ Some x → IsController s.namespaces x)
+    → All (IsInside s.nn) (option_map_or (λ x. ascending x.attached) o [])
+attached_inside s w None is = λ k d below. absurd (omega arith)
+attached_inside s w (Some x) is =
+    All-from_any (eq_by_cmp_equiv nat_cmp_total) (IsInside s.nn) (ascending x.attached)
+    (λ n t. of_some (IsInside s.nn n) (map_of.get s.namespaces n) (λ x e. (w.namespaces n x e).nsid) ((is x refl).attached n (contains_key-keys x.attached n ∙ t)))
+
+active_inside : (s : State) (c : ℕ) → IsWellFormed s → All (IsInside s.nn) (active_nsids s c)
+active_inside s c w =
+    attached_inside s w (controller_at s c)
+    (λ x e. subst (IsController s.namespaces) (get_or_from_slice_get s.controllers c x x e) (w.controllers c x (slice_get_within s.controllers c x e)))
+
+-- ---- so no command is refused
+
+module _ (nn : ℕ) where
+  pub lookups-append : (os more : List Order) → AreLookups nn os → AreLookups nn more → AreLookups nn (os ++ more)
+  lookups-append [] more h k = k
+  lookups-append (o ∷ os) more h k = (h.0, lookups-append os more h.1 k)
+
+  pub lookups-front : (os more : List Order) → AreLookups nn (os ++ more) → AreLookups nn os
+  lookups-front [] more h = tt
+  lookups-front (o ∷ os) more h = (h.0, lookups-front os more h.1)
+
+  namespace_lookups : (c : ℕ) (test : ℕ → Bool) (ns : List ℕ) → All (IsInside nn) ns → AreLookups nn (namespace_orders c (filter test ns))
+  namespace_lookups c test [] h = tt
+  namespace_lookups c test (n ∷ ns) h =
+      let rest = namespace_lookups c test ns (All-tail (IsInside nn) n ns h) in
+      let first : IsInside nn n = h 0 n (omega arith) in
+      at_test (test n) first rest
+    where
+      at_test : (b : Bool) → IsInside nn n → AreLookups nn (namespace_orders c (filter test ns)) → AreLookups nn (namespace_orders c (if b then n ∷ filter test ns else filter test ns))
+      at_test true first rest = (first, rest)
+      at_test false first rest = rest
+
+  flat_lookups : (f : ℕ → List Order) → ((c : ℕ) → AreLookups nn (f c)) → (cs : List ℕ) → AreLookups nn (flat_map f cs)
+  flat_lookups f h [] = tt
+  flat_lookups f h (c ∷ cs) = lookups-append (f c) (flat_map f cs) (h c) (flat_lookups f h cs)
+
+pub controller_lookups : (s : State) (c : ℕ) → IsWellFormed s → AreLookups s.nn (orders_of_controller s c)
+controller_lookups s c w = (tt, (refl, namespace_lookups s.nn c (λ n. nat_lt 0 n) (active_nsids s c) (active_inside s c w)))
+
+pub list_lookups : (s : State) → IsWellFormed s → AreLookups s.nn (orders_of_list s)
+list_lookups s w = flat_lookups s.nn (orders_of_controller s) (λ c. controller_lookups s c w) (range_with_len 0 (length s.controllers))
+
+-- ---- controller by controller
+
+-- the same NSIDs are attached, so the same commands are sent
+pub same_orders : (s now : State) (c : ℕ) → IsAlike s now → orders_of_controller now c ≡ orders_of_controller s c
+same_orders s now c h = ap (λ ns. order_of c IdentifyController ∷ order_of c (ActiveList 0) ∷ namespace_orders c (above 0 ns)) (h.active c)
+
+-- those of a controller and of the later ones
+abbrev pub orders_from : State → ℕ → ℕ → List Order
+orders_from s i n = flat_map (orders_of_controller s) (range_with_len i (n - i))
+
+pub next_controller : (s : State) (i n : ℕ) (all done : List Order) → i < n → all ≡ done ++ orders_from s i n
+    → all ≡ done ++ (orders_of_controller s i ++ orders_from s (i + 1) n)
+next_controller s i n all done below e =
+    let more : n - i ≡ suc (n - (i + 1)) = omega arith in
+    e ∙ ap (λ m. done ++ flat_map (orders_of_controller s) (range_with_len i m)) more
+
+pub no_controller_left : (s : State) (i n : ℕ) (all done : List Order) → n ≤ i → all ≡ done ++ orders_from s i n → all ≡ done
+no_controller_left s i n all done over e =
+    let none : n - i ≡ 0 = omega arith in
+    e ∙ ap (λ m. done ++ flat_map (orders_of_controller s) (range_with_len i m)) none ∙ append-nil done

@@ -1,0 +1,18 @@
+use Rattle.std.proofs.Common.{◌≡◌, ◌++◌, length, List, ℕ}
+use Rattle.nv_script.specs.Link.{IsLinked, serials_of}
+use Rattle.nv_script.specs.Listing.{IsListed, Standing, asked_all}
+use Rattle.nv_script.specs.Orders.{namespace_orders}
+use Rattle.nv_script.proofs.listing.list_namespaces.Given as goal
+
+-- the first of the NSIDs were asked for
+abbrev pub invariant-loop-rest : goal.invariant-loop-rest
+invariant-loop-rest g l = record {
+  linked : IsLinked (g.B.Bus.meaning l.bus) l.driver;
+  lanes : length l.driver.lanes ≡ length l.initial.driver.lanes;
+  left : (done : List ℕ) × (l.nsids ≡ done ++ l.rest) × ((w : Standing)
+      → IsListed w (g.B.Bus.meaning l.initial.bus).state (serials_of l.initial.driver) l.initial.devices → w.listing.identity ≡ l.identity
+      → IsListed (asked_all w (namespace_orders l.ctrl done)) (g.B.Bus.meaning l.bus).state (serials_of l.driver) l.devices);
+}
+
+abbrev pub decreases-loop-rest : goal.decreases-loop-rest
+decreases-loop-rest g l = length l.rest

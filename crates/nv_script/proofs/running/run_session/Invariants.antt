@@ -1,0 +1,26 @@
+use Rattle.std.proofs.Common.{◌≡◌, ◌≤◌, ◌*◌, false, length, List, ℕ}
+use Rattle.nv_script.specs.Cuts.{left_at}
+use Rattle.nv_script.specs.Ends.{WasRead}
+use Rattle.nv_script.specs.Feeding.{Stands}
+use Rattle.nv_script.specs.Results.{whole}
+use Rattle.nv_script.specs.ScriptLines.{buffer_of, pieces}
+use Rattle.nv_script.specs.Link.{IsLinked}
+use Rattle.nv_script.specs.declared.streams.TheConstants.{READ_SIZE}
+use Rattle.nv_script.proofs.running.run_session.Given as goal
+
+abbrev pub invariant-loop-call : goal.invariant-loop-call
+invariant-loop-call g l = record {
+  not_failed : (g.R.Source.state l.script).has_failed ≡ false;
+  not_ended : (g.R.Source.state l.script).has_ended ≡ false;
+  calls : (g.R.Source.state l.script).calls ≡ l.call;
+  few : (g.R.Source.state l.script).given ≤ READ_SIZE * l.call;
+  room : length l.piece ≡ READ_SIZE;
+  numbered : l.session.number ≤ (g.R.Source.state l.script).given;
+  out_ready : (g.O.Sink.state l.out).has_failed ≡ false;
+  messages_ready : (g.M.Sink.state l.messages).has_failed ≡ false;
+  linked : IsLinked (g.B.Bus.meaning l.bus) l.session.driver;
+  run : (bytes : List ℕ)
+      × WasRead (g.R.Source.state l.initial.script) (g.R.Source.state l.script) bytes
+      × (l.line ≡ buffer_of (pieces bytes).last)
+      × Stands (whole (g.B.Bus.meaning l.initial.bus).state (pieces bytes).ended) (left_at (g.O.Sink.state l.initial.out).taken (g.O.Sink.state l.out).taken (g.M.Sink.state l.initial.messages).taken (g.M.Sink.state l.messages).taken (g.B.Bus.meaning l.bus).state) l.session;
+}

@@ -1,0 +1,86 @@
+-- The commands that a query stands for.
+use Rattle.std.specs.Prelude.{ℕ, ◌+◌, ◌-◌, ◌*◌, max, min, Bool, List, [], ◌∷◌, Option, Some, None, flat_map, if◌then◌else◌, length, map}
+use Rattle.std.specs.List.{range_with_len}
+use Rattle.nv_bits.specs.Numbers.{above}
+use Rattle.nv_subsystem.specs.Logs.{entry_count}
+use Rattle.nv_subsystem.specs.Nsid.{active_nsids}
+use Rattle.nv_subsystem.specs.State.{State}
+use Rattle.nv_command.specs.declared.command.Command.{Command}
+use Rattle.nv_command.specs.declared.command.Command.TheVariants.{IdentifyController, IdentifyNamespace, AllocatedNamespace, ActiveList, AllocatedList, Create, Delete, Attachment}
+use Rattle.nv_command.specs.declared.command.Command.TheVariants.{Format, GetFeature, SetFeature, GetLog}
+use Rattle.nv_command.specs.declared.reply.Reply.{Reply}
+use Rattle.nv_command.specs.declared.reply.Reply.TheVariants as reply
+use Rattle.nv_script.specs.Exchange.{Order}
+use Rattle.nv_line.specs.declared.request.Ask.{Ask}
+use Rattle.nv_line.specs.declared.request.Ask.TheVariants as ask
+use Rattle.nv_line.specs.declared.request.Query.{Query}
+use Rattle.nv_line.specs.declared.request.Query.TheVariants as query
+use Rattle.nv_line.specs.declared.request.Question.{Question}
+
+-- a command of a controller
+abbrev pub order_of : ℕ → Command → Order
+order_of c k = record { controller = c; command = k }
+
+-- ---- one controller is asked
+
+abbrev pub list_command : Bool → ℕ → Command
+list_command all after = if all then AllocatedList after else ActiveList after
+
+abbrev pub namespace_command : Bool → ℕ → Command
+namespace_command force nsid = if force then AllocatedNamespace nsid else IdentifyNamespace nsid
+
+-- the command that is sent first for what a controller is asked; a list begins at an NSID, and is asked for after the
+-- one before it
+abbrev pub first_command : Ask → Command
+first_command ask.IdCtrl = IdentifyController
+first_command (ask.ListNs first all) = list_command all (first - 1)
+first_command (ask.IdNs nsid force) = namespace_command force nsid
+first_command (ask.Create nsze ncap flbas dps nmic) = Create nsze ncap flbas dps nmic
+first_command (ask.Attachment nsid detach controllers) = Attachment nsid detach controllers
+first_command (ask.Delete nsid) = Delete nsid
+first_command (ask.Format nsid lbaf mset pi pil ses) = Format nsid lbaf mset pi pil ses
+first_command (ask.GetFeature fid sel nsid) = GetFeature fid sel nsid
+first_command (ask.SetFeature fid value save nsid) = SetFeature fid value save nsid
+first_command (ask.SmartLog nsid) = GetLog 0x02 nsid 0 128
+first_command (ask.ErrorLog entries) = IdentifyController
+
+-- the entries of an error log, 16 dwords each: so many, as far as a controller keeps them, and one at least
+abbrev pub errors_command : ℕ → ℕ → Command
+errors_command entries kept = GetLog 0x01 0 0 (16 * max (min entries kept) 1)
+
+-- the command that follows on the first one, if any, at a controller that keeps so many errors
+abbrev pub second_command : ℕ → Ask → Option Command
+second_command kept (ask.ErrorLog entries) = Some (errors_command entries kept)
+second_command kept _ = None
+
+-- the same by the first reply, which tells how many it keeps
+abbrev pub next_command : Ask → Reply → Option Command
+next_command (ask.ErrorLog entries) (reply.Controller r) = Some (errors_command entries (r.elpe + 1))
+next_command _ _ = None
+
+abbrev pub later_orders : ℕ → Option Command → List Order
+later_orders c None = []
+later_orders c (Some k) = order_of c k ∷ []
+
+abbrev pub orders_of_one : State → Question → List Order
+orders_of_one s q =
+    order_of q.controller (first_command q.ask)
+    ∷ later_orders q.controller (second_command (entry_count s q.controller) q.ask)
+
+-- ---- each controller is asked for its namespaces
+
+abbrev pub namespace_orders : ℕ → List ℕ → List Order
+namespace_orders c nsids = map (λ n. order_of c (IdentifyNamespace n)) nsids
+
+-- what the controller is, which NSIDs are attached to it, and what each of these namespaces is
+abbrev pub orders_of_controller : State → ℕ → List Order
+orders_of_controller s c =
+    order_of c IdentifyController ∷ order_of c (ActiveList 0) ∷ namespace_orders c (above 0 (active_nsids s c))
+
+abbrev pub orders_of_list : State → List Order
+orders_of_list s = flat_map (orders_of_controller s) (range_with_len 0 (length s.controllers))
+
+-- the commands that a query stands for
+abbrev pub commands_of : State → Query → List Order
+commands_of s (query.One question) = orders_of_one s question
+commands_of s query.List = orders_of_list s
