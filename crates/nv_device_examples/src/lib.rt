@@ -12,6 +12,8 @@ mod file_values;
 #[cfg(test)]
 mod files;
 #[cfg(test)]
+mod hostile_files;
+#[cfg(test)]
 mod mistakes;
 #[cfg(test)]
 mod subsystem_logs;
