@@ -150,7 +150,7 @@ fn shared(alloc: Global) -> Result<Case, AllocError> {
 }
 
 /// All of them.
-pub fn cases(alloc: Global) -> Result<Vec<Case>, AllocError> {
+pub(crate) fn cases(alloc: Global) -> Result<Vec<Case>, AllocError> {
     let mut cases = Vec::new(alloc);
     cases.push(lists(alloc)?)?;
     cases.push(capacity(alloc)?)?;
