@@ -1,30 +1,40 @@
 -- Laws of maps and sets of numbers.
-use Rattle.std.proofs.Common.{◌≡◌, ◌≢◌, ◌∙◌, ℕ, zero, suc, ◌+◌, ◌-◌, ◌<◌, ◌≤◌, ◌==◌, ◌||◌, ◌&&◌, Bool, true, false, cond, List, [], ◌∷◌, Option, Some, None, is_some, refl, sym, ap, subst, arith, inl, inr, map as map_list}
+use Rattle.std.proofs.Common.{◌≡◌, ◌≢◌, ◌∙◌, ℕ, zero, suc, ◌+◌, ◌-◌, ◌<◌, ◌≤◌, ◌==◌, ◌||◌, ◌&&◌}
+use Rattle.std.proofs.Common.{Bool, true, false, cond, List, [], ◌∷◌, Option, Some, None, is_some}
+use Rattle.std.proofs.Common.{refl, sym, ap, subst, arith, inl, inr, map as map_list}
 use Rattle.std.proofs.Math.Dec.{T}
-use Rattle.std.proofs.lemmas.Bool.{cases_eq, cases_lt, cases_order, cond_both, eq-eqb, le-ltb, lt-ltb, ne_eqb, or_parts, true≢false}
+use Rattle.std.proofs.lemmas.Bool.{cases_eq, cases_lt, cases_order, cond_both, eq-eqb, le-ltb}
+use Rattle.std.proofs.lemmas.Bool.{lt-ltb, ne_eqb, or_parts, true≢false}
 use Rattle.std.proofs.lemmas.Bool.Decides.{nat_tests}
 use Rattle.std.specs.List.{list_any}
 use Rattle.std.specs.Ordering.{nat_cmp, eq_by_cmp, is_lt}
 use Rattle.std.specs.declared.cmp.Ordering.TheVariants.{Equal, Greater}
 use Rattle.std.specs.Cmp.{nat_cmp_total, unsigned_tied}
 use Rattle.std.specs.FinMap as map
-use Rattle.std.specs.FinMap.{get, get-empty, get-insert, get-remove, is_sorted, len-empty, len-insert, nat_cmp-IsAntisymmetric, same_map}
+use Rattle.std.specs.FinMap.{get, get-empty, get-insert, get-remove, is_sorted, len-empty}
+use Rattle.std.specs.FinMap.{len-insert, nat_cmp-IsAntisymmetric, same_map}
 use Rattle.std.specs.FinMap.Entries.{below_all}
-use Rattle.nv_bits.specs.Numbers.{IsNext, IsOf, NumberMap, above, all_of, as_member, by_place, with_value}
+use Rattle.nv_bits.specs.Numbers.{IsNext, IsOf, NumberMap, above, all_of, as_member, by_place}
+use Rattle.nv_bits.specs.Numbers.{with_value}
 
 module _ {A : Type 0} where
   -- what is found after a change
-  pub get_of_insert : (m : NumberMap A) (k : ℕ) (x : A) (q : ℕ) → get (map.insert m k x) q ≡ cond (q == k) (Some x) (get m q)
-  get_of_insert m k x q = get-insert nat_cmp_total m k x q ∙ ap (λ b. cond b (Some x) (get m q)) (unsigned_tied q k)
+  pub get_of_insert : (m : NumberMap A) (k : ℕ) (x : A) (q : ℕ) → get (map.insert m k x) q
+      ≡ cond (q == k) (Some x) (get m q)
+  get_of_insert m k x q =
+      get-insert nat_cmp_total m k x q ∙ ap (λ b. cond b (Some x) (get m q)) (unsigned_tied q k)
 
-  pub get_of_remove : (m : NumberMap A) (k q : ℕ) → get (map.remove m k) q ≡ cond (q == k) None (get m q)
-  get_of_remove m k q = get-remove nat_cmp_total m k q ∙ ap (λ b. cond b None (get m q)) (unsigned_tied q k)
+  pub get_of_remove : (m : NumberMap A) (k q : ℕ) → get (map.remove m k) q
+      ≡ cond (q == k) None (get m q)
+  get_of_remove m k q =
+      get-remove nat_cmp_total m k q ∙ ap (λ b. cond b None (get m q)) (unsigned_tied q k)
 
   -- two maps in which the same is found are equal
   pub same_numbers : (m n : NumberMap A) → ((q : ℕ) → get m q ≡ get n q) → m ≡ n
   same_numbers m n = same_map nat_cmp_total nat_cmp-IsAntisymmetric m n
 
-  get_of_with_value : (m : NumberMap A) (k q : ℕ) (o : Option A) → get m k ≡ None → get (with_value m k o) q ≡ cond (q == k) o (get m q)
+  get_of_with_value : (m : NumberMap A) (k q : ℕ) (o : Option A) → get m k ≡ None
+      → get (with_value m k o) q ≡ cond (q == k) o (get m q)
   get_of_with_value m k q None none =
       elim (cases_eq q k) [
         | inl e ↦ rw (e, eq-eqb k k refl) none
@@ -33,17 +43,20 @@ module _ {A : Type 0} where
   get_of_with_value m k q (Some x) none = get_of_insert m k x q
 
   -- where a map by places has nothing, since the number is none of the range
-  pub get_outside : (at : ℕ → Option A) (first count q : ℕ) → (IsOf first count q → ⊥) → get (by_place at first count) q ≡ None
+  pub get_outside : (at : ℕ → Option A) (first count q : ℕ) → (IsOf first count q → ⊥)
+      → get (by_place at first count) q ≡ None
   unfolding by_place
   get_outside at first zero q out = get-empty nat_cmp q
   get_outside at first (suc count) q out =
       let none = get_outside at first count (first + count) (λ is. absurd (omega arith)) in
       let other : q ≢ first + count = λ e. out (omega arith, omega arith) in
       get_of_with_value (by_place at first count) (first + count) q (at count) none
-      ∙ rw (ne_eqb q (first + count) other) (get_outside at first count q (λ is. out (is.0, omega arith)))
+      ∙ rw (ne_eqb q (first + count) other) (get_outside at first count q
+      (λ is. out (is.0, omega arith)))
 
   -- and what it has at a place
-  pub get_at : (at : ℕ → Option A) (first count k : ℕ) → k < count → get (by_place at first count) (first + k) ≡ at k
+  pub get_at : (at : ℕ → Option A) (first count k : ℕ) → k < count
+      → get (by_place at first count) (first + k) ≡ at k
   unfolding by_place
   get_at at first zero k h = absurd (omega arith)
   get_at at first (suc count) k h =
@@ -57,7 +70,8 @@ module _ {A : Type 0} where
       ]
 
   -- a map that has the same at each place, and nothing elsewhere
-  pub by_place_is : (at : ℕ → Option A) (first count : ℕ) (m : NumberMap A) → ((k : ℕ) → k < count → get m (first + k) ≡ at k)
+  pub by_place_is : (at : ℕ → Option A) (first count : ℕ) (m : NumberMap A)
+      → ((k : ℕ) → k < count → get m (first + k) ≡ at k)
       → ((q : ℕ) → (IsOf first count q → ⊥) → get m q ≡ None) → by_place at first count ≡ m
   by_place_is at first count m inside outside =
       same_numbers _ m (λ q. elim (cases_lt q first) [
@@ -71,7 +85,8 @@ module _ {A : Type 0} where
                   get_outside at first count q out ∙ sym (outside q out)
               | inl within ↦
                   let e : q ≡ first + (q - first) = omega arith in
-                  rw e (get_at at first count (q - first) (omega arith) ∙ sym (inside (q - first) (omega arith)))
+                  rw e (get_at at first count (q - first) (omega arith)
+                  ∙ sym (inside (q - first) (omega arith)))
             ]
       ])
 
@@ -80,7 +95,8 @@ module _ {A : Type 0} where
     abbrev Changes : Option A → Type 0
     Changes o = (j : ℕ) → new j ≡ cond (j == k) o (old j)
 
-    here_and_there : (o : Option A) (j : ℕ) → cond (first + j == first + k) o (old j) ≡ cond (j == k) o (old j)
+    here_and_there : (o : Option A) (j : ℕ) → cond (first + j == first + k) o (old j)
+        ≡ cond (j == k) o (old j)
     here_and_there o j =
         elim (cases_eq j k) [
           | inl e ↦ rw (e, eq-eqb k k refl, eq-eqb (first + k) (first + k) refl) refl
@@ -89,39 +105,52 @@ module _ {A : Type 0} where
               rw (ne_eqb j k ne, ne_eqb (first + j) (first + k) other) refl
         ]
 
-    changed : (o : Option A) (m : NumberMap A) → ((q : ℕ) → get m q ≡ cond (q == first + k) o (get (by_place old first count) q))
+    changed : (o : Option A) (m : NumberMap A)
+        → ((q : ℕ) → get m q ≡ cond (q == first + k) o (get (by_place old first count) q))
         → Changes o → by_place new first count ≡ m
     changed o m is change =
         by_place_is new first count m
-        (λ j h. is (first + j) ∙ ap (cond (first + j == first + k) o) (get_at old first count j h) ∙ here_and_there o j ∙ sym (change j))
+        (λ j h. is (first + j) ∙ ap (cond (first + j == first + k) o) (get_at old first count j h)
+        ∙ here_and_there o j ∙ sym (change j))
         (λ q out.
         let other : q ≢ first + k = λ e. out (omega arith, omega arith) in
         is q ∙ rw (ne_eqb q (first + k) other) (get_outside old first count q out))
 
-    pub by_place-insert : (x : A) → Changes (Some x) → by_place new first count ≡ map.insert (by_place old first count) (first + k) x
+    pub by_place-insert : (x : A) → Changes (Some x) → by_place new first count
+        ≡ map.insert (by_place old first count) (first + k) x
     by_place-insert x = changed (Some x) _ (get_of_insert (by_place old first count) (first + k) x)
 
-    pub by_place-remove : Changes None → by_place new first count ≡ map.remove (by_place old first count) (first + k)
+    pub by_place-remove : Changes None → by_place new first count
+        ≡ map.remove (by_place old first count) (first + k)
     by_place-remove = changed None _ (get_of_remove (by_place old first count) (first + k))
 
   -- which numbers a map has after a change
-  pub contains-insert : (m : NumberMap A) (k : ℕ) (x : A) (q : ℕ) → map.contains_key (map.insert m k x) q ≡ cond (q == k) true (map.contains_key m q)
-  contains-insert m k x q = ap is_some (get_of_insert m k x q) ∙ elim (q == k) as (λ b. is_some (cond b (Some x) (get m q)) ≡ cond b true (is_some (get m q))) [ true ↦ refl | false ↦ refl ]
+  pub contains-insert : (m : NumberMap A) (k : ℕ) (x : A) (q : ℕ)
+      → map.contains_key (map.insert m k x) q ≡ cond (q == k) true (map.contains_key m q)
+  contains-insert m k x q = ap is_some (get_of_insert m k x q)
+      ∙ elim (q == k) as (λ b. is_some (cond b (Some x) (get m q))
+      ≡ cond b true (is_some (get m q))) [ true ↦ refl | false ↦ refl ]
 
-  pub contains-remove : (m : NumberMap A) (k q : ℕ) → map.contains_key (map.remove m k) q ≡ cond (q == k) false (map.contains_key m q)
-  contains-remove m k q = ap is_some (get_of_remove m k q) ∙ elim (q == k) as (λ b. is_some (cond b None (get m q)) ≡ cond b false (is_some (get m q))) [ true ↦ refl | false ↦ refl ]
+  pub contains-remove : (m : NumberMap A) (k q : ℕ) → map.contains_key (map.remove m k) q
+      ≡ cond (q == k) false (map.contains_key m q)
+  contains-remove m k q = ap is_some (get_of_remove m k q)
+      ∙ elim (q == k) as (λ b. is_some (cond b None (get m q)) ≡ cond b false (is_some (get m q)))
+      [ true ↦ refl | false ↦ refl ]
 
   -- a map by places has no more numbers than there are
   pub len_within : (at : ℕ → Option A) (first count : ℕ) → map.len (by_place at first count) ≤ count
   unfolding by_place
   len_within at first zero = omega (arith, len-empty nat_cmp A)
-  len_within at first (suc count) = one_more (by_place at first count) (first + count) count (at count) (len_within at first count)
+  len_within at first (suc count) = one_more (by_place at first count) (first + count) count
+      (at count) (len_within at first count)
     where
-      one_more : (m : NumberMap A) (k n : ℕ) (o : Option A) → map.len m ≤ n → map.len (with_value m k o) ≤ suc n
+      one_more : (m : NumberMap A) (k n : ℕ) (o : Option A) → map.len m ≤ n
+          → map.len (with_value m k o) ≤ suc n
       one_more m k n None h = omega arith
       one_more m k n (Some x) h =
           let P : ℕ → Type 0 = λ l. l ≤ suc n in
-          subst P (sym (len-insert nat_cmp_total m k x)) (cond_both (map.contains_key m k) (map.len m) (map.len m + 1) P (λ _. omega arith) (λ _. omega arith))
+          subst P (sym (len-insert nat_cmp_total m k x)) (cond_both (map.contains_key m k)
+          (map.len m) (map.len m + 1) P (λ _. omega arith) (λ _. omega arith))
 
   -- a map that has a number isn't empty
   pub has_one : (m : NumberMap A) (k : ℕ) → map.contains_key m k ≡ true → 0 < map.len m
@@ -130,7 +159,8 @@ module _ {A : Type 0} where
         | inl h ↦ h
         | inr h ↦
             let none : m ≡ map.empty = map.empty_of_len m (omega arith) in
-            absurd (true≢false (sym member ∙ ap (λ e. map.contains_key e k) none ∙ ap is_some (get-empty nat_cmp k)))
+            absurd (true≢false (sym member ∙ ap (λ e. map.contains_key e k) none
+            ∙ ap is_some (get-empty nat_cmp k)))
       ]
 
   -- what has no place is taken out of nothing
@@ -151,7 +181,8 @@ unfolding by_place
 len-all_of first zero = len-empty nat_cmp (Unit {0})
 len-all_of first (suc count) =
     let fewer = all_of first count in
-    let out = get_outside (λ _. as_member true) first count (first + count) (λ is. absurd (omega arith)) in
+    let out = get_outside (λ _. as_member true) first count (first + count)
+    (λ is. absurd (omega arith)) in
     len-insert nat_cmp_total fewer (first + count) tt
     ∙ ap (λ o. cond (is_some o) (map.len fewer) (map.len fewer + 1)) out
     ∙ ap (λ n. n + 1) (len-all_of first count) ∙ omega arith
@@ -197,25 +228,32 @@ module _ {A : Type 0} where
   above_first x q (e ∷ es) below member =
       elim (cases_eq q e.0) [
         | inl same ↦ rw same (less x e.0 (left _ _ below))
-        | inr ne ↦ above_first x q es (right (is_lt (nat_cmp x e.0)) _ below) (sym (has_other e es q ne) ∙ member)
+        | inr ne ↦ above_first x q es (right (is_lt (nat_cmp x e.0)) _ below)
+            (sym (has_other e es q ne) ∙ member)
       ]
 
-  none_listed : (n : ℕ) (es : List (ℕ × A)) → ((q : ℕ) → n < q → has es q ≡ false) → above n (numbers es) ≡ []
+  none_listed : (n : ℕ) (es : List (ℕ × A)) → ((q : ℕ) → n < q → has es q ≡ false)
+      → above n (numbers es) ≡ []
   none_listed n [] none = refl
   none_listed n (e ∷ es) none =
       elim (cases_lt n e.0) [
         | inl h ↦ absurd (true≢false (sym (has_first e es) ∙ none e.0 h))
-        | inr h ↦ rw (le-ltb n e.0 h) (none_listed n es (λ q l. (or_parts (eq_by_cmp nat_cmp q e.0) (has es q) (none q l)).1))
+        | inr h
+            ↦ rw (le-ltb n e.0 h)
+            (none_listed n es (λ q l. (or_parts (eq_by_cmp nat_cmp q e.0) (has es q) (none q l)).1))
       ]
 
-  all_listed : (n x : ℕ) (es : List (ℕ × A)) → n ≤ x → T (below_all nat_cmp x es) → above n (numbers es) ≡ numbers es
+  all_listed : (n x : ℕ) (es : List (ℕ × A)) → n ≤ x → T (below_all nat_cmp x es)
+      → above n (numbers es) ≡ numbers es
   all_listed n x [] h below = refl
   all_listed n x (e ∷ es) h below =
       let l : x < e.0 = less x e.0 (left _ _ below) in
-      rw (lt-ltb n e.0 (omega arith)) (ap (λ t. e.0 ∷ t) (all_listed n x es h (right (is_lt (nat_cmp x e.0)) _ below)))
+      rw (lt-ltb n e.0 (omega arith))
+      (ap (λ t. e.0 ∷ t) (all_listed n x es h (right (is_lt (nat_cmp x e.0)) _ below)))
 
   next_listed : (n k : ℕ) (es : List (ℕ × A)) → T (is_sorted nat_cmp es) → n < k → has es k ≡ true
-      → ((q : ℕ) → n < q → q < k → has es q ≡ false) → above n (numbers es) ≡ k ∷ above k (numbers es)
+      → ((q : ℕ) → n < q → q < k → has es q ≡ false) → above n (numbers es) ≡ k
+      ∷ above k (numbers es)
   next_listed n k [] sorted after member least = absurd (true≢false (sym member))
   next_listed n k (e ∷ es) sorted after member least =
       let below : T (below_all nat_cmp e.0 es) = left _ _ sorted in
@@ -223,7 +261,8 @@ module _ {A : Type 0} where
         | inr past ↦
             let other : k ≢ e.0 = omega arith in
             rw (le-ltb n e.0 past, le-ltb k e.0 (omega arith))
-            (next_listed n k es (right (below_all nat_cmp e.0 es) _ sorted) after (sym (has_other e es k other) ∙ member)
+            (next_listed n k es (right (below_all nat_cmp e.0 es) _ sorted) after
+            (sym (has_other e es k other) ∙ member)
             (λ q a b. let ne : q ≢ e.0 = omega arith in sym (has_other e es q ne) ∙ least q a b))
         | inl l ↦
             elim (cases_order e.0 k) [
@@ -236,16 +275,21 @@ module _ {A : Type 0} where
                     | inl before ↦ absurd (true≢false (sym (has_first e es) ∙ least e.0 l before))
                     | inr behind ↦
                         let ne : k ≢ e.0 = omega arith in
-                        let more : e.0 < k = above_first e.0 k es below (sym (has_other e es k ne) ∙ member) in
+                        let more : e.0 < k =
+                        above_first e.0 k es below (sym (has_other e es k ne) ∙ member) in
                         absurd (omega arith)
                   ]
             ]
       ]
 
-  pub above_none : (m : NumberMap A) (n : ℕ) → ((q : ℕ) → n < q → map.contains_key m q ≡ false) → above n (map.keys m) ≡ []
-  above_none m n none = none_listed n (map.entries m) (λ q h. sym (map.contains_key-keys m q) ∙ none q h)
+  pub above_none : (m : NumberMap A) (n : ℕ) → ((q : ℕ) → n < q → map.contains_key m q ≡ false)
+      → above n (map.keys m) ≡ []
+  above_none m n none =
+      none_listed n (map.entries m) (λ q h. sym (map.contains_key-keys m q) ∙ none q h)
 
-  pub above_next : (m : NumberMap A) (n k : ℕ) → IsNext m n k → above n (map.keys m) ≡ k ∷ above k (map.keys m)
+  pub above_next : (m : NumberMap A) (n k : ℕ) → IsNext m n k → above n (map.keys m) ≡ k
+      ∷ above k (map.keys m)
   above_next m n k next =
-      next_listed n k (map.entries m) (map.entries_sorted m) next.later (sym (map.contains_key-keys m k) ∙ next.member)
+      next_listed n k (map.entries m) (map.entries_sorted m) next.later
+      (sym (map.contains_key-keys m k) ∙ next.member)
       (λ q a b. sym (map.contains_key-keys m q) ∙ next.least q a b)

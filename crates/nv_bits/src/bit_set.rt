@@ -1,6 +1,7 @@
 //! A set of numbers out of a range.
 
-ghost use Rattle.std.specs.Prelude.{◌≡◌, ◌+◌, ◌^◌, ◌<◌, ◌≤◌, ◌∷◌, [], ℕ, false, true, not, ◌↔◌, IfOk, IfSome, IsTrue, MatchOption};
+ghost use Rattle.std.specs.Prelude.{◌≡◌, ◌+◌, ◌^◌, ◌<◌, ◌≤◌, ◌∷◌, [], ℕ, false, true, not, ◌↔◌};
+ghost use Rattle.std.specs.Prelude.{IfOk, IfSome, IsTrue, MatchOption};
 ghost use Rattle.std.specs.Bool.{OnTrue};
 ghost use Rattle.std.specs.FinMap as map;
 ghost use Rattle.nv_bits.specs.Numbers.{IsLowest, IsNext, IsOf, above, all_of, insert};

@@ -1,6 +1,7 @@
 //! What the numbers of a range have.
 
-ghost use Rattle.std.specs.Prelude.{◌≡◌, ◌+◌, ◌^◌, ◌<◌, ◌≤◌, ◌∷◌, [], ℕ, None, false, true, IfOk, IfSome, MatchOption, slice_index_or, vec_len};
+ghost use Rattle.std.specs.Prelude.{◌≡◌, ◌+◌, ◌^◌, ◌<◌, ◌≤◌, ◌∷◌, [], ℕ, None, false, true, IfOk};
+ghost use Rattle.std.specs.Prelude.{IfSome, MatchOption, slice_index_or, vec_len};
 ghost use Rattle.std.specs.Bool.{OnTrue};
 ghost use Rattle.std.specs.FinMap as map;
 ghost use Rattle.nv_bits.specs.Numbers.{IsNext, IsOf, above};

@@ -1,6 +1,7 @@
 //! Bits in words of 64. Bit k is bit k % 64 of word k / 64.
 
-ghost use Rattle.std.specs.Prelude.{◌≡◌, ◌/◌, ◌^◌, ◌<◌, ◌≤◌, ℕ, false, length, replicate, slice_index, IfOk, MatchOption};
+ghost use Rattle.std.specs.Prelude.{◌≡◌, ◌/◌, ◌^◌, ◌<◌, ◌≤◌, ℕ, false, length, replicate};
+ghost use Rattle.std.specs.Prelude.{slice_index, IfOk, MatchOption};
 ghost use Rattle.nv_bits.specs.Words.{IsLeastFrom, bit_of};
 
 use std::alloc::{AllocError, Global};

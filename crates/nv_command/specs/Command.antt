@@ -8,13 +8,17 @@ use Rattle.nv_command.specs.Identify.{IdentifyFits, identify_data}
 use Rattle.nv_command.specs.Logs.{GetLogFits, log_data}
 use Rattle.nv_command.specs.Management.{AttachmentFits, CreateFits, asked, page_from_host}
 use Rattle.nv_command.specs.declared.command.Command.{Command}
-use Rattle.nv_command.specs.declared.command.Command.TheVariants.{IdentifyController, IdentifyNamespace, AllocatedNamespace, ActiveList, AllocatedList, Create, Delete}
-use Rattle.nv_command.specs.declared.command.Command.TheVariants.{Attachment, Format, GetFeature, SetFeature, GetLog}
+use Rattle.nv_command.specs.declared.command.Command.TheVariants.{IdentifyController}
+use Rattle.nv_command.specs.declared.command.Command.TheVariants.{IdentifyNamespace}
+use Rattle.nv_command.specs.declared.command.Command.TheVariants.{AllocatedNamespace, ActiveList}
+use Rattle.nv_command.specs.declared.command.Command.TheVariants.{AllocatedList, Create, Delete}
+use Rattle.nv_command.specs.declared.command.Command.TheVariants.{Attachment, Format, GetFeature}
+use Rattle.nv_command.specs.declared.command.Command.TheVariants.{SetFeature, GetLog}
 use Rattle.nv_command.specs.declared.transfer.Transfer.{Transfer}
 use Rattle.nv_command.specs.declared.transfer.Transfer.TheVariants.{NoData, ToHost, FromHost}
 
--- the NSID of the entry, with which a refusal is booked; for a list it is the one before it, and 0 for the controller
--- and for a namespace to create
+-- the NSID of the entry, with which a refusal is booked; for a list it is the one before it, and 0
+-- for the controller and for a namespace to create
 abbrev pub namespace_of : Command → ℕ
 namespace_of IdentifyController = 0
 namespace_of (IdentifyNamespace n) = n

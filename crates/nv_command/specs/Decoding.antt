@@ -5,13 +5,17 @@ use Rattle.nv_command.specs.Features.{get_feature_command, set_feature_command}
 use Rattle.nv_command.specs.Format.{format_command}
 use Rattle.nv_command.specs.Identify.{identify_command, identify_transfer}
 use Rattle.nv_command.specs.Logs.{get_log_command, get_log_transfer}
-use Rattle.nv_command.specs.Management.{attachment_command, attachment_transfer, management_command, management_transfer}
+use Rattle.nv_command.specs.Management.{attachment_command, attachment_transfer, management_command}
+use Rattle.nv_command.specs.Management.{management_transfer}
 use Rattle.nv_command.specs.Steps.{◌>>=◌}
 use Rattle.nv_command.specs.declared.command.Command.{Command}
 use Rattle.nv_command.specs.declared.entry.Opcode.{Opcode}
-use Rattle.nv_command.specs.declared.entry.Opcode.TheVariants.{Identify, NamespaceManagement, NamespaceAttachment, FormatNvm, GetFeatures, SetFeatures, GetLogPage}
+use Rattle.nv_command.specs.declared.entry.Opcode.TheVariants.{Identify, NamespaceManagement}
+use Rattle.nv_command.specs.declared.entry.Opcode.TheVariants.{NamespaceAttachment, FormatNvm}
+use Rattle.nv_command.specs.declared.entry.Opcode.TheVariants.{GetFeatures, SetFeatures, GetLogPage}
 use Rattle.nv_command.specs.declared.status_code.StatusCode.{StatusCode}
-use Rattle.nv_command.specs.declared.status_code.StatusCode.TheVariants.{InvalidCommandOpcode, InvalidFieldInCommand}
+use Rattle.nv_command.specs.declared.status_code.StatusCode.TheVariants.{InvalidCommandOpcode}
+use Rattle.nv_command.specs.declared.status_code.StatusCode.TheVariants.{InvalidFieldInCommand}
 use Rattle.nv_command.specs.declared.transfer.Transfer.{Transfer}
 use Rattle.nv_command.specs.declared.transfer.Transfer.TheVariants.{NoData}
 

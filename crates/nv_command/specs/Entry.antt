@@ -8,8 +8,12 @@ use Rattle.nv_command.specs.Identify.{identify_fields}
 use Rattle.nv_command.specs.Logs.{get_log_fields}
 use Rattle.nv_command.specs.Management.{attachment_fields, management_fields}
 use Rattle.nv_command.specs.declared.command.Command.{Command}
-use Rattle.nv_command.specs.declared.command.Command.TheVariants.{IdentifyController, IdentifyNamespace, AllocatedNamespace, ActiveList, AllocatedList, Create, Delete}
-use Rattle.nv_command.specs.declared.command.Command.TheVariants.{Attachment, Format, GetFeature, SetFeature, GetLog}
+use Rattle.nv_command.specs.declared.command.Command.TheVariants.{IdentifyController}
+use Rattle.nv_command.specs.declared.command.Command.TheVariants.{IdentifyNamespace}
+use Rattle.nv_command.specs.declared.command.Command.TheVariants.{AllocatedNamespace, ActiveList}
+use Rattle.nv_command.specs.declared.command.Command.TheVariants.{AllocatedList, Create, Delete}
+use Rattle.nv_command.specs.declared.command.Command.TheVariants.{Attachment, Format, GetFeature}
+use Rattle.nv_command.specs.declared.command.Command.TheVariants.{SetFeature, GetLog}
 use Rattle.nv_command.specs.declared.entry.Fields.{Fields}
 
 -- fields, an NSID and a command identifier; all else is 0

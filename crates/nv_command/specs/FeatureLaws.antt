@@ -4,7 +4,8 @@ use Rattle.nv_layout.specs.Parts.{at_bits, bit, bits}
 use Rattle.nv_layout.specs.RecordLaws.{bit_below, flag_back}
 use Rattle.nv_command.specs.Entry.{entry_of, with_pointer}
 use Rattle.nv_command.specs.EntryLaws.{FieldsFit}
-use Rattle.nv_command.specs.Features.{GetFeatureFits, SetFeatureFits, get_feature_command, get_feature_fields, set_feature_command, set_feature_fields}
+use Rattle.nv_command.specs.Features.{GetFeatureFits, SetFeatureFits, get_feature_command}
+use Rattle.nv_command.specs.Features.{get_feature_fields, set_feature_command, set_feature_fields}
 use Rattle.nv_command.specs.declared.command.Command.TheVariants.{GetFeature, SetFeature}
 
 pub get_feature_fits : (fid sel : ℕ) → FieldsFit (get_feature_fields fid sel)
@@ -16,7 +17,8 @@ get_feature_fits fid sel = record {
   cdw13 = lit< tt;
 }
 
-pub set_feature_fits : (fid value : ℕ) (save : Bool) → value < 2 ^ 32 → FieldsFit (set_feature_fields fid value save)
+pub set_feature_fits : (fid value : ℕ) (save : Bool) → value < 2 ^ 32
+    → FieldsFit (set_feature_fields fid value save)
 set_feature_fits fid value save h = record {
   opcode = lit< tt;
   cdw10 = omega arith;
@@ -30,7 +32,8 @@ get_bits : (a b : ℕ) → a < 2 ^ 8 → b < 2 ^ 3
 get_bits a b ha hb = (omega arith, omega arith)
 
 pub get_feature_back : (fid sel n cid p q : ℕ) → GetFeatureFits fid sel n
-    → get_feature_command (with_pointer (entry_of (GetFeature fid sel n) cid) p q) ≡ GetFeature fid sel n
+    → get_feature_command (with_pointer (entry_of (GetFeature fid sel n) cid) p q)
+    ≡ GetFeature fid sel n
 get_feature_back fid sel n cid p q fits =
     let (f, s) = get_bits fid sel fits.fid fits.sel in λ k. GetFeature (f k) (s k) n
 
@@ -39,7 +42,8 @@ set_bits : (a b : ℕ) → a < 2 ^ 8 → b < 2
 set_bits a b ha hb = (omega arith, omega arith)
 
 pub set_feature_back : (fid value : ℕ) (save : Bool) (n cid p q : ℕ) → SetFeatureFits fid value n
-    → set_feature_command (with_pointer (entry_of (SetFeature fid value save n) cid) p q) ≡ SetFeature fid value save n
+    → set_feature_command (with_pointer (entry_of (SetFeature fid value save n) cid) p q)
+    ≡ SetFeature fid value save n
 set_feature_back fid value save n cid p q fits =
     let (f, s) = set_bits fid (bit save) fits.fid (bit_below save) in
     let flag = ap (λ x. x == 1) s ∙ flag_back save in

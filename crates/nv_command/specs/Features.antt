@@ -1,5 +1,6 @@
--- Get Features (opcode 0Ah) and Set Features (opcode 09h): the feature identifier stands in CDW10 7:0. To get, CDW10 10:8
--- selects which value; to set, CDW11 is the value, and CDW10 bit 31 saves it too.
+-- Get Features (opcode 0Ah) and Set Features (opcode 09h): the feature identifier stands in CDW10
+-- 7:0. To get, CDW10 10:8 selects which value; to set, CDW11 is the value, and CDW10 bit 31 saves
+-- it too.
 use Rattle.std.specs.Prelude.{ℕ, ◌+◌, ◌^◌, ◌<◌, ◌==◌, Bool}
 use Rattle.nv_layout.specs.Parts.{at_bits, bit, bits}
 use Rattle.nv_layout.specs.declared.sqe.Sqe.{Sqe}

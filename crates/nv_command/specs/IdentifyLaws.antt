@@ -1,9 +1,11 @@
 -- What Identify asks and answers arrives.
 use Rattle.std.proofs.Common.{◌≡◌, ℕ, ◌<◌, ◌^◌, ap, length, lit<, arith}
-use Rattle.nv_layout.specs.RecordLaws.{id_ctrl_back, id_ns_back, length-bytes_of_id_ctrl, length-bytes_of_id_ns, length-bytes_of_ns_list, ns_list_back}
+use Rattle.nv_layout.specs.RecordLaws.{id_ctrl_back, id_ns_back, length-bytes_of_id_ctrl}
+use Rattle.nv_layout.specs.RecordLaws.{length-bytes_of_id_ns, length-bytes_of_ns_list, ns_list_back}
 use Rattle.nv_command.specs.Command.{bytes_to_host}
 use Rattle.nv_command.specs.EntryLaws.{FieldsFit}
-use Rattle.nv_command.specs.Identify.{controller_in, identify_data, identify_fields, list_in, namespace_in}
+use Rattle.nv_command.specs.Identify.{controller_in, identify_data, identify_fields, list_in}
+use Rattle.nv_command.specs.Identify.{namespace_in}
 use Rattle.nv_command.specs.Logs.{without_phases}
 use Rattle.nv_command.specs.Reply.{FitsRecord, IsController, IsList, IsNamespace, page_of}
 use Rattle.nv_command.specs.declared.reply.Reply.{Reply}
@@ -23,14 +25,16 @@ pub record IsIn (r : Reply) (read : Reply) : Type 0 where
   pub bytes : length (page_of r) ≡ bytes_to_host identify_data
   pub reply : read ≡ without_phases r
 
-pub controller_arrives : (r : Reply) → IsController r → FitsRecord r → IsIn r (controller_in (page_of r))
+pub controller_arrives : (r : Reply) → IsController r → FitsRecord r
+    → IsIn r (controller_in (page_of r))
 controller_arrives (reply.Controller r) is fits = record {
   bytes = length-bytes_of_id_ctrl r fits.sn fits.mn fits.fr fits.subnqn;
   reply = ap reply.Controller (id_ctrl_back r fits);
 }
 controller_arrives r is fits = absurd is
 
-pub namespace_arrives : (r : Reply) → IsNamespace r → FitsRecord r → IsIn r (namespace_in (page_of r))
+pub namespace_arrives : (r : Reply) → IsNamespace r → FitsRecord r
+    → IsIn r (namespace_in (page_of r))
 namespace_arrives (reply.Namespace r) is fits = record {
   bytes = length-bytes_of_id_ns r fits.formats;
   reply = ap reply.Namespace (id_ns_back r fits);

@@ -1,24 +1,32 @@
 -- What is asked of Get Log Page arrives, and so do logs.
-use Rattle.std.proofs.Common.{◌≡◌, ◌∙◌, ℕ, zero, suc, ◌+◌, ◌-◌, ◌*◌, ◌/◌, ◌%◌, ◌<◌, ◌≤◌, ◌^◌, Bool, true, false, List, [], ◌∷◌, ◌++◌, ap, arith, drop, get_or, length, lit<, map, refl, replicate, sym, take}
+use Rattle.std.proofs.Common.{◌≡◌, ◌∙◌, ℕ, zero, suc, ◌+◌, ◌-◌, ◌*◌, ◌/◌, ◌%◌, ◌<◌, ◌≤◌, ◌^◌, Bool}
+use Rattle.std.proofs.Common.{true, false, List, [], ◌∷◌, ◌++◌, ap, arith, drop, get_or, length}
+use Rattle.std.proofs.Common.{lit<, map, refl, replicate, sym, take}
 use Rattle.std.specs.List.{AllByRecursion}
 use Rattle.std.specs.Simd.{first_chunks}
-use Rattle.std.proofs.lemmas.List.{drop-drop, get_or-take, length-append, length-map, length-replicate, length-take-le}
-use Rattle.nv_layout.specs.ErrorEntry.{ErrorEntryFits, bytes_of_entries, bytes_of_error_entry, no_entry, without_phase}
-use Rattle.nv_layout.specs.LogLaws.{error_entry_back, length-bytes_of_error_entry, length-bytes_of_smart, part_of_entry, smart_back}
+use Rattle.std.proofs.lemmas.List.{drop-drop, get_or-take, length-append, length-map}
+use Rattle.std.proofs.lemmas.List.{length-replicate, length-take-le}
+use Rattle.nv_layout.specs.ErrorEntry.{ErrorEntryFits, bytes_of_entries, bytes_of_error_entry}
+use Rattle.nv_layout.specs.ErrorEntry.{no_entry, without_phase}
+use Rattle.nv_layout.specs.LogLaws.{error_entry_back, length-bytes_of_error_entry}
+use Rattle.nv_layout.specs.LogLaws.{length-bytes_of_smart, part_of_entry, smart_back}
 use Rattle.nv_layout.specs.PartLaws.{get_or-past, length-part, map_read, part-part, part_whole}
 use Rattle.nv_layout.specs.Parts.{at_bits, bits, part}
 use Rattle.nv_layout.specs.Smart.{bytes_of_smart, smart_of_bytes}
 use Rattle.nv_layout.specs.declared.error_entry.ErrorEntry.{ErrorEntry}
 use Rattle.nv_command.specs.Entry.{entry_of, with_pointer}
 use Rattle.nv_command.specs.EntryLaws.{FieldsFit}
-use Rattle.nv_command.specs.Logs.{GetLogFits, IsWhole, entries_in, entry_received, first_entries, first_of_log, get_log_command, get_log_fields, is_error_log, log_in, without_phases}
+use Rattle.nv_command.specs.Logs.{GetLogFits, IsWhole, entries_in, entry_received, first_entries}
+use Rattle.nv_command.specs.Logs.{first_of_log, get_log_command, get_log_fields, is_error_log}
+use Rattle.nv_command.specs.Logs.{log_in, without_phases}
 use Rattle.nv_command.specs.Reply.{FitsRecord, IsLog, IsReplyTo, log_of}
 use Rattle.nv_command.specs.declared.command.Command.{Command}
 use Rattle.nv_command.specs.declared.command.Command.TheVariants.{GetLog}
 use Rattle.nv_command.specs.declared.reply.Reply.{Reply}
 use Rattle.nv_command.specs.declared.reply.Reply.TheVariants as reply
 
-pub get_log_fits : (lid offset dwords : ℕ) → offset < 2 ^ 64 → FieldsFit (get_log_fields lid offset dwords)
+pub get_log_fits : (lid offset dwords : ℕ) → offset < 2 ^ 64
+    → FieldsFit (get_log_fields lid offset dwords)
 get_log_fits lid offset dwords h = record {
   opcode = lit< tt;
   cdw10 = omega arith;
@@ -31,14 +39,17 @@ lid_back : (lid numd : ℕ) → lid < 2 ^ 8 → bits 0 8 (at_bits 0 8 lid + at_b
 lid_back lid numd h = omega arith
 
 pub dwords_back : (lid dwords : ℕ) → 0 < dwords → dwords ≤ 2 ^ 32
-    → bits 16 16 (at_bits 0 8 lid + at_bits 16 16 (dwords - 1)) + at_bits 16 16 (bits 16 16 (dwords - 1)) + 1 ≡ dwords
+    → bits 16 16 (at_bits 0 8 lid + at_bits 16 16 (dwords - 1))
+    + at_bits 16 16 (bits 16 16 (dwords - 1)) + 1 ≡ dwords
 dwords_back lid dwords some h = omega arith
 
 pub get_log_back : (lid n offset dwords cid p q : ℕ) → GetLogFits lid n offset dwords
-    → get_log_command (with_pointer (entry_of (GetLog lid n offset dwords) cid) p q) ≡ GetLog lid n offset dwords
+    → get_log_command (with_pointer (entry_of (GetLog lid n offset dwords) cid) p q)
+    ≡ GetLog lid n offset dwords
 get_log_back lid n offset dwords cid p q fits =
     let whole : offset % 2 ^ 32 + offset / 2 ^ 32 * 2 ^ 32 ≡ offset = omega arith in
-    λ k. GetLog (lid_back lid (dwords - 1) fits.lid k) n (whole k) (dwords_back lid dwords fits.some fits.dwords k)
+    λ k. GetLog (lid_back lid (dwords - 1) fits.lid k) n (whole k)
+    (dwords_back lid dwords fits.some fits.dwords k)
 
 -- ---- entries in bytes
 
@@ -49,7 +60,8 @@ length-first_chunks w (suc n) xs = ap suc (length-first_chunks w n (drop w xs))
 get_or-first_chunks : (w n : ℕ) (xs : List ℕ) (k : ℕ) → k < n
     → get_or (first_chunks w n xs) k [] ≡ take w (drop (w * k) xs)
 get_or-first_chunks w zero xs k h = absurd (omega arith)
-get_or-first_chunks w (suc n) xs zero h = let none : 0 ≡ w * 0 = omega arith in ap (λ m. take w (drop m xs)) none
+get_or-first_chunks w (suc n) xs zero h = let none : 0 ≡ w * 0 =
+    omega arith in ap (λ m. take w (drop m xs)) none
 get_or-first_chunks w (suc n) xs (suc k) h =
     let next : w + w * k ≡ w * suc k = omega arith in
     get_or-first_chunks w n (drop w xs) k (omega arith)
@@ -69,7 +81,8 @@ no_entry_fits = record {
   specific = lit< tt;
 }
 
-each_fits : (es : List ErrorEntry) (k : ℕ) → AllByRecursion ErrorEntryFits es → ErrorEntryFits (get_or es k no_entry)
+each_fits : (es : List ErrorEntry) (k : ℕ) → AllByRecursion ErrorEntryFits es
+    → ErrorEntryFits (get_or es k no_entry)
 each_fits [] k fits = no_entry_fits
 each_fits (e ∷ es) zero fits = fits.0
 each_fits (e ∷ es) (suc k) fits = each_fits es k fits.1
@@ -122,9 +135,11 @@ entries_back es count fits =
     (length-first_entries count (map without_phase es) ∙ sym chunks)
     (λ k below. entry_back es count k fits (omega (arith, chunks))))
 
-pub log_arrives : (is_errors : Bool) (r : Reply) (offset dwords : ℕ) → IsLog is_errors r → FitsRecord r
+pub log_arrives : (is_errors : Bool) (r : Reply) (offset dwords : ℕ) → IsLog is_errors r
+    → FitsRecord r
     → IsWhole is_errors offset dwords
-    → log_in is_errors (part (log_of r) offset (4 * dwords)) ≡ first_of_log (dwords / 16) (without_phases r)
+    → log_in is_errors (part (log_of r) offset (4 * dwords))
+    ≡ first_of_log (dwords / 16) (without_phases r)
 log_arrives true (reply.Errors es) offset dwords is fits whole =
     let size : 4 * dwords ≡ 64 * (dwords / 16) = omega (arith, whole.1.whole) in
     (λ i. reply.Errors (entries_in (part (bytes_of_entries es) (whole.0 i) (size i))))
@@ -143,11 +158,13 @@ errors_alike : (is_errors : Bool) (es fs : List ErrorEntry) → IsLog is_errors 
 errors_alike true es fs is = tt
 errors_alike false es fs is = is
 
-errors_reply : (k : Command) (es fs : List ErrorEntry) → IsReplyTo k (reply.Errors es) → IsReplyTo k (reply.Errors fs)
+errors_reply : (k : Command) (es fs : List ErrorEntry) → IsReplyTo k (reply.Errors es)
+    → IsReplyTo k (reply.Errors fs)
 errors_reply (GetLog lid n offset dwords) es fs is = errors_alike (is_error_log lid) es fs is
 errors_reply k es fs is = is
 
-pub is_reply-without_phases : (k : Command) (r : Reply) → IsReplyTo k (without_phases r) → IsReplyTo k r
+pub is_reply-without_phases : (k : Command) (r : Reply) → IsReplyTo k (without_phases r)
+    → IsReplyTo k r
 is_reply-without_phases k (reply.Errors es) is = errors_reply k (map without_phase es) es is
 is_reply-without_phases k r is = is
 

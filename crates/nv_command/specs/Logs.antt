@@ -1,6 +1,8 @@
--- Get Log Page: opcode 02h. CDW10 has the identifier of the log in bits 7:0. How many dwords are asked for, less one,
--- stands in CDW10 31:16, its upper half in CDW11 15:0; the byte that they begin at in CDW12, its upper half in CDW13.
-use Rattle.std.specs.Prelude.{◌≡◌, ℕ, true, false, ◌+◌, ◌-◌, ◌*◌, ◌/◌, ◌%◌, ◌^◌, ◌<◌, ◌≤◌, ◌==◌, Bool, List, ◌++◌, Result, Ok, Err, length, map, replicate, take}
+-- Get Log Page: opcode 02h. CDW10 has the identifier of the log in bits 7:0. How many dwords are
+-- asked for, less one, stands in CDW10 31:16, its upper half in CDW11 15:0; the byte that they
+-- begin at in CDW12, its upper half in CDW13.
+use Rattle.std.specs.Prelude.{◌≡◌, ℕ, true, false, ◌+◌, ◌-◌, ◌*◌, ◌/◌, ◌%◌, ◌^◌, ◌<◌, ◌≤◌, ◌==◌}
+use Rattle.std.specs.Prelude.{Bool, List, ◌++◌, Result, Ok, Err, length, map, replicate, take}
 use Rattle.std.specs.Simd.{first_chunks}
 use Rattle.nv_layout.specs.ErrorEntry.{error_entry_of_bytes, no_entry, without_phase}
 use Rattle.nv_layout.specs.Parts.{at_bits, bits}

@@ -1,6 +1,7 @@
--- Namespace Management (opcode 0Dh) and Namespace Attachment (opcode 15h): what is selected stands in CDW10 3:0, and
--- what the host says of it in a page.
-use Rattle.std.specs.Prelude.{ℕ, ◌%◌, ◌^◌, ◌<◌, ◌==◌, Bool, true, false, List, Result, Ok, Err, if◌then◌else◌, length, replicate}
+-- Namespace Management (opcode 0Dh) and Namespace Attachment (opcode 15h): what is selected stands
+-- in CDW10 3:0, and what the host says of it in a page.
+use Rattle.std.specs.Prelude.{ℕ, ◌%◌, ◌^◌, ◌<◌, ◌==◌, Bool, true, false, List, Result, Ok, Err}
+use Rattle.std.specs.Prelude.{if◌then◌else◌, length, replicate}
 use Rattle.nv_layout.specs.CtrlList.{CtrlListFits, ctrl_list_of_bytes}
 use Rattle.nv_layout.specs.IdNs.{id_ns_of_bytes}
 use Rattle.nv_layout.specs.Parts.{bit}
@@ -14,7 +15,8 @@ use Rattle.nv_command.specs.declared.command.Command.{Command}
 use Rattle.nv_command.specs.declared.command.Command.TheVariants.{Create, Delete, Attachment}
 use Rattle.nv_command.specs.declared.entry.Fields.{Fields}
 use Rattle.nv_command.specs.declared.status_code.StatusCode.{StatusCode}
-use Rattle.nv_command.specs.declared.status_code.StatusCode.TheVariants.{DataTransferError, InvalidFieldInCommand}
+use Rattle.nv_command.specs.declared.status_code.StatusCode.TheVariants.{DataTransferError}
+use Rattle.nv_command.specs.declared.status_code.StatusCode.TheVariants.{InvalidFieldInCommand}
 use Rattle.nv_command.specs.declared.transfer.Transfer.{Transfer}
 use Rattle.nv_command.specs.declared.transfer.Transfer.TheVariants.{NoData, FromHost}
 
@@ -23,7 +25,8 @@ management_fields select = record { opcode = 0x0d; cdw10 = select; cdw11 = 0; cd
 
 -- select 0h attaches, 1h detaches
 abbrev pub attachment_fields : Bool → Fields
-attachment_fields detach = record { opcode = 0x15; cdw10 = bit detach; cdw11 = 0; cdw12 = 0; cdw13 = 0 }
+attachment_fields detach =
+    record { opcode = 0x15; cdw10 = bit detach; cdw11 = 0; cdw12 = 0; cdw13 = 0 }
 
 pub record CreateFits (s c f d m : ℕ) : Type 0 where
   pub nsze : s < 2 ^ 64

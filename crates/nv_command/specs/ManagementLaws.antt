@@ -1,12 +1,16 @@
 -- What is asked of Namespace Management and Namespace Attachment arrives, and so do their replies.
-use Rattle.std.proofs.Common.{◌≡◌, ℕ, ◌<◌, ◌^◌, Bool, true, false, List, Ok, ap, refl, zero, suc, replicate, length, lit<, arith}
+use Rattle.std.proofs.Common.{◌≡◌, ℕ, ◌<◌, ◌^◌, Bool, true, false, List, Ok, ap, refl, zero, suc}
+use Rattle.std.proofs.Common.{replicate, length, lit<, arith}
 use Rattle.std.specs.List.{AllByRecursion}
 use Rattle.nv_layout.specs.CtrlList.{bytes_of_ctrl_list}
 use Rattle.nv_layout.specs.IdNs.{IdNsFits, LbafFits, bytes_of_id_ns}
-use Rattle.nv_layout.specs.RecordLaws.{ctrl_list_back, id_ns_back, length-bytes_of_ctrl_list, length-bytes_of_id_ns}
+use Rattle.nv_layout.specs.RecordLaws.{ctrl_list_back, id_ns_back, length-bytes_of_ctrl_list}
+use Rattle.nv_layout.specs.RecordLaws.{length-bytes_of_id_ns}
 use Rattle.nv_command.specs.EntryLaws.{FieldsFit}
 use Rattle.nv_command.specs.Logs.{without_phases}
-use Rattle.nv_command.specs.Management.{AttachmentFits, CreateFits, asked, attachment_fields, attachment_in, create_in, creation, management_fields, no_format}
+use Rattle.nv_command.specs.Management.{AttachmentFits, CreateFits, asked, attachment_fields}
+use Rattle.nv_command.specs.Management.{attachment_in, create_in, creation, management_fields}
+use Rattle.nv_command.specs.Management.{no_format}
 use Rattle.nv_command.specs.Reply.{IsDone, IsNumber, dword0_of, page_of}
 use Rattle.nv_command.specs.declared.command.Command.TheVariants.{Create, Attachment}
 use Rattle.nv_command.specs.declared.reply.Reply.{Reply}
@@ -22,8 +26,10 @@ management_fits select h = record {
 }
 
 pub attachment_fits : (detach : Bool) → FieldsFit (attachment_fields detach)
-attachment_fits true = record { opcode = lit< tt; cdw10 = lit< tt; cdw11 = lit< tt; cdw12 = lit< tt; cdw13 = lit< tt }
-attachment_fits false = record { opcode = lit< tt; cdw10 = lit< tt; cdw11 = lit< tt; cdw12 = lit< tt; cdw13 = lit< tt }
+attachment_fits true =
+    record { opcode = lit< tt; cdw10 = lit< tt; cdw11 = lit< tt; cdw12 = lit< tt; cdw13 = lit< tt }
+attachment_fits false =
+    record { opcode = lit< tt; cdw10 = lit< tt; cdw11 = lit< tt; cdw12 = lit< tt; cdw13 = lit< tt }
 
 none_fit : (n : ℕ) → AllByRecursion LbafFits (replicate n no_format)
 none_fit zero = tt
@@ -52,13 +58,16 @@ asked_fits nsze ncap flbas dps nmic fits =
 
 pub length_of_creation : (nsze ncap flbas dps nmic : ℕ)
     → length (bytes_of_id_ns (asked nsze ncap flbas dps nmic)) ≡ 4096
-length_of_creation nsze ncap flbas dps nmic = length-bytes_of_id_ns (asked nsze ncap flbas dps nmic) refl
+length_of_creation nsze ncap flbas dps nmic =
+    length-bytes_of_id_ns (asked nsze ncap flbas dps nmic) refl
 
 pub create_back : (nsze ncap flbas dps nmic : ℕ) → CreateFits nsze ncap flbas dps nmic
-    → create_in (bytes_of_id_ns (asked nsze ncap flbas dps nmic)) ≡ Ok (Create nsze ncap flbas dps nmic)
+    → create_in (bytes_of_id_ns (asked nsze ncap flbas dps nmic))
+    ≡ Ok (Create nsze ncap flbas dps nmic)
 create_back nsze ncap flbas dps nmic fits =
     let size = length_of_creation nsze ncap flbas dps nmic in
-    rw size (ap (λ r. Ok (creation r)) (id_ns_back (asked nsze ncap flbas dps nmic) (asked_fits nsze ncap flbas dps nmic fits)))
+    rw size (ap (λ r. Ok (creation r)) (id_ns_back (asked nsze ncap flbas dps nmic)
+    (asked_fits nsze ncap flbas dps nmic fits)))
 
 pub attachment_back : (detach : Bool) (n : ℕ) (ids : List ℕ) → AttachmentFits n ids
     → attachment_in detach n (bytes_of_ctrl_list ids) ≡ Ok (Attachment n detach ids)

@@ -1,7 +1,8 @@
 -- What travels arrives.
 use Rattle.std.specs.Prelude.{◌≡◌, ℕ, ◌^◌, ◌<◌, length, Ok}
 use Rattle.nv_layout.specs.Sqe.{SqeFits}
-use Rattle.nv_command.specs.Command.{CommandFits, bytes_from_host, bytes_to_host, host_data_of, transfer_by}
+use Rattle.nv_command.specs.Command.{CommandFits, bytes_from_host, bytes_to_host, host_data_of}
+use Rattle.nv_command.specs.Command.{transfer_by}
 use Rattle.nv_command.specs.Decoding.{command_of, transfer_of}
 use Rattle.nv_command.specs.Entry.{entry_of, with_pointer}
 use Rattle.nv_command.specs.Logs.{IsSendable, received, without_phases}
@@ -27,10 +28,12 @@ abbrev pub RepliesFit : Type 0
 RepliesFit = (k : Command) (r : Reply) → IsReplyTo k r → FitsRecord r
     → length (data_of k r) ≡ bytes_to_host (transfer_by k)
 
--- and gives the reply back, but for the phase tags of entries, and with as many of them as were asked for
+-- and gives the reply back, but for the phase tags of entries, and with as many of them as were
+-- asked for
 pub record ArrivesFor (k : Command) (r : Reply) : Type 0 where
   pub bytes : length (data_of k r) ≡ bytes_to_host (transfer_by k)
   pub reply : reply_in k (dword0_of r) (data_of k r) ≡ received k (without_phases r)
 
 abbrev pub RepliesTravel : Type 0
-RepliesTravel = (k : Command) (r : Reply) → IsReplyTo k r → FitsRecord r → IsSendable k → ArrivesFor k r
+RepliesTravel = (k : Command) (r : Reply) → IsReplyTo k r → FitsRecord r → IsSendable k
+    → ArrivesFor k r

@@ -3,17 +3,25 @@ use Rattle.std.proofs.Common.{◌≡◌, ◌*◌, ap, false, lit<, Ok, refl, tru
 use Rattle.nv_layout.specs.PartLaws.{length-part}
 use Rattle.nv_layout.specs.RecordLaws.{length-bytes_of_ctrl_list}
 use Rattle.nv_command.specs.EntryLaws.{entry_with_fits}
-use Rattle.nv_command.specs.FeatureLaws.{get_feature_back, get_feature_fits, set_feature_back, set_feature_fits}
+use Rattle.nv_command.specs.FeatureLaws.{get_feature_back, get_feature_fits, set_feature_back}
+use Rattle.nv_command.specs.FeatureLaws.{set_feature_fits}
 use Rattle.nv_command.specs.FormatLaws.{format_back, format_fits}
-use Rattle.nv_command.specs.IdentifyLaws.{controller_arrives, identify_fits, list_arrives, namespace_arrives}
+use Rattle.nv_command.specs.IdentifyLaws.{controller_arrives, identify_fits, list_arrives}
+use Rattle.nv_command.specs.IdentifyLaws.{namespace_arrives}
 use Rattle.nv_command.specs.LogLaws.{dwords_back, get_log_back, get_log_fits, log_arrives}
 use Rattle.nv_command.specs.Logs.{IsSendable, is_error_log, log_data, received, without_phases}
-use Rattle.nv_command.specs.ManagementLaws.{attachment_back, attachment_fits, create_back, done_arrives, length_of_creation, management_fits, number_arrives}
+use Rattle.nv_command.specs.ManagementLaws.{attachment_back, attachment_fits, create_back}
+use Rattle.nv_command.specs.ManagementLaws.{done_arrives, length_of_creation, management_fits}
+use Rattle.nv_command.specs.ManagementLaws.{number_arrives}
 use Rattle.nv_command.specs.Reply.{FitsRecord, IsReplyTo, data_of, dword0_of, log_of, reply_in}
 use Rattle.nv_command.specs.Travel.{CommandsTravel, RepliesFit, RepliesTravel}
 use Rattle.nv_command.specs.declared.command.Command.{Command}
-use Rattle.nv_command.specs.declared.command.Command.TheVariants.{IdentifyController, IdentifyNamespace, AllocatedNamespace, ActiveList, AllocatedList, Create, Delete}
-use Rattle.nv_command.specs.declared.command.Command.TheVariants.{Attachment, Format, GetFeature, SetFeature, GetLog}
+use Rattle.nv_command.specs.declared.command.Command.TheVariants.{IdentifyController}
+use Rattle.nv_command.specs.declared.command.Command.TheVariants.{IdentifyNamespace}
+use Rattle.nv_command.specs.declared.command.Command.TheVariants.{AllocatedNamespace, ActiveList}
+use Rattle.nv_command.specs.declared.command.Command.TheVariants.{AllocatedList, Create, Delete}
+use Rattle.nv_command.specs.declared.command.Command.TheVariants.{Attachment, Format, GetFeature}
+use Rattle.nv_command.specs.declared.command.Command.TheVariants.{SetFeature, GetLog}
 use Rattle.nv_command.specs.declared.reply.Reply.{Reply}
 
 pub commands_travel : CommandsTravel

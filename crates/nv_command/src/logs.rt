@@ -1,7 +1,8 @@
 //! The command that reads logs. Section "Get Log Page command".
 
 ghost use Rattle.std.specs.Prelude.{◌≡◌};
-ghost use Rattle.nv_command.specs.Logs.{GetLogFits, get_log_command, get_log_fields, get_log_transfer};
+ghost use Rattle.nv_command.specs.Logs.{GetLogFits, get_log_command, get_log_fields};
+ghost use Rattle.nv_command.specs.Logs.{get_log_transfer};
 
 use crate::command::Command;
 use crate::dword_count::DwordCount;

@@ -2,8 +2,11 @@
 //! command" and "Namespace Attachment command".
 
 ghost use Rattle.std.specs.Prelude.{◌≡◌, Err, MatchResult, Ok};
-ghost use Rattle.nv_command.specs.Management.{AttachmentFits, CreateFits, asked, attachment_command, attachment_fields, attachment_transfer};
-ghost use Rattle.nv_command.specs.Management.{is_detach, management_command, management_fields, management_transfer, page_of, select_of};
+ghost use Rattle.nv_command.specs.Management.{AttachmentFits, CreateFits, asked};
+ghost use Rattle.nv_command.specs.Management.{attachment_command, attachment_fields};
+ghost use Rattle.nv_command.specs.Management.{attachment_transfer};
+ghost use Rattle.nv_command.specs.Management.{is_detach, management_command, management_fields};
+ghost use Rattle.nv_command.specs.Management.{management_transfer, page_of, select_of};
 
 use crate::command::Command;
 use crate::entry::Fields;
@@ -86,7 +89,9 @@ fn select(entry: &Sqe) -> u32
 
 /// What the host sent, where it is a page.
 fn page(sent: &[u8]) -> Result<&[u8; 4096], StatusCode>
-    ensures { MatchResult result (λ page. page_of sent.now ≡ Ok page.now) (λ code. page_of sent.now ≡ Err code) }
+    ensures { MatchResult result
+        (λ page. page_of sent.now ≡ Ok page.now)
+        (λ code. page_of sent.now ≡ Err code) }
 {
     sent.try_into().map_err(|_| StatusCode::DataTransferError)
 }

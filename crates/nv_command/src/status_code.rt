@@ -1,7 +1,8 @@
 //! Status codes.
 
 ghost use Rattle.std.specs.Prelude.{◌≡◌, Option};
-ghost use Rattle.nv_command.specs.StatusCode.{first_code, name_of_code, name_of_status, row_of, status_of_code};
+ghost use Rattle.nv_command.specs.StatusCode.{first_code, name_of_code, name_of_status, row_of};
+ghost use Rattle.nv_command.specs.StatusCode.{status_of_code};
 
 use nv_layout::{LayoutError, Status};
 use std::error::Error;

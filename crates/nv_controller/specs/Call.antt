@@ -1,6 +1,7 @@
--- What is found of an entry before its command is executed: its command and where its data lies, or the status of
--- the first rule that it breaks.
-use Rattle.std.specs.Prelude.{ℕ, ◌<◌, ◌≤◌, List, [], nat_lt, if◌then◌else◌, Option, Some, None, Result, Ok, Err}
+-- What is found of an entry before its command is executed: its command and where its data lies, or
+-- the status of the first rule that it breaks.
+use Rattle.std.specs.Prelude.{ℕ, ◌<◌, ◌≤◌, List, [], nat_lt, if◌then◌else◌, Option, Some, None}
+use Rattle.std.specs.Prelude.{Result, Ok, Err}
 use Rattle.nv_layout.specs.declared.sqe.Sqe.{Sqe}
 use Rattle.nv_prp.specs.Place.{read_at}
 use Rattle.nv_prp.specs.Transfer as prp
@@ -10,7 +11,9 @@ use Rattle.nv_command.specs.Decoding.{command_of, transfer_of}
 use Rattle.nv_command.specs.Steps.{◌>>=◌}
 use Rattle.nv_command.specs.declared.command.Command.{Command}
 use Rattle.nv_command.specs.declared.status_code.StatusCode.{StatusCode}
-use Rattle.nv_command.specs.declared.status_code.StatusCode.TheVariants.{DataTransferError, InvalidFieldInCommand, PrpOffsetInvalid}
+use Rattle.nv_command.specs.declared.status_code.StatusCode.TheVariants.{DataTransferError}
+use Rattle.nv_command.specs.declared.status_code.StatusCode.TheVariants.{InvalidFieldInCommand}
+use Rattle.nv_command.specs.declared.status_code.StatusCode.TheVariants.{PrpOffsetInvalid}
 use Rattle.nv_command.specs.declared.transfer.Transfer.{Transfer}
 use Rattle.nv_command.specs.declared.transfer.Transfer.TheVariants.{NoData, ToHost, FromHost}
 
@@ -42,11 +45,13 @@ length_of (FromHost n) = n
 abbrev pub within : ℕ → Transfer → Result Transfer StatusCode
 within limit moves = if nat_lt limit (length_of moves) then Err InvalidFieldInCommand else Ok moves
 
--- where the data of an entry lies in the host's memory; an entry without data has no use for its data pointer
+-- where the data of an entry lies in the host's memory; an entry without data has no use for its
+-- data pointer
 abbrev pub data_places : ℕ → List ℕ → Sqe → Transfer → Result (List ℕ) StatusCode
 data_places page_size bytes e NoData = Ok []
 data_places page_size bytes e (ToHost n) = places_of (prp.transfer page_size bytes e.prp1 e.prp2 n)
-data_places page_size bytes e (FromHost n) = places_of (prp.transfer page_size bytes e.prp1 e.prp2 n)
+data_places page_size bytes e (FromHost n) =
+    places_of (prp.transfer page_size bytes e.prp1 e.prp2 n)
 
 -- the bytes that the host sends
 abbrev pub sent_from : Transfer → List ℕ → List ℕ → List ℕ
@@ -59,8 +64,8 @@ pub record Call : Type 0 where
   pub command : Command
   pub places : List ℕ
 
--- the rules in order: those of the entry alone, that of how much data it moves, those of its data pointer, those of the
--- data that the host sends
+-- the rules in order: those of the entry alone, that of how much data it moves, those of its data
+-- pointer, those of the data that the host sends
 abbrev pub call_of : ℕ → ℕ → List ℕ → Sqe → Result Call StatusCode
 call_of page_size limit bytes e = do
   asked ← transfer_of e

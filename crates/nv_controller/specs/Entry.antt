@@ -37,17 +37,21 @@ entry_in x = next_submission x.bytes x.rings.submission
 abbrev pub call_in : ℕ → Scene → Result Call StatusCode
 call_in c x = call_of x.rings.page_size (limit_of x.state c) x.bytes (entry_in x)
 
--- an entry that breaks a rule is refused and booked with its own NSID; any other does its command's step
+-- an entry that breaks a rule is refused and booked with its own NSID; any other does its command's
+-- step
 abbrev pub step_unless : Result Call StatusCode → State → ℕ → Sqe → Step
 step_unless (Err code) s c e =
-    record { answer = Err (status_of_code code); state = with_command (refused s c e.nsid e.cid (refusal_by code)) c }
+    record {
+      answer = Err (status_of_code code);
+      state = with_command (refused s c e.nsid e.cid (refusal_by code)) c;
+    }
 step_unless (Ok call) s c e = step s c call.command e.cid
 
 abbrev pub entry_step : ℕ → Scene → Step
 entry_step c x = step_unless (call_in c x) x.state c (entry_in x)
 
--- the data of a reply, whose entries of the error log have their phase tags, goes to its places byte after byte, so
--- that of two bytes for one place the later stays; a refusal moves none
+-- the data of a reply, whose entries of the error log have their phase tags, goes to its places
+-- byte after byte, so that of two bytes for one place the later stays; a refusal moves none
 abbrev pub Moves : Command → List ℕ → Result Reply Status → List ℕ → List ℕ → Type 0
 Moves k places (Ok reply) old new =
     (r : Reply) × (without_phases r ≡ reply) × (new ≡ written_at old places (data_of k r))
@@ -90,11 +94,16 @@ completion_with cid sq_head answer = completion_of cid sq_head (told_by answer)
 abbrev pub completion_in : ℕ → Scene → Cqe
 completion_in c x =
     let ring = x.rings.submission in
-    completion_with (entry_in x).cid (slot_of ring.depth (next ring.depth ring.fetched)) (entry_step c x).answer
+    completion_with (entry_in x).cid (slot_of ring.depth (next ring.depth ring.fetched))
+    (entry_step c x).answer
 
--- one entry of controller c: its step, then its data, and then its completion; no other byte of the memory changes
+-- one entry of controller c: its step, then its data, and then its completion; no other byte of the
+-- memory changes
 pub record One (c : ℕ) (old new : Scene) : Type 0 where
   pub state : new.state ≡ (entry_step c old).state
-  pub rings : new.rings ≡ record old.rings { submission = fetched_one old.rings.submission; completion = posted_one old.rings.completion }
+  pub rings : new.rings ≡ record old.rings {
+    submission = fetched_one old.rings.submission;
+    completion = posted_one old.rings.completion;
+  }
   pub bytes : (moved : List ℕ) × MovesBy (call_in c old) (entry_step c old).answer old.bytes moved
       × (new.bytes ≡ with_completion moved old.rings.completion (completion_in c old))

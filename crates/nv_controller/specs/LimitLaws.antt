@@ -14,14 +14,16 @@ powers m low high =
     (omega (arith, least), omega (arith, most))
 
 -- it is at least four pages of 4,096 bytes, and at most 1,048,576 bytes
-pub limit_bounds : (s : State) (c : ℕ) → IsWellFormed s → c < length s.controllers → (16384 ≤ limit_of s c) × (limit_of s c ≤ 1048576)
+pub limit_bounds : (s : State) (c : ℕ) → IsWellFormed s → c < length s.controllers
+    → (16384 ≤ limit_of s c) × (limit_of s c ≤ 1048576)
 limit_bounds s c w below = elim ((slice_get_cases s.controllers c).1) [
   | inl found ↦
       let x = found.0 in
       let is = subst (IsController s.namespaces) found.3 (w.controllers c x found.1) in
       let mdts = is.identity.numbers.mdts in
       let bounds = powers x.identity.numbers.mdts mdts.0 mdts.1 in
-      subst (λ (o : Option Controller). let limit = 4096 * 2 ^ option_map_or (λ y. y.identity.numbers.mdts) o 0 in
+      subst (λ (o : Option Controller). let limit =
+      4096 * 2 ^ option_map_or (λ y. y.identity.numbers.mdts) o 0 in
       (16384 ≤ limit) × (limit ≤ 1048576)) (sym found.2) bounds
   | inr past ↦ absurd (omega (arith, past.0))
 ]

@@ -18,7 +18,8 @@ dword0_tagged (reply.Errors es) = refl
 dword0_tagged (reply.Smart r) = refl
 
 -- and are replies to its commands
-pub tagged : (k : Command) (r reply : Reply) → without_phases r ≡ reply → IsReplyTo k reply × FitsRecord reply → IsReplyTo k r × FitsRecord r
+pub tagged : (k : Command) (r reply : Reply) → without_phases r ≡ reply → IsReplyTo k reply
+    × FitsRecord reply → IsReplyTo k r × FitsRecord r
 tagged k r reply same is =
     let own = subst (λ (q : Reply). IsReplyTo k q × FitsRecord q) (sym same) is in
     (is_reply-without_phases k r own.0, fits-without_phases r own.1)

@@ -1,5 +1,7 @@
 -- What a turn of a controller does.
-use Rattle.std.specs.Prelude.{◌≡◌, ℕ, zero, suc, ◌+◌, ◌*◌, ◌-◌, ◌<◌, ◌≤◌, ◌==◌, ◌&&◌, min, not, nat_le, Bool, true, false, List, length, Option, Some, None, slice_set}
+use Rattle.std.specs.Prelude.{◌≡◌, ℕ, zero, suc, ◌+◌, ◌*◌, ◌-◌, ◌<◌, ◌≤◌, ◌==◌, ◌&&◌, min, not}
+use Rattle.std.specs.Prelude.{nat_le, Bool, true, false, List, length, Option, Some, None}
+use Rattle.std.specs.Prelude.{slice_set}
 use Rattle.nv_queue.specs.Numbers.{above}
 use Rattle.nv_queue.specs.Rings.{IsFetchRing, IsPostRing}
 use Rattle.nv_queue.specs.Slots.{completion_place, submission_place}
@@ -13,14 +15,16 @@ use Rattle.nv_controller.specs.Entry.{One, Scene, scene}
 abbrev pub can_take : Rings → Bool
 can_take r =
     not (r.submission.fetched == r.submission.rung)
-    && not (above r.completion.depth r.completion.posted r.completion.told == r.completion.depth - 1)
+    && not (above r.completion.depth r.completion.posted r.completion.told
+    == r.completion.depth - 1)
 
--- a memory of this page size and length has the page size that the controller was enabled with, the entry's slot and
--- that of its completion
+-- a memory of this page size and length has the page size that the controller was enabled with, the
+-- entry's slot and that of its completion
 abbrev pub reaches : Rings → ℕ → ℕ → Bool
 reaches r page_size size =
     (page_size == r.page_size)
-    && (nat_le (submission_place r.submission.base r.submission.depth r.submission.fetched + 64) size
+    && (nat_le (submission_place r.submission.base r.submission.depth r.submission.fetched
+    + 64) size
     && nat_le (completion_place r.completion.base r.completion.depth r.completion.posted + 16) size)
 
 -- an entry that is taken
@@ -32,14 +36,16 @@ pub record Takes (page_size c : ℕ) (old new : Scene) : Type 0 where
 -- so many entries, one after another, each over what the one before left
 abbrev pub Taken : ℕ → ℕ → ℕ → Scene → Scene → Type 0
 Taken zero page_size c old new = new ≡ old
-Taken (suc k) page_size c old new = (mid : Scene) × Takes page_size c old mid × Taken k page_size c mid new
+Taken (suc k) page_size c old new =
+    (mid : Scene) × Takes page_size c old mid × Taken k page_size c mid new
 
--- where a turn stops: after the most entries that it may take, where none can be taken, or where the memory does not
--- reach the next one that it may take, which is a fatal status
+-- where a turn stops: after the most entries that it may take, where none can be taken, or where
+-- the memory does not reach the next one that it may take, which is a fatal status
 abbrev pub Stops : ℕ → ℕ → ℕ → Scene → Bool → Type 0
 Stops page_size most count x fatal =
     (count ≤ most) × (count < most → can_take x.rings ≡ true → fatal ≡ true)
-    × (fatal ≡ true → (count < most) × (can_take x.rings ≡ true) × (reaches x.rings page_size (length x.bytes) ≡ false))
+    × (fatal ≡ true → (count < most) × (can_take x.rings ≡ true)
+    × (reaches x.rings page_size (length x.bytes) ≡ false))
 
 -- a turn of a ready controller
 pub record RingsTurn (page_size c most count : ℕ) (old new : Scene) (fatal : Bool) : Type 0 where
@@ -65,11 +71,14 @@ TurnBy false (Some rings) page_size c most count old new =
 
 -- a turn of controller c, which takes nothing where it isn't ready or has a fatal status
 abbrev pub PortTurn : ℕ → ℕ → ℕ → ℕ → Site → Site → Type 0
-PortTurn page_size c most count old new = TurnBy old.port.cfs old.port.rings page_size c most count old new
+PortTurn page_size c most count old new =
+    TurnBy old.port.cfs old.port.rings page_size c most count old new
 
 -- a turn of controller c of a bus: the other controllers' registers and rings stay
-pub record Turn (page_size c most count : ℕ) (b : BusValue) (bytes : List ℕ) (b' : BusValue) (bytes' : List ℕ) : Type 0 where
-  pub own : PortTurn page_size c most count (site b.state (port_at b.ports c) bytes) (site b'.state (port_at b'.ports c) bytes')
+pub record Turn (page_size c most count : ℕ) (b : BusValue) (bytes : List ℕ) (b' : BusValue)
+    (bytes' : List ℕ) : Type 0 where
+  pub own : PortTurn page_size c most count (site b.state (port_at b.ports c) bytes)
+      (site b'.state (port_at b'.ports c) bytes')
   pub others : b'.ports ≡ slice_set b.ports c (port_at b'.ports c)
 
 -- ---- how many entries a turn takes
@@ -88,7 +97,8 @@ waiting r = above r.submission.depth r.submission.rung r.submission.fetched
 
 -- how many completions find a free slot
 abbrev pub free_slots : Rings → ℕ
-free_slots r = r.completion.depth - 1 - above r.completion.depth r.completion.posted r.completion.told
+free_slots r =
+    r.completion.depth - 1 - above r.completion.depth r.completion.posted r.completion.told
 
 -- the least of the most that were asked for, the entries that wait, and the free slots
 abbrev pub turn_count : ℕ → Rings → ℕ

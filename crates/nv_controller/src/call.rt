@@ -5,7 +5,8 @@ ghost use Rattle.nv_command.specs.Command.{transfer_by};
 ghost use Rattle.nv_command.specs.Decoding.{command_of};
 ghost use Rattle.nv_prp.specs.Place.{LieIn, places};
 ghost use Rattle.nv_prp.specs.Transfer.{transfer};
-ghost use Rattle.nv_controller.specs.Call.{HasRoom, call_of, data_places, length_of, places_of, within};
+ghost use Rattle.nv_controller.specs.Call.{HasRoom, call_of, data_places, length_of, places_of};
+ghost use Rattle.nv_controller.specs.Call.{within};
 ghost use Rattle.nv_controller.specs.Call.{prp_status, sent_from};
 
 use nv_command::{Command, StatusCode, Transfer};
@@ -110,8 +111,8 @@ fn check_length(moves: Transfer, limit: u64) -> Result<Transfer, StatusCode>
 }
 
 /// The command of an entry, or the status of the first rule that the entry or its data breaks. The
-/// data has at most so many bytes; `spans` get the places of its data, `page` what the host sends, and `listed` the controllers that
-/// it lists.
+/// data has at most so many bytes; `spans` get the places of its data, `page` what the host sends,
+/// and `listed` the controllers that it lists.
 pub(crate) fn read_call<'a, M: HostMemory>(
     mem: &M,
     entry: &Sqe,

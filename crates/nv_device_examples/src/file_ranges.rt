@@ -6,8 +6,8 @@ use std::alloc::Global;
 use std::process::Abort;
 use std::test::Fail;
 
-/// A range of integers: a text of the demonstration file, what stands there instead with a number for
-/// `#`, the key, the least number and the greatest.
+/// A range of integers: a text of the demonstration file, what stands there instead with a number
+/// for `#`, the key, the least number and the greatest.
 type Range<'a> = (&'a str, &'a str, &'a str, i64, i64);
 
 /// The greatest integer of a file.

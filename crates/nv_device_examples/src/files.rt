@@ -233,8 +233,8 @@ fn tells_what_the_tables_break_together(rt: HostRuntime) -> Result<(), Fail> {
     )
 }
 
-/// The lines of the demonstration file that aren't empty: how much of each must stand before it says
-/// something, and the answer from there on to the next line.
+/// The lines of the demonstration file that aren't empty: how much of each must stand before it
+/// says something, and the answer from there on to the next line.
 const BEGINNINGS: &[(&str, &str)] = &[
     ("version = 1", "missing top.nn"),
     ("nn = 4", "missing top.tnvmcap"),

@@ -1,5 +1,5 @@
-//! Entries of Get Log Page and Identify Controller, for controller 0 of the demonstration subsystem. Its error log has
-//! four entries, and 131,072 bytes are the most that it transfers.
+//! Entries of Get Log Page and Identify Controller, for controller 0 of the demonstration
+//! subsystem. Its error log has four entries, and 131,072 bytes are the most that it transfers.
 
 ghost use Rattle.nv_controller.specs.Bus.{IsBus};
 
@@ -119,7 +119,8 @@ fn writes_an_error_byte_by_byte(rt: HostRuntime) -> Result<(), Fail> {
     );
     let mut bytes = [0; 132];
     assert!(rt; mem.load(0x5000, &mut bytes).is_ok());
-    // Error count 1, command identifier 0102h, status 600Bh with phase tag 1, location FFFFh, NSID 9.
+    // Error count 1, command identifier 0102h, status 600Bh with phase tag 1, location FFFFh,
+    // NSID 9.
     let mut want = [0; 132];
     want[0] = 1;
     want[10..16].copy_from_slice(&[0x02, 0x01, 0x17, 0xc0, 0xff, 0xff]);

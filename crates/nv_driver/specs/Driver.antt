@@ -1,5 +1,6 @@
 -- What a driver stands for, by its fields, and what holds of them between two calls.
-use Rattle.std.specs.Prelude.{◌≡◌, ℕ, ◌*◌, ◌/◌, ◌<◌, ◌^◌, All, List, length, map, slice_index_or, slice_set}
+use Rattle.std.specs.Prelude.{◌≡◌, ℕ, ◌*◌, ◌/◌, ◌<◌, ◌^◌, All, List, length, map, slice_index_or}
+use Rattle.std.specs.Prelude.{slice_set}
 use Rattle.nv_host.specs.Pages.{PagedBytes}
 use Rattle.nv_driver.specs.Exchange.{after_one, after_some}
 use Rattle.nv_driver.specs.Geometry.{IsGeometry}
@@ -15,7 +16,8 @@ abbrev pub page_count : PagedBytes → ℕ
 page_count mem = length mem.bytes / mem.page_size
 
 abbrev pub driver_value : Geometry → PagedBytes → List LaneFields → DriverValue
-driver_value g mem lanes = record { geometry = g; pages = page_count mem; lanes = map lane_value lanes }
+driver_value g mem lanes =
+    record { geometry = g; pages = page_count mem; lanes = map lane_value lanes }
 
 -- a driver that was brought up for so many controllers
 abbrev pub new_driver : Geometry → ℕ → DriverValue
@@ -32,19 +34,22 @@ pub record IsDriver (g : Geometry) (mem : PagedBytes) (lanes : List LaneFields) 
   pub whole : page_count mem * mem.page_size ≡ length mem.bytes
   pub numbered : page_count mem < 2 ^ 32
   pub quiet : All IsQuiet lanes
-  pub placed : (i : ℕ) (d : Lane) → i < length lanes → IsPlaced g i (slice_index_or (map lane_value lanes) i d)
+  pub placed : (i : ℕ) (d : Lane) → i < length lanes
+      → IsPlaced g i (slice_index_or (map lane_value lanes) i d)
   pub settled : IsSettled mem.page_size mem.bytes (map lane_value lanes)
 
 -- ---- a command
 
 -- no lane of a driver
 abbrev pub no_lane : Lane
-no_lane = record { sq = 0; cq = 0; depth = 0; number = 0; serial = 0; first_page = 0; page_count = 0 }
+no_lane =
+    record { sq = 0; cq = 0; depth = 0; number = 0; serial = 0; first_page = 0; page_count = 0 }
 
 abbrev pub lane_at : List Lane → ℕ → Lane
 lane_at lanes c = slice_index_or lanes c no_lane
 
--- the driver after a command of controller c: the next number and the next command identifier of its lane are due
+-- the driver after a command of controller c: the next number and the next command identifier of
+-- its lane are due
 abbrev pub after_command : DriverValue → ℕ → DriverValue
 after_command d c = record d { lanes = slice_set d.lanes c (after_one (lane_at d.lanes c)) }
 

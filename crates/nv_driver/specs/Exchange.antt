@@ -16,9 +16,10 @@ use Rattle.nv_driver.specs.Settled.{end_of}
 use Rattle.nv_driver.specs.declared.geometry.Geometry.{Geometry}
 use Rattle.nv_driver.specs.declared.lane.Lane.{Lane as LaneFields}
 
--- controller c of a bus and a quiet lane of it, with pages for each command of the window, in a memory that holds the
--- tags that are due
-pub record IsReady (g : Geometry) (b : BusValue) (c : ℕ) (l : LaneFields) (now : ℕ) (bytes : List ℕ) : Type 0 where
+-- controller c of a bus and a quiet lane of it, with pages for each command of the window, in a
+-- memory that holds the tags that are due
+pub record IsReady (g : Geometry) (b : BusValue) (c : ℕ) (l : LaneFields) (now : ℕ)
+    (bytes : List ℕ) : Type 0 where
   pub geometry : IsGeometry g
   pub page_size : now ≡ g.page_size
   pub depth : l.submission.depth ≡ g.depth
@@ -36,9 +37,11 @@ after_one l = record l { number = next l.depth l.number; serial = next_serial l.
 
 -- and after so many
 abbrev pub after_some : ℕ → Lane → Lane
-after_some n l = record l { number = kept_number l.depth (l.number + n); serial = (l.serial + n) % SERIALS }
+after_some n l =
+    record l { number = kept_number l.depth (l.number + n); serial = (l.serial + n) % SERIALS }
 
 -- bytes outside the lane stay
 abbrev pub KeepsOthers : ℕ → Lane → List ℕ → List ℕ → Type 0
 KeepsOthers page_size l old new =
-    (from n : ℕ) → IsApart l.sq (end_of page_size l - l.sq) from n → bytes_at new from n ≡ bytes_at old from n
+    (from n : ℕ) → IsApart l.sq (end_of page_size l - l.sq) from n → bytes_at new from n
+    ≡ bytes_at old from n

@@ -5,7 +5,9 @@ use Rattle.nv_host.specs.Pages.{IsPageSize, is_page_size}
 use Rattle.nv_queue.specs.Numbers.{IsDepth}
 use Rattle.nv_driver.specs.declared.geometry.Geometry.{Geometry}
 use Rattle.nv_driver.specs.declared.geometry_field.GeometryField.{GeometryField}
-use Rattle.nv_driver.specs.declared.geometry_field.GeometryField.TheVariants.{Depth, PageSize, Offset, ListOffset, Window, Pace}
+use Rattle.nv_driver.specs.declared.geometry_field.GeometryField.TheVariants.{Depth, PageSize}
+use Rattle.nv_driver.specs.declared.geometry_field.GeometryField.TheVariants.{Offset, ListOffset}
+use Rattle.nv_driver.specs.declared.geometry_field.GeometryField.TheVariants.{Window, Pace}
 
 unfoldable pub is_between : ℕ → ℕ → ℕ → Bool
 is_between low high x = nat_le low x && nat_le x high

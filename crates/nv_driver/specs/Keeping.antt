@@ -7,7 +7,10 @@ use Rattle.nv_queue.specs.Numbers.{IsDepth}
 use Rattle.nv_queue.specs.Slots.{HoldsTags, submission_at}
 use Rattle.nv_subsystem.specs.State.{State}
 use Rattle.nv_subsystem.specs.WellFormed.{IsWellFormed}
-use Rattle.nv_driver.specs.Schedule.{AreApart, AreOthers, AreOutside, CanBeSent, Holds, HoldsSent, Sent, Setting, StaysNamed, World, after, answers_to, data_length, device_rings, entry, number, own_pages, places, port_with, slot}
+use Rattle.nv_driver.specs.Schedule.{AreApart, AreOthers, AreOutside, CanBeSent, Holds, HoldsSent}
+use Rattle.nv_driver.specs.Schedule.{Sent, Setting, StaysNamed, World, after, answers_to}
+use Rattle.nv_driver.specs.Schedule.{data_length, device_rings, entry, number, own_pages, places}
+use Rattle.nv_driver.specs.Schedule.{port_with, slot}
 
 -- the rings lie in a memory of this size, the submission ring first
 pub record HasRings (t : Setting) (size : ℕ) : Type 0 where
@@ -44,13 +47,19 @@ pub record Keeps (t : Setting) (s : State) (w : World) : Type 0 where
   pub state : w.state ≡ after t.controller s (take w.done w.sent)
   pub well_formed : IsWellFormed w.state
   pub controller : t.controller < length w.state.controllers
-  pub own : (n : ℕ) (d : Sent) → length w.answers ≤ n → n < length w.sent → IsOwn t (length w.mem) (get_or w.sent n d)
-  pub apart : (n m : ℕ) (d : Sent) → length w.answers ≤ n → n < m → m < length w.sent → AreApart (get_or w.sent n d) (get_or w.sent m d)
-  pub named : (n : ℕ) (d : Sent) → length w.answers ≤ n → n < length w.sent → StaysNamed t.page_size (get_or w.sent n d) w.mem
-  pub waiting : (n : ℕ) (d : Sent) → w.done ≤ n → n < length w.sent → submission_at w.mem t.sq (slot t n) ≡ entry (get_or w.sent n d)
+  pub own : (n : ℕ) (d : Sent) → length w.answers ≤ n → n < length w.sent
+      → IsOwn t (length w.mem) (get_or w.sent n d)
+  pub apart : (n m : ℕ) (d : Sent) → length w.answers ≤ n → n < m → m < length w.sent
+      → AreApart (get_or w.sent n d) (get_or w.sent m d)
+  pub named : (n : ℕ) (d : Sent) → length w.answers ≤ n → n < length w.sent
+      → StaysNamed t.page_size (get_or w.sent n d) w.mem
+  pub waiting : (n : ℕ) (d : Sent) → w.done ≤ n → n < length w.sent
+      → submission_at w.mem t.sq (slot t n) ≡ entry (get_or w.sent n d)
   pub to_send : (n : ℕ) (d : Sent) → w.done ≤ n → n < length w.sent
       → HoldsSent t.page_size (get_or w.sent n d) w.mem
-  pub held : (n : ℕ) (d : Sent) → length w.answers ≤ n → n < w.done → Holds t s w n (get_or w.sent n d)
+  pub held : (n : ℕ) (d : Sent) → length w.answers ≤ n → n < w.done
+      → Holds t s w n (get_or w.sent n d)
   pub tags : HoldsTags w.mem t.cq t.depth (number t w.done)
   pub answers : w.answers ≡ take (length w.answers) (answers_to t.controller s w.sent)
-  pub others : (from n : ℕ) → AreOthers t w.sent from n → bytes_at w.mem from n ≡ bytes_at t.before from n
+  pub others : (from n : ℕ) → AreOthers t w.sent from n → bytes_at w.mem from n
+      ≡ bytes_at t.before from n

@@ -5,8 +5,8 @@ use Rattle.nv_register.specs.declared.port.Port.{Port}
 use Rattle.nv_register.specs.declared.rings.Rings.{Rings}
 use Rattle.nv_subsystem.specs.declared.origin.TheConstants.{SERIALS}
 
--- where its rings and its pages lie, and of its next command the number, as the rings keep it, and the command
--- identifier
+-- where its rings and its pages lie, and of its next command the number, as the rings keep it, and
+-- the command identifier
 pub record Lane : Type 0 where
   pub sq : ℕ
   pub cq : ℕ
@@ -35,7 +35,8 @@ idle_port mps page_size l = record {
   rings = Some (idle_rings page_size l);
 }
 
--- the submission ring, the completion ring and the pages follow one another in a memory of this size
+-- the submission ring, the completion ring and the pages follow one another in a memory of this
+-- size
 pub record IsLaid (page_size size : ℕ) (l : Lane) : Type 0 where
   pub deep : IsDepth l.depth
   pub number : l.number < 2 * l.depth

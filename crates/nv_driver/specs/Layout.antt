@@ -1,20 +1,21 @@
--- How a driver lays out the host's memory: for each controller in turn its submission ring, its completion ring and
--- its page set, each in pages of its own.
+-- How a driver lays out the host's memory: for each controller in turn its submission ring, its
+-- completion ring and its page set, each in pages of its own.
 use Rattle.std.specs.Prelude.{ℕ, ◌+◌, ◌*◌, List, map}
 use Rattle.std.specs.Int.{div_ceil}
 use Rattle.std.specs.List.{range_with_len}
 use Rattle.nv_driver.specs.Lane.{Lane}
 use Rattle.nv_driver.specs.declared.geometry.Geometry.{Geometry}
 
--- how many pages a ring of so many slots takes, of 64 bytes for submissions and of 16 for completions
+-- how many pages a ring of so many slots takes, of 64 bytes for submissions and of 16 for
+-- completions
 unfoldable pub submission_pages : Geometry → ℕ
 submission_pages g = div_ceil (64 * g.depth) g.page_size
 
 unfoldable pub completion_pages : Geometry → ℕ
 completion_pages g = div_ceil (16 * g.depth) g.page_size
 
--- the most pages of one command: those of 16,384 bytes, one more where they begin inside a page, and two of a PRP list
--- that begins inside a page
+-- the most pages of one command: those of 16,384 bytes, one more where they begin inside a page,
+-- and two of a PRP list that begins inside a page
 abbrev pub pages_of_command : ℕ → ℕ
 pages_of_command page_size = div_ceil 16384 page_size + 3
 

@@ -1,7 +1,9 @@
 -- The fields of a geometry by name.
 use Rattle.std.specs.Prelude.{ℕ, List, codes}
 use Rattle.nv_driver.specs.declared.geometry_field.GeometryField.{GeometryField}
-use Rattle.nv_driver.specs.declared.geometry_field.GeometryField.TheVariants.{Depth, PageSize, Offset, ListOffset, Window, Pace}
+use Rattle.nv_driver.specs.declared.geometry_field.GeometryField.TheVariants.{Depth, PageSize}
+use Rattle.nv_driver.specs.declared.geometry_field.GeometryField.TheVariants.{Offset, ListOffset}
+use Rattle.nv_driver.specs.declared.geometry_field.GeometryField.TheVariants.{Window, Pace}
 
 unfoldable pub field_name : GeometryField → List ℕ
 field_name Depth = codes "depth"

@@ -11,7 +11,8 @@ with_dword p write = with_register_at p write.0 write.1
 
 -- queues of so many entries, less one, at these addresses
 abbrev pub with_queues : Port → ℕ → ℕ → ℕ → Port
-with_queues p less_one sq cq = record p { aqa = record { asqs = less_one; acqs = less_one }; asq = sq; acq = cq }
+with_queues p less_one sq cq =
+    record p { aqa = record { asqs = less_one; acqs = less_one }; asq = sq; acq = cq }
 
 -- the power of two that a page size is of 4,096
 abbrev pub mps_of : ℕ → ℕ

@@ -1,5 +1,8 @@
--- Schedules of one controller's commands: submit, ring the doorbell, turn, collect, tell the head, in any order.
-use Rattle.std.specs.Prelude.{◌≡◌, ◌-◌, ◌≢◌, ◌⊎◌, ℕ, ◌+◌, ◌*◌, ◌<◌, ◌≤◌, ◌^◌, ◌==◌, ◌&&◌, Bool, false, All, List, [], ◌∷◌, ◌++◌, if◌then◌else◌, length, min, not, slice_index_or, take, Some, Result, Ok, Err}
+-- Schedules of one controller's commands: submit, ring the doorbell, turn, collect, tell the head,
+-- in any order.
+use Rattle.std.specs.Prelude.{◌≡◌, ◌-◌, ◌≢◌, ◌⊎◌, ℕ, ◌+◌, ◌*◌, ◌<◌, ◌≤◌, ◌^◌, ◌==◌, ◌&&◌, Bool}
+use Rattle.std.specs.Prelude.{false, All, List, [], ◌∷◌, ◌++◌, if◌then◌else◌, length, min, not}
+use Rattle.std.specs.Prelude.{slice_index_or, take, Some, Result, Ok, Err}
 use Rattle.nv_host.specs.Bytes.{bytes_at}
 use Rattle.nv_host.specs.Pages.{IsPageSize}
 use Rattle.nv_layout.specs.declared.cqe.Cqe.{Cqe}
@@ -10,7 +13,8 @@ use Rattle.nv_prp.specs.Place.{AreDistinct, read_at}
 use Rattle.nv_prp.specs.Transfer.{Transfer as Pointed, transfer}
 use Rattle.nv_queue.specs.Numbers.{IsDepth, kept_number, slot_of}
 use Rattle.nv_queue.specs.Rings.{CollectNumbers, SubmitNumbers}
-use Rattle.nv_queue.specs.Slots.{HoldsTags, IsAwaitedThere, awaited_completion, completion_at, with_submission}
+use Rattle.nv_queue.specs.Slots.{HoldsTags, IsAwaitedThere, awaited_completion, completion_at}
+use Rattle.nv_queue.specs.Slots.{with_submission}
 use Rattle.nv_command.specs.Command.{CommandFits, host_data_of, transfer_by}
 use Rattle.nv_command.specs.Entry.{entry_of, with_pointer}
 use Rattle.nv_command.specs.Logs.{IsSendable, answer_received}
@@ -30,8 +34,9 @@ use Rattle.nv_controller.specs.Turn.{PortTurn, site}
 
 -- ---- commands, one at a time
 
--- a command with its command identifier, the numbers of its data pages and where its data begins in the first one, its
--- two pages for a list and where a list begins in the first one, and its data pointer
+-- a command with its command identifier, the numbers of its data pages and where its data begins in
+-- the first one, its two pages for a list and where a list begins in the first one, and its data
+-- pointer
 pub record Sent : Type 0 where
   pub command : Command
   pub cid : ℕ
@@ -55,12 +60,14 @@ after c s (x ∷ xs) = after c (step s c x.command x.cid).state xs
 -- and their answers, as they are received
 abbrev pub answers_to : ℕ → State → List Sent → List Answer
 answers_to c s [] = []
-answers_to c s (x ∷ xs) = answer_received x.command (step s c x.command x.cid).answer ∷ answers_to c (step s c x.command x.cid).state xs
+answers_to c s (x ∷ xs) = answer_received x.command (step s c x.command x.cid).answer
+    ∷ answers_to c (step s c x.command x.cid).state xs
 
 -- ---- what a schedule runs over
 
--- a controller, the memory at the beginning and its page size, where the rings lie and how deep they are, the number of
--- the first command as the rings keep it, and the controller's other registers
+-- a controller, the memory at the beginning and its page size, where the rings lie and how deep
+-- they are, the number of the first command as the rings keep it, and the controller's other
+-- registers
 pub record Setting : Type 0 where
   pub controller : ℕ
   pub before : List ℕ
@@ -71,9 +78,9 @@ pub record Setting : Type 0 where
   pub start : ℕ
   pub port : Port
 
--- The memory, the subsystem, the controller's registers, the commands that were sent, and the answers that were
--- collected. Of the commands so many were told by the tail doorbell, so many were done by turns, and so many were told
--- by the head doorbell to be collected.
+-- The memory, the subsystem, the controller's registers, the commands that were sent, and the
+-- answers that were collected. Of the commands so many were told by the tail doorbell, so many were
+-- done by turns, and so many were told by the head doorbell to be collected.
 pub record World : Type 0 where
   pub mem : List ℕ
   pub state : State
@@ -93,7 +100,8 @@ slot t n = slot_of t.depth (number t n)
 
 -- the host's sides of the rings, where so many commands were sent and collected, and so many told
 abbrev pub submit_ring : Setting → ℕ → ℕ → SubmitNumbers
-submit_ring t sent collected = record { base = t.sq; depth = t.depth; submitted = number t sent; known = number t collected }
+submit_ring t sent collected =
+    record { base = t.sq; depth = t.depth; submitted = number t sent; known = number t collected }
 
 abbrev pub collect_ring : Setting → ℕ → ℕ → CollectNumbers
 collect_ring t collected told = record {
@@ -108,8 +116,10 @@ collect_ring t collected told = record {
 abbrev pub device_rings : Setting → ℕ → ℕ → ℕ → Rings
 device_rings t rung done told = record {
   page_size = t.page_size;
-  submission = record { base = t.sq; depth = t.depth; fetched = number t done; rung = number t rung };
-  completion = record { base = t.cq; depth = t.depth; posted = number t done; told = number t told };
+  submission =
+      record { base = t.sq; depth = t.depth; fetched = number t done; rung = number t rung };
+  completion =
+      record { base = t.cq; depth = t.depth; posted = number t done; told = number t told };
 }
 
 abbrev pub port_with : Setting → Rings → Port
@@ -139,8 +149,8 @@ pub record CanBeSent (k : Command) : Type 0 where
   pub fits : CommandFits k
   pub sends : IsSendable k
 
--- The ring has a free slot; the command can be sent; its pages hold its data, and are distinct, of no ring and of no
--- outstanding command.
+-- The ring has a free slot; the command can be sent; its pages hold its data, and are distinct, of
+-- no ring and of no outstanding command.
 pub record MaySubmit (t : Setting) (w : World) (x : Sent) : Type 0 where
   pub free : length w.sent + 1 < length w.answers + t.depth
   pub can : CanBeSent x.command
@@ -150,7 +160,8 @@ pub record MaySubmit (t : Setting) (w : World) (x : Sent) : Type 0 where
   pub distinct : AreDistinct (own_pages x)
   pub submissions : AreOutside t.page_size x t.sq (64 * t.depth)
   pub completions : AreOutside t.page_size x t.cq (16 * t.depth)
-  pub apart : (n : ℕ) (d : Sent) → length w.answers ≤ n → n < length w.sent → AreApart (slice_index_or w.sent n d) x
+  pub apart : (n : ℕ) (d : Sent) → length w.answers ≤ n → n < length w.sent
+      → AreApart (slice_index_or w.sent n d) x
 
 -- where the data of a command lies
 abbrev pub places : ℕ → Sent → List ℕ
@@ -165,14 +176,16 @@ HoldsSent page_size x mem =
 abbrev pub pointed : ℕ → Sent → List ℕ → Pointed
 pointed page_size x mem = transfer page_size mem x.prp1 x.prp2 (data_length x)
 
--- the data pointer, if the command has data, names the places of the data while its list stays as it is in this memory
+-- the data pointer, if the command has data, names the places of the data while its list stays as
+-- it is in this memory
 abbrev pub StaysNamed : ℕ → Sent → List ℕ → Type 0
 StaysNamed page_size x mem =
     0 < data_length x → StaysFor (pointed page_size x mem) x.pages x.offset x.first x.second
 
 -- the command's pages were made ready: they hold what the host sends, and its data pointer
 pub record IsPrepared (page_size : ℕ) (x : Sent) (old new : List ℕ) : Type 0 where
-  pub others : (from n : ℕ) → AreOutside page_size x from n → bytes_at new from n ≡ bytes_at old from n
+  pub others : (from n : ℕ) → AreOutside page_size x from n → bytes_at new from n
+      ≡ bytes_at old from n
   pub len : length new ≡ length old
   pub prp1 : x.prp1 < 2 ^ 64
   pub prp2 : x.prp2 < 2 ^ 64
@@ -193,7 +206,8 @@ received_from (FromHost n) bytes places = []
 -- what a completion and the data from the controller say
 abbrev pub answer_from : Command → Cqe → List ℕ → Answer
 answer_from k completion bytes =
-    if is_success completion.status then Ok (reply_in k completion.command_specific bytes) else Err completion.status
+    if is_success completion.status then Ok (reply_in k completion.command_specific bytes) else Err
+    completion.status
 
 -- where the data lies in the command's pages
 abbrev pub answer_read : ℕ → Sent → List ℕ → Cqe → Answer
@@ -221,18 +235,33 @@ abbrev pub Happens : Setting → Event → World → World → Type 0
 Happens t (Submit x) w w' =
     MaySubmit t w x
     × (ready : List ℕ) × IsPrepared t.page_size x w.mem ready
-    × (w' ≡ record w { mem = with_submission ready (submit_ring t (length w.sent) (length w.answers)) (entry x); sent = w.sent ++ x ∷ [] })
+    × (w'
+    ≡ record w {
+      mem = with_submission ready (submit_ring t (length w.sent) (length w.answers))
+          (entry x);
+      sent = w.sent ++ x ∷ [];
+    })
 Happens t Bell w w' =
-    w' ≡ record w { port = with_register_at w.port 0x1000 (slot t (length w.sent)); rung = length w.sent }
+    w' ≡ record w {
+      port = with_register_at w.port 0x1000 (slot t (length w.sent));
+      rung = length w.sent;
+    }
 Happens t (Turn most) w w' =
-    (count : ℕ) × PortTurn t.page_size t.controller most count (site w.state w.port w.mem) (site w'.state w'.port w'.mem)
+    (count : ℕ) × PortTurn t.page_size t.controller most count (site w.state w.port w.mem)
+    (site w'.state w'.port w'.mem)
     × (w' ≡ record w { mem = w'.mem; state = w'.state; port = w'.port; done = w.done + count })
 Happens t Collect w w' =
     (IsAwaitedThere w.mem (awaited t w) × (d : Sent)
-    × (w' ≡ record w { answers = w.answers ++ answer_awaited t w (slice_index_or w.sent (length w.answers) d) ∷ [] }))
+    × (w' ≡ record w {
+      answers = w.answers
+          ++ answer_awaited t w (slice_index_or w.sent (length w.answers) d) ∷ [];
+    }))
     ⊎ ((¬ IsAwaitedThere w.mem (awaited t w)) × (w' ≡ w))
 Happens t Tell w w' =
-    w' ≡ record w { port = with_register_at w.port 0x1004 (slot t (length w.answers)); told = length w.answers }
+    w' ≡ record w {
+      port = with_register_at w.port 0x1004 (slot t (length w.answers));
+      told = length w.answers;
+    }
 
 abbrev pub Runs : Setting → List Event → World → World → Type 0
 Runs t [] w w' = w' ≡ w
@@ -240,8 +269,8 @@ Runs t (e ∷ es) w w' = (mid : World) × Happens t e w mid × Runs t es mid w'
 
 -- ---- the law
 
--- no command is outstanding: a ready controller of a well-formed subsystem, whose rings lie in the memory, the
--- submission ring first, and hold the tags that are due
+-- no command is outstanding: a ready controller of a well-formed subsystem, whose rings lie in the
+-- memory, the submission ring first, and hold the tags that are due
 pub record IsIdle (t : Setting) (w : World) : Type 0 where
   pub before : w.mem ≡ t.before
   pub page_size : IsPageSize t.page_size
@@ -259,9 +288,11 @@ pub record IsIdle (t : Setting) (w : World) : Type 0 where
   pub told : w.told ≡ 0
   pub answers : w.answers ≡ []
 
--- the completion and the pages of command n hold its answer, under its command identifier and with the head after it
+-- the completion and the pages of command n hold its answer, under its command identifier and with
+-- the head after it
 pub record Holds (t : Setting) (s : State) (w : World) (n : ℕ) (x : Sent) : Type 0 where
-  pub answer : (d : Answer) → answer_read t.page_size x w.mem (completion_at w.mem t.cq (slot t n)) ≡ slice_index_or (answers_to t.controller s w.sent) n d
+  pub answer : (d : Answer) → answer_read t.page_size x w.mem (completion_at w.mem t.cq (slot t n))
+      ≡ slice_index_or (answers_to t.controller s w.sent) n d
   pub cid : (completion_at w.mem t.cq (slot t n)).cid ≡ x.cid
   pub head : (completion_at w.mem t.cq (slot t n)).sq_head ≡ slot t (n + 1)
 
@@ -269,23 +300,30 @@ pub record Holds (t : Setting) (s : State) (w : World) (n : ℕ) (x : Sent) : Ty
 pub record AreOthers (t : Setting) (sent : List Sent) (from n : ℕ) : Type 0 where
   pub submissions : IsApart t.sq (64 * t.depth) from n
   pub completions : IsApart t.cq (16 * t.depth) from n
-  pub pages : (i : ℕ) (d : Sent) → i < length sent → AreOutside t.page_size (slice_index_or sent i d) from n
+  pub pages : (i : ℕ) (d : Sent) → i < length sent
+      → AreOutside t.page_size (slice_index_or sent i d) from n
 
--- how many entries a turn takes: the least of the most, those that wait, and the free slots for completions
+-- how many entries a turn takes: the least of the most, those that wait, and the free slots for
+-- completions
 abbrev pub least : Setting → World → ℕ → ℕ
 least t w most = min most (min (w.rung - w.done) (t.depth - 1 - (w.done - w.told)))
 
--- The collected answers are the first of those that the commands have one at a time, and the subsystem is that after
--- the commands that were done. An answer is held from its command's turn on until it is collected. A turn takes as many
--- entries as it can. Bytes that lie in no ring and in no page of a command stay.
+-- The collected answers are the first of those that the commands have one at a time, and the
+-- subsystem is that after the commands that were done. An answer is held from its command's turn on
+-- until it is collected. A turn takes as many entries as it can. Bytes that lie in no ring and in
+-- no page of a command stay.
 pub record IsSerial (t : Setting) (s : State) (w : World) : Type 0 where
   pub answers : w.answers ≡ take (length w.answers) (answers_to t.controller s w.sent)
   pub state : w.state ≡ after t.controller s (take w.done w.sent)
   pub collected : length w.answers ≤ w.done
   pub done : w.done ≤ length w.sent
-  pub held : (n : ℕ) (d : Sent) → length w.answers ≤ n → n < w.done → Holds t s w n (slice_index_or w.sent n d)
-  pub turns : (most : ℕ) (next : World) → Happens t (Turn most) w next → next.done ≡ w.done + least t w most
-  pub others : (from n : ℕ) → AreOthers t w.sent from n → bytes_at w.mem from n ≡ bytes_at t.before from n
+  pub held : (n : ℕ) (d : Sent) → length w.answers ≤ n → n < w.done
+      → Holds t s w n (slice_index_or w.sent n d)
+  pub turns : (most : ℕ) (next : World) → Happens t (Turn most) w next → next.done ≡ w.done
+      + least t w most
+  pub others : (from n : ℕ) → AreOthers t w.sent from n → bytes_at w.mem from n
+      ≡ bytes_at t.before from n
 
 abbrev pub EveryScheduleIsSerial : Type 0
-EveryScheduleIsSerial = (t : Setting) (events : List Event) (old new : World) → IsIdle t old → Runs t events old new → IsSerial t old.state new
+EveryScheduleIsSerial = (t : Setting) (events : List Event) (old new : World) → IsIdle t old
+    → Runs t events old new → IsSerial t old.state new

@@ -35,7 +35,8 @@ transfer_at page_size bytes o k = transfer page_size bytes o.prp1 o.prp2 (length
 
 -- it took its pages, they were made ready, and its entry was put in the ring; a command without
 -- data has no data pointer
-pub record IsSubmitted (g : Geometry) (k : Command) (o : Outstanding) (old new : LaneFields) (before after : List ℕ) : Type 0 where
+pub record IsSubmitted (g : Geometry) (k : Command) (o : Outstanding) (old new : LaneFields)
+    (before after : List ℕ) : Type 0 where
   pub few : o.pages.data_pages + 2 ≤ pages_of_command g.page_size
   pub seven : length o.pages.numbers ≡ 7
   pub taken : AreTaken old.pages (all_pages o.pages)

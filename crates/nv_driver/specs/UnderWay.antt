@@ -1,5 +1,7 @@
 -- A list of commands of one controller on its way, of which several are outstanding.
-use Rattle.std.specs.Prelude.{◌≡◌, ℕ, ◌+◌, ◌-◌, ◌*◌, ◌%◌, ◌<◌, ◌≤◌, All, List, [], ◌++◌, ◌∷◌, Option, None, Some, drop, length, min, slice_index_or, slice_set, take}
+use Rattle.std.specs.Prelude.{◌≡◌, ℕ, ◌+◌, ◌-◌, ◌*◌, ◌%◌, ◌<◌, ◌≤◌, All, List, [], ◌++◌, ◌∷◌}
+use Rattle.std.specs.Prelude.{Option, None, Some, drop, length, min, slice_index_or, slice_set}
+use Rattle.std.specs.Prelude.{take}
 use Rattle.nv_host.specs.PageSets.{IsOf}
 use Rattle.nv_command.specs.declared.command.Command.{Command}
 use Rattle.nv_subsystem.specs.declared.origin.TheConstants.{SERIALS}
@@ -12,7 +14,8 @@ use Rattle.nv_driver.specs.Lane.{Lane, idle_port}
 use Rattle.nv_driver.specs.Layout.{pages_of_command}
 use Rattle.nv_driver.specs.Quiet.{lane_value}
 use Rattle.nv_driver.specs.Registers.{mps_of}
-use Rattle.nv_driver.specs.Schedule.{Answer, CanBeSent, Sent, Setting, World, collect_ring, device_rings, own_pages, port_with, submit_ring}
+use Rattle.nv_driver.specs.Schedule.{Answer, CanBeSent, Sent, Setting, World, collect_ring}
+use Rattle.nv_driver.specs.Schedule.{device_rings, own_pages, port_with, submit_ring}
 use Rattle.nv_driver.specs.Submitting.{sent_by}
 use Rattle.nv_driver.specs.declared.batch.Batch.{Batch}
 use Rattle.nv_driver.specs.declared.geometry.Geometry.{Geometry}
@@ -75,7 +78,8 @@ abbrev pub kept_at : Batch → ℕ → Option Outstanding
 kept_at b n = slice_index_or b.outstanding (n % 16) None
 
 -- of its commands so many were told by the tail doorbell, and so many were done by turns
-pub record IsUnderWay (r : Run) (bells turns : ℕ) (b : Batch) (l : LaneFields) (now : ℕ) (bytes : List ℕ) : Type 0 where
+pub record IsUnderWay (r : Run) (bells turns : ℕ) (b : Batch) (l : LaneFields) (now : ℕ)
+    (bytes : List ℕ) : Type 0 where
   pub begun : IsReady r.geometry r.bus r.controller r.lane r.geometry.page_size r.bytes
   pub can : All CanBeSent r.commands
   pub geometry : b.geometry ≡ r.geometry
@@ -94,7 +98,8 @@ pub record IsUnderWay (r : Run) (bells turns : ℕ) (b : Batch) (l : LaneFields)
   pub sent : length world.sent ≡ b.sent
   pub collected : length world.answers ≡ b.collected
   pub commands : (n : ℕ) (d : Sent) → n < b.sent → IsCommand r n (slice_index_or world.sent n d)
-  pub kept : (n : ℕ) (d : Sent) → b.collected ≤ n → n < b.sent → IsKept r (kept_at b n) (slice_index_or world.sent n d)
+  pub kept : (n : ℕ) (d : Sent) → b.collected ≤ n → n < b.sent
+      → IsKept r (kept_at b n) (slice_index_or world.sent n d)
   pub lane : l ≡ record {
     submission = submit_ring (setting_of r) b.sent b.collected;
     completion = collect_ring (setting_of r) b.collected b.told;
@@ -102,13 +107,16 @@ pub record IsUnderWay (r : Run) (bells turns : ℕ) (b : Batch) (l : LaneFields)
     pages = without r.lane.pages (pages_of_all (drop b.collected world.sent));
   }
   pub taken : AreTaken r.lane.pages (pages_of_all (drop b.collected world.sent))
-  pub own : (n : ℕ) (d : Sent) → n < b.sent → All (λ p. IsOf r.lane.pages.first r.lane.pages.count p) (own_pages (slice_index_or world.sent n d))
+  pub own : (n : ℕ) (d : Sent) → n < b.sent
+      → All (λ p. IsOf r.lane.pages.first r.lane.pages.count p)
+      (own_pages (slice_index_or world.sent n d))
 
 -- the bus where so many commands were told, done, and told to be collected
 pub record IsBusOf (r : Run) (rung done told : ℕ) (b : BusValue) : Type 0 where
   pub bus : IsBus b
   pub state : b.state ≡ state_after r.controller r.bus.state r.lane.serial (take done r.commands)
-  pub port : port_at b.ports r.controller ≡ port_with (setting_of r) (device_rings (setting_of r) rung done told)
+  pub port : port_at b.ports r.controller
+      ≡ port_with (setting_of r) (device_rings (setting_of r) rung done told)
   pub ports : b.ports ≡ slice_set r.bus.ports r.controller (port_at b.ports r.controller)
 
 -- the first answers are those of one command at a time

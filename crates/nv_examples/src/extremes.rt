@@ -1,5 +1,5 @@
-//! What is shown of the greatest numbers and the longest texts, and of texts with spaces, quotes and
-//! backslashes.
+//! What is shown of the greatest numbers and the longest texts, and of texts with spaces, quotes
+//! and backslashes.
 
 use crate::rows::{Row, leaves};
 use crate::steps::{Step, follow};

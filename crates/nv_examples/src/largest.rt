@@ -7,7 +7,8 @@ use nv_script::{Geometry, RunEnd};
 use std::alloc::{AllocError, Global};
 use std::test::Fail;
 
-/// Its file. The identifiers of the controllers fall from 100 on, and the last controller has all namespaces.
+/// Its file. The identifiers of the controllers fall from 100 on, and the last controller has all
+/// namespaces.
 fn largest_file(alloc: Global) -> Result<String, AllocError> {
     let mut file = String::new(alloc);
     write!(

@@ -1,4 +1,5 @@
-//! Worked examples that cross the crates: scripts over the demonstration subsystem, and what they leave.
+//! Worked examples that cross the crates: scripts over the demonstration subsystem, and what they
+//! leave.
 #![tactic(auto)]
 
 mod harness;

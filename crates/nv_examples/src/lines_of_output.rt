@@ -18,8 +18,8 @@ fn listing(format: OutputFormat) -> Line {
     })
 }
 
-/// Checks what a line says to a subsystem with two controllers: it asks controller 0 something, and wants
-/// the answer as JSON.
+/// Checks what a line says to a subsystem with two controllers: it asks controller 0 something, and
+/// wants the answer as JSON.
 fn check_json(rt: &impl Abort, alloc: Global, line: &str, ask: Ask) {
     let want = Line::Request(Request {
         query: Query::One(Question { controller: 0, ask }),

@@ -1,5 +1,5 @@
-//! Readers and writers of the standard library as the streams of a run: each call of a stream is one call
-//! of what it stands over.
+//! Readers and writers of the standard library as the streams of a run: each call of a stream is
+//! one call of what it stands over.
 
 ghost use Rattle.std.specs.Prelude.{◌≤◌, length};
 

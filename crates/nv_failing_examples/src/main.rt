@@ -20,8 +20,8 @@ use memory::{Left, run_case};
 use std::io;
 use std::process::ExitCode;
 
-/// Runs each script, and says of each what it left. Whether none left anything else than whole lines
-/// is answered.
+/// Runs each script, and says of each what it left. Whether none left anything else than whole
+/// lines is answered.
 fn run_all(rt: &HostRuntime) -> io::Result<bool> {
     let mut is_right = true;
     for case in &cases(rt.alloc())? {

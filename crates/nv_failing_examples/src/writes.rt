@@ -1,5 +1,5 @@
-//! A write that fails at each call: all texts of the lines before stand whole, of the line's own text
-//! a beginning, and the line has been executed.
+//! A write that fails at each call: all texts of the lines before stand whole, of the line's own
+//! text a beginning, and the line has been executed.
 
 use crate::case::{Case, Stream, counts_of};
 use crate::cases::cases;
@@ -9,7 +9,8 @@ use std::alloc::Global;
 use std::process::Abort;
 use std::test::Fail;
 
-/// The line in whose text a stream failed that had taken so many bytes; none where it had taken all.
+/// The line in whose text a stream failed that had taken so many bytes; none where it had taken
+/// all.
 fn cut_line(case: &Case, stream: Stream, taken: usize) -> Option<usize> {
     let mut end = 0usize;
     for (index, line) in case.lines.iter().enumerate() {

@@ -5,7 +5,8 @@ use Rattle.nv_file.specs.declared.error.SubsystemError.TheVariants.{Memory}
 
 -- reading goes on with what was read, or ends at the first fault
 infixl 10 ◌>>=◌
-abbrev pub ◌>>=◌ : {A B : Type 0} → Result A SubsystemError → (A → Result B SubsystemError) → Result B SubsystemError
+abbrev pub ◌>>=◌ : {A B : Type 0} → Result A SubsystemError → (A → Result B SubsystemError)
+    → Result B SubsystemError
 (Ok x) >>= f = f x
 (Err e) >>= f = Err e
 
@@ -14,7 +15,8 @@ unfoldable pub ensure : Bool → SubsystemError → Result (Unit {0}) SubsystemE
 ensure holds e = if holds then Ok tt else Err e
 
 -- the result is the answer, as `view` sees it, unless memory ran out
-abbrev pub IsUnlessMemory : {X Y : Type 0} → (X → Y) → Result X SubsystemError → Result Y SubsystemError → Type 0
+abbrev pub IsUnlessMemory : {X Y : Type 0} → (X → Y) → Result X SubsystemError
+    → Result Y SubsystemError → Type 0
 IsUnlessMemory view (Ok x) answer = answer ≡ Ok (view x)
 IsUnlessMemory view (Err Memory) answer = Unit {0}
 IsUnlessMemory view (Err e) answer = answer ≡ Err e

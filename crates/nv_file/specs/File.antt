@@ -1,5 +1,6 @@
 -- A whole file: its tables, and what must hold between them.
-use Rattle.std.specs.Prelude.{ℕ, ℤ, pos, Bool, true, not, ◌&&◌, ◌||◌, List, [], ◌∷◌, length, Result, Ok, Err, nat_le, sum_by, if◌then◌else◌}
+use Rattle.std.specs.Prelude.{ℕ, ℤ, pos, Bool, true, not, ◌&&◌, ◌||◌, List, [], ◌∷◌, length, Result}
+use Rattle.std.specs.Prelude.{Ok, Err, nat_le, sum_by, if◌then◌else◌}
 use Rattle.std.specs.List.{list_all, list_any}
 use Rattle.std.specs.Option.{ok_or}
 use Rattle.std.specs.Ordering.{int_eq}
@@ -7,13 +8,15 @@ use Rattle.std.specs.Str.{is_utf8}
 use Rattle.toml.specs.Data.{Members}
 use Rattle.toml.specs.Parse.{parse_document}
 use Rattle.nv_file.specs.declared.error.SubsystemError.{SubsystemError}
-use Rattle.nv_file.specs.declared.error.SubsystemError.TheVariants.{NotToml, Range, Capacity, Attachment}
+use Rattle.nv_file.specs.declared.error.SubsystemError.TheVariants.{NotToml, Range, Capacity}
+use Rattle.nv_file.specs.declared.error.SubsystemError.TheVariants.{Attachment}
 use Rattle.nv_file.specs.declared.table_name.TableName.TheVariants as table
 use Rattle.nv_file.specs.declared.key.Key.TheVariants as key
 use Rattle.nv_file.specs.declared.section.TheConstants.{GREATEST_INTEGER}
 use Rattle.nv_file.specs.Fault.{◌>>=◌, ensure}
 use Rattle.nv_file.specs.FileValue.{ControllerValue, NamespaceValue, FileValue}
-use Rattle.nv_file.specs.Section.{integer, integer_or, text, tables, tables_or_none, only_known, readings}
+use Rattle.nv_file.specs.Section.{integer, integer_or, text, tables, tables_or_none, only_known}
+use Rattle.nv_file.specs.Section.{readings}
 use Rattle.nv_file.specs.Tables.{format_of, controller_entry_of, namespace_entry_of}
 
 -- what the top table holds, before the tables in it are read

@@ -31,10 +31,12 @@ pub record FileValue : Type 0 where
   pub namespaces : List NamespaceValue
 
 abbrev pub controller_entry_view : ControllerEntry → ControllerValue
-controller_entry_view c = record { identity = identity_view c.identity; rules = c.rules.items; smart = c.smart }
+controller_entry_view c =
+    record { identity = identity_view c.identity; rules = c.rules.items; smart = c.smart }
 
 abbrev pub namespace_entry_view : NamespaceEntry → NamespaceValue
-namespace_entry_view n = record { nsid = n.nsid; namespace = n.namespace; controllers = n.controllers.items }
+namespace_entry_view n =
+    record { nsid = n.nsid; namespace = n.namespace; controllers = n.controllers.items }
 
 abbrev pub file_view : File → FileValue
 file_view f = record {

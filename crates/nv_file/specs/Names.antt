@@ -81,6 +81,8 @@ keys_of table.Feature = key.Fid ∷ key.Default ∷ key.Saveable ∷ key.Changea
 keys_of table.Smart =
     key.CriticalWarning ∷ key.AvailSpare ∷ key.SpareThresh ∷ key.PercentUsed ∷ key.Temperature ∷
     key.DataUnitsRead ∷ key.DataUnitsWritten ∷ key.HostReadCommands ∷ key.HostWriteCommands ∷
-    key.ControllerBusyTime ∷ key.PowerCycles ∷ key.PowerOnHours ∷ key.UnsafeShutdowns ∷ key.MediaErrors ∷
+    key.ControllerBusyTime ∷ key.PowerCycles ∷ key.PowerOnHours ∷ key.UnsafeShutdowns
+    ∷ key.MediaErrors ∷
     key.WarningTempTime ∷ key.CriticalCompTime ∷ key.Sensors ∷ []
-keys_of table.Namespace = key.Nsid ∷ key.Bytes ∷ key.Format ∷ key.Extended ∷ key.Shared ∷ key.Controllers ∷ []
+keys_of table.Namespace = key.Nsid ∷ key.Bytes ∷ key.Format ∷ key.Extended ∷ key.Shared
+    ∷ key.Controllers ∷ []

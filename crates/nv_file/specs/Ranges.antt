@@ -1,5 +1,6 @@
 -- The ranges of what a subsystem is made of.
-use Rattle.std.specs.Prelude.{◌≡◌, ℕ, ◌-◌, ◌^◌, ◌<◌, ◌≤◌, Bool, true, false, not, ◌&&◌, List, length, All, bit_and, nat_le, ◌==◌, slice_index, IsSomeAnd}
+use Rattle.std.specs.Prelude.{◌≡◌, ℕ, ◌-◌, ◌^◌, ◌<◌, ◌≤◌, Bool, true, false, not, ◌&&◌, List}
+use Rattle.std.specs.Prelude.{length, All, bit_and, nat_le, ◌==◌, slice_index, IsSomeAnd}
 use Rattle.std.specs.List.{list_all}
 use Rattle.nv_file.specs.declared.format.Format.{Format}
 use Rattle.nv_file.specs.declared.namespace.Namespace.{Namespace}
@@ -75,7 +76,8 @@ pub record IsIdentity (i : Identity) : Type 0 where
   pub fr : is_text 8 i.fr ≡ true
   pub numbers : IsIdentityNumbers i.numbers
 
--- A namespace has at least one block of its format, and extended blocks only where format and subsystem allow them.
+-- A namespace has at least one block of its format, and extended blocks only where format and
+-- subsystem allow them.
 pub record IsInFormat (mc : ℕ) (f : Format) (n : Namespace) : Type 0 where
   pub capacity : (2 ^ f.lbads ≤ n.capacity) × (n.capacity ≤ GREATEST_INTEGER)
   pub extended : n.extended ≡ true → (0 < f.ms) × (bit_and mc 1 ≡ 1)

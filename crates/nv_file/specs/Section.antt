@@ -1,10 +1,13 @@
 -- Reading one key of a table. `t` is the table and `k` the key, as a fault names them; `ms` are the
 -- members of the table, and `d` is what stands at the key.
-use Rattle.std.specs.Prelude.{ℕ, ℤ, pos, negsuc, Bool, true, ◌&&◌, List, [], ◌∷◌, ◌++◌, length, Option, Some, None, option_map, option_and_then, Result, Ok, Err, nat_le, if◌then◌else◌}
+use Rattle.std.specs.Prelude.{ℕ, ℤ, pos, negsuc, Bool, true, ◌&&◌, List, [], ◌∷◌, ◌++◌, length}
+use Rattle.std.specs.Prelude.{Option, Some, None, option_map, option_and_then, Result, Ok, Err}
+use Rattle.std.specs.Prelude.{nat_le, if◌then◌else◌}
 use Rattle.std.specs.List.{list_any}
 use Rattle.std.specs.Option.{ok_or, option_map_or}
 use Rattle.std.specs.Str.{bytes_eq}
-use Rattle.toml.specs.Data.{Data, Items, no_items, item, Members, no_members, member, get_member, as_integer, as_str, as_bool, as_array, as_table}
+use Rattle.toml.specs.Data.{Data, Items, no_items, item, Members, no_members, member, get_member}
+use Rattle.toml.specs.Data.{as_integer, as_str, as_bool, as_array, as_table}
 use Rattle.nv_file.specs.declared.error.SubsystemError.{SubsystemError}
 use Rattle.nv_file.specs.declared.error.SubsystemError.TheVariants.{Missing, Kind, Range, Unknown}
 use Rattle.nv_file.specs.declared.table_name.TableName.{TableName}
@@ -29,11 +32,13 @@ integer t k low high ms = do
   integer_in_range t k low high d
 
 unfoldable pub integer_or : TableName → Key → ℕ → ℕ → ℕ → Members → Result ℕ SubsystemError
-integer_or t k default low high ms = option_map_or (integer_in_range t k low high) (get_member (key_text k) ms) (Ok default)
+integer_or t k default low high ms =
+    option_map_or (integer_in_range t k low high) (get_member (key_text k) ms) (Ok default)
 
 -- a true or false
 unfoldable pub flag_or : TableName → Key → Bool → Members → Result Bool SubsystemError
-flag_or t k default ms = option_map_or (λ d. ok_or (as_bool d) (Kind t k)) (get_member (key_text k) ms) (Ok default)
+flag_or t k default ms =
+    option_map_or (λ d. ok_or (as_bool d) (Kind t k)) (get_member (key_text k) ms) (Ok default)
 
 -- a text that is_text allows
 unfoldable pub text : TableName → Key → ℕ → Members → Result (List ℕ) SubsystemError
@@ -45,7 +50,8 @@ text t k most ms = do
 -- the items, each as `kind` has it, behind those before, if all are of the kind
 abbrev pub items_as : {A : Type 0} → (Data → Option A) → List A → Items → Option (List A)
 items_as kind before no_items = Some before
-items_as kind before (item d ds) = option_and_then (λ x. items_as kind (before ++ x ∷ []) ds) (kind d)
+items_as kind before (item d ds) =
+    option_and_then (λ x. items_as kind (before ++ x ∷ []) ds) (kind d)
 
 -- a list whose items are all tables
 unfoldable pub tables_in : TableName → Key → Data → Result (List Members) SubsystemError
@@ -65,7 +71,8 @@ tables_or_none t k ms = option_map_or (tables_in t k) (get_member (key_text k) m
 -- one table, or none
 unfoldable pub table_or_none : TableName → Key → Members → Result (Option Members) SubsystemError
 table_or_none t k ms =
-    option_map_or (λ d. ok_or (option_map (λ m. Some m) (as_table d)) (Kind t k)) (get_member (key_text k) ms) (Ok None)
+    option_map_or (λ d. ok_or (option_map (λ m. Some m) (as_table d)) (Kind t k))
+    (get_member (key_text k) ms) (Ok None)
 
 -- a list whose items are all integers
 unfoldable pub integers_in : TableName → Key → Data → Result (List ℤ) SubsystemError
@@ -76,7 +83,8 @@ unfoldable pub integers_or_none : TableName → Key → Members → Result (List
 integers_or_none t k ms = option_map_or (integers_in t k) (get_member (key_text k) ms) (Ok [])
 
 -- each of some things, read with what was read before it at hand
-abbrev pub readings : {A B : Type 0} → (List A → B → Result A SubsystemError) → List A → List B → Result (List A) SubsystemError
+abbrev pub readings : {A B : Type 0} → (List A → B → Result A SubsystemError) → List A → List B
+    → Result (List A) SubsystemError
 readings read before [] = Ok before
 readings read before (x ∷ xs) = do
   y ← read before x
@@ -87,7 +95,8 @@ unfoldable pub element : TableName → Key → ℕ → List ℕ → ℤ → Resu
 element t k high before z = in_range t k 0 high z
 
 -- a list of at most `most` integers from 0 to high
-unfoldable pub integers_in_range_or_none : TableName → Key → ℕ → ℕ → Members → Result (List ℕ) SubsystemError
+unfoldable pub integers_in_range_or_none : TableName → Key → ℕ → ℕ → Members
+    → Result (List ℕ) SubsystemError
 integers_in_range_or_none t k most high ms = do
   zs ← integers_or_none t k ms
   few ← ensure (nat_le (length zs) most) (Range t k)

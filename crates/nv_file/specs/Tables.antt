@@ -1,5 +1,7 @@
 -- The tables of a file, key by key in the order of the checks, with the first fault that is met.
-use Rattle.std.specs.Prelude.{ℕ, ◌^◌, Bool, true, false, not, ◌&&◌, ◌||◌, List, [], ◌∷◌, map, Option, Some, None, Result, Ok, nat_lt, ◌==◌, bit_and, slice_get, slice_index}
+use Rattle.std.specs.Prelude.{ℕ, ◌^◌, Bool, true, false, not, ◌&&◌, ◌||◌, List, [], ◌∷◌, map}
+use Rattle.std.specs.Prelude.{Option, Some, None, Result, Ok, nat_lt, ◌==◌, bit_and, slice_get}
+use Rattle.std.specs.Prelude.{slice_index}
 use Rattle.std.specs.List.{list_any}
 use Rattle.std.specs.Option.{ok_or}
 use Rattle.toml.specs.Data.{Members}
@@ -17,7 +19,8 @@ use Rattle.nv_file.specs.Fault.{◌>>=◌, ensure}
 use Rattle.nv_layout.specs.Feature as feature
 use Rattle.nv_file.specs.Identity.{Identity}
 use Rattle.nv_file.specs.FileValue.{ControllerValue, NamespaceValue}
-use Rattle.nv_file.specs.Section.{integer, integer_or, flag_or, text, tables_or_none, table_or_none, integers_or_none, integers_in_range_or_none, readings, only_known}
+use Rattle.nv_file.specs.Section.{integer, integer_or, flag_or, text, tables_or_none, table_or_none}
+use Rattle.nv_file.specs.Section.{integers_or_none, integers_in_range_or_none, readings, only_known}
 
 unfoldable pub format_of : Members → Result Format SubsystemError
 format_of members = do
@@ -148,7 +151,8 @@ identity_numbers_of members = do
 unfoldable pub identity_of : List ControllerValue → Members → Result Identity SubsystemError
 identity_of before members = do
   cntlid ← integer table.Controller key.Cntlid 0 65519 members
-  new ← ensure (not (list_any (λ c. c.identity.cntlid == cntlid) before)) (Repeated table.Controller key.Cntlid)
+  new ← ensure (not (list_any (λ c. c.identity.cntlid == cntlid) before))
+      (Repeated table.Controller key.Cntlid)
   sn ← text table.Controller key.Sn 20 members
   mn ← text table.Controller key.Mn 40 members
   fr ← text table.Controller key.Fr 8 members
@@ -164,7 +168,8 @@ identity_of before members = do
   })
 
 -- a controller: its own table, then its features, then its health log
-unfoldable pub controller_entry_of : List ControllerValue → Members → Result ControllerValue SubsystemError
+unfoldable pub controller_entry_of : List ControllerValue → Members
+    → Result ControllerValue SubsystemError
 controller_entry_of before members = do
   identity ← identity_of before members
   features ← tables_or_none table.Controller key.Feature members
@@ -179,7 +184,8 @@ abbrev pub may_extend : ℕ → Format → Bool → Bool
 may_extend mc format extended = not extended || (nat_lt 0 format.ms && (bit_and mc 1 == 1))
 
 -- a namespace, with those before it at hand
-unfoldable pub namespace_entry_of : ℕ → ℕ → List Format → List NamespaceValue → Members → Result NamespaceValue SubsystemError
+unfoldable pub namespace_entry_of : ℕ → ℕ → List Format → List NamespaceValue → Members
+    → Result NamespaceValue SubsystemError
 namespace_entry_of nn mc formats before members = do
   nsid ← integer table.Namespace key.Nsid 1 nn members
   new ← ensure (not (list_any (λ n. n.nsid == nsid) before)) (Repeated table.Namespace key.Nsid)
@@ -193,6 +199,11 @@ namespace_entry_of nn mc formats before members = do
   known ← only_known table.Namespace members
   Ok (record {
     nsid = nsid;
-    namespace = record { capacity = capacity; format = format; extended = extended; shared = shared };
+    namespace = record {
+      capacity = capacity;
+      format = format;
+      extended = extended;
+      shared = shared;
+    };
     controllers = controllers;
   })

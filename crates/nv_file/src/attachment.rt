@@ -16,7 +16,8 @@ fn is_cntlid(controllers: &[ControllerEntry], number: i64) -> bool
 
 fn are_cntlids(controllers: &[ControllerEntry], numbers: &[i64]) -> bool
     ensures { result ≡
-        list_all (λ z. list_any (λ c. int_eq (pos c.identity.cntlid) z) controllers.now) numbers.now }
+        list_all (λ z. list_any (λ c. int_eq (pos c.identity.cntlid) z) controllers.now)
+        numbers.now }
 {
     numbers.iter().all(|number| is_cntlid(controllers, *number))
 }
@@ -43,7 +44,8 @@ fn differ(numbers: &[i64]) -> bool
 #[tactic(auto, using(crate::proofs::Fused::all_cntlids))]
 fn may_attach(controllers: &[ControllerEntry], namespace: &NamespaceEntry) -> bool
     ensures { result ≡
-        may_attach (map controller_entry_view controllers.now) (namespace_entry_view namespace.now) }
+        may_attach (map controller_entry_view controllers.now)
+        (namespace_entry_view namespace.now) }
 {
     let numbers = &namespace.controllers;
     let few = namespace.namespace.shared || numbers.len() <= 1;
@@ -52,7 +54,8 @@ fn may_attach(controllers: &[ControllerEntry], namespace: &NamespaceEntry) -> bo
 
 fn all_attach(controllers: &[ControllerEntry], namespaces: &[NamespaceEntry]) -> bool
     ensures { result ≡
-        list_all (λ n. may_attach (map controller_entry_view controllers.now) (namespace_entry_view n)) namespaces.now }
+        list_all (λ n. may_attach (map controller_entry_view controllers.now)
+        (namespace_entry_view n)) namespaces.now }
 {
     namespaces
         .iter()
@@ -64,7 +67,8 @@ fn all_attach(controllers: &[ControllerEntry], namespaces: &[NamespaceEntry]) ->
 #[tactic(auto, using(crate::proofs::Fused::all_attach), unfolding(crate::specs::File::attaches))]
 pub(crate) fn attaches(controllers: &[ControllerEntry], namespaces: &[NamespaceEntry]) -> bool
     ensures { result ≡
-        attaches (map controller_entry_view controllers.now) (map namespace_entry_view namespaces.now) }
+        attaches (map controller_entry_view controllers.now)
+        (map namespace_entry_view namespaces.now) }
 {
     all_attach(controllers, namespaces)
 }

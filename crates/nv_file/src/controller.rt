@@ -68,7 +68,8 @@ pub(crate) fn controller_entries_of(
     ensures count { IfOk result (λ v. length v.items ≡ length tables.now) }
     ensures sound { IfOk result (λ v. All IsControllerEntry (map controller_entry_view v.items)) }
     ensures cntlids { IfOk result
-        (λ v. AllPairs (λ c d. c.identity.cntlid ≢ d.identity.cntlid) (map controller_entry_view v.items)) }
+        (λ v. AllPairs (λ c d. c.identity.cntlid ≢ d.identity.cntlid)
+        (map controller_entry_view v.items)) }
 {
     let mut controllers = Vec::new(alloc);
     for table in tables {

@@ -70,7 +70,8 @@ pub(crate) fn features_of(
     alloc: Global,
     tables: &[&Table],
 ) -> Result<Vec<FeatureRule>, SubsystemError>
-    ensures exact { IsUnlessMemory (λ v. v.items) result (readings feature_of [] (tables_view tables.now)) }
+    ensures exact { IsUnlessMemory (λ v. v.items) result
+        (readings feature_of [] (tables_view tables.now)) }
     ensures sound { IfOk result (λ v. All IsFeatureRule v.items) }
     ensures fids { IfOk result (λ v. AllPairs (λ r s. r.fid ≢ s.fid) v.items) }
 {

@@ -1,9 +1,9 @@
 //! The file of an NVM subsystem, in TOML: what its tables hold, or its first fault.
 //!
-//! [`File::from_toml`] reads a file whole. What it gives is in range: each key in its range, each name
-//! once, each namespace in a format of the file and attached to controllers of the file, and the
-//! capacities add up to no more than there is. Otherwise it says the first fault in the order of the
-//! file, as a [`SubsystemError`] that names table and key and prints as one line.
+//! [`File::from_toml`] reads a file whole. What it gives is in range: each key in its range, each
+//! name once, each namespace in a format of the file and attached to controllers of the file, and
+//! the capacities add up to no more than there is. Otherwise it says the first fault in the order
+//! of the file, as a [`SubsystemError`] that names table and key and prints as one line.
 //!
 //! ```
 //! use nv_file::{DEMO, File, SubsystemError};

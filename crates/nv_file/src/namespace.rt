@@ -1,5 +1,6 @@
 //! The namespaces of a file.
-ghost use Rattle.std.specs.Prelude.{◌≡◌, ◌≢◌, ◌==◌, ◌≤◌, ◌^◌, [], length, map, slice_get, All, AllPairs, IfOk, Some, false};
+ghost use Rattle.std.specs.Prelude.{◌≡◌, ◌≢◌, ◌==◌, ◌≤◌, ◌^◌, [], length, map, slice_get, All};
+ghost use Rattle.std.specs.Prelude.{AllPairs, IfOk, Some, false};
 ghost use Rattle.std.specs.List.{list_any};
 ghost use Rattle.std.specs.Option.{ok_or};
 ghost use Rattle.toml.specs.View.{table_view};
@@ -57,7 +58,8 @@ impl NamespaceEntry {
 fn format_at(formats: &[Format], index: u8) -> Result<Format, SubsystemError>
     requires { All IsFormat formats.now }
     ensures exact { IsUnlessMemory (λ f. f) result
-        (ok_or (slice_get formats.now index) (SubsystemError.Range TableName.Namespace Key.Format)) }
+        (ok_or (slice_get formats.now index)
+        (SubsystemError.Range TableName.Namespace Key.Format)) }
     ensures sound { IfOk result IsFormat }
     ensures at { IfOk result (λ f. slice_get formats.now index ≡ Some f) }
 {
@@ -100,7 +102,8 @@ fn namespace_entry_of(
 ) -> Result<NamespaceEntry, SubsystemError>
     requires { All IsFormat formats.now }
     ensures exact { IsUnlessMemory namespace_entry_view result
-        (namespace_entry_of nn mc formats.now (map namespace_entry_view before.now) (table_view table.now)) }
+        (namespace_entry_of nn mc formats.now (map namespace_entry_view before.now)
+        (table_view table.now)) }
     ensures sound { IfOk result (λ n. IsNamespaceEntry nn mc formats.now (namespace_entry_view n)) }
     ensures new { IfOk result (λ n. list_any (λ m. m.nsid == n.nsid) before.now ≡ false) }
 {

@@ -1,5 +1,6 @@
 //! A table of the file, and the reading of one key of it.
-ghost use Rattle.std.specs.Prelude.{◌≡◌, ◌≤◌, ◌&&◌, nat_le, IfOk, IfErr, true, false, [], length, option_map, string_bytes};
+ghost use Rattle.std.specs.Prelude.{◌≡◌, ◌≤◌, ◌&&◌, nat_le, IfOk, IfErr, true, false, [], length};
+ghost use Rattle.std.specs.Prelude.{option_map, string_bytes};
 ghost use Rattle.std.specs.List.{list_all, list_any};
 ghost use Rattle.std.specs.BTreeMap.{keys};
 ghost use Rattle.std.specs.Str.{bytes_eq};
@@ -7,7 +8,10 @@ ghost use Rattle.toml.specs.Data.{get_member, as_table, as_integer};
 ghost use Rattle.toml.specs.View.{view, items_view, table_view};
 ghost use Rattle.nv_file.specs.Names.{key_text, keys_of};
 ghost use Rattle.nv_file.specs.Fault.{IsUnlessMemory};
-ghost use Rattle.nv_file.specs.Section.{in_range, integer_in_range, integer, integer_or, flag_or, text, items_as, tables_in, tables, tables_or_none, table_or_none, integers_in, integers_or_none, readings, element, integers_in_range_or_none, only_known};
+ghost use Rattle.nv_file.specs.Section.{in_range, integer_in_range, integer, integer_or, flag_or};
+ghost use Rattle.nv_file.specs.Section.{text, items_as, tables_in, tables, tables_or_none};
+ghost use Rattle.nv_file.specs.Section.{table_or_none, integers_in, integers_or_none, readings};
+ghost use Rattle.nv_file.specs.Section.{element, integers_in_range_or_none, only_known};
 ghost use Rattle.nv_file.specs.Ranges.{is_text};
 ghost use Rattle.nv_file.specs.SectionView.{tables_view};
 
@@ -76,7 +80,8 @@ impl<'a> Section<'a> {
 
     #[tactic(auto, unfolding(crate::specs::Section::in_range))]
     fn in_range(&self, key: Key, low: u64, high: u64, integer: i64) -> Result<u64, SubsystemError>
-        ensures exact { IsUnlessMemory (λ n. n) result (in_range self.now.name key low high integer) }
+        ensures exact { IsUnlessMemory (λ n. n) result
+            (in_range self.now.name key low high integer) }
         ensures range { IfOk result (λ n. (low ≤ n) × (n ≤ high)) }
     {
         if integer < 0 {
@@ -304,7 +309,8 @@ impl<'a> Section<'a> {
         high: u16,
     ) -> Result<Vec<u16>, SubsystemError>
         ensures { IsUnlessMemory (λ v. v.items) result
-            (integers_in_range_or_none self.now.name key most high (table_view self.now.table.now)) }
+            (integers_in_range_or_none self.now.name key most high
+            (table_view self.now.table.now)) }
     {
         let integers = self.integers_or_none(alloc, key)?;
         ensure(integers.len() <= most, self.out_of_range(key))?;
@@ -348,7 +354,8 @@ fn is_known(known: &[Key], key: &str) -> bool
 /// Whether each key of a table is a known one.
 fn has_only(known: &[Key], table: &Table) -> bool
     ensures { result ≡
-        list_all (λ k. list_any (λ x. bytes_eq (key_text x) (string_bytes k)) known.now) (keys table.now) }
+        list_all (λ k. list_any (λ x. bytes_eq (key_text x) (string_bytes k)) known.now)
+        (keys table.now) }
 {
     table.keys().all(|key| is_known(known, key.as_str()))
 }

@@ -1,6 +1,7 @@
 //! A host's memory in one vector.
 
-ghost use Rattle.std.specs.Prelude.{◌≡◌, ◌+◌, ◌*◌, ◌≤◌, ◌↔◌, IfOk, IsOk, length, refl, replicate, take};
+ghost use Rattle.std.specs.Prelude.{◌≡◌, ◌+◌, ◌*◌, ◌≤◌, ◌↔◌, IfOk, IsOk, length, refl, replicate};
+ghost use Rattle.std.specs.Prelude.{take};
 ghost use Rattle.nv_host.specs.Bytes.{with_bytes};
 ghost use Rattle.nv_host.specs.BytesLaws.{page_within, take-with_bytes};
 ghost use Rattle.nv_host.specs.Pages.{IsPageSize};
@@ -29,12 +30,15 @@ impl Model for FlatMemory {
 }
 
 impl FlatMemory {
-    /// A memory of this many pages, all of whose bytes are 0. A page has 4096, 8192, 16384, 32768 or
-    /// 65536 bytes.
+    /// A memory of this many pages, all of whose bytes are 0. A page has 4096, 8192, 16384, 32768
+    /// or 65536 bytes.
     #[tactic(auto, using(crate::specs::PageLaws::page_size_bounds))]
     pub fn new(alloc: Global, page_size: u32, pages: u32) -> Result<FlatMemory, Memory>
         requires { IsPageSize page_size }
-        ensures { IfOk result (λ m. m ≡ record { page_size = page_size; bytes = replicate (pages * page_size) 0 }) }
+        ensures { IfOk result (λ m. m ≡ record {
+          page_size = page_size;
+          bytes = replicate (pages * page_size) 0;
+        }) }
     {
         let size = pages as usize * page_size as usize;
         match vec![in alloc; 0u8; size] {
@@ -66,9 +70,13 @@ impl HostMemory for FlatMemory {
 
     ghost page_len = { λ m. m.page_size };
 
-    ghost with_page = { λ m n w. record { page_size = m.page_size; bytes = take (length m.bytes) (with_bytes m.bytes (n * m.page_size) w) } };
+    ghost with_page = { λ m n w. record {
+      page_size = m.page_size;
+      bytes = take (length m.bytes) (with_bytes m.bytes (n * m.page_size) w);
+    } };
 
-    ghost with_page_bytes = { λ m n w h l. take-with_bytes m.bytes (n * m.page_size) w (page_within n m.page_size (length m.bytes) (length w) h l) };
+    ghost with_page_bytes = { λ m n w h l. take-with_bytes m.bytes (n * m.page_size) w
+        (page_within n m.page_size (length m.bytes) (length w) h l) };
 
     ghost with_page_len = { λ m n w. refl };
 

@@ -1,6 +1,7 @@
 //! What the memory of a host does.
 
-ghost use Rattle.std.specs.Prelude.{◌≡◌, ◌+◌, ◌*◌, ◌≤◌, ◌↔◌, ℕ, IsOk, IsTrue, List, OnErr, OnOk, length};
+ghost use Rattle.std.specs.Prelude.{◌≡◌, ◌+◌, ◌*◌, ◌≤◌, ◌↔◌, ℕ, IsOk, IsTrue, List, OnErr, OnOk};
+ghost use Rattle.std.specs.Prelude.{length};
 ghost use Rattle.std.specs.Borrow.{sem, Array, Lends, u8 as byte};
 ghost use Rattle.nv_host.specs.Bytes.{bytes_at, with_bytes};
 ghost use Rattle.nv_host.specs.Pages.{HasPage, IsPageSize, is_page_size};
@@ -43,21 +44,26 @@ pub trait HostMemory {
     /// The bytes of a page, whose number is less than `pages`.
     fn page(&self, n: u32) -> &[u8]
         requires { HasPage (bytes self.now) (page_len self.now) n }
-        ensures value { result.now ≡ bytes_at (bytes self.now) (n * page_len self.now) (page_len self.now) }
+        ensures value { result.now ≡ bytes_at (bytes self.now) (n * page_len self.now)
+            (page_len self.now) }
         ensures len { length result.now ≡ page_len self.now };
 
     /// Lends the bytes of a page, and nothing else. Its number is less than `pages`.
     fn page_mut(&mut self, n: u32) -> &mut [u8]
         requires { HasPage (bytes self.old) (page_len self.old) n }
-        ensures* writes_back { sem 𝓛 (Lends Self.row (Array byte 0) self.entry result (with_page self.old n)) }
-        ensures value { result.now ≡ bytes_at (bytes self.old) (n * page_len self.old) (page_len self.old) }
+        ensures* writes_back { sem 𝓛 (Lends Self.row (Array byte 0) self.entry result
+            (with_page self.old n)) }
+        ensures value { result.now ≡ bytes_at (bytes self.old) (n * page_len self.old)
+            (page_len self.old) }
         ensures len { length result.now ≡ page_len self.old };
 
     /// Only the page's bytes are other ones.
-    ghost with_page_bytes: { (m : Self) (n : ℕ) (w : List ℕ) → HasPage (bytes m) (page_len m) n → length w ≡ page_len m
+    ghost with_page_bytes: { (m : Self) (n : ℕ) (w : List ℕ) → HasPage (bytes m) (page_len m) n
+        → length w ≡ page_len m
         → bytes (with_page m n w) ≡ with_bytes (bytes m) (n * page_len m) w };
 
-    ghost with_page_len: { (m : Self) (n : ℕ) (w : List ℕ) → page_len (with_page m n w) ≡ page_len m };
+    ghost with_page_len: { (m : Self) (n : ℕ) (w : List ℕ) → page_len (with_page m n w)
+        ≡ page_len m };
 }
 
 /// Whether a page can have this many bytes.

@@ -34,7 +34,11 @@ impl PageSet {
     pub fn new(alloc: Global, first: PageNo, count: u32) -> Result<PageSet, Memory>
         requires { first + count < 2 ^ 32 }
         ensures { IfOk result (λ s. s
-            ≡ record { first = first; count = count; members = set.from_list (consecutive first count) }) }
+            ≡ record {
+              first = first;
+              count = count;
+              members = set.from_list (consecutive first count);
+            }) }
     {
         match BitSet::full(alloc, first, count) {
             Ok(free) => Ok(PageSet { free }),

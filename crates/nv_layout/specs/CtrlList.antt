@@ -1,5 +1,6 @@
 -- A controller list: how many identifiers there are, then the identifiers, then zeros.
-use Rattle.std.specs.Prelude.{◌≡◌, ◌≤◌, ◌^◌, ◌<◌, ℕ, nat_le, if◌then◌else◌, List, [], ◌∷◌, Result, Ok, Err, length}
+use Rattle.std.specs.Prelude.{◌≡◌, ◌≤◌, ◌^◌, ◌<◌, ℕ, nat_le, if◌then◌else◌, List, [], ◌∷◌, Result}
+use Rattle.std.specs.Prelude.{Ok, Err, length}
 use Rattle.std.specs.List.{AllByRecursion}
 use Rattle.nv_layout.specs.Parts.{Part, laid_out, number, number_at, numbers, numbers_at}
 use Rattle.nv_layout.specs.declared.ctrl_list.LayoutError.{LayoutError}
@@ -23,4 +24,5 @@ pub record CtrlListFits (ids : List ℕ) : Type 0 where
   pub numbers : AllByRecursion (λ x. x < 2 ^ 16) ids
 
 abbrev pub CtrlListReadsBack : Type 0
-CtrlListReadsBack = (ids : List ℕ) → CtrlListFits ids → ctrl_list_of_bytes (bytes_of_ctrl_list ids) ≡ Ok ids
+CtrlListReadsBack = (ids : List ℕ) → CtrlListFits ids → ctrl_list_of_bytes (bytes_of_ctrl_list ids)
+    ≡ Ok ids

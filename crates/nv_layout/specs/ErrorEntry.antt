@@ -55,7 +55,8 @@ pub record ErrorEntryFits (r : ErrorEntry) : Type 0 where
   pub specific : r.specific < 2 ^ 64
 
 abbrev pub ErrorEntryReadsBack : Type 0
-ErrorEntryReadsBack = (r : ErrorEntry) → ErrorEntryFits r → error_entry_of_bytes (bytes_of_error_entry r) ≡ r
+ErrorEntryReadsBack =
+    (r : ErrorEntry) → ErrorEntryFits r → error_entry_of_bytes (bytes_of_error_entry r) ≡ r
 
 abbrev success : Status
 success = record { sc = 0; sct = 0; crd = 0; more = false; dnr = false }

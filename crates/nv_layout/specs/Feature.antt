@@ -4,8 +4,8 @@ use Rattle.nv_layout.specs.declared.feature.TheConstants.Feature.{ALL}
 use Rattle.nv_layout.specs.declared.feature.Feature.{Feature}
 use Rattle.nv_layout.specs.declared.feature.Feature.TheVariants as feature
 
--- a feature identifier, a name, the bits that a value may have, those of them that are 0 all the same, and whether
--- each namespace has a value of its own
+-- a feature identifier, a name, the bits that a value may have, those of them that are 0 all the
+-- same, and whether each namespace has a value of its own
 pub record Row : Type 0 where
   pub fid : ℕ
   pub name : List ℕ
@@ -33,4 +33,5 @@ feature_of fid = find (λ f. (row_of f).fid == fid) ALL
 
 -- a value within the mask, whose clear bits are 0
 abbrev pub is_accepted : Feature → ℕ → Bool
-is_accepted f value = (bit_and value (row_of f).mask == value) && (bit_and value (row_of f).clear == 0)
+is_accepted f value =
+    (bit_and value (row_of f).mask == value) && (bit_and value (row_of f).clear == 0)

@@ -1,8 +1,11 @@
 -- The records of logs read back, and how many bytes they have.
-use Rattle.std.proofs.Common.{◌≡◌, ◌∙◌, ℕ, ◌==◌, ◌+◌, ◌*◌, ◌≤◌, ◌^◌, ◌<◌, ap, refl, sym, zero, suc, arith, List, [], ◌∷◌, length, get_or}
+use Rattle.std.proofs.Common.{◌≡◌, ◌∙◌, ℕ, ◌==◌, ◌+◌, ◌*◌, ◌≤◌, ◌^◌, ◌<◌, ap, refl, sym, zero, suc}
+use Rattle.std.proofs.Common.{arith, List, [], ◌∷◌, length, get_or}
 use Rattle.std.specs.List.{AllByRecursion}
-use Rattle.std.proofs.lemmas.List.{get_or-append_right, get_or-replicate, get_or_append_left, length-append}
-use Rattle.nv_layout.specs.ErrorEntry.{ErrorEntryReadsBack, bytes_of_entries, bytes_of_error_entry, error_entry_of_bytes, error_entry_parts, no_entry}
+use Rattle.std.proofs.lemmas.List.{get_or-append_right, get_or-replicate, get_or_append_left}
+use Rattle.std.proofs.lemmas.List.{length-append}
+use Rattle.nv_layout.specs.ErrorEntry.{ErrorEntryReadsBack, bytes_of_entries, bytes_of_error_entry}
+use Rattle.nv_layout.specs.ErrorEntry.{error_entry_of_bytes, error_entry_parts, no_entry}
 use Rattle.nv_layout.specs.Parts.{Fits, at_bits, bit, bits, part, placed, zeros}
 use Rattle.nv_layout.specs.PartLaws.{same_parts}
 use Rattle.nv_layout.specs.RecordLaws.{bit_below, flag_back, number_of_status_below, status_back}
@@ -17,8 +20,22 @@ use Rattle.nv_layout.specs.declared.smart.Smart.{Smart}
 pub length-bytes_of_smart : (r : Smart) → length r.sensors ≡ 8 → length (bytes_of_smart r) ≡ 512
 unfolding bytes_of_smart
 length-bytes_of_smart r sensors =
-    length-laid_out 512 (smart_parts r) refl
-    (tt, (tt, (tt, (tt, (tt, (tt, (tt, (tt, (tt, (tt, (tt, (tt, (tt, (tt, (tt, (tt, (tt, (sensors, tt))))))))))))))))))
+    length-laid_out 512 (smart_parts r) refl (
+      tt,
+      (
+        tt,
+        (
+          tt,
+          (
+            tt,
+            (
+              tt,
+              (tt, (tt, (tt, (tt, (tt, (tt, (tt, (tt, (tt, (tt, (tt, (tt, (sensors, tt))))))))))))),
+            ),
+          ),
+        ),
+      ),
+    )
 
 pub smart_back : SmartReadsBack
 unfolding bytes_of_smart smart_of_bytes
@@ -151,7 +168,10 @@ smart_back r fits =
 pub length-bytes_of_error_entry : (r : ErrorEntry) → length (bytes_of_error_entry r) ≡ 64
 unfolding bytes_of_error_entry
 length-bytes_of_error_entry r =
-    length-laid_out 64 (error_entry_parts r) refl (tt, (tt, (tt, (tt, (tt, (tt, (tt, (tt, (tt, tt)))))))))
+    length-laid_out 64 (error_entry_parts r) refl (
+      tt,
+      (tt, (tt, (tt, (tt, (tt, (tt, (tt, (tt, tt)))))))),
+    )
 
 word_bits : (p s : ℕ) → p < 2 → s < 2 ^ 15
     → let n = at_bits 0 1 p + at_bits 1 15 s in (n < 256 ^ 2) × (bits 0 1 n ≡ p) × (bits 1 15 n ≡ s)
@@ -161,7 +181,8 @@ pub error_entry_back : ErrorEntryReadsBack
 unfolding bytes_of_error_entry error_entry_of_bytes
 error_entry_back r fits =
     let (small, phase, status) =
-    word_bits (bit r.phase) (number_of_status r.status) (bit_below r.phase) (number_of_status_below r.status) in
+    word_bits (bit r.phase) (number_of_status r.status) (bit_below r.phase)
+    (number_of_status_below r.status) in
     let parts_fit : AllByRecursion Fits (error_entry_parts r) = (
       fits.count,
       (
@@ -223,7 +244,8 @@ unfolding zeros
 no_byte k h = get_or-replicate 64 k 0 0 h
 
 byte_of_entry : (es : List ErrorEntry) (index k : ℕ) → k < 64
-    → get_or (bytes_of_entries es) (64 * index + k) 0 ≡ get_or (bytes_of_error_entry (get_or es index no_entry)) k 0
+    → get_or (bytes_of_entries es) (64 * index + k) 0
+    ≡ get_or (bytes_of_error_entry (get_or es index no_entry)) k 0
 byte_of_entry [] index k h = sym (ap (λ b. get_or b k 0) bytes_of_no_entry ∙ no_byte k h)
 byte_of_entry (e ∷ es) zero k h =
     let size = length-bytes_of_error_entry e in
@@ -231,13 +253,15 @@ byte_of_entry (e ∷ es) zero k h =
     ∙ get_or_append_left (bytes_of_error_entry e) (bytes_of_entries es) 0 k (omega (arith, size))
 byte_of_entry (e ∷ es) (suc index) k h =
     let size = length-bytes_of_error_entry e in
-    get_or-append_right (bytes_of_error_entry e) (bytes_of_entries es) 64 (64 * suc index + k) 0 size (omega arith)
+    get_or-append_right (bytes_of_error_entry e) (bytes_of_entries es) 64 (64 * suc index
+    + k) 0 size (omega arith)
     ∙ ap (λ i. get_or (bytes_of_entries es) i 0) (omega arith)
     ∙ byte_of_entry es index k h
 
 -- a part of one entry
 pub part_of_entry : (es : List ErrorEntry) (index skip n : ℕ) → skip + n ≤ 64
-    → part (bytes_of_entries es) (64 * index + skip) n ≡ part (bytes_of_error_entry (get_or es index no_entry)) skip n
+    → part (bytes_of_entries es) (64 * index + skip) n
+    ≡ part (bytes_of_error_entry (get_or es index no_entry)) skip n
 part_of_entry es index skip n h =
     let bytes = bytes_of_error_entry (get_or es index no_entry) in
     same_parts (bytes_of_entries es) bytes (64 * index + skip) skip n

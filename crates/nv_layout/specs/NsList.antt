@@ -1,5 +1,6 @@
 -- A namespace list: its identifiers, then zeros.
-use Rattle.std.specs.Prelude.{◌≡◌, ◌≢◌, ◌≤◌, ◌<◌, ◌-◌, ◌==◌, ◌^◌, Bool, ℕ, List, [], ◌∷◌, ◌++◌, length}
+use Rattle.std.specs.Prelude.{◌≡◌, ◌≢◌, ◌≤◌, ◌<◌, ◌-◌, ◌==◌, ◌^◌, Bool, ℕ, List, [], ◌∷◌, ◌++◌}
+use Rattle.std.specs.Prelude.{length}
 use Rattle.std.specs.List.{AllByRecursion, before_first}
 use Rattle.nv_layout.specs.Parts.{Part, laid_out, numbers, numbers_at, zeros}
 
@@ -20,5 +21,6 @@ unfoldable pub ns_list_of_bytes : List ℕ → List ℕ
 ns_list_of_bytes bytes = before_first is_zero (numbers_at 0 4 1024 bytes)
 
 abbrev pub NsListReadsBack : Type 0
-NsListReadsBack = (ids : List ℕ) → length ids ≤ 1024 → AllByRecursion (λ x. (x ≢ 0) × (x < 2 ^ 32)) ids
+NsListReadsBack =
+    (ids : List ℕ) → length ids ≤ 1024 → AllByRecursion (λ x. (x ≢ 0) × (x < 2 ^ 32)) ids
     → ns_list_of_bytes (bytes_of_ns_list ids) ≡ ids

@@ -1,5 +1,7 @@
 -- Lists of identifiers that end at the first zero.
-use Rattle.std.proofs.Common.{◌≡◌, ◌≢◌, ◌∙◌, ℕ, zero, suc, ◌+◌, ◌-◌, ◌*◌, ◌^◌, ◌<◌, ◌≤◌, ap, refl, sym, not, arith, append-nil, true, false, List, [], ◌∷◌, ◌++◌, drop, take, length, get_or}
+use Rattle.std.proofs.Common.{◌≡◌, ◌≢◌, ◌∙◌, ℕ, zero, suc, ◌+◌, ◌-◌, ◌*◌, ◌^◌, ◌<◌, ◌≤◌, ap, refl}
+use Rattle.std.proofs.Common.{sym, not, arith, append-nil, true, false, List, [], ◌∷◌, ◌++◌, drop}
+use Rattle.std.proofs.Common.{take, length, get_or}
 use Rattle.std.specs.List.{AllByRecursion, before_first, flat_map, prefix_len}
 use Rattle.std.proofs.lemmas.Bool.{false_from_ne_true}
 use Rattle.std.proofs.lemmas.Grind.{flat_map-append}
@@ -27,12 +29,14 @@ is_before_zero : (xs ys : List ℕ) → length ys ≤ length xs
     → ((k : ℕ) → k < length ys → get_or ys k 0 ≢ 0)
     → (length ys < length xs → get_or xs (length ys) 0 ≡ 0) → ys ≡ before_first is_zero xs
 is_before_zero [] [] size same full end = refl
-is_before_zero (x ∷ xs) [] size same full end = let first : x ≡ 0 = end (omega arith) in rw first refl
+is_before_zero (x ∷ xs) [] size same full end = let first : x ≡ 0 =
+    end (omega arith) in rw first refl
 is_before_zero [] (y ∷ ys) size same full end = absurd (omega arith)
 is_before_zero (x ∷ xs) (y ∷ ys) size same full end =
     let first : y ≡ x = same 0 (omega arith) in
     let some : y ≢ 0 = full 0 (omega arith) in
-    let test : is_zero x ≡ false = false_from_ne_true (is_zero x) (λ t. some (first ∙ zero_from_test x t)) in
+    let test : is_zero x ≡ false =
+    false_from_ne_true (is_zero x) (λ t. some (first ∙ zero_from_test x t)) in
     let rest = is_before_zero xs ys (omega arith)
     (λ k below. let at : get_or ys k 0 ≡ get_or xs k 0 = same (suc k) (omega arith) in at)
     (λ k below. let at : get_or ys k 0 ≢ 0 = full (suc k) (omega arith) in at)
@@ -65,7 +69,8 @@ before_first-append : (xs ys : List ℕ) → AreIdentifiers xs → before_first 
     → xs ≡ before_first is_zero (xs ++ ys)
 before_first-append [] ys f e = sym e
 before_first-append (x ∷ xs) ys f e =
-    let test : is_zero x ≡ false = false_from_ne_true (is_zero x) (λ t. f.0.0 (zero_from_test x t)) in
+    let test : is_zero x ≡ false =
+    false_from_ne_true (is_zero x) (λ t. f.0.0 (zero_from_test x t)) in
     ap (λ t. x ∷ t) (before_first-append xs ys f.1 e) ∙ before_first-cons x (xs ++ ys) test
 
 before_first-zeros : (n : ℕ) → before_first is_zero (zeros n) ≡ []
@@ -73,24 +78,29 @@ unfolding zeros
 before_first-zeros zero = refl
 before_first-zeros (suc n) = refl
 
-pub before_first-padded : (n : ℕ) (xs : List ℕ) → AreIdentifiers xs → before_first is_zero (padded n xs) ≡ xs
-before_first-padded n xs f = sym (before_first-append xs (zeros (n - length xs)) f (before_first-zeros (n - length xs)))
+pub before_first-padded : (n : ℕ) (xs : List ℕ) → AreIdentifiers xs
+    → before_first is_zero (padded n xs) ≡ xs
+before_first-padded n xs f =
+    sym (before_first-append xs (zeros (n - length xs)) f (before_first-zeros (n - length xs)))
 
 zeros_fit : (n : ℕ) → AllByRecursion (λ x. x < 2 ^ 32) (zeros n)
 unfolding zeros
 zeros_fit zero = tt
 zeros_fit (suc n) = (omega arith, zeros_fit n)
 
-append_fits : (xs : List ℕ) (n : ℕ) → AreIdentifiers xs → AllByRecursion (λ x. x < 2 ^ 32) (xs ++ zeros n)
+append_fits : (xs : List ℕ) (n : ℕ) → AreIdentifiers xs → AllByRecursion (λ x. x < 2 ^ 32) (xs
+    ++ zeros n)
 append_fits [] n f = zeros_fit n
 append_fits (x ∷ xs) n f = (f.0.1, append_fits xs n f.1)
 
-pub padded_fits : (n : ℕ) (xs : List ℕ) → AreIdentifiers xs → AllByRecursion (λ x. x < 2 ^ 32) (padded n xs)
+pub padded_fits : (n : ℕ) (xs : List ℕ) → AreIdentifiers xs → AllByRecursion (λ x. x < 2 ^ 32)
+    (padded n xs)
 padded_fits n xs f = append_fits xs (n - length xs) f
 
 pub length-padded : (n : ℕ) (xs : List ℕ) → length xs ≤ n → length (padded n xs) ≡ n
 length-padded n xs h =
-    length-append xs (zeros (n - length xs)) ∙ ap (λ m. length xs + m) (length_zeros (n - length xs)) ∙ omega arith
+    length-append xs (zeros (n - length xs))
+    ∙ ap (λ m. length xs + m) (length_zeros (n - length xs)) ∙ omega arith
 
 -- ---- the bytes of the list
 
@@ -101,7 +111,8 @@ each_zero (suc n) =
     ap (λ (rest : List ℕ). 0 ∷ 0 ∷ 0 ∷ 0 ∷ rest) (each_zero n)
     ∙ (let size : suc (suc (suc (suc (4 * n)))) ≡ 4 * suc n = omega arith in ap (λ m. zeros m) size)
 
-zeros_left : (n count : ℕ) → n ≤ count → drop (4 * n) (zeros (4 * count)) ≡ flat_map (little_bytes 4) (zeros (count - n))
+zeros_left : (n count : ℕ) → n ≤ count → drop (4 * n) (zeros (4 * count))
+    ≡ flat_map (little_bytes 4) (zeros (count - n))
 unfolding zeros
 zeros_left n count h =
     let left : 4 * count - 4 * n ≡ 4 * (count - n) = omega arith in

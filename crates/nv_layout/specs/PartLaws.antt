@@ -1,14 +1,20 @@
 -- One field over some bytes, and the reading of numbers.
-use Rattle.std.proofs.Common.{◌≡◌, ◌∙◌, ℕ, zero, suc, ◌+◌, ◌-◌, ◌*◌, ◌%◌, ◌^◌, ◌<◌, ◌≤◌, ap, inl, inr, refl, sym, arith, mul-zero, List, [], ◌∷◌, ◌++◌, take, drop, set, length, get_or, map, min, replicate}
+use Rattle.std.proofs.Common.{◌≡◌, ◌∙◌, ℕ, zero, suc, ◌+◌, ◌-◌, ◌*◌, ◌%◌, ◌^◌, ◌<◌, ◌≤◌, ap, inl}
+use Rattle.std.proofs.Common.{inr, refl, sym, arith, mul-zero, List, [], ◌∷◌, ◌++◌, take, drop, set}
+use Rattle.std.proofs.Common.{length, get_or, map, min, replicate}
 use Rattle.std.specs.List.{AllByRecursion, flat_map}
 use Rattle.std.proofs.lemmas.Bool.{cases_lt}
 use Rattle.std.proofs.lemmas.Grind.{common_steps, same_number_lists}
-use Rattle.std.proofs.lemmas.List.{drop-append-le, drop-drop, drop-take, drop_min, get_or-append_right, get_or-drop, get_or-take, get_or_append_left, length-append, length-drop, length-replicate, length-take-le, set_split, take-append-le, take_all}
+use Rattle.std.proofs.lemmas.List.{drop-append-le, drop-drop, drop-take, drop_min}
+use Rattle.std.proofs.lemmas.List.{get_or-append_right, get_or-drop, get_or-take}
+use Rattle.std.proofs.lemmas.List.{get_or_append_left, length-append, length-drop, length-replicate}
+use Rattle.std.proofs.lemmas.List.{length-take-le, set_split, take-append-le, take_all}
 use Rattle.std.proofs.lemmas.Nat.{mod_below, one_shl, pow_pos, shl_whole}
 use Rattle.std.proofs.Math.Seq.{drop-append_seam, take-append_seam}
 use Rattle.byteorder.specs.Endian.{little_bytes, little_from, little_number}
 use Rattle.byteorder.specs.Numbers.{length-bytes_low_first, little_from-take}
-use Rattle.nv_layout.specs.Parts.{Part, at_bits, bytes_of, number, number_at, numbers, numbers_at, part, place_of, placed, text, text_at, width_of, zeros}
+use Rattle.nv_layout.specs.Parts.{Part, at_bits, bytes_of, number, number_at, numbers, numbers_at}
+use Rattle.nv_layout.specs.Parts.{part, place_of, placed, text, text_at, width_of, zeros}
 
 pub length_zeros : (n : ℕ) → length (zeros n) ≡ n
 unfolding zeros
@@ -25,7 +31,8 @@ IsSized (text at width bytes) = length bytes ≡ width
 pub times_suc : (w n : ℕ) → w * suc n ≡ w + w * n
 times_suc w n = omega arith
 
-length_each : (width : ℕ) (xs : List ℕ) → length (flat_map (little_bytes width) xs) ≡ width * length xs
+length_each : (width : ℕ) (xs : List ℕ) → length (flat_map (little_bytes width) xs)
+    ≡ width * length xs
 length_each width [] = sym (mul-zero width)
 length_each width (x ∷ xs) =
     length-append (little_bytes width x) (flat_map (little_bytes width) xs)
@@ -63,7 +70,8 @@ pub text_at-placed : (b : List ℕ) (p : Part) → IsSized p → place_of p ≤ 
     → text_at (place_of p) (width_of p) (placed b p) ≡ bytes_of p
 unfolding placed text_at
 text_at-placed b p s h =
-    read_over b (bytes_of p) (drop (width_of p) (drop (place_of p) b)) (place_of p) (width_of p) (length-bytes_of p s) h
+    read_over b (bytes_of p) (drop (width_of p) (drop (place_of p) b)) (place_of p) (width_of p)
+    (length-bytes_of p s) h
 
 take_fewer : (k n : ℕ) (xs : List ℕ) → n ≤ k → take n (take k xs) ≡ take n xs
 take_fewer k n xs h = grind (arith, common_steps)
@@ -72,10 +80,12 @@ read_before : (b rest : List ℕ) (end at n : ℕ) → at + n ≤ end → end �
     → take n (drop at (take end b ++ rest)) ≡ take n (drop at b)
 read_before b rest end at n h k =
     let front : length (take end b) ≡ end = length-take-le end b k in
-    let cut : drop at (take end b ++ rest) ≡ drop at (take end b) ++ rest = drop-append-le at (take end b) rest (omega arith) in
+    let cut : drop at (take end b ++ rest) ≡ drop at (take end b) ++ rest =
+    drop-append-le at (take end b) rest (omega arith) in
     let room : n ≤ length (drop at (take end b)) = simp length-drop (omega arith) in
     let both : end ≡ at + (end - at) = omega arith in
-    let part : drop at (take end b) ≡ take (end - at) (drop at b) = ap (λ m. drop at (take m b)) both ∙ drop-take at (end - at) b in
+    let part : drop at (take end b) ≡ take (end - at) (drop at b) =
+    ap (λ m. drop at (take m b)) both ∙ drop-take at (end - at) b in
     ap (take n) cut
     ∙ take-append-le n (drop at (take end b)) rest room
     ∙ ap (take n) part
@@ -89,12 +99,14 @@ text_at-placed_before b p at n h k =
     read_before b (bytes_of p ++ drop (width_of p) (drop (place_of p) b)) (place_of p) at n h k
 
 -- one byte
-pub byte_placed : (b : List ℕ) (at x : ℕ) → at < length b → x < 256 → set b at x ≡ placed b (number at 1 x)
+pub byte_placed : (b : List ℕ) (at x : ℕ) → at < length b → x < 256 → set b at x
+    ≡ placed b (number at 1 x)
 unfolding placed
 byte_placed b at x h small =
     let whole : x ≡ x % 256 = omega arith in
     let next : suc at ≡ at + 1 = omega arith in
-    let rest : drop (suc at) b ≡ drop 1 (drop at b) = ap (λ m. drop m b) next ∙ sym (drop-drop 1 at b) in
+    let rest : drop (suc at) b ≡ drop 1 (drop at b) =
+    ap (λ m. drop m b) next ∙ sym (drop-drop 1 at b) in
     set_split b at x h ∙ (λ i. take at b ++ (whole i ∷ rest i))
 
 -- ---- numbers in a row
@@ -110,7 +122,8 @@ unfolding numbers_at
 get_or-numbers_at at width zero bytes k h = absurd (omega arith)
 get_or-numbers_at at width (suc n) bytes zero h = ap (λ m. number_at m width bytes) (omega arith)
 get_or-numbers_at at width (suc n) bytes (suc k) h =
-    get_or-numbers_at (at + width) width n bytes k (omega arith) ∙ ap (λ m. number_at m width bytes) (omega (arith, times_suc width k))
+    get_or-numbers_at (at + width) width n bytes k (omega arith) ∙ ap (λ m. number_at m width bytes)
+    (omega (arith, times_suc width k))
 
 -- values that were read one by one
 pub numbers_read : (at width n : ℕ) (bytes xs : List ℕ) → length xs ≡ n
@@ -119,7 +132,8 @@ pub numbers_read : (at width n : ℕ) (bytes xs : List ℕ) → length xs ≡ n
 numbers_read at width n bytes xs e h =
     let size : length (numbers_at at width n bytes) ≡ n = length-numbers_at at width n bytes in
     same_number_lists xs (numbers_at at width n bytes) (e ∙ sym size)
-    (λ k below. h k (omega (arith, e)) ∙ sym (get_or-numbers_at at width n bytes k (omega (arith, e))))
+    (λ k below. h k (omega (arith, e))
+    ∙ sym (get_or-numbers_at at width n bytes k (omega (arith, e))))
 
 -- the first of them
 pub take_numbers_at : (k at width n : ℕ) (bytes : List ℕ) → k ≤ n
@@ -128,18 +142,23 @@ unfolding numbers_at
 take_numbers_at zero at width n bytes h = refl
 take_numbers_at (suc k) at width zero bytes h = absurd (omega arith)
 take_numbers_at (suc k) at width (suc n) bytes h =
-    ap (λ rest. number_at at width bytes ∷ rest) (take_numbers_at k (at + width) width n bytes (omega arith))
+    ap (λ rest. number_at at width bytes ∷ rest) (take_numbers_at k (at + width) width n bytes
+    (omega arith))
 
 -- what holds of each by its index
 pub all_below : (limit : ℕ) (xs : List ℕ) → ((k : ℕ) → k < length xs → get_or xs k 0 < limit)
     → AllByRecursion (λ x. x < limit) xs
 all_below limit [] h = tt
-all_below limit (x ∷ xs) h =
-    (h 0 (omega arith), all_below limit xs (λ k below. let at : get_or xs k 0 < limit = h (suc k) (omega arith) in at))
+all_below limit (x ∷ xs) h = (
+  h 0 (omega arith),
+  all_below limit xs (λ k below. let at : get_or xs k 0 < limit =
+      h (suc k) (omega arith) in at),
+)
 
 -- a number in a part of the bytes
 pub number_at-part : (at width size skip : ℕ) (bytes : List ℕ) → skip + width ≤ size
-    → little_number width (drop skip (take size (drop at bytes))) ≡ number_at (at + skip) width bytes
+    → little_number width (drop skip (take size (drop at bytes)))
+    ≡ number_at (at + skip) width bytes
 unfolding number_at
 number_at-part at width size skip bytes h =
     let more : size ≡ skip + (size - skip) = omega arith in
@@ -155,7 +174,8 @@ pub to_bits_value : (value low count : ℕ) → low < 32 → count < 32 → low 
 to_bits_value value low count l c h =
     let size : 1 * 2 ^ count % 2 ^ 32 ≡ 2 ^ count = one_shl count 32 c in
     let below : value % 2 ^ count < 2 ^ count = mod_below value (2 ^ count) (pow_pos count) in
-    ap (λ m. value % m * 2 ^ low % 2 ^ 32) size ∙ shl_whole (value % 2 ^ count) count low 32 below (omega arith)
+    ap (λ m. value % m * 2 ^ low % 2 ^ 32) size ∙ shl_whole (value % 2 ^ count) count low 32 below
+    (omega arith)
 
 -- ---- arrays
 
@@ -181,14 +201,16 @@ length-part bytes from n =
     (simp (length-append, length-replicate) (omega arith))
 
 -- what is read past the end stands there too
-pub get_or-past : {X : Type 0} (xs : List X) (d : X) (n k : ℕ) → get_or (xs ++ replicate n d) k d ≡ get_or xs k d
+pub get_or-past : {X : Type 0} (xs : List X) (d : X) (n k : ℕ) → get_or (xs ++ replicate n d) k d
+    ≡ get_or xs k d
 get_or-past [] d zero k = refl
 get_or-past [] d (suc n) zero = refl
 get_or-past [] d (suc n) (suc k) = get_or-past [] d n k
 get_or-past (x ∷ xs) d n zero = refl
 get_or-past (x ∷ xs) d n (suc k) = get_or-past xs d n k
 
-pub get_or-part : (bytes : List ℕ) (from n k : ℕ) → k < n → get_or (part bytes from n) k 0 ≡ get_or bytes (from + k) 0
+pub get_or-part : (bytes : List ℕ) (from n k : ℕ) → k < n → get_or (part bytes from n) k 0
+    ≡ get_or bytes (from + k) 0
 unfolding part
 get_or-part bytes from n k h =
     get_or-take n (drop from bytes ++ replicate n 0) k 0 h
@@ -197,7 +219,8 @@ get_or-part bytes from n k h =
 
 -- what agrees with the bytes at each index is the part
 pub is_part : (bytes : List ℕ) (from : ℕ) (xs : List ℕ)
-    → ((k : ℕ) → k < length xs → get_or xs k 0 ≡ get_or bytes (from + k) 0) → xs ≡ part bytes from (length xs)
+    → ((k : ℕ) → k < length xs → get_or xs k 0 ≡ get_or bytes (from + k) 0) → xs
+    ≡ part bytes from (length xs)
 is_part bytes from xs h =
     same_number_lists xs (part bytes from (length xs)) (sym (length-part bytes from (length xs)))
     (λ k below. h k below ∙ sym (get_or-part bytes from (length xs) k below))
@@ -207,7 +230,8 @@ byte_of_parts : (bytes : List ℕ) (from m n k : ℕ) → k < m + n
 byte_of_parts bytes from m n k h =
     let size = length-part bytes from m in
     elim (cases_lt k m) [
-      | inl low ↦ get_or_append_left (part bytes from m) (part bytes (from + m) n) 0 k (omega (arith, size, low))
+      | inl low ↦ get_or_append_left (part bytes from m) (part bytes (from + m) n) 0 k
+          (omega (arith, size, low))
           ∙ get_or-part bytes from m k low
       | inr high ↦ get_or-append_right (part bytes from m) (part bytes (from + m) n) m k 0 size high
           ∙ get_or-part bytes (from + m) n (k - m) (omega arith)
@@ -235,7 +259,8 @@ part-append bytes from m n =
     ∙ ap (part bytes from) size
 
 -- all that is past the end is zeros
-pub part_past : (bytes : List ℕ) (from n : ℕ) → part bytes (min from (length bytes)) n ≡ part bytes from n
+pub part_past : (bytes : List ℕ) (from n : ℕ) → part bytes (min from (length bytes)) n
+    ≡ part bytes from n
 unfolding part
 part_past bytes from n = ap (λ rest. take n (rest ++ replicate n 0)) (drop_min from bytes)
 
@@ -255,10 +280,12 @@ part-part bytes from n i m h =
     ∙ ap (part bytes (from + i)) size
 
 -- a part within the bytes has no zeros of its own
-pub part_within : (bytes : List ℕ) (from n : ℕ) → from + n ≤ length bytes → part bytes from n ≡ take n (drop from bytes)
+pub part_within : (bytes : List ℕ) (from n : ℕ) → from + n ≤ length bytes → part bytes from n
+    ≡ take n (drop from bytes)
 unfolding part
 part_within bytes from n h =
     take-append-le n (drop from bytes) (replicate n 0) (simp length-drop (omega arith))
 
 pub part_whole : (bytes : List ℕ) (n : ℕ) → length bytes ≡ n → part bytes 0 n ≡ bytes
-part_whole bytes n e = part_within bytes 0 n (omega (arith, e)) ∙ take_all n bytes (omega (arith, e))
+part_whole bytes n e =
+    part_within bytes 0 n (omega (arith, e)) ∙ take_all n bytes (omega (arith, e))

@@ -1,10 +1,12 @@
 -- A record as bytes: a table of its fields, each at its place.
-use Rattle.std.specs.Prelude.{◌≡◌, ℕ, zero, suc, Bool, ◌&&◌, nat_le, if◌then◌else◌, ◌+◌, ◌*◌, ◌/◌, ◌%◌, ◌^◌, ◌<◌, List, [], ◌∷◌, ◌++◌, take, drop, fold, replicate, length}
+use Rattle.std.specs.Prelude.{◌≡◌, ℕ, zero, suc, Bool, ◌&&◌, nat_le, if◌then◌else◌, ◌+◌, ◌*◌, ◌/◌}
+use Rattle.std.specs.Prelude.{◌%◌, ◌^◌, ◌<◌, List, [], ◌∷◌, ◌++◌, take, drop, fold, replicate}
+use Rattle.std.specs.Prelude.{length}
 use Rattle.std.specs.List.{AllByRecursion, flat_map}
 use Rattle.byteorder.specs.Endian.{little_bytes, little_number}
 
--- a field of a record: its first byte, how many bytes it has, and its value. `numbers` stand one after
--- the other: its second number is the bytes of each, and its third how many there are
+-- a field of a record: its first byte, how many bytes it has, and its value. `numbers` stand one
+-- after the other: its second number is the bytes of each, and its third how many there are
 pub data Part : Type 0 where
   number : ℕ → ℕ → ℕ → Part
   numbers : ℕ → ℕ → ℕ → List ℕ → Part
@@ -28,7 +30,8 @@ bytes_of (text at width bytes) = bytes
 
 -- the bytes with a field over them
 unfoldable pub placed : List ℕ → Part → List ℕ
-placed bytes p = take (place_of p) bytes ++ (bytes_of p ++ drop (width_of p) (drop (place_of p) bytes))
+placed bytes p =
+    take (place_of p) bytes ++ (bytes_of p ++ drop (width_of p) (drop (place_of p) bytes))
 
 unfoldable pub zeros : ℕ → List ℕ
 zeros n = replicate n 0
@@ -54,7 +57,8 @@ number_at at width bytes = little_number width (drop at bytes)
 -- `count` numbers of `width` bytes each, one after the other
 unfoldable pub numbers_at : ℕ → ℕ → ℕ → List ℕ → List ℕ
 numbers_at at width zero bytes = []
-numbers_at at width (suc count) bytes = number_at at width bytes ∷ numbers_at (at + width) width count bytes
+numbers_at at width (suc count) bytes =
+    number_at at width bytes ∷ numbers_at (at + width) width count bytes
 
 -- ---- the bits of a number
 

@@ -1,11 +1,15 @@
 -- Each record whose fields fit reads back, and how many bytes it has.
-use Rattle.std.proofs.Common.{◌≡◌, ◌≢◌, ◌∙◌, ℕ, Bool, true, false, ◌==◌, ◌+◌, ◌^◌, ◌<◌, ◌≤◌, nat_le, ap, refl, arith, List, [], ◌∷◌, length, map}
+use Rattle.std.proofs.Common.{◌≡◌, ◌≢◌, ◌∙◌, ℕ, Bool, true, false, ◌==◌, ◌+◌, ◌^◌, ◌<◌, ◌≤◌, nat_le}
+use Rattle.std.proofs.Common.{ap, refl, arith, List, [], ◌∷◌, length, map}
 use Rattle.std.specs.List.{AllByRecursion, before_first}
 use Rattle.std.proofs.lemmas.List.{length-map}
 use Rattle.nv_layout.specs.Cqe.{CqeReadsBack, bytes_of_cqe, cqe_of_bytes, cqe_parts}
-use Rattle.nv_layout.specs.CtrlList.{CtrlListReadsBack, bytes_of_ctrl_list, ctrl_list_of_bytes, ctrl_list_parts}
-use Rattle.nv_layout.specs.IdCtrl.{IdCtrlReadsBack, bytes_of_id_ctrl, id_ctrl_of_bytes, id_ctrl_parts}
-use Rattle.nv_layout.specs.IdNs.{IdNsReadsBack, LbafFits, bytes_of_id_ns, id_ns_of_bytes, id_ns_parts, lbaf_of_number, number_of_lbaf}
+use Rattle.nv_layout.specs.CtrlList.{CtrlListReadsBack, bytes_of_ctrl_list, ctrl_list_of_bytes}
+use Rattle.nv_layout.specs.CtrlList.{ctrl_list_parts}
+use Rattle.nv_layout.specs.IdCtrl.{IdCtrlReadsBack, bytes_of_id_ctrl, id_ctrl_of_bytes}
+use Rattle.nv_layout.specs.IdCtrl.{id_ctrl_parts}
+use Rattle.nv_layout.specs.IdNs.{IdNsReadsBack, LbafFits, bytes_of_id_ns, id_ns_of_bytes}
+use Rattle.nv_layout.specs.IdNs.{id_ns_parts, lbaf_of_number, number_of_lbaf}
 use Rattle.nv_layout.specs.NsList.{bytes_of_ns_list, is_zero, ns_list_of_bytes, ns_list_parts}
 use Rattle.nv_layout.specs.Parts.{Fits, at_bits, bit, bits, is_table, numbers}
 use Rattle.nv_layout.specs.Sqe.{SqeReadsBack, bytes_of_sqe, sqe_of_bytes, sqe_parts}
@@ -38,7 +42,8 @@ number_of_status_below s = omega arith
 status_bits : (a b c d e : ℕ) → a < 2 ^ 8 → b < 2 ^ 3 → c < 2 ^ 2 → d < 2 → e < 2
     → let n = at_bits 0 8 a + at_bits 8 3 b + at_bits 11 2 c + at_bits 13 1 d + at_bits 14 1 e in
     (bits 0 8 n ≡ a) × (bits 8 3 n ≡ b) × (bits 11 2 n ≡ c) × (bits 13 1 n ≡ d) × (bits 14 1 n ≡ e)
-status_bits a b c d e ha hb hc hd he = (omega arith, omega arith, omega arith, omega arith, omega arith)
+status_bits a b c d e ha hb hc hd he =
+    (omega arith, omega arith, omega arith, omega arith, omega arith)
 
 pub status_back : StatusReadsBack
 unfolding number_of_status status_of_number
@@ -58,7 +63,10 @@ status_back s fits =
 
 pub length-bytes_of_sqe : (r : Sqe) → length (bytes_of_sqe r) ≡ 64
 unfolding bytes_of_sqe
-length-bytes_of_sqe r = length-laid_out 64 (sqe_parts r) refl (tt, (tt, (tt, (tt, (tt, (tt, (tt, (tt, (tt, (tt, (tt, tt)))))))))))
+length-bytes_of_sqe r = length-laid_out 64 (sqe_parts r) refl (
+  tt,
+  (tt, (tt, (tt, (tt, (tt, (tt, (tt, (tt, (tt, (tt, tt)))))))))),
+)
 
 dword0_bits : (o f p c : ℕ) → o < 2 ^ 8 → f < 2 ^ 2 → p < 2 ^ 2 → c < 2 ^ 16
     → let n = at_bits 0 8 o + at_bits 8 2 f + at_bits 14 2 p + at_bits 16 16 c in
@@ -70,9 +78,27 @@ unfolding bytes_of_sqe sqe_of_bytes
 sqe_back r fits =
     let (small, opcode, fuse, psdt, cid) =
     dword0_bits r.opcode r.fuse r.psdt r.cid fits.opcode fits.fuse fits.psdt fits.cid in
-    let parts_fit : AllByRecursion Fits (sqe_parts r) =
-    (small, (fits.nsid, (fits.mptr, (fits.prp1, (fits.prp2, (fits.cdw10, (fits.cdw11, (fits.cdw12, (fits.cdw13, (fits.cdw14, (fits.cdw15, tt))))))))))) in
-    let (dword0, (nsid, (mptr, (prp1, (prp2, (cdw10, (cdw11, (cdw12, (cdw13, (cdw14, (cdw15, end))))))))))) =
+    let parts_fit : AllByRecursion Fits (sqe_parts r) = (
+      small,
+      (
+        fits.nsid,
+        (
+          fits.mptr,
+          (
+            fits.prp1,
+            (
+              fits.prp2,
+              (fits.cdw10, (fits.cdw11, (fits.cdw12, (fits.cdw13, (fits.cdw14, (fits.cdw15, tt)))))),
+            ),
+          ),
+        ),
+      ),
+    )
+    in
+    let (
+      dword0,
+      (nsid, (mptr, (prp1, (prp2, (cdw10, (cdw11, (cdw12, (cdw13, (cdw14, (cdw15, end)))))))))),
+    ) =
     table_back 64 (sqe_parts r) refl parts_fit in
     λ i. record {
       opcode = (ap (bits 0 8) dword0 ∙ opcode) i;
@@ -124,15 +150,24 @@ cqe_back r fits =
 
 -- ---- namespace lists
 
-pub length-bytes_of_ns_list : (ids : List ℕ) → length ids ≤ 1024 → length (bytes_of_ns_list ids) ≡ 4096
+pub length-bytes_of_ns_list : (ids : List ℕ) → length ids ≤ 1024 → length (bytes_of_ns_list ids)
+    ≡ 4096
 unfolding bytes_of_ns_list
-length-bytes_of_ns_list ids h = length-laid_out 4096 (ns_list_parts ids) refl (length-padded 1024 ids h, tt)
+length-bytes_of_ns_list ids h =
+    length-laid_out 4096 (ns_list_parts ids) refl (length-padded 1024 ids h, tt)
 
-pub ns_list_back : (ids : List ℕ) → length ids ≤ 1024 → AllByRecursion (λ x. (x ≢ 0) × (x < 2 ^ 32)) ids
+pub ns_list_back : (ids : List ℕ) → length ids ≤ 1024 → AllByRecursion (λ x. (x ≢ 0)
+    × (x < 2 ^ 32)) ids
     → ns_list_of_bytes (bytes_of_ns_list ids) ≡ ids
 unfolding bytes_of_ns_list ns_list_of_bytes
 ns_list_back ids h fits =
-    let all = table_back 4096 (ns_list_parts ids) refl ((length-padded 1024 ids h, padded_fits 1024 ids fits), tt) in
+    let all = table_back 4096 (ns_list_parts ids) refl (
+      (
+        length-padded 1024 ids h,
+        padded_fits 1024 ids fits,
+      ),
+      tt,
+    ) in
     ap (before_first is_zero) all.0 ∙ before_first-padded 1024 ids fits
 
 -- ---- controller lists
@@ -140,7 +175,8 @@ ns_list_back ids h fits =
 is_table_of_ids : (ids : List ℕ) → length ids ≤ 2047 → is_table 0 4096 (ctrl_list_parts ids) ≡ true
 is_table_of_ids ids h = grind arith
 
-pub length-bytes_of_ctrl_list : (ids : List ℕ) → length ids ≤ 2047 → length (bytes_of_ctrl_list ids) ≡ 4096
+pub length-bytes_of_ctrl_list : (ids : List ℕ) → length ids ≤ 2047 → length (bytes_of_ctrl_list ids)
+    ≡ 4096
 unfolding bytes_of_ctrl_list
 length-bytes_of_ctrl_list ids h =
     length-laid_out 4096 (ctrl_list_parts ids) (is_table_of_ids ids h) (tt, (refl, tt))
@@ -148,8 +184,10 @@ length-bytes_of_ctrl_list ids h =
 pub ctrl_list_back : CtrlListReadsBack
 unfolding bytes_of_ctrl_list ctrl_list_of_bytes
 ctrl_list_back ids fits =
-    let parts_fit : AllByRecursion Fits (ctrl_list_parts ids) = (omega (arith, fits.count), ((refl, fits.numbers), tt)) in
-    let (count, (each, end)) = table_back 4096 (ctrl_list_parts ids) (is_table_of_ids ids fits.count) parts_fit in
+    let parts_fit : AllByRecursion Fits (ctrl_list_parts ids) =
+    (omega (arith, fits.count), ((refl, fits.numbers), tt)) in
+    let (count, (each, end)) =
+    table_back 4096 (ctrl_list_parts ids) (is_table_of_ids ids fits.count) parts_fit in
     let room : nat_le (length ids) 2047 ≡ true = grind (arith, fits.count) in
     rw (count, room, each)
 
@@ -173,24 +211,59 @@ lbaf_back l fits =
     let (small, ms, lbads, rp) = lbaf_bits l.ms l.lbads l.rp fits.ms fits.lbads fits.rp in
     λ i. record { ms = ms i; lbads = lbads i; rp = rp i }
 
-lbafs_back : (ls : List Lbaf) → AllByRecursion LbafFits ls → map lbaf_of_number (map number_of_lbaf ls) ≡ ls
+lbafs_back : (ls : List Lbaf) → AllByRecursion LbafFits ls
+    → map lbaf_of_number (map number_of_lbaf ls) ≡ ls
 lbafs_back [] fits = refl
 lbafs_back (l ∷ ls) fits = λ i. lbaf_back l fits.0 i ∷ lbafs_back ls fits.1 i
 
 pub length-bytes_of_id_ns : (r : IdNs) → length r.lbafs ≡ 16 → length (bytes_of_id_ns r) ≡ 4096
 unfolding bytes_of_id_ns
 length-bytes_of_id_ns r h =
-    length-laid_out 4096 (id_ns_parts r) refl
-    (tt, (tt, (tt, (tt, (tt, (tt, (tt, (tt, (tt, (tt, (tt, (length-map r.lbafs number_of_lbaf ∙ h, tt))))))))))))
+    length-laid_out 4096 (id_ns_parts r) refl (
+      tt,
+      (
+        tt,
+        (
+          tt,
+          (
+            tt,
+            (tt, (tt, (tt, (tt, (tt, (tt, (tt, (length-map r.lbafs number_of_lbaf ∙ h, tt)))))))),
+          ),
+        ),
+      ),
+    )
 
 pub id_ns_back : IdNsReadsBack
 unfolding bytes_of_id_ns id_ns_of_bytes
 id_ns_back r fits =
     let formats_fit : Fits (numbers 128 4 16 (map number_of_lbaf r.lbafs)) =
     (length-map r.lbafs number_of_lbaf ∙ fits.formats, lbafs_fit r.lbafs fits.each_format) in
-    let parts_fit : AllByRecursion Fits (id_ns_parts r) =
-    (fits.nsze, (fits.ncap, (fits.nuse, (fits.nsfeat, (fits.nlbaf, (fits.flbas, (fits.mc, (fits.dpc, (fits.dps, (fits.nmic, (fits.nvmcap, (formats_fit, tt)))))))))))) in
-    let (nsze, (ncap, (nuse, (nsfeat, (nlbaf, (flbas, (mc, (dpc, (dps, (nmic, (nvmcap, (lbafs, end)))))))))))) =
+    let parts_fit : AllByRecursion Fits (id_ns_parts r) = (
+      fits.nsze,
+      (
+        fits.ncap,
+        (
+          fits.nuse,
+          (
+            fits.nsfeat,
+            (
+              fits.nlbaf,
+              (
+                fits.flbas,
+                (fits.mc, (fits.dpc, (fits.dps, (fits.nmic, (fits.nvmcap, (formats_fit, tt)))))),
+              ),
+            ),
+          ),
+        ),
+      ),
+    ) in
+    let (
+      nsze,
+      (
+        ncap,
+        (nuse, (nsfeat, (nlbaf, (flbas, (mc, (dpc, (dps, (nmic, (nvmcap, (lbafs, end)))))))))),
+      ),
+    ) =
     table_back 4096 (id_ns_parts r) refl parts_fit in
     λ i. record {
       nsze = nsze i;

@@ -1,12 +1,18 @@
 -- A table of fields: its bytes hold each field's value.
-use Rattle.std.proofs.Common.{◌≡◌, ◌∙◌, ℕ, Bool, true, zero, suc, ◌&&◌, nat_le, ◌+◌, ◌*◌, ◌^◌, ◌<◌, ◌≤◌, ap, refl, sym, arith, append-nil, List, [], ◌∷◌, ◌++◌, take, drop, fold, length}
+use Rattle.std.proofs.Common.{◌≡◌, ◌∙◌, ℕ, Bool, true, zero, suc, ◌&&◌, nat_le, ◌+◌, ◌*◌, ◌^◌, ◌<◌}
+use Rattle.std.proofs.Common.{◌≤◌, ap, refl, sym, arith, append-nil, List, [], ◌∷◌, ◌++◌, take}
+use Rattle.std.proofs.Common.{drop, fold, length}
 use Rattle.std.specs.List.{AllByRecursion, flat_map}
 use Rattle.std.proofs.lemmas.List.{drop-drop, drop-take, take-take}
 use Rattle.std.proofs.Math.Seq.{drop-append_seam, take-append_seam}
 use Rattle.byteorder.specs.Endian.{little_bytes, little_from}
-use Rattle.byteorder.specs.Numbers.{length-bytes_low_first, little_from-take, little_number-reads_back}
-use Rattle.nv_layout.specs.Parts.{Fits, Holds, Part, bytes_of, is_table, laid_out, number, number_at, numbers, numbers_at, place_of, placed, text, text_at, width_of, zeros}
-use Rattle.nv_layout.specs.PartLaws.{IsSized, length-placed, length_zeros, text_at-placed, text_at-placed_before, times_suc}
+use Rattle.byteorder.specs.Numbers.{length-bytes_low_first, little_from-take}
+use Rattle.byteorder.specs.Numbers.{little_number-reads_back}
+use Rattle.nv_layout.specs.Parts.{Fits, Holds, Part, bytes_of, is_table, laid_out, number}
+use Rattle.nv_layout.specs.Parts.{number_at, numbers, numbers_at, place_of, placed, text, text_at}
+use Rattle.nv_layout.specs.Parts.{width_of, zeros}
+use Rattle.nv_layout.specs.PartLaws.{IsSized, length-placed, length_zeros, text_at-placed}
+use Rattle.nv_layout.specs.PartLaws.{text_at-placed_before, times_suc}
 
 -- ---- places
 
@@ -26,10 +32,12 @@ length-fold_placed b from size [] t s e = e
 length-fold_placed b from size (p ∷ ps) t s e =
     let split = both_true from (place_of p) _ t in
     let later = table_end (place_of p + width_of p) size ps split.1 in
-    length-fold_placed (placed b p) (place_of p + width_of p) size ps split.1 s.1 (length-placed b p s.0 (omega (arith, later)) ∙ e)
+    length-fold_placed (placed b p) (place_of p + width_of p) size ps split.1 s.1
+    (length-placed b p s.0 (omega (arith, later)) ∙ e)
 
 -- a record has as many bytes as its size
-pub length-laid_out : (size : ℕ) (ps : List Part) → is_table 0 size ps ≡ true → AllByRecursion IsSized ps
+pub length-laid_out : (size : ℕ) (ps : List Part) → is_table 0 size ps ≡ true
+    → AllByRecursion IsSized ps
     → length (laid_out size ps) ≡ size
 length-laid_out size ps t s = length-fold_placed (zeros size) 0 size ps t s (length_zeros size)
 
@@ -42,7 +50,8 @@ before_table b from size (p ∷ ps) t s e at n h =
     let split = both_true from (place_of p) _ t in
     let later = table_end (place_of p + width_of p) size ps split.1 in
     let same = length-placed b p s.0 (omega (arith, later)) in
-    before_table (placed b p) (place_of p + width_of p) size ps split.1 s.1 (same ∙ e) at n (omega (arith, split.0))
+    before_table (placed b p) (place_of p + width_of p) size ps split.1 s.1 (same ∙ e) at n
+    (omega (arith, split.0))
     ∙ text_at-placed_before b p at n (omega (arith, split.0)) (omega (arith, later))
 
 abbrev Stands : List ℕ → Part → Type 0
@@ -55,7 +64,8 @@ all_stand b from size (p ∷ ps) t s e =
     let split = both_true from (place_of p) _ t in
     let later = table_end (place_of p + width_of p) size ps split.1 in
     let same = length-placed b p s.0 (omega (arith, later)) in
-    let here = before_table (placed b p) (place_of p + width_of p) size ps split.1 s.1 (same ∙ e) (place_of p) (width_of p) (omega arith)
+    let here = before_table (placed b p) (place_of p + width_of p) size ps split.1 s.1 (same
+    ∙ e) (place_of p) (width_of p) (omega arith)
     ∙ text_at-placed b p s.0 (omega (arith, later)) in
     (here, all_stand (placed b p) (place_of p + width_of p) size ps split.1 s.1 (same ∙ e))
 
@@ -72,7 +82,8 @@ number_back at width x bytes f e =
 -- the first number of an array, and the rest
 first_and_rest : (at width n x : ℕ) (rest bytes : List ℕ)
     → text_at at (width * suc n) bytes ≡ little_bytes width x ++ rest
-    → (text_at at width bytes ≡ little_bytes width x) × (text_at (at + width) (width * n) bytes ≡ rest)
+    → (text_at at width bytes ≡ little_bytes width x) × (text_at (at + width) (width * n) bytes
+    ≡ rest)
 unfolding text_at
 first_and_rest at width n x rest bytes e =
     let size : length (little_bytes width x) ≡ width = length-bytes_low_first 0 width x in
@@ -99,7 +110,8 @@ numbers_back at width (suc n) [] bytes l f e = absurd (omega arith)
 numbers_back at width zero (x ∷ xs) bytes l f e = absurd (omega arith)
 numbers_back at width (suc n) (x ∷ xs) bytes l f e =
     let split = first_and_rest at width n x (flat_map (little_bytes width) xs) bytes e in
-    (λ i. number_back at width x bytes f.0 split.0 i ∷ numbers_back (at + width) width n xs bytes (omega arith) f.1 split.1 i)
+    (λ i. number_back at width x bytes f.0 split.0 i ∷ numbers_back (at + width) width n xs bytes
+    (omega arith) f.1 split.1 i)
 
 value_back : (bytes : List ℕ) (p : Part) → Fits p → Stands bytes p → Holds bytes p
 value_back bytes (number at width x) f e = number_back at width x bytes f e
@@ -123,4 +135,5 @@ all_sized (p ∷ ps) f = (sized p f.0, all_sized ps f.1)
 -- every field of a table reads back
 pub table_back : (size : ℕ) (ps : List Part) → is_table 0 size ps ≡ true → AllByRecursion Fits ps
     → AllByRecursion (Holds (laid_out size ps)) ps
-table_back size ps t f = values_back _ ps f (all_stand (zeros size) 0 size ps t (all_sized ps f) (length_zeros size))
+table_back size ps t f =
+    values_back _ ps f (all_stand (zeros size) 0 size ps t (all_sized ps f) (length_zeros size))

@@ -33,8 +33,8 @@ impl Cqe {
             + to_bits(self.status.number() as u32, 17, 15)
     }
 
-    /// Writes the entry's bytes. The status code type is cut to its three bits, and the retry delay to
-    /// its two.
+    /// Writes the entry's bytes. The status code type is cut to its three bits, and the retry delay
+    /// to its two.
     #[tactic(auto, unfolding(crate::specs::Cqe::bytes_of_cqe))]
     pub fn put(&self, out: &mut [u8; 16])
         ensures { out.new ≡ bytes_of_cqe self.now }

@@ -1,6 +1,7 @@
 //! Controller lists.
 
-ghost use Rattle.std.specs.Prelude.{◌≡◌, ◌≤◌, ◌<◌, ◌↔◌, ◌++◌, ◌∷◌, [], ℕ, Err, IsTrue, List, MatchResult, Ok, length, take};
+ghost use Rattle.std.specs.Prelude.{◌≡◌, ◌≤◌, ◌<◌, ◌↔◌, ◌++◌, ◌∷◌, [], ℕ, Err, IsTrue, List};
+ghost use Rattle.std.specs.Prelude.{MatchResult, Ok, length, take};
 ghost use Rattle.nv_layout.specs.CtrlList.{CtrlListFits, bytes_of_ctrl_list, ctrl_list_of_bytes};
 
 use crate::controller_ids::ControllerIds;
@@ -139,7 +140,9 @@ impl CtrlList {
 
     #[tactic(auto, unfolding(crate::specs::CtrlList::ctrl_list_of_bytes))]
     fn fill(&mut self, bytes: &[u8; 4096]) -> Result<(), LayoutError>
-        ensures { MatchResult result (λ _. ctrl_list_of_bytes bytes.now ≡ Ok self.new) (λ error. ctrl_list_of_bytes bytes.now ≡ Err error) }
+        ensures { MatchResult result
+            (λ _. ctrl_list_of_bytes bytes.now ≡ Ok self.new)
+            (λ error. ctrl_list_of_bytes bytes.now ≡ Err error) }
     {
         let count = u16_at(bytes, 0) as usize;
         if count > 2047 {

@@ -20,9 +20,11 @@ pub struct ErrorEntries<'a> {
 impl<'a> Model for ErrorEntries<'a> {
     ghost Value = { List ErrorEntry };
 
-    ghost view = { λ s. s.newest.now ++ s.older.now ++ replicate (s.count - (length s.newest.now + length s.older.now)) no_entry };
+    ghost view = { λ s. s.newest.now ++ s.older.now
+        ++ replicate (s.count - (length s.newest.now + length s.older.now)) no_entry };
 
-    ghost invariant = { λ s. (length s.newest.now + length s.older.now ≤ s.count) × (s.count ≤ 256) };
+    ghost invariant = { λ s. (length s.newest.now + length s.older.now ≤ s.count)
+        × (s.count ≤ 256) };
 }
 
 impl<'a> ErrorEntries<'a> {
@@ -30,7 +32,8 @@ impl<'a> ErrorEntries<'a> {
     pub fn new(newest: &'a [ErrorEntry], older: &'a [ErrorEntry], count: usize) -> ErrorEntries<'a>
         requires room { length newest.now + length older.now ≤ count }
         requires within { count ≤ 256 }
-        ensures { result ≡ newest.now ++ older.now ++ replicate (count - (length newest.now + length older.now)) no_entry }
+        ensures { result ≡ newest.now ++ older.now
+            ++ replicate (count - (length newest.now + length older.now)) no_entry }
     {
         ErrorEntries {
             newest,

@@ -33,7 +33,8 @@ pub struct ErrorEntry {
 
 impl ErrorEntry {
     ghost use Rattle.std.specs.Prelude.{◌≡◌};
-    ghost use Rattle.nv_layout.specs.ErrorEntry.{bytes_of_error_entry, error_entry_of_bytes, status_word};
+    ghost use Rattle.nv_layout.specs.ErrorEntry.{bytes_of_error_entry, error_entry_of_bytes};
+    ghost use Rattle.nv_layout.specs.ErrorEntry.{status_word};
 
     /// The entry that holds no error: all of it is 0.
     pub const NONE: ErrorEntry = ErrorEntry {

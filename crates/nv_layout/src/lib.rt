@@ -1,7 +1,8 @@
 //! The records that an NVM Express host and a controller exchange, to and from bytes. All numbers
 //! are little endian. Reserved bytes and bits are written 0 and ignored on reading.
 //!
-//! A record is a plain struct with the standard's field names. `put` writes its bytes, `get` reads them:
+//! A record is a plain struct with the standard's field names. `put` writes its bytes, `get` reads
+//! them:
 //!
 //! ```
 //! let command = Sqe { opcode: 0x06, cid: 7, nsid: 1, .. };
@@ -10,7 +11,8 @@
 //! let same = Sqe::get(&bytes);
 //! ```
 //!
-//! A field wider than its bits is cut to them by `put`; a record whose fields fit is what `get` reads.
+//! A field wider than its bits is cut to them by `put`; a record whose fields fit is what `get`
+//! reads.
 //!
 //! Sections are named as in the NVM Express Base Specification, revision 1.4.
 #![tactic(auto)]
@@ -57,8 +59,8 @@ pub use smart::Smart;
 pub use sqe::Sqe;
 pub use status::Status;
 
-/// The law of this crate: a record whose fields fit their bits is what is read from its bytes. The call
-/// does nothing.
+/// The law of this crate: a record whose fields fit their bits is what is read from its bytes. The
+/// call does nothing.
 pub fn reads_back()
     ensures sqe { SqeReadsBack }
     ensures cqe { CqeReadsBack }

@@ -1,6 +1,7 @@
 //! Namespace lists.
 
-ghost use Rattle.std.specs.Prelude.{◌≡◌, ◌≤◌, ◌<◌, ◌↔◌, ◌++◌, ◌∷◌, [], ℕ, IsTrue, List, length, take};
+ghost use Rattle.std.specs.Prelude.{◌≡◌, ◌≤◌, ◌<◌, ◌↔◌, ◌++◌, ◌∷◌, [], ℕ, IsTrue, List, length};
+ghost use Rattle.std.specs.Prelude.{take};
 ghost use Rattle.nv_layout.specs.NsList.{bytes_of_ns_list, ns_list_of_bytes};
 
 use crate::namespace_ids::NamespaceIds;

@@ -2,7 +2,8 @@
 
 ghost use Rattle.std.specs.Prelude.{◌≡◌, ◌≤◌, ◌<◌, ◌+◌, ◌*◌, ◌^◌, length};
 ghost use Rattle.std.specs.List.{AllByRecursion};
-ghost use Rattle.nv_layout.specs.Parts.{at_bits, bits, number, number_at, numbers, numbers_at, placed, text, text_at, zeros};
+ghost use Rattle.nv_layout.specs.Parts.{at_bits, bits, number, number_at, numbers, numbers_at};
+ghost use Rattle.nv_layout.specs.Parts.{placed, text, text_at, zeros};
 
 use byteorder::{ByteOrder, LittleEndian};
 

@@ -31,8 +31,8 @@ impl Status {
         dnr: false,
     };
 
-    /// Whether the command was accepted: status code 0 of the generic type. Section "Generic Command
-    /// Status Definition".
+    /// Whether the command was accepted: status code 0 of the generic type. Section "Generic
+    /// Command Status Definition".
     pub fn is_success(self) -> bool
         ensures { IsTrue result ↔ ((self.sct ≡ 0) × (self.sc ≡ 0)) }
     {

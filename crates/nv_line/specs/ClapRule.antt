@@ -1,6 +1,8 @@
 -- The commands as clap is told of them, and what it finds in a command line.
-use Rattle.std.specs.Prelude.{ℕ, Bool, true, false, List, fold, Some, Result, Ok, Err, codes, if◌then◌else◌}
-use Rattle.clap.specs.Words.{App, Row, Rule, Text, fault_of, matches_of, new_app, new_rule, with_rule}
+use Rattle.std.specs.Prelude.{ℕ, Bool, true, false, List, fold, Some, Result, Ok, Err, codes}
+use Rattle.std.specs.Prelude.{if◌then◌else◌}
+use Rattle.clap.specs.Words.{App, Row, Rule, Text, fault_of, matches_of, new_app, new_rule}
+use Rattle.clap.specs.Words.{with_rule}
 use Rattle.clap.specs.Walk.{is_empty}
 use Rattle.clap.specs.declared.builder.ArgAction.{ArgAction}
 use Rattle.clap.specs.declared.builder.ArgAction.TheVariants.{Set, SetTrue}
@@ -10,7 +12,8 @@ use Rattle.nv_line.specs.Verb.{options_of, word_of}
 use Rattle.nv_line.specs.declared.fault.LineFault.{LineFault}
 use Rattle.nv_line.specs.declared.fault.LineFault.TheVariants.{Usage}
 use Rattle.nv_line.specs.declared.option.CommandOption.{CommandOption}
-use Rattle.nv_line.specs.declared.option.CommandOption.TheVariants.{Flag, Number, Format, List as ListOf}
+use Rattle.nv_line.specs.declared.option.CommandOption.TheVariants.{Flag, Number, Format}
+use Rattle.nv_line.specs.declared.option.CommandOption.TheVariants.{List as ListOf}
 use Rattle.nv_line.specs.declared.option.OptionName.{OptionName}
 use Rattle.nv_line.specs.declared.verb.Verb.{Verb}
 use Rattle.nv_line.specs.declared.verb.Verb.TheVariants as verb

@@ -1,5 +1,6 @@
 -- Lists of controller identifiers.
-use Rattle.std.specs.Prelude.{ℕ, Bool, ◌==◌, nat_le, length, if◌then◌else◌, List, [], ◌∷◌, Option, Some, None, option_and_then, option_map}
+use Rattle.std.specs.Prelude.{ℕ, Bool, ◌==◌, nat_le, length, if◌then◌else◌, List, [], ◌∷◌, Option}
+use Rattle.std.specs.Prelude.{Some, None, option_and_then, option_map}
 use Rattle.std.specs.List.{slice_split}
 use Rattle.clap.specs.Words.{Text}
 use Rattle.nv_line.specs.Number.{number_in}

@@ -1,5 +1,6 @@
 -- The paths of devices: /dev/nvmeX and /dev/nvmeXnY.
-use Rattle.std.specs.Prelude.{ℕ, Bool, ◌==◌, nat_lt, drop, take, length, codes, if◌then◌else◌, Option, Some, None, option_map, option_and_then}
+use Rattle.std.specs.Prelude.{ℕ, Bool, ◌==◌, nat_lt, drop, take, length, codes, if◌then◌else◌}
+use Rattle.std.specs.Prelude.{Option, Some, None, option_map, option_and_then}
 use Rattle.std.specs.List.{after_first, before_first, position_or_len}
 use Rattle.std.specs.Str.{bytes_eq}
 use Rattle.clap.specs.Words.{Text}
@@ -25,9 +26,11 @@ abbrev pub address_of : ℕ → Text → Option Device
 address_of controllers text =
     if nat_lt (position_or_len is_n text) (length text)
     then option_and_then
-    (λ x. option_map (λ y. record { controller = x; nsid = Some y }) (nsid_of (after_first is_n text)))
+    (λ x. option_map (λ y. record { controller = x; nsid = Some y })
+    (nsid_of (after_first is_n text)))
     (controller_index controllers (before_first is_n text))
-    else option_map (λ x. record { controller = x; nsid = None }) (controller_index controllers text)
+    else option_map (λ x. record { controller = x; nsid = None })
+    (controller_index controllers text)
 
 -- what follows a prefix
 unfoldable pub strip : Text → Text → Option Text
@@ -36,4 +39,5 @@ strip prefix text =
 
 -- /dev/nvmeX, or /dev/nvmeXnY
 abbrev pub device_of : ℕ → Text → Option Device
-device_of controllers text = option_and_then (address_of controllers) (strip (codes "/dev/nvme") text)
+device_of controllers text =
+    option_and_then (address_of controllers) (strip (codes "/dev/nvme") text)

@@ -7,7 +7,8 @@ use Rattle.nv_line.specs.declared.device.Device.{Device}
 use Rattle.nv_line.specs.declared.fault.LineFault.{LineFault}
 use Rattle.nv_line.specs.declared.request.Ask.{Ask}
 use Rattle.nv_line.specs.declared.request.Ask.TheVariants as ask
-use Rattle.nv_line.specs.declared.verb.TheConstants.{CONTROLLERS, DPS, FLBAS, NCAP, NMIC, NSID, NSZE}
+use Rattle.nv_line.specs.declared.verb.TheConstants.{CONTROLLERS, DPS, FLBAS, NCAP, NMIC, NSID}
+use Rattle.nv_line.specs.declared.verb.TheConstants.{NSZE}
 
 abbrev pub create_ns_of : List Row → Device → Result Ask LineFault
 create_ns_of rows device = do

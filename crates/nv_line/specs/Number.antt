@@ -1,5 +1,6 @@
 -- The numbers of a line.
-use Rattle.std.specs.Prelude.{ℕ, not, ◌||◌, ◌&&◌, ◌==◌, nat_lt, nat_le, drop, length, slice_index, if◌then◌else◌, Option, Some, None, option_and_then}
+use Rattle.std.specs.Prelude.{ℕ, not, ◌||◌, ◌&&◌, ◌==◌, nat_lt, nat_le, drop, length, slice_index}
+use Rattle.std.specs.Prelude.{if◌then◌else◌, Option, Some, None, option_and_then}
 use Rattle.std.specs.List.{list_all}
 use Rattle.std.specs.Str.Parse.{digits_value}
 use Rattle.std.specs.Char.{digit_value}

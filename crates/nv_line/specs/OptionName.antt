@@ -2,9 +2,12 @@
 use Rattle.std.specs.Prelude.{codes}
 use Rattle.clap.specs.Words.{Text}
 use Rattle.nv_line.specs.declared.option.OptionName.{OptionName}
-use Rattle.nv_line.specs.declared.option.OptionName.TheVariants.{NamespaceId, All, Force, Nsze, Ncap, Flbas, Dps}
-use Rattle.nv_line.specs.declared.option.OptionName.TheVariants.{Nmic, Controllers, Lbaf, Ses, Pi, Pil, Ms}
-use Rattle.nv_line.specs.declared.option.OptionName.TheVariants.{FeatureId, Sel, Value, Save, LogEntries, OutputFormat}
+use Rattle.nv_line.specs.declared.option.OptionName.TheVariants.{NamespaceId, All, Force, Nsze}
+use Rattle.nv_line.specs.declared.option.OptionName.TheVariants.{Ncap, Flbas, Dps}
+use Rattle.nv_line.specs.declared.option.OptionName.TheVariants.{Nmic, Controllers, Lbaf, Ses, Pi}
+use Rattle.nv_line.specs.declared.option.OptionName.TheVariants.{Pil, Ms}
+use Rattle.nv_line.specs.declared.option.OptionName.TheVariants.{FeatureId, Sel, Value, Save}
+use Rattle.nv_line.specs.declared.option.OptionName.TheVariants.{LogEntries, OutputFormat}
 
 abbrev pub name_of : OptionName → Text
 name_of NamespaceId = codes "namespace-id"

@@ -32,9 +32,11 @@ list_option_in rows o =
 
 -- whether the flag was written
 abbrev pub flag_in : List Row → FlagOption → Bool
-flag_in rows o = option_map_or (λ t. bytes_eq t (codes "true")) (first_of (name_of o.name) rows) false
+flag_in rows o =
+    option_map_or (λ t. bytes_eq t (codes "true")) (first_of (name_of o.name) rows) false
 
 -- the format that was written, or text; another name than a format's is a usage fault
 abbrev pub format_in : List Row → FormatOption → Result OutputFormat LineFault
 format_in rows o =
-    option_map_or (λ t. ok_or (format_named t) fault.Usage) (first_of (name_of o.name) rows) (Ok Normal)
+    option_map_or (λ t. ok_or (format_named t) fault.Usage) (first_of (name_of o.name) rows)
+    (Ok Normal)

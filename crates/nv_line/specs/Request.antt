@@ -24,7 +24,8 @@ use Rattle.nv_line.specs.declared.request.Request.{Request}
 use Rattle.nv_line.specs.declared.verb.DeviceVerb.{DeviceVerb}
 use Rattle.nv_line.specs.declared.verb.DeviceVerb.TheVariants.{IdCtrl, IdNs, ListNs, CreateNs}
 use Rattle.nv_line.specs.declared.verb.DeviceVerb.TheVariants.{AttachNs, DetachNs, DeleteNs, Format}
-use Rattle.nv_line.specs.declared.verb.DeviceVerb.TheVariants.{GetFeature, SetFeature, SmartLog, ErrorLog}
+use Rattle.nv_line.specs.declared.verb.DeviceVerb.TheVariants.{GetFeature, SetFeature, SmartLog}
+use Rattle.nv_line.specs.declared.verb.DeviceVerb.TheVariants.{ErrorLog}
 use Rattle.nv_line.specs.declared.verb.TheConstants.{OUTPUT_FORMAT}
 use Rattle.nv_line.specs.declared.verb.Verb.{Verb}
 use Rattle.nv_line.specs.declared.verb.Verb.TheVariants.{Of, List}
@@ -56,7 +57,8 @@ query_of controllers (Of verb) rows = do
   Ok (query.One (record { controller = device.controller; ask = ask }))
 query_of controllers List rows = Ok query.List
 
--- the words after `nvme`: usage by the command word, by clap or by the output format, then what is asked
+-- the words after `nvme`: usage by the command word, by clap or by the output format, then what is
+-- asked
 abbrev pub request_of : ℕ → ListOf Text → Result Request LineFault
 request_of controllers [] = Err fault.Usage
 request_of controllers (word ∷ rest) = do

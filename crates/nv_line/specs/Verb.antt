@@ -3,12 +3,15 @@ use Rattle.std.specs.Prelude.{List as ListOf, Option, codes, find}
 use Rattle.std.specs.Str.{bytes_eq}
 use Rattle.clap.specs.Words.{Text}
 use Rattle.nv_line.specs.declared.option.CommandOption.{CommandOption}
-use Rattle.nv_line.specs.declared.verb.TheConstants.{VERBS, ATTACHMENT, CREATE_NS, DELETE_NS, ERROR_LOG, FORMAT}
-use Rattle.nv_line.specs.declared.verb.TheConstants.{FORMAT_ALONE, GET_FEATURE, ID_NS, LIST_NS, SET_FEATURE, SMART_LOG}
+use Rattle.nv_line.specs.declared.verb.TheConstants.{VERBS, ATTACHMENT, CREATE_NS, DELETE_NS}
+use Rattle.nv_line.specs.declared.verb.TheConstants.{ERROR_LOG, FORMAT}
+use Rattle.nv_line.specs.declared.verb.TheConstants.{FORMAT_ALONE, GET_FEATURE, ID_NS, LIST_NS}
+use Rattle.nv_line.specs.declared.verb.TheConstants.{SET_FEATURE, SMART_LOG}
 use Rattle.nv_line.specs.declared.verb.DeviceVerb.{DeviceVerb}
 use Rattle.nv_line.specs.declared.verb.DeviceVerb.TheVariants.{IdCtrl, IdNs, ListNs, CreateNs}
 use Rattle.nv_line.specs.declared.verb.DeviceVerb.TheVariants.{AttachNs, DetachNs, DeleteNs, Format}
-use Rattle.nv_line.specs.declared.verb.DeviceVerb.TheVariants.{GetFeature, SetFeature, SmartLog, ErrorLog}
+use Rattle.nv_line.specs.declared.verb.DeviceVerb.TheVariants.{GetFeature, SetFeature, SmartLog}
+use Rattle.nv_line.specs.declared.verb.DeviceVerb.TheVariants.{ErrorLog}
 use Rattle.nv_line.specs.declared.verb.Verb.{Verb}
 use Rattle.nv_line.specs.declared.verb.Verb.TheVariants.{Of, List}
 

@@ -1,11 +1,12 @@
 //! What one line of a script says: nothing, a request, or what is wrong with it.
 //!
-//! The command words and their options are one table, in `verb`. What `clap` is told of a command, and how
-//! its options are read, follow from its rows.
+//! The command words and their options are one table, in `verb`. What `clap` is told of a command,
+//! and how its options are read, follow from its rows.
 //!
-//! `read_line(alloc, b"list-ns /dev/nvme0 -n 2", 1)` is `Ok(Line::Request(Request { query, format }))` where
-//! `query` is `Query::One(Question { controller: 0, ask: Ask::ListNs { first: 2, all: false } })` and `format`
-//! is `OutputFormat::Normal`; with no controller it is `Err(LineFault::Device)`.
+//! `read_line(alloc, b"list-ns /dev/nvme0 -n 2", 1)` is `Ok(Line::Request(Request { query, format
+//! }))` where `query` is `Query::One(Question { controller: 0, ask: Ask::ListNs { first: 2, all:
+//! false } })` and `format` is `OutputFormat::Normal`; with no controller it is
+//! `Err(LineFault::Device)`.
 #![tactic(auto)]
 
 mod clap_rule;

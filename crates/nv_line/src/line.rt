@@ -21,9 +21,9 @@ pub enum Line {
     Request(Request),
 }
 
-/// Reads a line of a script for a subsystem with this many controllers. A fault is the first of: too long,
-/// not text, usage (also of an output format), device, and then, option by option, a missing NSID or a bad
-/// number.
+/// Reads a line of a script for a subsystem with this many controllers. A fault is the first of:
+/// too long, not text, usage (also of an output format), device, and then, option by option, a
+/// missing NSID or a bad number.
 pub fn read_line(alloc: Global, line: &[u8], controllers: u16) -> Result<Line, LineFault>
     ensures exact { IsUnlessMemory (reading line.now controllers) result }
     ensures known { IfOk result (IsKnown controllers) }

@@ -153,7 +153,8 @@ fn read_query(
     verb: Verb,
     controllers: u16,
 ) -> Result<Query, LineFault>
-    ensures value { IsUnlessMemory (query_of controllers verb (rows_of (found_of matches.now))) result }
+    ensures value { IsUnlessMemory (query_of controllers verb (rows_of (found_of matches.now)))
+        result }
     ensures known { IfOk result (IsQueryKnown controllers) }
 {
     match verb {

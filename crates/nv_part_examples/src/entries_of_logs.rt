@@ -18,7 +18,8 @@ fn get_log(lid: u8, offset: u64, numd: u32) -> Command<'static> {
     }
 }
 
-/// The entry of a Get Log Page with these command dwords is that of the command, which is read back.
+/// The entry of a Get Log Page with these command dwords is that of the command, which is read
+/// back.
 fn check_travel(rt: &impl Abort, command: Command, cdws: [u32; 4], bytes: u64) {
     let sent = command.entry(0x1234);
     assert_eq!(rt; (sent.opcode, sent.nsid, sent.cid), (0x02, 7, 0x1234));

@@ -12,7 +12,8 @@ shown_bytes n = min n (2 ^ 64 - 1)
 
 -- the bytes of a logical block: 2^LBADS of the format in use, FLBAS 3:0
 abbrev pub block_size_of : IdNs → ℕ
-block_size_of r = option_map_or (λ f. shown_bytes (2 ^ f.lbads)) (slice_get r.lbafs (r.flbas % 16)) 0
+block_size_of r =
+    option_map_or (λ f. shown_bytes (2 ^ f.lbads)) (slice_get r.lbafs (r.flbas % 16)) 0
 
 -- a namespace of a controller
 abbrev pub device_of : ℕ → ℕ → IdCtrl → IdNs → Device

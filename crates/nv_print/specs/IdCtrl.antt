@@ -1,7 +1,8 @@
 -- What is shown of a controller.
 use Rattle.std.specs.Prelude.{ℕ, ◌+◌, List, length, [], ◌∷◌, codes}
 use Rattle.nv_layout.specs.declared.id_ctrl.IdCtrl.{IdCtrl}
-use Rattle.nv_print.specs.Field.{Field, field, in_decimal, in_hexadecimal, wide, in_six_digits, as_text}
+use Rattle.nv_print.specs.Field.{Field, field, in_decimal, in_hexadecimal, wide, in_six_digits}
+use Rattle.nv_print.specs.Field.{as_text}
 use Rattle.nv_print.specs.Printable.{printable}
 
 unfoldable pub fields_of_id_ctrl : IdCtrl → List Field

@@ -1,11 +1,13 @@
 -- What is shown of a namespace.
-use Rattle.std.specs.Prelude.{ℕ, ◌+◌, ◌%◌, min, map, take, ◌==◌, List, [], ◌∷◌, ◌++◌, codes, flat_map, if◌then◌else◌}
+use Rattle.std.specs.Prelude.{ℕ, ◌+◌, ◌%◌, min, map, take, ◌==◌, List, [], ◌∷◌, ◌++◌, codes}
+use Rattle.std.specs.Prelude.{flat_map, if◌then◌else◌}
 use Rattle.std.specs.Fmt.{decimal}
 use Rattle.serde_json.specs.Data.{Data, array, object, put}
 use Rattle.serde_json.specs.View.{items_of}
 use Rattle.nv_layout.specs.declared.id_ns.IdNs.{IdNs}
 use Rattle.nv_layout.specs.declared.id_ns.Lbaf.{Lbaf}
-use Rattle.nv_print.specs.Field.{Field, field, fields_text, in_decimal, in_hexadecimal, members_of, object_of, shape_text, wide}
+use Rattle.nv_print.specs.Field.{Field, field, fields_text, in_decimal, in_hexadecimal, members_of}
+use Rattle.nv_print.specs.Field.{object_of, shape_text, wide}
 use Rattle.nv_print.specs.Padding.{lines_of, right}
 
 -- a namespace before its formats

@@ -1,14 +1,17 @@
 -- What is shown of logs.
-use Rattle.std.specs.Prelude.{ℕ, ◌==◌, Bool, not, List, [], ◌∷◌, ◌++◌, codes, filter, map, slice_index, if◌then◌else◌}
+use Rattle.std.specs.Prelude.{ℕ, ◌==◌, Bool, not, List, [], ◌∷◌, ◌++◌, codes, filter, map}
+use Rattle.std.specs.Prelude.{slice_index, if◌then◌else◌}
 use Rattle.serde_json.specs.Data.{Data, array, object, no_members, put}
 use Rattle.serde_json.specs.View.{items_of}
 use Rattle.nv_layout.specs.Status.{number_of_status}
 use Rattle.nv_layout.specs.declared.error_entry.ErrorEntry.{ErrorEntry}
 use Rattle.nv_layout.specs.declared.smart.Smart.{Smart}
-use Rattle.nv_print.specs.Field.{Field, field, field_line, fields_text, in_decimal, in_hexadecimal, object_of, wide}
+use Rattle.nv_print.specs.Field.{Field, field, field_line, fields_text, in_decimal, in_hexadecimal}
+use Rattle.nv_print.specs.Field.{object_of, wide}
 use Rattle.nv_print.specs.Padding.{lines_of}
 
--- the health log: how a controller is, what it has done and what has happened to it, how warm it was and is
+-- the health log: how a controller is, what it has done and what has happened to it, how warm it
+-- was and is
 unfoldable pub fields_of_smart : Smart → List Field
 fields_of_smart s =
     field (codes "critical_warning") (in_hexadecimal s.critical_warning)
@@ -59,12 +62,14 @@ holds_error e = not (e.count == 0)
 -- an entry by its index, where it holds an error
 abbrev pub entry_text : ℕ → ErrorEntry → List ℕ
 entry_text i e =
-    if holds_error e then field_line (field (codes "entry") (in_decimal i)) ++ fields_text (fields_of_entry e) else []
+    if holds_error e then field_line (field (codes "entry") (in_decimal i))
+    ++ fields_text (fields_of_entry e) else []
 
 abbrev pub entries_text : List ErrorEntry → List ℕ
 entries_text entries = lines_of entry_text 0 entries
 
 abbrev pub entries_data : List ErrorEntry → Data
 entries_data entries =
-    let errors = array (items_of (map (λ e. object_of (fields_of_entry e)) (filter holds_error entries))) in
+    let errors =
+    array (items_of (map (λ e. object_of (fields_of_entry e)) (filter holds_error entries))) in
     object (put (codes "errors") errors no_members)

@@ -12,7 +12,8 @@ use Rattle.nv_print.specs.declared.fault.FaultCause.TheVariants as cause
 
 -- "NVMe status: Invalid Namespace or Format (0x600b)"
 abbrev pub refusal_text : Status → List ℕ
-refusal_text s = codes "NVMe status: " ++ (name_of_status s ++ (codes " (" ++ (hexadecimal (number_of_status s) ++ codes ")")))
+refusal_text s = codes "NVMe status: "
+    ++ (name_of_status s ++ (codes " (" ++ (hexadecimal (number_of_status s) ++ codes ")")))
 
 abbrev pub cause_text : FaultCause → List ℕ
 cause_text (cause.Line fault) = fault_text fault

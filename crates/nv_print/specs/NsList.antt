@@ -8,7 +8,8 @@ use Rattle.nv_print.specs.Padding.{lines_of, right}
 
 -- an NSID by its index: "[   0]:0x1"
 abbrev pub nsid_line : ℕ → ℕ → List ℕ
-nsid_line i nsid = codes "[" ++ (right 4 (decimal i) ++ (codes "]:" ++ (hexadecimal nsid ++ 10 ∷ [])))
+nsid_line i nsid =
+    codes "[" ++ (right 4 (decimal i) ++ (codes "]:" ++ (hexadecimal nsid ++ 10 ∷ [])))
 
 abbrev pub nsids_text : List ℕ → List ℕ
 nsids_text nsids = lines_of nsid_line 0 nsids

@@ -1,5 +1,6 @@
 -- What is shown of a command that has no record: one line.
-use Rattle.std.specs.Prelude.{ℕ, Bool, ◌==◌, List, Option, Some, None, [], ◌∷◌, ◌++◌, codes, if◌then◌else◌}
+use Rattle.std.specs.Prelude.{ℕ, Bool, ◌==◌, List, Option, Some, None, [], ◌∷◌, ◌++◌, codes}
+use Rattle.std.specs.Prelude.{if◌then◌else◌}
 use Rattle.std.specs.Fmt.{decimal}
 use Rattle.nv_layout.specs.Feature.{row_of}
 use Rattle.nv_layout.specs.Parts.{bit}

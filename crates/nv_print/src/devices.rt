@@ -2,7 +2,8 @@
 
 ghost use Rattle.std.specs.Prelude.{◌≡◌, ◌≤◌, ◌+◌, ◌*◌, ◌++◌, IfOk, OnOk, length, string_bytes};
 ghost use Rattle.serde_json.specs.Written.{compact_text};
-ghost use Rattle.nv_print.specs.DeviceList.{device_line, devices_data, devices_text, fields_of_device, node_of};
+ghost use Rattle.nv_print.specs.DeviceList.{device_line, devices_data, devices_text};
+ghost use Rattle.nv_print.specs.DeviceList.{fields_of_device, node_of};
 ghost use Rattle.nv_print.specs.Field.{object_of};
 ghost use Rattle.serde_json.specs.View.{view};
 
@@ -118,7 +119,8 @@ fn device_data(alloc: Global, device: &Device) -> Result<Value, AllocError>
 #[tactic(auto, using(crate::proofs::Items::items_next))]
 pub(crate) fn devices_data(alloc: Global, devices: &[Device]) -> Result<Value, AllocError>
     ensures value { IfOk result (λ v. view v ≡ devices_data devices.now) }
-    ensures bound { IfOk result (λ v. length (compact_text (view v)) ≤ 65000 + 512 * length devices.now) }
+    ensures bound { IfOk result
+        (λ v. length (compact_text (view v)) ≤ 65000 + 512 * length devices.now) }
 {
     let mut objects = Vec::new(alloc);
     for device in devices {

@@ -3,7 +3,8 @@
 ghost use Rattle.std.specs.Prelude.{◌≡◌, ◌++◌, [], IfOk, OnOk, flat_map, string_bytes};
 ghost use Rattle.serde_json.specs.Data.{put};
 ghost use Rattle.serde_json.specs.View.{members_view, view};
-ghost use Rattle.nv_print.specs.Field.{as_text, field, fields_text, in_decimal, in_hexadecimal, in_six_digits, object_of, shape_data, wide, with_fields};
+ghost use Rattle.nv_print.specs.Field.{as_text, field, fields_text, in_decimal, in_hexadecimal};
+ghost use Rattle.nv_print.specs.Field.{in_six_digits, object_of, shape_data, wide, with_fields};
 ghost use Rattle.nv_print.specs.IdNs.{field_within};
 ghost use Rattle.nv_print.specs.Printable.{printable};
 
@@ -222,7 +223,8 @@ pub(crate) fn put_fields(
     fields: &[Field<'_>],
 ) -> Result<(), AllocError>
     ensures { OnOk result
-        (members_view members.new.entries ≡ with_fields fields.now (members_view members.old.entries)) }
+        (members_view members.new.entries
+        ≡ with_fields fields.now (members_view members.old.entries)) }
 {
     for field in fields {
         field.put(members, alloc)?;

@@ -3,7 +3,8 @@
 ghost use Rattle.std.specs.Prelude.{◌≡◌, ◌++◌, ◌∷◌, [], IfOk, if◌then◌else◌, map, string_bytes};
 ghost use Rattle.serde_json.specs.View.{view};
 ghost use Rattle.nv_print.specs.Field.{object_of};
-ghost use Rattle.nv_print.specs.Logs.{entries_data, entries_text, entry_text, fields_of_entry, holds_error};
+ghost use Rattle.nv_print.specs.Logs.{entries_data, entries_text, entry_text, fields_of_entry};
+ghost use Rattle.nv_print.specs.Logs.{holds_error};
 
 use crate::data::list_object;
 use crate::field::{Field, object_of, push_fields};

@@ -4,7 +4,8 @@ ghost use Rattle.std.specs.Prelude.{◌≡◌, ◌++◌, IfOk, map, string_bytes
 ghost use Rattle.serde_json.specs.Data.{array};
 ghost use Rattle.serde_json.specs.View.{items_of, view};
 ghost use Rattle.nv_print.specs.Field.{object_of};
-ghost use Rattle.nv_print.specs.IdNs.{fields_of_lbaf, formats_of, lbaf_line, mark_of, namespace_data, namespace_text};
+ghost use Rattle.nv_print.specs.IdNs.{fields_of_lbaf, formats_of, lbaf_line, mark_of};
+ghost use Rattle.nv_print.specs.IdNs.{namespace_data, namespace_text};
 ghost use Rattle.nv_print.specs.Padding.{lines_of};
 
 use crate::column::Right;

@@ -1,9 +1,11 @@
 -- A buffer in pages, and the list that names them.
-use Rattle.std.specs.Prelude.{◌≡◌, ℕ, ◌+◌, ◌-◌, ◌*◌, ◌/◌, ◌%◌, ◌<◌, ◌≤◌, ◌⊎◌, All, List, length, slice_index}
+use Rattle.std.specs.Prelude.{◌≡◌, ℕ, ◌+◌, ◌-◌, ◌*◌, ◌/◌, ◌%◌, ◌<◌, ◌≤◌, ◌⊎◌, All, List, length}
+use Rattle.std.specs.Prelude.{slice_index}
 use Rattle.nv_host.specs.Bytes.{bytes_at}
 use Rattle.nv_host.specs.Pages.{HasPage}
 use Rattle.nv_prp.specs.Place.{AreDistinct, table}
-use Rattle.nv_prp.specs.Transfer.{IsLegal, Transfer, data_pages, list_place, naming_number, place_of, qword, transfer_places}
+use Rattle.nv_prp.specs.Transfer.{IsLegal, Transfer, data_pages, list_place, naming_number}
+use Rattle.nv_prp.specs.Transfer.{place_of, qword, transfer_places}
 
 -- the place of byte i of a buffer: its pages by their numbers, and where it begins in the first one
 unfoldable pub buffer_place : ℕ → List ℕ → ℕ → ℕ → ℕ
@@ -16,7 +18,8 @@ unfoldable pub buffer_places : ℕ → List ℕ → ℕ → ℕ → List ℕ
 buffer_places page_size pages offset len = table len (buffer_place page_size pages offset)
 
 -- the pages lie in the memory and hold this many bytes from the offset on
-pub record IsBuffer (bytes : List ℕ) (page_size : ℕ) (pages : List ℕ) (offset len : ℕ) : Type 0 where
+pub record IsBuffer (bytes : List ℕ) (page_size : ℕ) (pages : List ℕ)
+    (offset len : ℕ) : Type 0 where
   pub below : offset < page_size
   pub aligned : offset % 4 ≡ 0
   pub enough : offset + len ≤ length pages * page_size
@@ -41,20 +44,25 @@ IsOutside page_size page from n = IsApart (page * page_size) page_size from n
 
 -- only bytes of two pages are other ones
 abbrev pub KeepsOutside : ℕ → ℕ → ℕ → List ℕ → List ℕ → Type 0
-KeepsOutside page_size first second old new = (from n : ℕ) → IsOutside page_size first from n → IsOutside page_size second from n
+KeepsOutside page_size first second old new = (from n : ℕ) → IsOutside page_size first from n
+    → IsOutside page_size second from n
     → bytes_at new from n ≡ bytes_at old from n
 
 -- only the n bytes from an address on are other ones
 abbrev pub ChangesOnly : ℕ → ℕ → List ℕ → List ℕ → Type 0
-ChangesOnly addr n old new = (from k : ℕ) → IsApart addr n from k → bytes_at new from k ≡ bytes_at old from k
+ChangesOnly addr n old new = (from k : ℕ) → IsApart addr n from k → bytes_at new from k
+    ≡ bytes_at old from k
 
 -- ---- what a list says
 
--- a list that begins at `first` and goes on at `second` names the first pages of a buffer, but for page 0
-pub record NamesPages (bytes : List ℕ) (page_size room first second : ℕ) (pages : List ℕ) (count : ℕ) : Type 0 where
+-- a list that begins at `first` and goes on at `second` names the first pages of a buffer, but for
+-- page 0
+pub record NamesPages (bytes : List ℕ) (page_size room first second : ℕ) (pages : List ℕ)
+    (count : ℕ) : Type 0 where
   pub chain : room < count - 1 → qword bytes (first + 8 * (room - 1)) ≡ second
   pub each : (j : ℕ) → 0 < j → j < count
-      → qword bytes (list_place room first second (naming_number room count j)) ≡ slice_index pages j * page_size
+      → qword bytes (list_place room first second (naming_number room count j))
+      ≡ slice_index pages j * page_size
 
 -- ---- what a transfer that was built is
 
@@ -63,21 +71,27 @@ pub record IsFor (t : Transfer) (pages : List ℕ) (start : ℕ) : Type 0 where
   pub legal : IsLegal t
   pub places : (i : ℕ) → i < t.len → place_of t i ≡ buffer_place t.page_size pages start i
 
--- a later memory is as large, and has the same bytes in the list's pages where the transfer has a list
+-- a later memory is as large, and has the same bytes in the list's pages where the transfer has a
+-- list
 pub record KeepsList (t : Transfer) (first second : ℕ) (later : List ℕ) : Type 0 where
   pub len : length later ≡ length t.bytes
-  pub in_first : 2 < data_pages t → bytes_at later (first * t.page_size) t.page_size ≡ bytes_at t.bytes (first * t.page_size) t.page_size
-  pub in_second : 2 < data_pages t → bytes_at later (second * t.page_size) t.page_size ≡ bytes_at t.bytes (second * t.page_size) t.page_size
+  pub in_first : 2 < data_pages t → bytes_at later (first * t.page_size) t.page_size
+      ≡ bytes_at t.bytes (first * t.page_size) t.page_size
+  pub in_second : 2 < data_pages t → bytes_at later (second * t.page_size) t.page_size
+      ≡ bytes_at t.bytes (second * t.page_size) t.page_size
 
 -- over each such memory it is a legal transfer of the buffer's bytes
 abbrev pub StaysFor : Transfer → List ℕ → ℕ → ℕ → ℕ → Type 0
-StaysFor t pages start first second = (later : List ℕ) → KeepsList t first second later → IsFor (record t { bytes = later }) pages start
+StaysFor t pages start first second = (later : List ℕ) → KeepsList t first second later
+    → IsFor (record t { bytes = later }) pages start
 
 -- ---- laws
 
--- where the clauses of a buffer's entries hold, the places of their transfer are the buffer's, and distinct where
--- its pages are
+-- where the clauses of a buffer's entries hold, the places of their transfer are the buffer's, and
+-- distinct where its pages are
 abbrev pub BuiltIsWalked : Type 0
-BuiltIsWalked = (t : Transfer) (pages : List ℕ) (offset : ℕ) → IsBuffer t.bytes t.page_size pages offset t.len
+BuiltIsWalked =
+    (t : Transfer) (pages : List ℕ) (offset : ℕ) → IsBuffer t.bytes t.page_size pages offset t.len
     → ((i : ℕ) → i < t.len → place_of t i ≡ buffer_place t.page_size pages offset i)
-    → (transfer_places t ≡ buffer_places t.page_size pages offset t.len) × (AreDistinct pages → AreDistinct (transfer_places t))
+    → (transfer_places t ≡ buffer_places t.page_size pages offset t.len)
+    × (AreDistinct pages → AreDistinct (transfer_places t))

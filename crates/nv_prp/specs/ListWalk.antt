@@ -1,14 +1,17 @@
 -- A list of more than two data pages, as a walk goes over it.
-use Rattle.std.specs.Prelude.{◌≡◌, ℕ, ◌+◌, ◌-◌, ◌*◌, ◌&&◌, ◌<◌, ◌≤◌, None, if◌then◌else◌, length, nat_lt}
+use Rattle.std.specs.Prelude.{◌≡◌, ℕ, ◌+◌, ◌-◌, ◌*◌, ◌&&◌, ◌<◌, ◌≤◌, None, if◌then◌else◌, length}
+use Rattle.std.specs.Prelude.{nat_lt}
 use Rattle.nv_host.specs.Pages.{IsPageSize}
-use Rattle.nv_prp.specs.Transfer.{Transfer, data_pages, entry_fault, first_qword_fault, page_base, qword, room, second_page}
+use Rattle.nv_prp.specs.Transfer.{Transfer, data_pages, entry_fault, first_qword_fault, page_base}
+use Rattle.nv_prp.specs.Transfer.{qword, room, second_page}
 
 -- how many Qwords are used before that of data page j is looked for, and where the next one lies
 abbrev pub used : ℕ → ℕ → ℕ → ℕ
 used space pages j = if nat_lt space j && nat_lt space (pages - 1) then j else j - 1
 
 abbrev pub cursor : ℕ → ℕ → ℕ → ℕ → ℕ → ℕ
-cursor space first second pages j = if nat_lt space j && nat_lt space (pages - 1) then second + 8 * (j - space) else first + 8 * (j - 1)
+cursor space first second pages j = if nat_lt space j && nat_lt space (pages - 1) then second
+    + 8 * (j - space) else first + 8 * (j - 1)
 
 abbrev pub used_of : Transfer → ℕ → ℕ
 used_of t j = used (room t) (data_pages t) j
@@ -33,7 +36,8 @@ pub record Comes (t : Transfer) (j at : ℕ) : Type 0 where
 
 -- the Qword at this address is the one that names data page j
 pub record Turn (t : Transfer) (j at : ℕ) : Type 0 where
-  pub fault : first_qword_fault t (used_of t (j + 1)) ≡ entry_fault t.page_size (length t.bytes) t.page_size (qword t.bytes at)
+  pub fault : first_qword_fault t (used_of t (j + 1)) ≡ entry_fault t.page_size (length t.bytes)
+      t.page_size (qword t.bytes at)
   pub base : page_base t j ≡ qword t.bytes at
   pub next : cursor_of t (j + 1) ≡ at + 8
   pub inside : at + 8 ≤ length t.bytes

@@ -1,5 +1,6 @@
 -- Bytes at places: an address for each byte, in order.
-use Rattle.std.specs.Prelude.{◌≡◌, ◌≢◌, ℕ, zero, suc, ◌+◌, ◌<◌, ◌≤◌, List, [], ◌∷◌, ◌++◌, All, AllPairs, length, map, slice_index, slice_set}
+use Rattle.std.specs.Prelude.{◌≡◌, ◌≢◌, ℕ, zero, suc, ◌+◌, ◌<◌, ◌≤◌, List, [], ◌∷◌, ◌++◌, All}
+use Rattle.std.specs.Prelude.{AllPairs, length, map, slice_index, slice_set}
 use Rattle.std.specs.List.{flat_map}
 use Rattle.nv_prp.specs.declared.spans.Span.{Span}
 
@@ -37,13 +38,15 @@ AreDistinct at = AllPairs (λ p q. p ≢ q) at
 
 -- of two bytes for one place the later one stays
 abbrev pub LaterStays : Type 0
-LaterStays = (bytes at written : List ℕ) (i : ℕ) → length at ≡ length written → i < length at → slice_index at i < length bytes
+LaterStays = (bytes at written : List ℕ) (i : ℕ) → length at ≡ length written → i < length at
+    → slice_index at i < length bytes
     → ((k : ℕ) → i < k → k < length at → slice_index at k ≢ slice_index at i)
     → slice_index (written_at bytes at written) (slice_index at i) ≡ slice_index written i
 
 -- bytes at no place stay
 abbrev pub OthersStay : Type 0
-OthersStay = (bytes at written : List ℕ) (other : ℕ) → ((k : ℕ) → k < length at → slice_index at k ≢ other)
+OthersStay =
+    (bytes at written : List ℕ) (other : ℕ) → ((k : ℕ) → k < length at → slice_index at k ≢ other)
     → slice_index (written_at bytes at written) other ≡ slice_index bytes other
 
 -- bytes written to distinct places of spans in the memory are read from them

@@ -1,10 +1,15 @@
 -- What tables, places and bytes written to them have in common.
-use Rattle.std.proofs.Common.{◌≡◌, ◌≢◌, ◌∙◌, ◌⊎◌, ℕ, zero, suc, ◌+◌, ◌-◌, ◌<◌, ◌≤◌, List, [], ◌∷◌, ◌++◌, append_assoc, append-nil, ap, arith, drop, get_or, inl, inr, length, length-append, length-drop, length-take, min, refl, set, subst, sym}
+use Rattle.std.proofs.Common.{◌≡◌, ◌≢◌, ◌∙◌, ◌⊎◌, ℕ, zero, suc, ◌+◌, ◌-◌, ◌<◌, ◌≤◌, List, [], ◌∷◌}
+use Rattle.std.proofs.Common.{◌++◌, append_assoc, append-nil, ap, arith, drop, get_or, inl, inr}
+use Rattle.std.proofs.Common.{length, length-append, length-drop, length-take, min, refl, set}
+use Rattle.std.proofs.Common.{subst, sym}
 use Rattle.std.specs.List.{All}
 use Rattle.std.proofs.Math.ListN.{length-set}
 use Rattle.std.proofs.lemmas.Bool.{cases_lt}
 use Rattle.std.proofs.lemmas.Grind.{same_number_lists}
-use Rattle.std.proofs.lemmas.List.{get_or-append_right, get_or-drop, get_or-map, get_or-set_other, get_or-set_same, get_or-take, get_or_append_left, get_or_push, length-map}
+use Rattle.std.proofs.lemmas.List.{get_or-append_right, get_or-drop, get_or-map, get_or-set_other}
+use Rattle.std.proofs.lemmas.List.{get_or-set_same, get_or-take, get_or_append_left, get_or_push}
+use Rattle.std.proofs.lemmas.List.{length-map}
 use Rattle.nv_host.specs.Bytes.{bytes_at}
 use Rattle.nv_prp.specs.Place.{AreDistinct, LieIn, places, read_at, span_places, table, written_at}
 use Rattle.nv_prp.specs.declared.spans.Span.{Span}
@@ -13,14 +18,17 @@ use Rattle.nv_prp.specs.declared.spans.Span.{Span}
 
 pub length-table : {X : Type 0} (n : ℕ) (f : ℕ → X) → length (table n f) ≡ n
 length-table zero f = refl
-length-table (suc n) f = length-append (table n f) (f n ∷ []) ∙ ap (λ k. k + 1) (length-table n f) ∙ omega arith
+length-table (suc n) f = length-append (table n f) (f n ∷ []) ∙ ap (λ k. k + 1) (length-table n f)
+    ∙ omega arith
 
-pub get_or-table : {X : Type 0} (n : ℕ) (f : ℕ → X) (k : ℕ) (d : X) → k < n → get_or (table n f) k d ≡ f k
+pub get_or-table : {X : Type 0} (n : ℕ) (f : ℕ → X) (k : ℕ) (d : X) → k < n
+    → get_or (table n f) k d ≡ f k
 get_or-table zero f k d h = absurd (omega arith)
 get_or-table (suc n) f k d h =
     let size = length-table n f in
     elim (cases_lt k n) [
-      | inl below ↦ get_or_append_left (table n f) (f n ∷ []) d k (omega arith) ∙ get_or-table n f k d below
+      | inl below ↦ get_or_append_left (table n f) (f n ∷ []) d k (omega arith)
+          ∙ get_or-table n f k d below
       | inr last ↦
           let is : k ≡ n = omega arith in
           get_or_push (table n f) (f n) d k (omega arith) ∙ ap (λ i. f i) (sym is)
@@ -30,27 +38,34 @@ pub table-more : {X : Type 0} (n m : ℕ) (f : ℕ → X) → m ≡ n + 1 → ta
 table-more n m f e = let is : m ≡ suc n = omega arith in ap (λ k. table k f) is
 
 -- one table after another
-pub table-append : {X : Type 0} (n m : ℕ) (f : ℕ → X) → table (n + m) f ≡ table n f ++ table m (λ k. f (n + k))
-table-append n zero f = let is : n + 0 ≡ n = omega arith in ap (λ k. table k f) is ∙ sym (append-nil (table n f))
+pub table-append : {X : Type 0} (n m : ℕ) (f : ℕ → X) → table (n + m) f ≡ table n f
+    ++ table m (λ k. f (n + k))
+table-append n zero f = let is : n + 0 ≡ n =
+    omega arith in ap (λ k. table k f) is ∙ sym (append-nil (table n f))
 table-append n (suc m) f =
     table-more (n + m) (n + suc m) f (omega arith)
     ∙ ap (λ l. l ++ f (n + m) ∷ []) (table-append n m f)
     ∙ append_assoc (table n f) (table m (λ k. f (n + k))) (f (n + m) ∷ [])
 
-pub table-same : {X : Type 0} (n : ℕ) (f g : ℕ → X) → ((k : ℕ) → k < n → f k ≡ g k) → table n f ≡ table n g
+pub table-same : {X : Type 0} (n : ℕ) (f g : ℕ → X) → ((k : ℕ) → k < n → f k ≡ g k) → table n f
+    ≡ table n g
 table-same zero f g same = refl
-table-same (suc n) f g same = λ i. table-same n f g (λ k h. same k (omega arith)) i ++ same n (omega arith) i ∷ []
+table-same (suc n) f g same = λ i. table-same n f g (λ k h. same k (omega arith)) i
+    ++ same n (omega arith) i ∷ []
 
 -- what holds of each value holds of each element
-pub All-table : {X : Type 0} (P : X → Type 0) (n : ℕ) (f : ℕ → X) → ((k : ℕ) → k < n → P (f k)) → All P (table n f)
+pub All-table : {X : Type 0} (P : X → Type 0) (n : ℕ) (f : ℕ → X) → ((k : ℕ) → k < n → P (f k))
+    → All P (table n f)
 All-table P n f each k d below =
     let h : k < n = omega (arith, length-table n f) in
     subst P (sym (get_or-table n f k d h)) (each k h)
 
-pub table_distinct : (n : ℕ) (f : ℕ → ℕ) → ((i k : ℕ) → i < k → k < n → f i ≢ f k) → AreDistinct (table n f)
+pub table_distinct : (n : ℕ) (f : ℕ → ℕ) → ((i k : ℕ) → i < k → k < n → f i ≢ f k)
+    → AreDistinct (table n f)
 table_distinct n f apart i k d below inside e =
     let within : k < n = omega (arith, length-table n f) in
-    apart i k below within (sym (get_or-table n f i d (omega arith)) ∙ e ∙ get_or-table n f k d within)
+    apart i k below within (sym (get_or-table n f i d (omega arith)) ∙ e
+    ∙ get_or-table n f k d within)
 
 -- ---- places of spans
 
@@ -59,7 +74,8 @@ unfolding span_places
 length-span_places s = length-table s.len (λ k. s.address + k)
 
 -- places of spans that lie in a memory
-pub places_inside : (size : ℕ) (spans : List Span) → LieIn size spans → (k : ℕ) → k < length (places spans) → get_or (places spans) k 0 < size
+pub places_inside : (size : ℕ) (spans : List Span) → LieIn size spans → (k : ℕ) → k
+    < length (places spans) → get_or (places spans) k 0 < size
 unfolding places span_places LieIn
 places_inside size [] inside k below = absurd (omega arith)
 places_inside size (s ∷ spans) inside k below =
@@ -68,11 +84,13 @@ places_inside size (s ∷ spans) inside k below =
     let len = length-span_places s in
     elim (cases_lt k (length first)) [
       | inl in_first ↦
-          let is = get_or_append_left first (places spans) 0 k in_first ∙ get_or-table s.len (λ j. s.address + j) k 0 (omega arith) in
+          let is = get_or_append_left first (places spans) 0 k in_first
+          ∙ get_or-table s.len (λ j. s.address + j) k 0 (omega arith) in
           omega (arith, is)
       | inr later ↦
           let is = get_or-append_right first (places spans) (length first) k 0 refl later in
-          let fits = places_inside size spans (λ i d h. inside (suc i) d (omega arith)) (k - length first)
+          let fits =
+          places_inside size spans (λ i d h. inside (suc i) d (omega arith)) (k - length first)
           (omega (arith, length-append first (places spans))) in
           omega (arith, is, fits)
     ]
@@ -87,19 +105,23 @@ pub length-written_at : (bytes ps xs : List ℕ) → length (written_at bytes ps
 unfolding written_at
 length-written_at bytes [] xs = refl
 length-written_at bytes (p ∷ ps) [] = refl
-length-written_at bytes (p ∷ ps) (x ∷ xs) = length-written_at (set bytes p x) ps xs ∙ length-set bytes p x
+length-written_at bytes (p ∷ ps) (x ∷ xs) =
+    length-written_at (set bytes p x) ps xs ∙ length-set bytes p x
 
-pub others_stay : (bytes at written : List ℕ) (other : ℕ) → ((k : ℕ) → k < length at → get_or at k 0 ≢ other)
+pub others_stay : (bytes at written : List ℕ) (other : ℕ) → ((k : ℕ) → k < length at
+    → get_or at k 0 ≢ other)
     → get_or (written_at bytes at written) other 0 ≡ get_or bytes other 0
 unfolding written_at
 others_stay bytes [] written other apart = refl
 others_stay bytes (p ∷ at) [] other apart = refl
 others_stay bytes (p ∷ at) (b ∷ written) other apart =
     let first : p ≢ other = apart 0 (omega arith) in
-    others_stay (set bytes p b) at written other (λ k below. let next : get_or at k 0 ≢ other = apart (suc k) (omega arith) in next)
+    others_stay (set bytes p b) at written other (λ k below. let next : get_or at k 0 ≢ other =
+    apart (suc k) (omega arith) in next)
     ∙ get_or-set_other bytes p other b 0 (λ e. first (sym e))
 
-pub later_stays : (bytes at written : List ℕ) (i : ℕ) → length at ≡ length written → i < length at → get_or at i 0 < length bytes
+pub later_stays : (bytes at written : List ℕ) (i : ℕ) → length at ≡ length written → i < length at
+    → get_or at i 0 < length bytes
     → ((k : ℕ) → i < k → k < length at → get_or at k 0 ≢ get_or at i 0)
     → get_or (written_at bytes at written) (get_or at i 0) 0 ≡ get_or written i 0
 unfolding written_at
@@ -112,30 +134,37 @@ later_stays bytes (p ∷ at) (b ∷ written) zero same below inside last =
 later_stays bytes (p ∷ at) (b ∷ written) (suc i) same below inside last =
     later_stays (set bytes p b) at written i (omega arith) (omega arith)
     (let size = length-set bytes p b in omega arith)
-    (λ k h j. let next : get_or at k 0 ≢ get_or at i 0 = last (suc k) (omega arith) (omega arith) in next)
+    (λ k h j. let next : get_or at k 0 ≢ get_or at i 0 = last (suc k) (omega arith) (omega arith) in
+    next)
 
 -- what is written to distinct places of a memory is read from them
 pub read_written : (bytes at written : List ℕ) → length at ≡ length written
-    → ((k : ℕ) → k < length at → get_or at k 0 < length bytes) → AreDistinct at → read_at (written_at bytes at written) at ≡ written
+    → ((k : ℕ) → k < length at → get_or at k 0 < length bytes) → AreDistinct at
+    → read_at (written_at bytes at written) at ≡ written
 unfolding read_at
 read_written bytes at written same inside distinct =
     let size = length-read_at (written_at bytes at written) at in
     same_number_lists _ _ (size ∙ same)
     (λ k h. let below : k < length at = omega (arith, size) in
     get_or-map (λ p. get_or (written_at bytes at written) p 0) at k 0 0 below
-    ∙ later_stays bytes at written k same below (inside k below) (λ j later more e. distinct k j 0 later more (sym e)))
+    ∙ later_stays bytes at written k same below (inside k below) (λ j later more e.
+    distinct k j 0 later more (sym e)))
 
-pub written_is_read : (bytes : List ℕ) (spans : List Span) (written : List ℕ) → LieIn (length bytes) spans
+pub written_is_read : (bytes : List ℕ) (spans : List Span) (written : List ℕ)
+    → LieIn (length bytes) spans
     → length (places spans) ≡ length written → AreDistinct (places spans)
     → read_at (written_at bytes (places spans) written) (places spans) ≡ written
 written_is_read bytes spans written inside same distinct =
     read_written bytes (places spans) written same (places_inside _ spans inside) distinct
 
-pub get_or-bytes_at : (bytes : List ℕ) (from n k : ℕ) → k < n → get_or (bytes_at bytes from n) k 0 ≡ get_or bytes (from + k) 0
+pub get_or-bytes_at : (bytes : List ℕ) (from n k : ℕ) → k < n → get_or (bytes_at bytes from n) k 0
+    ≡ get_or bytes (from + k) 0
 unfolding bytes_at
-get_or-bytes_at bytes from n k below = get_or-take n (drop from bytes) k 0 below ∙ get_or-drop from bytes k 0
+get_or-bytes_at bytes from n k below =
+    get_or-take n (drop from bytes) k 0 below ∙ get_or-drop from bytes k 0
 
-length-part : (bytes : List ℕ) (from n : ℕ) → length (bytes_at bytes from n) ≡ min n (length bytes - from)
+length-part : (bytes : List ℕ) (from n : ℕ) → length (bytes_at bytes from n)
+    ≡ min n (length bytes - from)
 unfolding bytes_at
 length-part bytes from n = simp (length-take, length-drop) (omega arith)
 

@@ -1,5 +1,8 @@
--- A transfer between a memory and a controller, described by two PRP entries: which byte lies where.
-use Rattle.std.specs.Prelude.{◌≡◌, ℕ, zero, suc, ◌==◌, ◌+◌, ◌-◌, ◌*◌, ◌/◌, ◌%◌, ◌&&◌, ◌<◌, List, MatchResult, None, Option, Result, Some, if◌then◌else◌, length, min, nat_le, nat_lt}
+-- A transfer between a memory and a controller, described by two PRP entries: which byte lies
+-- where.
+use Rattle.std.specs.Prelude.{◌≡◌, ℕ, zero, suc, ◌==◌, ◌+◌, ◌-◌, ◌*◌, ◌/◌, ◌%◌, ◌&&◌, ◌<◌, List}
+use Rattle.std.specs.Prelude.{MatchResult, None, Option, Result, Some, if◌then◌else◌, length, min}
+use Rattle.std.specs.Prelude.{nat_le, nat_lt}
 use Rattle.std.specs.Int.{div_ceil, from_le_bytes, w64}
 use Rattle.std.specs.Option.{option_or}
 use Rattle.nv_host.specs.Bytes.{bytes_at}
@@ -37,13 +40,14 @@ data_pages t = div_ceil (offset t + t.len) t.page_size
 unfoldable pub qword : List ℕ → ℕ → ℕ
 qword bytes addr = from_le_bytes w64 (bytes_at bytes addr 8)
 
--- how many Qwords of a list are used, where its first page has room for so many: one for each data page but the
--- first, and one for the address of its second page where they don't fit
+-- how many Qwords of a list are used, where its first page has room for so many: one for each data
+-- page but the first, and one for the address of its second page where they don't fit
 abbrev pub list_qwords : ℕ → ℕ → ℕ
 list_qwords room pages = if nat_lt room (pages - 1) then pages else pages - 1
 
--- the Qword of a list that holds data page j's address, j from 1 on: in a list of two pages the last Qword of the
--- first one holds the second one's address, and those after it are one number ahead
+-- the Qword of a list that holds data page j's address, j from 1 on: in a list of two pages the
+-- last Qword of the first one holds the second one's address, and those after it are one number
+-- ahead
 abbrev pub naming_number : ℕ → ℕ → ℕ → ℕ
 naming_number room pages j = if nat_le room j && nat_lt room (pages - 1) then j else j - 1
 
@@ -97,15 +101,16 @@ first_byte t j = min t.len (j * t.page_size - offset t)
 
 -- the bytes of data page j
 unfoldable pub span_of : Transfer → ℕ → Span
-span_of t j = record { address = place_of t (first_byte t j); len = first_byte t (j + 1) - first_byte t j }
+span_of t j =
+    record { address = place_of t (first_byte t j); len = first_byte t (j + 1) - first_byte t j }
 
 unfoldable pub spans_of : Transfer → List Span
 spans_of t = table (data_pages t) (span_of t)
 
 -- ---- which transfers are legal
 
--- an entry is a multiple of its alignment, and its page lies in the memory. The memory is whole pages,
--- so that a Qword lies in it where its page does
+-- an entry is a multiple of its alignment, and its page lies in the memory. The memory is whole
+-- pages, so that a Qword lies in it where its page does
 unfoldable pub entry_fault : ℕ → ℕ → ℕ → ℕ → Option PrpError
 entry_fault page_size size alignment entry =
     if entry % alignment == 0
@@ -120,11 +125,13 @@ unfoldable pub prp2_fault : Transfer → Option PrpError
 prp2_fault t =
     if nat_lt 2 (data_pages t)
     then entry_fault t.page_size (length t.bytes) 8 t.prp2
-    else (if data_pages t == 2 then entry_fault t.page_size (length t.bytes) t.page_size t.prp2 else None)
+    else (if data_pages t == 2 then entry_fault t.page_size (length t.bytes) t.page_size
+    t.prp2 else None)
 
 -- Qword n of the list is the address of a data page or of the second list page
 unfoldable pub qword_fault : Transfer → ℕ → Option PrpError
-qword_fault t n = entry_fault t.page_size (length t.bytes) t.page_size (qword t.bytes (qword_place t n))
+qword_fault t n =
+    entry_fault t.page_size (length t.bytes) t.page_size (qword t.bytes (qword_place t n))
 
 pub record IsLegal (t : Transfer) : Type 0 where
   pub prp1 : prp1_fault t ≡ None
@@ -136,8 +143,10 @@ abbrev pub HasFault : {X : Type 0} → Result X PrpError → Option PrpError →
 HasFault result fault = MatchResult result (λ _. fault ≡ None) (λ e. fault ≡ Some e)
 
 -- a walk ended with the fault, or without one and with the spans of all data pages
-abbrev pub HasWalked : {X : Type 0} → Transfer → Option PrpError → Result X PrpError → List Span → Type 0
-HasWalked t fault result spans = MatchResult result (λ _. (fault ≡ None) × (spans ≡ spans_of t)) (λ e. fault ≡ Some e)
+abbrev pub HasWalked : {X : Type 0} → Transfer → Option PrpError → Result X PrpError
+    → List Span → Type 0
+HasWalked t fault result spans =
+    MatchResult result (λ _. (fault ≡ None) × (spans ≡ spans_of t)) (λ e. fault ≡ Some e)
 
 -- the fault at the first of the n Qwords that has one
 abbrev pub first_qword_fault : Transfer → ℕ → Option PrpError

@@ -1,5 +1,5 @@
-//! Bytes copied between a transfer's spans and a slice or a payload, in the order of the transfer. As in the
-//! commands, "out" and "in" are meant from the controller's side.
+//! Bytes copied between a transfer's spans and a slice or a payload, in the order of the transfer.
+//! As in the commands, "out" and "in" are meant from the controller's side.
 
 ghost use Rattle.std.specs.Prelude.{◌≡◌, ◌<◌, ◌^◌, length};
 ghost use Rattle.nv_prp.specs.Place.{LieIn, places, read_at, written_at};

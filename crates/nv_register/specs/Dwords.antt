@@ -1,4 +1,5 @@
--- Registers of several fields as dwords. Bits that no field has read 0 and are ignored where they are written.
+-- Registers of several fields as dwords. Bits that no field has read 0 and are ignored where they
+-- are written.
 use Rattle.std.specs.Prelude.{ℕ, ◌==◌, ◌+◌}
 use Rattle.nv_layout.specs.Parts.{at_bits, bit, bits}
 use Rattle.nv_register.specs.declared.admin_queue_attributes.AdminQueueAttributes.{AdminQueueAttributes}
@@ -7,10 +8,16 @@ use Rattle.nv_register.specs.declared.controller_status.ControllerStatus.{Contro
 
 -- EN 0, MPS 10:7, IOSQES 19:16, IOCQES 23:20
 abbrev pub cc_dword : ControllerConfiguration → ℕ
-cc_dword r = at_bits 0 1 (bit r.en) + at_bits 7 4 r.mps + at_bits 16 4 r.iosqes + at_bits 20 4 r.iocqes
+cc_dword r = at_bits 0 1 (bit r.en) + at_bits 7 4 r.mps + at_bits 16 4 r.iosqes
+    + at_bits 20 4 r.iocqes
 
 abbrev pub cc_of_dword : ℕ → ControllerConfiguration
-cc_of_dword x = record { en = bits 0 1 x == 1; mps = bits 7 4 x; iosqes = bits 16 4 x; iocqes = bits 20 4 x }
+cc_of_dword x = record {
+  en = bits 0 1 x == 1;
+  mps = bits 7 4 x;
+  iosqes = bits 16 4 x;
+  iocqes = bits 20 4 x;
+}
 
 -- RDY 0, CFS 1
 abbrev pub csts_dword : ControllerStatus → ℕ

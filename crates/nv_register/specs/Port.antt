@@ -1,5 +1,7 @@
 -- The registers of one controller, and what a read and a write of a dword do.
-use Rattle.std.specs.Prelude.{ℕ, ◌+◌, ◌*◌, ◌-◌, ◌/◌, ◌%◌, ◌^◌, ◌<◌, ◌==◌, ◌&&◌, Bool, true, false, nat_le, nat_lt, is_some, if◌then◌else◌, Option, Some, None, option_map}
+use Rattle.std.specs.Prelude.{ℕ, ◌+◌, ◌*◌, ◌-◌, ◌/◌, ◌%◌, ◌^◌, ◌<◌, ◌==◌, ◌&&◌, Bool, true, false}
+use Rattle.std.specs.Prelude.{nat_le, nat_lt, is_some, if◌then◌else◌, Option, Some, None}
+use Rattle.std.specs.Prelude.{option_map}
 use Rattle.std.specs.Option.{option_map_or}
 use Rattle.nv_queue.specs.Numbers.{above, ahead}
 use Rattle.nv_queue.specs.Rings.{FetchNumbers, PostNumbers, rung_to, told_to}
@@ -11,7 +13,10 @@ use Rattle.nv_register.specs.declared.controller_configuration.ControllerConfigu
 use Rattle.nv_register.specs.declared.port.Port.{Port}
 use Rattle.nv_register.specs.declared.rings.Rings.{Rings}
 use Rattle.nv_register.specs.declared.register.Register.{Register}
-use Rattle.nv_register.specs.declared.register.Register.TheVariants.{CapLow, CapHigh, Vs, Cc, Csts, Aqa, AsqLow, AsqHigh, AcqLow, AcqHigh, TailDoorbell, HeadDoorbell}
+use Rattle.nv_register.specs.declared.register.Register.TheVariants.{CapLow, CapHigh, Vs, Cc, Csts}
+use Rattle.nv_register.specs.declared.register.Register.TheVariants.{Aqa, AsqLow, AsqHigh, AcqLow}
+use Rattle.nv_register.specs.declared.register.Register.TheVariants.{AcqHigh, TailDoorbell}
+use Rattle.nv_register.specs.declared.register.Register.TheVariants.{HeadDoorbell}
 
 -- after power on
 abbrev pub new_port : Port
@@ -49,12 +54,14 @@ value_at p offset = option_map_or (value_of p) (register_at offset) 0
 
 -- a queue of so many entries, less one
 abbrev pub is_queue : ControllerConfiguration → ℕ → ℕ → Bool
-is_queue cc base less_one = base % page_size_of cc == 0 && (nat_le 1 less_one && nat_le less_one 4095)
+is_queue cc base less_one =
+    base % page_size_of cc == 0 && (nat_le 1 less_one && nat_le less_one 4095)
 
--- the values with which a controller becomes ready: a page has at most 65,536 bytes, and both queues begin at a page
--- and have 2 to 4,096 entries
+-- the values with which a controller becomes ready: a page has at most 65,536 bytes, and both
+-- queues begin at a page and have 2 to 4,096 entries
 abbrev pub can_start : Port → Bool
-can_start p = nat_le p.cc.mps 4 && (is_queue p.cc p.asq p.aqa.asqs && is_queue p.cc p.acq p.aqa.acqs)
+can_start p =
+    nat_le p.cc.mps 4 && (is_queue p.cc p.asq p.aqa.asqs && is_queue p.cc p.acq p.aqa.acqs)
 
 -- new rings: their numbers begin at 0
 abbrev pub new_rings : Port → Rings
@@ -87,7 +94,8 @@ rung_by ring tail = if nat_lt tail ring.depth then rung_to ring tail else ring
 -- a head that isn't reached by freeing posted slots is ignored
 abbrev pub told_by : PostNumbers → ℕ → PostNumbers
 told_by ring head =
-    if nat_lt head ring.depth && nat_le (ahead ring.depth ring.told head) (above ring.depth ring.posted ring.told)
+    if nat_lt head ring.depth && nat_le (ahead ring.depth ring.told head)
+    (above ring.depth ring.posted ring.told)
     then told_to ring head else ring
 
 abbrev pub with_tail : ℕ → Rings → Rings

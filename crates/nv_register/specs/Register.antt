@@ -1,7 +1,10 @@
 -- Which dword of the registers stands at which offset. The doorbells' stride is four bytes.
 use Rattle.std.specs.Prelude.{ℕ, ◌==◌, List, [], ◌∷◌, Option, Some, None, if◌then◌else◌}
 use Rattle.nv_register.specs.declared.register.Register.{Register}
-use Rattle.nv_register.specs.declared.register.Register.TheVariants.{CapLow, CapHigh, Vs, Cc, Csts, Aqa, AsqLow, AsqHigh, AcqLow, AcqHigh, TailDoorbell, HeadDoorbell}
+use Rattle.nv_register.specs.declared.register.Register.TheVariants.{CapLow, CapHigh, Vs, Cc, Csts}
+use Rattle.nv_register.specs.declared.register.Register.TheVariants.{Aqa, AsqLow, AsqHigh, AcqLow}
+use Rattle.nv_register.specs.declared.register.Register.TheVariants.{AcqHigh, TailDoorbell}
+use Rattle.nv_register.specs.declared.register.Register.TheVariants.{HeadDoorbell}
 
 abbrev pub offsets : List (ℕ × Register)
 offsets =
@@ -11,7 +14,8 @@ offsets =
 
 abbrev pub register_among : List (ℕ × Register) → ℕ → Option Register
 register_among [] offset = None
-register_among (row ∷ rows) offset = if offset == row.0 then Some row.1 else register_among rows offset
+register_among (row ∷ rows) offset =
+    if offset == row.0 then Some row.1 else register_among rows offset
 
 abbrev pub register_at : ℕ → Option Register
 register_at offset = register_among offsets offset

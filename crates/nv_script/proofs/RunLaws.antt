@@ -1,7 +1,8 @@
 -- How the pieces of a run make the whole run.
-use Rattle.std.proofs.Common.{◌≡◌, ◌∙◌, ℕ, ◌+◌, ◌<◌, ◌≤◌, List, [], ◌∷◌, ◌++◌, length, take, sym, ap, subst, append-nil, arith, inl, inr, ◌≢◌, ◌↔◌, refl, Option, None, Some, Result, Ok, Err}
+use Rattle.std.proofs.Common.{Bool, false, ◌||◌, ◌==◌, ◌≡◌, ◌∙◌, ℕ, ◌+◌, ◌<◌, ◌≤◌, List, [], ◌∷◌, ◌++◌, length, take, sym, ap, subst, append-nil, arith, inl, inr, ◌≢◌, ◌↔◌, refl, Option, None, Some, Result, Ok, Err}
 use Rattle.std.specs.Prelude.{IfSome, MatchResult, replicate}
 use Rattle.std.specs.Io.KnownBytes.{Appends, Consumes, IsAtEnd, Keeps}
+use Rattle.std.proofs.lemmas.Bool.Decides.{nat_tests}
 use Rattle.std.proofs.lemmas.List.{length-append, length-take-le}
 use Rattle.nv_subsystem.specs.State.{State}
 use Rattle.nv_script.specs.Cuts.{IsCutShort, Holds, Left}
@@ -10,12 +11,12 @@ use Rattle.nv_driver.specs.declared.error.DriverError.{DriverError}
 use Rattle.nv_driver.specs.declared.error.DriverError.TheVariants as error
 use Rattle.nv_driver.specs.declared.geometry.Geometry.{Geometry as DriverGeometry}
 use Rattle.nv_driver.specs.declared.geometry_field.GeometryField.{GeometryField}
-use Rattle.nv_script.specs.Ends.{Headline, IsEndOf, IsEndWithout, IsFaultOf, Leaves, RunState, Runs, RunsWithin, WasRead, end_without, left_by}
+use Rattle.nv_script.specs.Ends.{AreFaults, Headline, IsEndOf, IsEndWithout, IsFaultOf, IsRun, Leaves, RunState, Runs, RunsWithin, WasRead, end_without, has_stopped, left_by}
 use Rattle.nv_script.specs.Feeding.{IsFailureOf, LastLeaves, PieceLeaves, Stands}
 use Rattle.nv_script.specs.Results.{Progress, whole}
 use Rattle.nv_script.specs.ScriptLines.{as_line, pieces, script_lines}
 use Rattle.nv_script.specs.Link.{serials_of}
-use Rattle.nv_script.specs.Streams.{SourceState}
+use Rattle.nv_script.specs.Streams.{IsFresh, SourceState}
 use Rattle.nv_script.specs.declared.ends.RunEnd.{RunEnd}
 use Rattle.nv_script.specs.declared.ends.RunEnd.TheVariants.{Status, Geometry, NoReady, Read, OutWrite, MessageWrite, Memory}
 use Rattle.nv_script.specs.declared.session.Session.{Session}
@@ -158,7 +159,7 @@ pub with_driver : (g : DriverGeometry) (reads : ℕ) (end : RunEnd) (old mid new
     → RunsWithin reads end mid new → Runs g reads end old new
 with_driver g reads end old mid new is same runs = inr (is, subst (λ (x : RunState). RunsWithin reads end x new) same runs)
 
-pub runs_headline : (g : DriverGeometry) (reads : ℕ) (end : RunEnd) (old new : RunState) → Runs g reads end old new → Headline end old new
+runs_headline : (g : DriverGeometry) (reads : ℕ) (end : RunEnd) (old new : RunState) → Runs g reads end old new → Headline end old new
 runs_headline g reads end old new (inl h) status e = absurd (subst (IsEndWithout g) e h.0)
 runs_headline g reads end old new (inr h) status e = headline reads end old new h.1 status e
 
@@ -171,8 +172,107 @@ geometry_without g Read field h = absurd h
 geometry_without g OutWrite field h = absurd h
 geometry_without g MessageWrite field h = absurd h
 
-pub runs_geometry : (g : DriverGeometry) (reads : ℕ) (end : RunEnd) (old new : RunState) (field : GeometryField) → Runs g reads end old new
+runs_geometry : (g : DriverGeometry) (reads : ℕ) (end : RunEnd) (old new : RunState) (field : GeometryField) → Runs g reads end old new
     → (end ≡ Geometry field) ↔ (fault_of g ≡ Some field)
 runs_geometry g reads end old new field (inl h) = geometry_without g end field h.0
 runs_geometry g reads end old new field (inr h) =
     (λ e. absurd (subst (λ x. IsEndOf x reads new) e h.1.end_of), λ k. let is = h.0 in absurd (cc))
+
+faults_with : (reads : ℕ) (end : RunEnd) (now : RunState) → IsEndOf end reads now → AreFaults reads end now
+faults_with reads (Status status) now h =
+    let stopped = h.0 in
+    let out = h.1 in
+    let messages = h.2 in
+    record {
+      ready = λ e. absurd (cc);
+      out_write = (λ e. absurd (cc), λ k. absurd (cc));
+      message_write = (λ e. absurd (cc), λ k. absurd (cc));
+      read_fault = (λ e. absurd (cc), λ k. let stops = k.0 in absurd (cc));
+    }
+faults_with reads Read now h =
+    let out = h.1 in
+    let messages = h.2 in
+    record {
+      ready = λ e. absurd (cc);
+      out_write = (λ e. absurd (cc), λ k. absurd (cc));
+      message_write = (λ e. absurd (cc), λ k. absurd (cc));
+      read_fault = (λ e. (h.0, h.1, h.2, λ m. absurd (cc)), λ k. refl);
+    }
+faults_with reads OutWrite now h =
+    let out = h.0 in
+    let messages = h.1 in
+    record {
+      ready = λ e. absurd (cc);
+      out_write = (λ e. out, λ k. refl);
+      message_write = (λ e. absurd (cc), λ k. absurd (cc));
+      read_fault = (λ e. absurd (cc), λ k. let well = k.1 in absurd (cc));
+    }
+faults_with reads MessageWrite now h =
+    let out = h.0 in
+    let messages = h.1 in
+    record {
+      ready = λ e. absurd (cc);
+      out_write = (λ e. absurd (cc), λ k. absurd (cc));
+      message_write = (λ e. messages, λ k. refl);
+      read_fault = (λ e. absurd (cc), λ k. let well = k.2 in absurd (cc));
+    }
+faults_with reads Memory now h =
+    let out = h.0 in
+    let messages = h.1 in
+    record {
+      ready = λ e. absurd (cc);
+      out_write = (λ e. absurd (cc), λ k. absurd (cc));
+      message_write = (λ e. absurd (cc), λ k. absurd (cc));
+      read_fault = (λ e. absurd (cc), λ k. absurd (k.3 refl));
+    }
+faults_with reads (Geometry field) now h = absurd h
+faults_with reads NoReady now h = absurd h
+
+-- a source that has not stopped, and sinks that have not failed
+pub record IsWell (reads : ℕ) (now : RunState) : Type 0 where
+  pub stopped : has_stopped reads now.script ≡ false
+  pub out : now.out.has_failed ≡ false
+  pub messages : now.messages.has_failed ≡ false
+
+-- before the first read
+pub fresh_well : (reads : ℕ) (now : RunState) → IsFresh now.script → 0 < reads → now.out.has_failed ≡ false
+    → now.messages.has_failed ≡ false → IsWell reads now
+fresh_well reads now fresh some out messages =
+    record { stopped = stays now.script.has_failed now.script.calls fresh.not_failed fresh.no_call; out = out; messages = messages }
+  where
+    stays : (failed : Bool) (calls : ℕ) → failed ≡ false → calls ≡ 0 → (failed || calls == reads) ≡ false
+    stays failed calls well none = grind (arith, nat_tests, well, none, some)
+
+faults_without : (g : DriverGeometry) (reads : ℕ) (end : RunEnd) (now : RunState) → IsEndWithout g end → IsWell reads now
+    → AreFaults reads end now
+faults_without g reads (Geometry field) now h well =
+    let stopped = well.stopped in
+    let out = well.out in
+    let messages = well.messages in
+    record {
+      ready = λ e. absurd (cc);
+      out_write = (λ e. absurd (cc), λ k. absurd (cc));
+      message_write = (λ e. absurd (cc), λ k. absurd (cc));
+      read_fault = (λ e. absurd (cc), λ k. let stops = k.0 in absurd (cc));
+    }
+faults_without g reads Memory now h well = faults_with reads Memory now (well.out, well.messages)
+faults_without g reads (Status s) now h well = absurd h
+faults_without g reads NoReady now h well = absurd h
+faults_without g reads Read now h well = absurd h
+faults_without g reads OutWrite now h well = absurd h
+faults_without g reads MessageWrite now h well = absurd h
+
+faults : (g : DriverGeometry) (reads : ℕ) (end : RunEnd) (old new : RunState) → IsWell reads old → Runs g reads end old new
+    → AreFaults reads end new
+faults g reads end old new well (inl h) = faults_without g reads end new h.0 (subst (IsWell reads) (sym h.1) well)
+faults g reads end old new well (inr h) = faults_with reads end new h.1.end_of
+
+-- all that a run promises follows from how it ends
+pub is_run : (g : DriverGeometry) (reads : ℕ) (end : RunEnd) (old new : RunState) → IsWell reads old → Runs g reads end old new
+    → IsRun g reads end old new
+is_run g reads end old new well h = record {
+  headline = runs_headline g reads end old new h;
+  ends = h;
+  geometry = λ field. runs_geometry g reads end old new field h;
+  faults = faults g reads end old new well h;
+}

@@ -1,5 +1,6 @@
 -- What the streams and the subsystem hold after some lines, and where a line was cut short.
-use Rattle.std.specs.Prelude.{◌≡◌, ℕ, ◌+◌, ◌<◌, List, [], ◌∷◌, ◌++◌, length, take, flat_map, Option, Result, Ok, Err}
+use Rattle.std.specs.Prelude.{◌≡◌, ℕ, ◌+◌, ◌<◌, List, [], ◌∷◌, ◌++◌, length, take, flat_map, Option}
+use Rattle.std.specs.Prelude.{Result, Ok, Err}
 use Rattle.std.specs.Io.KnownBytes.{Appends}
 use Rattle.nv_subsystem.specs.State.{State}
 use Rattle.nv_script.specs.Orders.{commands_of}
@@ -8,7 +9,8 @@ use Rattle.nv_script.specs.Results.{Progress, result_at, said_at, whole}
 use Rattle.nv_script.specs.ScriptLines.{script_lines}
 use Rattle.nv_script.specs.Streams.{IsBeginning}
 use Rattle.nv_script.specs.declared.ends.RunEnd.{RunEnd}
-use Rattle.nv_script.specs.declared.ends.RunEnd.TheVariants.{Status, Geometry, NoReady, Read, OutWrite, MessageWrite, Memory}
+use Rattle.nv_script.specs.declared.ends.RunEnd.TheVariants.{Status, Geometry, NoReady, Read}
+use Rattle.nv_script.specs.declared.ends.RunEnd.TheVariants.{OutWrite, MessageWrite, Memory}
 use Rattle.nv_line.specs.declared.fault.LineFault.{LineFault}
 use Rattle.nv_line.specs.declared.line.Line.{Line}
 use Rattle.nv_line.specs.declared.line.Line.TheVariants as line

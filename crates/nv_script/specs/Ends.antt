@@ -1,17 +1,20 @@
 -- What a run promises: how it ends, and what each of its ends leaves.
-use Rattle.std.specs.Prelude.{◌≡◌, ◌⊎◌, ℕ, ◌≤◌, ◌==◌, ◌||◌, Bool, true, false, List, length, IfSome, Some, None}
+use Rattle.std.specs.Prelude.{◌≡◌, ◌≢◌, ◌↔◌, ◌⊎◌, ℕ, ◌≤◌, ◌==◌, ◌||◌, Bool, true, false, List}
+use Rattle.std.specs.Prelude.{length, IfSome, Some, None}
 use Rattle.std.specs.Io.KnownBytes.{Consumes, IsAtEnd}
 use Rattle.nv_subsystem.specs.State.{State}
 use Rattle.nv_driver.specs.Geometry.{fault_of}
 use Rattle.nv_driver.specs.declared.error.DriverError.{DriverError}
 use Rattle.nv_driver.specs.declared.error.DriverError.TheVariants as error
 use Rattle.nv_driver.specs.declared.geometry.Geometry.{Geometry as DriverGeometry}
+use Rattle.nv_driver.specs.declared.geometry_field.GeometryField.{GeometryField}
 use Rattle.nv_script.specs.Cuts.{IsCutShort, HoldsWhole, Left, left_at}
 use Rattle.nv_script.specs.Results.{whole}
 use Rattle.nv_script.specs.ScriptLines.{pieces, script_lines}
 use Rattle.nv_script.specs.Streams.{SinkState, SourceState}
 use Rattle.nv_script.specs.declared.ends.RunEnd.{RunEnd}
-use Rattle.nv_script.specs.declared.ends.RunEnd.TheVariants.{Status, Geometry, NoReady, Read, OutWrite, MessageWrite, Memory}
+use Rattle.nv_script.specs.declared.ends.RunEnd.TheVariants.{Status, Geometry, NoReady, Read}
+use Rattle.nv_script.specs.declared.ends.RunEnd.TheVariants.{OutWrite, MessageWrite, Memory}
 
 -- what a run works on
 pub record RunState : Type 0 where
@@ -35,8 +38,9 @@ pub record WasRead (old new : SourceState) (bytes : List ℕ) : Type 0 where
   pub first : Consumes old.to_come new.to_come bytes
   pub count : length bytes ≡ new.given
 
--- What each end of a run with a driver leaves, where it began at s and read these bytes. A status: all lines, and the
--- status is that of the last line that has one. A read fault: the lines whose newline was read.
+-- What each end of a run with a driver leaves, where it began at s and read these bytes. A status:
+-- all lines, and the status is that of the last line that has one. A read fault: the lines whose
+-- newline was read.
 abbrev pub Leaves : RunEnd → State → List ℕ → Left → Type 0
 Leaves (Status status) s bytes left =
     (status ≡ (whole s (script_lines bytes)).status) × HoldsWhole s (script_lines bytes) left
@@ -51,8 +55,9 @@ Leaves Memory s bytes left = IsCutShort Memory s bytes left
 abbrev pub has_stopped : ℕ → SourceState → Bool
 has_stopped reads script = script.has_failed || script.calls == reads
 
--- Which end it is: a write's exactly where that sink has failed; Read exactly where no write failed,
--- no memory was refused and the source has stopped; a status only where the source has ended
+-- Which end it is: a write's exactly where that sink has failed; Read exactly where no write
+-- failed, no memory was refused and the source has stopped; a status only where the source has
+-- ended
 abbrev pub IsEndOf : RunEnd → ℕ → RunState → Type 0
 IsEndOf (Status status) reads now = (has_stopped reads now.script ≡ false)
     × (now.out.has_failed ≡ false) × (now.messages.has_failed ≡ false)
@@ -79,22 +84,22 @@ end_without (error.Geometry field) = Geometry field
 end_without error.Memory = Memory
 end_without error.NoReady = NoReady
 
--- why there is no driver or no room for answers: the first field of the geometry that is out of its limits, or, where
--- no field is, want of memory
+-- why there is no driver or no room for answers: the first field of the geometry that is out of its
+-- limits, or, where no field is, want of memory
 abbrev pub IsFaultOf : DriverGeometry → DriverError → Type 0
 IsFaultOf g (error.Geometry field) = fault_of g ≡ Some field
 IsFaultOf g error.Memory = fault_of g ≡ None
 IsFaultOf g error.NoReady = ⊥
 
--- A run that got no driver or no room for answers ends by the first field of the geometry that is out of its limits, or, where no field is,
--- by want of memory.
+-- A run that got no driver or no room for answers ends by the first field of the geometry that is
+-- out of its limits, or, where no field is, by want of memory.
 abbrev pub IsEndWithout : DriverGeometry → RunEnd → Type 0
 IsEndWithout g (Geometry field) = fault_of g ≡ Some field
 IsEndWithout g Memory = fault_of g ≡ None
 IsEndWithout g _ = ⊥
 
--- A run without a driver changes nothing. One with a driver is in a geometry within its limits, which occurs nowhere
--- else.
+-- A run without a driver changes nothing. One with a driver is in a geometry within its limits,
+-- which occurs nowhere else.
 abbrev pub Runs : DriverGeometry → ℕ → RunEnd → RunState → RunState → Type 0
 Runs g reads end old new =
     (IsEndWithout g end × (new ≡ old)) ⊎ ((fault_of g ≡ None) × RunsWithin reads end old new)
@@ -105,3 +110,24 @@ abbrev pub Headline : RunEnd → RunState → RunState → Type 0
 Headline end old new = (status : ℕ) → end ≡ Status status
     → IfSome old.script.to_come
     (λ script. Leaves (Status status) old.subsystem script (left_by old new))
+
+-- When each fault comes: a write's exactly where that sink has failed; a read's exactly where the
+-- source has stopped, no write failed and no memory was refused; a controller that isn't ready,
+-- never.
+pub record AreFaults (reads : ℕ) (end : RunEnd) (now : RunState) : Type 0 where
+  pub ready : end ≢ NoReady
+  pub out_write : (end ≡ OutWrite) ↔ (now.out.has_failed ≡ true)
+  pub message_write : (end ≡ MessageWrite) ↔ (now.messages.has_failed ≡ true)
+  pub read_fault : (end ≡ Read)
+      ↔ ((has_stopped reads now.script ≡ true) × (now.out.has_failed ≡ false)
+      × (now.messages.has_failed ≡ false) × (end ≢ Memory))
+
+-- What a run of at most so many reads promises.
+pub record IsRun (g : DriverGeometry) (reads : ℕ) (end : RunEnd) (old new : RunState) : Type 0 where
+  -- a script that is told and was read to its end: the fold over its lines
+  pub headline : Headline end old new
+  -- each end: what it leaves, and how many reads there were
+  pub ends : Runs g reads end old new
+  -- when each fault comes
+  pub geometry : (field : GeometryField) → (end ≡ Geometry field) ↔ (fault_of g ≡ Some field)
+  pub faults : AreFaults reads end new

@@ -12,7 +12,8 @@ pub record Order : Type 0 where
   pub controller : ℕ
   pub command : Command
 
--- the answer to a command as the host gets it, and the state and the serials of the controllers after it
+-- the answer to a command as the host gets it, and the state and the serials of the controllers
+-- after it
 pub record Exchange : Type 0 where
   pub answer : Result Reply Status
   pub state : State

@@ -1,5 +1,6 @@
 -- What the steps of a run leave: a text, a line, a piece of the script, its last piece.
-use Rattle.std.specs.Prelude.{◌≡◌, ℕ, ◌<◌, Bool, true, false, List, [], ◌∷◌, ◌++◌, length, take, Option, Result, Ok, Err, string_bytes, slice_index}
+use Rattle.std.specs.Prelude.{◌≡◌, ℕ, ◌<◌, Bool, true, false, List, [], ◌∷◌, ◌++◌, length, take}
+use Rattle.std.specs.Prelude.{Option, Result, Ok, Err, string_bytes, slice_index}
 use Rattle.std.specs.declared.string.String.{String}
 use Rattle.std.specs.Io.KnownBytes.{Appends}
 use Rattle.nv_subsystem.specs.State.{State}
@@ -10,7 +11,8 @@ use Rattle.nv_script.specs.ScriptLines.{buffer_of, pieces, script_lines}
 use Rattle.nv_script.specs.Link.{serials_of}
 use Rattle.nv_script.specs.Streams.{IsBeginning}
 use Rattle.nv_script.specs.declared.ends.RunEnd.{RunEnd}
-use Rattle.nv_script.specs.declared.ends.RunEnd.TheVariants.{Status, Geometry, NoReady, Read, OutWrite, MessageWrite, Memory}
+use Rattle.nv_script.specs.declared.ends.RunEnd.TheVariants.{Status, Geometry, NoReady, Read}
+use Rattle.nv_script.specs.declared.ends.RunEnd.TheVariants.{OutWrite, MessageWrite, Memory}
 use Rattle.nv_script.specs.declared.session.Session.{Session}
 
 -- a run stands after p

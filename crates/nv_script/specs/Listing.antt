@@ -34,13 +34,15 @@ abbrev pub asked_all : Standing → List Order → Standing
 asked_all w orders = fold asked w orders
 
 -- the subsystem, the serials and the devices are those of a standing
-pub record IsListed (w : Standing) (state : State) (serials : List ℕ) (devices : List Device) : Type 0 where
+pub record IsListed (w : Standing) (state : State) (serials : List ℕ)
+    (devices : List Device) : Type 0 where
   pub subsystem : state ≡ w.state
   pub next : serials ≡ w.serials
   pub listed : devices ≡ w.listing.devices
 
 -- the first of some commands were executed
-pub record AreBegun (w : Standing) (orders : List Order) (state : State) (serials : List ℕ) : Type 0 where
+pub record AreBegun (w : Standing) (orders : List Order) (state : State)
+    (serials : List ℕ) : Type 0 where
   pub done : List Order
   pub later : List Order
   pub split : orders ≡ done ++ later
@@ -48,8 +50,10 @@ pub record AreBegun (w : Standing) (orders : List Order) (state : State) (serial
   pub next : serials ≡ (asked_all w done).serials
 
 -- all of some commands were executed and their replies are listed, or memory was refused amid them
-abbrev pub ListLeaves : {A : Type 0} → Result A Stop → Standing → List Order → State → List ℕ → List Device → Type 0
-ListLeaves (Ok done) w orders state serials devices = IsListed (asked_all w orders) state serials devices
+abbrev pub ListLeaves : {A : Type 0} → Result A Stop → Standing → List Order → State → List ℕ
+    → List Device → Type 0
+ListLeaves (Ok done) w orders state serials devices =
+    IsListed (asked_all w orders) state serials devices
 ListLeaves (Err (stop.Refused status)) w orders state serials devices = ⊥
 ListLeaves (Err stop.Memory) w orders state serials devices = AreBegun w orders state serials
 

@@ -1,13 +1,19 @@
 -- The commands that a query stands for.
-use Rattle.std.specs.Prelude.{ℕ, ◌+◌, ◌-◌, ◌*◌, max, min, Bool, List, [], ◌∷◌, Option, Some, None, flat_map, if◌then◌else◌, length, map}
+use Rattle.std.specs.Prelude.{ℕ, ◌+◌, ◌-◌, ◌*◌, max, min, Bool, List, [], ◌∷◌, Option, Some, None}
+use Rattle.std.specs.Prelude.{flat_map, if◌then◌else◌, length, map}
 use Rattle.std.specs.List.{range_with_len}
 use Rattle.nv_bits.specs.Numbers.{above}
 use Rattle.nv_subsystem.specs.Logs.{entry_count}
 use Rattle.nv_subsystem.specs.Nsid.{active_nsids}
 use Rattle.nv_subsystem.specs.State.{State}
 use Rattle.nv_command.specs.declared.command.Command.{Command}
-use Rattle.nv_command.specs.declared.command.Command.TheVariants.{IdentifyController, IdentifyNamespace, AllocatedNamespace, ActiveList, AllocatedList, Create, Delete, Attachment}
-use Rattle.nv_command.specs.declared.command.Command.TheVariants.{Format, GetFeature, SetFeature, GetLog}
+use Rattle.nv_command.specs.declared.command.Command.TheVariants.{IdentifyController}
+use Rattle.nv_command.specs.declared.command.Command.TheVariants.{IdentifyNamespace}
+use Rattle.nv_command.specs.declared.command.Command.TheVariants.{AllocatedNamespace, ActiveList}
+use Rattle.nv_command.specs.declared.command.Command.TheVariants.{AllocatedList, Create, Delete}
+use Rattle.nv_command.specs.declared.command.Command.TheVariants.{Attachment}
+use Rattle.nv_command.specs.declared.command.Command.TheVariants.{Format, GetFeature, SetFeature}
+use Rattle.nv_command.specs.declared.command.Command.TheVariants.{GetLog}
 use Rattle.nv_command.specs.declared.reply.Reply.{Reply}
 use Rattle.nv_command.specs.declared.reply.Reply.TheVariants as reply
 use Rattle.nv_script.specs.Exchange.{Order}
@@ -29,8 +35,8 @@ list_command all after = if all then AllocatedList after else ActiveList after
 abbrev pub namespace_command : Bool → ℕ → Command
 namespace_command force nsid = if force then AllocatedNamespace nsid else IdentifyNamespace nsid
 
--- the command that is sent first for what a controller is asked; a list begins at an NSID, and is asked for after the
--- one before it
+-- the command that is sent first for what a controller is asked; a list begins at an NSID, and is
+-- asked for after the one before it
 abbrev pub first_command : Ask → Command
 first_command ask.IdCtrl = IdentifyController
 first_command (ask.ListNs first all) = list_command all (first - 1)
@@ -44,7 +50,8 @@ first_command (ask.SetFeature fid value save nsid) = SetFeature fid value save n
 first_command (ask.SmartLog nsid) = GetLog 0x02 nsid 0 128
 first_command (ask.ErrorLog entries) = IdentifyController
 
--- the entries of an error log, 16 dwords each: so many, as far as a controller keeps them, and one at least
+-- the entries of an error log, 16 dwords each: so many, as far as a controller keeps them, and one
+-- at least
 abbrev pub errors_command : ℕ → ℕ → Command
 errors_command entries kept = GetLog 0x01 0 0 (16 * max (min entries kept) 1)
 
@@ -55,7 +62,8 @@ second_command kept _ = None
 
 -- the same by the first reply, which tells how many it keeps
 abbrev pub next_command : Ask → Reply → Option Command
-next_command (ask.ErrorLog entries) (reply.Controller r) = Some (errors_command entries (r.elpe + 1))
+next_command (ask.ErrorLog entries) (reply.Controller r) =
+    Some (errors_command entries (r.elpe + 1))
 next_command _ _ = None
 
 abbrev pub later_orders : ℕ → Option Command → List Order
@@ -75,7 +83,8 @@ namespace_orders c nsids = map (λ n. order_of c (IdentifyNamespace n)) nsids
 -- what the controller is, which NSIDs are attached to it, and what each of these namespaces is
 abbrev pub orders_of_controller : State → ℕ → List Order
 orders_of_controller s c =
-    order_of c IdentifyController ∷ order_of c (ActiveList 0) ∷ namespace_orders c (above 0 (active_nsids s c))
+    order_of c IdentifyController ∷ order_of c (ActiveList 0)
+    ∷ namespace_orders c (above 0 (active_nsids s c))
 
 abbrev pub orders_of_list : State → List Order
 orders_of_list s = flat_map (orders_of_controller s) (range_with_len 0 (length s.controllers))

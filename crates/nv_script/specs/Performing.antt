@@ -29,7 +29,8 @@ StopLeaves stop.Memory q s serials state next = (k : ℕ)
     × IsReached (outcome_of s serials (take k (commands_of s q))) state next
 
 -- what the replies to all commands show, or why there is nothing to show
-abbrev pub QueryLeaves : Result (Option Shown) Stop → Query → State → List ℕ → State → List ℕ → Type 0
+abbrev pub QueryLeaves : Result (Option Shown) Stop → Query → State → List ℕ → State
+    → List ℕ → Type 0
 QueryLeaves (Ok shown) q s serials state next =
     let o = outcome_of s serials (commands_of s q) in
     (o.refusal ≡ None) × (shown ≡ shown_of (commands_of s q) q o.replies) × IsReached o state next

@@ -1,5 +1,6 @@
 -- What a line prints and does, and a script line by line.
-use Rattle.std.specs.Prelude.{ℕ, ◌+◌, List, [], ◌++◌, length, replicate, Option, None, Some, Result, Ok, Err, unwrap_or, fold}
+use Rattle.std.specs.Prelude.{ℕ, ◌+◌, List, [], ◌++◌, length, replicate, Option, None, Some, Result}
+use Rattle.std.specs.Prelude.{Ok, Err, unwrap_or, fold}
 use Rattle.nv_layout.specs.declared.status.Status.{Status}
 use Rattle.nv_subsystem.specs.State.{State}
 use Rattle.nv_command.specs.declared.reply.Reply.{Reply}

@@ -1,5 +1,6 @@
 -- The lines of a script.
-use Rattle.std.specs.Prelude.{ℕ, List, [], ◌∷◌, ◌++◌, length, nat_le, if◌then◌else◌, Option, None, Some}
+use Rattle.std.specs.Prelude.{ℕ, List, [], ◌∷◌, ◌++◌, length, nat_le, if◌then◌else◌, Option, None}
+use Rattle.std.specs.Prelude.{Some}
 use Rattle.std.specs.Char.{is_newline}
 use Rattle.std.specs.List.{slice_split}
 use Rattle.nv_line.specs.declared.line.TheConstants.{LINE_LIMIT}

@@ -5,7 +5,8 @@ use Rattle.nv_layout.specs.Feature.{feature_of}
 use Rattle.nv_layout.specs.declared.feature.Feature.{Feature}
 use Rattle.nv_layout.specs.declared.id_ctrl.IdCtrl.{IdCtrl}
 use Rattle.nv_command.specs.declared.command.Command.{Command}
-use Rattle.nv_command.specs.declared.command.Command.TheVariants.{IdentifyController, IdentifyNamespace}
+use Rattle.nv_command.specs.declared.command.Command.TheVariants.{IdentifyController}
+use Rattle.nv_command.specs.declared.command.Command.TheVariants.{IdentifyNamespace}
 use Rattle.nv_command.specs.declared.reply.Reply.{Reply}
 use Rattle.nv_command.specs.declared.reply.Reply.TheVariants as reply
 use Rattle.nv_subsystem.specs.IdentifyController.{no_controller}
@@ -43,7 +44,8 @@ shown_by (ask.Attachment nsid detach controllers) reply.Done =
     Some (if detach then shown.Detached nsid else shown.Attached nsid)
 shown_by (ask.Delete nsid) reply.Done = Some (shown.Deleted nsid)
 shown_by (ask.Format nsid lbaf mset pi pil ses) reply.Done = Some (shown.Formatted nsid)
-shown_by (ask.GetFeature fid sel nsid) (reply.Number value) = feature_value (feature_of fid) (select_of sel) value
+shown_by (ask.GetFeature fid sel nsid) (reply.Number value) =
+    feature_value (feature_of fid) (select_of sel) value
 shown_by (ask.SetFeature fid value save nsid) reply.Done = feature_set (feature_of fid) value save
 shown_by (ask.SmartLog nsid) (reply.Smart smart) = Some (shown.Smart smart)
 shown_by (ask.ErrorLog entries) (reply.Errors errors) = Some (shown.Errors errors)
@@ -80,10 +82,12 @@ listing_of l _ _ = l
 
 -- ---- what is shown, and how it is written
 
--- what a query shows by the replies to these commands of it; nothing where a reply isn't of its command
+-- what a query shows by the replies to these commands of it; nothing where a reply isn't of its
+-- command
 abbrev pub shown_of : List Order → Query → List Reply → Option Shown
 shown_of orders (query.One question) replies = shown_of_one question.ask replies
-shown_of orders query.List replies = Some (shown.Devices (listing_of no_listing orders replies).devices)
+shown_of orders query.List replies =
+    Some (shown.Devices (listing_of no_listing orders replies).devices)
 
 -- as JSON where that is asked for and there is a JSON form, and else as text
 abbrev pub written : OutputFormat → Shown → List ℕ

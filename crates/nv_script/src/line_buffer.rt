@@ -1,6 +1,7 @@
 //! One line of a script, as far as there is room for it.
 
-ghost use Rattle.std.specs.Prelude.{◌≡◌, ◌≤◌, [], List, ℕ, Option, Some, None, if◌then◌else◌, take, IsTrue, ◌↔◌};
+ghost use Rattle.std.specs.Prelude.{◌≡◌, ◌≤◌, [], List, ℕ, Option, Some, None, if◌then◌else◌, take};
+ghost use Rattle.std.specs.Prelude.{IsTrue, ◌↔◌};
 ghost use Rattle.std.specs.Option.{option_copied};
 ghost use Rattle.nv_script.specs.ScriptLines.{buffer_with};
 ghost use Rattle.nv_line.specs.declared.line.TheConstants.{LINE_LIMIT};

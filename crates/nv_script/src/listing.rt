@@ -4,7 +4,8 @@ ghost use Rattle.std.specs.Prelude.{◌≡◌, ◌<◌, ◌≤◌, ℕ, IfOk, le
 ghost use Rattle.nv_command.specs.declared.command.Command.{Command};
 ghost use Rattle.nv_command.specs.declared.command.Command.TheVariants.{IdentifyNamespace};
 ghost use Rattle.nv_script.specs.Link.{IsLinked, serials_of};
-ghost use Rattle.nv_script.specs.Listing.{IsListed, ListLeaves, Standing, devices_more, devices_with};
+ghost use Rattle.nv_script.specs.Listing.{IsListed, ListLeaves, Standing, devices_more};
+ghost use Rattle.nv_script.specs.Listing.{devices_with};
 ghost use Rattle.nv_script.specs.Orders.{namespace_orders, orders_of_controller};
 ghost use Rattle.nv_script.specs.Performing.{ListedAll};
 

@@ -1,11 +1,11 @@
 //! The run of a script, line by line as its newlines are read.
 
-ghost use Rattle.std.specs.Prelude.{◌≡◌, ◌≢◌, ◌↔◌, ◌+◌, ◌<◌, ◌≤◌, ◌^◌, All, List, Option, Some, ℕ, false, true, length, OnOk};
+ghost use Rattle.std.specs.Prelude.{◌≡◌, ◌≢◌, ◌↔◌, ◌+◌, ◌<◌, ◌≤◌, ◌^◌, All, List, Option, Some, ℕ};
+ghost use Rattle.std.specs.Prelude.{false, true, length, OnOk};
 ghost use Rattle.nv_subsystem.specs.State.{State};
 ghost use Rattle.nv_controller.specs.Bus.{IsBus, IsEnabledWhereReady};
-ghost use Rattle.nv_driver.specs.Geometry.{fault_of};
 ghost use Rattle.nv_script.specs.Cuts.{left_at};
-ghost use Rattle.nv_script.specs.Ends.{Headline, Runs, RunsWithin, has_stopped, run_state};
+ghost use Rattle.nv_script.specs.Ends.{IsRun, RunsWithin, run_state};
 ghost use Rattle.nv_script.specs.Feeding.{IsFailureOf, LastLeaves, PieceLeaves, Stands};
 ghost use Rattle.nv_script.specs.Link.{IsFirst, IsLinked};
 ghost use Rattle.nv_script.specs.Results.{whole};
@@ -18,7 +18,7 @@ use crate::line_buffer::LineBuffer;
 use crate::session::Session;
 use crate::streams::{READ_SIZE, Sink, Source};
 use nv_controller::Bus;
-use nv_driver::{Geometry, GeometryField};
+use nv_driver::Geometry;
 use std::alloc::Global;
 
 /// Executes the lines that a piece of a script ends, and holds what follows its last newline.
@@ -78,7 +78,8 @@ fn finish<B: Bus, O: Sink, M: Sink>(
         (left_at o (O.state out.old).taken m (M.state messages.old).taken (B.meaning bus.old).state)
         session.old
         → LastLeaves result s bytes
-        (left_at o (O.state out.new).taken m (M.state messages.new).taken (B.meaning bus.new).state) }
+        (left_at o (O.state out.new).taken m (M.state messages.new).taken
+        (B.meaning bus.new).state) }
     ensures failure { IsFailureOf result
         (O.state out.new).has_failed (M.state messages.new).has_failed }
     ensures linked { IsLinked (B.meaning bus.new) session.new.driver }
@@ -155,29 +156,12 @@ pub fn run_within<B: Bus, R: Source, O: Sink, M: Sink>(
     requires fresh_out { (O.state out.old).has_failed ≡ false }
     requires fresh_messages { (M.state messages.old).has_failed ≡ false }
     requires some_read { 0 < reads }
-    // A script that is told and was read to its end: the fold over its lines.
-    ensures headline { Headline result
+    // The headline, each end with what it leaves, and when each fault comes.
+    ensures run { IsRun geometry reads result
         (run_state (B.meaning bus.old).state (R.state script.old) (O.state out.old)
         (M.state messages.old))
         (run_state (B.meaning bus.new).state (R.state script.new) (O.state out.new)
         (M.state messages.new)) }
-    // Each end: when it comes, what it leaves, and how many reads there were.
-    ensures ends { Runs geometry reads result
-        (run_state (B.meaning bus.old).state (R.state script.old) (O.state out.old)
-        (M.state messages.old))
-        (run_state (B.meaning bus.new).state (R.state script.new) (O.state out.new)
-        (M.state messages.new)) }
-    // When each fault comes.
-    ensures geometry { (field : GeometryField)
-        → (result ≡ RunEnd.Geometry field) ↔ (fault_of geometry ≡ Some field) }
-    ensures ready { result ≢ RunEnd.NoReady }
-    ensures out_write { (result ≡ RunEnd.OutWrite) ↔ ((O.state out.new).has_failed ≡ true) }
-    ensures message_write { (result ≡ RunEnd.MessageWrite)
-        ↔ ((M.state messages.new).has_failed ≡ true) }
-    ensures read_fault { (result ≡ RunEnd.Read)
-        ↔ ((has_stopped reads (R.state script.new) ≡ true)
-        × ((O.state out.new).has_failed ≡ false)
-        × ((M.state messages.new).has_failed ≡ false) × (result ≢ RunEnd.Memory)) }
     // The bus can be run on again.
     ensures bus { IsBus (B.meaning bus.new) }
     ensures enabled { All IsEnabledWhereReady (B.meaning bus.new).ports }
@@ -206,29 +190,12 @@ pub fn run<B: Bus, R: Source, O: Sink, M: Sink>(
     requires fresh_script { IsFresh (R.state script.old) }
     requires fresh_out { (O.state out.old).has_failed ≡ false }
     requires fresh_messages { (M.state messages.old).has_failed ≡ false }
-    // A script that is told and was read to its end: the fold over its lines.
-    ensures headline { Headline result
+    // The headline, each end with what it leaves, and when each fault comes.
+    ensures run { IsRun geometry READ_LIMIT result
         (run_state (B.meaning bus.old).state (R.state script.old) (O.state out.old)
         (M.state messages.old))
         (run_state (B.meaning bus.new).state (R.state script.new) (O.state out.new)
         (M.state messages.new)) }
-    // Each end: when it comes, what it leaves, and how many reads there were.
-    ensures ends { Runs geometry READ_LIMIT result
-        (run_state (B.meaning bus.old).state (R.state script.old) (O.state out.old)
-        (M.state messages.old))
-        (run_state (B.meaning bus.new).state (R.state script.new) (O.state out.new)
-        (M.state messages.new)) }
-    // When each fault comes.
-    ensures geometry { (field : GeometryField)
-        → (result ≡ RunEnd.Geometry field) ↔ (fault_of geometry ≡ Some field) }
-    ensures ready { result ≢ RunEnd.NoReady }
-    ensures out_write { (result ≡ RunEnd.OutWrite) ↔ ((O.state out.new).has_failed ≡ true) }
-    ensures message_write { (result ≡ RunEnd.MessageWrite)
-        ↔ ((M.state messages.new).has_failed ≡ true) }
-    ensures read_fault { (result ≡ RunEnd.Read)
-        ↔ ((has_stopped READ_LIMIT (R.state script.new) ≡ true)
-        × ((O.state out.new).has_failed ≡ false)
-        × ((M.state messages.new).has_failed ≡ false) × (result ≢ RunEnd.Memory)) }
     // The bus can be run on again.
     ensures bus { IsBus (B.meaning bus.new) }
     ensures enabled { All IsEnabledWhereReady (B.meaning bus.new).ports }

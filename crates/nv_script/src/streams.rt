@@ -1,7 +1,9 @@
 //! Where a script comes from, and where its texts go.
 
-ghost use Rattle.std.specs.Prelude.{◌≡◌, ◌+◌, ◌^◌, ◌<◌, ◌≤◌, length, is_none, IfSome, unwrap_or, false};
-ghost use Rattle.nv_script.specs.Streams.{Gives, IsFresh, SinkState, SourceState, Takes, is_end, is_failure};
+ghost use Rattle.std.specs.Prelude.{◌≡◌, ◌+◌, ◌^◌, ◌<◌, ◌≤◌, length, is_none, IfSome, unwrap_or};
+ghost use Rattle.std.specs.Prelude.{false};
+ghost use Rattle.nv_script.specs.Streams.{Gives, IsFresh, SinkState, SourceState, Takes, is_end};
+ghost use Rattle.nv_script.specs.Streams.{is_failure};
 
 use std::io::{Read, Write};
 

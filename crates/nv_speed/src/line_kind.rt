@@ -83,8 +83,8 @@ impl LineKind {
         }
     }
 
-    /// The command at a place among those that the line sends, counted from 0. What `list` sends to the
-    /// second controller is sent to the first.
+    /// The command at a place among those that the line sends, counted from 0. What `list` sends to
+    /// the second controller is sent to the first.
     pub(crate) fn command(self, place: u32) -> Option<Command<'static>>
         ensures fits { IfSome result CommandFits }
         ensures sends { IfSome result IsSendable }

@@ -62,8 +62,10 @@ fn measure_calls<M: HostMemory>(
     buffer: &Buffer,
     list: &ListPlace,
 ) -> io::Result<Measured>
-    requires buffer { IsBuffer (M.bytes mem.old) (M.page_len mem.old) buffer.now.pages.now buffer.now.offset 1048576 }
-    requires list { IsListPlace (M.bytes mem.old) (M.page_len mem.old) list.now.first list.now.second list.now.offset }
+    requires buffer { IsBuffer (M.bytes mem.old) (M.page_len mem.old) buffer.now.pages.now
+        buffer.now.offset 1048576 }
+    requires list { IsListPlace (M.bytes mem.old) (M.page_len mem.old) list.now.first
+        list.now.second list.now.offset }
     requires distinct { AreDistinct (list.now.first ∷ list.now.second ∷ buffer.now.pages.now) }
 {
     let source = vec![in rt.alloc(); 7u8; LENGTH as usize]?;
@@ -96,8 +98,10 @@ fn time_builds<M: HostMemory>(
     buffer: &Buffer,
     list: &ListPlace,
 ) -> io::Result<Duration>
-    requires buffer { IsBuffer (M.bytes mem.old) (M.page_len mem.old) buffer.now.pages.now buffer.now.offset 1048576 }
-    requires list { IsListPlace (M.bytes mem.old) (M.page_len mem.old) list.now.first list.now.second list.now.offset }
+    requires buffer { IsBuffer (M.bytes mem.old) (M.page_len mem.old) buffer.now.pages.now
+        buffer.now.offset 1048576 }
+    requires list { IsListPlace (M.bytes mem.old) (M.page_len mem.old) list.now.first
+        list.now.second list.now.offset }
     requires distinct { AreDistinct (list.now.first ∷ list.now.second ∷ buffer.now.pages.now) }
     ensures len { length (M.bytes mem.new) ≡ length (M.bytes mem.old) }
     ensures page { M.page_len mem.new ≡ M.page_len mem.old }

@@ -1,9 +1,15 @@
 -- Namespace Attachment: when an attach or a detach is refused, and what it changes.
-use Rattle.std.specs.Prelude.{ℕ, ◌==◌, ◌&&◌, ◌||◌, not, nat_lt, Bool, false, List, [], ◌∷◌, ◌++◌, drop, length, count_by, if◌then◌else◌}
+use Rattle.std.specs.Prelude.{ℕ, ◌==◌, ◌&&◌, ◌||◌, not, nat_lt, Bool, false, List, [], ◌∷◌, ◌++◌}
+use Rattle.std.specs.Prelude.{drop, length, count_by, if◌then◌else◌}
 use Rattle.std.specs.List.{list_all, list_any, zip}
 use Rattle.std.specs.Option.{option_map_or}
 use Rattle.std.specs.FinMap as map_of
-use Rattle.nv_command.specs.declared.status_code.StatusCode.TheVariants.{ControllerListInvalid, InvalidFieldInCommand, InvalidNamespaceOrFormat, NamespaceAlreadyAttached, NamespaceIsPrivate, NamespaceNotAttached}
+use Rattle.nv_command.specs.declared.status_code.StatusCode.TheVariants.{ControllerListInvalid}
+use Rattle.nv_command.specs.declared.status_code.StatusCode.TheVariants.{InvalidFieldInCommand}
+use Rattle.nv_command.specs.declared.status_code.StatusCode.TheVariants.{InvalidNamespaceOrFormat}
+use Rattle.nv_command.specs.declared.status_code.StatusCode.TheVariants.{NamespaceAlreadyAttached}
+use Rattle.nv_command.specs.declared.status_code.StatusCode.TheVariants.{NamespaceIsPrivate}
+use Rattle.nv_command.specs.declared.status_code.StatusCode.TheVariants.{NamespaceNotAttached}
 use Rattle.nv_layout.specs.declared.feature.Feature.TheVariants.{ErrorRecovery}
 use Rattle.nv_subsystem.specs.FeatureValue.{at_default}
 use Rattle.nv_subsystem.specs.Management.{Attached, with_attached, without}
@@ -68,7 +74,8 @@ attach_rows s n ids =
     ∷ []
 
 abbrev pub detach_rows : State → ℕ → List ℕ → List Row
-detach_rows s n ids = first_rows s n ids ++ row (lacks_one_attached s n ids) NamespaceNotAttached ∷ []
+detach_rows s n ids = first_rows s n ids ++ row (lacks_one_attached s n ids) NamespaceNotAttached
+    ∷ []
 
 abbrev pub attachment_rows : State → ℕ → Bool → List ℕ → List Row
 attachment_rows s n detach ids = if detach then detach_rows s n ids else attach_rows s n ids

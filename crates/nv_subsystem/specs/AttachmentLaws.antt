@@ -1,5 +1,6 @@
 -- An attach and a detach leave a well-formed subsystem well formed.
-use Rattle.std.proofs.Common.{rules, ◌≡◌, ◌∙◌, ℕ, ◌==◌, ◌≤◌, ◌||◌, ◌&&◌, Bool, true, false, not, cond, List, length, Some, None, nat_lt, refl, sym, ap, arith}
+use Rattle.std.proofs.Common.{rules, ◌≡◌, ◌∙◌, ℕ, ◌==◌, ◌≤◌, ◌||◌, ◌&&◌, Bool, true, false, not}
+use Rattle.std.proofs.Common.{cond, List, length, Some, None, nat_lt, refl, sym, ap, arith}
 use Rattle.std.specs.Prelude.{count_by, if◌then◌else◌}
 use Rattle.std.specs.List.{AllByRecursion}
 use Rattle.std.specs.Option.{option_map_or}
@@ -9,7 +10,9 @@ use Rattle.std.proofs.lemmas.List.{length-map}
 use Rattle.nv_bits.specs.NumberLaws.{contains-insert}
 use Rattle.nv_file.specs.declared.namespace.Namespace.{Namespace}
 use Rattle.nv_command.specs.RefusalLaws.{is_refusal-refusal_by}
-use Rattle.nv_subsystem.specs.Attachment.{attach_rows, attached, attachment_rows, detached, fewer, has_attached, is_listed, is_private, more, unchanged, with_attachments, with_one}
+use Rattle.nv_subsystem.specs.Attachment.{attach_rows, attached, attachment_rows, detached, fewer}
+use Rattle.nv_subsystem.specs.Attachment.{has_attached, is_listed, is_private, more, unchanged}
+use Rattle.nv_subsystem.specs.Attachment.{with_attachments, with_one}
 use Rattle.nv_layout.specs.declared.feature.Feature.TheVariants.{ErrorRecovery}
 use Rattle.nv_subsystem.specs.ChoiceLaws.{not_false}
 use Rattle.nv_subsystem.specs.FeatureLaws.{default_accepted, values-with, values-without}
@@ -25,7 +28,8 @@ use Rattle.nv_subsystem.specs.WellFormed.{AreValues, IsController, IsWellFormed}
 -- ---- attach
 
 -- what an attach makes of the NSIDs of a controller
-has_more : (n : ℕ) (ids : List ℕ) (x : Controller) (q : ℕ) → map_of.contains_key (more n ids x).nsids q
+has_more : (n : ℕ) (ids : List ℕ) (x : Controller) (q : ℕ)
+    → map_of.contains_key (more n ids x).nsids q
     ≡ (cond (q == n) (is_listed ids x) false || map_of.contains_key x.attached q)
 has_more n ids x q = at_test (is_listed ids x)
   where
@@ -67,7 +71,8 @@ attach_keeps s n ids w accepted = attached_keep s (more n ids) s.namespaces w (r
         → AreValues x.identity.numbers.vwc (if b then with_one n x else unchanged x).nsids
         (if b then with_one n x else unchanged x).values
     with_values x is true = values-with x.identity.numbers.vwc x.attached x.values is.values n
-        (at_default (rule_of x.rules ErrorRecovery)) (default_accepted x.rules is.rules ErrorRecovery)
+        (at_default (rule_of x.rules ErrorRecovery))
+        (default_accepted x.rules is.rules ErrorRecovery)
     with_values x is false = is.values
 
     at_nsid : (x : Controller) → IsController s.namespaces x → (q : ℕ) (b : Bool) → (q == n) ≡ b
@@ -90,7 +95,8 @@ attach_keeps s n ids w accepted = attached_keep s (more n ids) s.namespaces w (r
         ≡ true = ap (λ o. option_map_or (λ (x : Namespace). not x.shared) o false)
         (sym (ap (map_of.get s.namespaces) same) ∙ e) ∙ ap not p in
         let one = few (is_private s n) _ alone rows.1.1.1.1.0 in
-        let count = count_by-map (has_attached q) (with_nsids (more n ids)) (λ c. has_attached n c || is_listed ids c)
+        let count = count_by-map (has_attached q) (with_nsids (more n ids)) (λ c. has_attached n c
+        || is_listed ids c)
         (λ c. has_more n ids c q
         ∙ ap (λ b. cond b (is_listed ids c) false || map_of.contains_key c.attached q) is
         ∙ ap (λ m. is_listed ids c || map_of.contains_key c.attached m) same

@@ -1,5 +1,6 @@
 -- What is found in a map in which what some keys have is changed.
-use Rattle.std.proofs.Common.{◌≡◌, ◌∙◌, ◌||◌, Bool, true, false, cond, List, [], ◌∷◌, map, Option, Some, None, refl, sym, ap}
+use Rattle.std.proofs.Common.{◌≡◌, ◌∙◌, ◌||◌, Bool, true, false, cond, List, [], ◌∷◌, map, Option}
+use Rattle.std.proofs.Common.{Some, None, refl, sym, ap}
 use Rattle.std.specs.Prelude.{option_map, if◌then◌else◌}
 use Rattle.std.specs.List.{fold, list_any}
 use Rattle.std.specs.Option.{option_map_or}
@@ -7,7 +8,8 @@ use Rattle.std.specs.Ordering.{eq_by_cmp}
 use Rattle.std.specs.declared.cmp.Ordering.{Ordering}
 use Rattle.std.specs.Cmp.{Equal-is, IsTotalOrder}
 use Rattle.std.specs.FinMap as map_of
-use Rattle.std.specs.FinMap.{FinMap, IsAntisymmetric, find, get-entries, get-from_entries, get-insert, same_map}
+use Rattle.std.specs.FinMap.{FinMap, IsAntisymmetric, find, get-entries, get-from_entries}
+use Rattle.std.specs.FinMap.{get-insert, same_map}
 use Rattle.nv_subsystem.specs.ChangedKeys.{changed_at_keys}
 
 -- what a key has, changed
@@ -33,15 +35,18 @@ module _ {K X : Type 0} {R : K → K → Ordering} (total : IsTotalOrder R) (sam
       at_key true = refl
       at_key false = refl
 
-      at_test : (b : Bool) (o p : Option X) → eq_by_cmp R q e.0 ≡ b → o ≡ changed_if (is_in keys q) change p
+      at_test : (b : Bool) (o p : Option X) → eq_by_cmp R q e.0 ≡ b → o
+          ≡ changed_if (is_in keys q) change p
           → cond b (Some (if is_in keys e.0 then change e.1 else e.1)) o
           ≡ changed_if (is_in keys q) change (cond b (Some e.1) p)
       at_test true o p tied later = at_key (is_in keys e.0)
-          ∙ ap (λ k. changed_if (is_in keys k) change (Some e.1)) (sym (same q e.0 ((Equal-is (R q e.0)).0 tied)))
+          ∙ ap (λ k. changed_if (is_in keys k) change (Some e.1))
+          (sym (same q e.0 ((Equal-is (R q e.0)).0 tied)))
       at_test false o p other later = later
 
   pub get-changed_at_keys : (keys : List K) (m : FinMap R X) (q : K)
-      → map_of.get (changed_at_keys keys change m) q ≡ changed_if (is_in keys q) change (map_of.get m q)
+      → map_of.get (changed_at_keys keys change m) q ≡ changed_if (is_in keys q) change
+      (map_of.get m q)
   get-changed_at_keys keys m q = get-from_entries total _ q ∙ found keys (map_of.entries m) q
       ∙ ap (changed_if (is_in keys q) change) (sym (get-entries m q))
 
@@ -66,7 +71,8 @@ module _ {K X : Type 0} {R : K → K → Ordering} (total : IsTotalOrder R) (sam
       at_some : (b : Bool) (x : X) → eq_by_cmp R q k ≡ b → map_of.get m k ≡ Some x
           → cond b (Some (change x)) (map_of.get m q) ≡ changed_if b change (map_of.get m q)
       at_some true x tied has =
-          sym (ap (option_map change) (ap (map_of.get m) (same q k ((Equal-is (R q k)).0 tied)) ∙ has))
+          sym (ap (option_map change) (ap (map_of.get m) (same q k ((Equal-is (R q k)).0 tied))
+          ∙ has))
       at_some false x other has = refl
 
       by : (o : Option X) → map_of.get m k ≡ o
@@ -76,7 +82,8 @@ module _ {K X : Type 0} {R : K → K → Ordering} (total : IsTotalOrder R) (sam
       by (Some x) e = get-insert total m k (change x) q ∙ at_some (eq_by_cmp R q k) x refl e
 
   -- a change that makes no difference the second time can go key by key
-  pub changed_at_more : ((x : X) → change (change x) ≡ change x) → (k : K) (keys : List K) (m : FinMap R X)
+  pub changed_at_more : ((x : X) → change (change x) ≡ change x)
+      → (k : K) (keys : List K) (m : FinMap R X)
       → changed_at_keys keys change (changed_at_one m k) ≡ changed_at_keys (k ∷ keys) change m
   changed_at_more once k keys m = same_map total same _ _ (λ q.
       get-changed_at_keys keys (changed_at_one m k) q
@@ -88,7 +95,8 @@ module _ {K X : Type 0} {R : K → K → Ordering} (total : IsTotalOrder R) (sam
       twice None = refl
       twice (Some x) = ap Some (once x)
 
-      both : (a b : Bool) (o : Option X) → changed_if b change (changed_if a change o) ≡ changed_if (a || b) change o
+      both : (a b : Bool) (o : Option X) → changed_if b change (changed_if a change o)
+          ≡ changed_if (a || b) change o
       both true true o = twice o
       both true false o = refl
       both false true o = refl

@@ -3,7 +3,8 @@ use Rattle.std.proofs.Common.{◌≡◌, Bool, true, false, not, refl}
 use Rattle.std.specs.Prelude.{if◌then◌else◌}
 
 -- what holds of both holds of the one that is chosen
-pub chosen_fits : {A : Type 0} (P : A → Type 0) (b : Bool) (x y : A) → P x → P y → P (if b then x else y)
+pub chosen_fits : {A : Type 0} (P : A → Type 0) (b : Bool) (x y : A) → P x → P y
+    → P (if b then x else y)
 chosen_fits P true x y p q = p
 chosen_fits P false x y p q = q
 

@@ -26,14 +26,27 @@ pub record Log : Type 0 where
   pub entries : List ErrorEntry
 
 abbrev pub status_code : Coded Status
-status_code = code_by (ℕ × (ℕ × (ℕ × (Bool × Bool)))) (coded× coded_ℕ (coded× coded_ℕ (coded× coded_ℕ (coded× coded_bool coded_bool))))
+status_code = code_by (ℕ × (ℕ × (ℕ × (Bool × Bool))))
+    (coded× coded_ℕ (coded× coded_ℕ (coded× coded_ℕ (coded× coded_bool coded_bool))))
     (λ s. (s.sc, (s.sct, (s.crd, (s.more, s.dnr)))))
-    (λ p. record { sc = p.0; sct = p.1.0; crd = p.1.1.0; more = p.1.1.1.0; dnr = p.1.1.1.1 }) (λ _. refl)
+    (λ p. record { sc = p.0; sct = p.1.0; crd = p.1.1.0; more = p.1.1.1.0; dnr = p.1.1.1.1 })
+    (λ _. refl)
 
 abbrev pub entry_code : Coded ErrorEntry
 entry_code = code_by (ℕ × (ℕ × (ℕ × (Status × (Bool × (ℕ × (ℕ × (ℕ × (ℕ × ℕ)))))))))
-    (coded× coded_ℕ (coded× coded_ℕ (coded× coded_ℕ (coded× status_code (coded× coded_bool (coded× coded_ℕ (coded× coded_ℕ (coded× coded_ℕ (coded× coded_ℕ coded_ℕ)))))))))
-    (λ e. (e.count, (e.sqid, (e.cid, (e.status, (e.phase, (e.location, (e.lba, (e.nsid, (e.vendor, e.specific))))))))))
+    (coded× coded_ℕ
+    (coded× coded_ℕ
+    (coded× coded_ℕ
+    (coded× status_code
+    (coded× coded_bool
+    (coded× coded_ℕ (coded× coded_ℕ (coded× coded_ℕ (coded× coded_ℕ coded_ℕ)))))))))
+    (λ e. (
+      e.count,
+      (
+        e.sqid,
+        (e.cid, (e.status, (e.phase, (e.location, (e.lba, (e.nsid, (e.vendor, e.specific))))))),
+      ),
+    ))
     (λ p. record {
       count = p.0;
       sqid = p.1.0;

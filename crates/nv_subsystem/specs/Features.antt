@@ -1,12 +1,17 @@
 -- Get Features and Set Features: when they are refused, what they answer, and what they change.
-use Rattle.std.specs.Prelude.{ℕ, ◌+◌, ◌==◌, ◌&&◌, ◌||◌, not, nat_lt, Bool, true, List, [], ◌∷◌, Option, None, unwrap_or, if◌then◌else◌, map}
+use Rattle.std.specs.Prelude.{ℕ, ◌+◌, ◌==◌, ◌&&◌, ◌||◌, not, nat_lt, Bool, true, List, [], ◌∷◌}
+use Rattle.std.specs.Prelude.{Option, None, unwrap_or, if◌then◌else◌, map}
 use Rattle.std.specs.Option.{option_map_or}
 use Rattle.std.specs.FinMap as map_of
 use Rattle.nv_layout.specs.Feature.{feature_of, is_accepted, row_of}
 use Rattle.nv_layout.specs.declared.feature.Feature.{Feature}
 use Rattle.nv_file.specs.declared.feature_rule.FeatureRule.{FeatureRule}
 use Rattle.nv_command.specs.declared.command.TheConstants.{BROADCAST_NSID}
-use Rattle.nv_command.specs.declared.status_code.StatusCode.TheVariants.{FeatureNotChangeable, FeatureNotNamespaceSpecific, FeatureIdentifierNotSaveable, InvalidFieldInCommand, InvalidNamespaceOrFormat}
+use Rattle.nv_command.specs.declared.status_code.StatusCode.TheVariants.{FeatureNotChangeable}
+use Rattle.nv_command.specs.declared.status_code.StatusCode.TheVariants.{FeatureNotNamespaceSpecific}
+use Rattle.nv_command.specs.declared.status_code.StatusCode.TheVariants.{FeatureIdentifierNotSaveable}
+use Rattle.nv_command.specs.declared.status_code.StatusCode.TheVariants.{InvalidFieldInCommand}
+use Rattle.nv_command.specs.declared.status_code.StatusCode.TheVariants.{InvalidNamespaceOrFormat}
 use Rattle.nv_subsystem.specs.ChangedKeys.{changed_at_keys}
 use Rattle.nv_subsystem.specs.FeatureValue.{default_rule, written}
 use Rattle.nv_subsystem.specs.Nsid.{concerned, is_active, is_valid}

@@ -1,5 +1,7 @@
 -- A format leaves a well-formed subsystem well formed.
-use Rattle.std.proofs.Common.{rules, ◌≡◌, ◌∙◌, ℕ, ◌-◌, ◌==◌, ◌≤◌, ◌^◌, ◌||◌, Bool, true, false, cond, List, [], ◌∷◌, Option, Some, None, nat_lt, refl, sym, ap, subst, arith}
+use Rattle.std.proofs.Common.{rules, ◌≡◌, ◌∙◌, ℕ, ◌-◌, ◌==◌, ◌≤◌, ◌^◌, ◌||◌, Bool, true, false}
+use Rattle.std.proofs.Common.{cond, List, [], ◌∷◌, Option, Some, None, nat_lt, refl, sym, ap, subst}
+use Rattle.std.proofs.Common.{arith}
 use Rattle.std.specs.Prelude.{IsSomeAnd, slice_get}
 use Rattle.std.specs.List.{AllByRecursion, fold, list_any}
 use Rattle.std.specs.Option.{option_map_or}
@@ -105,7 +107,8 @@ module _ (format : Format) (lbaf : ℕ) (mset : Bool) where
       fits_format =
           let old = w.namespaces n x at in
           record {
-            capacity = (size_of s n x at room, few s.mc x (slice_get s.formats x.format) old.format);
+            capacity =
+                (size_of s n x at room, few s.mc x (slice_get s.formats x.format) old.format);
             extended = extends_by format.ms s.mc mset can.extends;
           }
 
@@ -143,7 +146,8 @@ module _ (format : Format) (lbaf : ℕ) (mset : Bool) where
 
       by : (o : Option Namespace) → map_of.get s.namespaces n ≡ o → below size
           (map_of.get
-          (option_map_or (λ x. map_of.insert s.namespaces n (as_format x)) o s.namespaces) q) ≡ false
+          (option_map_or (λ x. map_of.insert s.namespaces n (as_format x)) o s.namespaces) q)
+          ≡ false
       by None found = room
       by (Some x) found = ap (below size) (get_of_insert s.namespaces n (as_format x) q)
           ∙ at_test x (q == n) refl found
@@ -175,7 +179,8 @@ none_passes p (n ∷ ns) h = both (p n) (list_any p ns) h (none_passes p ns)
 
 pub formatted_each : (lbaf : ℕ) (mset : Bool) (ns : List ℕ) (m : Namespaces)
     → fold (with_format lbaf mset) m ns ≡ changed_at_keys ns (in_format lbaf mset) m
-formatted_each lbaf mset ns m = folded nat_cmp_total nat_cmp-IsAntisymmetric (in_format lbaf mset) (λ x. refl) ns m
+formatted_each lbaf mset ns m =
+    folded nat_cmp_total nat_cmp-IsAntisymmetric (in_format lbaf mset) (λ x. refl) ns m
 
 format_by : (s : State) (ns : List ℕ) (f : NewFormat) (o : Option Format)
     → slice_get s.formats f.lbaf ≡ o
@@ -186,7 +191,8 @@ format_by : (s : State) (ns : List ℕ) (f : NewFormat) (o : Option Format)
     (record s { namespaces = changed_at_keys ns (in_format f.lbaf f.mset) s.namespaces })
 format_by s ns f None at can room w = absurd (cc can)
 format_by s ns f (Some format) at can room w =
-    subst (λ m. IsWellFormed (record s { namespaces = m })) (formatted_each f.lbaf f.mset ns s.namespaces)
+    subst (λ m. IsWellFormed (record s { namespaces = m }))
+    (formatted_each f.lbaf f.mset ns s.namespaces)
     (all_keep format f.lbaf f.mset ns s (record { found = at; extends = can })
     (none_passes (is_below s (2 ^ format.lbads)) ns room) w)
 

@@ -42,7 +42,8 @@ abbrev pub defaults_of : FeatureRules → ℕ → FeatureValues
 defaults_of rules vwc = fold (with_default rules vwc) map_of.empty ALL
 
 abbrev pub with_attachment : ℕ → Nsids → NamespaceValue → Nsids
-with_attachment cntlid nsids n = if is_attached_to cntlid n then map_of.insert nsids n.nsid tt else nsids
+with_attachment cntlid nsids n =
+    if is_attached_to cntlid n then map_of.insert nsids n.nsid tt else nsids
 
 abbrev pub controller_of : List NamespaceValue → ControllerValue → Controller
 controller_of namespaces c = record {

@@ -1,5 +1,6 @@
 -- The Identify commands: when they are refused, and what they answer.
-use Rattle.std.specs.Prelude.{ℕ, ◌+◌, ◌-◌, ◌==◌, ◌||◌, not, nat_le, List, [], ◌∷◌, ◌++◌, length, map, replicate, if◌then◌else◌}
+use Rattle.std.specs.Prelude.{ℕ, ◌+◌, ◌-◌, ◌==◌, ◌||◌, not, nat_le, List, [], ◌∷◌, ◌++◌, length}
+use Rattle.std.specs.Prelude.{map, replicate, if◌then◌else◌}
 use Rattle.std.specs.Option.{option_map_or}
 use Rattle.std.specs.FinMap as map_of
 use Rattle.nv_bits.specs.Numbers.{above}
@@ -62,7 +63,8 @@ blank = record {
 
 -- what all namespaces have in common: the formats (their number less one) and how metadata may lie
 abbrev pub common_of : List Format → ℕ → IdNs
-common_of formats mc = record blank { nlbaf = length formats - 1; mc = mc; lbafs = lbafs_of formats }
+common_of formats mc =
+    record blank { nlbaf = length formats - 1; mc = mc; lbafs = lbafs_of formats }
 
 -- FLBAS: the format, and bit 4 where metadata lies at the end of each logical block
 abbrev pub flbas_of : Namespace → ℕ
@@ -90,7 +92,8 @@ active_namespace s c n = if is_active s c n then allocated_namespace s n else bl
 
 abbrev pub active_reply : State → ℕ → ℕ → Reply
 active_reply s c n =
-    reply.Namespace (if n == BROADCAST_NSID then common_of s.formats s.mc else active_namespace s c n)
+    reply.Namespace (if n == BROADCAST_NSID then common_of s.formats s.mc else active_namespace
+    s c n)
 
 abbrev pub allocated_reply : State → ℕ → Reply
 allocated_reply s n = reply.Namespace (allocated_namespace s n)

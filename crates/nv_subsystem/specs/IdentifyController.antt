@@ -85,4 +85,5 @@ no_controller = record {
 }
 
 abbrev pub controller_reply : State → ℕ → Reply
-controller_reply s c = reply.Controller (option_map_or (id_ctrl_of s) (controller_at s c) no_controller)
+controller_reply s c =
+    reply.Controller (option_map_or (id_ctrl_of s) (controller_at s c) no_controller)

@@ -1,5 +1,6 @@
 -- A list of NSIDs that is answered fits a namespace list.
-use Rattle.std.proofs.Common.{◌≡◌, ◌≢◌, ◌∙◌, ℕ, ◌+◌, ◌-◌, ◌<◌, ◌≤◌, ◌^◌, ◌&&◌, ◌||◌, ap, refl, arith, Bool, true, false, cond, nat_lt, List, [], ◌∷◌, length, map}
+use Rattle.std.proofs.Common.{◌≡◌, ◌≢◌, ◌∙◌, ℕ, ◌+◌, ◌-◌, ◌<◌, ◌≤◌, ◌^◌, ◌&&◌, ◌||◌, ap, refl}
+use Rattle.std.proofs.Common.{arith, Bool, true, false, cond, nat_lt, List, [], ◌∷◌, length, map}
 use Rattle.std.proofs.Math.Dec.{T}
 use Rattle.std.specs.List.{AllByRecursion, list_any}
 use Rattle.std.specs.Ordering.{MatchOrdering, eq_by_cmp, is_lt, nat_cmp}
@@ -42,7 +43,11 @@ or-true true = refl
 or-true false = refl
 
 above_few : (after : ℕ) (ns : List ℕ) → length (above after ns) ≤ length ns
-above_few after ns = omega (arith, length-filter (λ n. nat_lt after n) ns, count_by-le-length (λ n. nat_lt after n) ns)
+above_few after ns = omega (
+  arith,
+  length-filter (λ n. nat_lt after n) ns,
+  count_by-le-length (λ n. nat_lt after n) ns,
+)
 
 module _ {X : Type 0} where
   -- the test of an order that each later key is above one
@@ -51,53 +56,76 @@ module _ {X : Type 0} where
   below_all k (e ∷ es) = is_lt (nat_cmp k e.0) && below_all k es
 
   -- in order, each key is above the first
-  keys_above : (k : ℕ) (x : X) (es : List (ℕ × X)) → T (is_sorted nat_cmp ((k, x) ∷ es)) → AllByRecursion (λ e. k < e.0) es
+  keys_above : (k : ℕ) (x : X) (es : List (ℕ × X)) → T (is_sorted nat_cmp ((k, x) ∷ es))
+      → AllByRecursion (λ e. k < e.0) es
   keys_above k x [] h = tt
   keys_above k x (e ∷ es) h =
-      let front = first (is_lt (nat_cmp k e.0) && below_all k es) (below_all e.0 es && is_sorted nat_cmp es) h in
-      let back = second (is_lt (nat_cmp k e.0) && below_all k es) (below_all e.0 es && is_sorted nat_cmp es) h in (
+      let front = first (is_lt (nat_cmp k e.0) && below_all k es) (below_all e.0 es
+      && is_sorted nat_cmp es) h in
+      let back = second (is_lt (nat_cmp k e.0) && below_all k es) (below_all e.0 es
+      && is_sorted nat_cmp es) h in (
         less k e.0 (first (is_lt (nat_cmp k e.0)) (below_all k es) front),
-        keys_above k x es (both (below_all k es) (is_sorted nat_cmp es) (second (is_lt (nat_cmp k e.0)) (below_all k es) front) (second (below_all e.0 es) (is_sorted nat_cmp es) back)),
+        keys_above k x es (both (below_all k es) (is_sorted nat_cmp es)
+            (second (is_lt (nat_cmp k e.0)) (below_all k es) front) (second (below_all e.0 es)
+            (is_sorted nat_cmp es) back)),
       )
 
-  raised : (k nn : ℕ) (es : List (ℕ × X)) → AllByRecursion (λ e. k < e.0) es → AllByRecursion (λ e. e.0 ≤ nn) es → AllByRecursion (λ e. (k + 1 ≤ e.0) × (e.0 ≤ nn)) es
+  raised : (k nn : ℕ) (es : List (ℕ × X)) → AllByRecursion (λ e. k < e.0) es
+      → AllByRecursion (λ e. e.0 ≤ nn) es → AllByRecursion (λ e. (k + 1 ≤ e.0) × (e.0 ≤ nn)) es
   raised k nn [] a b = tt
   raised k nn (e ∷ es) a b = ((omega (arith, a.0), b.0), raised k nn es a.1 b.1)
 
-  tops : (lo nn : ℕ) (es : List (ℕ × X)) → AllByRecursion (λ e. (lo ≤ e.0) × (e.0 ≤ nn)) es → AllByRecursion (λ e. e.0 ≤ nn) es
+  tops : (lo nn : ℕ) (es : List (ℕ × X)) → AllByRecursion (λ e. (lo ≤ e.0) × (e.0 ≤ nn)) es
+      → AllByRecursion (λ e. e.0 ≤ nn) es
   tops lo nn [] a = tt
   tops lo nn (e ∷ es) a = (a.0.1, tops lo nn es a.1)
 
   -- so there are no more of them than numbers in their range
-  few : (lo nn : ℕ) (es : List (ℕ × X)) → T (is_sorted nat_cmp es) → AllByRecursion (λ e. (lo ≤ e.0) × (e.0 ≤ nn)) es → length es ≤ (nn + 1) - lo
+  few : (lo nn : ℕ) (es : List (ℕ × X)) → T (is_sorted nat_cmp es) → AllByRecursion (λ e. (lo ≤ e.0)
+      × (e.0 ≤ nn)) es → length es ≤ (nn + 1) - lo
   few lo nn [] h a = omega arith
   few lo nn (e ∷ es) h a =
-      let rest = few (e.0 + 1) nn es (second (below_all e.0 es) (is_sorted nat_cmp es) h) (raised e.0 nn es (keys_above e.0 e.1 es h) (tops lo nn es a.1)) in
+      let rest = few (e.0 + 1) nn es (second (below_all e.0 es) (is_sorted nat_cmp es) h)
+      (raised e.0 nn es (keys_above e.0 e.1 es h) (tops lo nn es a.1)) in
       omega (arith, rest, a.0.0, a.0.1)
 
   -- what holds of each number that is found holds of each key
-  each_key : (B : ℕ → Type 0) (es : List (ℕ × X)) → ((n : ℕ) → list_any (eq_by_cmp nat_cmp n) (map (λ e. e.0) es) ≡ true → B n) → AllByRecursion (λ e. B e.0) es
+  each_key : (B : ℕ → Type 0) (es : List (ℕ × X))
+      → ((n : ℕ) → list_any (eq_by_cmp nat_cmp n) (map (λ e. e.0) es) ≡ true → B n)
+      → AllByRecursion (λ e. B e.0) es
   each_key B [] h = tt
   each_key B (e ∷ es) h = (
     h e.0 (ap (λ b. b || list_any (eq_by_cmp nat_cmp e.0) (map (λ e. e.0) es)) (ties e.0)),
-    each_key B es (λ n t. h n (ap (λ b. eq_by_cmp nat_cmp n e.0 || b) t ∙ or-true (eq_by_cmp nat_cmp n e.0))),
+    each_key B es (λ n t. h n (ap (λ b. eq_by_cmp nat_cmp n e.0 || b) t
+        ∙ or-true (eq_by_cmp nat_cmp n e.0))),
   )
 
-  above_in : (after nn : ℕ) (es : List (ℕ × X)) → nn ≤ 1024 → AllByRecursion (λ e. (1 ≤ e.0) × (e.0 ≤ nn)) es → AllByRecursion (λ n. (n ≢ 0) × (n < 2 ^ 32)) (above after (map (λ e. e.0) es))
+  above_in : (after nn : ℕ) (es : List (ℕ × X)) → nn ≤ 1024 → AllByRecursion (λ e. (1 ≤ e.0)
+      × (e.0 ≤ nn)) es → AllByRecursion (λ n. (n ≢ 0) × (n < 2 ^ 32))
+      (above after (map (λ e. e.0) es))
   above_in after nn [] h a = tt
   above_in after nn (e ∷ es) h a =
       let rest = above_in after nn es h a.1 in
-      elim (nat_lt after e.0) as (λ b. AllByRecursion (λ n. (n ≢ 0) × (n < 2 ^ 32)) (cond b (e.0 ∷ above after (map (λ e. e.0) es)) (above after (map (λ e. e.0) es)))) [
+      elim (nat_lt after e.0) as (λ b. AllByRecursion (λ n. (n ≢ 0) × (n < 2 ^ 32))
+      (cond b (e.0 ∷ above after (map (λ e. e.0) es)) (above after (map (λ e. e.0) es)))) [
         | true ↦ (((λ z. omega (arith, a.0.0, z)), omega (arith, a.0.1)), rest)
         | false ↦ rest
       ]
 
   -- the keys of a map above a number, where each key is from 1 to nn
-  pub keys_fit : (after nn : ℕ) (m : map_of.FinMap nat_cmp X) → nn ≤ 1024 → ((n : ℕ) → map_of.contains_key m n ≡ true → (1 ≤ n) × (n ≤ nn)) → IsNsidList (above after (map_of.keys m))
+  pub keys_fit : (after nn : ℕ) (m : map_of.FinMap nat_cmp X) → nn ≤ 1024
+      → ((n : ℕ) → map_of.contains_key m n ≡ true → (1 ≤ n) × (n ≤ nn))
+      → IsNsidList (above after (map_of.keys m))
   keys_fit after nn m h inside =
       let es = map_of.entries m in
-      let all = each_key (λ n. (1 ≤ n) × (n ≤ nn)) es (λ n t. inside n (contains_key-keys m n ∙ t)) in
+      let all =
+      each_key (λ n. (1 ≤ n) × (n ≤ nn)) es (λ n t. inside n (contains_key-keys m n ∙ t)) in
       record {
-        count = omega (arith, above_few after (map (λ e. e.0) es), few 1 nn es (entries_sorted m) all, length-map es (λ e. e.0));
+        count = omega (
+          arith,
+          above_few after (map (λ e. e.0) es),
+          few 1 nn es (entries_sorted m) all,
+          length-map es (λ e. e.0),
+        );
         numbers = above_in after nn es h all;
       }

@@ -1,5 +1,6 @@
 -- The refusals of a Get Log Page have a status, and the logs fit their records.
-use Rattle.std.proofs.Common.{rules, ◌≡◌, ℕ, zero, suc, ◌+◌, ◌-◌, ◌^◌, refl, arith, lit<, List, [], ◌∷◌, ◌++◌, length, get_or, Option, Some, None}
+use Rattle.std.proofs.Common.{rules, ◌≡◌, ℕ, zero, suc, ◌+◌, ◌-◌, ◌^◌, refl, arith, lit<, List, []}
+use Rattle.std.proofs.Common.{◌∷◌, ◌++◌, length, get_or, Option, Some, None}
 use Rattle.std.specs.Prelude.{All, replicate}
 use Rattle.std.specs.List.{AllByRecursion}
 use Rattle.std.specs.Option.{option_map_or}
@@ -37,7 +38,8 @@ entries_fit [] zero all = tt
 entries_fit [] (suc n) all = (no_entry_fits, entries_fit [] n all)
 entries_fit (e ∷ es) n all = (
   all 0 e (omega arith),
-  entries_fit es n (λ k d l. let later : ErrorEntryFits (get_or es k d) = all (suc k) d (omega arith) in later),
+  entries_fit es n (λ k d l. let later : ErrorEntryFits (get_or es k d) =
+      all (suc k) d (omega arith) in later),
 )
 
 module _ (ns : Namespaces) where

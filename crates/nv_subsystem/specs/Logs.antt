@@ -1,5 +1,6 @@
 -- Get Log Page: when it is refused, and what it answers.
-use Rattle.std.specs.Prelude.{ℕ, ◌+◌, ◌-◌, ◌*◌, ◌%◌, ◌==◌, ◌||◌, not, nat_lt, Bool, List, [], ◌∷◌, ◌++◌, length, replicate, if◌then◌else◌}
+use Rattle.std.specs.Prelude.{ℕ, ◌+◌, ◌-◌, ◌*◌, ◌%◌, ◌==◌, ◌||◌, not, nat_lt, Bool, List, [], ◌∷◌}
+use Rattle.std.specs.Prelude.{◌++◌, length, replicate, if◌then◌else◌}
 use Rattle.std.specs.Option.{option_map_or}
 use Rattle.nv_layout.specs.ErrorEntry.{no_entry}
 use Rattle.nv_layout.specs.declared.error_entry.ErrorEntry.{ErrorEntry}
@@ -8,7 +9,8 @@ use Rattle.nv_command.specs.Logs.{is_error_log}
 use Rattle.nv_command.specs.declared.command.TheConstants.{BROADCAST_NSID}
 use Rattle.nv_command.specs.declared.reply.Reply.{Reply}
 use Rattle.nv_command.specs.declared.reply.Reply.TheVariants as reply
-use Rattle.nv_command.specs.declared.status_code.StatusCode.TheVariants.{InvalidFieldInCommand, InvalidLogPage}
+use Rattle.nv_command.specs.declared.status_code.StatusCode.TheVariants.{InvalidFieldInCommand}
+use Rattle.nv_command.specs.declared.status_code.StatusCode.TheVariants.{InvalidLogPage}
 use Rattle.nv_subsystem.specs.Row.{row}
 use Rattle.nv_subsystem.specs.State.{Controller, State, controller_at}
 use Rattle.nv_subsystem.specs.declared.row.Row.{Row}
@@ -96,4 +98,5 @@ smart_at s c = option_map_or smart_of (controller_at s c) no_health
 
 -- the error log, or the health log
 abbrev pub log_reply : State → ℕ → ℕ → Reply
-log_reply s c lid = if is_error_log lid then reply.Errors (errors_at s c) else reply.Smart (smart_at s c)
+log_reply s c lid =
+    if is_error_log lid then reply.Errors (errors_at s c) else reply.Smart (smart_at s c)

@@ -1,11 +1,17 @@
 -- Namespace Management: when a create or a delete is refused, what it answers, and what it changes.
-use Rattle.std.specs.Prelude.{ℕ, ◌*◌, ◌-◌, ◌^◌, ◌==◌, ◌||◌, not, min, nat_lt, bit_and, Bool, List, [], ◌∷◌, is_some, unwrap_or, if◌then◌else◌, map}
+use Rattle.std.specs.Prelude.{ℕ, ◌*◌, ◌-◌, ◌^◌, ◌==◌, ◌||◌, not, min, nat_lt, bit_and, Bool, List}
+use Rattle.std.specs.Prelude.{[], ◌∷◌, is_some, unwrap_or, if◌then◌else◌, map}
 use Rattle.std.specs.Option.{option_map_or}
 use Rattle.std.specs.FinMap as map_of
 use Rattle.nv_command.specs.StatusCode.{status_of_code}
 use Rattle.nv_command.specs.declared.command.TheConstants.{BROADCAST_NSID}
 use Rattle.nv_command.specs.declared.refusal.Refusal.{Refusal}
-use Rattle.nv_command.specs.declared.status_code.StatusCode.TheVariants.{InvalidFieldInCommand, InvalidFormat, InvalidNamespaceOrFormat, NamespaceIdentifierUnavailable, NamespaceInsufficientCapacity, ThinProvisioningNotSupported}
+use Rattle.nv_command.specs.declared.status_code.StatusCode.TheVariants.{InvalidFieldInCommand}
+use Rattle.nv_command.specs.declared.status_code.StatusCode.TheVariants.{InvalidFormat}
+use Rattle.nv_command.specs.declared.status_code.StatusCode.TheVariants.{InvalidNamespaceOrFormat}
+use Rattle.nv_command.specs.declared.status_code.StatusCode.TheVariants.{NamespaceIdentifierUnavailable}
+use Rattle.nv_command.specs.declared.status_code.StatusCode.TheVariants.{NamespaceInsufficientCapacity}
+use Rattle.nv_command.specs.declared.status_code.StatusCode.TheVariants.{ThinProvisioningNotSupported}
 use Rattle.nv_file.specs.declared.namespace.Namespace.{Namespace}
 use Rattle.nv_subsystem.specs.Capacity.{unallocated}
 use Rattle.nv_subsystem.specs.Formats.{can_have, format_at}

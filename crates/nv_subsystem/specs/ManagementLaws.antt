@@ -1,5 +1,8 @@
 -- A create and a delete leave a well-formed subsystem well formed.
-use Rattle.std.proofs.Common.{rules, ◌≡◌, ◌≢◌, ◌∙◌, ℕ, zero, suc, ◌+◌, ◌*◌, ◌-◌, ◌==◌, ◌<◌, ◌≤◌, ◌^◌, ◌||◌, ◌&&◌, Bool, true, false, not, cond, List, [], ◌∷◌, length, Option, Some, None, is_some, bit_and, nat_lt, refl, sym, ap, subst, arith, lit<}
+use Rattle.std.proofs.Common.{rules, ◌≡◌, ◌≢◌, ◌∙◌, ℕ, zero, suc, ◌+◌, ◌*◌, ◌-◌, ◌==◌, ◌<◌, ◌≤◌}
+use Rattle.std.proofs.Common.{◌^◌, ◌||◌, ◌&&◌, Bool, true, false, not, cond, List, [], ◌∷◌, length}
+use Rattle.std.proofs.Common.{Option, Some, None, is_some, bit_and, nat_lt, refl, sym, ap, subst}
+use Rattle.std.proofs.Common.{arith, lit<}
 use Rattle.std.specs.Prelude.{IsSomeAnd, count_by, if◌then◌else◌, unwrap_or}
 use Rattle.std.specs.List.{AllByRecursion, find, range_with_len}
 use Rattle.std.specs.Option.{option_map_or}
@@ -10,7 +13,8 @@ use Rattle.std.proofs.lemmas.Bool.Decides.{nat_tests}
 use Rattle.std.proofs.lemmas.List.{length-map}
 use Rattle.std.proofs.lemmas.List.Elements.{All-map, All-weaker}
 use Rattle.nv_bits.specs.Numbers.{NumberMap}
-use Rattle.nv_bits.specs.NumberLaws.{contains-insert, contains-remove, get_of_insert, get_of_remove, remove_absent}
+use Rattle.nv_bits.specs.NumberLaws.{contains-insert, contains-remove, get_of_insert, get_of_remove}
+use Rattle.nv_bits.specs.NumberLaws.{remove_absent}
 use Rattle.nv_file.specs.Ranges.{IsInFormat}
 use Rattle.nv_file.specs.Tables.{may_extend}
 use Rattle.nv_file.specs.declared.format.Format.{Format}
@@ -22,7 +26,10 @@ use Rattle.nv_command.specs.declared.status_code.StatusCode.TheVariants.{Namespa
 use Rattle.nv_subsystem.specs.Capacity.{unallocated, used}
 use Rattle.nv_subsystem.specs.ChoiceLaws.{not_false}
 use Rattle.nv_subsystem.specs.Formats.{format_at}
-use Rattle.nv_subsystem.specs.Management.{Attached, bytes_needed, capacity_refusal, create_rows, created, created_nsid, delete_rows, deleted, format_index, is_extended, new_namespace, with_attached, with_nsids, without, without_all, without_any, without_one}
+use Rattle.nv_subsystem.specs.Management.{Attached, bytes_needed, capacity_refusal, create_rows}
+use Rattle.nv_subsystem.specs.Management.{created, created_nsid, delete_rows, deleted, format_index}
+use Rattle.nv_subsystem.specs.Management.{is_extended, new_namespace, with_attached, with_nsids}
+use Rattle.nv_subsystem.specs.Management.{without, without_all, without_any, without_one}
 use Rattle.nv_subsystem.specs.FeatureLaws.{values-without, values-without_any}
 use Rattle.nv_subsystem.specs.MappedLaws.{count_by-map_le, none_pass, pairs_map, untrue}
 use Rattle.nv_subsystem.specs.Nsid.{free_nsid, is_allocated}
@@ -103,7 +110,8 @@ none_of None e = refl
 none_of (Some x) e = absurd (cc e)
 
 -- what lets metadata lie at the end of logical blocks
-pub extends_by : (ms mc : ℕ) (e : Bool) → (not e || (nat_lt 0 ms && (bit_and mc 1 == 1))) ≡ true → e ≡ true
+pub extends_by : (ms mc : ℕ) (e : Bool) → (not e || (nat_lt 0 ms && (bit_and mc 1 == 1))) ≡ true
+    → e ≡ true
     → (0 < ms) × (bit_and mc 1 ≡ 1)
 extends_by ms mc true h e = grind (arith, nat_tests)
 extends_by ms mc false h e = absurd (cc e)
@@ -198,7 +206,8 @@ create_by s w (Some n) e well accepted =
         subst (IsNamespace _ q) same (record {
           nsid = (omega (arith, free.0.0), omega (arith, free.0.1));
           format = in_format s.mc (bytes_needed s w) w.nsze (bit_and w.flbas 0xf)
-              (is_extended w.flbas) (new_namespace s w).shared (format_at s (format_index w.flbas)) rows.0
+              (is_extended w.flbas) (new_namespace s w).shared (format_at s (format_index w.flbas))
+              rows.0
               (blocks rows.1.1.0) refl (omega (arith, fits, well.keys.tnvmcap));
           private = λ p. omega (arith, none_attached s q well (ap (is_allocated s) here ∙ free.1));
         })
@@ -321,7 +330,8 @@ created_controllers s w = by (free_nsid s)
 pub deleted_controllers : (s : State) (n : ℕ) → length (deleted s n).controllers
     ≡ length s.controllers
 deleted_controllers s n = elim (n == BROADCAST_NSID) as
-    (λ b. length (if b then without_all s else without_one s n).controllers ≡ length s.controllers) [
+    (λ b. length (if b then without_all s else without_one s n).controllers
+    ≡ length s.controllers) [
       | true ↦ length-map s.controllers (with_nsids without_any)
       | false ↦ length-map s.controllers (with_nsids (without n))
     ]

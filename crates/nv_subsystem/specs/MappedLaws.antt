@@ -1,5 +1,7 @@
 -- Lists that are mapped, and counts of what passes a test.
-use Rattle.std.proofs.Common.{◌≡◌, ℕ, zero, suc, ◌≤◌, Bool, true, false, cond, List, [], ◌∷◌, map, length, get_or, refl, sym, ap, subst, arith, ◌<◌, ◌||◌, ◌++◌, take, drop, set}
+use Rattle.std.proofs.Common.{◌≡◌, ℕ, zero, suc, ◌≤◌, Bool, true, false, cond, List, [], ◌∷◌, map}
+use Rattle.std.proofs.Common.{length, get_or, refl, sym, ap, subst, arith, ◌<◌, ◌||◌, ◌++◌, take}
+use Rattle.std.proofs.Common.{drop, set}
 use Rattle.std.specs.Prelude.{All, AllPairs, count_by}
 use Rattle.std.specs.List.{list_any}
 use Rattle.std.proofs.lemmas.List.{length-map, get_or-map}

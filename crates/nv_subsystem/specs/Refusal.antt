@@ -1,7 +1,12 @@
 -- When a command is refused, and why.
 use Rattle.std.specs.Prelude.{ℕ, List, [], Option}
 use Rattle.nv_command.specs.declared.command.Command.{Command}
-use Rattle.nv_command.specs.declared.command.Command.TheVariants.{IdentifyController, IdentifyNamespace, AllocatedNamespace, ActiveList, AllocatedList, Create, Delete, Attachment, Format, GetFeature, SetFeature, GetLog}
+use Rattle.nv_command.specs.declared.command.Command.TheVariants.{IdentifyController}
+use Rattle.nv_command.specs.declared.command.Command.TheVariants.{IdentifyNamespace}
+use Rattle.nv_command.specs.declared.command.Command.TheVariants.{AllocatedNamespace, ActiveList}
+use Rattle.nv_command.specs.declared.command.Command.TheVariants.{AllocatedList, Create, Delete}
+use Rattle.nv_command.specs.declared.command.Command.TheVariants.{Attachment, Format, GetFeature}
+use Rattle.nv_command.specs.declared.command.Command.TheVariants.{SetFeature, GetLog}
 use Rattle.nv_command.specs.declared.refusal.Refusal.{Refusal}
 use Rattle.nv_subsystem.specs.Attachment.{attachment_rows}
 use Rattle.nv_subsystem.specs.Features.{get_feature_rows, set_feature_rows}

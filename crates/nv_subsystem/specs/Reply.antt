@@ -1,10 +1,16 @@
 -- What an accepted command is answered.
 use Rattle.std.specs.Prelude.{ℕ}
 use Rattle.nv_command.specs.declared.command.Command.{Command}
-use Rattle.nv_command.specs.declared.command.Command.TheVariants.{IdentifyController, IdentifyNamespace, AllocatedNamespace, ActiveList, AllocatedList, Create, Delete, Attachment, Format, GetFeature, SetFeature, GetLog}
+use Rattle.nv_command.specs.declared.command.Command.TheVariants.{IdentifyController}
+use Rattle.nv_command.specs.declared.command.Command.TheVariants.{IdentifyNamespace}
+use Rattle.nv_command.specs.declared.command.Command.TheVariants.{AllocatedNamespace, ActiveList}
+use Rattle.nv_command.specs.declared.command.Command.TheVariants.{AllocatedList, Create, Delete}
+use Rattle.nv_command.specs.declared.command.Command.TheVariants.{Attachment, Format, GetFeature}
+use Rattle.nv_command.specs.declared.command.Command.TheVariants.{SetFeature, GetLog}
 use Rattle.nv_command.specs.declared.reply.Reply.{Reply}
 use Rattle.nv_subsystem.specs.Features.{feature_number}
-use Rattle.nv_subsystem.specs.Identify.{active_list_reply, active_reply, allocated_list_reply, allocated_reply}
+use Rattle.nv_subsystem.specs.Identify.{active_list_reply, active_reply, allocated_list_reply}
+use Rattle.nv_subsystem.specs.Identify.{allocated_reply}
 use Rattle.nv_command.specs.declared.reply.Reply.TheVariants as reply
 use Rattle.nv_subsystem.specs.IdentifyController.{controller_reply}
 use Rattle.nv_subsystem.specs.Logs.{log_reply}

@@ -1,5 +1,7 @@
 -- Get Features and Set Features leave a well-formed subsystem well formed, and their replies fit.
-use Rattle.std.proofs.Common.{rules, ◌≡◌, ◌∙◌, ℕ, ◌+◌, ◌==◌, ◌<◌, ◌^◌, ◌&&◌, Bool, true, false, List, [], ◌∷◌, length, Option, Some, None, is_some, refl, sym, ap, subst, arith, lit<, bit_and, map}
+use Rattle.std.proofs.Common.{rules, ◌≡◌, ◌∙◌, ℕ, ◌+◌, ◌==◌, ◌<◌, ◌^◌, ◌&&◌, Bool, true, false}
+use Rattle.std.proofs.Common.{List, [], ◌∷◌, length, Option, Some, None, is_some, refl, sym, ap}
+use Rattle.std.proofs.Common.{subst, arith, lit<, bit_and, map}
 use Rattle.std.specs.Prelude.{if◌then◌else◌, unwrap_or}
 use Rattle.std.specs.List.{fold}
 use Rattle.std.specs.Option.{option_map_or}
@@ -19,17 +21,22 @@ use Rattle.nv_subsystem.specs.ChangedKeys.{changed_at_keys}
 use Rattle.nv_subsystem.specs.ChangedKeysLaws.{folded}
 use Rattle.nv_subsystem.specs.ChangedAtLaws.{length-changed_at}
 use Rattle.nv_subsystem.specs.ChoiceLaws.{chosen_fits, not_false}
-use Rattle.nv_subsystem.specs.FeatureLaws.{accepted_at, default_accepted, feature_at, values-written}
-use Rattle.nv_subsystem.specs.Features.{changed_nsids, feature_number, get_feature_rows, get_rows, selected, set_feature_rows, set_rows, supported_at, told, with_feature, with_value, with_values}
+use Rattle.nv_subsystem.specs.FeatureLaws.{accepted_at, default_accepted, feature_at}
+use Rattle.nv_subsystem.specs.FeatureLaws.{values-written}
+use Rattle.nv_subsystem.specs.Features.{changed_nsids, feature_number, get_feature_rows, get_rows}
+use Rattle.nv_subsystem.specs.Features.{selected, set_feature_rows, set_rows, supported_at, told}
+use Rattle.nv_subsystem.specs.Features.{with_feature, with_value, with_values}
 use Rattle.nv_subsystem.specs.FeatureValue.{written}
 use Rattle.nv_subsystem.specs.KeepingLaws.{Keeps, keeps}
 use Rattle.nv_subsystem.specs.ManagementLaws.{AllRefuse, none_holds}
 use Rattle.nv_command.specs.declared.status_code.StatusCode.TheVariants.{InvalidFieldInCommand}
 use Rattle.nv_subsystem.specs.Row.{first_refusal, row}
-use Rattle.nv_subsystem.specs.State.{Controller, Nsids, State, controller_at, rule_of, with_controller}
+use Rattle.nv_subsystem.specs.State.{Controller, Nsids, State, controller_at, rule_of}
+use Rattle.nv_subsystem.specs.State.{with_controller}
 use Rattle.nv_subsystem.specs.Supported.{is_supported, supported}
 use Rattle.nv_subsystem.specs.ValueTable.{FeatureValues, key_of}
-use Rattle.nv_subsystem.specs.WellFormed.{AreValues, IsController, IsWellFormed, accepts, is_value_at}
+use Rattle.nv_subsystem.specs.WellFormed.{AreValues, IsController, IsWellFormed, accepts}
+use Rattle.nv_subsystem.specs.WellFormed.{is_value_at}
 use Rattle.nv_subsystem.specs.declared.feature_value.FeatureValue.{FeatureValue}
 use Rattle.nv_subsystem.specs.declared.row.Row.{Row}
 
@@ -43,17 +50,21 @@ set_rows_fit : (s : State) (c value : ℕ) (save : Bool) (n : ℕ) (f : Feature)
 set_rows_fit s c value save n f = search (rules, is_refusal-refusal_by)
 
 supported_rows_fit : (o : Option Feature) (rows : Feature → List Row) (others : List Row)
-    → ((f : Feature) → AllRefuse (rows f)) → AllRefuse others → AllRefuse (option_map_or rows o others)
+    → ((f : Feature) → AllRefuse (rows f)) → AllRefuse others
+    → AllRefuse (option_map_or rows o others)
 supported_rows_fit None rows others fit other = other
 supported_rows_fit (Some f) rows others fit other = fit f
 
-pub get_feature_rows_fit : (s : State) (c fid sel n : ℕ) → AllRefuse (get_feature_rows s c fid sel n)
-get_feature_rows_fit s c fid sel n = supported_rows_fit (supported_at s c fid) (get_rows s c sel n) _
+pub get_feature_rows_fit : (s : State) (c fid sel n : ℕ)
+    → AllRefuse (get_feature_rows s c fid sel n)
+get_feature_rows_fit s c fid sel n =
+    supported_rows_fit (supported_at s c fid) (get_rows s c sel n) _
     (get_rows_fit s c sel n) (search (rules, is_refusal-refusal_by))
 
 pub set_feature_rows_fit : (s : State) (c fid value : ℕ) (save : Bool) (n : ℕ)
     → AllRefuse (set_feature_rows s c fid value save n)
-set_feature_rows_fit s c fid value save n = supported_rows_fit (supported_at s c fid) (set_rows s c value save n) _
+set_feature_rows_fit s c fid value save n =
+    supported_rows_fit (supported_at s c fid) (set_rows s c value save n) _
     (set_rows_fit s c value save n) (search (rules, is_refusal-refusal_by))
 
 -- ---- a set
@@ -63,15 +74,18 @@ and_parts true b e = (refl, e)
 and_parts false b e = absurd (cc e)
 
 -- what a feature accepts, by a key of it
-accepts_at : (f : Feature) (n : ℕ) (x : FeatureValue) → is_value_at (key_of f n) x ≡ true → accepts f x ≡ true
+accepts_at : (f : Feature) (n : ℕ) (x : FeatureValue) → is_value_at (key_of f n) x ≡ true
+    → accepts f x ≡ true
 accepts_at f n x e = sym (ap (λ o. option_map_or (λ g. accepts g x) o false) (feature_at f)) ∙ e
 
-accepts_written : (f : Feature) (value : ℕ) (save : Bool) (x : FeatureValue) → is_accepted f value ≡ true
+accepts_written : (f : Feature) (value : ℕ) (save : Bool) (x : FeatureValue)
+    → is_accepted f value ≡ true
     → accepts f x ≡ true → accepts f (written value save x) ≡ true
 accepts_written f value true x fits e = rw fits refl
 accepts_written f value false x fits e = rw fits (and_parts (is_accepted f x.current) _ e).1
 
-module _ (f : Feature) (value : ℕ) (save : Bool) (fits : is_accepted f value ≡ true) (vwc : ℕ) (attached : Nsids) where
+module _ (f : Feature) (value : ℕ) (save : Bool) (fits : is_accepted f value ≡ true) (vwc : ℕ)
+    (attached : Nsids) where
   one_value : (values : FeatureValues) (n : ℕ) → AreValues vwc attached values
       → AreValues vwc attached (with_value f value save values n)
   one_value values n are = by (map_of.get values (key_of f n)) refl
@@ -79,21 +93,26 @@ module _ (f : Feature) (value : ℕ) (save : Bool) (fits : is_accepted f value �
       by : (o : Option FeatureValue) → map_of.get values (key_of f n) ≡ o → AreValues vwc attached
           (option_map_or (λ x. map_of.insert values (key_of f n) (written value save x)) o values)
       by None e = are
-      by (Some x) e = values-written vwc attached values are (key_of f n) (written value save x) (ap is_some e)
+      by (Some x) e =
+          values-written vwc attached values are (key_of f n) (written value save x) (ap is_some e)
           (accepted_at f (if (row_of f).per_namespace then n else 0) (written value save x)
           (accepts_written f value save x fits (accepts_at f n x (are.accepted (key_of f n) x e))))
 
   all_values : (ns : List ℕ) (values : FeatureValues) → AreValues vwc attached values
       → AreValues vwc attached (fold (with_value f value save) values ns)
   all_values [] values are = are
-  all_values (n ∷ ns) values are = all_values ns (with_value f value save values n) (one_value values n are)
+  all_values (n ∷ ns) values are =
+      all_values ns (with_value f value save values n) (one_value values n are)
 
 pub written_each : (f : Feature) (value : ℕ) (save : Bool) (ns : List ℕ) (values : FeatureValues)
-    → fold (with_value f value save) values ns ≡ changed_at_keys (map (key_of f) ns) (written value save) values
+    → fold (with_value f value save) values ns ≡ changed_at_keys (map (key_of f) ns)
+    (written value save) values
 written_each f value save ns values =
-    sym (fold-map (λ m k. option_map_or (λ x. map_of.insert m k (written value save x)) (map_of.get m k) m)
+    sym (fold-map (λ m k. option_map_or (λ x. map_of.insert m k (written value save x))
+    (map_of.get m k) m)
     (key_of f) values ns)
-    ∙ folded nat_list_cmp_total (slice_cmp-IsAntisymmetric nat_cmp-IsAntisymmetric) (written value save)
+    ∙ folded nat_list_cmp_total (slice_cmp-IsAntisymmetric nat_cmp-IsAntisymmetric)
+    (written value save)
     (twice save) (map (key_of f) ns) values
   where
     twice : (b : Bool) (x : FeatureValue) → written value b (written value b x) ≡ written value b x
@@ -114,7 +133,8 @@ set_keeps f value save ns fits = record {
     refusals = h.refusals;
     commands = h.commands;
     attached = h.attached;
-    values = subst (AreValues x.identity.numbers.vwc x.attached) (written_each f value save ns x.values)
+    values =
+        subst (AreValues x.identity.numbers.vwc x.attached) (written_each f value save ns x.values)
         (all_values f value save fits x.identity.numbers.vwc x.attached ns x.values h.values);
   };
 }
@@ -133,7 +153,8 @@ module _ (s : State) (c fid value : ℕ) (save : Bool) (n : ℕ) (f : Feature) w
   by_support false g accepted same = absurd (cc accepted)
 
   by_feature : (x : Controller) (o : Option Feature)
-      → accepted_by (option_map_or (λ g. if is_supported x.identity.numbers.vwc g then Some g else None) o None)
+      → accepted_by (option_map_or (λ g. if is_supported x.identity.numbers.vwc g then Some g else
+      None) o None)
       → o ≡ Some f → is_accepted f value ≡ true
   by_feature x None accepted e = absurd (cc e)
   by_feature x (Some g) accepted e =
@@ -147,11 +168,13 @@ module _ (s : State) (c fid value : ℕ) (save : Bool) (n : ℕ) (f : Feature) w
   by_controller (Some x) accepted e = by_feature x (feature_of fid) accepted e
 
 pub feature_keeps : (s : State) (c fid value : ℕ) (save : Bool) (n : ℕ) → IsWellFormed s
-    → first_refusal (set_feature_rows s c fid value save n) ≡ None → IsWellFormed (with_feature s c fid value save n)
+    → first_refusal (set_feature_rows s c fid value save n) ≡ None
+    → IsWellFormed (with_feature s c fid value save n)
 feature_keeps s c fid value save n w accepted = by (feature_of fid) refl
   where
     by : (o : Option Feature) → feature_of fid ≡ o → IsWellFormed
-        (option_map_or (λ f. with_controller s c (with_values f value save (changed_nsids s c n f))) o s)
+        (option_map_or (λ f. with_controller s c (with_values f value save (changed_nsids s c n f)))
+        o s)
     by None e = w
     by (Some f) e = keeps s c (with_values f value save (changed_nsids s c n f))
         (set_keeps f value save (changed_nsids s c n f)
@@ -162,10 +185,14 @@ pub feature_controllers : (s : State) (c fid value : ℕ) (save : Bool) (n : ℕ
 feature_controllers s c fid value save n = by (feature_of fid)
   where
     by : (o : Option Feature)
-        → length (option_map_or (λ f. with_controller s c (with_values f value save (changed_nsids s c n f))) o s).controllers
+        → length
+        (option_map_or
+        (λ f. with_controller s c (with_values f value save (changed_nsids s c n f))) o
+        s).controllers
         ≡ length s.controllers
     by None = refl
-    by (Some f) = length-changed_at (with_values f value save (changed_nsids s c n f)) s.controllers c
+    by (Some f) =
+        length-changed_at (with_values f value save (changed_nsids s c n f)) s.controllers c
 
 -- ---- a number that is told
 
@@ -198,10 +225,12 @@ capabilities_fit false true false = lit< tt
 capabilities_fit false false true = lit< tt
 capabilities_fit false false false = lit< tt
 
-selected_fits : (rule : FeatureRule) (f : Feature) (sel : ℕ) (x : FeatureValue) → is_accepted f rule.default ≡ true
+selected_fits : (rule : FeatureRule) (f : Feature) (sel : ℕ) (x : FeatureValue)
+    → is_accepted f rule.default ≡ true
     → accepts f x ≡ true → selected rule f sel x < 2 ^ 32
 selected_fits rule f sel x default is =
-    let parts = and_parts (is_accepted f x.current) (option_map_or (is_accepted f) x.saved true) is in
+    let parts =
+    and_parts (is_accepted f x.current) (option_map_or (is_accepted f) x.saved true) is in
     chosen_fits (λ n. n < 2 ^ 32) (sel == 0) _ _ (value_fits f x.current parts.0)
     (chosen_fits (λ n. n < 2 ^ 32) (sel == 1) _ _ (value_fits f rule.default default)
     (chosen_fits (λ n. n < 2 ^ 32) (sel == 2) _ _ (saved_fits x.saved parts.1)
@@ -220,14 +249,17 @@ told_fits s x is f sel n = by (map_of.get x.values (key_of f n)) refl
         → option_map_or (selected (rule_of x.rules f) f sel) o 0 < 2 ^ 32
     by None e = lit< tt
     by (Some v) e = selected_fits (rule_of x.rules f) f sel v
-        (and_parts (is_accepted f (rule_of x.rules f).default) true (default_accepted x.rules is.rules f)).0
+        (and_parts (is_accepted f (rule_of x.rules f).default) true
+        (default_accepted x.rules is.rules f)).0
         (accepts_at f n v (is.values.accepted (key_of f n) v e))
 
-pub feature_number_fits : (s : State) (c fid sel n : ℕ) → IsWellFormed s → feature_number s c fid sel n < 2 ^ 32
+pub feature_number_fits : (s : State) (c fid sel n : ℕ) → IsWellFormed s
+    → feature_number s c fid sel n < 2 ^ 32
 feature_number_fits s c fid sel n w = by_feature (feature_of fid)
   where
     is_controller : (x : Controller) → controller_at s c ≡ Some x → IsController s.namespaces x
-    is_controller x e = subst (IsController s.namespaces) (get_or_from_slice_get s.controllers c x x e)
+    is_controller x e =
+        subst (IsController s.namespaces) (get_or_from_slice_get s.controllers c x x e)
         (w.controllers c x (slice_get_within s.controllers c x e))
 
     by_controller : (f : Feature) (o : Option Controller) → controller_at s c ≡ o

@@ -29,8 +29,9 @@ FeatureRules = map_of.FinMap nat_cmp FeatureRule
 abbrev pub rule_of : FeatureRules → Feature → FeatureRule
 rule_of rules f = unwrap_or (map_of.get rules (row_of f).fid) (default_rule (row_of f).fid)
 
--- a controller: what its file table gives, its error log newest first and without phase tags, how many
--- commands it refused and how many it took, the NSIDs that are attached to it, and the values of its features
+-- a controller: what its file table gives, its error log newest first and without phase tags, how
+-- many commands it refused and how many it took, the NSIDs that are attached to it, and the values
+-- of its features
 pub record Controller : Type 0 where
   pub identity : Identity
   pub rules : FeatureRules
@@ -41,8 +42,8 @@ pub record Controller : Type 0 where
   pub attached : Nsids
   pub values : FeatureValues
 
--- a subsystem: the greatest NSID, the capacity in bytes, how metadata may lie, the name, the formats, the
--- controllers, and the namespaces by their NSIDs
+-- a subsystem: the greatest NSID, the capacity in bytes, how metadata may lie, the name, the
+-- formats, the controllers, and the namespaces by their NSIDs
 pub record State : Type 0 where
   pub nn : ℕ
   pub tnvmcap : ℕ

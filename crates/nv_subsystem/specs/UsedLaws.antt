@@ -1,5 +1,6 @@
 -- The capacity that is in use, when a namespace comes or goes.
-use Rattle.std.proofs.Common.{◌≡◌, ◌∙◌, ℕ, ◌+◌, ◌==◌, List, [], ◌∷◌, map, length, cond, Bool, true, false, Option, Some, None, refl, sym, ap, arith, Ordering}
+use Rattle.std.proofs.Common.{◌≡◌, ◌∙◌, ℕ, ◌+◌, ◌==◌, List, [], ◌∷◌, map, length, cond, Bool, true}
+use Rattle.std.proofs.Common.{false, Option, Some, None, refl, sym, ap, arith, Ordering}
 use Rattle.std.specs.Prelude.{sum_by}
 use Rattle.std.specs.Ordering.{nat_cmp}
 use Rattle.std.specs.declared.cmp.Ordering.TheVariants.{Less, Equal, Greater}

@@ -1,11 +1,13 @@
 -- Laws of the values of features under their keys.
-use Rattle.std.proofs.Common.{◌≡◌, ◌∙◌, ℕ, ◌==◌, ◌<◌, lit<, ◌&&◌, Bool, true, false, cond, List, [], ◌∷◌, Some, None, refl, sym, ap, Ordering}
+use Rattle.std.proofs.Common.{◌≡◌, ◌∙◌, ℕ, ◌==◌, ◌<◌, lit<, ◌&&◌, Bool, true, false, cond, List, []}
+use Rattle.std.proofs.Common.{◌∷◌, Some, None, refl, sym, ap, Ordering}
 use Rattle.std.specs.Ordering.{eq_by_cmp, is_eq, nat_cmp, ordering_then}
 use Rattle.std.specs.declared.cmp.Ordering.TheVariants.{Less, Equal, Greater}
 use Rattle.std.specs.Cmp.{Equal-is, unsigned_tied}
 use Rattle.std.specs.Cmp.Lexicographic.{slice_cmp, nat_list_cmp_total}
 use Rattle.std.specs.FinMap as map_of
-use Rattle.std.specs.FinMap.{get-insert, get-remove, get-retain_keys, nat_cmp-IsAntisymmetric, same_map, slice_cmp-IsAntisymmetric}
+use Rattle.std.specs.FinMap.{get-insert, get-remove, get-retain_keys, nat_cmp-IsAntisymmetric}
+use Rattle.std.specs.FinMap.{same_map, slice_cmp-IsAntisymmetric}
 use Rattle.nv_layout.specs.Feature.{row_of}
 use Rattle.nv_layout.specs.declared.feature.Feature.{Feature}
 use Rattle.nv_layout.specs.declared.feature.Feature.TheVariants as feature
@@ -18,7 +20,8 @@ use Rattle.nv_subsystem.specs.declared.feature_value.FeatureValue.{FeatureValue}
 abbrev pub is_key : List ℕ → List ℕ → Bool
 is_key q k = eq_by_cmp (slice_cmp nat_cmp) q k
 
-then_equal : (r s : Ordering) → is_eq (ordering_then r (ordering_then s Equal)) ≡ (is_eq r && is_eq s)
+then_equal : (r s : Ordering) → is_eq (ordering_then r (ordering_then s Equal))
+    ≡ (is_eq r && is_eq s)
 then_equal Less s = refl
 then_equal Equal Less = refl
 then_equal Equal Equal = refl
@@ -42,9 +45,11 @@ then_other Greater s e = refl
 pub shorter_key : (a f n : ℕ) → is_key (a ∷ []) (value_key f n) ≡ false
 shorter_key a f n = then_other (nat_cmp a f) Less refl
 
-pub longer_key : (a q b : ℕ) (rest : List ℕ) (f n : ℕ) → is_key (a ∷ q ∷ b ∷ rest) (value_key f n) ≡ false
+pub longer_key : (a q b : ℕ) (rest : List ℕ) (f n : ℕ) → is_key (a ∷ q ∷ b ∷ rest) (value_key f n)
+    ≡ false
 longer_key a q b rest f n =
-    then_other (nat_cmp a f) (ordering_then (nat_cmp q n) Greater) (then_other (nat_cmp q n) Greater refl)
+    then_other (nat_cmp a f) (ordering_then (nat_cmp q n) Greater)
+    (then_other (nat_cmp q n) Greater refl)
 
 -- ---- what is found after a change
 
@@ -62,7 +67,8 @@ value_of_retain m p q = get-retain_keys m p q
     (λ x e. ap p (sym (slice_cmp-IsAntisymmetric nat_cmp-IsAntisymmetric q x e)))
 
 pub same_values : (m n : FeatureValues) → ((q : List ℕ) → map_of.get m q ≡ map_of.get n q) → m ≡ n
-same_values m n = same_map nat_list_cmp_total (slice_cmp-IsAntisymmetric nat_cmp-IsAntisymmetric) m n
+same_values m n =
+    same_map nat_list_cmp_total (slice_cmp-IsAntisymmetric nat_cmp-IsAntisymmetric) m n
 
 -- ---- the features in their table
 
@@ -77,7 +83,8 @@ of_namespaces feature.WriteAtomicityNormal e = absurd (cc e)
 of_namespaces feature.AsynchronousEventConfiguration e = absurd (cc e)
 
 -- any other has another identifier
-pub other_identifier : (f : Feature) → (row_of f).per_namespace ≡ false → ((row_of f).fid == 5) ≡ false
+pub other_identifier : (f : Feature) → (row_of f).per_namespace ≡ false
+    → ((row_of f).fid == 5) ≡ false
 other_identifier feature.Arbitration e = refl
 other_identifier feature.PowerManagement e = refl
 other_identifier feature.ErrorRecovery e = absurd (cc e)

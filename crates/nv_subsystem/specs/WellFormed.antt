@@ -1,8 +1,10 @@
 -- What holds of every subsystem that a file gives, and after every command.
-use Rattle.std.specs.Prelude.{◌≡◌, ◌≢◌, ℕ, ◌+◌, ◌≤◌, ◌==◌, ◌&&◌, Bool, List, [], ◌∷◌, min, true, false, length, count_by, All, AllPairs, Some, IsSomeAnd, slice_get}
+use Rattle.std.specs.Prelude.{◌≡◌, ◌≢◌, ℕ, ◌+◌, ◌≤◌, ◌==◌, ◌&&◌, Bool, List, [], ◌∷◌, min, true}
+use Rattle.std.specs.Prelude.{false, length, count_by, All, AllPairs, Some, IsSomeAnd, slice_get}
 use Rattle.std.specs.FinMap as map_of
 use Rattle.nv_subsystem.specs.Capacity.{used}
-use Rattle.nv_file.specs.Ranges.{AreTopKeys, IsFeatureRule, IsFormat, IsIdentity, IsInFormat, IsSmart}
+use Rattle.nv_file.specs.Ranges.{AreTopKeys, IsFeatureRule, IsFormat, IsIdentity, IsInFormat}
+use Rattle.nv_file.specs.Ranges.{IsSmart}
 use Rattle.std.specs.Option.{option_map_or}
 use Rattle.nv_layout.specs.Feature.{feature_of, is_accepted, row_of}
 use Rattle.nv_layout.specs.declared.feature.Feature.{Feature}
@@ -31,8 +33,8 @@ is_value_at (fid ∷ []) x = false
 is_value_at (fid ∷ nsid ∷ []) x = option_map_or (λ f. accepts f x) (feature_of fid) false
 is_value_at (fid ∷ nsid ∷ other ∷ rest) x = false
 
--- Error Recovery has a value exactly for each attached NSID, any other supported feature has one, and
--- the features accept them
+-- Error Recovery has a value exactly for each attached NSID, any other supported feature has one,
+-- and the features accept them
 pub record AreValues (vwc : ℕ) (attached : Nsids) (values : FeatureValues) : Type 0 where
   pub recovery : (n : ℕ)
       → map_of.contains_key values (recovery_key n) ≡ map_of.contains_key attached n
@@ -41,8 +43,8 @@ pub record AreValues (vwc : ℕ) (attached : Nsids) (values : FeatureValues) : T
   pub accepted : (k : List ℕ) (x : FeatureValue) → map_of.get values k ≡ Some x
       → is_value_at k x ≡ true
 
--- a controller of the subsystem: what its file table gives is in range, it has only namespaces of the
--- subsystem, and its log has the newest of its refusals
+-- a controller of the subsystem: what its file table gives is in range, it has only namespaces of
+-- the subsystem, and its log has the newest of its refusals
 pub record IsController (namespaces : Namespaces) (x : Controller) : Type 0 where
   pub identity : IsIdentity x.identity
   pub rules : AreRules x.rules
@@ -51,14 +53,16 @@ pub record IsController (namespaces : Namespaces) (x : Controller) : Type 0 wher
   pub entries : All ErrorEntryFits x.log
   pub refusals : x.refusals ≤ GREATEST_COUNT
   pub commands : x.commands ≤ GREATEST_COUNT
-  pub attached : (n : ℕ) → map_of.contains_key x.attached n ≡ true → map_of.contains_key namespaces n ≡ true
+  pub attached : (n : ℕ) → map_of.contains_key x.attached n ≡ true
+      → map_of.contains_key namespaces n ≡ true
   pub values : AreValues x.identity.numbers.vwc x.attached x.values
 
 -- a namespace of the subsystem
 pub record IsNamespace (s : State) (n : ℕ) (x : Namespace) : Type 0 where
   pub nsid : (1 ≤ n) × (n ≤ s.nn)
   pub format : IsSomeAnd (slice_get s.formats x.format) (λ f. IsInFormat s.mc f x)
-  pub private : x.shared ≡ false → count_by (λ c. map_of.contains_key c.attached n) s.controllers ≤ 1
+  pub private : x.shared ≡ false → count_by (λ c. map_of.contains_key c.attached n) s.controllers
+      ≤ 1
 
 pub record IsWellFormed (s : State) : Type 0 where
   pub keys : AreTopKeys s.nn s.tnvmcap s.mc s.subnqn

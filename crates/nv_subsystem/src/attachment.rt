@@ -3,7 +3,11 @@
 
 ghost use Rattle.std.specs.Prelude.{◌≡◌, ℕ, false, true, map, All};
 ghost use Rattle.nv_bits.specs.Numbers.{IsOf};
-ghost use Rattle.nv_subsystem.specs.Attachment.{attach_rows, attached, attachment_rows, count_with, detach_rows, detached, fewer, first_rows, has_one_attached, is_ascending, is_known, is_list_of, is_listed, is_private, lacks_one_attached, more, with_attachments};
+ghost use Rattle.nv_subsystem.specs.Attachment.{attach_rows, attached, attachment_rows, count_with};
+ghost use Rattle.nv_subsystem.specs.Attachment.{detach_rows, detached, fewer, first_rows};
+ghost use Rattle.nv_subsystem.specs.Attachment.{has_one_attached, is_ascending, is_known};
+ghost use Rattle.nv_subsystem.specs.Attachment.{is_list_of, is_listed, is_private};
+ghost use Rattle.nv_subsystem.specs.Attachment.{lacks_one_attached, more, with_attachments};
 ghost use Rattle.nv_subsystem.specs.ControllerView.{controller_view};
 ghost use Rattle.nv_subsystem.specs.Management.{with_nsids, without, without_any};
 ghost use Rattle.nv_subsystem.specs.Nsid.{is_valid};

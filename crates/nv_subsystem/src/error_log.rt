@@ -1,6 +1,7 @@
 //! The error log of a controller.
 
-ghost use Rattle.std.specs.Prelude.{◌≡◌, ◌-◌, ◌≤◌, ◌∷◌, ◌++◌, [], length, map, replicate, take, slice_get, IfOk, option_map};
+ghost use Rattle.std.specs.Prelude.{◌≡◌, ◌-◌, ◌≤◌, ◌∷◌, ◌++◌, [], length, map, replicate, take};
+ghost use Rattle.std.specs.Prelude.{slice_get, IfOk, option_map};
 ghost use Rattle.nv_layout.specs.ErrorEntry.{no_entry, without_phase};
 ghost use Rattle.nv_subsystem.specs.ErrorLog.{log_entry};
 

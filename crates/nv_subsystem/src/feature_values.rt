@@ -28,7 +28,8 @@ impl Model for FeatureValues {
     ghost use Rattle.std.specs.Prelude.{◌≡◌, None};
     ghost use Rattle.std.specs.FinMap as map_of;
     ghost use Rattle.nv_subsystem.specs.Features.{with_value};
-    ghost use Rattle.nv_subsystem.specs.ValueTable.{AreTables, ValueTable, value_table_code, values_of};
+    ghost use Rattle.nv_subsystem.specs.ValueTable.{AreTables, ValueTable, value_table_code};
+    ghost use Rattle.nv_subsystem.specs.ValueTable.{values_of};
 
     ghost Value = { ValueTable };
 

@@ -4,7 +4,10 @@
 ghost use Rattle.std.specs.Prelude.{◌≡◌, ◌<◌, ℕ, length, map};
 ghost use Rattle.nv_subsystem.specs.ChangedKeys.{changed_at_keys};
 ghost use Rattle.nv_subsystem.specs.ControllerView.{controller_view};
-ghost use Rattle.nv_subsystem.specs.Features.{capabilities, feature_number, get_feature_rows, get_rows, rule_at, selected, set_feature_rows, set_rows, supported_at, told, with_feature, with_values};
+ghost use Rattle.nv_subsystem.specs.Features.{capabilities, feature_number, get_feature_rows};
+ghost use Rattle.nv_subsystem.specs.Features.{get_rows, rule_at, selected, set_feature_rows};
+ghost use Rattle.nv_subsystem.specs.Features.{set_rows, supported_at, told, with_feature};
+ghost use Rattle.nv_subsystem.specs.Features.{with_values};
 ghost use Rattle.nv_subsystem.specs.FeatureValue.{written};
 ghost use Rattle.nv_subsystem.specs.Row.{Checks};
 ghost use Rattle.nv_subsystem.specs.Sound.{IsSized};

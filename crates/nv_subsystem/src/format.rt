@@ -3,7 +3,8 @@
 ghost use Rattle.std.specs.Prelude.{◌≡◌, ◌<◌, length};
 ghost use Rattle.std.specs.List.{list_any};
 ghost use Rattle.nv_subsystem.specs.ChangedKeys.{changed_at_keys};
-ghost use Rattle.nv_subsystem.specs.Format.{can_erase_by_key, format_rows, formatted, has_one_below, in_format, is_below, new_format};
+ghost use Rattle.nv_subsystem.specs.Format.{can_erase_by_key, format_rows, formatted};
+ghost use Rattle.nv_subsystem.specs.Format.{has_one_below, in_format, is_below, new_format};
 ghost use Rattle.nv_subsystem.specs.Nsid.{concerned};
 ghost use Rattle.nv_subsystem.specs.Row.{Checks};
 

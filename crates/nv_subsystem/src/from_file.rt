@@ -9,7 +9,9 @@ ghost use Rattle.nv_subsystem.specs.FeatureValue.{at_default};
 ghost use Rattle.nv_subsystem.specs.State.{rule_of};
 ghost use Rattle.nv_subsystem.specs.ControllerView.{controller_view};
 ghost use Rattle.nv_file.specs.FileValue.{controller_entry_view, namespace_entry_view};
-ghost use Rattle.nv_subsystem.specs.FromFile.{controller_of, defaults_of, rules_of, with_attachment, with_default, with_namespace, with_recovery, with_rule};
+ghost use Rattle.nv_subsystem.specs.FromFile.{controller_of, defaults_of, rules_of};
+ghost use Rattle.nv_subsystem.specs.FromFile.{with_attachment, with_default, with_namespace};
+ghost use Rattle.nv_subsystem.specs.FromFile.{with_recovery, with_rule};
 ghost use Rattle.nv_subsystem.specs.Sound.{IsSized};
 
 use crate::controller::{Controller, rule_of};

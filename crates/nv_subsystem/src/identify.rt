@@ -2,7 +2,11 @@
 
 ghost use Rattle.std.specs.Prelude.{◌≡◌, ◌≤◌, ◌<◌, length, All};
 ghost use Rattle.nv_subsystem.specs.Capacity.{blocks};
-ghost use Rattle.nv_subsystem.specs.Identify.{active_list_reply, active_namespace, active_reply, active_rows, allocated_list_reply, allocated_namespace, allocated_reply, allocated_rows, blank, common_of, flbas_of, id_ns_of, lbaf_of, lbafs_of, list_rows};
+ghost use Rattle.nv_subsystem.specs.Identify.{active_list_reply, active_namespace, active_reply};
+ghost use Rattle.nv_subsystem.specs.Identify.{active_rows, allocated_list_reply};
+ghost use Rattle.nv_subsystem.specs.Identify.{allocated_namespace, allocated_reply, allocated_rows};
+ghost use Rattle.nv_subsystem.specs.Identify.{blank, common_of, flbas_of, id_ns_of, lbaf_of};
+ghost use Rattle.nv_subsystem.specs.Identify.{lbafs_of, list_rows};
 ghost use Rattle.nv_subsystem.specs.Nsid.{is_active};
 ghost use Rattle.nv_subsystem.specs.Row.{Checks};
 

@@ -5,7 +5,8 @@ ghost use Rattle.std.specs.Prelude.{◌≡◌, ◌+◌, ◌<◌, ◌≤◌, leng
 ghost use Rattle.nv_layout.specs.ErrorEntry.{without_phase};
 ghost use Rattle.nv_command.specs.Logs.{without_phases};
 ghost use Rattle.nv_subsystem.specs.ControllerView.{controller_view};
-ghost use Rattle.nv_subsystem.specs.Logs.{entry_count, errors_of, log_length, log_reply, log_rows, smart_of};
+ghost use Rattle.nv_subsystem.specs.Logs.{entry_count, errors_of, log_length, log_reply, log_rows};
+ghost use Rattle.nv_subsystem.specs.Logs.{smart_of};
 ghost use Rattle.nv_subsystem.specs.Row.{Checks};
 
 use crate::controller::Controller;

@@ -3,7 +3,10 @@
 
 ghost use Rattle.std.specs.Prelude.{◌≡◌, ◌≤◌, None};
 ghost use Rattle.nv_subsystem.specs.Capacity.{unallocated};
-ghost use Rattle.nv_subsystem.specs.Management.{bytes_needed, capacity_refusal, create_rows, created, created_nsid, delete_rows, deleted, format_index, is_extended, new_namespace, wanted, without_all, without_one};
+ghost use Rattle.nv_subsystem.specs.Management.{bytes_needed, capacity_refusal, create_rows};
+ghost use Rattle.nv_subsystem.specs.Management.{created, created_nsid, delete_rows, deleted};
+ghost use Rattle.nv_subsystem.specs.Management.{format_index, is_extended, new_namespace, wanted};
+ghost use Rattle.nv_subsystem.specs.Management.{without_all, without_one};
 ghost use Rattle.nv_subsystem.specs.Nsid.{free_nsid};
 ghost use Rattle.nv_subsystem.specs.Row.{Checks, first_refusal};
 

@@ -14,7 +14,8 @@ ghost use Rattle.nv_subsystem.specs.Nsid.{is_valid};
 ghost use Rattle.nv_subsystem.specs.Refusal.{refusal_of, rows_of};
 ghost use Rattle.nv_subsystem.specs.Reply.{reply_of};
 ghost use Rattle.nv_subsystem.specs.Row.{Checks};
-ghost use Rattle.nv_subsystem.specs.Step.{answer_to, answer_without_phases, refused, step, with_command};
+ghost use Rattle.nv_subsystem.specs.Step.{answer_to, answer_without_phases, refused, step};
+ghost use Rattle.nv_subsystem.specs.Step.{with_command};
 ghost use Rattle.nv_subsystem.specs.WellFormed.{IsWellFormed};
 ghost use Rattle.nv_command.specs.Refusal.{IsRefusal};
 
