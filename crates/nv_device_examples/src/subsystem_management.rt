@@ -244,7 +244,12 @@ fn attachments_are_refused_in_order(rt: HostRuntime) -> Result<(), Fail> {
     assert_eq!(rt; attach(&mut left, 2, &[]), Answer::Refused(0x6002));
     assert_eq!(rt; detach(&mut left, 2, &[]), Answer::Refused(0x6002));
     check_list(&rt, &mut left, &ACTIVE, &[1, 3]);
-    // a private namespace goes from one controller to another
+    Ok(())
+}
+
+#[test]
+fn a_private_namespace_goes_from_one_controller_to_another(rt: HostRuntime) -> Result<(), Fail> {
+    let mut left = demo(rt.alloc())?;
     assert_eq!(rt; detach(&mut left, 3, &[0]), Answer::Done);
     assert_eq!(rt; attach(&mut left, 3, &[0, 1]), Answer::Refused(0x6119));
     assert_eq!(rt; attach(&mut left, 3, &[1]), Answer::Done);
@@ -258,6 +263,11 @@ fn the_least_free_nsid_is_taken(rt: HostRuntime) -> Result<(), Fail> {
     assert_eq!(rt; create(&mut few, 1, 1, 0), Answer::Number(2));
     assert_eq!(rt; create(&mut few, 1, 1, 0), Answer::Number(4));
     assert_eq!(rt; create(&mut few, 1, 1, 0), Answer::Refused(0x6116));
+    Ok(())
+}
+
+#[test]
+fn as_many_namespaces_as_there_may_be(rt: HostRuntime) -> Result<(), Fail> {
     let file = DEMO.replace(rt.alloc(), "nn = 4", "nn = 1024")?;
     let mut many = Subsystem::from_toml(rt.alloc(), file.as_bytes())?;
     assert_eq!(rt; create(&mut many, 1, 1, 0), Answer::Number(2));

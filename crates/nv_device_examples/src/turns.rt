@@ -86,10 +86,10 @@ pub(crate) fn pages(rt: &impl Abort, alloc: Global) -> Result<FlatMemory, Fail> 
     memory(rt, alloc, 4096)
 }
 
-#[test]
-fn answers_any_entry_by_its_first_fault(rt: HostRuntime) -> Result<(), Fail> {
+/// Entries, each with the status that it is answered with.
+fn entries_by_their_first_fault() -> [(Sqe, u16); 13] {
     let plain = identify(7, 0, 0x02, 0x5000);
-    for (entry, status) in [
+    [
         (
             Sqe {
                 opcode: 0xff,
@@ -176,23 +176,34 @@ fn answers_any_entry_by_its_first_fault(rt: HostRuntime) -> Result<(), Fail> {
             },
             0,
         ),
-    ] {
-        let mut machine = machine(rt.alloc())?;
-        let mut mem = pages(&rt, rt.alloc())?;
-        submit(&rt, &mut mem, 0, &entry);
-        assert!(rt; machine.controllers() == 2);
-        machine.write32(0, 0x1000, 1);
-        assert_eq!(rt; machine.turn(0, &mut mem, 16), 1, "{status:x}");
-        let posted = completion(&rt, &mem, 0);
-        assert_eq!(rt; posted.status.number(), status);
-        assert!(rt; posted.cid == 7 && posted.sq_head == 1 && posted.phase);
-        let refusals = if status == 0 { 0 } else { 1 };
-        assert_eq!(rt; machine.subsystem().controllers(), 2);
-        assert_eq!(rt; machine.subsystem().counts(0), (refusals, 1));
-        assert_eq!(rt; machine.subsystem().counts(1), (0, 0));
-        if let Some(booked) = machine.subsystem().log_entry(0, 0) {
-            assert!(rt; booked.nsid == entry.nsid && booked.cid == 7 && booked.phase);
-        }
+    ]
+}
+
+/// Has an entry taken from the ring, and checks its completion and what is booked of it.
+fn check_answer(rt: &impl Abort, alloc: Global, entry: &Sqe, status: u16) -> Result<(), Fail> {
+    let mut machine = machine(alloc)?;
+    let mut mem = pages(rt, alloc)?;
+    submit(rt, &mut mem, 0, entry);
+    assert!(rt; machine.controllers() == 2);
+    machine.write32(0, 0x1000, 1);
+    assert_eq!(rt; machine.turn(0, &mut mem, 16), 1, "{status:x}");
+    let posted = completion(rt, &mem, 0);
+    assert_eq!(rt; posted.status.number(), status);
+    assert!(rt; posted.cid == 7 && posted.sq_head == 1 && posted.phase);
+    let refusals = if status == 0 { 0 } else { 1 };
+    assert_eq!(rt; machine.subsystem().controllers(), 2);
+    assert_eq!(rt; machine.subsystem().counts(0), (refusals, 1));
+    assert_eq!(rt; machine.subsystem().counts(1), (0, 0));
+    if let Some(booked) = machine.subsystem().log_entry(0, 0) {
+        assert!(rt; booked.nsid == entry.nsid && booked.cid == 7 && booked.phase);
+    }
+    Ok(())
+}
+
+#[test]
+fn answers_any_entry_by_its_first_fault(rt: HostRuntime) -> Result<(), Fail> {
+    for (entry, status) in entries_by_their_first_fault() {
+        check_answer(&rt, rt.alloc(), &entry, status)?;
     }
     Ok(())
 }
@@ -291,24 +302,28 @@ fn takes_at_most_so_many(rt: HostRuntime) -> Result<(), Fail> {
     Ok(())
 }
 
+/// Checks that a controller stops where its rings or its page size leave the memory, and only where
+/// an entry would be taken.
+fn check_stop(rt: &impl Abort, alloc: Global, page_size: u32, asq: u32) -> Result<(), Fail> {
+    let mut machine = machine(alloc)?;
+    let mut mem = memory(rt, alloc, page_size)?;
+    enable(&mut machine, 3, asq);
+    assert!(rt; machine.controllers() == 2);
+    assert_eq!(rt; machine.turn(0, &mut mem, 16), 0);
+    assert_eq!(rt; machine.read32(0, 0x1c), 1);
+    machine.write32(0, 0x1000, 1);
+    assert_eq!(rt; machine.turn(0, &mut mem, 0), 0);
+    assert_eq!(rt; machine.read32(0, 0x1c), 1);
+    assert_eq!(rt; machine.turn(0, &mut mem, 16), 0);
+    assert_eq!(rt; machine.read32(0, 0x1c), 3);
+    assert_eq!(rt; machine.read32(1, 0x1c), 0);
+    Ok(())
+}
+
 #[test]
 fn fails_where_the_memory_does_not_reach(rt: HostRuntime) -> Result<(), Fail> {
-    for (page_size, asq) in [(4096, 0x10000), (8192, 0)] {
-        let mut machine = machine(rt.alloc())?;
-        let mut mem = memory(&rt, rt.alloc(), page_size)?;
-        enable(&mut machine, 3, asq);
-        assert!(rt; machine.controllers() == 2);
-        // Nothing is tested where no entry would be taken.
-        assert_eq!(rt; machine.turn(0, &mut mem, 16), 0);
-        assert_eq!(rt; machine.read32(0, 0x1c), 1);
-        machine.write32(0, 0x1000, 1);
-        assert_eq!(rt; machine.turn(0, &mut mem, 0), 0);
-        assert_eq!(rt; machine.read32(0, 0x1c), 1);
-        assert_eq!(rt; machine.turn(0, &mut mem, 16), 0);
-        assert_eq!(rt; machine.read32(0, 0x1c), 3);
-        assert_eq!(rt; machine.read32(1, 0x1c), 0);
-    }
-    Ok(())
+    check_stop(&rt, rt.alloc(), 4096, 0x10000)?;
+    check_stop(&rt, rt.alloc(), 8192, 0)
 }
 
 #[test]

@@ -130,10 +130,10 @@ fn writes_an_error_byte_by_byte(rt: HostRuntime) -> Result<(), Fail> {
     Ok(())
 }
 
-#[test]
-fn answers_logs_by_their_first_fault(rt: HostRuntime) -> Result<(), Fail> {
+/// Get Log Page entries, each with the status that it is answered with.
+fn logs_by_their_first_fault() -> [(Sqe, u16); 13] {
     let plain = get_log(0x01, 16, 0x5000, 0);
-    for (entry, status) in [
+    [
         (get_log(0x00, 16, 0x5000, 0), 0x6109),
         (get_log(0x03, 16, 0x5000, 0), 0x6109),
         (Sqe { fuse: 1, ..plain }, 0x6002),
@@ -177,7 +177,12 @@ fn answers_logs_by_their_first_fault(rt: HostRuntime) -> Result<(), Fail> {
             },
             0x6002,
         ),
-    ] {
+    ]
+}
+
+#[test]
+fn answers_logs_by_their_first_fault(rt: HostRuntime) -> Result<(), Fail> {
+    for (entry, status) in logs_by_their_first_fault() {
         let mut machine = machine(rt.alloc())?;
         let mut mem = pages(&rt, rt.alloc())?;
         let first = take(&rt, &mut machine, &mut mem, 0, &entry);
