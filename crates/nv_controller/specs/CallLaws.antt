@@ -44,11 +44,6 @@ unfolding places_of
 legal_places t at l e =
     ap (λ (o : Option PrpError). places_unless o (transfer_places t)) (no_fault t l) ∙ ap Ok (sym e)
 
-pub faulty_places : (t : Transfer) (fault : PrpError) → first_fault t ≡ Some fault → places_of t
-    ≡ Err (prp_status fault)
-unfolding places_of
-faulty_places t fault e = ap (λ (o : Option PrpError). places_unless o (transfer_places t)) e
-
 pub places-nil : places [] ≡ []
 unfolding places
 places-nil = refl

@@ -140,20 +140,6 @@ module _ {r : Run} {bells turns : ℕ} {b : Batch} {l : LaneFields} {now : ℕ} 
       let is = ap (λ (q : LaneFields). q.serial) u.lane in
       let below = mod_below (r.lane.serial + b.sent) 65535 (omega arith) in omega (arith, is, below)
 
-  pub ring_inside : l.submission.base + 64 * l.submission.depth ≤ length bytes
-  ring_inside =
-      let same = ap (λ (q : LaneFields). q.submission.base + 64 * q.submission.depth) u.lane in
-      let placed = u.keeps.placed in
-      let size = ap (λ (m : List ℕ). length m) u.mem in
-      omega (arith, same, placed.rings, placed.inside, size)
-
-  pub collects_inside : l.completion.base + 16 * l.completion.depth ≤ length bytes
-  collects_inside =
-      let same = ap (λ (q : LaneFields). q.completion.base + 16 * q.completion.depth) u.lane in
-      let placed = u.keeps.placed in
-      let size = ap (λ (m : List ℕ). length m) u.mem in
-      omega (arith, same, placed.inside, size)
-
   pub has_slot : b.sent < b.collected + r.geometry.window → ¬ IsSubmitFull l.submission
   has_slot more full =
       let t = setting_of r in

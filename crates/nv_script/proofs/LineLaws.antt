@@ -140,17 +140,3 @@ pub amid-all : (p : Progress) (text : List ℕ) (r : Request) (s : State) (seria
 amid-all p text r s serials e es er =
     ap (λ os. (outcome_of s serials os).state) (sym (take_all (length (commands_of s r.query)) (commands_of s r.query) (omega arith)))
     ∙ amid-some p text r s serials (length (commands_of s r.query)) e es er
-
--- ---- which sink failed
-
-pub out_failure : {A E Z : Type 0} (r : Result A RunEnd) (t : Result (String Z) E) (old new : Option (List ℕ)) (out messages : Bool) → messages ≡ false → PrintLeaves r OutWrite t old new out → IsFailureOf r out messages
-out_failure (Ok done) (Ok text) old new out messages m h = (h.1, m)
-out_failure (Ok done) (Err e) old new out messages m h = absurd h
-out_failure {A = A} (Err end) (Ok text) old new out messages m h = subst (λ x. IsFailureOf {A = A} (Err x) out messages) (sym h.0) (h.2, m)
-out_failure {A = A} (Err end) (Err e) old new out messages m h = subst (λ x. IsFailureOf {A = A} (Err x) out messages) (sym h.0) (h.2, m)
-
-pub message_failure : {A E Z : Type 0} (r : Result A RunEnd) (t : Result (String Z) E) (old new : Option (List ℕ)) (out messages : Bool) → out ≡ false → PrintLeaves r MessageWrite t old new messages → IsFailureOf r out messages
-message_failure (Ok done) (Ok text) old new out messages m h = (m, h.1)
-message_failure (Ok done) (Err e) old new out messages m h = absurd h
-message_failure {A = A} (Err end) (Ok text) old new out messages m h = subst (λ x. IsFailureOf {A = A} (Err x) out messages) (sym h.0) (m, h.2)
-message_failure {A = A} (Err end) (Err e) old new out messages m h = subst (λ x. IsFailureOf {A = A} (Err x) out messages) (sym h.0) (m, h.2)

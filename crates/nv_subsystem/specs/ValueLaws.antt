@@ -92,12 +92,3 @@ other_identifier feature.VolatileWriteCache e = refl
 other_identifier feature.InterruptCoalescing e = refl
 other_identifier feature.WriteAtomicityNormal e = refl
 other_identifier feature.AsynchronousEventConfiguration e = refl
-
-pub below_limit : (f : Feature) → (row_of f).fid < FEATURE_LIMIT
-below_limit feature.Arbitration = lit< tt
-below_limit feature.PowerManagement = lit< tt
-below_limit feature.ErrorRecovery = lit< tt
-below_limit feature.VolatileWriteCache = lit< tt
-below_limit feature.InterruptCoalescing = lit< tt
-below_limit feature.WriteAtomicityNormal = lit< tt
-below_limit feature.AsynchronousEventConfiguration = lit< tt
