@@ -15,16 +15,16 @@ use Rattle.nv_controller.specs.Entry.{One, Scene, scene}
 abbrev pub can_take : Rings → Bool
 can_take r =
     not (r.submission.fetched == r.submission.rung)
-    && not (above r.completion.depth r.completion.posted r.completion.told
-    == r.completion.depth - 1)
+    && not
+    (above r.completion.depth r.completion.posted r.completion.told == r.completion.depth - 1)
 
 -- a memory of this page size and length has the page size that the controller was enabled with, the
 -- entry's slot and that of its completion
 abbrev pub reaches : Rings → ℕ → ℕ → Bool
 reaches r page_size size =
     (page_size == r.page_size)
-    && (nat_le (submission_place r.submission.base r.submission.depth r.submission.fetched
-    + 64) size
+    && (nat_le
+    (submission_place r.submission.base r.submission.depth r.submission.fetched + 64) size
     && nat_le (completion_place r.completion.base r.completion.depth r.completion.posted + 16) size)
 
 -- an entry that is taken

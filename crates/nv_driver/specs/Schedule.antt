@@ -206,8 +206,9 @@ received_from (FromHost n) bytes places = []
 -- what a completion and the data from the controller say
 abbrev pub answer_from : Command → Cqe → List ℕ → Answer
 answer_from k completion bytes =
-    if is_success completion.status then Ok (reply_in k completion.command_specific bytes) else Err
-    completion.status
+    if is_success completion.status
+    then Ok (reply_in k completion.command_specific bytes)
+    else Err completion.status
 
 -- where the data lies in the command's pages
 abbrev pub answer_read : ℕ → Sent → List ℕ → Cqe → Answer
@@ -235,10 +236,8 @@ abbrev pub Happens : Setting → Event → World → World → Type 0
 Happens t (Submit x) w w' =
     MaySubmit t w x
     × (ready : List ℕ) × IsPrepared t.page_size x w.mem ready
-    × (w'
-    ≡ record w {
-      mem = with_submission ready (submit_ring t (length w.sent) (length w.answers))
-          (entry x);
+    × (w' ≡ record w {
+      mem = with_submission ready (submit_ring t (length w.sent) (length w.answers)) (entry x);
       sent = w.sent ++ x ∷ [];
     })
 Happens t Bell w w' =

@@ -81,8 +81,7 @@ keys_of table.Feature = key.Fid ∷ key.Default ∷ key.Saveable ∷ key.Changea
 keys_of table.Smart =
     key.CriticalWarning ∷ key.AvailSpare ∷ key.SpareThresh ∷ key.PercentUsed ∷ key.Temperature ∷
     key.DataUnitsRead ∷ key.DataUnitsWritten ∷ key.HostReadCommands ∷ key.HostWriteCommands ∷
-    key.ControllerBusyTime ∷ key.PowerCycles ∷ key.PowerOnHours ∷ key.UnsafeShutdowns
-    ∷ key.MediaErrors ∷
-    key.WarningTempTime ∷ key.CriticalCompTime ∷ key.Sensors ∷ []
-keys_of table.Namespace = key.Nsid ∷ key.Bytes ∷ key.Format ∷ key.Extended ∷ key.Shared
-    ∷ key.Controllers ∷ []
+    key.ControllerBusyTime ∷ key.PowerCycles ∷ key.PowerOnHours ∷ key.UnsafeShutdowns ∷
+    key.MediaErrors ∷ key.WarningTempTime ∷ key.CriticalCompTime ∷ key.Sensors ∷ []
+keys_of table.Namespace =
+    key.Nsid ∷ key.Bytes ∷ key.Format ∷ key.Extended ∷ key.Shared ∷ key.Controllers ∷ []

@@ -13,17 +13,18 @@ with_bytes bytes addr written = take addr bytes ++ (written ++ drop (addr + leng
 
 -- what was written is read
 abbrev pub WrittenIsRead : Type 0
-WrittenIsRead = (bytes : List ℕ) (addr : ℕ) (written : List ℕ) → addr + length written
-    ≤ length bytes
+WrittenIsRead =
+    (bytes : List ℕ) (addr : ℕ) (written : List ℕ) → addr + length written ≤ length bytes
     → bytes_at (with_bytes bytes addr written) addr (length written) ≡ written
 
 -- a part that ends before what was written stays, and so does one that begins after it
 abbrev pub OthersStay : Type 0
-OthersStay = (bytes : List ℕ) (addr : ℕ) (written : List ℕ) (from n : ℕ) → addr + length written
-    ≤ length bytes
+OthersStay =
+    (bytes : List ℕ) (addr : ℕ) (written : List ℕ) (from n : ℕ)
+    → addr + length written ≤ length bytes
     → ((from + n ≤ addr → bytes_at (with_bytes bytes addr written) from n ≡ bytes_at bytes from n)
-    × (addr + length written ≤ from → bytes_at (with_bytes bytes addr written) from n
-    ≡ bytes_at bytes from n))
+    × (addr + length written ≤ from
+    → bytes_at (with_bytes bytes addr written) from n ≡ bytes_at bytes from n))
 
 -- a write changes no length
 abbrev pub LengthStays : Type 0

@@ -22,12 +22,15 @@ abbrev pub is_n : ℕ → Bool
 is_n b = b == 110
 
 -- X, or XnY
+-- a namespace of a controller, by the text of its NSID
+abbrev pub namespace_address : Text → ℕ → Option Device
+namespace_address text controller =
+    option_map (λ n. record { controller = controller; nsid = Some n }) (nsid_of text)
+
 abbrev pub address_of : ℕ → Text → Option Device
 address_of controllers text =
     if nat_lt (position_or_len is_n text) (length text)
-    then option_and_then
-    (λ x. option_map (λ y. record { controller = x; nsid = Some y })
-    (nsid_of (after_first is_n text)))
+    then option_and_then (namespace_address (after_first is_n text))
     (controller_index controllers (before_first is_n text))
     else option_map (λ x. record { controller = x; nsid = None })
     (controller_index controllers text)

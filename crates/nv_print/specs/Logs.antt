@@ -62,14 +62,14 @@ holds_error e = not (e.count == 0)
 -- an entry by its index, where it holds an error
 abbrev pub entry_text : ℕ → ErrorEntry → List ℕ
 entry_text i e =
-    if holds_error e then field_line (field (codes "entry") (in_decimal i))
-    ++ fields_text (fields_of_entry e) else []
+    if holds_error e
+    then field_line (field (codes "entry") (in_decimal i)) ++ fields_text (fields_of_entry e)
+    else []
 
 abbrev pub entries_text : List ErrorEntry → List ℕ
 entries_text entries = lines_of entry_text 0 entries
 
 abbrev pub entries_data : List ErrorEntry → Data
 entries_data entries =
-    let errors =
-    array (items_of (map (λ e. object_of (fields_of_entry e)) (filter holds_error entries))) in
-    object (put (codes "errors") errors no_members)
+    let objects = map (λ e. object_of (fields_of_entry e)) (filter holds_error entries) in
+    object (put (codes "errors") (array (items_of objects)) no_members)

@@ -44,8 +44,8 @@ IsOutside page_size page from n = IsApart (page * page_size) page_size from n
 
 -- only bytes of two pages are other ones
 abbrev pub KeepsOutside : ℕ → ℕ → ℕ → List ℕ → List ℕ → Type 0
-KeepsOutside page_size first second old new = (from n : ℕ) → IsOutside page_size first from n
-    → IsOutside page_size second from n
+KeepsOutside page_size first second old new =
+    (from n : ℕ) → IsOutside page_size first from n → IsOutside page_size second from n
     → bytes_at new from n ≡ bytes_at old from n
 
 -- only the n bytes from an address on are other ones

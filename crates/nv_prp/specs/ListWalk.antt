@@ -10,8 +10,10 @@ abbrev pub used : ℕ → ℕ → ℕ → ℕ
 used space pages j = if nat_lt space j && nat_lt space (pages - 1) then j else j - 1
 
 abbrev pub cursor : ℕ → ℕ → ℕ → ℕ → ℕ → ℕ
-cursor space first second pages j = if nat_lt space j && nat_lt space (pages - 1) then second
-    + 8 * (j - space) else first + 8 * (j - 1)
+cursor space first second pages j =
+    if nat_lt space j && nat_lt space (pages - 1)
+    then second + 8 * (j - space)
+    else first + 8 * (j - 1)
 
 abbrev pub used_of : Transfer → ℕ → ℕ
 used_of t j = used (room t) (data_pages t) j

@@ -125,8 +125,9 @@ unfoldable pub prp2_fault : Transfer → Option PrpError
 prp2_fault t =
     if nat_lt 2 (data_pages t)
     then entry_fault t.page_size (length t.bytes) 8 t.prp2
-    else (if data_pages t == 2 then entry_fault t.page_size (length t.bytes) t.page_size
-    t.prp2 else None)
+    else (if data_pages t == 2
+    then entry_fault t.page_size (length t.bytes) t.page_size t.prp2
+    else None)
 
 -- Qword n of the list is the address of a data page or of the second list page
 unfoldable pub qword_fault : Transfer → ℕ → Option PrpError

@@ -94,8 +94,8 @@ rung_by ring tail = if nat_lt tail ring.depth then rung_to ring tail else ring
 -- a head that isn't reached by freeing posted slots is ignored
 abbrev pub told_by : PostNumbers → ℕ → PostNumbers
 told_by ring head =
-    if nat_lt head ring.depth && nat_le (ahead ring.depth ring.told head)
-    (above ring.depth ring.posted ring.told)
+    if nat_lt head ring.depth
+    && nat_le (ahead ring.depth ring.told head) (above ring.depth ring.posted ring.told)
     then told_to ring head else ring
 
 abbrev pub with_tail : ℕ → Rings → Rings

@@ -74,8 +74,8 @@ attach_rows s n ids =
     ∷ []
 
 abbrev pub detach_rows : State → ℕ → List ℕ → List Row
-detach_rows s n ids = first_rows s n ids ++ row (lacks_one_attached s n ids) NamespaceNotAttached
-    ∷ []
+detach_rows s n ids =
+    first_rows s n ids ++ row (lacks_one_attached s n ids) NamespaceNotAttached ∷ []
 
 abbrev pub attachment_rows : State → ℕ → Bool → List ℕ → List Row
 attachment_rows s n detach ids = if detach then detach_rows s n ids else attach_rows s n ids

@@ -92,8 +92,9 @@ active_namespace s c n = if is_active s c n then allocated_namespace s n else bl
 
 abbrev pub active_reply : State → ℕ → ℕ → Reply
 active_reply s c n =
-    reply.Namespace (if n == BROADCAST_NSID then common_of s.formats s.mc else active_namespace
-    s c n)
+    reply.Namespace (if n == BROADCAST_NSID
+    then common_of s.formats s.mc
+    else active_namespace s c n)
 
 abbrev pub allocated_reply : State → ℕ → Reply
 allocated_reply s n = reply.Namespace (allocated_namespace s n)

@@ -61,8 +61,8 @@ pub record IsController (namespaces : Namespaces) (x : Controller) : Type 0 wher
 pub record IsNamespace (s : State) (n : ℕ) (x : Namespace) : Type 0 where
   pub nsid : (1 ≤ n) × (n ≤ s.nn)
   pub format : IsSomeAnd (slice_get s.formats x.format) (λ f. IsInFormat s.mc f x)
-  pub private : x.shared ≡ false → count_by (λ c. map_of.contains_key c.attached n) s.controllers
-      ≤ 1
+  pub private : x.shared ≡ false
+      → count_by (λ c. map_of.contains_key c.attached n) s.controllers ≤ 1
 
 pub record IsWellFormed (s : State) : Type 0 where
   pub keys : AreTopKeys s.nn s.tnvmcap s.mc s.subnqn
