@@ -1,6 +1,6 @@
 //! The devices that `list` shows.
 
-ghost use Rattle.std.specs.Prelude.{◌≡◌, ◌∷◌, ◌++◌, [], IfOk};
+ghost use Rattle.std.specs.Prelude.{◌≡◌, ◌∷◌, ◌++◌, [], OnErr, OnOk};
 
 use crate::device::Device;
 use std::alloc::{AllocError, Global};
@@ -31,9 +31,10 @@ impl DeviceList {
         }
     }
 
-    /// Adds a device at the end.
+    /// Adds a device at the end. Where memory is refused the list stays.
     pub fn push(&mut self, device: Device) -> Result<(), AllocError>
-        ensures { IfOk result (λ _. self.new ≡ self.old ++ device ∷ []) }
+        ensures value { OnOk result (self.new ≡ self.old ++ device ∷ []) }
+        ensures err { OnErr result (self.new ≡ self.old) }
     {
         self.devices.push(device)?;
         Ok(())
