@@ -1,7 +1,8 @@
 -- What Identify asks and answers arrives.
 use Rattle.std.proofs.Common.{◌≡◌, ℕ, ◌<◌, ◌^◌, ap, length, lit<, arith}
-use Rattle.nv_layout.specs.RecordLaws.{id_ctrl_back, id_ns_back, length-bytes_of_id_ctrl}
-use Rattle.nv_layout.specs.RecordLaws.{length-bytes_of_id_ns, length-bytes_of_ns_list, ns_list_back}
+use Rattle.nv_layout.specs.IdentifyLaws.{id_ctrl_back, id_ns_back, length-bytes_of_id_ctrl}
+use Rattle.nv_layout.specs.IdentifyLaws.{length-bytes_of_id_ns}
+use Rattle.nv_layout.specs.RecordLaws.{length-bytes_of_ns_list, ns_list_back}
 use Rattle.nv_command.specs.Command.{bytes_to_host}
 use Rattle.nv_command.specs.EntryLaws.{FieldsFit}
 use Rattle.nv_command.specs.Identify.{controller_in, identify_data, identify_fields, list_in}

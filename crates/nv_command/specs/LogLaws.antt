@@ -9,7 +9,7 @@ use Rattle.std.proofs.lemmas.List.{length-replicate, length-take-le}
 use Rattle.nv_layout.specs.ErrorEntry.{ErrorEntryFits, bytes_of_entries, bytes_of_error_entry}
 use Rattle.nv_layout.specs.ErrorEntry.{no_entry, without_phase}
 use Rattle.nv_layout.specs.LogLaws.{error_entry_back, length-bytes_of_error_entry}
-use Rattle.nv_layout.specs.LogLaws.{length-bytes_of_smart, part_of_entry, smart_back}
+use Rattle.nv_layout.specs.LogLaws.{length-bytes_of_smart, no_entry_fits, part_of_entry, smart_back}
 use Rattle.nv_layout.specs.PartLaws.{get_or-past, length-part, map_read, part-part, part_whole}
 use Rattle.nv_layout.specs.Parts.{at_bits, bits, part}
 use Rattle.nv_layout.specs.Smart.{bytes_of_smart, smart_of_bytes}
@@ -67,19 +67,6 @@ get_or-first_chunks w (suc n) xs (suc k) h =
     get_or-first_chunks w n (drop w xs) k (omega arith)
     ∙ ap (take w) (drop-drop (w * k) w xs)
     ∙ ap (λ m. take w (drop m xs)) next
-
-no_entry_fits : ErrorEntryFits no_entry
-no_entry_fits = record {
-  count = lit< tt;
-  sqid = lit< tt;
-  cid = lit< tt;
-  status = record { sc = lit< tt; sct = lit< tt; crd = lit< tt };
-  location = lit< tt;
-  lba = lit< tt;
-  nsid = lit< tt;
-  vendor = lit< tt;
-  specific = lit< tt;
-}
 
 each_fits : (es : List ErrorEntry) (k : ℕ) → AllByRecursion ErrorEntryFits es
     → ErrorEntryFits (get_or es k no_entry)

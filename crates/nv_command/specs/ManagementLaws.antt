@@ -4,8 +4,8 @@ use Rattle.std.proofs.Common.{replicate, length, lit<, arith}
 use Rattle.std.specs.List.{AllByRecursion}
 use Rattle.nv_layout.specs.CtrlList.{bytes_of_ctrl_list}
 use Rattle.nv_layout.specs.IdNs.{IdNsFits, LbafFits, bytes_of_id_ns}
-use Rattle.nv_layout.specs.RecordLaws.{ctrl_list_back, id_ns_back, length-bytes_of_ctrl_list}
-use Rattle.nv_layout.specs.RecordLaws.{length-bytes_of_id_ns}
+use Rattle.nv_layout.specs.IdentifyLaws.{id_ns_back, length-bytes_of_id_ns}
+use Rattle.nv_layout.specs.RecordLaws.{ctrl_list_back, length-bytes_of_ctrl_list}
 use Rattle.nv_command.specs.EntryLaws.{FieldsFit}
 use Rattle.nv_command.specs.Logs.{without_phases}
 use Rattle.nv_command.specs.Management.{AttachmentFits, CreateFits, asked, attachment_fields}

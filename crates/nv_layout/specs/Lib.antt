@@ -12,5 +12,6 @@ pub mod Feature
 pub mod PartLaws
 pub mod TableLaws
 pub mod NsListLaws
+pub mod IdentifyLaws
 pub mod RecordLaws
 pub mod LogLaws

@@ -1,11 +1,12 @@
 -- The records of logs read back, and how many bytes they have.
 use Rattle.std.proofs.Common.{◌≡◌, ◌∙◌, ℕ, ◌==◌, ◌+◌, ◌*◌, ◌≤◌, ◌^◌, ◌<◌, ap, refl, sym, zero, suc}
-use Rattle.std.proofs.Common.{arith, List, [], ◌∷◌, length, get_or}
+use Rattle.std.proofs.Common.{arith, lit<, List, [], ◌∷◌, length, get_or}
 use Rattle.std.specs.List.{AllByRecursion}
 use Rattle.std.proofs.lemmas.List.{get_or-append_right, get_or-replicate, get_or_append_left}
 use Rattle.std.proofs.lemmas.List.{length-append}
 use Rattle.nv_layout.specs.ErrorEntry.{ErrorEntryReadsBack, bytes_of_entries, bytes_of_error_entry}
-use Rattle.nv_layout.specs.ErrorEntry.{error_entry_of_bytes, error_entry_parts, no_entry}
+use Rattle.nv_layout.specs.ErrorEntry.{ErrorEntryFits, error_entry_of_bytes, error_entry_parts}
+use Rattle.nv_layout.specs.ErrorEntry.{no_entry}
 use Rattle.nv_layout.specs.Parts.{Fits, at_bits, bit, bits, part, placed, zeros}
 use Rattle.nv_layout.specs.PartLaws.{same_parts}
 use Rattle.nv_layout.specs.RecordLaws.{bit_below, flag_back, number_of_status_below, status_back}
@@ -164,6 +165,19 @@ smart_back r fits =
     }
 
 -- ---- entries of the error log
+
+pub no_entry_fits : ErrorEntryFits no_entry
+no_entry_fits = record {
+  count = lit< tt;
+  sqid = lit< tt;
+  cid = lit< tt;
+  status = record { sc = lit< tt; sct = lit< tt; crd = lit< tt };
+  location = lit< tt;
+  lba = lit< tt;
+  nsid = lit< tt;
+  vendor = lit< tt;
+  specific = lit< tt;
+}
 
 pub length-bytes_of_error_entry : (r : ErrorEntry) → length (bytes_of_error_entry r) ≡ 64
 unfolding bytes_of_error_entry

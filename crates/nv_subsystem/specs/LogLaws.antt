@@ -6,6 +6,7 @@ use Rattle.std.specs.List.{AllByRecursion}
 use Rattle.std.specs.Option.{option_map_or}
 use Rattle.std.proofs.lemmas.List.{length-append, length-replicate}
 use Rattle.nv_layout.specs.ErrorEntry.{ErrorEntryFits, no_entry}
+use Rattle.nv_layout.specs.LogLaws.{no_entry_fits}
 use Rattle.nv_layout.specs.PartLaws.{all_below}
 use Rattle.nv_layout.specs.Smart.{SmartFits}
 use Rattle.nv_layout.specs.declared.error_entry.ErrorEntry.{ErrorEntry}
@@ -18,19 +19,6 @@ use Rattle.nv_subsystem.specs.WellFormed.{IsController}
 
 pub log_rows_fit : (s : State) (c lid n offset : ℕ) → AllRefuse (log_rows s c lid n offset)
 log_rows_fit s c lid n offset = search (rules, is_refusal-refusal_by)
-
-no_entry_fits : ErrorEntryFits no_entry
-no_entry_fits = record {
-  count = lit< tt;
-  sqid = lit< tt;
-  cid = lit< tt;
-  status = record { sc = lit< tt; sct = lit< tt; crd = lit< tt };
-  location = lit< tt;
-  lba = lit< tt;
-  nsid = lit< tt;
-  vendor = lit< tt;
-  specific = lit< tt;
-}
 
 entries_fit : (es : List ErrorEntry) (n : ℕ) → All ErrorEntryFits es
     → AllByRecursion ErrorEntryFits (es ++ replicate n no_entry)
