@@ -1,21 +1,34 @@
 -- Features: one row for each, as in the section "Feature Specific Information".
-use Rattle.std.specs.Prelude.{ℕ, Bool, true, false, ◌==◌, ◌&&◌, bit_and, List, Option, codes, find}
+use Rattle.std.specs.Prelude.{ℕ, Bool, true, false, ◌==◌, ◌&&◌, bit_and, List, [], ◌∷◌, Option}
+use Rattle.std.specs.Prelude.{codes, find}
+use Rattle.std.specs.List.{list_any}
 use Rattle.nv_layout.specs.declared.feature.TheConstants.Feature.{ALL}
 use Rattle.nv_layout.specs.declared.feature.Feature.{Feature}
 use Rattle.nv_layout.specs.declared.feature.Feature.TheVariants as feature
 
--- a feature identifier, a name, the bits that a value may have, those of them that are 0 all the
--- same, and whether each namespace has a value of its own
+-- a feature identifier, a name, the bits that the dword of a Set may have, those of them that are 0
+-- all the same, the bits that are stored, whether each namespace has a value of its own, and the
+-- selectors under which there is one
 pub record Row : Type 0 where
   pub fid : ℕ
   pub name : List ℕ
   pub mask : ℕ
   pub clear : ℕ
+  pub kept : ℕ
   pub per_namespace : Bool
+  pub selectors : List ℕ
 
+-- a feature of one value, of which all bits are stored
 abbrev pub row : ℕ → List ℕ → ℕ → ℕ → Bool → Row
-row fid name mask clear per_namespace =
-    record { fid = fid; name = name; mask = mask; clear = clear; per_namespace = per_namespace }
+row fid name mask clear per_namespace = record {
+  fid = fid;
+  name = name;
+  mask = mask;
+  clear = clear;
+  kept = mask;
+  per_namespace = per_namespace;
+  selectors = 0 ∷ [];
+}
 
 abbrev pub row_of : Feature → Row
 row_of feature.Arbitration = row 0x01 (codes "Arbitration") 0xffffff07 0 false
@@ -31,7 +44,19 @@ row_of feature.AsynchronousEventConfiguration =
 abbrev pub feature_of : ℕ → Option Feature
 feature_of fid = find (λ f. (row_of f).fid == fid) ALL
 
--- a value within the mask, whose clear bits are 0
+-- what the dword of a Set may be: within the mask, with 0 in the clear bits
 abbrev pub is_accepted : Feature → ℕ → Bool
-is_accepted f value =
-    (bit_and value (row_of f).mask == value) && (bit_and value (row_of f).clear == 0)
+is_accepted f dword =
+    (bit_and dword (row_of f).mask == dword) && (bit_and dword (row_of f).clear == 0)
+
+-- what is stored of it
+abbrev pub stored : Feature → ℕ → ℕ
+stored f dword = bit_and dword (row_of f).kept
+
+-- what may be stored
+abbrev pub is_value : Feature → ℕ → Bool
+is_value f value = (bit_and value (row_of f).kept == value) && (bit_and value (row_of f).clear == 0)
+
+-- one of the selectors under which it has a value
+abbrev pub has_selector : Feature → ℕ → Bool
+has_selector f selector = list_any (λ x. x == selector) (row_of f).selectors

@@ -15,3 +15,4 @@ pub mod NsListLaws
 pub mod IdentifyLaws
 pub mod RecordLaws
 pub mod LogLaws
+pub mod FeatureTableLaws

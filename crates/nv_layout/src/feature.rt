@@ -1,7 +1,8 @@
 //! The features that a controller may have.
 
 ghost use Rattle.std.specs.Prelude.{◌≡◌, Option};
-ghost use Rattle.nv_layout.specs.Feature.{feature_of, is_accepted, row_of};
+ghost use Rattle.nv_layout.specs.Feature.{feature_of, has_selector, is_accepted, row_of};
+ghost use Rattle.nv_layout.specs.Feature.{stored};
 
 /// A feature. Section "Feature Specific Information".
 #[derive(Clone, Copy, Debug, PartialEq, Eq)]
@@ -21,12 +22,16 @@ struct FeatureRow {
     /// The feature identifier.
     fid: u8,
     name: &'static str,
-    /// The bits that a value may have.
+    /// The bits that the dword of a Set may have.
     mask: u32,
     /// The bits of the mask that are 0 all the same.
     clear: u32,
+    /// The bits of it that are stored.
+    kept: u32,
     /// Whether each namespace has a value of its own.
     per_namespace: bool,
+    /// The selectors under which there is a value.
+    selectors: &'static [u8],
 }
 
 impl Feature {
@@ -48,7 +53,9 @@ impl Feature {
         ensures name { result.name.now ≡ (row_of self).name }
         ensures mask { result.mask ≡ (row_of self).mask }
         ensures clear { result.clear ≡ (row_of self).clear }
+        ensures kept { result.kept ≡ (row_of self).kept }
         ensures per_namespace { result.per_namespace ≡ (row_of self).per_namespace }
+        ensures selectors { result.selectors.now ≡ (row_of self).selectors }
     {
         let (fid, name, mask, clear, per_namespace) = match self {
             Feature::Arbitration => (0x01, "Arbitration", 0xffff_ff07, 0, false),
@@ -70,7 +77,9 @@ impl Feature {
             name,
             mask,
             clear,
+            kept: mask,
             per_namespace,
+            selectors: &[0],
         }
     }
 
@@ -111,11 +120,33 @@ impl Feature {
         self.row().per_namespace
     }
 
-    /// Whether it may have a value: one with no bit outside its mask, and whose clear bits are 0.
-    pub fn accepts(self, value: u32) -> bool
-        ensures { result ≡ is_accepted self value }
+    /// Whether a Set may have this dword: one with no bit outside the mask, and whose clear bits are
+    /// 0.
+    pub fn accepts(self, dword: u32) -> bool
+        ensures { result ≡ is_accepted self dword }
     {
         let row = self.row();
-        value & row.mask == value && value & row.clear == 0
+        dword & row.mask == dword && dword & row.clear == 0
+    }
+
+    /// What is stored of the dword of a Set.
+    pub fn stored(self, dword: u32) -> u32
+        ensures { result ≡ stored self dword }
+    {
+        dword & self.row().kept
+    }
+
+    /// The selectors under which it has a value.
+    pub fn selectors(self) -> &'static [u8]
+        ensures { result.now ≡ (row_of self).selectors }
+    {
+        self.row().selectors
+    }
+
+    /// Whether it has a value under a selector.
+    pub fn has_selector(self, selector: u8) -> bool
+        ensures { result ≡ has_selector self selector }
+    {
+        self.selectors().iter().any(|known| *known == selector)
     }
 }

@@ -1,29 +1,30 @@
 -- The rules and the values of features that a file gives.
 use Rattle.std.proofs.Common.{◌≡◌, ◌∙◌, ℕ, zero, suc, ◌==◌, ◌&&◌, ◌||◌, Bool, true, false, not, cond, List, [], ◌∷◌, Some, is_some, refl, sym, ap, subst, arith}
-use Rattle.std.specs.Prelude.{All, if◌then◌else◌}
+use Rattle.std.specs.Prelude.{All, find, map, if◌then◌else◌}
 use Rattle.std.specs.List.{fold, list_any}
 use Rattle.std.specs.Ordering.{nat_cmp}
-use Rattle.std.specs.Cmp.Lexicographic.{slice_cmp}
+use Rattle.std.specs.Cmp.{both_ways}
+use Rattle.std.specs.Option.{option_map_or}
 use Rattle.std.specs.FinMap as map_of
 use Rattle.std.specs.FinMap.{get-empty}
 use Rattle.std.proofs.lemmas.Bool.Decides.{nat_tests}
 use Rattle.nv_bits.specs.NumberLaws.{get_of_insert}
-use Rattle.nv_layout.specs.Feature.{row_of}
+use Rattle.nv_layout.specs.Feature.{feature_of, has_selector, row_of}
+use Rattle.nv_layout.specs.FeatureTableLaws.{feature_at}
 use Rattle.nv_layout.specs.declared.feature.Feature.{Feature}
-use Rattle.nv_layout.specs.declared.feature.Feature.TheVariants as feature
 use Rattle.nv_layout.specs.declared.feature.TheConstants.Feature.{ALL}
 use Rattle.nv_file.specs.FileValue.{NamespaceValue, is_attached_to}
 use Rattle.nv_file.specs.Ranges.{IsFeatureRule}
 use Rattle.nv_file.specs.declared.feature_rule.FeatureRule.{FeatureRule}
-use Rattle.nv_subsystem.specs.FeatureLaws.{AreAccepted, accepted-insert, accepted_at, default_accepted, has_inserted, values-with}
-use Rattle.nv_subsystem.specs.FeatureValue.{at_default}
-use Rattle.nv_subsystem.specs.FromFile.{defaults_of, rules_of, with_attachment, with_default, with_recovery, with_rule}
-use Rattle.nv_subsystem.specs.State.{FeatureRules, Nsids, rule_of}
+use Rattle.nv_subsystem.specs.Change.{changed}
+use Rattle.nv_subsystem.specs.FeatureLaws.{AreSound, first_is_sound, has_inserted, sound-insert, values-with}
+use Rattle.nv_subsystem.specs.FeatureRules.{FeatureRules, first_value}
+use Rattle.nv_subsystem.specs.FromFile.{defaults_of, fill, rules_of, with_attachment, with_default, with_recovery, with_rule}
+use Rattle.nv_subsystem.specs.State.{Nsids}
 use Rattle.nv_subsystem.specs.Supported.{is_supported}
-use Rattle.nv_subsystem.specs.ValueLaws.{is_key, is_value_key}
-use Rattle.nv_subsystem.specs.ValueTable.{FeatureValues, key_of, recovery_key, value_key}
-use Rattle.nv_subsystem.specs.WellFormed.{AreRules, AreValues, accepts}
-use Rattle.nv_subsystem.specs.declared.feature_value.FeatureValue.{FeatureValue}
+use Rattle.nv_subsystem.specs.ValueKey.{FeatureValues, ValueKey, key_cmp, key_of, recovery_key}
+use Rattle.nv_subsystem.specs.ValueLaws.{by_numbers, is_key}
+use Rattle.nv_subsystem.specs.WellFormed.{AreRules, AreValues}
 
 -- ---- rules
 
@@ -50,60 +51,53 @@ are_rules rs all = some_rules map_of.empty rs
 -- ---- defaults
 
 -- a supported feature that no namespace has for itself
-abbrev has_default : ℕ → Feature → Bool
-has_default vwc f = is_supported vwc f && not (row_of f).per_namespace
+abbrev has_default : FeatureRules → ℕ → Feature → Bool
+has_default rules vwc f = is_supported rules vwc f && not (row_of f).per_namespace
 
-abbrev is_default : ℕ → ℕ → ℕ → Feature → Bool
-is_default vwc a n f = ((row_of f).fid == a) && (has_default vwc f && (n == 0))
+-- a key of such a feature
+abbrev is_default : FeatureRules → ℕ → ValueKey → Feature → Bool
+is_default rules vwc q f =
+    has_default rules vwc f && list_any (λ s. is_key q (key_of f 0 s)) (row_of f).selectors
 
 module _ (rules : FeatureRules) (vwc : ℕ) where
-  abbrev no_number : ℕ
-  no_number = 0
-
-  no_nsid : (b : Bool) → (if b then no_number else no_number) ≡ no_number
-  no_nsid true = refl
-  no_nsid false = refl
-
-  one_default : (m : FeatureValues) (f : Feature) (a n : ℕ)
-      → map_of.contains_key (with_default rules vwc m f) (value_key a n)
-      ≡ (is_default vwc a n f || map_of.contains_key m (value_key a n))
-  one_default m f a n = at_test (has_default vwc f)
+  filled : (f : Feature) (ss : List ℕ) (m : FeatureValues) (q : ValueKey)
+      → map_of.contains_key (changed (fill rules) (map (key_of f 0) ss) m) q
+      ≡ (list_any (λ s. is_key q (key_of f 0 s)) ss || map_of.contains_key m q)
+  filled f [] m q = refl
+  filled f (s ∷ ss) m q =
+      filled f ss (map_of.insert m (key_of f 0 s) (first_value rules (key_of f 0 s))) q
+      ∙ ap (λ b. list_any (λ s. is_key q (key_of f 0 s)) ss || b)
+      (has_inserted m (key_of f 0 s) (first_value rules (key_of f 0 s)) q)
+      ∙ moved (list_any (λ s. is_key q (key_of f 0 s)) ss) (is_key q (key_of f 0 s))
+      (map_of.contains_key m q)
     where
-      x : FeatureValue
-      x = at_default (rule_of rules f)
+      moved : (l k c : Bool) → (l || cond k true c) ≡ ((k || l) || c)
+      moved true true c = refl
+      moved true false c = refl
+      moved false true c = refl
+      moved false false c = refl
 
-      turned : (a b : ℕ) → (a == b) ≡ (b == a)
-      turned a b = grind (arith, nat_tests)
-
-      here : (c d e : Bool) → cond (c && d) true e ≡ ((c && (true && d)) || e)
-      here true true e = refl
-      here true false e = refl
-      here false d e = refl
-
-      away : (c e : Bool) → e ≡ ((c && false) || e)
-      away true e = refl
-      away false e = refl
-
+  one_default : (m : FeatureValues) (f : Feature) (q : ValueKey)
+      → map_of.contains_key (with_default rules vwc m f) q
+      ≡ (is_default rules vwc q f || map_of.contains_key m q)
+  one_default m f q = at_test (has_default rules vwc f)
+    where
       at_test : (b : Bool)
-          → map_of.contains_key (if b then map_of.insert m (key_of f 0) x else m) (value_key a n)
-          ≡ ((((row_of f).fid == a) && (b && (n == 0))) || map_of.contains_key m (value_key a n))
-      at_test true =
-          has_inserted m (key_of f 0) x (value_key a n)
-          ∙ ap (λ k. cond (is_key (value_key a n) (value_key (row_of f).fid k)) true (map_of.contains_key m (value_key a n)))
-          (no_nsid (row_of f).per_namespace)
-          ∙ ap (λ b. cond b true (map_of.contains_key m (value_key a n)))
-          (is_value_key a n (row_of f).fid 0 ∙ ap (λ b. b && (n == 0)) (turned a (row_of f).fid))
-          ∙ here ((row_of f).fid == a) (n == 0) (map_of.contains_key m (value_key a n))
-      at_test false = away ((row_of f).fid == a) (map_of.contains_key m (value_key a n))
+          → map_of.contains_key (if b then changed (fill rules) (map (key_of f 0) (row_of f).selectors) m
+          else m) q
+          ≡ ((b && list_any (λ s. is_key q (key_of f 0 s)) (row_of f).selectors)
+          || map_of.contains_key m q)
+      at_test true = filled f (row_of f).selectors m q
+      at_test false = refl
 
-  some_defaults : (m : FeatureValues) (fs : List Feature) (a n : ℕ)
-      → map_of.contains_key (fold (with_default rules vwc) m fs) (value_key a n)
-      ≡ (list_any (is_default vwc a n) fs || map_of.contains_key m (value_key a n))
-  some_defaults m [] a n = refl
-  some_defaults m (f ∷ fs) a n =
-      some_defaults (with_default rules vwc m f) fs a n
-      ∙ ap (λ b. list_any (is_default vwc a n) fs || b) (one_default m f a n)
-      ∙ moved (list_any (is_default vwc a n) fs) (is_default vwc a n f) (map_of.contains_key m (value_key a n))
+  some_defaults : (m : FeatureValues) (fs : List Feature) (q : ValueKey)
+      → map_of.contains_key (fold (with_default rules vwc) m fs) q
+      ≡ (list_any (is_default rules vwc q) fs || map_of.contains_key m q)
+  some_defaults m [] q = refl
+  some_defaults m (f ∷ fs) q =
+      some_defaults (with_default rules vwc m f) fs q
+      ∙ ap (λ b. list_any (is_default rules vwc q) fs || b) (one_default m f q)
+      ∙ moved (list_any (is_default rules vwc q) fs) (is_default rules vwc q f) (map_of.contains_key m q)
     where
       moved : (l p c : Bool) → (l || (p || c)) ≡ ((p || l) || c)
       moved true true c = refl
@@ -111,65 +105,179 @@ module _ (rules : FeatureRules) (vwc : ℕ) where
       moved false true c = refl
       moved false false c = refl
 
-  accepted_defaults : AreRules rules → (m : FeatureValues) (fs : List Feature) → AreAccepted m
-      → AreAccepted (fold (with_default rules vwc) m fs)
-  accepted_defaults are m [] all = all
-  accepted_defaults are m (f ∷ fs) all =
-      accepted_defaults are (with_default rules vwc m f) fs (at_test (has_default vwc f))
+  -- ---- the values are sound
+
+  sound_fill : AreRules rules → (f : Feature) (ss : List ℕ) (m : FeatureValues) → AreSound m
+      → AreSound (changed (fill rules) (map (key_of f 0) ss) m)
+  sound_fill are f [] m all = all
+  sound_fill are f (s ∷ ss) m all =
+      sound_fill are f ss (map_of.insert m (key_of f 0 s) (first_value rules (key_of f 0 s)))
+      (sound-insert m (key_of f 0 s) (first_value rules (key_of f 0 s)) all
+      (first_is_sound rules are f 0 s))
+
+  sound_defaults : AreRules rules → (m : FeatureValues) (fs : List Feature) → AreSound m
+      → AreSound (fold (with_default rules vwc) m fs)
+  sound_defaults are m [] all = all
+  sound_defaults are m (f ∷ fs) all =
+      sound_defaults are (with_default rules vwc m f) fs (at_test (has_default rules vwc f))
     where
       at_test : (b : Bool)
-          → AreAccepted (if b then map_of.insert m (key_of f 0) (at_default (rule_of rules f)) else m)
-      at_test true = accepted-insert m (key_of f 0) (at_default (rule_of rules f)) all
-          (accepted_at f (if (row_of f).per_namespace then 0 else 0) (at_default (rule_of rules f)) (default_accepted rules are f))
+          → AreSound (if b then changed (fill rules) (map (key_of f 0) (row_of f).selectors) m else m)
+      at_test true = sound_fill are f (row_of f).selectors m all
       at_test false = all
+
+  -- ---- they are those of all keys
+
+  abbrev no_nsids : Nsids
+  no_nsids = map_of.empty
+
+  -- what a key of the feature has
+  abbrev at_start : ValueKey → Feature → Bool
+  at_start q f = is_supported rules vwc f && (has_selector f q.selector
+      && (if (row_of f).per_namespace
+      then map_of.contains_key no_nsids q.nsid
+      else q.nsid == 0))
+
+  turned : (a b : ℕ) → (a == b) ≡ (b == a)
+  turned a b = grind (arith, nat_tests)
+
+  some_key : (a b : Bool) (n : ℕ) (ss : List ℕ) → list_any (λ s. a && (b && (n == s))) ss
+      ≡ (a && (b && list_any (λ s. s == n) ss))
+  some_key a b n [] = elim a as (λ a. false ≡ (a && (b && false)))
+      [ true ↦ elim b as (λ b. false ≡ (b && false)) [ true ↦ refl | false ↦ refl ] | false ↦ refl ]
+  some_key a b n (s ∷ ss) =
+      (λ i. (a && (b && turned n s i)) || some_key a b n ss i)
+      ∙ together a b (s == n) (list_any (λ s. s == n) ss)
+    where
+      together : (a b c d : Bool) → ((a && (b && c)) || (a && (b && d))) ≡ (a && (b && (c || d)))
+      together true true c d = refl
+      together true false c d = refl
+      together false b c d = refl
+
+  any_alike : {A : Type 0} (p r : A → Bool) → ((x : A) → p x ≡ r x) → (xs : List A)
+      → list_any p xs ≡ list_any r xs
+  any_alike p r same [] = refl
+  any_alike p r same (x ∷ xs) = λ i. same x i || any_alike p r same xs i
+
+  is_of : (q : ValueKey) (f : Feature)
+      → is_default rules vwc q f ≡ (((row_of f).fid == q.fid) && at_start q f)
+  is_of q f =
+      ap (λ b. has_default rules vwc f && b)
+      (any_alike _ _ (λ s. by_numbers q (key_of f 0 s)) (row_of f).selectors
+      ∙ some_key (q.fid == (row_of f).fid) (q.nsid == (if (row_of f).per_namespace then 0 else 0))
+      q.selector (row_of f).selectors
+      ∙ λ i. turned q.fid (row_of f).fid i && ((q.nsid == no_nsid (row_of f).per_namespace i)
+      && has_selector f q.selector))
+      ∙ by_kind (is_supported rules vwc f) (row_of f).per_namespace ((row_of f).fid == q.fid)
+      (has_selector f q.selector) (q.nsid == 0)
+    where
+      zero_nsid : ℕ
+      zero_nsid = 0
+
+      no_nsid : (b : Bool) → (if b then zero_nsid else zero_nsid) ≡ zero_nsid
+      no_nsid true = refl
+      no_nsid false = refl
+
+      nowhere : map_of.contains_key no_nsids q.nsid ≡ false
+      nowhere = ap is_some (get-empty nat_cmp q.nsid)
+
+      by_kind : (s p a h z : Bool) → ((s && not p) && (a && (z && h)))
+          ≡ (a && (s && (h && (if p
+          then map_of.contains_key no_nsids q.nsid else z))))
+      by_kind s true a h z = none s a h ∙ λ i. a && (s && (h && sym nowhere i))
+        where
+          none : (s a h : Bool) → ((s && false) && (a && (z && h))) ≡ (a && (s && (h && false)))
+          none true true true = refl
+          none true true false = refl
+          none true false h = refl
+          none false true h = refl
+          none false false h = refl
+      by_kind true false true true true = refl
+      by_kind true false true true false = refl
+      by_kind true false true false true = refl
+      by_kind true false true false false = refl
+      by_kind true false false h z = refl
+      by_kind false false true h z = refl
+      by_kind false false false h z = refl
+
+  -- features with the same identifier are the same
+  same_feature : (f g : Feature) → (row_of f).fid ≡ (row_of g).fid → f ≡ g
+  same_feature f g e =
+      let both : Some f ≡ Some g = sym (feature_at f) ∙ ap feature_of e ∙ feature_at g in cc both
+
+  is_same : (a b : ℕ) → (a == b) ≡ true → a ≡ b
+  is_same a b e = grind (arith, nat_tests)
+
+  -- a test of those with an identifier is that of the first one
+  rest_alike : (a : ℕ) (p : Feature → Bool) (f : Feature) → (row_of f).fid ≡ a → (fs : List Feature)
+      → list_any (λ g. ((row_of g).fid == a) && p g) fs ≡ true → p f ≡ true
+  rest_alike a p f here [] any = absurd (cc any)
+  rest_alike a p f here (g ∷ fs) any =
+      at_test ((row_of g).fid == a) (p g) refl refl any (rest_alike a p f here fs)
+    where
+      at_test : (b c : Bool) → ((row_of g).fid == a) ≡ b → p g ≡ c
+          → ((b && c) || list_any (λ g. ((row_of g).fid == a) && p g) fs) ≡ true
+          → (list_any (λ g. ((row_of g).fid == a) && p g) fs ≡ true → p f ≡ true) → p f ≡ true
+      at_test true true e is any later =
+          ap p (same_feature f g (here ∙ sym (is_same (row_of g).fid a e))) ∙ is
+      at_test true false e is any later = later any
+      at_test false c e is any later = later any
+
+  by_first : (a : ℕ) (p : Feature → Bool) (fs : List Feature)
+      → list_any (λ f. ((row_of f).fid == a) && p f) fs
+      ≡ option_map_or p (find (λ f. (row_of f).fid == a) fs) false
+  by_first a p [] = refl
+  by_first a p (f ∷ fs) = at_test ((row_of f).fid == a) refl (by_first a p fs)
+    where
+      at_test : (b : Bool) → ((row_of f).fid == a) ≡ b
+          → list_any (λ f. ((row_of f).fid == a) && p f) fs
+          ≡ option_map_or p (find (λ f. (row_of f).fid == a) fs) false
+          → ((b && p f) || list_any (λ f. ((row_of f).fid == a) && p f) fs)
+          ≡ option_map_or p (if b then Some f else find (λ f. (row_of f).fid == a) fs) false
+      at_test true e later =
+          both_ways _ (p f) (only (p f) refl) (λ is. ap (λ b. b || list_any
+          (λ f. ((row_of f).fid == a) && p f) fs) is)
+        where
+          only : (b : Bool) → p f ≡ b
+              → (b || list_any (λ f. ((row_of f).fid == a) && p f) fs) ≡ true → b ≡ true
+          only true is any = refl
+          only false is any =
+              sym is ∙ rest_alike a p f (is_same (row_of f).fid a e) fs any
+      at_test false e later = later
 
   abbrev nothing : FeatureValues
   nothing = map_of.empty
 
-  no_value : (k : List ℕ) → map_of.contains_key nothing k ≡ false
-  no_value k = ap is_some (get-empty (slice_cmp nat_cmp) k)
+  or_nothing : (b c : Bool) → c ≡ false → (b || c) ≡ b
+  or_nothing true c e = refl
+  or_nothing false c e = e
 
-  tidy : (b c d : Bool) → d ≡ false → ((((b && true) && c) || false) || d) ≡ (b && c)
-  tidy true true d e = refl
-  tidy true false d e = e
-  tidy false c d e = e
-
-  at_start : (f : Feature) → (row_of f).per_namespace ≡ false → (n : ℕ)
-      → (list_any (is_default vwc (row_of f).fid n) ALL
-      || map_of.contains_key nothing (value_key (row_of f).fid n))
-      ≡ (is_supported vwc f && (n == 0))
-  at_start f e n = by f e (no_value (value_key (row_of f).fid n))
-    where
-      by : (f : Feature) → (row_of f).per_namespace ≡ false → {d : Bool} → d ≡ false
-          → (list_any (is_default vwc (row_of f).fid n) ALL || d) ≡ (is_supported vwc f && (n == 0))
-      by feature.Arbitration p h = tidy true (n == 0) _ h
-      by feature.PowerManagement p h = tidy true (n == 0) _ h
-      by feature.ErrorRecovery p h = absurd (cc p)
-      by feature.VolatileWriteCache p h = tidy (is_supported vwc feature.VolatileWriteCache) (n == 0) _ h
-      by feature.InterruptCoalescing p h = tidy true (n == 0) _ h
-      by feature.WriteAtomicityNormal p h = tidy true (n == 0) _ h
-      by feature.AsynchronousEventConfiguration p h = tidy true (n == 0) _ h
-
-  pub start_values : AreRules rules → AreValues vwc map_of.empty (defaults_of rules vwc)
+  pub start_values : AreRules rules → AreValues rules vwc map_of.empty (defaults_of rules vwc)
   start_values are = record {
-    recovery = λ n. some_defaults map_of.empty ALL 5 n ∙ no_value (recovery_key n)
-        ∙ sym (ap is_some (get-empty nat_cmp n));
-    others = λ f e n. some_defaults map_of.empty ALL (row_of f).fid n ∙ at_start f e n;
-    accepted = accepted_defaults are map_of.empty ALL
-        (λ k x e. absurd (cc (sym (get-empty (slice_cmp nat_cmp) k) ∙ e)));
+    keys = λ q. some_defaults map_of.empty ALL q
+        ∙ or_nothing (list_any (is_default rules vwc q) ALL) (map_of.contains_key nothing q)
+        (ap is_some (get-empty key_cmp q))
+        ∙ any_alike (is_default rules vwc q) _ (is_of q) ALL
+        ∙ by_first q.fid (at_start q) ALL;
+    sound = sound_defaults are map_of.empty ALL
+        (λ k x e. absurd (cc (sym (get-empty key_cmp k) ∙ e)));
   }
 
 -- ---- attachments
 
-pub attached_values : (vwc cntlid : ℕ) (x : FeatureValue) → accepts feature.ErrorRecovery x ≡ true
+pub attached_values : (rules : FeatureRules) (vwc cntlid : ℕ) → AreRules rules
     → (ns : List NamespaceValue) (attached : Nsids) (values : FeatureValues)
-    → AreValues vwc attached values
-    → AreValues vwc (fold (with_attachment cntlid) attached ns) (fold (with_recovery cntlid x) values ns)
-attached_values vwc cntlid x fits [] attached values are = are
-attached_values vwc cntlid x fits (n ∷ ns) attached values are =
-    attached_values vwc cntlid x fits ns (with_attachment cntlid attached n) (with_recovery cntlid x values n) (at_test (is_attached_to cntlid n))
+    → AreValues rules vwc attached values
+    → AreValues rules vwc (fold (with_attachment cntlid) attached ns)
+    (fold (with_recovery cntlid rules) values ns)
+attached_values rules vwc cntlid are_rules [] attached values are = are
+attached_values rules vwc cntlid are_rules (n ∷ ns) attached values are =
+    attached_values rules vwc cntlid are_rules ns (with_attachment cntlid attached n)
+    (with_recovery cntlid rules values n) (at_test (is_attached_to cntlid n))
   where
-    at_test : (b : Bool) → AreValues vwc (if b then map_of.insert attached n.nsid tt else attached)
-        (if b then map_of.insert values (recovery_key n.nsid) x else values)
-    at_test true = values-with vwc attached values are n.nsid x fits
+    at_test : (b : Bool)
+        → AreValues rules vwc (if b then map_of.insert attached n.nsid tt else attached)
+        (if b then map_of.insert values (recovery_key n.nsid) (first_value rules (recovery_key n.nsid))
+        else values)
+    at_test true = values-with rules vwc attached values are are_rules n.nsid
     at_test false = are

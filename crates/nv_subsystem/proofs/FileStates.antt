@@ -14,11 +14,8 @@ use Rattle.std.proofs.lemmas.List.Sums.{sum_by-cons}
 use Rattle.nv_file.specs.FileValue.{ControllerValue, FileValue, NamespaceValue, is_attached_to}
 use Rattle.nv_subsystem.specs.FromFile.{controller_of, rules_of, state_of, with_attachment, with_namespace}
 use Rattle.nv_file.specs.IsFile.{IsAttached, IsControllerEntry, IsFile, IsNamespaceEntry}
-use Rattle.nv_layout.specs.declared.feature.Feature.TheVariants.{ErrorRecovery}
 use Rattle.nv_subsystem.proofs.FileFeatures.{are_rules, attached_values, start_values}
-use Rattle.nv_subsystem.specs.FeatureLaws.{default_accepted}
-use Rattle.nv_subsystem.specs.FeatureValue.{at_default}
-use Rattle.nv_subsystem.specs.State.{Namespaces, Nsids, rule_of}
+use Rattle.nv_subsystem.specs.State.{Namespaces, Nsids}
 use Rattle.nv_subsystem.specs.WellFormed.{IsController, IsNamespace, IsWellFormed}
 use Rattle.nv_file.specs.declared.namespace.Namespace.{Namespace}
 use Rattle.nv_subsystem.specs.MappedLaws.{none_pass, pairs_map, untrue}
@@ -160,8 +157,8 @@ controller_ok f h c is = record {
   attached = λ n t.
       ap is_some (namespaces_of f.namespaces n h.nsids)
       ∙ only_allocated (entry_at f.namespaces n) (is_attached_to c.identity.cntlid) (sym (attached_of f.namespaces c.identity.cntlid n h.nsids) ∙ t);
-  values = attached_values c.identity.numbers.vwc c.identity.cntlid (at_default (rule_of (rules_of c.rules) ErrorRecovery))
-      (default_accepted (rules_of c.rules) (are_rules c.rules is.rules) ErrorRecovery) f.namespaces map_of.empty _
+  values = attached_values (rules_of c.rules) c.identity.numbers.vwc c.identity.cntlid
+      (are_rules c.rules is.rules) f.namespaces map_of.empty _
       (start_values (rules_of c.rules) c.identity.numbers.vwc (are_rules c.rules is.rules));
 }
 

@@ -10,13 +10,12 @@ use Rattle.nv_command.specs.declared.status_code.StatusCode.TheVariants.{Invalid
 use Rattle.nv_command.specs.declared.status_code.StatusCode.TheVariants.{NamespaceAlreadyAttached}
 use Rattle.nv_command.specs.declared.status_code.StatusCode.TheVariants.{NamespaceIsPrivate}
 use Rattle.nv_command.specs.declared.status_code.StatusCode.TheVariants.{NamespaceNotAttached}
-use Rattle.nv_layout.specs.declared.feature.Feature.TheVariants.{ErrorRecovery}
-use Rattle.nv_subsystem.specs.FeatureValue.{at_default}
+use Rattle.nv_subsystem.specs.FeatureRules.{first_value}
 use Rattle.nv_subsystem.specs.Management.{Attached, with_attached, without}
 use Rattle.nv_subsystem.specs.Nsid.{is_allocated, is_valid}
 use Rattle.nv_subsystem.specs.Row.{row}
-use Rattle.nv_subsystem.specs.State.{Controller, State, rule_of}
-use Rattle.nv_subsystem.specs.ValueTable.{recovery_key}
+use Rattle.nv_subsystem.specs.State.{Controller, State}
+use Rattle.nv_subsystem.specs.ValueKey.{recovery_key}
 use Rattle.nv_subsystem.specs.declared.row.Row.{Row}
 
 -- ---- the list of controller identifiers
@@ -86,7 +85,7 @@ attachment_rows s n detach ids = if detach then detach_rows s n ids else attach_
 abbrev pub with_one : ℕ → Controller → Attached
 with_one n x = record {
   nsids = map_of.insert x.attached n tt;
-  values = map_of.insert x.values (recovery_key n) (at_default (rule_of x.rules ErrorRecovery));
+  values = map_of.insert x.values (recovery_key n) (first_value x.rules (recovery_key n));
 }
 
 -- as it is

@@ -13,16 +13,14 @@ use Rattle.nv_command.specs.RefusalLaws.{is_refusal-refusal_by}
 use Rattle.nv_subsystem.specs.Attachment.{attach_rows, attached, attachment_rows, detached, fewer}
 use Rattle.nv_subsystem.specs.Attachment.{has_attached, is_listed, is_private, more, unchanged}
 use Rattle.nv_subsystem.specs.Attachment.{with_attachments, with_one}
-use Rattle.nv_layout.specs.declared.feature.Feature.TheVariants.{ErrorRecovery}
 use Rattle.nv_subsystem.specs.ChoiceLaws.{not_false}
-use Rattle.nv_subsystem.specs.FeatureLaws.{default_accepted, values-with, values-without}
-use Rattle.nv_subsystem.specs.FeatureValue.{at_default}
+use Rattle.nv_subsystem.specs.FeatureLaws.{values-with, values-without}
 use Rattle.nv_subsystem.specs.Management.{with_attached, with_nsids, without}
 use Rattle.nv_subsystem.specs.ManagementLaws.{AllRefuse, attached_keep, left, none_holds}
 use Rattle.nv_subsystem.specs.MappedLaws.{count_by-map, count_by-map_le}
 use Rattle.nv_subsystem.specs.Nsid.{is_allocated}
 use Rattle.nv_subsystem.specs.Row.{first_refusal}
-use Rattle.nv_subsystem.specs.State.{Controller, State, rule_of}
+use Rattle.nv_subsystem.specs.State.{Controller, State}
 use Rattle.nv_subsystem.specs.WellFormed.{AreValues, IsController, IsWellFormed}
 
 -- ---- attach
@@ -68,11 +66,10 @@ attach_keeps s n ids w accepted = attached_keep s (more n ids) s.namespaces w (r
     rows = none_holds (attach_rows s n ids) accepted
 
     with_values : (x : Controller) → IsController s.namespaces x → (b : Bool)
-        → AreValues x.identity.numbers.vwc (if b then with_one n x else unchanged x).nsids
+        → AreValues x.rules x.identity.numbers.vwc (if b then with_one n x else unchanged x).nsids
         (if b then with_one n x else unchanged x).values
-    with_values x is true = values-with x.identity.numbers.vwc x.attached x.values is.values n
-        (at_default (rule_of x.rules ErrorRecovery))
-        (default_accepted x.rules is.rules ErrorRecovery)
+    with_values x is true =
+        values-with x.rules x.identity.numbers.vwc x.attached x.values is.values is.rules n
     with_values x is false = is.values
 
     at_nsid : (x : Controller) → IsController s.namespaces x → (q : ℕ) (b : Bool) → (q == n) ≡ b
@@ -144,9 +141,10 @@ detach_keeps s n ids w = attached_keep s (fewer n ids) s.namespaces w (record {
 })
   where
     less_values : (x : Controller) → IsController s.namespaces x → (b : Bool)
-        → AreValues x.identity.numbers.vwc (if b then without n x else unchanged x).nsids
+        → AreValues x.rules x.identity.numbers.vwc (if b then without n x else unchanged x).nsids
         (if b then without n x else unchanged x).values
-    less_values x is true = values-without x.identity.numbers.vwc x.attached x.values is.values n
+    less_values x is true =
+        values-without x.rules x.identity.numbers.vwc x.attached x.values is.values n
     less_values x is false = is.values
 
 -- ---- both

@@ -13,9 +13,13 @@ feature_value_code = code_by (ℕ × Option ℕ) (coded× coded_ℕ (coded_optio
 abbrev pub default_rule : ℕ → FeatureRule
 default_rule fid = record { fid = fid; default = 0; saveable = false; changeable = true }
 
+-- the default under a selector
+abbrev pub default_of : FeatureRule → ℕ → ℕ
+default_of rule selector = rule.default
+
 -- before any value is set
-abbrev pub at_default : FeatureRule → FeatureValue
-at_default rule = record { current = rule.default; saved = None }
+abbrev pub at_default : FeatureRule → ℕ → FeatureValue
+at_default rule selector = record { current = default_of rule selector; saved = None }
 
 -- with another current value, which is saved too where that is asked for
 abbrev pub written : ℕ → Bool → FeatureValue → FeatureValue

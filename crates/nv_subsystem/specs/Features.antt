@@ -1,9 +1,10 @@
 -- Get Features and Set Features: when they are refused, what they answer, and what they change.
 use Rattle.std.specs.Prelude.{ℕ, ◌+◌, ◌==◌, ◌&&◌, ◌||◌, not, nat_lt, Bool, true, List, [], ◌∷◌}
-use Rattle.std.specs.Prelude.{Option, None, unwrap_or, if◌then◌else◌, map}
+use Rattle.std.specs.Prelude.{Option, None, option_map, unwrap_or, if◌then◌else◌}
+use Rattle.std.specs.List.{fold}
 use Rattle.std.specs.Option.{option_map_or}
 use Rattle.std.specs.FinMap as map_of
-use Rattle.nv_layout.specs.Feature.{feature_of, is_accepted, row_of}
+use Rattle.nv_layout.specs.Feature.{feature_of, is_accepted, row_of, stored}
 use Rattle.nv_layout.specs.declared.feature.Feature.{Feature}
 use Rattle.nv_file.specs.declared.feature_rule.FeatureRule.{FeatureRule}
 use Rattle.nv_command.specs.declared.command.TheConstants.{BROADCAST_NSID}
@@ -12,13 +13,14 @@ use Rattle.nv_command.specs.declared.status_code.StatusCode.TheVariants.{Feature
 use Rattle.nv_command.specs.declared.status_code.StatusCode.TheVariants.{FeatureIdentifierNotSaveable}
 use Rattle.nv_command.specs.declared.status_code.StatusCode.TheVariants.{InvalidFieldInCommand}
 use Rattle.nv_command.specs.declared.status_code.StatusCode.TheVariants.{InvalidNamespaceOrFormat}
-use Rattle.nv_subsystem.specs.ChangedKeys.{changed_at_keys}
-use Rattle.nv_subsystem.specs.FeatureValue.{default_rule, written}
+use Rattle.nv_subsystem.specs.Change.{Change, changed}
+use Rattle.nv_subsystem.specs.FeatureRules.{rule_of}
+use Rattle.nv_subsystem.specs.FeatureValue.{default_of, default_rule, written}
 use Rattle.nv_subsystem.specs.Nsid.{concerned, is_active, is_valid}
 use Rattle.nv_subsystem.specs.Row.{row}
-use Rattle.nv_subsystem.specs.State.{Controller, State, controller_at, rule_of, with_controller}
+use Rattle.nv_subsystem.specs.State.{Controller, State, controller_at, with_controller}
 use Rattle.nv_subsystem.specs.Supported.{supported}
-use Rattle.nv_subsystem.specs.ValueTable.{FeatureValues, key_of}
+use Rattle.nv_subsystem.specs.ValueKey.{FeatureValues, key_of, keys_of}
 use Rattle.nv_subsystem.specs.declared.feature_value.FeatureValue.{FeatureValue}
 use Rattle.nv_subsystem.specs.declared.row.Row.{Row}
 
@@ -30,7 +32,7 @@ rule_at s c f =
 -- the feature with an identifier, where the controller supports it
 abbrev pub supported_at : State → ℕ → ℕ → Option Feature
 supported_at s c fid =
-    option_map_or (λ x. supported x.identity.numbers.vwc fid) (controller_at s c) None
+    option_map_or (λ x. supported x.rules x.identity.numbers.vwc fid) (controller_at s c) None
 
 -- ---- rows
 
@@ -75,17 +77,17 @@ capabilities rule f =
     + (if rule.changeable then 4 else 0)
 
 -- what a select names: the current value, the default, the saved one, or the capabilities
-abbrev pub selected : FeatureRule → Feature → ℕ → FeatureValue → ℕ
-selected rule f sel x =
+abbrev pub selected : FeatureRule → Feature → ℕ → ℕ → FeatureValue → ℕ
+selected rule f sel selector x =
     if sel == 0 then x.current
-    else if sel == 1 then rule.default
-    else if sel == 2 then unwrap_or x.saved rule.default
+    else if sel == 1 then default_of rule selector
+    else if sel == 2 then unwrap_or x.saved (default_of rule selector)
     else capabilities rule f
 
 -- the same of a controller's feature
 abbrev pub told : Feature → ℕ → ℕ → Controller → ℕ
 told f sel n x =
-    option_map_or (selected (rule_of x.rules f) f sel) (map_of.get x.values (key_of f n)) 0
+    option_map_or (selected (rule_of x.rules f) f sel 0) (map_of.get x.values (key_of f n 0)) 0
 
 abbrev pub feature_number : State → ℕ → ℕ → ℕ → ℕ → ℕ
 feature_number s c fid sel n =
@@ -97,16 +99,17 @@ feature_number s c fid sel n =
 abbrev pub changed_nsids : State → ℕ → ℕ → Feature → List ℕ
 changed_nsids s c n f = if (row_of f).per_namespace then concerned s c n else 0 ∷ []
 
--- a value that is there is written over
+-- a value that is there is written over by what is stored of a dword
+abbrev pub write : Feature → ℕ → Bool → Change
+write f value save k = option_map (written (stored f value) save)
+
+-- for an NSID, and for each of some
 abbrev pub with_value : Feature → ℕ → Bool → FeatureValues → ℕ → FeatureValues
-with_value f value save values n =
-    option_map_or (λ x. map_of.insert values (key_of f n) (written value save x))
-    (map_of.get values (key_of f n)) values
+with_value f value save values n = changed (write f value save) (keys_of f n) values
 
 abbrev pub with_values : Feature → ℕ → Bool → List ℕ → Controller → Controller
-with_values f value save ns x = record x {
-  values = changed_at_keys (map (key_of f) ns) (written value save) x.values;
-}
+with_values f value save ns x =
+    record x { values = fold (with_value f value save) x.values ns }
 
 abbrev pub with_feature : State → ℕ → ℕ → ℕ → Bool → ℕ → State
 with_feature s c fid value save n =

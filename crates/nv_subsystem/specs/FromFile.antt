@@ -1,5 +1,5 @@
 -- The subsystem that a file gives: nothing was refused or counted yet.
-use Rattle.std.specs.Prelude.{ℕ, ◌&&◌, not, List, [], map, Result, Ok, if◌then◌else◌}
+use Rattle.std.specs.Prelude.{ℕ, ◌&&◌, not, List, [], map, Some, Result, Ok, if◌then◌else◌}
 use Rattle.std.specs.List.{fold}
 use Rattle.std.specs.FinMap as map_of
 use Rattle.nv_file.specs.declared.error.SubsystemError.{SubsystemError}
@@ -8,14 +8,13 @@ use Rattle.nv_file.specs.File.{file}
 use Rattle.nv_file.specs.FileValue.{ControllerValue, FileValue, NamespaceValue, is_attached_to}
 use Rattle.nv_layout.specs.Feature.{row_of}
 use Rattle.nv_layout.specs.declared.feature.Feature.{Feature}
-use Rattle.nv_layout.specs.declared.feature.Feature.TheVariants.{ErrorRecovery}
 use Rattle.nv_layout.specs.declared.feature.TheConstants.Feature.{ALL}
 use Rattle.nv_file.specs.declared.feature_rule.FeatureRule.{FeatureRule}
-use Rattle.nv_subsystem.specs.FeatureValue.{at_default}
+use Rattle.nv_subsystem.specs.Change.{Change, changed}
+use Rattle.nv_subsystem.specs.FeatureRules.{FeatureRules, first_value}
 use Rattle.nv_subsystem.specs.Supported.{is_supported}
-use Rattle.nv_subsystem.specs.State.{Controller, FeatureRules, Namespaces, Nsids, State, rule_of}
-use Rattle.nv_subsystem.specs.ValueTable.{FeatureValues, key_of, recovery_key}
-use Rattle.nv_subsystem.specs.declared.feature_value.FeatureValue.{FeatureValue}
+use Rattle.nv_subsystem.specs.State.{Controller, Namespaces, Nsids, State}
+use Rattle.nv_subsystem.specs.ValueKey.{FeatureValues, keys_of, recovery_key}
 
 abbrev pub with_namespace : Namespaces → NamespaceValue → Namespaces
 with_namespace namespaces n = map_of.insert namespaces n.nsid n.namespace
@@ -23,17 +22,23 @@ with_namespace namespaces n = map_of.insert namespaces n.nsid n.namespace
 abbrev pub with_rule : FeatureRules → FeatureRule → FeatureRules
 with_rule rules r = map_of.insert rules r.fid r
 
--- the default of a supported feature that no namespace has for itself
+-- a key's first value
+abbrev pub fill : FeatureRules → Change
+fill rules k old = Some (first_value rules k)
+
+-- a supported feature that no namespace has for itself is at its defaults
 abbrev pub with_default : FeatureRules → ℕ → FeatureValues → Feature → FeatureValues
 with_default rules vwc values f =
-    if is_supported vwc f && not (row_of f).per_namespace
-    then map_of.insert values (key_of f 0) (at_default (rule_of rules f))
+    if is_supported rules vwc f && not (row_of f).per_namespace
+    then changed (fill rules) (keys_of f 0) values
     else values
 
--- Error Recovery's default for an attached namespace
-abbrev pub with_recovery : ℕ → FeatureValue → FeatureValues → NamespaceValue → FeatureValues
-with_recovery cntlid x values n =
-    if is_attached_to cntlid n then map_of.insert values (recovery_key n.nsid) x else values
+-- so is Error Recovery for an attached namespace
+abbrev pub with_recovery : ℕ → FeatureRules → FeatureValues → NamespaceValue → FeatureValues
+with_recovery cntlid rules values n =
+    if is_attached_to cntlid n
+    then map_of.insert values (recovery_key n.nsid) (first_value rules (recovery_key n.nsid))
+    else values
 
 abbrev pub rules_of : List FeatureRule → FeatureRules
 rules_of rules = fold with_rule map_of.empty rules
@@ -54,8 +59,7 @@ controller_of namespaces c = record {
   refusals = 0;
   commands = 0;
   attached = fold (with_attachment c.identity.cntlid) map_of.empty namespaces;
-  values = fold
-      (with_recovery c.identity.cntlid (at_default (rule_of (rules_of c.rules) ErrorRecovery)))
+  values = fold (with_recovery c.identity.cntlid (rules_of c.rules))
       (defaults_of (rules_of c.rules) c.identity.numbers.vwc) namespaces;
 }
 

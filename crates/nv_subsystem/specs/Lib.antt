@@ -4,8 +4,11 @@ pub use Rattle.nv_file.specs.Ranges
 pub mod Row
 pub mod ErrorLog
 pub mod FeatureValue
+pub mod ValueKey
 pub mod ValueTable
+pub mod FeatureRules
 pub mod Supported
+pub mod Change
 pub mod State
 pub mod StateCode
 pub mod Formats

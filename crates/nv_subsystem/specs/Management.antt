@@ -18,7 +18,7 @@ use Rattle.nv_subsystem.specs.Formats.{can_have, format_at}
 use Rattle.nv_subsystem.specs.Nsid.{free_nsid, is_allocated, is_valid}
 use Rattle.nv_subsystem.specs.Row.{row}
 use Rattle.nv_subsystem.specs.State.{Controller, Nsids, State}
-use Rattle.nv_subsystem.specs.ValueTable.{FeatureValues, is_other_key, recovery_key}
+use Rattle.nv_subsystem.specs.ValueKey.{FeatureValues, is_alone, recovery_key}
 use Rattle.nv_subsystem.specs.declared.management.NewNamespace.{NewNamespace}
 use Rattle.nv_subsystem.specs.declared.row.Row.{Row}
 
@@ -112,11 +112,11 @@ without n x = record {
   values = map_of.remove x.values (recovery_key n);
 }
 
--- without any
+-- without any: what any namespace has goes too
 abbrev pub without_any : Controller → Attached
 without_any x = record {
   nsids = map_of.empty;
-  values = map_of.retain_keys x.values is_other_key;
+  values = map_of.retain_keys x.values is_alone;
 }
 
 -- without a namespace, which is detached everywhere

@@ -225,7 +225,7 @@ pub record AreAttached (s : State) (change : Controller → Attached) (to : Name
   pub allocated : (x : Controller) → IsController s.namespaces x → (n : ℕ)
       → map_of.contains_key (change x).nsids n ≡ true → map_of.contains_key to n ≡ true
   pub values : (x : Controller) → IsController s.namespaces x
-      → AreValues x.identity.numbers.vwc (change x).nsids (change x).values
+      → AreValues x.rules x.identity.numbers.vwc (change x).nsids (change x).values
   pub namespaces : (n : ℕ) (x : Namespace) → map_of.get to n ≡ Some x
       → IsNamespace (record (with_attached s change) { namespaces = to }) n x
   pub capacities : used to ≤ s.tnvmcap
@@ -278,7 +278,8 @@ one_keeps s n w = attached_keep s (without n) (map_of.remove s.namespaces n) w
     (record {
       allocated = λ x is q t. let l = left x.attached n q t in contains-remove s.namespaces n q
           ∙ ap (λ b. cond b false (map_of.contains_key s.namespaces q)) l.0 ∙ is.attached q l.1;
-      values = λ x is. values-without x.identity.numbers.vwc x.attached x.values is.values n;
+      values = λ x is.
+          values-without x.rules x.identity.numbers.vwc x.attached x.values is.values n;
       namespaces = λ q x e.
           let l = left s.namespaces n q (ap is_some e) in
           let old = w.namespaces q x (sym (ap (λ b. cond b None (map_of.get s.namespaces q)) l.0)
@@ -305,11 +306,23 @@ all_keep : (s : State) → IsWellFormed s → IsWellFormed (without_all s)
 all_keep s w = attached_keep s without_any map_of.empty w (record {
   allocated = λ x is q t. let both : true ≡ false = sym t
       ∙ ap is_some (get-empty nat_cmp q) in absurd (cc both);
-  values = λ x is. values-without_any x.identity.numbers.vwc x.attached x.values is.values;
+  values = λ x is. values-without_any x.rules x.identity.numbers.vwc x.attached x.values is.values
+      (no_first x is (map_of.contains_key x.attached 0) refl);
   namespaces = λ q x e. let both : None ≡ Some x = sym (get-empty nat_cmp q)
       ∙ e in absurd (cc both);
   capacities = omega (arith, used-empty);
 })
+  where
+    is_first : (o : Option Namespace) → map_of.get s.namespaces 0 ≡ o → is_some o ≡ true → ⊥
+    is_first None e t = cc t
+    is_first (Some x) e t = absurd (omega (arith, (w.namespaces 0 x e).nsid.0))
+
+    -- NSIDs begin at 1
+    no_first : (x : Controller) → IsController s.namespaces x → (b : Bool)
+        → map_of.contains_key x.attached 0 ≡ b → b ≡ false
+    no_first x is true e =
+        absurd (is_first (map_of.get s.namespaces 0) refl (is.attached 0 e))
+    no_first x is false e = refl
 
 pub delete_keeps : (s : State) (n : ℕ) → IsWellFormed s → IsWellFormed (deleted s n)
 delete_keeps s n w = elim (n == BROADCAST_NSID) as (λ b. IsWellFormed

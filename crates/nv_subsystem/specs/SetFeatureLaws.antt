@@ -1,42 +1,37 @@
 -- Get Features and Set Features leave a well-formed subsystem well formed, and their replies fit.
 use Rattle.std.proofs.Common.{rules, ◌≡◌, ◌∙◌, ℕ, ◌+◌, ◌==◌, ◌<◌, ◌^◌, ◌&&◌, Bool, true, false}
 use Rattle.std.proofs.Common.{List, [], ◌∷◌, length, Option, Some, None, is_some, refl, sym, ap}
-use Rattle.std.proofs.Common.{subst, arith, lit<, bit_and, map}
-use Rattle.std.specs.Prelude.{if◌then◌else◌, unwrap_or}
+use Rattle.std.proofs.Common.{subst, lit<, map}
+use Rattle.std.specs.Prelude.{if◌then◌else◌, option_map, unwrap_or}
 use Rattle.std.specs.List.{fold}
 use Rattle.std.specs.Option.{option_map_or}
 use Rattle.std.specs.FinMap as map_of
-use Rattle.std.proofs.lemmas.Bool.Decides.{nat_tests}
-use Rattle.std.proofs.lemmas.Nat.{and_le_r}
 use Rattle.std.proofs.lemmas.Option.{get_or_from_slice_get, slice_get_within}
-use Rattle.nv_layout.specs.Feature.{feature_of, is_accepted, row_of}
+use Rattle.nv_layout.specs.Feature.{feature_of, is_accepted, is_value, row_of, stored}
+use Rattle.nv_layout.specs.FeatureTableLaws.{feature_at, stored_is_value, value_fits}
 use Rattle.nv_layout.specs.declared.feature.Feature.{Feature}
-use Rattle.nv_layout.specs.declared.feature.Feature.TheVariants as feature
 use Rattle.nv_file.specs.declared.feature_rule.FeatureRule.{FeatureRule}
 use Rattle.nv_command.specs.RefusalLaws.{is_refusal-refusal_by}
-use Rattle.std.proofs.lemmas.List.Folds.{fold-map}
-use Rattle.std.specs.Cmp.Lexicographic.{nat_list_cmp_total}
-use Rattle.std.specs.FinMap.{nat_cmp-IsAntisymmetric, slice_cmp-IsAntisymmetric}
-use Rattle.nv_subsystem.specs.ChangedKeys.{changed_at_keys}
-use Rattle.nv_subsystem.specs.ChangedKeysLaws.{folded}
+use Rattle.nv_subsystem.specs.Change.{changed, changed_at}
 use Rattle.nv_subsystem.specs.ChangedAtLaws.{length-changed_at}
 use Rattle.nv_subsystem.specs.ChoiceLaws.{chosen_fits, not_false}
-use Rattle.nv_subsystem.specs.FeatureLaws.{accepted_at, default_accepted, feature_at}
-use Rattle.nv_subsystem.specs.FeatureLaws.{values-written}
+use Rattle.nv_subsystem.specs.FeatureLaws.{default_is_sound, sound_at, values-written}
+use Rattle.nv_subsystem.specs.FeatureRules.{FeatureRules, rule_of}
 use Rattle.nv_subsystem.specs.Features.{changed_nsids, feature_number, get_feature_rows, get_rows}
 use Rattle.nv_subsystem.specs.Features.{selected, set_feature_rows, set_rows, supported_at, told}
-use Rattle.nv_subsystem.specs.Features.{with_feature, with_value, with_values}
-use Rattle.nv_subsystem.specs.FeatureValue.{written}
+use Rattle.nv_subsystem.specs.Features.{with_feature, with_value, with_values, write}
+use Rattle.nv_subsystem.specs.FeatureValue.{default_of, written}
 use Rattle.nv_subsystem.specs.KeepingLaws.{Keeps, keeps}
 use Rattle.nv_subsystem.specs.ManagementLaws.{AllRefuse, none_holds}
 use Rattle.nv_command.specs.declared.status_code.StatusCode.TheVariants.{InvalidFieldInCommand}
 use Rattle.nv_subsystem.specs.Row.{first_refusal, row}
-use Rattle.nv_subsystem.specs.State.{Controller, Nsids, State, controller_at, rule_of}
+use Rattle.nv_subsystem.specs.State.{Controller, Nsids, State, controller_at}
 use Rattle.nv_subsystem.specs.State.{with_controller}
 use Rattle.nv_subsystem.specs.Supported.{is_supported, supported}
-use Rattle.nv_subsystem.specs.ValueTable.{FeatureValues, key_of}
-use Rattle.nv_subsystem.specs.WellFormed.{AreValues, IsController, IsWellFormed, accepts}
-use Rattle.nv_subsystem.specs.WellFormed.{is_value_at}
+use Rattle.nv_subsystem.specs.ValueKey.{FeatureValues, key_of}
+use Rattle.nv_subsystem.specs.ValueLaws.{removed_absent}
+use Rattle.nv_subsystem.specs.WellFormed.{AreValues, IsController, IsWellFormed, is_value_at}
+use Rattle.nv_subsystem.specs.WellFormed.{may_have}
 use Rattle.nv_subsystem.specs.declared.feature_value.FeatureValue.{FeatureValue}
 use Rattle.nv_subsystem.specs.declared.row.Row.{Row}
 
@@ -73,51 +68,52 @@ and_parts : (a b : Bool) → (a && b) ≡ true → (a ≡ true) × (b ≡ true)
 and_parts true b e = (refl, e)
 and_parts false b e = absurd (cc e)
 
--- what a feature accepts, by a key of it
-accepts_at : (f : Feature) (n : ℕ) (x : FeatureValue) → is_value_at (key_of f n) x ≡ true
-    → accepts f x ≡ true
-accepts_at f n x e = sym (ap (λ o. option_map_or (λ g. accepts g x) o false) (feature_at f)) ∙ e
+-- what a feature may have, by a key of it
+sound_value : (f : Feature) (n s : ℕ) (x : FeatureValue) → is_value_at (key_of f n s) x ≡ true
+    → may_have f x ≡ true
+sound_value f n s x e =
+    sym (ap (λ o. option_map_or (λ g. may_have g x) o false) (feature_at f)) ∙ e
 
-accepts_written : (f : Feature) (value : ℕ) (save : Bool) (x : FeatureValue)
-    → is_accepted f value ≡ true
-    → accepts f x ≡ true → accepts f (written value save x) ≡ true
-accepts_written f value true x fits e = rw fits refl
-accepts_written f value false x fits e = rw fits (and_parts (is_accepted f x.current) _ e).1
+may_have_written : (f : Feature) (value : ℕ) (save : Bool) (x : FeatureValue)
+    → is_value f value ≡ true
+    → may_have f x ≡ true → may_have f (written value save x) ≡ true
+may_have_written f value true x fits e = rw fits refl
+may_have_written f value false x fits e = rw fits (and_parts (is_value f x.current) _ e).1
 
-module _ (f : Feature) (value : ℕ) (save : Bool) (fits : is_accepted f value ≡ true) (vwc : ℕ)
-    (attached : Nsids) where
-  one_value : (values : FeatureValues) (n : ℕ) → AreValues vwc attached values
-      → AreValues vwc attached (with_value f value save values n)
-  one_value values n are = by (map_of.get values (key_of f n)) refl
+module _ (f : Feature) (value : ℕ) (save : Bool) (fits : is_accepted f value ≡ true)
+    (rules : FeatureRules) (vwc : ℕ) (attached : Nsids) where
+  abbrev AreHere : FeatureValues → Type 0
+  AreHere = AreValues rules vwc attached
+
+  one_selector : (values : FeatureValues) (n s : ℕ) → AreHere values
+      → AreHere (changed_at (write f value save) values (key_of f n s))
+  one_selector values n s are = by (map_of.get values (key_of f n s)) refl
     where
-      by : (o : Option FeatureValue) → map_of.get values (key_of f n) ≡ o → AreValues vwc attached
-          (option_map_or (λ x. map_of.insert values (key_of f n) (written value save x)) o values)
-      by None e = are
+      by : (o : Option FeatureValue) → map_of.get values (key_of f n s) ≡ o
+          → AreHere (option_map_or (map_of.insert values (key_of f n s))
+          (option_map (written (stored f value) save) o)
+          (map_of.remove values (key_of f n s)))
+      by None e = subst AreHere (sym (removed_absent values (key_of f n s) e)) are
       by (Some x) e =
-          values-written vwc attached values are (key_of f n) (written value save x) (ap is_some e)
-          (accepted_at f (if (row_of f).per_namespace then n else 0) (written value save x)
-          (accepts_written f value save x fits (accepts_at f n x (are.accepted (key_of f n) x e))))
+          values-written rules vwc attached values are (key_of f n s)
+          (written (stored f value) save x) (ap is_some e)
+          (sound_at f n s (written (stored f value) save x)
+          (may_have_written f (stored f value) save x (stored_is_value f value fits)
+          (sound_value f n s x (are.sound (key_of f n s) x e))))
 
-  all_values : (ns : List ℕ) (values : FeatureValues) → AreValues vwc attached values
-      → AreValues vwc attached (fold (with_value f value save) values ns)
+  some_selectors : (n : ℕ) (ss : List ℕ) (values : FeatureValues) → AreHere values
+      → AreHere (changed (write f value save) (map (key_of f n) ss) values)
+  some_selectors n [] values are = are
+  some_selectors n (s ∷ ss) values are =
+      some_selectors n ss (changed_at (write f value save) values (key_of f n s))
+      (one_selector values n s are)
+
+  all_values : (ns : List ℕ) (values : FeatureValues) → AreHere values
+      → AreHere (fold (with_value f value save) values ns)
   all_values [] values are = are
   all_values (n ∷ ns) values are =
-      all_values ns (with_value f value save values n) (one_value values n are)
-
-pub written_each : (f : Feature) (value : ℕ) (save : Bool) (ns : List ℕ) (values : FeatureValues)
-    → fold (with_value f value save) values ns ≡ changed_at_keys (map (key_of f) ns)
-    (written value save) values
-written_each f value save ns values =
-    sym (fold-map (λ m k. option_map_or (λ x. map_of.insert m k (written value save x))
-    (map_of.get m k) m)
-    (key_of f) values ns)
-    ∙ folded nat_list_cmp_total (slice_cmp-IsAntisymmetric nat_cmp-IsAntisymmetric)
-    (written value save)
-    (twice save) (map (key_of f) ns) values
-  where
-    twice : (b : Bool) (x : FeatureValue) → written value b (written value b x) ≡ written value b x
-    twice true x = refl
-    twice false x = refl
+      all_values ns (with_value f value save values n)
+      (some_selectors n (row_of f).selectors values are)
 
 set_keeps : (f : Feature) (value : ℕ) (save : Bool) (ns : List ℕ) → is_accepted f value ≡ true
     → Keeps (with_values f value save ns)
@@ -134,12 +130,11 @@ set_keeps f value save ns fits = record {
     commands = h.commands;
     attached = h.attached;
     values =
-        subst (AreValues x.identity.numbers.vwc x.attached) (written_each f value save ns x.values)
-        (all_values f value save fits x.identity.numbers.vwc x.attached ns x.values h.values);
+        all_values f value save fits x.rules x.identity.numbers.vwc x.attached ns x.values h.values;
   };
 }
 
--- an accepted set gives a value that the feature accepts
+-- an accepted set has a dword that the feature accepts
 module _ (s : State) (c fid value : ℕ) (save : Bool) (n : ℕ) (f : Feature) where
   abbrev accepted_by : Option Feature → Type 0
   accepted_by o = first_refusal
@@ -153,16 +148,16 @@ module _ (s : State) (c fid value : ℕ) (save : Bool) (n : ℕ) (f : Feature) w
   by_support false g accepted same = absurd (cc accepted)
 
   by_feature : (x : Controller) (o : Option Feature)
-      → accepted_by (option_map_or (λ g. if is_supported x.identity.numbers.vwc g then Some g else
+      → accepted_by (option_map_or (λ g. if is_supported x.rules x.identity.numbers.vwc g then Some g else
       None) o None)
       → o ≡ Some f → is_accepted f value ≡ true
   by_feature x None accepted e = absurd (cc e)
   by_feature x (Some g) accepted e =
       let same : g ≡ f = cc e in
-      by_support (is_supported x.identity.numbers.vwc g) g accepted same
+      by_support (is_supported x.rules x.identity.numbers.vwc g) g accepted same
 
   by_controller : (x : Option Controller)
-      → accepted_by (option_map_or (λ x. supported x.identity.numbers.vwc fid) x None)
+      → accepted_by (option_map_or (λ x. supported x.rules x.identity.numbers.vwc fid) x None)
       → feature_of fid ≡ Some f → is_accepted f value ≡ true
   by_controller None accepted e = absurd (cc accepted)
   by_controller (Some x) accepted e = by_feature x (feature_of fid) accepted e
@@ -196,24 +191,6 @@ feature_controllers s c fid value save n = by (feature_of fid)
 
 -- ---- a number that is told
 
-mask_fits : (f : Feature) → (row_of f).mask < 2 ^ 32
-mask_fits feature.Arbitration = lit< tt
-mask_fits feature.PowerManagement = lit< tt
-mask_fits feature.ErrorRecovery = lit< tt
-mask_fits feature.VolatileWriteCache = lit< tt
-mask_fits feature.InterruptCoalescing = lit< tt
-mask_fits feature.WriteAtomicityNormal = lit< tt
-mask_fits feature.AsynchronousEventConfiguration = lit< tt
-
-value_fits : (f : Feature) (v : ℕ) → is_accepted f v ≡ true → v < 2 ^ 32
-value_fits f v e =
-    let masked = is_same (bit_and v (row_of f).mask) v
-    (and_parts (bit_and v (row_of f).mask == v) (bit_and v (row_of f).clear == 0) e).0 in
-    omega (arith, masked, and_le_r v (row_of f).mask, mask_fits f)
-  where
-    is_same : (a b : ℕ) → (a == b) ≡ true → a ≡ b
-    is_same a b e = grind (arith, nat_tests)
-
 capabilities_fit : (a b c : Bool)
     → (if a then 1 else 0) + (if b then 2 else 0) + (if c then 4 else 0) < 2 ^ 32
 capabilities_fit true true true = lit< tt
@@ -225,33 +202,32 @@ capabilities_fit false true false = lit< tt
 capabilities_fit false false true = lit< tt
 capabilities_fit false false false = lit< tt
 
-selected_fits : (rule : FeatureRule) (f : Feature) (sel : ℕ) (x : FeatureValue)
-    → is_accepted f rule.default ≡ true
-    → accepts f x ≡ true → selected rule f sel x < 2 ^ 32
-selected_fits rule f sel x default is =
-    let parts =
-    and_parts (is_accepted f x.current) (option_map_or (is_accepted f) x.saved true) is in
+selected_fits : (rule : FeatureRule) (f : Feature) (sel selector : ℕ) (x : FeatureValue)
+    → is_value f (default_of rule selector) ≡ true
+    → may_have f x ≡ true → selected rule f sel selector x < 2 ^ 32
+selected_fits rule f sel selector x default is =
+    let parts = and_parts (is_value f x.current) (option_map_or (is_value f) x.saved true) is in
+    let first = value_fits f (default_of rule selector) default in
     chosen_fits (λ n. n < 2 ^ 32) (sel == 0) _ _ (value_fits f x.current parts.0)
-    (chosen_fits (λ n. n < 2 ^ 32) (sel == 1) _ _ (value_fits f rule.default default)
+    (chosen_fits (λ n. n < 2 ^ 32) (sel == 1) _ _ first
     (chosen_fits (λ n. n < 2 ^ 32) (sel == 2) _ _ (saved_fits x.saved parts.1)
     (capabilities_fit rule.saveable (row_of f).per_namespace rule.changeable)))
   where
-    saved_fits : (o : Option ℕ) → option_map_or (is_accepted f) o true ≡ true
-        → unwrap_or o rule.default < 2 ^ 32
-    saved_fits None e = value_fits f rule.default default
+    saved_fits : (o : Option ℕ) → option_map_or (is_value f) o true ≡ true
+        → unwrap_or o (default_of rule selector) < 2 ^ 32
+    saved_fits None e = value_fits f (default_of rule selector) default
     saved_fits (Some v) e = value_fits f v e
 
 told_fits : (s : State) (x : Controller) → IsController s.namespaces x → (f : Feature) (sel n : ℕ)
     → told f sel n x < 2 ^ 32
-told_fits s x is f sel n = by (map_of.get x.values (key_of f n)) refl
+told_fits s x is f sel n = by (map_of.get x.values (key_of f n 0)) refl
   where
-    by : (o : Option FeatureValue) → map_of.get x.values (key_of f n) ≡ o
-        → option_map_or (selected (rule_of x.rules f) f sel) o 0 < 2 ^ 32
+    by : (o : Option FeatureValue) → map_of.get x.values (key_of f n 0) ≡ o
+        → option_map_or (selected (rule_of x.rules f) f sel 0) o 0 < 2 ^ 32
     by None e = lit< tt
-    by (Some v) e = selected_fits (rule_of x.rules f) f sel v
-        (and_parts (is_accepted f (rule_of x.rules f).default) true
-        (default_accepted x.rules is.rules f)).0
-        (accepts_at f n v (is.values.accepted (key_of f n) v e))
+    by (Some v) e = selected_fits (rule_of x.rules f) f sel 0 v
+        (default_is_sound x.rules is.rules f 0)
+        (sound_value f n 0 v (is.values.sound (key_of f n 0) v e))
 
 pub feature_number_fits : (s : State) (c fid sel n : ℕ) → IsWellFormed s
     → feature_number s c fid sel n < 2 ^ 32

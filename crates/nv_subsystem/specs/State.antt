@@ -1,15 +1,12 @@
 -- An NVM subsystem as a value: what commands read and change, and nothing of how they travel.
-use Rattle.std.specs.Prelude.{ℕ, zero, suc, List, [], ◌∷◌, Option, slice_get, unwrap_or}
+use Rattle.std.specs.Prelude.{ℕ, zero, suc, List, [], ◌∷◌, Option, slice_get}
 use Rattle.std.specs.Ordering.{nat_cmp}
 use Rattle.std.specs.FinMap as map_of
 use Rattle.std.specs.FinSet as set_of
-use Rattle.nv_layout.specs.Feature.{row_of}
-use Rattle.nv_layout.specs.declared.feature.Feature.{Feature}
 use Rattle.nv_file.specs.Identity.{Identity}
-use Rattle.nv_subsystem.specs.FeatureValue.{default_rule}
-use Rattle.nv_subsystem.specs.ValueTable.{FeatureValues}
+use Rattle.nv_subsystem.specs.FeatureRules.{FeatureRules}
+use Rattle.nv_subsystem.specs.ValueKey.{FeatureValues}
 use Rattle.nv_layout.specs.declared.error_entry.ErrorEntry.{ErrorEntry}
-use Rattle.nv_file.specs.declared.feature_rule.FeatureRule.{FeatureRule}
 use Rattle.nv_file.specs.declared.format.Format.{Format}
 use Rattle.nv_file.specs.declared.namespace.Namespace.{Namespace}
 use Rattle.nv_file.specs.declared.smart_base.SmartBase.{SmartBase}
@@ -20,14 +17,6 @@ Namespaces = map_of.FinMap nat_cmp Namespace
 
 abbrev pub Nsids : Type 0
 Nsids = set_of.FinSet nat_cmp
-
--- how a controller treats features, by feature identifier
-abbrev pub FeatureRules : Type 0
-FeatureRules = map_of.FinMap nat_cmp FeatureRule
-
--- how it treats one
-abbrev pub rule_of : FeatureRules → Feature → FeatureRule
-rule_of rules f = unwrap_or (map_of.get rules (row_of f).fid) (default_rule (row_of f).fid)
 
 -- a controller: what its file table gives, its error log newest first and without phase tags, how
 -- many commands it refused and how many it took, the NSIDs that are attached to it, and the values

@@ -5,8 +5,9 @@ use Rattle.std.specs.FinSet as set_of
 use Rattle.std.specs.Coded.{Coded, code_by, coded×, coded_ℕ, coded_bool, coded_list}
 use Rattle.nv_subsystem.specs.ErrorLog.{entry_code}
 use Rattle.nv_file.specs.Identity.{Identity}
-use Rattle.nv_subsystem.specs.State.{Controller, FeatureRules, State, Namespaces, Nsids}
-use Rattle.nv_subsystem.specs.ValueTable.{FeatureValues, feature_values_code}
+use Rattle.nv_subsystem.specs.FeatureRules.{FeatureRules}
+use Rattle.nv_subsystem.specs.State.{Controller, State, Namespaces, Nsids}
+use Rattle.nv_subsystem.specs.ValueKey.{FeatureValues, feature_values_code}
 use Rattle.nv_layout.specs.declared.error_entry.ErrorEntry.{ErrorEntry}
 use Rattle.nv_file.specs.declared.smart_base.Counters.{Counters}
 use Rattle.nv_file.specs.declared.feature_rule.FeatureRule.{FeatureRule}

@@ -1,94 +1,92 @@
 -- Laws of the values of features under their keys.
-use Rattle.std.proofs.Common.{◌≡◌, ◌∙◌, ℕ, ◌==◌, ◌<◌, lit<, ◌&&◌, Bool, true, false, cond, List, []}
-use Rattle.std.proofs.Common.{◌∷◌, Some, None, refl, sym, ap, Ordering}
+use Rattle.std.proofs.Common.{◌≡◌, ◌∙◌, ℕ, ◌==◌, ◌&&◌, Bool, true, false, cond}
+use Rattle.std.proofs.Common.{Some, None, refl, sym, ap, arith, Ordering}
+use Rattle.std.proofs.lemmas.Bool.Decides.{nat_tests}
 use Rattle.std.specs.Ordering.{eq_by_cmp, is_eq, nat_cmp, ordering_then}
 use Rattle.std.specs.declared.cmp.Ordering.TheVariants.{Less, Equal, Greater}
-use Rattle.std.specs.Cmp.{Equal-is, unsigned_tied}
-use Rattle.std.specs.Cmp.Lexicographic.{slice_cmp, nat_list_cmp_total}
+use Rattle.std.specs.Cmp.{Equal-is, IsTotalOrder, unsigned_tied}
+use Rattle.std.specs.Cmp.Lexicographic.{nat_list_cmp_total}
 use Rattle.std.specs.FinMap as map_of
-use Rattle.std.specs.FinMap.{get-insert, get-remove, get-retain_keys, nat_cmp-IsAntisymmetric}
-use Rattle.std.specs.FinMap.{same_map, slice_cmp-IsAntisymmetric}
-use Rattle.nv_layout.specs.Feature.{row_of}
-use Rattle.nv_layout.specs.declared.feature.Feature.{Feature}
-use Rattle.nv_layout.specs.declared.feature.Feature.TheVariants as feature
-use Rattle.nv_layout.specs.declared.feature.Feature.TheVariants.{ErrorRecovery}
-use Rattle.nv_subsystem.specs.declared.feature_values.TheConstants.{FEATURE_LIMIT}
-use Rattle.nv_subsystem.specs.ValueTable.{FeatureValues, value_key}
+use Rattle.std.specs.FinMap.{IsAntisymmetric, get-insert, get-remove, get-retain_keys}
+use Rattle.std.specs.FinMap.{nat_cmp-IsAntisymmetric, same_map, slice_cmp-IsAntisymmetric}
+use Rattle.nv_subsystem.specs.ValueKey.{FeatureValues, ValueKey, key_cmp, numbers_of}
 use Rattle.nv_subsystem.specs.declared.feature_value.FeatureValue.{FeatureValue}
 
+-- ---- the order of keys
+
+pub key_cmp_total : IsTotalOrder key_cmp
+key_cmp_total = record {
+  antisymm = λ x y. nat_list_cmp_total.antisymm (numbers_of x) (numbers_of y);
+  trans = λ x y z. nat_list_cmp_total.trans (numbers_of x) (numbers_of y) (numbers_of z);
+  congr = λ x y z. nat_list_cmp_total.congr (numbers_of x) (numbers_of y) (numbers_of z);
+}
+
+pub key_cmp-IsAntisymmetric : IsAntisymmetric key_cmp
+key_cmp-IsAntisymmetric x y e =
+    let same : numbers_of x ≡ numbers_of y =
+    slice_cmp-IsAntisymmetric nat_cmp-IsAntisymmetric (numbers_of x) (numbers_of y) e in
+    let fid : x.fid ≡ y.fid = cc in
+    let nsid : x.nsid ≡ y.nsid = cc in
+    let selector : x.selector ≡ y.selector = cc in
+    λ i. record { fid = fid i; nsid = nsid i; selector = selector i }
+
 -- the same key
-abbrev pub is_key : List ℕ → List ℕ → Bool
-is_key q k = eq_by_cmp (slice_cmp nat_cmp) q k
+abbrev pub is_key : ValueKey → ValueKey → Bool
+is_key q k = eq_by_cmp key_cmp q k
 
-then_equal : (r s : Ordering) → is_eq (ordering_then r (ordering_then s Equal))
-    ≡ (is_eq r && is_eq s)
-then_equal Less s = refl
-then_equal Equal Less = refl
-then_equal Equal Equal = refl
-then_equal Equal Greater = refl
-then_equal Greater s = refl
+pub same_key : (q k : ValueKey) → is_key q k ≡ true → q ≡ k
+same_key q k e = key_cmp-IsAntisymmetric q k ((Equal-is (key_cmp q k)).0 e)
 
-pub is_value_key : (a q f n : ℕ) → is_key (value_key a q) (value_key f n) ≡ ((a == f) && (q == n))
-is_value_key a q f n = then_equal (nat_cmp a f) (nat_cmp q n)
-    ∙ λ i. unsigned_tied a f i && unsigned_tied q n i
+then_equal : (r s t : Ordering)
+    → is_eq (ordering_then r (ordering_then s (ordering_then t Equal)))
+    ≡ (is_eq r && (is_eq s && is_eq t))
+then_equal Less s t = refl
+then_equal Equal Less t = refl
+then_equal Equal Equal Less = refl
+then_equal Equal Equal Equal = refl
+then_equal Equal Equal Greater = refl
+then_equal Equal Greater t = refl
+then_equal Greater s t = refl
 
-pub same_key : (q k : List ℕ) → is_key q k ≡ true → q ≡ k
-same_key q k e =
-    slice_cmp-IsAntisymmetric nat_cmp-IsAntisymmetric q k ((Equal-is (slice_cmp nat_cmp q k)).0 e)
+pub by_numbers : (q k : ValueKey) → is_key q k
+    ≡ ((q.fid == k.fid) && ((q.nsid == k.nsid) && (q.selector == k.selector)))
+by_numbers q k = then_equal (nat_cmp q.fid k.fid) (nat_cmp q.nsid k.nsid)
+    (nat_cmp q.selector k.selector)
+    ∙ λ i. unsigned_tied q.fid k.fid i
+    && (unsigned_tied q.nsid k.nsid i && unsigned_tied q.selector k.selector i)
 
--- a key of another length is another key
-then_other : (r s : Ordering) → is_eq s ≡ false → is_eq (ordering_then r s) ≡ false
-then_other Less s e = refl
-then_other Equal s e = e
-then_other Greater s e = refl
-
-pub shorter_key : (a f n : ℕ) → is_key (a ∷ []) (value_key f n) ≡ false
-shorter_key a f n = then_other (nat_cmp a f) Less refl
-
-pub longer_key : (a q b : ℕ) (rest : List ℕ) (f n : ℕ) → is_key (a ∷ q ∷ b ∷ rest) (value_key f n)
-    ≡ false
-longer_key a q b rest f n =
-    then_other (nat_cmp a f) (ordering_then (nat_cmp q n) Greater)
-    (then_other (nat_cmp q n) Greater refl)
+pub is_itself : (k : ValueKey) → is_key k k ≡ true
+is_itself k = by_numbers k k ∙ λ i. same k.fid i && (same k.nsid i && same k.selector i)
+  where
+    same : (n : ℕ) → (n == n) ≡ true
+    same n = grind (arith, nat_tests)
 
 -- ---- what is found after a change
 
-pub value_of_insert : (m : FeatureValues) (k : List ℕ) (x : FeatureValue) (q : List ℕ)
+pub value_of_insert : (m : FeatureValues) (k : ValueKey) (x : FeatureValue) (q : ValueKey)
     → map_of.get (map_of.insert m k x) q ≡ cond (is_key q k) (Some x) (map_of.get m q)
-value_of_insert m k x q = get-insert nat_list_cmp_total m k x q
+value_of_insert m k x q = get-insert key_cmp_total m k x q
 
-pub value_of_remove : (m : FeatureValues) (k q : List ℕ)
+pub value_of_remove : (m : FeatureValues) (k q : ValueKey)
     → map_of.get (map_of.remove m k) q ≡ cond (is_key q k) None (map_of.get m q)
-value_of_remove m k q = get-remove nat_list_cmp_total m k q
+value_of_remove m k q = get-remove key_cmp_total m k q
 
-pub value_of_retain : (m : FeatureValues) (p : List ℕ → Bool) (q : List ℕ)
+pub value_of_retain : (m : FeatureValues) (p : ValueKey → Bool) (q : ValueKey)
     → map_of.get (map_of.retain_keys m p) q ≡ cond (p q) (map_of.get m q) None
-value_of_retain m p q = get-retain_keys m p q
-    (λ x e. ap p (sym (slice_cmp-IsAntisymmetric nat_cmp-IsAntisymmetric q x e)))
+value_of_retain m p q =
+    get-retain_keys m p q (λ x e. ap p (sym (key_cmp-IsAntisymmetric q x e)))
 
-pub same_values : (m n : FeatureValues) → ((q : List ℕ) → map_of.get m q ≡ map_of.get n q) → m ≡ n
-same_values m n =
-    same_map nat_list_cmp_total (slice_cmp-IsAntisymmetric nat_cmp-IsAntisymmetric) m n
+pub same_values : (m n : FeatureValues)
+    → ((q : ValueKey) → map_of.get m q ≡ map_of.get n q) → m ≡ n
+same_values m n = same_map key_cmp_total key_cmp-IsAntisymmetric m n
 
--- ---- the features in their table
-
--- the one whose value each namespace has for itself
-pub of_namespaces : (f : Feature) → (row_of f).per_namespace ≡ true → f ≡ ErrorRecovery
-of_namespaces feature.Arbitration e = absurd (cc e)
-of_namespaces feature.PowerManagement e = absurd (cc e)
-of_namespaces feature.ErrorRecovery e = refl
-of_namespaces feature.VolatileWriteCache e = absurd (cc e)
-of_namespaces feature.InterruptCoalescing e = absurd (cc e)
-of_namespaces feature.WriteAtomicityNormal e = absurd (cc e)
-of_namespaces feature.AsynchronousEventConfiguration e = absurd (cc e)
-
--- any other has another identifier
-pub other_identifier : (f : Feature) → (row_of f).per_namespace ≡ false
-    → ((row_of f).fid == 5) ≡ false
-other_identifier feature.Arbitration e = refl
-other_identifier feature.PowerManagement e = refl
-other_identifier feature.ErrorRecovery e = absurd (cc e)
-other_identifier feature.VolatileWriteCache e = refl
-other_identifier feature.InterruptCoalescing e = refl
-other_identifier feature.WriteAtomicityNormal e = refl
-other_identifier feature.AsynchronousEventConfiguration e = refl
+-- what isn't there can be taken away
+pub removed_absent : (m : FeatureValues) (k : ValueKey) → map_of.get m k ≡ None
+    → map_of.remove m k ≡ m
+removed_absent m k none =
+    same_values _ m (λ q. value_of_remove m k q ∙ at_test q (is_key q k) refl)
+  where
+    at_test : (q : ValueKey) (b : Bool) → is_key q k ≡ b → cond b None (map_of.get m q)
+        ≡ map_of.get m q
+    at_test q true e = sym (ap (map_of.get m) (same_key q k e) ∙ none)
+    at_test q false e = refl

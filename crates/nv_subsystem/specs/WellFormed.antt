@@ -1,18 +1,19 @@
 -- What holds of every subsystem that a file gives, and after every command.
-use Rattle.std.specs.Prelude.{◌≡◌, ◌≢◌, ℕ, ◌+◌, ◌≤◌, ◌==◌, ◌&&◌, Bool, List, [], ◌∷◌, min, true}
-use Rattle.std.specs.Prelude.{false, length, count_by, All, AllPairs, Some, IsSomeAnd, slice_get}
+use Rattle.std.specs.Prelude.{◌≡◌, ◌≢◌, ℕ, ◌+◌, ◌≤◌, ◌==◌, ◌&&◌, Bool, min, true}
+use Rattle.std.specs.Prelude.{false, if◌then◌else◌, length, count_by, All, AllPairs, Some, IsSomeAnd, slice_get}
 use Rattle.std.specs.FinMap as map_of
 use Rattle.nv_subsystem.specs.Capacity.{used}
 use Rattle.nv_file.specs.Ranges.{AreTopKeys, IsFeatureRule, IsFormat, IsIdentity, IsInFormat}
 use Rattle.nv_file.specs.Ranges.{IsSmart}
 use Rattle.std.specs.Option.{option_map_or}
-use Rattle.nv_layout.specs.Feature.{feature_of, is_accepted, row_of}
+use Rattle.nv_layout.specs.Feature.{feature_of, has_selector, is_value, row_of}
 use Rattle.nv_layout.specs.declared.feature.Feature.{Feature}
 use Rattle.nv_file.specs.declared.feature_rule.FeatureRule.{FeatureRule}
 use Rattle.nv_subsystem.specs.Supported.{is_supported}
-use Rattle.nv_subsystem.specs.ValueTable.{FeatureValues, recovery_key, value_key}
+use Rattle.nv_subsystem.specs.FeatureRules.{FeatureRules}
+use Rattle.nv_subsystem.specs.ValueKey.{FeatureValues, ValueKey}
 use Rattle.nv_subsystem.specs.declared.feature_value.FeatureValue.{FeatureValue}
-use Rattle.nv_subsystem.specs.State.{Controller, FeatureRules, Namespaces, Nsids, State}
+use Rattle.nv_subsystem.specs.State.{Controller, Namespaces, Nsids, State}
 use Rattle.nv_subsystem.specs.declared.controller.TheConstants.{GREATEST_COUNT}
 use Rattle.nv_layout.specs.ErrorEntry.{ErrorEntryFits}
 use Rattle.nv_file.specs.declared.namespace.Namespace.{Namespace}
@@ -22,25 +23,31 @@ abbrev pub AreRules : FeatureRules → Type 0
 AreRules rules = (fid : ℕ) (r : FeatureRule) → map_of.get rules fid ≡ Some r
     → IsFeatureRule r × (r.fid ≡ fid)
 
--- a feature accepts a value, the saved one too
-abbrev pub accepts : Feature → FeatureValue → Bool
-accepts f x = is_accepted f x.current && option_map_or (is_accepted f) x.saved true
+-- what a feature may have, the saved value too
+abbrev pub may_have : Feature → FeatureValue → Bool
+may_have f x = is_value f x.current && option_map_or (is_value f) x.saved true
 
--- a value under the key of a feature that accepts it
-abbrev pub is_value_at : List ℕ → FeatureValue → Bool
-is_value_at [] x = false
-is_value_at (fid ∷ []) x = false
-is_value_at (fid ∷ nsid ∷ []) x = option_map_or (λ f. accepts f x) (feature_of fid) false
-is_value_at (fid ∷ nsid ∷ other ∷ rest) x = false
+-- a value under the key of a feature that may have it
+abbrev pub is_value_at : ValueKey → FeatureValue → Bool
+is_value_at k x = option_map_or (λ f. may_have f x) (feature_of k.fid) false
 
--- Error Recovery has a value exactly for each attached NSID, any other supported feature has one,
--- and the features accept them
-pub record AreValues (vwc : ℕ) (attached : Nsids) (values : FeatureValues) : Type 0 where
-  pub recovery : (n : ℕ)
-      → map_of.contains_key values (recovery_key n) ≡ map_of.contains_key attached n
-  pub others : (f : Feature) → (row_of f).per_namespace ≡ false → (n : ℕ)
-      → map_of.contains_key values (value_key (row_of f).fid n) ≡ (is_supported vwc f && (n == 0))
-  pub accepted : (k : List ℕ) (x : FeatureValue) → map_of.get values k ≡ Some x
+-- the NSIDs under which a feature has values: the attached ones where each namespace has a value of
+-- its own, and else 0 alone
+abbrev pub is_nsid_of : Nsids → Feature → ℕ → Bool
+is_nsid_of attached f nsid =
+    if (row_of f).per_namespace then map_of.contains_key attached nsid else nsid == 0
+
+-- a supported feature has a value under each of its selectors
+abbrev pub has_value : FeatureRules → ℕ → Nsids → ValueKey → Bool
+has_value rules vwc attached k = option_map_or
+    (λ f. is_supported rules vwc f && (has_selector f k.selector && is_nsid_of attached f k.nsid))
+    (feature_of k.fid) false
+
+-- exactly these keys have a value, and one that their feature may have
+pub record AreValues (rules : FeatureRules) (vwc : ℕ) (attached : Nsids) (values : FeatureValues)
+    : Type 0 where
+  pub keys : (k : ValueKey) → map_of.contains_key values k ≡ has_value rules vwc attached k
+  pub sound : (k : ValueKey) (x : FeatureValue) → map_of.get values k ≡ Some x
       → is_value_at k x ≡ true
 
 -- a controller of the subsystem: what its file table gives is in range, it has only namespaces of
@@ -55,7 +62,7 @@ pub record IsController (namespaces : Namespaces) (x : Controller) : Type 0 wher
   pub commands : x.commands ≤ GREATEST_COUNT
   pub attached : (n : ℕ) → map_of.contains_key x.attached n ≡ true
       → map_of.contains_key namespaces n ≡ true
-  pub values : AreValues x.identity.numbers.vwc x.attached x.values
+  pub values : AreValues x.rules x.identity.numbers.vwc x.attached x.values
 
 -- a namespace of the subsystem
 pub record IsNamespace (s : State) (n : ℕ) (x : Namespace) : Type 0 where

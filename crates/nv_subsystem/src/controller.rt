@@ -6,7 +6,7 @@ ghost use Rattle.nv_bits.specs.Numbers.{IsOf};
 ghost use Rattle.nv_subsystem.specs.Attachment.{with_one};
 ghost use Rattle.nv_subsystem.specs.Management.{with_nsids, without, without_any};
 ghost use Rattle.nv_subsystem.specs.Sound.{IsSized};
-ghost use Rattle.nv_subsystem.specs.State.{rule_of};
+ghost use Rattle.nv_subsystem.specs.FeatureRules.{rule_of};
 ghost use Rattle.nv_subsystem.specs.Step.{next_count, with_refusal};
 
 use crate::error_log::ErrorLog;
@@ -54,7 +54,12 @@ impl Controller {
     {
         let rule = rule_of(&self.rules, Feature::ErrorRecovery);
         self.attached.insert(nsid);
-        self.values.insert(Feature::ErrorRecovery, nsid, FeatureValue::at_default(rule));
+        self.values.insert(
+            Feature::ErrorRecovery,
+            nsid,
+            0,
+            FeatureValue::at_default(rule, 0),
+        );
     }
 
     /// Detaches a namespace: its Error Recovery goes too.

@@ -1,9 +1,10 @@
 //! The value of a feature.
 
 ghost use Rattle.std.specs.Prelude.{◌≡◌};
-ghost use Rattle.nv_subsystem.specs.FeatureValue.{at_default, default_rule, written};
+ghost use Rattle.nv_subsystem.specs.FeatureValue.{at_default, default_of, default_rule, written};
 ghost use Rattle.nv_subsystem.specs.Supported.{is_supported};
 
+use nv_bits::Slots;
 use nv_file::FeatureRule;
 use nv_layout::Feature;
 
@@ -15,12 +16,12 @@ pub struct FeatureValue {
 }
 
 impl FeatureValue {
-    /// The value before any is set.
-    pub(crate) fn at_default(rule: FeatureRule) -> FeatureValue
-        ensures { result ≡ at_default rule }
+    /// The value under a selector before any is set.
+    pub(crate) fn at_default(rule: FeatureRule, selector: u8) -> FeatureValue
+        ensures { result ≡ at_default rule selector }
     {
         FeatureValue {
-            current: rule.default,
+            current: default_of(rule, selector),
             saved: None,
         }
     }
@@ -36,6 +37,14 @@ impl FeatureValue {
     }
 }
 
+/// The default under a selector.
+pub(crate) fn default_of(rule: FeatureRule, selector: u8) -> u32
+    ensures { result ≡ default_of rule selector }
+{
+    let _ = selector;
+    rule.default
+}
+
 /// How a controller treats a feature that has no table in the file.
 pub(crate) fn default_rule(fid: u8) -> FeatureRule
     ensures { result ≡ default_rule fid }
@@ -48,10 +57,11 @@ pub(crate) fn default_rule(fid: u8) -> FeatureRule
     }
 }
 
-/// Whether a controller with this Volatile Write Cache field has a feature.
-pub(crate) fn is_supported(vwc: u8, feature: Feature) -> bool
-    ensures { result ≡ is_supported vwc feature }
+/// Whether a controller with these rules and this Volatile Write Cache field has a feature.
+pub(crate) fn is_supported(rules: &Slots<FeatureRule>, vwc: u8, feature: Feature) -> bool
+    ensures { result ≡ is_supported rules.now.values vwc feature }
 {
+    let _ = rules;
     match feature {
         Feature::VolatileWriteCache => vwc & 1 == 1,
         _ => true,

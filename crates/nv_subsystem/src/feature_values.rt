@@ -1,13 +1,16 @@
 //! The values of the features of a controller.
 
-ghost use Rattle.std.specs.Prelude.{◌≡◌, ◌≤◌, ◌<◌, true, IfOk, IfSome};
+ghost use Rattle.std.specs.Prelude.{◌≡◌, ◌+◌, ◌^◌, ◌≤◌, ◌<◌, true, All, IfOk, IfSome, map};
 ghost use Rattle.std.specs.FinMap as map_of;
 ghost use Rattle.nv_bits.specs.Numbers.{IsOf};
-ghost use Rattle.nv_layout.specs.Feature.{row_of};
-ghost use Rattle.nv_subsystem.specs.Features.{with_value};
-ghost use Rattle.nv_subsystem.specs.ValueTable.{is_other_key, key_of, recovery_key};
+ghost use Rattle.nv_layout.specs.Feature.{has_selector, row_of};
+ghost use Rattle.nv_subsystem.specs.Change.{changed, changed_at};
+ghost use Rattle.nv_subsystem.specs.Features.{write};
+ghost use Rattle.nv_subsystem.specs.ValueKey.{is_alone, key_of, recovery_key};
+ghost use Rattle.nv_subsystem.specs.ValueTable.{slot_of};
 
 use crate::feature_value::FeatureValue;
+use crate::features::NewValue;
 use nv_bits::Slots;
 use nv_layout::Feature;
 use std::alloc::{AllocError, Global};
@@ -16,31 +19,45 @@ use std::marker::Model;
 /// One more than the greatest feature identifier.
 pub const FEATURE_LIMIT: u32 = 12;
 
-/// The values of the features of a controller, in room that is made once: Error Recovery's by NSID,
-/// and the others' by feature identifier.
+/// The slots of values without an NSID: 32 selectors for each feature identifier.
+const SLOTS_ALONE: u32 = 384;
+
+/// The values of the features of a controller, in room that is made once. Each has a slot by its
+/// feature and its selector, or by its NSID where each namespace has a value of its own.
 #[derive(Drop)]
 pub struct FeatureValues {
-    by_namespace: Slots<FeatureValue>,
-    by_feature: Slots<FeatureValue>,
+    slots: Slots<FeatureValue>,
 }
 
 impl Model for FeatureValues {
-    ghost use Rattle.std.specs.Prelude.{◌≡◌, None};
-    ghost use Rattle.std.specs.FinMap as map_of;
-    ghost use Rattle.nv_subsystem.specs.Features.{with_value};
-    ghost use Rattle.nv_subsystem.specs.ValueTable.{AreTables, ValueTable, value_table_code};
-    ghost use Rattle.nv_subsystem.specs.ValueTable.{values_of};
+    ghost use Rattle.std.specs.Prelude.{◌-◌};
+    ghost use Rattle.nv_subsystem.specs.ValueTable.{IsTable, ValueTable, slots_alone};
+    ghost use Rattle.nv_subsystem.specs.ValueTable.{value_table_code, values_of};
 
     ghost Value = { ValueTable };
 
     ghost coded = { value_table_code };
 
     ghost view = { λ s. record {
-      nn = s.by_namespace.count;
-      values = values_of s.by_namespace.values s.by_feature.values;
+      nn = s.slots.count - slots_alone;
+      values = values_of s.slots.values;
     } };
 
-    ghost invariant = { λ s. AreTables s.by_namespace s.by_feature };
+    ghost invariant = { λ s. IsTable s.slots };
+}
+
+/// The slot of a value.
+fn slot(feature: Feature, nsid: u32, selector: u8) -> u32
+    requires room { (row_of feature).per_namespace ≡ true → nsid + 384 ≤ 2 ^ 32 }
+    requires known { has_selector feature selector ≡ true }
+    ensures value { result ≡ slot_of (key_of feature nsid selector) }
+    ensures near { result < 384 + (key_of feature nsid selector).nsid }
+{
+    if feature.is_per_namespace() && nsid > 0 {
+        nsid + (SLOTS_ALONE - 1)
+    } else {
+        u32::from(feature.fid()) * 32 + u32::from(selector)
+    }
 }
 
 impl FeatureValues {
@@ -49,49 +66,47 @@ impl FeatureValues {
         requires { nn ≤ 1024 }
         ensures { IfOk result (λ s. s ≡ record { nn = nn; values = map_of.empty }) }
     {
-        let by_namespace = Slots::new(alloc, 1, nn)?;
-        let by_feature = Slots::new(alloc, 0, FEATURE_LIMIT)?;
-        Ok(FeatureValues {
-            by_namespace,
-            by_feature,
-        })
+        let slots = Slots::new(alloc, 0, SLOTS_ALONE + nn)?;
+        Ok(FeatureValues { slots })
     }
 
-    /// The value of a feature: that for the namespace where each has one of its own.
-    pub(crate) fn get(&self, feature: Feature, nsid: u32) -> Option<FeatureValue>
-        ensures value { result ≡ map_of.get self.now.values (key_of feature nsid) }
+    /// The value of a feature under a selector: that for the namespace where each has one of its own.
+    pub(crate) fn get(&self, feature: Feature, nsid: u32, selector: u8) -> Option<FeatureValue>
+        requires { has_selector feature selector ≡ true }
+        ensures value { result ≡ map_of.get self.now.values (key_of feature nsid selector) }
         ensures in_range { IfSome result
-            (λ _. (row_of feature).per_namespace ≡ true → IsOf 1 self.now.nn nsid) }
+            (λ _. (row_of feature).per_namespace ≡ true → nsid ≤ self.now.nn) }
     {
-        if feature.is_per_namespace() {
-            self.by_namespace.get(nsid)
-        } else {
-            self.by_feature.get(u32::from(feature.fid()))
+        let nn = self.slots.count() - SLOTS_ALONE;
+        if feature.is_per_namespace() && nsid > nn {
+            return None;
         }
+        self.slots.get(slot(feature, nsid, selector))
     }
 
-    /// Gives a feature a value: that for the namespace where each has one of its own.
-    pub(crate) fn insert(&mut self, feature: Feature, nsid: u32, value: FeatureValue)
-        requires { (row_of feature).per_namespace ≡ true → IsOf 1 self.old.nn nsid }
+    /// Gives a feature a value under a selector: that for the namespace where each has one of its
+    /// own.
+    pub(crate) fn insert(&mut self, feature: Feature, nsid: u32, selector: u8, value: FeatureValue)
+        requires known { has_selector feature selector ≡ true }
+        requires in_range { (row_of feature).per_namespace ≡ true → nsid ≤ self.old.nn }
         ensures { self.new ≡ record self.old {
-          values = map_of.insert self.old.values (key_of feature nsid) value;
+          values = map_of.insert self.old.values (key_of feature nsid selector) value;
         } }
     {
-        if feature.is_per_namespace() {
-            self.by_namespace.insert(nsid, value);
-        } else {
-            self.by_feature.insert(u32::from(feature.fid()), value);
-        }
+        self.slots.insert(slot(feature, nsid, selector), value);
     }
 
-    /// Writes over the value of a feature, where it is there.
-    pub(crate) fn write(&mut self, feature: Feature, nsid: u32, value: u32, save: bool)
+    /// Writes over the value of a feature under a selector, where it is there.
+    pub(crate) fn write(&mut self, feature: Feature, nsid: u32, selector: u8, asked: NewValue)
+        requires { has_selector feature selector ≡ true }
         ensures { self.new ≡ record self.old {
-          values = with_value feature value save self.old.values nsid;
+          values = changed_at (write feature asked.value asked.save) self.old.values
+              (key_of feature nsid selector);
         } }
     {
-        if let Some(old) = self.get(feature, nsid) {
-            self.insert(feature, nsid, old.written(value, save));
+        if let Some(old) = self.get(feature, nsid, selector) {
+            let value = old.written(feature.stored(asked.value), asked.save);
+            self.insert(feature, nsid, selector, value);
         }
     }
 
@@ -101,15 +116,19 @@ impl FeatureValues {
           values = map_of.remove self.old.values (recovery_key nsid);
         } }
     {
-        self.by_namespace.remove(nsid);
+        if nsid <= self.slots.count() - SLOTS_ALONE {
+            self.slots.remove(slot(Feature::ErrorRecovery, nsid, 0));
+        }
     }
 
     /// Takes away what any namespace has.
     pub(crate) fn clear(&mut self)
         ensures { self.new ≡ record self.old {
-          values = map_of.retain_keys self.old.values is_other_key;
+          values = map_of.retain_keys self.old.values is_alone;
         } }
     {
-        self.by_namespace.clear();
+        while let Some(number) = self.slots.next_above(SLOTS_ALONE - 1) {
+            self.slots.remove(number);
+        }
     }
 }

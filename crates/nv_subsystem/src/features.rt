@@ -1,21 +1,22 @@
 //! Get Features and Set Features: when they are refused, what they answer, and what they change.
 //! Sections "Get Features command" and "Set Features command".
 
-ghost use Rattle.std.specs.Prelude.{◌≡◌, ◌<◌, ℕ, length, map};
-ghost use Rattle.nv_subsystem.specs.ChangedKeys.{changed_at_keys};
+ghost use Rattle.std.specs.Prelude.{◌≡◌, ◌<◌, ℕ, true, length, map, All};
+ghost use Rattle.std.specs.List.{fold};
+ghost use Rattle.nv_layout.specs.Feature.{has_selector};
+ghost use Rattle.nv_subsystem.specs.Change.{changed};
 ghost use Rattle.nv_subsystem.specs.ControllerView.{controller_view};
 ghost use Rattle.nv_subsystem.specs.Features.{capabilities, feature_number, get_feature_rows};
 ghost use Rattle.nv_subsystem.specs.Features.{get_rows, rule_at, selected, set_feature_rows};
 ghost use Rattle.nv_subsystem.specs.Features.{set_rows, supported_at, told, with_feature};
-ghost use Rattle.nv_subsystem.specs.Features.{with_values};
-ghost use Rattle.nv_subsystem.specs.FeatureValue.{written};
+ghost use Rattle.nv_subsystem.specs.Features.{with_value, with_values, write};
 ghost use Rattle.nv_subsystem.specs.Row.{Checks};
 ghost use Rattle.nv_subsystem.specs.Sound.{IsSized};
 ghost use Rattle.nv_subsystem.specs.State.{with_controller};
-ghost use Rattle.nv_subsystem.specs.ValueTable.{key_of};
+ghost use Rattle.nv_subsystem.specs.ValueKey.{key_of};
 
 use crate::controller::{Controller, rule_of};
-use crate::feature_value::{FeatureValue, is_supported};
+use crate::feature_value::{FeatureValue, default_of, is_supported};
 use crate::feature_values::FeatureValues;
 use crate::row::{Row, check};
 use crate::subsystem::Subsystem;
@@ -52,26 +53,51 @@ fn capabilities(rule: FeatureRule, feature: Feature) -> u32
 }
 
 /// What a select names: the current value, the default, the saved one, or the capabilities.
-fn selected(rule: FeatureRule, feature: Feature, sel: ThreeBits, value: FeatureValue) -> u32
-    ensures { result ≡ selected rule feature sel value }
+fn selected(
+    rule: FeatureRule,
+    feature: Feature,
+    sel: ThreeBits,
+    selector: u8,
+    value: FeatureValue,
+) -> u32
+    ensures { result ≡ selected rule feature sel selector value }
 {
+    let default = default_of(rule, selector);
     match sel.get() {
         0 => value.current,
-        1 => rule.default,
-        2 => value.saved.unwrap_or(rule.default),
+        1 => default,
+        2 => value.saved.unwrap_or(default),
         _ => capabilities(rule, feature),
+    }
+}
+
+/// Writes over a feature's values under some selectors, where they are there.
+fn write_selectors(
+    values: &mut FeatureValues,
+    feature: Feature,
+    asked: NewValue,
+    nsid: u32,
+    selectors: &[u8],
+)
+    requires { All (λ s. has_selector feature s ≡ true) selectors.now }
+    ensures { values.new ≡ record values.old {
+      values = changed (write feature asked.value asked.save)
+          (map (key_of feature nsid) selectors.now) values.old.values;
+    } }
+{
+    for selector in selectors {
+        values.write(feature, nsid, *selector, asked);
     }
 }
 
 /// Writes over a feature's values for some namespaces, where they are there.
 fn write_each(values: &mut FeatureValues, feature: Feature, asked: NewValue, nsids: &[u32])
     ensures { values.new ≡ record values.old {
-      values = changed_at_keys (map (key_of feature) nsids.now) (written asked.value asked.save)
-          values.old.values;
+      values = fold (with_value feature asked.value asked.save) values.old.values nsids.now;
     } }
 {
     for nsid in nsids {
-        values.write(feature, *nsid, asked.value, asked.save);
+        write_selectors(values, feature, asked, *nsid, feature.selectors());
     }
 }
 
@@ -80,8 +106,8 @@ impl Controller {
     fn told(&self, feature: Feature, sel: ThreeBits, nsid: u32) -> u32
         ensures { result ≡ told feature sel nsid (controller_view self.now) }
     {
-        match self.values.get(feature, nsid) {
-            Some(value) => selected(rule_of(&self.rules, feature), feature, sel, value),
+        match self.values.get(feature, nsid, 0) {
+            Some(value) => selected(rule_of(&self.rules, feature), feature, sel, 0, value),
             None => 0,
         }
     }
@@ -110,9 +136,10 @@ impl Subsystem {
         requires { ctrl < length self.now.controllers }
         ensures { result ≡ supported_at self.now ctrl fid }
     {
-        let vwc = self.controllers[ctrl as usize].identity.numbers.vwc;
+        let controller = &self.controllers[ctrl as usize];
+        let vwc = controller.identity.numbers.vwc;
         match Feature::of(fid) {
-            Some(feature) if is_supported(vwc, feature) => Some(feature),
+            Some(feature) if is_supported(&controller.rules, vwc, feature) => Some(feature),
             _ => None,
         }
     }

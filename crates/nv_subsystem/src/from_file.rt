@@ -1,15 +1,16 @@
 //! The subsystem that a file gives.
 
-ghost use Rattle.std.specs.Prelude.{◌≡◌, ◌≤◌, ◌+◌, IfOk, IfErr, map, sum_by, All};
+ghost use Rattle.std.specs.Prelude.{◌≡◌, ◌≤◌, ◌+◌, true, false, IfOk, IfErr, map, sum_by, All};
 ghost use Rattle.std.specs.List.{fold};
 ghost use Rattle.std.specs.FinMap as map_of;
 ghost use Rattle.nv_bits.specs.Numbers.{IsOf};
 ghost use Rattle.nv_file.specs.Ranges.{IsFeatureRule};
-ghost use Rattle.nv_subsystem.specs.FeatureValue.{at_default};
-ghost use Rattle.nv_subsystem.specs.State.{rule_of};
+ghost use Rattle.nv_layout.specs.Feature.{has_selector, row_of};
+ghost use Rattle.nv_subsystem.specs.Change.{changed};
+ghost use Rattle.nv_subsystem.specs.ValueKey.{key_of};
 ghost use Rattle.nv_subsystem.specs.ControllerView.{controller_view};
 ghost use Rattle.nv_file.specs.FileValue.{controller_entry_view, namespace_entry_view};
-ghost use Rattle.nv_subsystem.specs.FromFile.{controller_of, defaults_of, rules_of};
+ghost use Rattle.nv_subsystem.specs.FromFile.{controller_of, defaults_of, fill, rules_of};
 ghost use Rattle.nv_subsystem.specs.FromFile.{with_attachment, with_default, with_namespace};
 ghost use Rattle.nv_subsystem.specs.FromFile.{with_recovery, with_rule};
 ghost use Rattle.nv_subsystem.specs.Sound.{IsSized};
@@ -100,15 +101,39 @@ fn rule_slots(alloc: Global, rules: &[FeatureRule]) -> Result<Slots<FeatureRule>
     Ok(slots)
 }
 
-/// Gives a supported feature that no namespace has for itself its default.
+/// Gives a feature that no namespace has for itself its defaults under some selectors.
+fn fill_selectors(
+    values: &mut FeatureValues,
+    rules: &Slots<FeatureRule>,
+    feature: Feature,
+    selectors: &[u8],
+)
+    requires known { All (λ s. has_selector feature s ≡ true) selectors.now }
+    requires alone { (row_of feature).per_namespace ≡ false }
+    ensures { values.new ≡ record values.old {
+      values = changed (fill rules.now.values) (map (key_of feature 0) selectors.now)
+          values.old.values;
+    } }
+{
+    let rule = rule_of(rules, feature);
+    for selector in selectors {
+        values.insert(
+            feature,
+            0,
+            *selector,
+            FeatureValue::at_default(rule, *selector),
+        );
+    }
+}
+
+/// Gives a supported feature that no namespace has for itself its defaults.
 fn fill_default(values: &mut FeatureValues, rules: &Slots<FeatureRule>, vwc: u8, feature: Feature)
     ensures { values.new ≡ record values.old {
       values = with_default rules.now.values vwc values.old.values feature;
     } }
 {
-    if is_supported(vwc, feature) && !feature.is_per_namespace() {
-        let value = FeatureValue::at_default(rule_of(rules, feature));
-        values.insert(feature, 0, value);
+    if is_supported(rules, vwc, feature) && !feature.is_per_namespace() {
+        fill_selectors(values, rules, feature, feature.selectors());
     }
 }
 
@@ -132,19 +157,20 @@ fn fill_defaults(
 /// Error Recovery.
 fn fill_recoveries(
     values: &mut FeatureValues,
-    value: FeatureValue,
+    rules: &Slots<FeatureRule>,
     cntlid: u16,
     entries: &[NamespaceEntry],
 )
     requires { All (λ n. IsOf 1 values.old.nn n.nsid) entries.now }
     ensures { values.new ≡ record values.old {
-      values = fold (with_recovery cntlid value) values.old.values
+      values = fold (with_recovery cntlid rules.now.values) values.old.values
           (map namespace_entry_view entries.now);
     } }
 {
+    let value = FeatureValue::at_default(rule_of(rules, Feature::ErrorRecovery), 0);
     for entry in entries {
         if entry.is_attached_to(cntlid) {
-            values.insert(Feature::ErrorRecovery, entry.nsid, value);
+            values.insert(Feature::ErrorRecovery, entry.nsid, 0, value);
         }
     }
 }
@@ -161,9 +187,7 @@ fn feature_values(
     requires nsids { All (λ n. IsOf 1 nn n.nsid) namespaces.now }
     ensures value { IfOk result (λ values. values ≡ record {
       nn = nn;
-      values = fold
-          (with_recovery identity.now.cntlid
-          (at_default (rule_of rules.now.values Feature.ErrorRecovery)))
+      values = fold (with_recovery identity.now.cntlid rules.now.values)
           (defaults_of rules.now.values identity.now.numbers.vwc)
           (map namespace_entry_view namespaces.now);
     }) }
@@ -171,8 +195,7 @@ fn feature_values(
 {
     let mut values = FeatureValues::new(alloc, nn)?;
     fill_defaults(&mut values, rules, identity.numbers.vwc, &Feature::ALL);
-    let recovery = FeatureValue::at_default(rule_of(rules, Feature::ErrorRecovery));
-    fill_recoveries(&mut values, recovery, identity.cntlid, namespaces);
+    fill_recoveries(&mut values, rules, identity.cntlid, namespaces);
     Ok(values)
 }
 

@@ -1,28 +1,23 @@
-use Rattle.std.proofs.Common.{◌∙◌, ap, sym}
+use Rattle.std.proofs.Common.{◌∙◌, ap, sym, arith}
 use Rattle.std.specs.FinMap as map_of
-use Rattle.nv_subsystem.proofs.ValueTableLaws.{found_within, get_other, get_recovery, none_found_within}
+use Rattle.nv_subsystem.specs.ValueTable.{ValueTable}
+use Rattle.nv_subsystem.specs.ValueKey.{key_of}
+use Rattle.nv_subsystem.proofs.ValueTableLaws.{absent_above, get_of_key, is_kept_key}
 use Rattle.nv_subsystem.proofs.feature_values.FeatureValues.get.Goals as goal
 
-pub returns-then-is_per_namespace-clause-value : goal.returns-then-is_per_namespace-clause-value
-returns-then-is_per_namespace-clause-value c =
-    let s = c.self.inside in
-    rw (← c.self.view_is) (c.get.ensures.value
-    ∙ sym (get_recovery s.by_namespace.values s.by_feature.values c.self.invariant.apart c.args.feature
-    c.args.nsid (sym c.if-is_per_namespace.ensures)))
+pub returns-then-nsid-nn-clause-value : goal.returns-then-nsid-nn-clause-value
+returns-then-nsid-nn-clause-value c =
+    let k = key_of c.args.feature c.args.nsid c.args.selector in
+    let counted = c.count-nn.ensures.value in
+    let above = c.if-nsid-nn.true in
+    sym (ap (λ (t : ValueTable). map_of.get t.values k) (sym c.self.view_is)
+    ∙ absent_above c.self.inside.slots c.self.invariant c.args.feature c.args.nsid c.args.selector
+    c.requires (sym c.if-is_per_namespace.ensures) (omega (arith, counted, above)))
 
-pub returns-else-is_per_namespace-clause-value : goal.returns-else-is_per_namespace-clause-value
-returns-else-is_per_namespace-clause-value c =
-    let s = c.self.inside in
-    rw (← c.self.view_is) (c.get-else-is_per_namespace.ensures.value
-    ∙ ap (map_of.get s.by_feature.values) (c.from.ensures ∙ c.fid.ensures)
-    ∙ sym (get_other s.by_namespace.values s.by_feature.values c.self.invariant.apart c.args.feature
-    c.args.nsid (sym c.if-is_per_namespace.ensures)))
-
-pub returns-then-is_per_namespace-clause-in_range : goal.returns-then-is_per_namespace-clause-in_range
-returns-then-is_per_namespace-clause-in_range c =
-    rw (← c.self.view_is) (found_within c.args.feature c.get.result c.self.inside.by_namespace c.args.nsid
-    c.self.invariant.nsids c.get.ensures.in_range)
-
-pub returns-else-is_per_namespace-clause-in_range : goal.returns-else-is_per_namespace-clause-in_range
-returns-else-is_per_namespace-clause-in_range c =
-    none_found_within c.args.feature c.get-else-is_per_namespace.result c.args.self.now.nn c.args.nsid (sym c.if-is_per_namespace.ensures)
+pub returns-clause-value : goal.returns-clause-value
+returns-clause-value c =
+    let k = key_of c.args.feature c.args.nsid c.args.selector in
+    let slots = c.self.inside.slots.values in
+    c.get.ensures.value ∙ ap (map_of.get slots) c.slot.ensures.value
+    ∙ sym (get_of_key slots k (is_kept_key c.args.feature c.args.nsid c.args.selector c.requires))
+    ∙ ap (λ (t : ValueTable). map_of.get t.values k) c.self.view_is

@@ -1,37 +1,32 @@
-use Rattle.std.proofs.Common.{◌∙◌, ap, sym}
+use Rattle.std.proofs.Common.{◌∙◌, ◌-◌, ap, arith}
 use Rattle.std.specs.FinMap as map_of
-use Rattle.nv_subsystem.specs.ValueTable.{ValueTable, key_of}
-use Rattle.nv_subsystem.proofs.ValueTableLaws.{apart_from, in_table, inserted_for, inserted_of}
+use Rattle.nv_subsystem.specs.ValueTable.{ValueTable, values_of}
+use Rattle.nv_subsystem.specs.ValueKey.{key_of}
+use Rattle.nv_subsystem.proofs.ValueTableLaws.{in_values, is_kept_key, slot_inserted, slot_within, table_inserted}
 use Rattle.nv_subsystem.proofs.feature_values.FeatureValues.insert.Goals as goal
 
-pub invariant_of-self-else-is_per_namespace : goal.invariant_of-self-else-is_per_namespace
-invariant_of-self-else-is_per_namespace c =
-    let s = c.self.inside in
-    rw (c.insert-else-is_per_namespace.ensures, c.from.ensures, c.fid.ensures) (record {
-      nsids = c.self.invariant.nsids;
-      fids = c.self.invariant.fids;
-      apart = apart_from s.by_feature.values c.args.feature c.args.value (sym c.if-is_per_namespace.ensures)
-          c.self.invariant.apart;
-    })
+pub slot-requires-clause-room : goal.slot-requires-clause-room
+slot-requires-clause-room c per =
+    let room = ap (λ (t : ValueTable). t.nn) c.self.view_is in
+    let is = c.self.invariant in
+    omega (arith, c.requires.in_range per, room, is.room, is.count)
 
-pub returns-then-is_per_namespace : goal.returns-then-is_per_namespace
-returns-then-is_per_namespace c =
-    let s = c.self.inside in
+pub invariant_of-self : goal.invariant_of-self
+invariant_of-self c =
+    let slots = c.self.inside.slots in
+    let room = ap (λ (t : ValueTable). t.nn) c.self.view_is in
+    rw c.insert.ensures (table_inserted slots c.slot.result c.args.value c.self.invariant
+    (slot_within slots c.self.invariant c.args.feature c.args.nsid c.args.selector c.slot.result
+    (λ per. omega (arith, c.requires.in_range per, room)) c.slot.ensures.near))
+
+pub returns : goal.returns
+returns c =
+    let k = key_of c.args.feature c.args.nsid c.args.selector in
+    let slots = c.self.inside.slots in
     rw c.insert.ensures
-    (ap (in_table s.by_namespace.count)
-    (inserted_for s.by_namespace.values s.by_feature.values c.self.invariant.apart c.args.feature c.args.nsid
-    c.args.value (sym c.if-is_per_namespace.ensures))
-    ∙ ap (λ (t : ValueTable). record t {
-      values = map_of.insert t.values (key_of c.args.feature c.args.nsid) c.args.value;
-    }) c.self.view_is)
-
-pub returns-else-is_per_namespace : goal.returns-else-is_per_namespace
-returns-else-is_per_namespace c =
-    let s = c.self.inside in
-    rw (c.insert-else-is_per_namespace.ensures, c.from.ensures, c.fid.ensures)
-    (ap (in_table s.by_namespace.count)
-    (inserted_of s.by_namespace.values s.by_feature.values c.self.invariant.apart c.args.feature c.args.nsid
-    c.args.value (sym c.if-is_per_namespace.ensures))
-    ∙ ap (λ (t : ValueTable). record t {
-      values = map_of.insert t.values (key_of c.args.feature c.args.nsid) c.args.value;
-    }) c.self.view_is)
+    (ap (in_values (slots.count - 384))
+    (ap (λ n. values_of (map_of.insert slots.values n c.args.value)) c.slot.ensures.value
+    ∙ slot_inserted slots.values k c.args.value
+    (is_kept_key c.args.feature c.args.nsid c.args.selector c.requires.known))
+    ∙ ap (λ (t : ValueTable). record t { values = map_of.insert t.values k c.args.value })
+    c.self.view_is)
