@@ -29,7 +29,7 @@ namespace_of (Create nsze ncap flbas dps nmic) = 0
 namespace_of (Delete n) = n
 namespace_of (Attachment n detach ids) = n
 namespace_of (Format n lbaf mset pi pil ses) = n
-namespace_of (GetFeature fid sel n) = n
+namespace_of (GetFeature fid sel n cdw11) = n
 namespace_of (SetFeature fid value save n) = n
 namespace_of (GetLog lid n offset dwords) = n
 
@@ -44,7 +44,7 @@ transfer_by (Create nsze ncap flbas dps nmic) = page_from_host
 transfer_by (Delete n) = NoData
 transfer_by (Attachment n detach ids) = page_from_host
 transfer_by (Format n lbaf mset pi pil ses) = NoData
-transfer_by (GetFeature fid sel n) = NoData
+transfer_by (GetFeature fid sel n cdw11) = NoData
 transfer_by (SetFeature fid value save n) = NoData
 transfer_by (GetLog lid n offset dwords) = log_data dwords
 
@@ -59,7 +59,7 @@ host_data_of (Create nsze ncap flbas dps nmic) = bytes_of_id_ns (asked nsze ncap
 host_data_of (Delete n) = []
 host_data_of (Attachment n detach ids) = bytes_of_ctrl_list ids
 host_data_of (Format n lbaf mset pi pil ses) = []
-host_data_of (GetFeature fid sel n) = []
+host_data_of (GetFeature fid sel n cdw11) = []
 host_data_of (SetFeature fid value save n) = []
 host_data_of (GetLog lid n offset dwords) = []
 
@@ -74,7 +74,7 @@ CommandFits (Create nsze ncap flbas dps nmic) = CreateFits nsze ncap flbas dps n
 CommandFits (Delete n) = n < 2 ^ 32
 CommandFits (Attachment n detach ids) = AttachmentFits n ids
 CommandFits (Format n lbaf mset pi pil ses) = FormatFits n lbaf pi ses
-CommandFits (GetFeature fid sel n) = GetFeatureFits fid sel n
+CommandFits (GetFeature fid sel n cdw11) = GetFeatureFits fid sel n cdw11
 CommandFits (SetFeature fid value save n) = SetFeatureFits fid value n
 CommandFits (GetLog lid n offset dwords) = GetLogFits lid n offset dwords
 

@@ -46,7 +46,7 @@ fields_of (Create nsze ncap flbas dps nmic) = management_fields 0x0
 fields_of (Delete n) = management_fields 0x1
 fields_of (Attachment n detach ids) = attachment_fields detach
 fields_of (Format n lbaf mset pi pil ses) = format_fields lbaf mset pi pil ses
-fields_of (GetFeature fid sel n) = get_feature_fields fid sel
+fields_of (GetFeature fid sel n cdw11) = get_feature_fields fid sel cdw11
 fields_of (SetFeature fid value save n) = set_feature_fields fid value save
 fields_of (GetLog lid n offset dwords) = get_log_fields lid offset dwords
 

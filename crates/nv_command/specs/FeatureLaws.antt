@@ -8,11 +8,12 @@ use Rattle.nv_command.specs.Features.{GetFeatureFits, SetFeatureFits, get_featur
 use Rattle.nv_command.specs.Features.{get_feature_fields, set_feature_command, set_feature_fields}
 use Rattle.nv_command.specs.declared.command.Command.TheVariants.{GetFeature, SetFeature}
 
-pub get_feature_fits : (fid sel : ℕ) → FieldsFit (get_feature_fields fid sel)
-get_feature_fits fid sel = record {
+pub get_feature_fits : (fid sel cdw11 : ℕ) → cdw11 < 2 ^ 32
+    → FieldsFit (get_feature_fields fid sel cdw11)
+get_feature_fits fid sel cdw11 h = record {
   opcode = lit< tt;
   cdw10 = omega arith;
-  cdw11 = lit< tt;
+  cdw11 = h;
   cdw12 = lit< tt;
   cdw13 = lit< tt;
 }
@@ -31,11 +32,11 @@ get_bits : (a b : ℕ) → a < 2 ^ 8 → b < 2 ^ 3
     → let n = at_bits 0 8 a + at_bits 8 3 b in (bits 0 8 n ≡ a) × (bits 8 3 n ≡ b)
 get_bits a b ha hb = (omega arith, omega arith)
 
-pub get_feature_back : (fid sel n cid p q : ℕ) → GetFeatureFits fid sel n
-    → get_feature_command (with_pointer (entry_of (GetFeature fid sel n) cid) p q)
-    ≡ GetFeature fid sel n
-get_feature_back fid sel n cid p q fits =
-    let (f, s) = get_bits fid sel fits.fid fits.sel in λ k. GetFeature (f k) (s k) n
+pub get_feature_back : (fid sel n cdw11 cid p q : ℕ) → GetFeatureFits fid sel n cdw11
+    → get_feature_command (with_pointer (entry_of (GetFeature fid sel n cdw11) cid) p q)
+    ≡ GetFeature fid sel n cdw11
+get_feature_back fid sel n cdw11 cid p q fits =
+    let (f, s) = get_bits fid sel fits.fid fits.sel in λ k. GetFeature (f k) (s k) n cdw11
 
 set_bits : (a b : ℕ) → a < 2 ^ 8 → b < 2
     → let n = at_bits 0 8 a + at_bits 31 1 b in (bits 0 8 n ≡ a) × (bits 31 1 n ≡ b)

@@ -58,7 +58,7 @@ reply_in (Create nsze ncap flbas dps nmic) dword0 bytes = reply.Number dword0
 reply_in (Delete n) dword0 bytes = reply.Done
 reply_in (Attachment n detach ids) dword0 bytes = reply.Done
 reply_in (Format n lbaf mset pi pil ses) dword0 bytes = reply.Done
-reply_in (GetFeature fid sel n) dword0 bytes = reply.Number dword0
+reply_in (GetFeature fid sel n cdw11) dword0 bytes = reply.Number dword0
 reply_in (SetFeature fid value save n) dword0 bytes = reply.Done
 reply_in (GetLog lid n offset dwords) dword0 bytes = log_in (is_error_log lid) bytes
 
@@ -99,7 +99,7 @@ IsReplyTo (Create nsze ncap flbas dps nmic) r = IsNumber r
 IsReplyTo (Delete n) r = IsDone r
 IsReplyTo (Attachment n detach ids) r = IsDone r
 IsReplyTo (Format n lbaf mset pi pil ses) r = IsDone r
-IsReplyTo (GetFeature fid sel n) r = IsNumber r
+IsReplyTo (GetFeature fid sel n cdw11) r = IsNumber r
 IsReplyTo (SetFeature fid value save n) r = IsDone r
 IsReplyTo (GetLog lid n offset dwords) r = IsLog (is_error_log lid) r
 

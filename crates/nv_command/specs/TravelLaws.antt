@@ -85,10 +85,10 @@ commands_travel (Format n lbaf mset pi pil ses) cid fits low = record {
   command = λ p q. ap Ok (format_back n lbaf mset pi pil ses cid p q fits);
   sent = refl;
 }
-commands_travel (GetFeature fid sel n) cid fits low = record {
-  fits = entry_with_fits _ n cid (get_feature_fits fid sel) fits.nsid low;
+commands_travel (GetFeature fid sel n cdw11) cid fits low = record {
+  fits = entry_with_fits _ n cid (get_feature_fits fid sel cdw11 fits.cdw11) fits.nsid low;
   transfer = λ p q. refl;
-  command = λ p q. ap Ok (get_feature_back fid sel n cid p q fits);
+  command = λ p q. ap Ok (get_feature_back fid sel n cdw11 cid p q fits);
   sent = refl;
 }
 commands_travel (SetFeature fid value save n) cid fits low = record {
@@ -114,7 +114,7 @@ replies_fit (Create nsze ncap flbas dps nmic) r is fits = (number_arrives r is).
 replies_fit (Delete n) r is fits = (done_arrives r is).bytes
 replies_fit (Attachment n detach ids) r is fits = (done_arrives r is).bytes
 replies_fit (Format n lbaf mset pi pil ses) r is fits = (done_arrives r is).bytes
-replies_fit (GetFeature fid sel n) r is fits = (number_arrives r is).bytes
+replies_fit (GetFeature fid sel n cdw11) r is fits = (number_arrives r is).bytes
 replies_fit (SetFeature fid value save n) r is fits = (done_arrives r is).bytes
 replies_fit (GetLog lid n offset dwords) r is fits = length-part (log_of r) offset (4 * dwords)
 
@@ -129,7 +129,7 @@ replies_arrive (Create nsze ncap flbas dps nmic) r is fits sends = (number_arriv
 replies_arrive (Delete n) r is fits sends = (done_arrives r is).reply
 replies_arrive (Attachment n detach ids) r is fits sends = (done_arrives r is).reply
 replies_arrive (Format n lbaf mset pi pil ses) r is fits sends = (done_arrives r is).reply
-replies_arrive (GetFeature fid sel n) r is fits sends = (number_arrives r is).reply
+replies_arrive (GetFeature fid sel n cdw11) r is fits sends = (number_arrives r is).reply
 replies_arrive (SetFeature fid value save n) r is fits sends = (done_arrives r is).reply
 replies_arrive (GetLog lid n offset dwords) r is fits sends =
     log_arrives (is_error_log lid) r offset dwords is fits sends

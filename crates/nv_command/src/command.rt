@@ -68,11 +68,12 @@ pub enum Command<'a> {
         pil: bool,
         ses: ThreeBits,
     },
-    /// Get Features: the value of a feature that `sel` selects.
+    /// Get Features: the value of a feature that `sel` selects; `cdw11` is Command Dword 11.
     GetFeature {
         fid: u8,
         sel: ThreeBits,
         nsid: u32,
+        cdw11: u32,
     },
     /// Set Features: a feature gets a value, which is saved too where `save` says so.
     SetFeature {
@@ -153,7 +154,12 @@ impl<'a> Command<'a> {
                 ses,
                 ..
             } => format::fields(*lbaf, *mset, *pi, *pil, *ses),
-            Command::GetFeature { fid, sel, .. } => features::get_fields(*fid, *sel),
+            Command::GetFeature {
+                fid,
+                sel,
+                cdw11,
+                ..
+            } => features::get_fields(*fid, *sel, *cdw11),
             Command::SetFeature {
                 fid,
                 value,
@@ -195,7 +201,12 @@ impl<'a> Command<'a> {
                 ses,
                 ..
             } => format::fits(*nsid, *lbaf, *pi, *ses),
-            Command::GetFeature { fid, sel, nsid } => features::get_fits(*fid, *sel, *nsid),
+            Command::GetFeature {
+                fid,
+                sel,
+                nsid,
+                cdw11,
+            } => features::get_fits(*fid, *sel, *nsid, *cdw11),
             Command::SetFeature {
                 fid,
                 value,

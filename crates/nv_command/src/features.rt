@@ -11,13 +11,13 @@ use crate::entry::Fields;
 use nv_layout::{Sqe, ThreeBits, bits_of, to_bits};
 
 /// The fields of a Get Features command.
-pub(crate) fn get_fields(fid: u8, sel: ThreeBits) -> Fields
-    ensures { result ≡ get_feature_fields fid sel }
+pub(crate) fn get_fields(fid: u8, sel: ThreeBits, cdw11: u32) -> Fields
+    ensures { result ≡ get_feature_fields fid sel cdw11 }
 {
     Fields {
         opcode: 0x0a,
         cdw10: to_bits(fid as u32, 0, 8) + to_bits(sel.get() as u32, 8, 3),
-        cdw11: 0,
+        cdw11,
         cdw12: 0,
         cdw13: 0,
     }
@@ -37,8 +37,8 @@ pub(crate) fn set_fields(fid: u8, value: u32, save: bool) -> Fields
 }
 
 /// What is asked of a feature fits its bits, as its types say. The call does nothing.
-pub(crate) fn get_fits(fid: u8, sel: ThreeBits, nsid: u32)
-    ensures { GetFeatureFits fid sel nsid }
+pub(crate) fn get_fits(fid: u8, sel: ThreeBits, nsid: u32, cdw11: u32)
+    ensures { GetFeatureFits fid sel nsid cdw11 }
 {
     sel.get();
 }
@@ -56,6 +56,7 @@ pub(crate) fn get_command<'a>(entry: &Sqe) -> Command<'a>
         fid: bits_of(entry.cdw10, 0, 8) as u8,
         sel: ThreeBits::low(bits_of(entry.cdw10, 8, 3) as u8),
         nsid: entry.nsid,
+        cdw11: entry.cdw11,
     }
 }
 

@@ -37,7 +37,7 @@ is_page (Create nsze ncap flbas dps nmic) other = tt
 is_page (Delete n) other = tt
 is_page (Attachment n detach ids) other = tt
 is_page (Format n lbaf mset pi pil ses) other = tt
-is_page (GetFeature fid sel n) other = tt
+is_page (GetFeature fid sel n cdw11) other = tt
 is_page (SetFeature fid value save n) other = tt
 is_page (GetLog lid n offset dwords) other = absurd (other lid n offset dwords refl)
 

@@ -35,7 +35,7 @@ shape (Create nsze ncap flbas dps nmic) sends = refl
 shape (Delete n) sends = tt
 shape (Attachment n detach ids) sends = refl
 shape (Format n lbaf mset pi pil ses) sends = tt
-shape (GetFeature fid sel n) sends = tt
+shape (GetFeature fid sel n cdw11) sends = tt
 shape (SetFeature fid value save n) sends = tt
 shape (GetLog lid n offset dwords) sends = log_shape (is_error_log lid) offset dwords sends
 

@@ -21,6 +21,7 @@ use Rattle.nv_file.specs.Tables.{format_of, controller_entry_of, namespace_entry
 
 -- what the top table holds, before the tables in it are read
 pub record Top : Type 0 where
+  pub version : ℕ
   pub nn : ℕ
   pub tnvmcap : ℕ
   pub mc : ℕ
@@ -31,7 +32,7 @@ pub record Top : Type 0 where
 
 unfoldable pub top_of : Members → Result Top SubsystemError
 top_of members = do
-  version ← integer table.Top key.Version 1 1 members
+  version ← integer table.Top key.Version 1 2 members
   nn ← integer table.Top key.Nn 1 1024 members
   tnvmcap ← integer table.Top key.Tnvmcap 0 GREATEST_INTEGER members
   mc ← integer_or table.Top key.Mc 0 0 3 members
@@ -42,6 +43,7 @@ top_of members = do
   few ← ensure (nat_le (length namespaces) nn) (Range table.Top key.Namespace)
   known ← only_known table.Top members
   Ok (record {
+    version = version;
     nn = nn;
     tnvmcap = tnvmcap;
     mc = mc;
@@ -78,7 +80,7 @@ unfoldable pub file_of : Members → Result FileValue SubsystemError
 file_of members = do
   top ← top_of members
   formats ← readings (λ _. format_of) [] top.formats
-  controllers ← readings controller_entry_of [] top.controllers
+  controllers ← readings (controller_entry_of top.version) [] top.controllers
   namespaces ← readings (namespace_entry_of top.nn top.mc formats) [] top.namespaces
   room ← ensure (fits top.tnvmcap namespaces) Capacity
   attached ← ensure (attaches controllers namespaces) Attachment

@@ -24,6 +24,7 @@ pub record IsAttached (controllers : List ControllerValue) (n : NamespaceValue) 
   pub private : n.namespace.shared ≡ false → length n.controllers ≤ 1
 
 pub record IsTop (t : Top) : Type 0 where
+  pub version : (1 ≤ t.version) × (t.version ≤ 2)
   pub keys : AreTopKeys t.nn t.tnvmcap t.mc t.subnqn
   pub formats : (1 ≤ length t.formats) × (length t.formats ≤ 16)
   pub controllers : (1 ≤ length t.controllers) × (length t.controllers ≤ 16)

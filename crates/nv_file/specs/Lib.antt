@@ -1,3 +1,4 @@
+pub mod Defaults
 pub mod Fault
 pub mod FaultText
 pub mod File

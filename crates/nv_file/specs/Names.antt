@@ -1,5 +1,5 @@
 -- The tables and keys of a file, as it spells them.
-use Rattle.std.specs.Prelude.{ℕ, List, [], ◌∷◌, codes}
+use Rattle.std.specs.Prelude.{ℕ, ◌==◌, if◌then◌else◌, List, [], ◌∷◌, codes}
 use Rattle.nv_file.specs.declared.table_name.TableName.{TableName}
 use Rattle.nv_file.specs.declared.table_name.TableName.TheVariants as table
 use Rattle.nv_file.specs.declared.key.Key.{Key}
@@ -45,6 +45,8 @@ key_text key.Fid = codes "fid"
 key_text key.Default = codes "default"
 key_text key.Saveable = codes "saveable"
 key_text key.Changeable = codes "changeable"
+key_text key.Over = codes "over"
+key_text key.Under = codes "under"
 key_text key.CriticalWarning = codes "critical_warning"
 key_text key.AvailSpare = codes "avail_spare"
 key_text key.SpareThresh = codes "spare_thresh"
@@ -77,7 +79,8 @@ keys_of table.Format = key.Lbads ∷ key.Ms ∷ key.Rp ∷ []
 keys_of table.Controller =
     key.Cntlid ∷ key.Sn ∷ key.Mn ∷ key.Fr ∷ key.Vid ∷ key.Ssvid ∷ key.Rab ∷ key.Ieee ∷ key.Mdts ∷
     key.Elpe ∷ key.Wctemp ∷ key.Cctemp ∷ key.Vwc ∷ key.CryptoErase ∷ key.Feature ∷ key.Smart ∷ []
-keys_of table.Feature = key.Fid ∷ key.Default ∷ key.Saveable ∷ key.Changeable ∷ []
+keys_of table.Feature =
+    key.Fid ∷ key.Default ∷ key.Saveable ∷ key.Changeable ∷ key.Over ∷ key.Under ∷ []
 keys_of table.Smart =
     key.CriticalWarning ∷ key.AvailSpare ∷ key.SpareThresh ∷ key.PercentUsed ∷ key.Temperature ∷
     key.DataUnitsRead ∷ key.DataUnitsWritten ∷ key.HostReadCommands ∷ key.HostWriteCommands ∷
@@ -85,3 +88,10 @@ keys_of table.Smart =
     key.MediaErrors ∷ key.WarningTempTime ∷ key.CriticalCompTime ∷ key.Sensors ∷ []
 keys_of table.Namespace =
     key.Nsid ∷ key.Bytes ∷ key.Format ∷ key.Extended ∷ key.Shared ∷ key.Controllers ∷ []
+
+-- those that a feature may have in a version of the file
+unfoldable pub feature_keys : ℕ → List Key
+feature_keys version =
+    if version == 1
+    then key.Fid ∷ key.Default ∷ key.Saveable ∷ key.Changeable ∷ []
+    else keys_of table.Feature

@@ -9,7 +9,8 @@ use Rattle.nv_file.specs.declared.smart_base.Counters.{Counters}
 use Rattle.nv_file.specs.declared.smart_base.SmartBase.{SmartBase}
 use Rattle.nv_file.specs.declared.identity.IdentityNumbers.{IdentityNumbers}
 use Rattle.nv_file.specs.declared.section.TheConstants.{GREATEST_INTEGER}
-use Rattle.nv_layout.specs.Feature.{feature_of, is_accepted}
+use Rattle.nv_layout.specs.Feature.{feature_of, is_value}
+use Rattle.nv_file.specs.Defaults.{AreDefaults, default_at}
 use Rattle.nv_file.specs.Identity.{Identity}
 
 -- 1 to most bytes, each 20h to 7Eh and the last one not a space
@@ -30,9 +31,11 @@ pub record IsFormat (f : Format) : Type 0 where
   pub ms : f.ms ≤ 65535
   pub rp : f.rp ≤ 3
 
--- One of the features, with a default that it accepts. Error Recovery is never saveable.
+-- One of the features, with defaults that are values of it. Error Recovery is never saveable.
 pub record IsFeatureRule (r : FeatureRule) : Type 0 where
-  pub default : IsSomeAnd (feature_of r.fid) (λ f. is_accepted f r.default ≡ true)
+  pub defaults : AreDefaults r.defaults
+  pub default : IsSomeAnd (feature_of r.fid)
+      (λ f. (s : ℕ) → is_value f (default_at r.defaults s) ≡ true)
   pub saveable : r.fid ≡ 0x05 → r.saveable ≡ false
 
 pub record IsCounters (c : Counters) : Type 0 where

@@ -2,7 +2,7 @@
 -- members of the table, and `d` is what stands at the key.
 use Rattle.std.specs.Prelude.{ℕ, ℤ, pos, negsuc, Bool, true, ◌&&◌, List, [], ◌∷◌, ◌++◌, length}
 use Rattle.std.specs.Prelude.{Option, Some, None, option_map, option_and_then, Result, Ok, Err}
-use Rattle.std.specs.Prelude.{nat_le, if◌then◌else◌}
+use Rattle.std.specs.Prelude.{is_some, nat_le, if◌then◌else◌}
 use Rattle.std.specs.List.{list_any}
 use Rattle.std.specs.Option.{ok_or, option_map_or}
 use Rattle.std.specs.Str.{bytes_eq}
@@ -34,6 +34,10 @@ integer t k low high ms = do
 unfoldable pub integer_or : TableName → Key → ℕ → ℕ → ℕ → Members → Result ℕ SubsystemError
 integer_or t k default low high ms =
     option_map_or (integer_in_range t k low high) (get_member (key_text k) ms) (Ok default)
+
+-- something stands at the key
+abbrev pub has_key : Key → Members → Bool
+has_key k ms = is_some (get_member (key_text k) ms)
 
 -- a true or false
 unfoldable pub flag_or : TableName → Key → Bool → Members → Result Bool SubsystemError
@@ -109,6 +113,10 @@ abbrev pub has_only : List Key → Members → Bool
 has_only known no_members = true
 has_only known (member k d ms) = is_known known k && has_only known ms
 
--- that the table has no other keys than those of its name
-unfoldable pub only_known : TableName → Members → Result (Unit {0}) SubsystemError
-only_known t ms = ensure (has_only (keys_of t) ms) (Unknown t)
+-- that the table has no other keys than those known
+unfoldable pub only : List Key → TableName → Members → Result (Unit {0}) SubsystemError
+only known t ms = ensure (has_only known ms) (Unknown t)
+
+-- that it has no other keys than those of its name
+abbrev pub only_known : TableName → Members → Result (Unit {0}) SubsystemError
+only_known t ms = only (keys_of t) t ms

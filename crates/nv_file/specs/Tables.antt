@@ -1,17 +1,20 @@
 -- The tables of a file, key by key in the order of the checks, with the first fault that is met.
 use Rattle.std.specs.Prelude.{ℕ, ◌^◌, Bool, true, false, not, ◌&&◌, ◌||◌, List, [], ◌∷◌, map}
 use Rattle.std.specs.Prelude.{Option, Some, None, Result, Ok, nat_lt, ◌==◌, bit_and, slice_get}
-use Rattle.std.specs.Prelude.{slice_index}
+use Rattle.std.specs.Prelude.{slice_index, length, if◌then◌else◌}
 use Rattle.std.specs.List.{list_any}
 use Rattle.std.specs.Option.{ok_or}
 use Rattle.toml.specs.Data.{Members}
 use Rattle.nv_file.specs.declared.format.Format.{Format}
+use Rattle.nv_file.specs.declared.defaults.Defaults.{Defaults}
+use Rattle.nv_file.specs.declared.defaults.Defaults.TheVariants.{One, Thresholds}
 use Rattle.nv_file.specs.declared.feature_rule.FeatureRule.{FeatureRule}
 use Rattle.nv_file.specs.declared.smart_base.Counters.{Counters}
 use Rattle.nv_file.specs.declared.smart_base.SmartBase.{SmartBase}
 use Rattle.nv_file.specs.declared.identity.IdentityNumbers.{IdentityNumbers}
 use Rattle.nv_file.specs.declared.error.SubsystemError.{SubsystemError}
 use Rattle.nv_file.specs.declared.table_name.TableName.TheVariants as table
+use Rattle.nv_file.specs.declared.key.Key.{Key}
 use Rattle.nv_file.specs.declared.key.Key.TheVariants as key
 use Rattle.nv_file.specs.declared.error.SubsystemError.TheVariants.{Range, Repeated}
 use Rattle.nv_file.specs.declared.section.TheConstants.{GREATEST_INTEGER}
@@ -20,7 +23,9 @@ use Rattle.nv_layout.specs.Feature as feature
 use Rattle.nv_file.specs.Identity.{Identity}
 use Rattle.nv_file.specs.FileValue.{ControllerValue, NamespaceValue}
 use Rattle.nv_file.specs.Section.{integer, integer_or, flag_or, text, tables_or_none, table_or_none}
-use Rattle.nv_file.specs.Section.{integers_or_none, integers_in_range_or_none, readings, only_known}
+use Rattle.nv_file.specs.Section.{integers_or_none, integers_in_range_or_none, readings, element}
+use Rattle.nv_file.specs.Section.{has_key, only, only_known}
+use Rattle.nv_file.specs.Names.{feature_keys}
 
 unfoldable pub format_of : Members → Result Format SubsystemError
 format_of members = do
@@ -30,19 +35,48 @@ format_of members = do
   known ← only_known table.Format members
   Ok (record { lbads = lbads; ms = ms; rp = rp })
 
--- a feature, with those before it at hand
-unfoldable pub feature_of : List FeatureRule → Members → Result FeatureRule SubsystemError
-feature_of before members = do
+-- nine numbers; those that the list does not reach are 0
+abbrev pub nine : List ℕ → List ℕ
+nine numbers = map (slice_index numbers) (0 ∷ 1 ∷ 2 ∷ 3 ∷ 4 ∷ 5 ∷ 6 ∷ 7 ∷ 8 ∷ [])
+
+-- a list of nine numbers, or those that stand for it where it is missing. Temperature Threshold
+-- alone may have one
+unfoldable pub thresholds_or : List ℕ → Key → ℕ → Members → Result (List ℕ) SubsystemError
+thresholds_or default k fid members = do
+  zs ← integers_or_none table.Feature k members
+  fits ← ensure (not (has_key k members) || ((fid == 0x04) && (length zs == 9)))
+      (Range table.Feature k)
+  numbers ← readings (element table.Feature k 65535) [] zs
+  Ok (if has_key k members then nine numbers else default)
+
+abbrev pub default_over : ℕ → List ℕ
+default_over wctemp =
+    wctemp ∷ 65535 ∷ 65535 ∷ 65535 ∷ 65535 ∷ 65535 ∷ 65535 ∷ 65535 ∷ 65535 ∷ []
+
+-- the defaults of a feature, of which `value` is what stands at `default`. Version 1 has no lists
+unfoldable pub defaults_of : ℕ → ℕ → ℕ → ℕ → Members → Result Defaults SubsystemError
+defaults_of version wctemp fid value members = if version == 1 then Ok (One value) else do
+  over ← thresholds_or (default_over wctemp) key.Over fid members
+  under ← thresholds_or (nine []) key.Under fid members
+  Ok (if fid == 0x04 then Thresholds over under else One value)
+
+-- a feature of a controller, by the file's version and the controller's wctemp, with those before
+-- it at hand
+unfoldable pub feature_of : ℕ → ℕ → List FeatureRule → Members → Result FeatureRule SubsystemError
+feature_of version wctemp before members = do
   fid ← integer table.Feature key.Fid 0 255 members
   known ← ok_or (feature.feature_of fid) (Range table.Feature key.Fid)
+  in_version ← ensure (not ((version == 1) && (fid == 0x04))) (Range table.Feature key.Fid)
   new ← ensure (not (list_any (λ rule. rule.fid == fid) before)) (Repeated table.Feature key.Fid)
   value ← integer_or table.Feature key.Default 0 0 4294967295 members
-  accepted ← ensure (feature.is_accepted known value) (Range table.Feature key.Default)
+  fits ← ensure (feature.is_value known value && not ((fid == 0x04) && has_key key.Default members))
+      (Range table.Feature key.Default)
   saveable ← flag_or table.Feature key.Saveable false members
   may_save ← ensure (not (saveable && (fid == 0x05))) (Range table.Feature key.Saveable)
   changeable ← flag_or table.Feature key.Changeable true members
-  no_other ← only_known table.Feature members
-  Ok (record { fid = fid; default = value; saveable = saveable; changeable = changeable })
+  defaults ← defaults_of version wctemp fid value members
+  no_other ← only (feature_keys version) table.Feature members
+  Ok (record { fid = fid; defaults = defaults; saveable = saveable; changeable = changeable })
 
 unfoldable pub counters_of : Members → Result Counters SubsystemError
 counters_of members = do
@@ -167,15 +201,15 @@ identity_of before members = do
     crypto_erase = crypto_erase;
   })
 
--- a controller: its own table, then its features, then its health log
-unfoldable pub controller_entry_of : List ControllerValue → Members
+-- a controller, by the file's version: its own table, then its features, then its health log
+unfoldable pub controller_entry_of : ℕ → List ControllerValue → Members
     → Result ControllerValue SubsystemError
-controller_entry_of before members = do
+controller_entry_of version before members = do
   identity ← identity_of before members
   features ← tables_or_none table.Controller key.Feature members
   smart ← table_or_none table.Controller key.Smart members
   known ← only_known table.Controller members
-  rules ← readings feature_of [] features
+  rules ← readings (feature_of version identity.numbers.wctemp) [] features
   base ← smart_or_zero smart
   Ok (record { identity = identity; rules = rules; smart = base })
 

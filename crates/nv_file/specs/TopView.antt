@@ -6,6 +6,7 @@ use Rattle.nv_file.specs.File.{Top}
 
 abbrev pub top_view : CodeTop → Top
 top_view t = record {
+  version = t.version;
   nn = t.nn;
   tnvmcap = t.tnvmcap;
   mc = t.mc;

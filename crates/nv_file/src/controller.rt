@@ -32,11 +32,13 @@ pub struct ControllerEntry {
 #[tactic(auto, unfolding(crate::specs::Tables::controller_entry_of))]
 fn controller_entry_of(
     alloc: Global,
+    version: u8,
     before: &[ControllerEntry],
     table: &Table,
 ) -> Result<ControllerEntry, SubsystemError>
     ensures exact { IsUnlessMemory controller_entry_view result
-        (controller_entry_of (map controller_entry_view before.now) (table_view table.now)) }
+        (controller_entry_of version (map controller_entry_view before.now)
+        (table_view table.now)) }
     ensures sound { IfOk result (λ c. IsControllerEntry (controller_entry_view c)) }
     ensures new { IfOk result
         (λ c. list_any (λ d. d.identity.cntlid == c.identity.cntlid) before.now ≡ false) }
@@ -49,7 +51,7 @@ fn controller_entry_of(
     let features = section.tables_or_none(alloc, Key::Feature)?;
     let smart = section.table_or_none(Key::Smart)?;
     section.only_known()?;
-    let rules = features_of(alloc, &features)?;
+    let rules = features_of(alloc, version, identity.numbers.wctemp, &features)?;
     let smart = smart_or_zero(alloc, smart)?;
     Ok(ControllerEntry {
         identity,
@@ -58,13 +60,14 @@ fn controller_entry_of(
     })
 }
 
-/// The controllers that some tables give.
+/// The controllers that some tables give, by the file's version.
 pub(crate) fn controller_entries_of(
     alloc: Global,
+    version: u8,
     tables: &[&Table],
 ) -> Result<Vec<ControllerEntry>, SubsystemError>
     ensures exact { IsUnlessMemory (λ v. map controller_entry_view v.items) result
-        (readings controller_entry_of [] (tables_view tables.now)) }
+        (readings (controller_entry_of version) [] (tables_view tables.now)) }
     ensures count { IfOk result (λ v. length v.items ≡ length tables.now) }
     ensures sound { IfOk result (λ v. All IsControllerEntry (map controller_entry_view v.items)) }
     ensures cntlids { IfOk result
@@ -73,7 +76,7 @@ pub(crate) fn controller_entries_of(
 {
     let mut controllers = Vec::new(alloc);
     for table in tables {
-        let controller = controller_entry_of(alloc, &controllers, table)?;
+        let controller = controller_entry_of(alloc, version, &controllers, table)?;
         controllers.push(controller)?;
     }
     Ok(controllers)

@@ -8,10 +8,11 @@ ghost use Rattle.nv_file.specs.SectionView.{tables_view};
 ghost use Rattle.nv_file.specs.Tables.{feature_of};
 ghost use Rattle.nv_file.specs.Ranges.{IsFeatureRule};
 
+use crate::defaults::{Defaults, defaults_of};
 use crate::error::{SubsystemError, ensure};
 use crate::key::Key;
 use crate::section::Section;
-use crate::table_name::TableName;
+use crate::table_name::{TableName, feature_keys};
 use nv_layout::Feature;
 use std::alloc::Global;
 use toml::Table;
@@ -21,8 +22,8 @@ use toml::Table;
 pub struct FeatureRule {
     /// The feature identifier.
     pub fid: u8,
-    /// The value before any is set.
-    pub default: u32,
+    /// The values before any is set.
+    pub defaults: Defaults,
     /// Whether a value can be saved; that of Error Recovery never can.
     pub saveable: bool,
     /// Whether Set Features can change the value.
@@ -36,8 +37,15 @@ fn has_fid(rules: &[FeatureRule], fid: u8) -> bool
 }
 
 #[tactic(auto, unfolding(crate::specs::Tables::feature_of))]
-fn feature_of(before: &[FeatureRule], table: &Table) -> Result<FeatureRule, SubsystemError>
-    ensures exact { IsUnlessMemory (λ r. r) result (feature_of before.now (table_view table.now)) }
+fn feature_of(
+    alloc: Global,
+    version: u8,
+    wctemp: u16,
+    before: &[FeatureRule],
+    table: &Table,
+) -> Result<FeatureRule, SubsystemError>
+    ensures exact { IsUnlessMemory (λ r. r) result
+        (feature_of version wctemp before.now (table_view table.now)) }
     ensures sound { IfOk result IsFeatureRule }
     ensures new { IfOk result (λ r. list_any (λ rule. rule.fid == r.fid) before.now ≡ false) }
 {
@@ -47,37 +55,49 @@ fn feature_of(before: &[FeatureRule], table: &Table) -> Result<FeatureRule, Subs
     };
     let fid = section.integer(Key::Fid, 0, 255)? as u8;
     let feature = Feature::of(fid).ok_or(section.out_of_range(Key::Fid))?;
+    let has_thresholds = fid == 0x04;
+    ensure(
+        !(version == 1 && has_thresholds),
+        section.out_of_range(Key::Fid),
+    )?;
     ensure(!has_fid(before, fid), section.repeated(Key::Fid))?;
     let default = section.integer_or(Key::Default, 0, 0, 4294967295)? as u32;
-    ensure(feature.accepts(default), section.out_of_range(Key::Default))?;
+    ensure(
+        feature.is_value(default) && !(has_thresholds && section.has(Key::Default)),
+        section.out_of_range(Key::Default),
+    )?;
     let saveable = section.flag_or(Key::Saveable, false)?;
     ensure(
         !(saveable && fid == 0x05),
         section.out_of_range(Key::Saveable),
     )?;
     let changeable = section.flag_or(Key::Changeable, true)?;
-    section.only_known()?;
+    let defaults = defaults_of(alloc, version, wctemp, fid, default, table)?;
+    section.only(feature_keys(version))?;
     Ok(FeatureRule {
         fid,
-        default,
+        defaults,
         saveable,
         changeable,
     })
 }
 
-/// The features that some tables give.
+/// The features that some tables of a controller give, by the file's version and the controller's
+/// wctemp.
 pub(crate) fn features_of(
     alloc: Global,
+    version: u8,
+    wctemp: u16,
     tables: &[&Table],
 ) -> Result<Vec<FeatureRule>, SubsystemError>
     ensures exact { IsUnlessMemory (λ v. v.items) result
-        (readings feature_of [] (tables_view tables.now)) }
+        (readings (feature_of version wctemp) [] (tables_view tables.now)) }
     ensures sound { IfOk result (λ v. All IsFeatureRule v.items) }
     ensures fids { IfOk result (λ v. AllPairs (λ r s. r.fid ≢ s.fid) v.items) }
 {
     let mut rules = Vec::new(alloc);
     for table in tables {
-        let rule = feature_of(&rules, table)?;
+        let rule = feature_of(alloc, version, wctemp, &rules, table)?;
         rules.push(rule)?;
     }
     Ok(rules)

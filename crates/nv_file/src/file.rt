@@ -71,7 +71,7 @@ fn file_of(alloc: Global, table: &Table) -> Result<File, SubsystemError>
 {
     let top = top_of(alloc, table)?;
     let formats = formats_of(alloc, &top.formats)?;
-    let controllers = controller_entries_of(alloc, &top.controllers)?;
+    let controllers = controller_entries_of(alloc, top.version, &top.controllers)?;
     let namespaces = namespace_entries_of(alloc, top.nn, top.mc, &formats, &top.namespaces)?;
     ensure(fits(top.tnvmcap, &namespaces), SubsystemError::Capacity)?;
     ensure(

@@ -22,6 +22,7 @@
 
 mod attachment;
 mod controller;
+mod defaults;
 mod demo;
 mod error;
 mod feature_rule;
@@ -36,6 +37,7 @@ mod table_name;
 mod top;
 
 pub use controller::ControllerEntry;
+pub use defaults::Defaults;
 pub use demo::DEMO;
 pub use error::SubsystemError;
 pub use feature_rule::FeatureRule;

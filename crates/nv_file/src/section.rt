@@ -6,12 +6,13 @@ ghost use Rattle.std.specs.BTreeMap.{keys};
 ghost use Rattle.std.specs.Str.{bytes_eq};
 ghost use Rattle.toml.specs.Data.{get_member, as_table, as_integer};
 ghost use Rattle.toml.specs.View.{view, items_view, table_view};
-ghost use Rattle.nv_file.specs.Names.{key_text, keys_of};
+ghost use Rattle.nv_file.specs.Names.{key_text};
 ghost use Rattle.nv_file.specs.Fault.{IsUnlessMemory};
 ghost use Rattle.nv_file.specs.Section.{in_range, integer_in_range, integer, integer_or, flag_or};
 ghost use Rattle.nv_file.specs.Section.{text, items_as, tables_in, tables, tables_or_none};
 ghost use Rattle.nv_file.specs.Section.{table_or_none, integers_in, integers_or_none, readings};
-ghost use Rattle.nv_file.specs.Section.{element, integers_in_range_or_none, only_known};
+ghost use Rattle.nv_file.specs.Section.{element, has_key, integers_in_range_or_none, only};
+ghost use Rattle.nv_file.specs.Section.{only_known};
 ghost use Rattle.nv_file.specs.Ranges.{is_text};
 ghost use Rattle.nv_file.specs.SectionView.{tables_view};
 
@@ -141,6 +142,13 @@ impl<'a> Section<'a> {
             Some(value) => self.integer_in_range(key, low, high, value),
             None => Ok(default),
         }
+    }
+
+    /// Whether anything stands at a key.
+    pub(crate) fn has(&self, key: Key) -> bool
+        ensures { result ≡ has_key key (table_view self.now.table.now) }
+    {
+        self.find(key).is_some()
     }
 
     /// An optional true or false.
@@ -280,8 +288,9 @@ impl<'a> Section<'a> {
         }
     }
 
+    /// The integers of a list, each from 0 to `high`.
     #[tactic(auto, unfolding(crate::specs::Section::element))]
-    fn each_in_range(
+    pub(crate) fn each_in_range(
         &self,
         alloc: Global,
         key: Key,
@@ -317,12 +326,19 @@ impl<'a> Section<'a> {
         self.each_in_range(alloc, key, high, &integers)
     }
 
+    /// That the table has no other keys than those known.
+    pub(crate) fn only(&self, known: &[Key]) -> Result<(), SubsystemError>
+        ensures { result ≡ only known.now self.now.name (table_view self.now.table.now) }
+    {
+        let unknown = SubsystemError::Unknown { table: self.name };
+        ensure(has_only(known, self.table), unknown)
+    }
+
     /// That the table has no other keys than those of its name.
     pub(crate) fn only_known(&self) -> Result<(), SubsystemError>
         ensures { result ≡ only_known self.now.name (table_view self.now.table.now) }
     {
-        let unknown = SubsystemError::Unknown { table: self.name };
-        ensure(has_only(self.name.keys(), self.table), unknown)
+        self.only(self.name.keys())
     }
 }
 

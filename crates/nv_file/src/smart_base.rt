@@ -83,7 +83,7 @@ fn counters_of(table: &Table) -> Result<Counters, SubsystemError>
 }
 
 /// The number at an index, or 0 where the list ends before it.
-fn number_at(numbers: &[u16], index: usize) -> u16
+pub(crate) fn number_at(numbers: &[u16], index: usize) -> u16
     ensures { result ≡ slice_index numbers.now index }
 {
     numbers.get(index).copied().unwrap_or(0)

@@ -1,6 +1,6 @@
 //! The tables of a subsystem file, and which keys each may have.
 ghost use Rattle.std.specs.Prelude.{◌≡◌};
-ghost use Rattle.nv_file.specs.Names.{table_text, keys_of};
+ghost use Rattle.nv_file.specs.Names.{feature_keys, keys_of, table_text};
 
 use crate::key::Key;
 use std::fmt;
@@ -67,7 +67,14 @@ impl TableName {
                 Key::Feature,
                 Key::Smart,
             ],
-            TableName::Feature => &[Key::Fid, Key::Default, Key::Saveable, Key::Changeable],
+            TableName::Feature => &[
+                Key::Fid,
+                Key::Default,
+                Key::Saveable,
+                Key::Changeable,
+                Key::Over,
+                Key::Under,
+            ],
             TableName::Smart => &[
                 Key::CriticalWarning,
                 Key::AvailSpare,
@@ -96,6 +103,18 @@ impl TableName {
                 Key::Controllers,
             ],
         }
+    }
+}
+
+/// The keys that a feature may have in a version of the file.
+#[tactic(auto, unfolding(crate::specs::Names::feature_keys))]
+pub(crate) fn feature_keys(version: u8) -> &'static [Key]
+    ensures { result.now ≡ feature_keys version }
+{
+    if version == 1 {
+        &[Key::Fid, Key::Default, Key::Saveable, Key::Changeable]
+    } else {
+        TableName::Feature.keys()
     }
 }
 

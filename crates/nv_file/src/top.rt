@@ -16,6 +16,7 @@ use toml::Table;
 /// What the top table holds, before the tables in it are read.
 #[derive(Drop)]
 pub struct Top<'a> {
+    pub version: u8,
     pub nn: u32,
     pub tnvmcap: u64,
     pub mc: u8,
@@ -35,7 +36,7 @@ pub(crate) fn top_of<'a>(alloc: Global, table: &'a Table) -> Result<Top<'a>, Sub
         name: TableName::Top,
         table,
     };
-    section.integer(Key::Version, 1, 1)?;
+    let version = section.integer(Key::Version, 1, 2)? as u8;
     let nn = section.integer(Key::Nn, 1, 1024)? as u32;
     let tnvmcap = section.integer(Key::Tnvmcap, 0, GREATEST_INTEGER)?;
     let mc = section.integer_or(Key::Mc, 0, 0, 3)? as u8;
@@ -49,6 +50,7 @@ pub(crate) fn top_of<'a>(alloc: Global, table: &'a Table) -> Result<Top<'a>, Sub
     )?;
     section.only_known()?;
     Ok(Top {
+        version,
         nn,
         tnvmcap,
         mc,

@@ -1,14 +1,17 @@
--- Features: one row for each, as in the section "Feature Specific Information".
-use Rattle.std.specs.Prelude.{ℕ, Bool, true, false, ◌==◌, ◌&&◌, bit_and, List, [], ◌∷◌, Option}
-use Rattle.std.specs.Prelude.{codes, find}
-use Rattle.std.specs.List.{list_any}
+-- Features: one row for each, as in the section "Feature Specific Information". A feature has one
+-- value under selector 0, or one under each of its selectors. The dword of a Set has the value, and
+-- in features of more than one value also the selector that it is for.
+use Rattle.std.specs.Prelude.{ℕ, Bool, true, false, ◌==◌, ◌&&◌, ◌||◌, nat_lt, ◌/◌, ◌%◌, bit_and}
+use Rattle.std.specs.Prelude.{List, [], ◌∷◌, length, Option, codes, find}
+use Rattle.std.specs.List.{filter, list_any}
+use Rattle.nv_layout.specs.Parts.{bits}
 use Rattle.nv_layout.specs.declared.feature.TheConstants.Feature.{ALL}
 use Rattle.nv_layout.specs.declared.feature.Feature.{Feature}
 use Rattle.nv_layout.specs.declared.feature.Feature.TheVariants as feature
 
 -- a feature identifier, a name, the bits that the dword of a Set may have, those of them that are 0
--- all the same, the bits that are stored, whether each namespace has a value of its own, and the
--- selectors under which there is one
+-- all the same, those that are stored, whether each namespace has a value of its own, and the
+-- selectors
 pub record Row : Type 0 where
   pub fid : ℕ
   pub name : List ℕ
@@ -18,7 +21,7 @@ pub record Row : Type 0 where
   pub per_namespace : Bool
   pub selectors : List ℕ
 
--- a feature of one value, of which all bits are stored
+-- a feature of one value, which has each bit of its mask
 abbrev pub row : ℕ → List ℕ → ℕ → ℕ → Bool → Row
 row fid name mask clear per_namespace = record {
   fid = fid;
@@ -30,9 +33,23 @@ row fid name mask clear per_namespace = record {
   selectors = 0 ∷ [];
 }
 
+-- over and under each of nine temperatures: TMPSEL 0 to 8, plus 16 where THSEL is 1
+abbrev pub thresholds : List ℕ
+thresholds =
+    0 ∷ 1 ∷ 2 ∷ 3 ∷ 4 ∷ 5 ∷ 6 ∷ 7 ∷ 8 ∷ 16 ∷ 17 ∷ 18 ∷ 19 ∷ 20 ∷ 21 ∷ 22 ∷ 23 ∷ 24 ∷ []
+
 abbrev pub row_of : Feature → Row
 row_of feature.Arbitration = row 0x01 (codes "Arbitration") 0xffffff07 0 false
 row_of feature.PowerManagement = row 0x02 (codes "Power Management") 0xff 0x1f false
+row_of feature.TemperatureThreshold = record {
+  fid = 0x04;
+  name = codes "Temperature Threshold";
+  mask = 0x3fffff;
+  clear = 0;
+  kept = 0xffff;
+  per_namespace = false;
+  selectors = thresholds;
+}
 row_of feature.ErrorRecovery = row 0x05 (codes "Error Recovery") 0x1ffff 0 true
 row_of feature.VolatileWriteCache = row 0x06 (codes "Volatile Write Cache") 0x1 0 false
 row_of feature.InterruptCoalescing = row 0x08 (codes "Interrupt Coalescing") 0xffff 0 false
@@ -44,19 +61,43 @@ row_of feature.AsynchronousEventConfiguration =
 abbrev pub feature_of : ℕ → Option Feature
 feature_of fid = find (λ f. (row_of f).fid == fid) ALL
 
--- what the dword of a Set may be: within the mask, with 0 in the clear bits
+-- ---- selectors
+
+-- the selector in a dword: TMPSEL in its low four bits, THSEL in the two above
+abbrev pub selector_in : Feature → ℕ → ℕ
+selector_in feature.TemperatureThreshold dword = bits 16 6 dword
+selector_in f dword = 0
+
+-- one of the feature's selectors
+abbrev pub is_selector : Feature → ℕ → Bool
+is_selector f s = list_any (λ x. x == s) (row_of f).selectors
+
+-- a Set with selector s is for x too: TMPSEL Fh is for each of that THSEL
+abbrev pub is_for : ℕ → ℕ → Bool
+is_for s x = (x == s) || ((s % 16 == 15) && (x / 16 == s / 16))
+
+-- those that a Set with this dword is for
+abbrev pub selectors_set : Feature → ℕ → List ℕ
+selectors_set f dword = filter (is_for (selector_in f dword)) (row_of f).selectors
+
+-- the dword of a Get has a selector of the feature
+abbrev pub is_get_selector : Feature → ℕ → Bool
+is_get_selector f cdw11 = is_selector f (selector_in f cdw11)
+
+-- ---- values
+
+-- what the dword of a Set may be: within the mask, with the clear bits 0, and for some selector
 abbrev pub is_accepted : Feature → ℕ → Bool
 is_accepted f dword =
-    (bit_and dword (row_of f).mask == dword) && (bit_and dword (row_of f).clear == 0)
+    (bit_and dword (row_of f).mask == dword)
+    && (bit_and dword (row_of f).clear == 0)
+    && nat_lt 0 (length (selectors_set f dword))
 
--- what is stored of it
+-- what of it is stored
 abbrev pub stored : Feature → ℕ → ℕ
 stored f dword = bit_and dword (row_of f).kept
 
--- what may be stored
+-- what a stored value may be
 abbrev pub is_value : Feature → ℕ → Bool
-is_value f value = (bit_and value (row_of f).kept == value) && (bit_and value (row_of f).clear == 0)
-
--- one of the selectors under which it has a value
-abbrev pub has_selector : Feature → ℕ → Bool
-has_selector f selector = list_any (λ x. x == selector) (row_of f).selectors
+is_value f value =
+    (bit_and value (row_of f).kept == value) && (bit_and value (row_of f).clear == 0)

@@ -1,13 +1,15 @@
--- Laws of the table of features.
-use Rattle.std.proofs.Common.{◌≡◌, ℕ, ◌==◌, ◌<◌, ◌^◌, ◌&&◌, ◌||◌, Bool, true, false, List, [], ◌∷◌}
-use Rattle.std.proofs.Common.{Option, Some, get_or, ◌∙◌, refl, sym, ap, subst, arith, lit<, bit_and}
-use Rattle.std.specs.Prelude.{All, nat_lt, find, if◌then◌else◌}
-use Rattle.std.proofs.lemmas.List.Folds.{list_any_at}
-use Rattle.std.specs.List.{list_all, list_any}
-use Rattle.std.proofs.lemmas.Bool.{and_parts, ltb-true}
+-- Laws of the features in their table.
+use Rattle.std.proofs.Common.{◌≡◌, ◌∙◌, ℕ, ◌<◌, ◌^◌, ◌==◌, ◌&&◌, ◌||◌, Bool, true, false, bit_and}
+use Rattle.std.proofs.Common.{List, [], ◌∷◌, get_or, length, Option, Some, refl, sym, ap, arith}
+use Rattle.std.proofs.Common.{lit<, nat_lt}
+use Rattle.std.specs.Prelude.{All, find, if◌then◌else◌}
+use Rattle.std.specs.List.{filter, list_any, list_all}
+use Rattle.std.proofs.lemmas.Bool.{and_parts, lt-ltb, ltb-true}
 use Rattle.std.proofs.lemmas.Bool.Decides.{nat_tests}
-use Rattle.std.proofs.lemmas.Nat.{and_le_r}
-use Rattle.nv_layout.specs.Feature.{feature_of, has_selector, is_accepted, is_value, row_of}
+use Rattle.std.proofs.lemmas.List.Folds.{list_any_at}
+use Rattle.std.proofs.lemmas.Nat.{and_assoc, and_comm, and_le_r}
+use Rattle.std.specs.Int.Bits.{and_self}
+use Rattle.nv_layout.specs.Feature.{feature_of, is_accepted, is_selector, is_value, row_of}
 use Rattle.nv_layout.specs.Feature.{stored}
 use Rattle.nv_layout.specs.declared.feature.TheConstants.Feature.{ALL}
 use Rattle.nv_layout.specs.declared.feature.Feature.{Feature}
@@ -16,6 +18,7 @@ use Rattle.nv_layout.specs.declared.feature.Feature.TheVariants as feature
 pub feature_at : (f : Feature) → feature_of (row_of f).fid ≡ Some f
 feature_at feature.Arbitration = refl
 feature_at feature.PowerManagement = refl
+feature_at feature.TemperatureThreshold = refl
 feature_at feature.ErrorRecovery = refl
 feature_at feature.VolatileWriteCache = refl
 feature_at feature.InterruptCoalescing = refl
@@ -41,19 +44,23 @@ feature_with fid f e = found ALL e
     found (g ∷ fs) e = one g ((row_of g).fid == fid) (find (λ g. (row_of g).fid == fid) fs) refl
         (found fs) e
 
-pub default_is_value : (f : Feature) → is_value f 0 ≡ true
-default_is_value feature.Arbitration = refl
-default_is_value feature.PowerManagement = refl
-default_is_value feature.ErrorRecovery = refl
-default_is_value feature.VolatileWriteCache = refl
-default_is_value feature.InterruptCoalescing = refl
-default_is_value feature.WriteAtomicityNormal = refl
-default_is_value feature.AsynchronousEventConfiguration = refl
+pub fid_below : (f : Feature) → (row_of f).fid < 12
+fid_below feature.Arbitration = lit< tt
+fid_below feature.PowerManagement = lit< tt
+fid_below feature.TemperatureThreshold = lit< tt
+fid_below feature.ErrorRecovery = lit< tt
+fid_below feature.VolatileWriteCache = lit< tt
+fid_below feature.InterruptCoalescing = lit< tt
+fid_below feature.WriteAtomicityNormal = lit< tt
+fid_below feature.AsynchronousEventConfiguration = lit< tt
+
+-- ---- namespaces
 
 -- the one whose value each namespace has for itself
 pub of_namespaces : (f : Feature) → (row_of f).per_namespace ≡ true → f ≡ feature.ErrorRecovery
 of_namespaces feature.Arbitration e = absurd (cc e)
 of_namespaces feature.PowerManagement e = absurd (cc e)
+of_namespaces feature.TemperatureThreshold e = absurd (cc e)
 of_namespaces feature.ErrorRecovery e = refl
 of_namespaces feature.VolatileWriteCache e = absurd (cc e)
 of_namespaces feature.InterruptCoalescing e = absurd (cc e)
@@ -65,33 +72,35 @@ pub other_identifier : (f : Feature) → (row_of f).per_namespace ≡ false
     → ((row_of f).fid == (row_of feature.ErrorRecovery).fid) ≡ false
 other_identifier feature.Arbitration e = refl
 other_identifier feature.PowerManagement e = refl
+other_identifier feature.TemperatureThreshold e = refl
 other_identifier feature.ErrorRecovery e = absurd (cc e)
 other_identifier feature.VolatileWriteCache e = refl
 other_identifier feature.InterruptCoalescing e = refl
 other_identifier feature.WriteAtomicityNormal e = refl
 other_identifier feature.AsynchronousEventConfiguration e = refl
 
--- it has one selector
+-- it has one value for each of them
 pub one_selector_of_namespaces : (f : Feature) → (row_of f).per_namespace ≡ true
     → (row_of f).selectors ≡ 0 ∷ []
-one_selector_of_namespaces f e =
-    subst (λ g. (row_of g).selectors ≡ 0 ∷ []) (sym (of_namespaces f e)) refl
+one_selector_of_namespaces f e = ap (λ g. (row_of g).selectors) (of_namespaces f e)
 
--- the numbers of the table
-pub record InTable (f : Feature) : Type 0 where
-  pub fid : (row_of f).fid < 12
-  pub kept : (row_of f).kept < 2 ^ 32
-  pub selectors : list_all (λ s. nat_lt s 32) (row_of f).selectors ≡ true
+-- ---- selectors
 
-pub in_table : (f : Feature) → InTable f
-in_table feature.Arbitration = record { fid = lit< tt; kept = lit< tt; selectors = refl }
-in_table feature.PowerManagement = record { fid = lit< tt; kept = lit< tt; selectors = refl }
-in_table feature.ErrorRecovery = record { fid = lit< tt; kept = lit< tt; selectors = refl }
-in_table feature.VolatileWriteCache = record { fid = lit< tt; kept = lit< tt; selectors = refl }
-in_table feature.InterruptCoalescing = record { fid = lit< tt; kept = lit< tt; selectors = refl }
-in_table feature.WriteAtomicityNormal = record { fid = lit< tt; kept = lit< tt; selectors = refl }
-in_table feature.AsynchronousEventConfiguration =
-    record { fid = lit< tt; kept = lit< tt; selectors = refl }
+is_same : (a b : ℕ) → (a == b) ≡ true → a ≡ b
+is_same a b e = grind (arith, nat_tests)
+
+same_is : (a b : ℕ) → a ≡ b → (a == b) ≡ true
+same_is a b e = grind (arith, nat_tests)
+
+all_below : (f : Feature) → list_all (λ s. nat_lt s 32) (row_of f).selectors ≡ true
+all_below feature.Arbitration = refl
+all_below feature.PowerManagement = refl
+all_below feature.TemperatureThreshold = refl
+all_below feature.ErrorRecovery = refl
+all_below feature.VolatileWriteCache = refl
+all_below feature.InterruptCoalescing = refl
+all_below feature.WriteAtomicityNormal = refl
+all_below feature.AsynchronousEventConfiguration = refl
 
 one_below : (xs : List ℕ) (s : ℕ) → list_all (λ x. nat_lt x 32) xs ≡ true
     → list_any (λ x. x == s) xs ≡ true → s < 32
@@ -105,53 +114,68 @@ one_below (x ∷ xs) s all any =
     at_test true e any here later = let same : x ≡ s = grind (arith, nat_tests) in omega arith
     at_test false e any here later = later any
 
-pub selector_below : (f : Feature) (s : ℕ) → has_selector f s ≡ true → s < 32
-selector_below f s e = one_below (row_of f).selectors s (in_table f).selectors e
+pub selector_below : (f : Feature) (s : ℕ) → is_selector f s ≡ true → s < 32
+selector_below f s e = one_below (row_of f).selectors s (all_below f) e
 
-is_same : (a b : ℕ) → (a == b) ≡ true → a ≡ b
-is_same a b e = grind (arith, nat_tests)
+-- each selector of the table is one of the feature's
+pub selectors_known : (f : Feature) → All (λ s. is_selector f s ≡ true) (row_of f).selectors
+selectors_known f k d h =
+    list_any_at (λ x. x == get_or (row_of f).selectors k d) (row_of f).selectors k d h
+    (same_is (get_or (row_of f).selectors k d) (get_or (row_of f).selectors k d) refl)
+
+-- ---- values
+
+pub default_is_value : (f : Feature) → is_value f 0 ≡ true
+default_is_value feature.Arbitration = refl
+default_is_value feature.PowerManagement = refl
+default_is_value feature.TemperatureThreshold = refl
+default_is_value feature.ErrorRecovery = refl
+default_is_value feature.VolatileWriteCache = refl
+default_is_value feature.InterruptCoalescing = refl
+default_is_value feature.WriteAtomicityNormal = refl
+default_is_value feature.AsynchronousEventConfiguration = refl
+
+kept_fits : (f : Feature) → (row_of f).kept < 2 ^ 32
+kept_fits feature.Arbitration = lit< tt
+kept_fits feature.PowerManagement = lit< tt
+kept_fits feature.TemperatureThreshold = lit< tt
+kept_fits feature.ErrorRecovery = lit< tt
+kept_fits feature.VolatileWriteCache = lit< tt
+kept_fits feature.InterruptCoalescing = lit< tt
+kept_fits feature.WriteAtomicityNormal = lit< tt
+kept_fits feature.AsynchronousEventConfiguration = lit< tt
 
 pub value_fits : (f : Feature) (v : ℕ) → is_value f v ≡ true → v < 2 ^ 32
 value_fits f v e =
-    let masked = is_same (bit_and v (row_of f).kept) v
+    let within = is_same (bit_and v (row_of f).kept) v
     (and_parts (bit_and v (row_of f).kept == v) (bit_and v (row_of f).clear == 0) e).0 in
-    let fits = (in_table f).kept in
-    omega (arith, masked, and_le_r v (row_of f).kept, fits)
+    omega (arith, within, and_le_r v (row_of f).kept, kept_fits f)
 
--- where all bits of the mask are kept, what is accepted is stored as it is
-whole : (d mask clear : ℕ) → ((bit_and d mask == d) && (bit_and d clear == 0)) ≡ true
-    → ((bit_and (bit_and d mask) mask == bit_and d mask) && (bit_and (bit_and d mask) clear == 0))
+-- what is stored of an accepted dword
+pub stored_is_value : (f : Feature) (d : ℕ) → is_accepted f d ≡ true → is_value f (stored f d)
     ≡ true
-whole d mask clear e =
-    let same = is_same (bit_and d mask) d
-    (and_parts (bit_and d mask == d) (bit_and d clear == 0) e).0 in
-    subst (λ v. ((bit_and v mask == v) && (bit_and v clear == 0)) ≡ true) (sym same) e
+stored_is_value f d e =
+    let kept = (row_of f).kept in
+    let clear = (row_of f).clear in
+    let both = (and_parts ((bit_and d (row_of f).mask == d) && (bit_and d clear == 0)) _ e).0 in
+    let zero = is_same (bit_and d clear) 0 (and_parts (bit_and d (row_of f).mask == d) _ both).1 in
+    let within : bit_and (bit_and d kept) kept ≡ bit_and d kept =
+    and_assoc kept d kept ∙ ap (bit_and d) (and_self kept) in
+    let cleared : bit_and (bit_and d kept) clear ≡ 0 =
+    and_assoc clear d kept
+    ∙ ap (bit_and d) (and_comm kept clear)
+    ∙ sym (and_assoc kept d clear)
+    ∙ ap (λ n. bit_and n kept) zero in
+    (λ i. same_is (bit_and (bit_and d kept) kept) (bit_and d kept) within i
+    && same_is (bit_and (bit_and d kept) clear) 0 cleared i)
 
-pub stored_is_value : (f : Feature) (d : ℕ) → is_accepted f d ≡ true
-    → is_value f (stored f d) ≡ true
-stored_is_value feature.Arbitration d e = whole d 0xffffff07 0 e
-stored_is_value feature.PowerManagement d e = whole d 0xff 0x1f e
-stored_is_value feature.ErrorRecovery d e = whole d 0x1ffff 0 e
-stored_is_value feature.VolatileWriteCache d e = whole d 1 0 e
-stored_is_value feature.InterruptCoalescing d e = whole d 0xffff 0 e
-stored_is_value feature.WriteAtomicityNormal d e = whole d 1 0 e
-stored_is_value feature.AsynchronousEventConfiguration d e = whole d 0x7fff 0 e
+-- a Set is for some selector
+kept_by : (p : ℕ → Bool) (x : ℕ) (xs : List ℕ) (b : Bool) → p x ≡ b
+    → list_any p xs ≡ nat_lt 0 (length (filter p xs))
+    → list_any p (x ∷ xs) ≡ nat_lt 0 (length (filter p (x ∷ xs)))
+kept_by p x xs true h rest = rw h (sym (lt-ltb 0 (length (x ∷ filter p xs)) (omega arith)))
+kept_by p x xs false h rest = rw h rest
 
--- the same for a default, as the file's reader accepts it
-pub accepted_is_value : (f : Feature) (d : ℕ) → is_accepted f d ≡ true → is_value f d ≡ true
-accepted_is_value feature.Arbitration d e = e
-accepted_is_value feature.PowerManagement d e = e
-accepted_is_value feature.ErrorRecovery d e = e
-accepted_is_value feature.VolatileWriteCache d e = e
-accepted_is_value feature.InterruptCoalescing d e = e
-accepted_is_value feature.WriteAtomicityNormal d e = e
-accepted_is_value feature.AsynchronousEventConfiguration d e = e
-
--- each selector of the table is one of the feature's
-pub selectors_known : (f : Feature) → All (λ s. has_selector f s ≡ true) (row_of f).selectors
-selectors_known f k d h =
-    list_any_at (λ x. x == get_or (row_of f).selectors k d) (row_of f).selectors k d h
-    (same (get_or (row_of f).selectors k d))
-  where
-    same : (n : ℕ) → (n == n) ≡ true
-    same n = grind (arith, nat_tests)
+pub some_kept : (p : ℕ → Bool) (xs : List ℕ) → list_any p xs ≡ nat_lt 0 (length (filter p xs))
+some_kept p [] = refl
+some_kept p (x ∷ xs) = kept_by p x xs (p x) refl (some_kept p xs)

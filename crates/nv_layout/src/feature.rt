@@ -1,14 +1,18 @@
 //! The features that a controller may have.
 
-ghost use Rattle.std.specs.Prelude.{◌≡◌, Option};
-ghost use Rattle.nv_layout.specs.Feature.{feature_of, has_selector, is_accepted, row_of};
-ghost use Rattle.nv_layout.specs.Feature.{stored};
+ghost use Rattle.std.specs.Prelude.{◌≡◌, ◌==◌, Option, [], ◌∷◌, length, nat_lt};
+ghost use Rattle.std.specs.List.{list_any};
+ghost use Rattle.nv_layout.specs.Feature.{feature_of, is_accepted, is_for, is_selector, is_value};
+ghost use Rattle.nv_layout.specs.Feature.{row_of, selector_in, selectors_set, stored};
+
+use crate::parts::bits_of;
 
 /// A feature. Section "Feature Specific Information".
 #[derive(Clone, Copy, Debug, PartialEq, Eq)]
 pub enum Feature {
     Arbitration,
     PowerManagement,
+    TemperatureThreshold,
     ErrorRecovery,
     VolatileWriteCache,
     InterruptCoalescing,
@@ -26,19 +30,59 @@ struct FeatureRow {
     mask: u32,
     /// The bits of the mask that are 0 all the same.
     clear: u32,
-    /// The bits of it that are stored.
+    /// The bits of the mask that are stored.
     kept: u32,
     /// Whether each namespace has a value of its own.
     per_namespace: bool,
-    /// The selectors under which there is a value.
+    /// The selectors under which it has values.
     selectors: &'static [u8],
+}
+
+/// A feature of one value, which has each bit of its mask.
+fn one_value(fid: u8, name: &'static str, mask: u32, clear: u32, per_namespace: bool) -> FeatureRow
+    ensures fid { result.fid ≡ fid }
+    ensures name { result.name ≡ name.entry }
+    ensures mask { result.mask ≡ mask }
+    ensures clear { result.clear ≡ clear }
+    ensures kept { result.kept ≡ mask }
+    ensures per_namespace { result.per_namespace ≡ per_namespace }
+    ensures selectors { result.selectors.now ≡ 0 ∷ [] }
+{
+    FeatureRow {
+        fid,
+        name,
+        mask,
+        clear,
+        kept: mask,
+        per_namespace,
+        selectors: &[0],
+    }
+}
+
+/// The selectors of Temperature Threshold: over and under each of nine temperatures.
+const THRESHOLDS: [u8; 18] = [
+    0, 1, 2, 3, 4, 5, 6, 7, 8, 16, 17, 18, 19, 20, 21, 22, 23, 24,
+];
+
+/// Whether a Set with one selector is for another too: TMPSEL Fh is for each of that THSEL.
+fn is_for(named: u8, selector: u8) -> bool
+    ensures { result ≡ is_for named selector }
+{
+    selector == named || (named % 16 == 15 && selector / 16 == named / 16)
+}
+
+fn is_for_any(named: u8, selectors: &[u8]) -> bool
+    ensures { result ≡ list_any (is_for named) selectors.now }
+{
+    selectors.iter().any(|selector| is_for(named, *selector))
 }
 
 impl Feature {
     /// Every feature, by identifiers ascending.
-    pub const ALL: [Feature; 7] = [
+    pub const ALL: [Feature; 8] = [
         Feature::Arbitration,
         Feature::PowerManagement,
+        Feature::TemperatureThreshold,
         Feature::ErrorRecovery,
         Feature::VolatileWriteCache,
         Feature::InterruptCoalescing,
@@ -46,8 +90,7 @@ impl Feature {
         Feature::AsynchronousEventConfiguration,
     ];
 
-    /// The table: identifier, name, mask, clear bits, and whether it is one of namespaces. There is
-    /// one power state, 0, in bits 4:0 of Power Management.
+    /// The table. There is one power state, 0, in bits 4:0 of Power Management.
     fn row(self) -> FeatureRow
         ensures fid { result.fid ≡ (row_of self).fid }
         ensures name { result.name.now ≡ (row_of self).name }
@@ -57,29 +100,31 @@ impl Feature {
         ensures per_namespace { result.per_namespace ≡ (row_of self).per_namespace }
         ensures selectors { result.selectors.now ≡ (row_of self).selectors }
     {
-        let (fid, name, mask, clear, per_namespace) = match self {
-            Feature::Arbitration => (0x01, "Arbitration", 0xffff_ff07, 0, false),
-            Feature::PowerManagement => (0x02, "Power Management", 0xff, 0x1f, false),
-            Feature::ErrorRecovery => (0x05, "Error Recovery", 0x1_ffff, 0, true),
-            Feature::VolatileWriteCache => (0x06, "Volatile Write Cache", 0x1, 0, false),
-            Feature::InterruptCoalescing => (0x08, "Interrupt Coalescing", 0xffff, 0, false),
-            Feature::WriteAtomicityNormal => (0x0a, "Write Atomicity Normal", 0x1, 0, false),
-            Feature::AsynchronousEventConfiguration => (
-                0x0b,
-                "Asynchronous Event Configuration",
-                0x7fff,
-                0,
-                false,
-            ),
-        };
-        FeatureRow {
-            fid,
-            name,
-            mask,
-            clear,
-            kept: mask,
-            per_namespace,
-            selectors: &[0],
+        match self {
+            Feature::Arbitration => one_value(0x01, "Arbitration", 0xffff_ff07, 0, false),
+            Feature::PowerManagement => one_value(0x02, "Power Management", 0xff, 0x1f, false),
+            Feature::TemperatureThreshold => FeatureRow {
+                fid: 0x04,
+                name: "Temperature Threshold",
+                mask: 0x3f_ffff,
+                clear: 0,
+                kept: 0xffff,
+                per_namespace: false,
+                selectors: &THRESHOLDS,
+            },
+            Feature::ErrorRecovery => one_value(0x05, "Error Recovery", 0x1_ffff, 0, true),
+            Feature::VolatileWriteCache => {
+                one_value(0x06, "Volatile Write Cache", 0x1, 0, false)
+            }
+            Feature::InterruptCoalescing => {
+                one_value(0x08, "Interrupt Coalescing", 0xffff, 0, false)
+            }
+            Feature::WriteAtomicityNormal => {
+                one_value(0x0a, "Write Atomicity Normal", 0x1, 0, false)
+            }
+            Feature::AsynchronousEventConfiguration => {
+                one_value(0x0b, "Asynchronous Event Configuration", 0x7fff, 0, false)
+            }
         }
     }
 
@@ -90,6 +135,7 @@ impl Feature {
         match fid {
             0x01 => Some(Feature::Arbitration),
             0x02 => Some(Feature::PowerManagement),
+            0x04 => Some(Feature::TemperatureThreshold),
             0x05 => Some(Feature::ErrorRecovery),
             0x06 => Some(Feature::VolatileWriteCache),
             0x08 => Some(Feature::InterruptCoalescing),
@@ -120,33 +166,65 @@ impl Feature {
         self.row().per_namespace
     }
 
-    /// Whether a Set may have this dword: one with no bit outside the mask, and whose clear bits are
-    /// 0.
-    pub fn accepts(self, dword: u32) -> bool
-        ensures { result ≡ is_accepted self dword }
-    {
-        let row = self.row();
-        dword & row.mask == dword && dword & row.clear == 0
-    }
-
-    /// What is stored of the dword of a Set.
-    pub fn stored(self, dword: u32) -> u32
-        ensures { result ≡ stored self dword }
-    {
-        dword & self.row().kept
-    }
-
-    /// The selectors under which it has a value.
+    /// The selectors under which it has values, ascending: 0 alone where it has one value.
     pub fn selectors(self) -> &'static [u8]
         ensures { result.now ≡ (row_of self).selectors }
     {
         self.row().selectors
     }
 
-    /// Whether it has a value under a selector.
-    pub fn has_selector(self, selector: u8) -> bool
-        ensures { result ≡ has_selector self selector }
+    /// The selector in the dword of a Get or a Set. Of Temperature Threshold it is bits 21:16:
+    /// TMPSEL plus 16 times THSEL.
+    pub fn selector_in(self, dword: u32) -> u8
+        ensures { result ≡ selector_in self dword }
     {
-        self.selectors().iter().any(|known| *known == selector)
+        match self {
+            Feature::TemperatureThreshold => bits_of(dword, 16, 6) as u8,
+            _ => 0,
+        }
+    }
+
+    /// Whether it has a value under the selector.
+    pub fn has_selector(self, selector: u8) -> bool
+        ensures { result ≡ is_selector self selector }
+    {
+        self.row().selectors.iter().any(|known| *known == selector)
+    }
+
+    /// Whether a Set with this dword is for the selector.
+    pub fn sets(self, dword: u32, selector: u8) -> bool
+        ensures { result ≡ list_any (λ x. x == selector) (selectors_set self dword) }
+    {
+        is_for(self.selector_in(dword), selector) && self.has_selector(selector)
+    }
+
+    fn sets_some(self, dword: u32) -> bool
+        ensures { result ≡ nat_lt 0 (length (selectors_set self dword)) }
+    {
+        is_for_any(self.selector_in(dword), self.selectors())
+    }
+
+    /// Whether a Set may have this dword: one with no bit outside the mask, with the clear bits 0,
+    /// and for some selector.
+    pub fn accepts(self, dword: u32) -> bool
+        ensures { result ≡ is_accepted self dword }
+    {
+        let row = self.row();
+        dword & row.mask == dword && dword & row.clear == 0 && self.sets_some(dword)
+    }
+
+    /// What a Set with this dword stores.
+    pub fn stored(self, dword: u32) -> u32
+        ensures { result ≡ stored self dword }
+    {
+        dword & self.row().kept
+    }
+
+    /// Whether it may be a stored value.
+    pub fn is_value(self, value: u32) -> bool
+        ensures { result ≡ is_value self value }
+    {
+        let row = self.row();
+        value & row.kept == value && value & row.clear == 0
     }
 }

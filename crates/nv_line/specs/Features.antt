@@ -7,14 +7,16 @@ use Rattle.nv_line.specs.declared.device.Device.{Device}
 use Rattle.nv_line.specs.declared.fault.LineFault.{LineFault}
 use Rattle.nv_line.specs.declared.request.Ask.{Ask}
 use Rattle.nv_line.specs.declared.request.Ask.TheVariants as ask
-use Rattle.nv_line.specs.declared.verb.TheConstants.{FEATURE_ID, FEATURE_NSID, SAVE, SEL, VALUE}
+use Rattle.nv_line.specs.declared.verb.TheConstants.{CDW11, FEATURE_ID, FEATURE_NSID, SAVE, SEL}
+use Rattle.nv_line.specs.declared.verb.TheConstants.{VALUE}
 
 abbrev pub get_feature_of : List Row → Device → Result Ask LineFault
 get_feature_of rows device = do
   nsid ← number_option_in rows FEATURE_NSID device
   fid ← number_option_in rows FEATURE_ID device
   sel ← number_option_in rows SEL device
-  Ok (ask.GetFeature fid sel nsid)
+  cdw11 ← number_option_in rows CDW11 device
+  Ok (ask.GetFeature fid sel nsid cdw11)
 
 abbrev pub set_feature_of : List Row → Device → Result Ask LineFault
 set_feature_of rows device = do

@@ -6,7 +6,7 @@ use Rattle.nv_line.specs.declared.option.OptionName.TheVariants.{NamespaceId, Al
 use Rattle.nv_line.specs.declared.option.OptionName.TheVariants.{Ncap, Flbas, Dps}
 use Rattle.nv_line.specs.declared.option.OptionName.TheVariants.{Nmic, Controllers, Lbaf, Ses, Pi}
 use Rattle.nv_line.specs.declared.option.OptionName.TheVariants.{Pil, Ms}
-use Rattle.nv_line.specs.declared.option.OptionName.TheVariants.{FeatureId, Sel, Value, Save}
+use Rattle.nv_line.specs.declared.option.OptionName.TheVariants.{FeatureId, Sel, Cdw11, Value, Save}
 use Rattle.nv_line.specs.declared.option.OptionName.TheVariants.{LogEntries, OutputFormat}
 
 abbrev pub name_of : OptionName → Text
@@ -26,6 +26,7 @@ name_of Pil = codes "pil"
 name_of Ms = codes "ms"
 name_of FeatureId = codes "feature-id"
 name_of Sel = codes "sel"
+name_of Cdw11 = codes "cdw11"
 name_of Value = codes "value"
 name_of Save = codes "save"
 name_of LogEntries = codes "log-entries"

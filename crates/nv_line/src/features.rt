@@ -8,7 +8,7 @@ use crate::device::Device;
 use crate::fault::LineFault;
 use crate::option_value::{is_set, read_number};
 use crate::request::Ask;
-use crate::verb::{FEATURE_ID, FEATURE_NSID, SAVE, SEL, VALUE};
+use crate::verb::{CDW11, FEATURE_ID, FEATURE_NSID, SAVE, SEL, VALUE};
 use clap::ArgMatches;
 use nv_layout::ThreeBits;
 
@@ -19,7 +19,13 @@ pub(crate) fn get_feature(matches: &ArgMatches<'_>, device: Device) -> Result<As
     let nsid = read_number(matches, FEATURE_NSID, device)? as u32;
     let fid = read_number(matches, FEATURE_ID, device)? as u8;
     let sel = ThreeBits::low(read_number(matches, SEL, device)? as u8);
-    Ok(Ask::GetFeature { fid, sel, nsid })
+    let cdw11 = read_number(matches, CDW11, device)? as u32;
+    Ok(Ask::GetFeature {
+        fid,
+        sel,
+        nsid,
+        cdw11,
+    })
 }
 
 /// A value for a feature.

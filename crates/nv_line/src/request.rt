@@ -70,6 +70,7 @@ pub enum Ask {
         fid: u8,
         sel: ThreeBits,
         nsid: u32,
+        cdw11: u32,
     },
     /// A value for a feature, which may be saved too ("Set Features command").
     SetFeature {

@@ -151,6 +151,14 @@ pub const SEL: NumberOption = NumberOption {
     ..SES
 };
 
+/// Command Dword 11 of a command that gets a feature.
+pub const CDW11: NumberOption = NumberOption {
+    name: OptionName::Cdw11,
+    letter: 'c',
+    most: 0xffff_ffff,
+    ..NSZE
+};
+
 /// The value to give a feature.
 pub const VALUE: NumberOption = NumberOption {
     name: OptionName::Value,
@@ -243,10 +251,11 @@ static FORMAT: [CommandOption; 6] = [
     CommandOption::Number(MS),
 ];
 
-static GET_FEATURE: [CommandOption; 3] = [
+static GET_FEATURE: [CommandOption; 4] = [
     CommandOption::Number(FEATURE_NSID),
     CommandOption::Number(FEATURE_ID),
     CommandOption::Number(SEL),
+    CommandOption::Number(CDW11),
 ];
 
 static SET_FEATURE: [CommandOption; 4] = [

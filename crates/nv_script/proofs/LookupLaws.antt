@@ -49,7 +49,7 @@ not_refused s c (Create nsze ncap flbas dps nmic) h = absurd h
 not_refused s c (Delete n) h = absurd h
 not_refused s c (Attachment n detach ids) h = absurd h
 not_refused s c (Format n lbaf mset pi pil ses) h = absurd h
-not_refused s c (GetFeature fid sel n) h = absurd h
+not_refused s c (GetFeature fid sel n cdw11) h = absurd h
 not_refused s c (SetFeature fid value save n) h = absurd h
 not_refused s c (GetLog lid n offset dwords) h = absurd h
 
@@ -64,7 +64,7 @@ by_none s c (Create nsze ncap flbas dps nmic) serial h = absurd h
 by_none s c (Delete n) serial h = absurd h
 by_none s c (Attachment n detach ids) serial h = absurd h
 by_none s c (Format n lbaf mset pi pil ses) serial h = absurd h
-by_none s c (GetFeature fid sel n) serial h = absurd h
+by_none s c (GetFeature fid sel n cdw11) serial h = absurd h
 by_none s c (SetFeature fid value save n) serial h = absurd h
 by_none s c (GetLog lid n offset dwords) serial h = absurd h
 
@@ -129,7 +129,7 @@ received_same (Create nsze ncap flbas dps nmic) nn s c h = absurd h
 received_same (Delete n) nn s c h = absurd h
 received_same (Attachment n detach ids) nn s c h = absurd h
 received_same (Format n lbaf mset pi pil ses) nn s c h = absurd h
-received_same (GetFeature fid sel n) nn s c h = absurd h
+received_same (GetFeature fid sel n cdw11) nn s c h = absurd h
 received_same (SetFeature fid value save n) nn s c h = absurd h
 received_same (GetLog lid n offset dwords) nn s c h = absurd h
 

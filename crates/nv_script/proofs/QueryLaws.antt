@@ -60,7 +60,7 @@ module _ (s : State) (c serial : ℕ) where
   second_is_next (ask.Attachment nsid detach controllers) reply e = refl
   second_is_next (ask.Delete nsid) reply e = refl
   second_is_next (ask.Format nsid lbaf mset pi pil ses) reply e = refl
-  second_is_next (ask.GetFeature fid sel nsid) reply e = refl
+  second_is_next (ask.GetFeature fid sel nsid cdw11) reply e = refl
   second_is_next (ask.SetFeature fid value save nsid) reply e = refl
   second_is_next (ask.SmartLog nsid) reply e = refl
   second_is_next (ask.ErrorLog entries) reply e = errors_next entries (refusal_of s c IdentifyController) reply e

@@ -44,7 +44,7 @@ shown_by (ask.Attachment nsid detach controllers) reply.Done =
     Some (if detach then shown.Detached nsid else shown.Attached nsid)
 shown_by (ask.Delete nsid) reply.Done = Some (shown.Deleted nsid)
 shown_by (ask.Format nsid lbaf mset pi pil ses) reply.Done = Some (shown.Formatted nsid)
-shown_by (ask.GetFeature fid sel nsid) (reply.Number value) =
+shown_by (ask.GetFeature fid sel nsid cdw11) (reply.Number value) =
     feature_value (feature_of fid) (select_of sel) value
 shown_by (ask.SetFeature fid value save nsid) reply.Done = feature_set (feature_of fid) value save
 shown_by (ask.SmartLog nsid) (reply.Smart smart) = Some (shown.Smart smart)

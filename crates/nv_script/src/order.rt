@@ -79,10 +79,16 @@ pub(crate) fn first_command(ask: &Ask) -> Command<'_>
             pil: *pil,
             ses: *ses,
         },
-        Ask::GetFeature { fid, sel, nsid } => Command::GetFeature {
+        Ask::GetFeature {
+            fid,
+            sel,
+            nsid,
+            cdw11,
+        } => Command::GetFeature {
             fid: *fid,
             sel: *sel,
             nsid: *nsid,
+            cdw11: *cdw11,
         },
         Ask::SetFeature {
             fid,

@@ -9,7 +9,7 @@ use Rattle.std.specs.FinMap as map_of
 use Rattle.std.specs.FinMap.{get-empty}
 use Rattle.std.proofs.lemmas.Bool.Decides.{nat_tests}
 use Rattle.nv_bits.specs.NumberLaws.{get_of_insert}
-use Rattle.nv_layout.specs.Feature.{feature_of, has_selector, row_of}
+use Rattle.nv_layout.specs.Feature.{feature_of, is_selector, row_of}
 use Rattle.nv_layout.specs.FeatureTableLaws.{feature_at}
 use Rattle.nv_layout.specs.declared.feature.Feature.{Feature}
 use Rattle.nv_layout.specs.declared.feature.TheConstants.Feature.{ALL}
@@ -133,7 +133,7 @@ module _ (rules : FeatureRules) (vwc : ℕ) where
 
   -- what a key of the feature has
   abbrev at_start : ValueKey → Feature → Bool
-  at_start q f = is_supported rules vwc f && (has_selector f q.selector
+  at_start q f = is_supported rules vwc f && (is_selector f q.selector
       && (if (row_of f).per_namespace
       then map_of.contains_key no_nsids q.nsid
       else q.nsid == 0))
@@ -167,9 +167,9 @@ module _ (rules : FeatureRules) (vwc : ℕ) where
       ∙ some_key (q.fid == (row_of f).fid) (q.nsid == (if (row_of f).per_namespace then 0 else 0))
       q.selector (row_of f).selectors
       ∙ λ i. turned q.fid (row_of f).fid i && ((q.nsid == no_nsid (row_of f).per_namespace i)
-      && has_selector f q.selector))
+      && is_selector f q.selector))
       ∙ by_kind (is_supported rules vwc f) (row_of f).per_namespace ((row_of f).fid == q.fid)
-      (has_selector f q.selector) (q.nsid == 0)
+      (is_selector f q.selector) (q.nsid == 0)
     where
       zero_nsid : ℕ
       zero_nsid = 0

@@ -14,16 +14,16 @@ use Rattle.std.specs.FinMap.Entries.{find}
 use Rattle.nv_bits.specs.NumberLaws.{contains-insert, contains-remove, get_of_insert, get_of_remove}
 use Rattle.nv_bits.specs.Numbers.{NumberMap}
 use Rattle.nv_bits.specs.Slots.{RangeMap}
-use Rattle.nv_layout.specs.Feature.{has_selector, row_of, stored}
-use Rattle.nv_layout.specs.FeatureTableLaws.{in_table, of_namespaces}
+use Rattle.nv_layout.specs.Feature.{is_selector, row_of, stored}
+use Rattle.nv_layout.specs.FeatureTableLaws.{fid_below, of_namespaces}
 use Rattle.nv_layout.specs.FeatureTableLaws.{selector_below}
 use Rattle.nv_layout.specs.declared.feature.Feature.{Feature}
 use Rattle.nv_layout.specs.declared.feature.Feature.TheVariants.{ErrorRecovery}
 use Rattle.nv_subsystem.specs.ValueKey.{FeatureValues, ValueKey, is_alone, key_cmp, key_of}
 use Rattle.nv_subsystem.specs.Change.{changed_at}
-use Rattle.nv_subsystem.specs.Features.{write}
+use Rattle.nv_subsystem.specs.Features.{is_set, write}
 use Rattle.nv_subsystem.specs.FeatureValue.{written}
-use Rattle.nv_subsystem.specs.ValueLaws.{is_itself, is_key, key_cmp_total, removed_absent}
+use Rattle.nv_subsystem.specs.ValueLaws.{is_itself, is_key, key_cmp_total, put_back, removed_absent}
 use Rattle.nv_subsystem.specs.ValueLaws.{same_key, same_values}
 use Rattle.nv_subsystem.specs.ValueLaws.{value_of_insert, value_of_remove, value_of_retain}
 use Rattle.nv_subsystem.specs.ValueTable.{IsTable, ValueTable, key_at, slot_of, slots_alone, values_of}
@@ -108,11 +108,11 @@ kept_recovery n = by (n == 0) refl
         ap key_at (slot_of_nsid 5 n some) ∙ key_at_nsid n some
 
 -- each key of a feature has one
-kept_key : (f : Feature) (n s : ℕ) → has_selector f s ≡ true
+kept_key : (f : Feature) (n s : ℕ) → is_selector f s ≡ true
     → key_at (slot_of (key_of f n s)) ≡ key_of f n s
 kept_key f n s has = by (row_of f).per_namespace refl
   where
-    only : (t : ℕ) → has_selector ErrorRecovery t ≡ true → t ≡ 0
+    only : (t : ℕ) → is_selector ErrorRecovery t ≡ true → t ≡ 0
     only t e = grind (arith, nat_tests)
 
     by : (b : Bool) → (row_of f).per_namespace ≡ b
@@ -120,14 +120,14 @@ kept_key f n s has = by (row_of f).per_namespace refl
         ≡ record { fid = (row_of f).fid; nsid = if b then n else 0; selector = s }
     by true e =
         let same = of_namespaces f e in
-        let none = only s (subst (λ g. has_selector g s ≡ true) same has) in
+        let none = only s (subst (λ g. is_selector g s ≡ true) same has) in
         subst (λ g. key_at (slot_of (record { fid = (row_of g).fid; nsid = n; selector = s }))
         ≡ record { fid = (row_of g).fid; nsid = n; selector = s }) (sym same)
         (subst (λ t. key_at (slot_of (record { fid = 5; nsid = n; selector = t }))
         ≡ record { fid = 5; nsid = n; selector = t }) (sym none) (kept_recovery n))
-    by false e = kept_alone (row_of f).fid s (in_table f).fid (selector_below f s has)
+    by false e = kept_alone (row_of f).fid s (fid_below f) (selector_below f s has)
 
-pub is_kept_key : (f : Feature) (n s : ℕ) → has_selector f s ≡ true → is_kept (key_of f n s) ≡ true
+pub is_kept_key : (f : Feature) (n s : ℕ) → is_selector f s ≡ true → is_kept (key_of f n s) ≡ true
 is_kept_key f n s has =
     ap (is_key (key_of f n s)) (kept_key f n s has) ∙ is_itself (key_of f n s)
 
@@ -292,9 +292,9 @@ is_slot_of f n s per h =
     ap (λ b. slot_of (record { fid = (row_of f).fid; nsid = if b then n else 0; selector = s })) per
     ∙ ap (λ b. if b then (row_of f).fid * 32 + s else n + 383) (not_zero n h)
 
-pub slot_below : (f : Feature) (n s : ℕ) → has_selector f s ≡ true
+pub slot_below : (f : Feature) (n s : ℕ) → is_selector f s ≡ true
     → slot_of (key_of f n s) < slots_alone + (key_of f n s).nsid
-slot_below f n s has = by ((key_of f n s).nsid) (in_table f).fid (selector_below f s has)
+slot_below f n s has = by ((key_of f n s).nsid) (fid_below f) (selector_below f s has)
   where
     by : (m : ℕ) → (row_of f).fid < 12 → s < 32
         → slot_of (record { fid = (row_of f).fid; nsid = m; selector = s }) < slots_alone + m
@@ -307,7 +307,7 @@ slot_below f n s has = by ((key_of f n s).nsid) (in_table f).fid (selector_below
 
 -- a namespace above the greatest has no slot, and no value
 pub absent_above : (m : RangeMap FeatureValue) → IsTable m → (f : Feature) (n s : ℕ)
-    → has_selector f s ≡ true → (row_of f).per_namespace ≡ true → m.count < n + 384
+    → is_selector f s ≡ true → (row_of f).per_namespace ≡ true → m.count < n + 384
     → map_of.get (values_of m.values) (key_of f n s) ≡ None
 absent_above m is f n s has per above =
     get_of_key m.values (key_of f n s) (is_kept_key f n s has)
@@ -345,13 +345,29 @@ table_removed m n is = record {
     at_test q true e = absurd (cc e)
     at_test q false e = is.within q e
 
--- a write where there is nothing
-pub written_absent : (f : Feature) (value : ℕ) (save : Bool) (values : FeatureValues) (k : ValueKey)
-    → map_of.get values k ≡ None → changed_at (write f value save) values k ≡ values
-written_absent f value save values k none =
-    ap (λ o. option_map_or (map_of.insert values k) (option_map (written (stored f value) save) o)
+-- a write where there is nothing, or for another selector
+pub written_absent : (f : Feature) (dword : ℕ) (save : Bool) (values : FeatureValues) (k : ValueKey)
+    → map_of.get values k ≡ None → changed_at (write f dword save) values k ≡ values
+written_absent f dword save values k none =
+    ap (λ o. option_map_or (map_of.insert values k)
+    (if is_set f dword k.selector then option_map (written (stored f dword) save) o else o)
     (map_of.remove values k)) none
+    ∙ ap (λ o. option_map_or (map_of.insert values k) o (map_of.remove values k))
+    (nothing (is_set f dword k.selector))
     ∙ removed_absent values k none
+  where
+    nothing : (b : Bool) → (if b then option_map (written (stored f dword) save) None else None)
+        ≡ None
+    nothing true = refl
+    nothing false = refl
+
+pub written_apart : (f : Feature) (dword : ℕ) (save : Bool) (values : FeatureValues) (k : ValueKey)
+    → is_set f dword k.selector ≡ false → changed_at (write f dword save) values k ≡ values
+written_apart f dword save values k apart =
+    ap (λ b. option_map_or (map_of.insert values k)
+    (if b then option_map (written (stored f dword) save) (map_of.get values k)
+    else map_of.get values k) (map_of.remove values k)) apart
+    ∙ put_back values k (map_of.get values k) refl
 
 pub len_smaller : (m : Numbered) (k : ℕ) → map_of.contains_key m k ≡ true
     → map_of.len (map_of.remove m k) < map_of.len m

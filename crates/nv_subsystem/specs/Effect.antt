@@ -23,6 +23,6 @@ effect_of s c (Create nsze ncap flbas dps nmic) = created s (wanted nsze ncap fl
 effect_of s c (Delete n) = deleted s n
 effect_of s c (Attachment n detach ids) = with_attachments s n detach ids
 effect_of s c (Format n lbaf mset pi pil ses) = formatted s c n (new_format lbaf mset pi pil ses)
-effect_of s c (GetFeature fid sel n) = s
+effect_of s c (GetFeature fid sel n cdw11) = s
 effect_of s c (SetFeature fid value save n) = with_feature s c fid value save n
 effect_of s c (GetLog lid n offset dwords) = s

@@ -8,11 +8,13 @@ use Rattle.std.specs.FinMap as map_of
 use Rattle.std.specs.FinMap.{get-empty}
 use Rattle.std.specs.Option.{option_map_or}
 use Rattle.nv_bits.specs.NumberLaws.{contains-insert, contains-remove}
-use Rattle.nv_layout.specs.Feature.{feature_of, has_selector, is_accepted, is_value, row_of}
-use Rattle.nv_layout.specs.FeatureTableLaws.{accepted_is_value, default_is_value, feature_at}
+use Rattle.nv_layout.specs.Feature.{feature_of, is_selector, is_value, row_of}
+use Rattle.nv_layout.specs.FeatureTableLaws.{default_is_value, feature_at}
 use Rattle.nv_layout.specs.FeatureTableLaws.{feature_with, of_namespaces, other_identifier}
 use Rattle.nv_layout.specs.declared.feature.Feature.{Feature}
 use Rattle.nv_layout.specs.declared.feature.Feature.TheVariants as feature
+use Rattle.nv_file.specs.Defaults.{default_at}
+use Rattle.nv_file.specs.declared.defaults.Defaults.{Defaults}
 use Rattle.nv_file.specs.declared.feature_rule.FeatureRule.{FeatureRule}
 use Rattle.nv_subsystem.specs.FeatureRules.{FeatureRules, first_value, rule_of}
 use Rattle.nv_subsystem.specs.FeatureValue.{default_of, default_rule}
@@ -93,18 +95,19 @@ pub default_is_sound : (rules : FeatureRules) → AreRules rules → (f : Featur
     → is_value f (default_of (rule_of rules f) selector) ≡ true
 default_is_sound rules are f selector = by_rule (map_of.get rules (row_of f).fid) refl
   where
-    by_feature : (o : Option Feature) (d : ℕ) → o ≡ Some f
-        → IsSomeAnd o (λ g. is_accepted g d ≡ true) → is_value f d ≡ true
+    by_feature : (o : Option Feature) (d : Defaults) → o ≡ Some f
+        → IsSomeAnd o (λ g. (s : ℕ) → is_value g (default_at d s) ≡ true)
+        → is_value f (default_at d selector) ≡ true
     by_feature None d e h = absurd h
     by_feature (Some g) d e h = let same : g ≡ f = cc e in
-        accepted_is_value f d (subst (λ g. is_accepted g d ≡ true) same h)
+        subst (λ g. is_value g (default_at d selector) ≡ true) same (h selector)
 
     by_rule : (o : Option FeatureRule) → map_of.get rules (row_of f).fid ≡ o
         → is_value f (default_of (unwrap_or o (default_rule (row_of f).fid)) selector) ≡ true
     by_rule None e = default_is_value f
     by_rule (Some r) e =
         let is = are (row_of f).fid r e in
-        by_feature (feature_of r.fid) r.default (ap feature_of is.1 ∙ feature_at f) is.0.default
+        by_feature (feature_of r.fid) r.defaults (ap feature_of is.1 ∙ feature_at f) is.0.default
 
 -- a value that a feature may have, under a key of that feature
 pub sound_at : (f : Feature) (n s : ℕ) (x : FeatureValue) → may_have f x ≡ true
@@ -124,7 +127,7 @@ no_nsids = map_of.empty
 module _ (rules : FeatureRules) (vwc : ℕ) where
   -- what a key of a feature has
   abbrev of : ValueKey → Nsids → Option Feature → Bool
-  of q nsids o = option_map_or (λ f. is_supported rules vwc f && (has_selector f q.selector
+  of q nsids o = option_map_or (λ f. is_supported rules vwc f && (is_selector f q.selector
       && (if (row_of f).per_namespace then map_of.contains_key nsids q.nsid else q.nsid == 0)))
       o false
 
@@ -149,7 +152,8 @@ module _ (rules : FeatureRules) (vwc : ℕ) where
       tests_first false false c = refl
 
       recovery : (q.fid == 5) ≡ true
-          → cond ((q.fid == 5) && ((q.nsid == n) && (q.selector == 0))) now (of q attached (Some feature.ErrorRecovery))
+          → cond ((q.fid == 5) && ((q.nsid == n) && (q.selector == 0))) now
+          (of q attached (Some feature.ErrorRecovery))
           ≡ of q moved (Some feature.ErrorRecovery)
       recovery e =
           (λ i. cond (e i && ((q.nsid == n) && turned i)) now
@@ -158,8 +162,11 @@ module _ (rules : FeatureRules) (vwc : ℕ) where
           ∙ ap (λ b. ((0 == q.selector) || false) && b) (sym (is q.nsid))
 
       other : (o : Option Feature) → (q.fid == 5) ≡ false → of q attached o ≡ of q moved o
-          → cond ((q.fid == 5) && ((q.nsid == n) && (q.selector == 0))) now (of q attached o) ≡ of q moved o
-      other o e same = ap (λ b. cond (b && ((q.nsid == n) && (q.selector == 0))) now (of q attached o)) e ∙ same
+          → cond ((q.fid == 5) && ((q.nsid == n) && (q.selector == 0))) now (of q attached o)
+          ≡ of q moved o
+      other o e same =
+          ap (λ b. cond (b && ((q.nsid == n) && (q.selector == 0))) now (of q attached o)) e
+          ∙ same
 
       none : feature_of q.fid ≡ None → (q.fid == 5) ≡ false
       none e = at_test (q.fid == 5) refl
@@ -173,16 +180,18 @@ module _ (rules : FeatureRules) (vwc : ℕ) where
 
       at_feature : (f : Feature) (b : Bool) → feature_of q.fid ≡ Some f
           → (row_of f).per_namespace ≡ b
-          → cond ((q.fid == 5) && ((q.nsid == n) && (q.selector == 0))) now (of q attached (Some f)) ≡ of q moved (Some f)
+          → cond ((q.fid == 5) && ((q.nsid == n) && (q.selector == 0))) now
+          (of q attached (Some f)) ≡ of q moved (Some f)
       at_feature f true e per =
           let same = of_namespaces f per in
           let here : q.fid ≡ 5 = feature_with q.fid f e ∙ ap (λ g. (row_of g).fid) same in
           let is_five : (q.fid == 5) ≡ true = grind (arith, nat_tests) in
-          subst (λ g. cond ((q.fid == 5) && ((q.nsid == n) && (q.selector == 0))) now (of q attached (Some g)) ≡ of q moved (Some g))
+          subst (λ g. cond ((q.fid == 5) && ((q.nsid == n) && (q.selector == 0))) now
+          (of q attached (Some g)) ≡ of q moved (Some g))
           (sym same) (recovery is_five)
       at_feature f false e per =
           other (Some f) (ap (λ n. n == 5) (feature_with q.fid f e) ∙ other_identifier f per)
-          (λ i. is_supported rules vwc f && (has_selector f q.selector
+          (λ i. is_supported rules vwc f && (is_selector f q.selector
           && (alike per i)))
         where
           alike : (row_of f).per_namespace ≡ false
@@ -195,7 +204,8 @@ module _ (rules : FeatureRules) (vwc : ℕ) where
               ∙ sym (ap (λ b. if b then map_of.contains_key moved q.nsid else q.nsid == 0) per)
 
       by : (o : Option Feature) → feature_of q.fid ≡ o
-          → cond ((q.fid == 5) && ((q.nsid == n) && (q.selector == 0))) now (of q attached o) ≡ of q moved o
+          → cond ((q.fid == 5) && ((q.nsid == n) && (q.selector == 0))) now (of q attached o)
+          ≡ of q moved o
       by None e = other None (none e) refl
       by (Some f) e = at_feature f (row_of f).per_namespace e refl
 
@@ -229,22 +239,22 @@ module _ (rules : FeatureRules) (vwc : ℕ) where
       in_namespaces a b false e = nowhere a b
 
       at_feature : (f : Feature) (p : Bool)
-          → cond (q.nsid == 0) (is_supported rules vwc f && (has_selector f q.selector
+          → cond (q.nsid == 0) (is_supported rules vwc f && (is_selector f q.selector
           && (if p then map_of.contains_key attached q.nsid else q.nsid == 0))) false
-          ≡ (is_supported rules vwc f && (has_selector f q.selector
+          ≡ (is_supported rules vwc f && (is_selector f q.selector
           && (if p then map_of.contains_key no_nsids q.nsid
           else q.nsid == 0)))
       at_feature f true =
-          in_namespaces (is_supported rules vwc f) (has_selector f q.selector) (q.nsid == 0) refl
-          ∙ ap (λ c. is_supported rules vwc f && (has_selector f q.selector && c)) (sym no_key)
+          in_namespaces (is_supported rules vwc f) (is_selector f q.selector) (q.nsid == 0) refl
+          ∙ ap (λ c. is_supported rules vwc f && (is_selector f q.selector && c)) (sym no_key)
       at_feature f false =
-          at_alone (is_supported rules vwc f) (has_selector f q.selector) (q.nsid == 0)
+          at_alone (is_supported rules vwc f) (is_selector f q.selector) (q.nsid == 0)
 
       by : (o : Option Feature)
           → cond (q.nsid == 0) (option_map_or (λ f. is_supported rules vwc f
-          && (has_selector f q.selector && (if (row_of f).per_namespace
+          && (is_selector f q.selector && (if (row_of f).per_namespace
           then map_of.contains_key attached q.nsid else q.nsid == 0))) o false) false
-          ≡ option_map_or (λ f. is_supported rules vwc f && (has_selector f q.selector
+          ≡ option_map_or (λ f. is_supported rules vwc f && (is_selector f q.selector
           && (if (row_of f).per_namespace
           then map_of.contains_key no_nsids q.nsid
           else q.nsid == 0))) o false

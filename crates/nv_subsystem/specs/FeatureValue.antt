@@ -1,6 +1,8 @@
 -- The value of a feature, and how a controller treats the feature.
 use Rattle.std.specs.Prelude.{ℕ, Bool, true, false, Option, Some, None, refl, if◌then◌else◌}
 use Rattle.std.specs.Coded.{Coded, code_by, coded×, coded_ℕ, coded_option}
+use Rattle.nv_file.specs.Defaults.{default_at}
+use Rattle.nv_file.specs.declared.defaults.Defaults.TheVariants.{One}
 use Rattle.nv_file.specs.declared.feature_rule.FeatureRule.{FeatureRule}
 use Rattle.nv_subsystem.specs.declared.feature_value.FeatureValue.{FeatureValue}
 
@@ -11,11 +13,11 @@ feature_value_code = code_by (ℕ × Option ℕ) (coded× coded_ℕ (coded_optio
 
 -- the rule of a feature that has no table in the file
 abbrev pub default_rule : ℕ → FeatureRule
-default_rule fid = record { fid = fid; default = 0; saveable = false; changeable = true }
+default_rule fid = record { fid = fid; defaults = One 0; saveable = false; changeable = true }
 
 -- the default under a selector
 abbrev pub default_of : FeatureRule → ℕ → ℕ
-default_of rule selector = rule.default
+default_of rule selector = default_at rule.defaults selector
 
 -- before any value is set
 abbrev pub at_default : FeatureRule → ℕ → FeatureValue

@@ -1,10 +1,11 @@
 -- Get Features and Set Features: when they are refused, what they answer, and what they change.
 use Rattle.std.specs.Prelude.{ℕ, ◌+◌, ◌==◌, ◌&&◌, ◌||◌, not, nat_lt, Bool, true, List, [], ◌∷◌}
 use Rattle.std.specs.Prelude.{Option, None, option_map, unwrap_or, if◌then◌else◌}
-use Rattle.std.specs.List.{fold}
+use Rattle.std.specs.List.{fold, list_any}
 use Rattle.std.specs.Option.{option_map_or}
 use Rattle.std.specs.FinMap as map_of
-use Rattle.nv_layout.specs.Feature.{feature_of, is_accepted, row_of, stored}
+use Rattle.nv_layout.specs.Feature.{feature_of, is_accepted, is_get_selector, row_of}
+use Rattle.nv_layout.specs.Feature.{selector_in, selectors_set, stored}
 use Rattle.nv_layout.specs.declared.feature.Feature.{Feature}
 use Rattle.nv_file.specs.declared.feature_rule.FeatureRule.{FeatureRule}
 use Rattle.nv_command.specs.declared.command.TheConstants.{BROADCAST_NSID}
@@ -41,17 +42,18 @@ abbrev pub supported_rows : State → ℕ → ℕ → (Feature → List Row) →
 supported_rows s c fid rows =
     option_map_or rows (supported_at s c fid) (row true InvalidFieldInCommand ∷ [])
 
--- a select above 3; and where each namespace has a value of its own, an NSID that is not valid, or
--- not active
-abbrev pub get_rows : State → ℕ → ℕ → ℕ → Feature → List Row
-get_rows s c sel n f =
+-- a select above 3; a selector that the feature doesn't have; and where each namespace has a value
+-- of its own, an NSID that is not valid, or not active
+abbrev pub get_rows : State → ℕ → ℕ → ℕ → ℕ → Feature → List Row
+get_rows s c sel n cdw11 f =
     row (nat_lt 3 sel) InvalidFieldInCommand
+    ∷ row (not (is_get_selector f cdw11)) InvalidFieldInCommand
     ∷ row ((row_of f).per_namespace && not (is_valid s n)) InvalidNamespaceOrFormat
     ∷ row ((row_of f).per_namespace && not (is_active s c n)) InvalidFieldInCommand
     ∷ []
 
-abbrev pub get_feature_rows : State → ℕ → ℕ → ℕ → ℕ → List Row
-get_feature_rows s c fid sel n = supported_rows s c fid (get_rows s c sel n)
+abbrev pub get_feature_rows : State → ℕ → ℕ → ℕ → ℕ → ℕ → List Row
+get_feature_rows s c fid sel n cdw11 = supported_rows s c fid (get_rows s c sel n cdw11)
 
 abbrev pub set_rows : State → ℕ → ℕ → Bool → ℕ → Feature → List Row
 set_rows s c value save n f =
@@ -84,14 +86,19 @@ selected rule f sel selector x =
     else if sel == 2 then unwrap_or x.saved (default_of rule selector)
     else capabilities rule f
 
--- the same of a controller's feature
-abbrev pub told : Feature → ℕ → ℕ → Controller → ℕ
-told f sel n x =
-    option_map_or (selected (rule_of x.rules f) f sel 0) (map_of.get x.values (key_of f n 0)) 0
+-- the same of a controller's feature under a selector
+abbrev pub told_under : ℕ → Feature → ℕ → ℕ → Controller → ℕ
+told_under selector f sel n x = option_map_or (selected (rule_of x.rules f) f sel selector)
+    (map_of.get x.values (key_of f n selector)) 0
 
-abbrev pub feature_number : State → ℕ → ℕ → ℕ → ℕ → ℕ
-feature_number s c fid sel n =
-    option_map_or (λ f. option_map_or (told f sel n) (controller_at s c) 0) (feature_of fid) 0
+-- and under that of CDW11
+abbrev pub told : Feature → ℕ → ℕ → ℕ → Controller → ℕ
+told f sel n cdw11 x =
+    if is_get_selector f cdw11 then told_under (selector_in f cdw11) f sel n x else 0
+
+abbrev pub feature_number : State → ℕ → ℕ → ℕ → ℕ → ℕ → ℕ
+feature_number s c fid sel n cdw11 =
+    option_map_or (λ f. option_map_or (told f sel n cdw11) (controller_at s c) 0) (feature_of fid) 0
 
 -- ---- effects
 
@@ -99,9 +106,15 @@ feature_number s c fid sel n =
 abbrev pub changed_nsids : State → ℕ → ℕ → Feature → List ℕ
 changed_nsids s c n f = if (row_of f).per_namespace then concerned s c n else 0 ∷ []
 
--- a value that is there is written over by what is stored of a dword
+-- a Set with this dword is for the selector
+abbrev pub is_set : Feature → ℕ → ℕ → Bool
+is_set f dword selector = list_any (λ x. x == selector) (selectors_set f dword)
+
+-- where a Set is for the key's selector, a value that is there is written over by what is stored
+-- of the dword
 abbrev pub write : Feature → ℕ → Bool → Change
-write f value save k = option_map (written (stored f value) save)
+write f dword save k old =
+    if is_set f dword k.selector then option_map (written (stored f dword) save) old else old
 
 -- for an NSID, and for each of some
 abbrev pub with_value : Feature → ℕ → Bool → FeatureValues → ℕ → FeatureValues

@@ -29,7 +29,7 @@ rows_of s c (Create nsze ncap flbas dps nmic) = create_rows s (wanted nsze ncap 
 rows_of s c (Delete n) = delete_rows s n
 rows_of s c (Attachment n detach ids) = attachment_rows s n detach ids
 rows_of s c (Format n lbaf mset pi pil ses) = format_rows s c n (new_format lbaf mset pi pil ses)
-rows_of s c (GetFeature fid sel n) = get_feature_rows s c fid sel n
+rows_of s c (GetFeature fid sel n cdw11) = get_feature_rows s c fid sel n cdw11
 rows_of s c (SetFeature fid value save n) = set_feature_rows s c fid value save n
 rows_of s c (GetLog lid n offset dwords) = log_rows s c lid n offset
 

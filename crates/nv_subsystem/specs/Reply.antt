@@ -27,6 +27,6 @@ reply_of s c (Create nsze ncap flbas dps nmic) = reply.Number (created_nsid s)
 reply_of s c (Delete n) = reply.Done
 reply_of s c (Attachment n detach ids) = reply.Done
 reply_of s c (Format n lbaf mset pi pil ses) = reply.Done
-reply_of s c (GetFeature fid sel n) = reply.Number (feature_number s c fid sel n)
+reply_of s c (GetFeature fid sel n cdw11) = reply.Number (feature_number s c fid sel n cdw11)
 reply_of s c (SetFeature fid value save n) = reply.Done
 reply_of s c (GetLog lid n offset dwords) = log_reply s c lid

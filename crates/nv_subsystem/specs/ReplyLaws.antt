@@ -102,8 +102,8 @@ reply_fits s c (Create nsze ncap flbas dps nmic) w =
 reply_fits s c (Delete n) w = record { is_reply = tt; fits = tt }
 reply_fits s c (Attachment n detach ids) w = record { is_reply = tt; fits = tt }
 reply_fits s c (Format n lbaf mset pi pil ses) w = record { is_reply = tt; fits = tt }
-reply_fits s c (GetFeature fid sel n) w =
-    record { is_reply = tt; fits = feature_number_fits s c fid sel n w }
+reply_fits s c (GetFeature fid sel n cdw11) w =
+    record { is_reply = tt; fits = feature_number_fits s c fid sel n cdw11 w }
 reply_fits s c (SetFeature fid value save n) w = record { is_reply = tt; fits = tt }
 reply_fits s c (GetLog lid n offset dwords) w =
     let fits = logs_fit s c (is_error_log lid) (is_controller s c w) in

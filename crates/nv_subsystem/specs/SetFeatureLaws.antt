@@ -7,7 +7,8 @@ use Rattle.std.specs.List.{fold}
 use Rattle.std.specs.Option.{option_map_or}
 use Rattle.std.specs.FinMap as map_of
 use Rattle.std.proofs.lemmas.Option.{get_or_from_slice_get, slice_get_within}
-use Rattle.nv_layout.specs.Feature.{feature_of, is_accepted, is_value, row_of, stored}
+use Rattle.nv_layout.specs.Feature.{feature_of, is_accepted, is_get_selector, is_value, row_of}
+use Rattle.nv_layout.specs.Feature.{selector_in, stored}
 use Rattle.nv_layout.specs.FeatureTableLaws.{feature_at, stored_is_value, value_fits}
 use Rattle.nv_layout.specs.declared.feature.Feature.{Feature}
 use Rattle.nv_file.specs.declared.feature_rule.FeatureRule.{FeatureRule}
@@ -17,7 +18,8 @@ use Rattle.nv_subsystem.specs.ChangedAtLaws.{length-changed_at}
 use Rattle.nv_subsystem.specs.ChoiceLaws.{chosen_fits, not_false}
 use Rattle.nv_subsystem.specs.FeatureLaws.{default_is_sound, sound_at, values-written}
 use Rattle.nv_subsystem.specs.FeatureRules.{FeatureRules, rule_of}
-use Rattle.nv_subsystem.specs.Features.{changed_nsids, feature_number, get_feature_rows, get_rows}
+use Rattle.nv_subsystem.specs.Features.{changed_nsids, feature_number, get_feature_rows}
+use Rattle.nv_subsystem.specs.Features.{get_rows, is_set}
 use Rattle.nv_subsystem.specs.Features.{selected, set_feature_rows, set_rows, supported_at, told}
 use Rattle.nv_subsystem.specs.Features.{with_feature, with_value, with_values, write}
 use Rattle.nv_subsystem.specs.FeatureValue.{default_of, written}
@@ -29,7 +31,7 @@ use Rattle.nv_subsystem.specs.State.{Controller, Nsids, State, controller_at}
 use Rattle.nv_subsystem.specs.State.{with_controller}
 use Rattle.nv_subsystem.specs.Supported.{is_supported, supported}
 use Rattle.nv_subsystem.specs.ValueKey.{FeatureValues, key_of}
-use Rattle.nv_subsystem.specs.ValueLaws.{removed_absent}
+use Rattle.nv_subsystem.specs.ValueLaws.{put_back, removed_absent}
 use Rattle.nv_subsystem.specs.WellFormed.{AreValues, IsController, IsWellFormed, is_value_at}
 use Rattle.nv_subsystem.specs.WellFormed.{may_have}
 use Rattle.nv_subsystem.specs.declared.feature_value.FeatureValue.{FeatureValue}
@@ -37,8 +39,9 @@ use Rattle.nv_subsystem.specs.declared.row.Row.{Row}
 
 -- ---- rows
 
-get_rows_fit : (s : State) (c sel n : ℕ) (f : Feature) → AllRefuse (get_rows s c sel n f)
-get_rows_fit s c sel n f = search (rules, is_refusal-refusal_by)
+get_rows_fit : (s : State) (c sel n cdw11 : ℕ) (f : Feature)
+    → AllRefuse (get_rows s c sel n cdw11 f)
+get_rows_fit s c sel n cdw11 f = search (rules, is_refusal-refusal_by)
 
 set_rows_fit : (s : State) (c value : ℕ) (save : Bool) (n : ℕ) (f : Feature)
     → AllRefuse (set_rows s c value save n f)
@@ -50,11 +53,11 @@ supported_rows_fit : (o : Option Feature) (rows : Feature → List Row) (others 
 supported_rows_fit None rows others fit other = other
 supported_rows_fit (Some f) rows others fit other = fit f
 
-pub get_feature_rows_fit : (s : State) (c fid sel n : ℕ)
-    → AllRefuse (get_feature_rows s c fid sel n)
-get_feature_rows_fit s c fid sel n =
-    supported_rows_fit (supported_at s c fid) (get_rows s c sel n) _
-    (get_rows_fit s c sel n) (search (rules, is_refusal-refusal_by))
+pub get_feature_rows_fit : (s : State) (c fid sel n cdw11 : ℕ)
+    → AllRefuse (get_feature_rows s c fid sel n cdw11)
+get_feature_rows_fit s c fid sel n cdw11 =
+    supported_rows_fit (supported_at s c fid) (get_rows s c sel n cdw11) _
+    (get_rows_fit s c sel n cdw11) (search (rules, is_refusal-refusal_by))
 
 pub set_feature_rows_fit : (s : State) (c fid value : ℕ) (save : Bool) (n : ℕ)
     → AllRefuse (set_feature_rows s c fid value save n)
@@ -87,14 +90,15 @@ module _ (f : Feature) (value : ℕ) (save : Bool) (fits : is_accepted f value �
 
   one_selector : (values : FeatureValues) (n s : ℕ) → AreHere values
       → AreHere (changed_at (write f value save) values (key_of f n s))
-  one_selector values n s are = by (map_of.get values (key_of f n s)) refl
+  one_selector values n s are = by (is_set f value s) (map_of.get values (key_of f n s)) refl
     where
-      by : (o : Option FeatureValue) → map_of.get values (key_of f n s) ≡ o
+      by : (b : Bool) (o : Option FeatureValue) → map_of.get values (key_of f n s) ≡ o
           → AreHere (option_map_or (map_of.insert values (key_of f n s))
-          (option_map (written (stored f value) save) o)
+          (if b then option_map (written (stored f value) save) o else o)
           (map_of.remove values (key_of f n s)))
-      by None e = subst AreHere (sym (removed_absent values (key_of f n s) e)) are
-      by (Some x) e =
+      by false o e = subst AreHere (sym (put_back values (key_of f n s) o e)) are
+      by true None e = subst AreHere (sym (removed_absent values (key_of f n s) e)) are
+      by true (Some x) e =
           values-written rules vwc attached values are (key_of f n s)
           (written (stored f value) save x) (ap is_some e)
           (sound_at f n s (written (stored f value) save x)
@@ -148,8 +152,8 @@ module _ (s : State) (c fid value : ℕ) (save : Bool) (n : ℕ) (f : Feature) w
   by_support false g accepted same = absurd (cc accepted)
 
   by_feature : (x : Controller) (o : Option Feature)
-      → accepted_by (option_map_or (λ g. if is_supported x.rules x.identity.numbers.vwc g then Some g else
-      None) o None)
+      → accepted_by (option_map_or
+      (λ g. if is_supported x.rules x.identity.numbers.vwc g then Some g else None) o None)
       → o ≡ Some f → is_accepted f value ≡ true
   by_feature x None accepted e = absurd (cc e)
   by_feature x (Some g) accepted e =
@@ -218,20 +222,22 @@ selected_fits rule f sel selector x default is =
     saved_fits None e = value_fits f (default_of rule selector) default
     saved_fits (Some v) e = value_fits f v e
 
-told_fits : (s : State) (x : Controller) → IsController s.namespaces x → (f : Feature) (sel n : ℕ)
-    → told f sel n x < 2 ^ 32
-told_fits s x is f sel n = by (map_of.get x.values (key_of f n 0)) refl
+told_fits : (s : State) (x : Controller) → IsController s.namespaces x
+    → (f : Feature) (sel n cdw11 : ℕ) → told f sel n cdw11 x < 2 ^ 32
+told_fits s x is f sel n cdw11 = chosen_fits (λ m. m < 2 ^ 32) (is_get_selector f cdw11) _ 0
+    (by (selector_in f cdw11) (map_of.get x.values (key_of f n (selector_in f cdw11))) refl)
+    (lit< tt)
   where
-    by : (o : Option FeatureValue) → map_of.get x.values (key_of f n 0) ≡ o
-        → option_map_or (selected (rule_of x.rules f) f sel 0) o 0 < 2 ^ 32
-    by None e = lit< tt
-    by (Some v) e = selected_fits (rule_of x.rules f) f sel 0 v
-        (default_is_sound x.rules is.rules f 0)
-        (sound_value f n 0 v (is.values.sound (key_of f n 0) v e))
+    by : (t : ℕ) (o : Option FeatureValue) → map_of.get x.values (key_of f n t) ≡ o
+        → option_map_or (selected (rule_of x.rules f) f sel t) o 0 < 2 ^ 32
+    by t None e = lit< tt
+    by t (Some v) e = selected_fits (rule_of x.rules f) f sel t v
+        (default_is_sound x.rules is.rules f t)
+        (sound_value f n t v (is.values.sound (key_of f n t) v e))
 
-pub feature_number_fits : (s : State) (c fid sel n : ℕ) → IsWellFormed s
-    → feature_number s c fid sel n < 2 ^ 32
-feature_number_fits s c fid sel n w = by_feature (feature_of fid)
+pub feature_number_fits : (s : State) (c fid sel n cdw11 : ℕ) → IsWellFormed s
+    → feature_number s c fid sel n cdw11 < 2 ^ 32
+feature_number_fits s c fid sel n cdw11 w = by_feature (feature_of fid)
   where
     is_controller : (x : Controller) → controller_at s c ≡ Some x → IsController s.namespaces x
     is_controller x e =
@@ -239,11 +245,11 @@ feature_number_fits s c fid sel n w = by_feature (feature_of fid)
         (w.controllers c x (slice_get_within s.controllers c x e))
 
     by_controller : (f : Feature) (o : Option Controller) → controller_at s c ≡ o
-        → option_map_or (told f sel n) o 0 < 2 ^ 32
+        → option_map_or (told f sel n cdw11) o 0 < 2 ^ 32
     by_controller f None e = lit< tt
-    by_controller f (Some x) e = told_fits s x (is_controller x e) f sel n
+    by_controller f (Some x) e = told_fits s x (is_controller x e) f sel n cdw11
 
     by_feature : (o : Option Feature)
-        → option_map_or (λ f. option_map_or (told f sel n) (controller_at s c) 0) o 0 < 2 ^ 32
+        → option_map_or (λ f. option_map_or (told f sel n cdw11) (controller_at s c) 0) o 0 < 2 ^ 32
     by_feature None = lit< tt
     by_feature (Some f) = by_controller f (controller_at s c) refl

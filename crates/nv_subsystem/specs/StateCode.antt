@@ -1,8 +1,9 @@
 -- The codes of a state and its parts, by which a proof tells values apart.
-use Rattle.std.specs.Prelude.{ℕ, Bool, List, refl}
+use Rattle.std.specs.Prelude.{◌≡◌, ℕ, Bool, List, ◌⊎◌, refl}
+use Rattle.std.proofs.Common.{inl, inr}
 use Rattle.std.specs.FinMap as map_of
 use Rattle.std.specs.FinSet as set_of
-use Rattle.std.specs.Coded.{Coded, code_by, coded×, coded_ℕ, coded_bool, coded_list}
+use Rattle.std.specs.Coded.{Coded, code_by, coded×, coded⊎, coded_ℕ, coded_bool, coded_list}
 use Rattle.nv_subsystem.specs.ErrorLog.{entry_code}
 use Rattle.nv_file.specs.Identity.{Identity}
 use Rattle.nv_subsystem.specs.FeatureRules.{FeatureRules}
@@ -10,6 +11,8 @@ use Rattle.nv_subsystem.specs.State.{Controller, State, Namespaces, Nsids}
 use Rattle.nv_subsystem.specs.ValueKey.{FeatureValues, feature_values_code}
 use Rattle.nv_layout.specs.declared.error_entry.ErrorEntry.{ErrorEntry}
 use Rattle.nv_file.specs.declared.smart_base.Counters.{Counters}
+use Rattle.nv_file.specs.declared.defaults.Defaults.{Defaults}
+use Rattle.nv_file.specs.declared.defaults.Defaults.TheVariants.{One, Thresholds}
 use Rattle.nv_file.specs.declared.feature_rule.FeatureRule.{FeatureRule}
 use Rattle.nv_file.specs.declared.format.Format.{Format}
 use Rattle.nv_file.specs.declared.identity.IdentityNumbers.{IdentityNumbers}
@@ -63,11 +66,29 @@ identity_code = code_by (ℕ × (List ℕ × (List ℕ × (List ℕ × (Identity
       crypto_erase = p.1.1.1.1.1;
     }) (λ _. refl)
 
+defaults_parts : Defaults → ℕ ⊎ (List ℕ × List ℕ)
+defaults_parts (One value) = inl value
+defaults_parts (Thresholds over under) = inr (over, under)
+
+parts_defaults : ℕ ⊎ (List ℕ × List ℕ) → Defaults
+parts_defaults (inl value) = One value
+parts_defaults (inr lists) = Thresholds lists.0 lists.1
+
+defaults_back : (d : Defaults) → parts_defaults (defaults_parts d) ≡ d
+unfolding defaults_parts parts_defaults
+defaults_back (One value) = refl
+defaults_back (Thresholds over under) = refl
+
+pub defaults_code : Coded Defaults
+defaults_code = code_by (ℕ ⊎ (List ℕ × List ℕ))
+    (coded⊎ coded_ℕ (coded× (coded_list coded_ℕ) (coded_list coded_ℕ)))
+    defaults_parts parts_defaults defaults_back
+
 abbrev pub rule_code : Coded FeatureRule
-rule_code = code_by (ℕ × (ℕ × (Bool × Bool)))
-    (coded× coded_ℕ (coded× coded_ℕ (coded× coded_bool coded_bool)))
-    (λ x. (x.fid, (x.default, (x.saveable, x.changeable))))
-    (λ p. record { fid = p.0; default = p.1.0; saveable = p.1.1.0; changeable = p.1.1.1 })
+rule_code = code_by (ℕ × (Defaults × (Bool × Bool)))
+    (coded× coded_ℕ (coded× defaults_code (coded× coded_bool coded_bool)))
+    (λ x. (x.fid, (x.defaults, (x.saveable, x.changeable))))
+    (λ p. record { fid = p.0; defaults = p.1.0; saveable = p.1.1.0; changeable = p.1.1.1 })
     (λ _. refl)
 
 abbrev pub counters_code : Coded Counters

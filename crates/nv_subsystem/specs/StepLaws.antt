@@ -131,7 +131,7 @@ rows_fit s c (Delete n) = delete_rows_fit s n
 rows_fit s c (Attachment n detach ids) = attachment_rows_fit s n detach ids
 rows_fit s c (Format n lbaf mset pi pil ses) =
     format_rows_fit s c n (new_format lbaf mset pi pil ses)
-rows_fit s c (GetFeature fid sel n) = get_feature_rows_fit s c fid sel n
+rows_fit s c (GetFeature fid sel n cdw11) = get_feature_rows_fit s c fid sel n cdw11
 rows_fit s c (SetFeature fid value save n) = set_feature_rows_fit s c fid value save n
 rows_fit s c (GetLog lid n offset dwords) = log_rows_fit s c lid n offset
 
@@ -165,7 +165,7 @@ effect_keeps s c (Delete n) accepted w = delete_keeps s n w
 effect_keeps s c (Attachment n detach ids) accepted w = attachment_keeps s n detach ids w accepted
 effect_keeps s c (Format n lbaf mset pi pil ses) accepted w =
     format_keeps s c n (new_format lbaf mset pi pil ses) w accepted
-effect_keeps s c (GetFeature fid sel n) accepted w = w
+effect_keeps s c (GetFeature fid sel n cdw11) accepted w = w
 effect_keeps s c (SetFeature fid value save n) accepted w =
     feature_keeps s c fid value save n w accepted
 effect_keeps s c (GetLog lid n offset dwords) accepted w = w
@@ -182,7 +182,7 @@ effect_controllers s c (Create nsze ncap flbas dps nmic) =
 effect_controllers s c (Delete n) = deleted_controllers s n
 effect_controllers s c (Attachment n detach ids) = attachment_controllers s n detach ids
 effect_controllers s c (Format n lbaf mset pi pil ses) = refl
-effect_controllers s c (GetFeature fid sel n) = refl
+effect_controllers s c (GetFeature fid sel n cdw11) = refl
 effect_controllers s c (SetFeature fid value save n) = feature_controllers s c fid value save n
 effect_controllers s c (GetLog lid n offset dwords) = refl
 

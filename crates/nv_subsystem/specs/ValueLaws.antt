@@ -1,7 +1,8 @@
 -- Laws of the values of features under their keys.
 use Rattle.std.proofs.Common.{◌≡◌, ◌∙◌, ℕ, ◌==◌, ◌&&◌, Bool, true, false, cond}
-use Rattle.std.proofs.Common.{Some, None, refl, sym, ap, arith, Ordering}
+use Rattle.std.proofs.Common.{Option, Some, None, refl, sym, ap, arith, Ordering}
 use Rattle.std.proofs.lemmas.Bool.Decides.{nat_tests}
+use Rattle.std.specs.Option.{option_map_or}
 use Rattle.std.specs.Ordering.{eq_by_cmp, is_eq, nat_cmp, ordering_then}
 use Rattle.std.specs.declared.cmp.Ordering.TheVariants.{Less, Equal, Greater}
 use Rattle.std.specs.Cmp.{Equal-is, IsTotalOrder, unsigned_tied}
@@ -90,3 +91,15 @@ removed_absent m k none =
         ≡ map_of.get m q
     at_test q true e = sym (ap (map_of.get m) (same_key q k e) ∙ none)
     at_test q false e = refl
+
+-- what is there can be put there
+pub put_back : (m : FeatureValues) (k : ValueKey) (o : Option FeatureValue) → map_of.get m k ≡ o
+    → option_map_or (map_of.insert m k) o (map_of.remove m k) ≡ m
+put_back m k None e = removed_absent m k e
+put_back m k (Some x) e =
+    same_values _ m (λ q. value_of_insert m k x q ∙ at_test q (is_key q k) refl)
+  where
+    at_test : (q : ValueKey) (b : Bool) → is_key q k ≡ b → cond b (Some x) (map_of.get m q)
+        ≡ map_of.get m q
+    at_test q true t = sym (ap (map_of.get m) (same_key q k t) ∙ e)
+    at_test q false t = refl

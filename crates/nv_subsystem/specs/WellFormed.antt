@@ -6,7 +6,7 @@ use Rattle.nv_subsystem.specs.Capacity.{used}
 use Rattle.nv_file.specs.Ranges.{AreTopKeys, IsFeatureRule, IsFormat, IsIdentity, IsInFormat}
 use Rattle.nv_file.specs.Ranges.{IsSmart}
 use Rattle.std.specs.Option.{option_map_or}
-use Rattle.nv_layout.specs.Feature.{feature_of, has_selector, is_value, row_of}
+use Rattle.nv_layout.specs.Feature.{feature_of, is_selector, is_value, row_of}
 use Rattle.nv_layout.specs.declared.feature.Feature.{Feature}
 use Rattle.nv_file.specs.declared.feature_rule.FeatureRule.{FeatureRule}
 use Rattle.nv_subsystem.specs.Supported.{is_supported}
@@ -40,7 +40,7 @@ is_nsid_of attached f nsid =
 -- a supported feature has a value under each of its selectors
 abbrev pub has_value : FeatureRules → ℕ → Nsids → ValueKey → Bool
 has_value rules vwc attached k = option_map_or
-    (λ f. is_supported rules vwc f && (has_selector f k.selector && is_nsid_of attached f k.nsid))
+    (λ f. is_supported rules vwc f && (is_selector f k.selector && is_nsid_of attached f k.nsid))
     (feature_of k.fid) false
 
 -- exactly these keys have a value, and one that their feature may have

@@ -5,7 +5,7 @@ ghost use Rattle.nv_subsystem.specs.FeatureValue.{at_default, default_of, defaul
 ghost use Rattle.nv_subsystem.specs.Supported.{is_supported};
 
 use nv_bits::Slots;
-use nv_file::FeatureRule;
+use nv_file::{Defaults, FeatureRule};
 use nv_layout::Feature;
 
 /// The current value of a feature, and the saved one where one was saved. Section "Feature Values".
@@ -41,8 +41,7 @@ impl FeatureValue {
 pub(crate) fn default_of(rule: FeatureRule, selector: u8) -> u32
     ensures { result ≡ default_of rule selector }
 {
-    let _ = selector;
-    rule.default
+    rule.defaults.at(selector)
 }
 
 /// How a controller treats a feature that has no table in the file.
@@ -51,7 +50,7 @@ pub(crate) fn default_rule(fid: u8) -> FeatureRule
 {
     FeatureRule {
         fid,
-        default: 0,
+        defaults: Defaults::One(0),
         saveable: false,
         changeable: true,
     }
@@ -61,8 +60,8 @@ pub(crate) fn default_rule(fid: u8) -> FeatureRule
 pub(crate) fn is_supported(rules: &Slots<FeatureRule>, vwc: u8, feature: Feature) -> bool
     ensures { result ≡ is_supported rules.now.values vwc feature }
 {
-    let _ = rules;
     match feature {
+        Feature::TemperatureThreshold => rules.contains(u32::from(feature.fid())),
         Feature::VolatileWriteCache => vwc & 1 == 1,
         _ => true,
     }

@@ -3,7 +3,7 @@
 ghost use Rattle.std.specs.Prelude.{◌≡◌, ◌+◌, ◌^◌, ◌≤◌, ◌<◌, true, All, IfOk, IfSome, map};
 ghost use Rattle.std.specs.FinMap as map_of;
 ghost use Rattle.nv_bits.specs.Numbers.{IsOf};
-ghost use Rattle.nv_layout.specs.Feature.{has_selector, row_of};
+ghost use Rattle.nv_layout.specs.Feature.{is_selector, row_of};
 ghost use Rattle.nv_subsystem.specs.Change.{changed, changed_at};
 ghost use Rattle.nv_subsystem.specs.Features.{write};
 ghost use Rattle.nv_subsystem.specs.ValueKey.{is_alone, key_of, recovery_key};
@@ -49,7 +49,7 @@ impl Model for FeatureValues {
 /// The slot of a value.
 fn slot(feature: Feature, nsid: u32, selector: u8) -> u32
     requires room { (row_of feature).per_namespace ≡ true → nsid + 384 ≤ 2 ^ 32 }
-    requires known { has_selector feature selector ≡ true }
+    requires known { is_selector feature selector ≡ true }
     ensures value { result ≡ slot_of (key_of feature nsid selector) }
     ensures near { result < 384 + (key_of feature nsid selector).nsid }
 {
@@ -70,9 +70,10 @@ impl FeatureValues {
         Ok(FeatureValues { slots })
     }
 
-    /// The value of a feature under a selector: that for the namespace where each has one of its own.
+    /// The value of a feature under a selector: that for the namespace where each has one of its
+    /// own.
     pub(crate) fn get(&self, feature: Feature, nsid: u32, selector: u8) -> Option<FeatureValue>
-        requires { has_selector feature selector ≡ true }
+        requires { is_selector feature selector ≡ true }
         ensures value { result ≡ map_of.get self.now.values (key_of feature nsid selector) }
         ensures in_range { IfSome result
             (λ _. (row_of feature).per_namespace ≡ true → nsid ≤ self.now.nn) }
@@ -87,7 +88,7 @@ impl FeatureValues {
     /// Gives a feature a value under a selector: that for the namespace where each has one of its
     /// own.
     pub(crate) fn insert(&mut self, feature: Feature, nsid: u32, selector: u8, value: FeatureValue)
-        requires known { has_selector feature selector ≡ true }
+        requires known { is_selector feature selector ≡ true }
         requires in_range { (row_of feature).per_namespace ≡ true → nsid ≤ self.old.nn }
         ensures { self.new ≡ record self.old {
           values = map_of.insert self.old.values (key_of feature nsid selector) value;
@@ -96,14 +97,18 @@ impl FeatureValues {
         self.slots.insert(slot(feature, nsid, selector), value);
     }
 
-    /// Writes over the value of a feature under a selector, where it is there.
+    /// Writes over the value of a feature under a selector, where it is there and the Set is for
+    /// it.
     pub(crate) fn write(&mut self, feature: Feature, nsid: u32, selector: u8, asked: NewValue)
-        requires { has_selector feature selector ≡ true }
+        requires { is_selector feature selector ≡ true }
         ensures { self.new ≡ record self.old {
           values = changed_at (write feature asked.value asked.save) self.old.values
               (key_of feature nsid selector);
         } }
     {
+        if !feature.sets(asked.value, selector) {
+            return;
+        }
         if let Some(old) = self.get(feature, nsid, selector) {
             let value = old.written(feature.stored(asked.value), asked.save);
             self.insert(feature, nsid, selector, value);

@@ -3,7 +3,7 @@
 
 ghost use Rattle.std.specs.Prelude.{◌≡◌, ◌<◌, ℕ, true, length, map, All};
 ghost use Rattle.std.specs.List.{fold};
-ghost use Rattle.nv_layout.specs.Feature.{has_selector};
+ghost use Rattle.nv_layout.specs.Feature.{is_selector};
 ghost use Rattle.nv_subsystem.specs.Change.{changed};
 ghost use Rattle.nv_subsystem.specs.ControllerView.{controller_view};
 ghost use Rattle.nv_subsystem.specs.Features.{capabilities, feature_number, get_feature_rows};
@@ -79,7 +79,7 @@ fn write_selectors(
     nsid: u32,
     selectors: &[u8],
 )
-    requires { All (λ s. has_selector feature s ≡ true) selectors.now }
+    requires { All (λ s. is_selector feature s ≡ true) selectors.now }
     ensures { values.new ≡ record values.old {
       values = changed (write feature asked.value asked.save)
           (map (key_of feature nsid) selectors.now) values.old.values;
@@ -103,11 +103,16 @@ fn write_each(values: &mut FeatureValues, feature: Feature, asked: NewValue, nsi
 
 impl Controller {
     /// What a Get Features answers.
-    fn told(&self, feature: Feature, sel: ThreeBits, nsid: u32) -> u32
-        ensures { result ≡ told feature sel nsid (controller_view self.now) }
+    fn told(&self, feature: Feature, sel: ThreeBits, nsid: u32, cdw11: u32) -> u32
+        ensures { result ≡ told feature sel nsid cdw11 (controller_view self.now) }
     {
-        match self.values.get(feature, nsid, 0) {
-            Some(value) => selected(rule_of(&self.rules, feature), feature, sel, 0, value),
+        let selector = feature.selector_in(cdw11);
+        if !feature.has_selector(selector) {
+            return 0;
+        }
+        let rule = rule_of(&self.rules, feature);
+        match self.values.get(feature, nsid, selector) {
+            Some(value) => selected(rule, feature, sel, selector, value),
             None => 0,
         }
     }
@@ -151,14 +156,19 @@ impl Subsystem {
         ctrl: u16,
         sel: ThreeBits,
         nsid: u32,
+        cdw11: u32,
         feature: Feature,
     ) -> Result<(), Refusal>
         requires { ctrl < length self.now.controllers }
-        ensures { Checks (get_rows self.now ctrl sel nsid feature) result }
+        ensures { Checks (get_rows self.now ctrl sel nsid cdw11 feature) result }
     {
         let of_namespaces = feature.is_per_namespace();
         check(&[
             Row::new(sel.get() > 3, StatusCode::InvalidFieldInCommand),
+            Row::new(
+                !feature.has_selector(feature.selector_in(cdw11)),
+                StatusCode::InvalidFieldInCommand,
+            ),
             Row::new(
                 of_namespaces && !self.is_valid(nsid),
                 StatusCode::InvalidNamespaceOrFormat,
@@ -177,12 +187,13 @@ impl Subsystem {
         fid: u8,
         sel: ThreeBits,
         nsid: u32,
+        cdw11: u32,
     ) -> Result<(), Refusal>
         requires { ctrl < length self.now.controllers }
-        ensures { Checks (get_feature_rows self.now ctrl fid sel nsid) result }
+        ensures { Checks (get_feature_rows self.now ctrl fid sel nsid cdw11) result }
     {
         match self.supported(ctrl, fid) {
-            Some(feature) => self.check_get(ctrl, sel, nsid, feature),
+            Some(feature) => self.check_get(ctrl, sel, nsid, cdw11, feature),
             None => Err(Refusal::from(StatusCode::InvalidFieldInCommand)),
         }
     }
@@ -245,12 +256,19 @@ impl Subsystem {
     }
 
     /// The number that a Get Features answers.
-    pub(crate) fn feature_number(&self, ctrl: u16, fid: u8, sel: ThreeBits, nsid: u32) -> u32
+    pub(crate) fn feature_number(
+        &self,
+        ctrl: u16,
+        fid: u8,
+        sel: ThreeBits,
+        nsid: u32,
+        cdw11: u32,
+    ) -> u32
         requires { ctrl < length self.now.controllers }
-        ensures { result ≡ feature_number self.now ctrl fid sel nsid }
+        ensures { result ≡ feature_number self.now ctrl fid sel nsid cdw11 }
     {
         match Feature::of(fid) {
-            Some(feature) => self.controllers[ctrl as usize].told(feature, sel, nsid),
+            Some(feature) => self.controllers[ctrl as usize].told(feature, sel, nsid, cdw11),
             None => 0,
         }
     }

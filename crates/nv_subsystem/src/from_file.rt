@@ -5,7 +5,7 @@ ghost use Rattle.std.specs.List.{fold};
 ghost use Rattle.std.specs.FinMap as map_of;
 ghost use Rattle.nv_bits.specs.Numbers.{IsOf};
 ghost use Rattle.nv_file.specs.Ranges.{IsFeatureRule};
-ghost use Rattle.nv_layout.specs.Feature.{has_selector, row_of};
+ghost use Rattle.nv_layout.specs.Feature.{is_selector, row_of};
 ghost use Rattle.nv_subsystem.specs.Change.{changed};
 ghost use Rattle.nv_subsystem.specs.ValueKey.{key_of};
 ghost use Rattle.nv_subsystem.specs.ControllerView.{controller_view};
@@ -108,7 +108,7 @@ fn fill_selectors(
     feature: Feature,
     selectors: &[u8],
 )
-    requires known { All (λ s. has_selector feature s ≡ true) selectors.now }
+    requires known { All (λ s. is_selector feature s ≡ true) selectors.now }
     requires alone { (row_of feature).per_namespace ≡ false }
     ensures { values.new ≡ record values.old {
       values = changed (fill rules.now.values) (map (key_of feature 0) selectors.now)

@@ -23,8 +23,8 @@ mod subsystem;
 pub use controller::GREATEST_COUNT;
 pub use nv_command::{Command, ERROR_INFORMATION, HEALTH, Refusal, Reply, StatusCode};
 pub use nv_file::{
-    Counters, DEMO, FeatureRule, Format, Identity, IdentityNumbers, Key, Namespace, SmartBase,
-    SubsystemError, TableName,
+    Counters, DEMO, Defaults, FeatureRule, Format, Identity, IdentityNumbers, Key, Namespace,
+    SmartBase, SubsystemError, TableName,
 };
 pub use origin::{Origin, SERIALS};
 pub use subsystem::Subsystem;

@@ -179,9 +179,12 @@ impl Subsystem {
                 pil,
                 ses,
             } => self.check_format(ctrl, *nsid, &NewFormat::new(*lbaf, *mset, *pi, *pil, *ses)),
-            Command::GetFeature { fid, sel, nsid } => {
-                self.check_get_feature(ctrl, *fid, *sel, *nsid)
-            }
+            Command::GetFeature {
+                fid,
+                sel,
+                nsid,
+                cdw11,
+            } => self.check_get_feature(ctrl, *fid, *sel, *nsid, *cdw11),
             Command::SetFeature {
                 fid,
                 value,
@@ -213,9 +216,12 @@ impl Subsystem {
             Command::Delete { nsid: _ } => Reply::Done,
             Command::Attachment { .. } => Reply::Done,
             Command::Format { .. } => Reply::Done,
-            Command::GetFeature { fid, sel, nsid } => {
-                Reply::Number(self.feature_number(ctrl, *fid, *sel, *nsid))
-            }
+            Command::GetFeature {
+                fid,
+                sel,
+                nsid,
+                cdw11,
+            } => Reply::Number(self.feature_number(ctrl, *fid, *sel, *nsid, *cdw11)),
             Command::SetFeature { .. } => Reply::Done,
             Command::GetLog { lid, .. } => self.log_reply(ctrl, *lid),
         }

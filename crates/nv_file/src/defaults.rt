@@ -1,0 +1,124 @@
+//! The default values of the features of a file.
+ghost use Rattle.std.specs.Prelude.{◌≡◌, ◌≤◌, ℕ, true, All, IfOk, IsSomeAnd, length};
+ghost use Rattle.toml.specs.View.{table_view};
+ghost use Rattle.nv_layout.specs.Feature.{feature_of, is_value};
+ghost use Rattle.nv_file.specs.Defaults.{AreDefaults, AreThresholds, default_at};
+ghost use Rattle.nv_file.specs.Fault.{IsUnlessMemory};
+ghost use Rattle.nv_file.specs.Tables.{default_over, defaults_of, nine, thresholds_or};
+
+use crate::error::{SubsystemError, ensure};
+use crate::key::Key;
+use crate::section::Section;
+use crate::smart_base::number_at;
+use crate::table_name::TableName;
+use std::alloc::Global;
+use toml::Table;
+
+/// The values of a feature before any is set.
+#[derive(Clone, Copy, Debug, PartialEq, Eq)]
+pub enum Defaults {
+    /// Of a feature of one value.
+    One(u32),
+    /// Of Temperature Threshold, each list by TMPSEL, in Kelvin.
+    Thresholds { over: [u16; 9], under: [u16; 9] },
+}
+
+impl Defaults {
+    /// The default under a selector: of thresholds that is TMPSEL, plus 16 for those under.
+    pub fn at(self, selector: u8) -> u32
+        ensures { result ≡ default_at self selector }
+    {
+        match self {
+            Defaults::One(value) => value,
+            Defaults::Thresholds { over, under } => {
+                let number = if selector < 16 {
+                    number_at(&over, selector as usize)
+                } else {
+                    number_at(&under, selector as usize - 16)
+                };
+                number as u32
+            }
+        }
+    }
+}
+
+fn nine(numbers: &[u16]) -> [u16; 9]
+    ensures exact { result ≡ nine numbers.now }
+    ensures sound { AreThresholds result }
+{
+    [
+        number_at(numbers, 0),
+        number_at(numbers, 1),
+        number_at(numbers, 2),
+        number_at(numbers, 3),
+        number_at(numbers, 4),
+        number_at(numbers, 5),
+        number_at(numbers, 6),
+        number_at(numbers, 7),
+        number_at(numbers, 8),
+    ]
+}
+
+/// What a key of Temperature Threshold holds, or what stands for it where it is missing.
+#[tactic(auto, unfolding(crate::specs::Tables::thresholds_or))]
+fn thresholds_or(
+    alloc: Global,
+    default: [u16; 9],
+    key: Key,
+    fid: u8,
+    table: &Table,
+) -> Result<[u16; 9], SubsystemError>
+    requires { AreThresholds default }
+    ensures exact { IsUnlessMemory (λ n. n) result
+        (thresholds_or default key fid (table_view table.now)) }
+    ensures sound { IfOk result AreThresholds }
+{
+    let section = Section {
+        name: TableName::Feature,
+        table,
+    };
+    let integers = section.integers_or_none(alloc, key)?;
+    let is_there = section.has(key);
+    let fits = !is_there || (fid == 0x04 && integers.len() == 9);
+    ensure(fits, section.out_of_range(key))?;
+    let numbers = section.each_in_range(alloc, key, 65535, &integers)?;
+    Ok(if is_there { nine(&numbers) } else { default })
+}
+
+fn default_over(wctemp: u16) -> [u16; 9]
+    ensures exact { result ≡ default_over wctemp }
+    ensures sound { AreThresholds result }
+{
+    [
+        wctemp, 65535, 65535, 65535, 65535, 65535, 65535, 65535, 65535,
+    ]
+}
+
+/// The defaults of a feature, of which `value` is what stands at `default`.
+#[tactic(auto, unfolding(crate::specs::Tables::defaults_of))]
+pub(crate) fn defaults_of(
+    alloc: Global,
+    version: u8,
+    wctemp: u16,
+    fid: u8,
+    value: u32,
+    table: &Table,
+) -> Result<Defaults, SubsystemError>
+    requires { IsSomeAnd (feature_of fid) (λ f. is_value f value ≡ true) }
+    ensures exact { IsUnlessMemory (λ d. d) result
+        (defaults_of version wctemp fid value (table_view table.now)) }
+    ensures sound { IfOk result AreDefaults }
+    ensures values { IfOk result (λ d. IsSomeAnd (feature_of fid)
+        (λ f. (s : ℕ) → is_value f (default_at d s) ≡ true)) }
+{
+    if version == 1 {
+        return Ok(Defaults::One(value));
+    }
+    let over = thresholds_or(alloc, default_over(wctemp), Key::Over, fid, table)?;
+    let under = thresholds_or(alloc, nine(&[]), Key::Under, fid, table)?;
+    Ok(if fid == 0x04 {
+        Defaults::Thresholds { over, under }
+    } else {
+        Defaults::One(value)
+    })
+}
