@@ -50,7 +50,7 @@ fn holds_the_ranges_of_the_top_table_and_the_formats(rt: HostRuntime) -> Result<
         &rt,
         rt.alloc(),
         &[
-            ("version = 1", "version = #", "top.version", 1, 1),
+            ("version = 1", "version = #", "top.version", 1, 2),
             ("mc = 1", "mc = #", "top.mc", 0, 3),
             ("lbads = 12", "lbads = #", "format.lbads", 9, 16),
             ("lbads = 12", "lbads = 12\nms = #", "format.ms", 0, 65535),

@@ -1,6 +1,6 @@
 //! What a subsystem file holds, as `File` gives it.
 
-use nv_file::{DEMO, FeatureRule, File, Format, Namespace, SubsystemError};
+use nv_file::{DEMO, Defaults, FeatureRule, File, Format, Namespace, SubsystemError};
 use std::test::Fail;
 
 #[test]
@@ -56,7 +56,7 @@ fn reads_the_controllers(rt: HostRuntime) -> Result<(), Fail> {
     assert_eq!(rt; first.rules.len(), 1);
     let rule = FeatureRule {
         fid: 6,
-        default: 1,
+        defaults: Defaults::One(1),
         saveable: true,
         changeable: true,
     };

@@ -45,7 +45,7 @@ fn tells_the_faults_of_the_top_table(rt: HostRuntime) -> Result<(), Fail> {
         &[
             (DEMO, "=", "not TOML"),
             ("version = 1", "=", "not TOML"),
-            ("version = 1", "version = 2", "out of range top.version"),
+            ("version = 1", "version = 3", "out of range top.version"),
             ("nn = 4\n", "", "missing top.nn"),
             ("nn = 4\n", "nn = \"4\"\n", "wrong kind top.nn"),
             ("nn = 4\n", "nn = 1025\n", "out of range top.nn"),

@@ -8,6 +8,8 @@ mod drivers_with_data;
 #[cfg(test)]
 mod file_ranges;
 #[cfg(test)]
+mod file_thresholds;
+#[cfg(test)]
 mod file_values;
 #[cfg(test)]
 mod files;

@@ -2,13 +2,14 @@
 
 use crate::harness::{geometries, run_at, run_script};
 use crate::rows::{Row, expect};
+use crate::second_version::second_version;
 use crate::watch::Watch;
 use nv_controller::{Bus, Machine};
 use nv_script::{Geometry, GeometryField, OverRead, OverWrite, RunEnd, run};
 use nv_subsystem::{DEMO, Subsystem};
 use std::test::Fail;
 
-const ROWS: [Row<'static>; 10] = [
+pub(crate) const ROWS: [Row<'static>; 10] = [
     Row {
         script: b"",
         out: "",
@@ -178,8 +179,7 @@ fn command_identifiers_begin_anew_after_65535_commands(rt: HostRuntime) -> Resul
         script.extend_from_slice(b"list-ns /dev/nvme0 -n 3\n")?;
     }
     script.extend_from_slice(b"id-ns /dev/nvme0 -n 0\nerror-log /dev/nvme0\n")?;
-    let left = run_script(rt.alloc(), DEMO, &script)?;
-    assert!(rt; left.end == RunEnd::Status(0));
+    let second = second_version(rt.alloc(), DEMO)?;
     let log = "entry               : 0
 error_count         : 1
 sqid                : 0
@@ -191,14 +191,18 @@ nsid                : 0x0
 vs                  : 0x0
 cs                  : 0x0
 ";
-    let lists = left.out.len().saturating_sub(log.len());
-    assert!(rt; lists == 65536 * 11 && &left.out.as_slice()[lists..] == log.as_bytes());
-    let subsystem = left.machine.subsystem();
-    assert!(rt; subsystem.controllers() == 2);
-    assert!(rt; subsystem.counts(0) == (1, 65539));
-    match subsystem.log_entry(0, 0) {
-        None => panic!(rt; "an entry is missing"),
-        Some(entry) => assert!(rt; entry.cid == 1),
+    for file in [DEMO, second.as_str()] {
+        let left = run_script(rt.alloc(), file, &script)?;
+        assert!(rt; left.end == RunEnd::Status(0));
+        let lists = left.out.len().saturating_sub(log.len());
+        assert!(rt; lists == 65536 * 11 && &left.out.as_slice()[lists..] == log.as_bytes());
+        let subsystem = left.machine.subsystem();
+        assert!(rt; subsystem.controllers() == 2);
+        assert!(rt; subsystem.counts(0) == (1, 65539));
+        match subsystem.log_entry(0, 0) {
+            None => panic!(rt; "an entry is missing"),
+            Some(entry) => assert!(rt; entry.cid == 1),
+        }
     }
     Ok(())
 }

@@ -12,10 +12,10 @@ pub const NOT_SAVEABLE: &str = "Feature Identifier Not Saveable (0x610d)";
 
 pub const NOT_CHANGEABLE: &str = "Feature Not Changeable (0x610e)";
 
-const NOT_OF_NAMESPACES: &str = "Feature Not Namespace Specific (0x610f)";
+pub(crate) const NOT_OF_NAMESPACES: &str = "Feature Not Namespace Specific (0x610f)";
 
 /// The value of the write cache is saved beside the current one.
-const WRITE_CACHE: [Step<'static>; 10] = [
+pub(crate) const WRITE_CACHE: [Step<'static>; 10] = [
     Step::Prints(
         "set-feature /dev/nvme0 -f 6 -v 0 -s",
         "set-feature:0x6 (Volatile Write Cache), value:0x0, save:1",
@@ -53,7 +53,7 @@ const WRITE_CACHE: [Step<'static>; 10] = [
 ];
 
 /// The refusals, by the first condition, and a value for all active namespaces.
-const REFUSALS: [Step<'static>; 7] = [
+pub(crate) const REFUSALS: [Step<'static>; 7] = [
     Step::Refused("set-feature /dev/nvme0 -f 1 -v 8", FIELD),
     Step::Refused("set-feature /dev/nvme0 -f 1 -v 1 -s", NOT_SAVEABLE),
     Step::Refused("set-feature /dev/nvme0 -f 6 -v 1 -n 1", NOT_OF_NAMESPACES),
@@ -141,8 +141,30 @@ const ORDER: [Step<'static>; 21] = [
     ),
 ];
 
+/// The write cache ignores Command Dword 11.
+const CDW11: [Step<'static>; 6] = [
+    Step::Prints(
+        "get-feature /dev/nvme0 -f 6 -c 0x100000",
+        "get-feature:0x6 (Volatile Write Cache), Current value:0x1",
+    ),
+    Step::Prints(
+        "get-feature /dev/nvme0 -f 6 -s 3 --cdw11 0xffffffff",
+        "get-feature:0x6 (Volatile Write Cache), Supported capabilities value:0x5",
+    ),
+    Step::Refused("get-feature /dev/nvme0 -f 6 -s 4 -c 0x100000", FIELD),
+    Step::Refused("get-feature /dev/nvme0 -f 7 -c 0x100000", FIELD),
+    Step::Faulty(
+        "get-feature /dev/nvme0 -f 6 -c 4294967296",
+        "bad number for --cdw11",
+    ),
+    Step::Faulty(
+        "get-feature /dev/nvme0 -f 6 -c 4294967296 -s 8",
+        "bad number for --sel",
+    ),
+];
+
 /// Identifiers that no feature has.
-const UNSUPPORTED: [Step<'static>; 18] = [
+pub(crate) const UNSUPPORTED: [Step<'static>; 18] = [
     Step::Refused("get-feature /dev/nvme0 -f 0", FIELD),
     Step::Refused("set-feature /dev/nvme0 -f 0 -v 0", FIELD),
     Step::Refused("get-feature /dev/nvme0 -f 3", FIELD),
@@ -362,6 +384,7 @@ fn each_line_writes_its_text(rt: HostRuntime) -> Result<(), Fail> {
         &REFUSALS,
         &UNSAVED,
         &ORDER,
+        &CDW11,
         &UNSUPPORTED,
         &MASKS,
         &NAMESPACES,

@@ -109,7 +109,7 @@ lbaf  1             : ms:0 lbads:12 rp:0 (in use)
 lbaf  2             : ms:8 lbads:9 rp:1";
 
 /// A format to a larger block and back: the count of blocks is as before.
-const THERE_AND_BACK: [Step<'static>; 6] = [
+pub(crate) const THERE_AND_BACK: [Step<'static>; 6] = [
     Step::Prints("format /dev/nvme0n3 -l 1", "format: Success, nsid:3"),
     Step::Prints("id-ns /dev/nvme0n3", ONE_BLOCK),
     Step::Prints("format /dev/nvme0n3 -l 0", "format: Success, nsid:3"),

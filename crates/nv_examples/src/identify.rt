@@ -4,7 +4,7 @@ use crate::rows::{Row, leaves};
 use nv_subsystem::DEMO;
 use std::test::Fail;
 
-const ROWS: [Row<'static>; 3] = [
+pub(crate) const ROWS: [Row<'static>; 3] = [
     Row {
         script: b"nvme list-ns /dev/nvme0\n",
         out: "[   0]:0x1\n[   1]:0x3\n",

@@ -49,11 +49,19 @@ mod rows;
 #[cfg(test)]
 mod scripts;
 #[cfg(test)]
+mod second_version;
+#[cfg(test)]
 mod shown;
 #[cfg(test)]
 mod steps;
 #[cfg(test)]
 mod streams;
+#[cfg(test)]
+mod threshold_refusals;
+#[cfg(test)]
+mod threshold_values;
+#[cfg(test)]
+mod thresholds;
 #[cfg(test)]
 mod turn_counts;
 #[cfg(test)]

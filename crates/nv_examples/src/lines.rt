@@ -8,7 +8,7 @@ use nv_subsystem::DEMO;
 use std::test::Fail;
 
 /// Lines with a fault each.
-const FAULTS: Row<'static> = Row {
+pub(crate) const FAULTS: Row<'static> = Row {
     script: b"bogus
 nvme
 help

@@ -12,11 +12,12 @@ fn check(rt: &impl Abort, alloc: Global, line: &str, ask: Ask) {
     assert_eq!(rt; read_line(alloc, line.as_bytes(), 2), Ok(question(0, ask)));
 }
 
-fn get(fid: u8, sel: u8, nsid: u32) -> Ask {
+fn get(fid: u8, sel: u8, nsid: u32, cdw11: u32) -> Ask {
     Ask::GetFeature {
         fid,
         sel: ThreeBits::low(sel),
         nsid,
+        cdw11,
     }
 }
 
@@ -32,18 +33,30 @@ fn set(fid: u8, value: u32, save: bool, nsid: u32) -> Ask {
 #[test]
 fn reads_features(rt: HostRuntime) {
     let alloc = rt.alloc();
-    check(&rt, alloc, "get-feature /dev/nvme0 -f 6", get(6, 0, 0));
+    check(&rt, alloc, "get-feature /dev/nvme0 -f 6", get(6, 0, 0, 0));
     check(
         &rt,
         alloc,
         "get-feature /dev/nvme0n3 -f 0xff -s 7",
-        get(255, 7, 3),
+        get(255, 7, 3, 0),
     );
     check(
         &rt,
         alloc,
         "get-feature /dev/nvme0n3 --sel=3 --feature-id 05 --namespace-id=0xffffffff",
-        get(5, 3, 0xffff_ffff),
+        get(5, 3, 0xffff_ffff, 0),
+    );
+    check(
+        &rt,
+        alloc,
+        "get-feature /dev/nvme0 -c 0x180000 -f 4",
+        get(4, 0, 0, 0x0018_0000),
+    );
+    check(
+        &rt,
+        alloc,
+        "get-feature /dev/nvme0n3 --cdw11=4294967295 -s 2 -f 6",
+        get(6, 2, 3, 0xffff_ffff),
     );
     check(
         &rt,
@@ -104,6 +117,8 @@ fn refuses_lines_of_features_by_their_first_fault(rt: HostRuntime) {
         ("get-feature /dev/nvme0", LineFault::Usage),
         ("get-feature /dev/nvme0 -s 3", LineFault::Usage),
         ("get-feature /dev/nvme0 -f 6 -v 1", LineFault::Usage),
+        ("get-feature /dev/nvme0 -f 6 -c 1 -c 1", LineFault::Usage),
+        ("get-feature /dev/nvme9 -f 6 -c x", LineFault::Device),
         ("get-feature /dev/nvme0 -f 6 -f 6", LineFault::Usage),
         ("set-feature /dev/nvme0 -f 6", LineFault::Usage),
         ("set-feature /dev/nvme0 -v 6", LineFault::Usage),
@@ -111,6 +126,7 @@ fn refuses_lines_of_features_by_their_first_fault(rt: HostRuntime) {
         ("set-feature /dev/nvme0 -f 6 -v 1 -s=1", LineFault::Usage),
         ("set-feature /dev/nvme0 -f 6 -v 1 -s 1", LineFault::Usage),
         ("set-feature /dev/nvme0 -f 6 -l 1 -v 1", LineFault::Usage),
+        ("set-feature /dev/nvme0 -f 6 -c 1 -v 1", LineFault::Usage),
         ("set-feature -f 6 -v 1", LineFault::Usage),
         ("get-feature /dev/nvme9 -f x", LineFault::Device),
         ("set-feature /dev/nvme0n0 -f 6 -v 1", LineFault::Device),
@@ -131,6 +147,12 @@ fn refuses_numbers_of_features(rt: HostRuntime) -> Result<(), Fail> {
         ),
         ("get-feature /dev/nvme0 -f 256 -s 8", OptionName::FeatureId),
         ("get-feature /dev/nvme0 -f 255 -s 8", OptionName::Sel),
+        ("get-feature /dev/nvme0 -c x -f 6 -s 8", OptionName::Sel),
+        (
+            "get-feature /dev/nvme0 -f 6 -c 4294967296",
+            OptionName::Cdw11,
+        ),
+        ("get-feature /dev/nvme0 -f 6 -c=", OptionName::Cdw11),
         ("set-feature /dev/nvme0 -f x -v x", OptionName::FeatureId),
         (
             "set-feature /dev/nvme0 -f 6 -v 4294967296",

@@ -3,6 +3,7 @@
 use crate::harness::{run_at, run_script};
 use crate::listed::{Listed, json_of, lines_of};
 use crate::rows::{Row, expect, leaves};
+use crate::second_version::second_version;
 use crate::steps::{Step, follow};
 use nv_script::{Geometry, RunEnd};
 use nv_subsystem::DEMO;
@@ -13,7 +14,7 @@ use std::test::Fail;
 const NAMESPACE: &str = "Invalid Namespace or Format (0x600b)";
 
 /// The demonstration subsystem, in two lines of 120 bytes.
-const DEMO_ROWS: [Row<'static>; 2] = [
+pub(crate) const DEMO_ROWS: [Row<'static>; 2] = [
     Row {
         script: b"list\n",
         out: concat!(
@@ -163,7 +164,8 @@ pub(crate) fn shared_namespaces(alloc: Global) -> Result<Vec<Listed<'static>>, A
 
 /// `list` of the forty namespaces, as text and as JSON, is the same by a driver of any geometry.
 fn lists_shared(rt: &impl Abort, alloc: Global, geometry: Geometry) -> Result<(), Fail> {
-    let file = shared_file(alloc)?;
+    let first = shared_file(alloc)?;
+    let second = second_version(alloc, first.as_str())?;
     let all = shared_namespaces(alloc)?;
     let mut want = lines_of(alloc, &all)?;
     assert!(rt; want.len() == 9600);
@@ -174,11 +176,13 @@ fn lists_shared(rt: &impl Abort, alloc: Global, geometry: Geometry) -> Result<()
         messages: "",
         status: 0,
     };
-    let left = run_at(alloc, file.as_str(), geometry, row.script)?;
-    expect(rt, &left, &row);
-    let subsystem = left.machine.subsystem();
-    assert!(rt; subsystem.controllers() == 2);
-    assert!(rt; subsystem.counts(0) == (0, 84) && subsystem.counts(1) == (0, 84));
+    for file in [first.as_str(), second.as_str()] {
+        let left = run_at(alloc, file, geometry, row.script)?;
+        expect(rt, &left, &row);
+        let subsystem = left.machine.subsystem();
+        assert!(rt; subsystem.controllers() == 2);
+        assert!(rt; subsystem.counts(0) == (0, 84) && subsystem.counts(1) == (0, 84));
+    }
     Ok(())
 }
 

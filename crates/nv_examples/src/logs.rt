@@ -2,6 +2,7 @@
 
 use crate::harness::{run_at, run_script};
 use crate::rows::{Row, expect};
+use crate::second_version::second_version;
 use crate::steps::{Step, follow};
 use crate::watch::Watch;
 use nv_controller::Machine;
@@ -15,7 +16,7 @@ const FIELD: &str = "Invalid Field in Command (0x6002)";
 const NAMESPACE: &str = "Invalid Namespace or Format (0x600b)";
 
 /// A creation for which there is no capacity.
-const CAPACITY: [Step<'static>; 3] = [
+pub(crate) const CAPACITY: [Step<'static>; 3] = [
     Step::Prints(
         "create-ns /dev/nvme0 -s 18423 -c 18423",
         "create-ns: Success, created nsid:2",
@@ -40,7 +41,7 @@ cs                  : 0x200",
 ];
 
 /// The second controller keeps one error.
-const ONE_ENTRY: [Step<'static>; 6] = [
+pub(crate) const ONE_ENTRY: [Step<'static>; 6] = [
     Step::Refused("id-ns /dev/nvme1 -n 0", NAMESPACE),
     Step::Refused("id-ns /dev/nvme1 -n 0", NAMESPACE),
     Step::Prints(
@@ -77,7 +78,7 @@ cs                  : 0x0",
 ];
 
 /// Of several errors the newest is the first.
-const SEVERAL: Row<'static> = Row {
+pub(crate) const SEVERAL: Row<'static> = Row {
     script: b"id-ns /dev/nvme0 -n 0
 id-ns /dev/nvme0 -n 9
 delete-ns /dev/nvme0 -n 2
@@ -200,7 +201,7 @@ const WHOLE_BASE: &str = "elpe = 3
 smart = { critical_warning = 0xa1, temperature = 2, avail_spare = 3, spare_thresh = 4, percent_used = 5, data_units_read = 6, data_units_written = 7, host_read_commands = 8, host_write_commands = 9, controller_busy_time = 10, power_cycles = 11, power_on_hours = 12, unsafe_shutdowns = 13, media_errors = 14, warning_temp_time = 15, critical_comp_time = 16, sensors = [17, 18, 19, 20, 21, 22, 23, 24] }";
 
 /// The health is that of the whole controller, whatever the path says.
-const NSIDS: [Step<'static>; 4] = [
+pub(crate) const NSIDS: [Step<'static>; 4] = [
     Step::Refused("smart-log /dev/nvme0 -n 1", FIELD),
     Step::Refused("smart-log /dev/nvme0n1 --namespace-id 4294967294", FIELD),
     Step::Faulty(
@@ -245,6 +246,8 @@ fn tells_the_health(rt: HostRuntime) -> Result<(), Fail> {
     follow(&rt, rt.alloc(), file.as_str(), &HEALTH)?;
     let file = DEMO.replace(rt.alloc(), "elpe = 3", WHOLE_BASE)?;
     follow(&rt, rt.alloc(), file.as_str(), &WHOLE_HEALTH)?;
+    let second = second_version(rt.alloc(), file.as_str())?;
+    follow(&rt, rt.alloc(), second.as_str(), &WHOLE_HEALTH)?;
     follow(&rt, rt.alloc(), DEMO, &NSIDS)?;
     Ok(())
 }
@@ -279,10 +282,19 @@ fn many_errors(alloc: Global) -> Result<String, AllocError> {
 #[test]
 fn tells_256_errors_over_pages_of_each_kind(rt: HostRuntime) -> Result<(), Fail> {
     let alloc = rt.alloc();
-    let file = DEMO.replace(alloc, "elpe = 3", "elpe = 255")?;
+    let first = DEMO.replace(alloc, "elpe = 3", "elpe = 255")?;
+    let second = second_version(alloc, first.as_str())?;
     let script = many_refusals(alloc)?;
     let want = many_errors(alloc)?;
-    for (offset, list_offset) in [(0, 0), (4, 4088), (4, 4072), (4, 4064)] {
+    for (file, offset, list_offset) in [
+        (first.as_str(), 0, 0),
+        (first.as_str(), 4, 4088),
+        (first.as_str(), 4, 4072),
+        (first.as_str(), 4, 4064),
+        (second.as_str(), 4, 4088),
+        (second.as_str(), 4, 4072),
+        (second.as_str(), 4, 4064),
+    ] {
         let geometry = Geometry {
             page_size: 4096,
             offset,

@@ -4,7 +4,7 @@ use crate::rows::{Row, leaves};
 use nv_subsystem::DEMO;
 use std::test::Fail;
 
-const ROWS: [Row<'static>; 11] = [
+pub(crate) const ROWS: [Row<'static>; 11] = [
     Row {
         script: b"create-ns /dev/nvme0 -s 18423 -c 18423\ncreate-ns /dev/nvme0 -s 1 -c 1\n",
         out: "create-ns: Success, created nsid:2\n",

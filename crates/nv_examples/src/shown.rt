@@ -2,6 +2,7 @@
 
 use crate::harness::{run_at, run_script};
 use crate::rows::{Row, expect, leaves};
+use crate::second_version::second_version;
 use crate::steps::{Step, follow};
 use nv_script::{Geometry, RunEnd};
 use nv_subsystem::DEMO;
@@ -10,7 +11,7 @@ use std::test::Fail;
 const NAMESPACE: &str = "Invalid Namespace or Format (0x600b)";
 
 /// What the controllers are.
-const CONTROLLERS: [Step<'static>; 5] = [
+pub(crate) const CONTROLLERS: [Step<'static>; 5] = [
     Step::Prints(
         "id-ctrl /dev/nvme0",
         "vid                 : 0x0
@@ -67,7 +68,7 @@ subnqn              : nqn.2014-08.org.example:demo",
 ];
 
 /// What namespaces are.
-const NAMESPACES: [Step<'static>; 7] = [
+pub(crate) const NAMESPACES: [Step<'static>; 7] = [
     Step::Prints(
         "id-ns /dev/nvme0n3 -o json",
         "{\"dpc\":0,\"dps\":0,\"flbas\":0,\"lbafs\":[{\"lbads\":9,\"ms\":0,\"rp\":0},\
@@ -147,7 +148,7 @@ unsafe_shutdowns = 13, media_errors = 14, warning_temp_time = 15, critical_comp_
 sensors = [17, 18, 19, 20, 21, 22, 23, 24] }";
 
 /// Three errors, the newest first.
-const ERRORS: Row<'static> = Row {
+pub(crate) const ERRORS: Row<'static> = Row {
     script: b"id-ns /dev/nvme0 -n 0
 id-ns /dev/nvme0 -n 9
 delete-ns /dev/nvme0 -n 2
@@ -193,13 +194,16 @@ fn shows_health_as_json(rt: HostRuntime) -> Result<(), Fail> {
 
 #[test]
 fn shows_errors_as_json(rt: HostRuntime) -> Result<(), Fail> {
+    let second = second_version(rt.alloc(), DEMO)?;
     for depth in [2, 4096] {
         let geometry = Geometry {
             depth,
             ..Geometry::default()
         };
-        let left = run_at(rt.alloc(), DEMO, geometry, ERRORS.script)?;
-        expect(&rt, &left, &ERRORS);
+        for file in [DEMO, second.as_str()] {
+            let left = run_at(rt.alloc(), file, geometry, ERRORS.script)?;
+            expect(&rt, &left, &ERRORS);
+        }
     }
     Ok(())
 }

@@ -4,6 +4,7 @@ ghost use Rattle.std.specs.Prelude.{◌≡◌, None, false};
 ghost use Rattle.nv_script.specs.Streams.{IsFresh};
 
 use crate::harness::geometries;
+use crate::second_version::second_version;
 use nv_controller::Machine;
 use nv_script::{Geometry, OverRead, OverWrite, RunEnd, Sink, Source, run};
 use nv_subsystem::{DEMO, Subsystem};
@@ -99,30 +100,41 @@ impl Sink for CutSink {
     }
 }
 
+/// A run whose script fails in its second line carries out the first.
+fn expect_cut_script(
+    rt: &impl Abort,
+    alloc: Global,
+    file: &str,
+    geometry: Geometry,
+) -> Result<(), Fail> {
+    let subsystem = Subsystem::from_toml(alloc, file.as_bytes())?;
+    let mut machine = Machine::new(alloc, subsystem)?;
+    let pieces: [&[u8]; 2] = [b"list-ns /dev/nvme0\nlist-", b"ns /dev/nvme0"];
+    let mut script = PieceSource::new(&pieces);
+    let mut out = OverWrite::new(Vec::new(alloc));
+    let mut messages = OverWrite::new(Vec::new(alloc));
+    let end = run(
+        alloc,
+        &mut machine,
+        geometry,
+        &mut script,
+        &mut out,
+        &mut messages,
+    );
+    assert!(rt; end == RunEnd::Read);
+    assert!(rt; script.calls == 3);
+    assert!(rt; out.into_inner().as_slice() == "[   0]:0x1\n[   1]:0x3\n".as_bytes());
+    assert!(rt; messages.into_inner().is_empty());
+    Ok(())
+}
+
 #[test]
 fn runs_only_the_lines_before_a_failing_read(rt: HostRuntime) -> Result<(), Fail> {
-    let alloc = rt.alloc();
-    for geometry in &geometries(alloc)? {
-        let subsystem = Subsystem::from_toml(alloc, DEMO.as_bytes())?;
-        let mut machine = Machine::new(alloc, subsystem)?;
-        let pieces: [&[u8]; 2] = [b"list-ns /dev/nvme0\nlist-", b"ns /dev/nvme0"];
-        let mut script = PieceSource::new(&pieces);
-        let mut out = OverWrite::new(Vec::new(alloc));
-        let mut messages = OverWrite::new(Vec::new(alloc));
-        let end = run(
-            alloc,
-            &mut machine,
-            *geometry,
-            &mut script,
-            &mut out,
-            &mut messages,
-        );
-        assert!(rt; end == RunEnd::Read);
-        assert!(rt; script.calls == 3);
-        assert!(rt; out.into_inner().as_slice() == "[   0]:0x1\n[   1]:0x3\n".as_bytes());
-        assert!(rt; messages.into_inner().is_empty());
+    for geometry in &geometries(rt.alloc())? {
+        expect_cut_script(&rt, rt.alloc(), DEMO, *geometry)?;
     }
-    Ok(())
+    let second = second_version(rt.alloc(), DEMO)?;
+    expect_cut_script(&rt, rt.alloc(), second.as_str(), Geometry::default())
 }
 
 #[test]
@@ -153,10 +165,11 @@ fn reads_no_more_after_the_end(rt: HostRuntime) -> Result<(), Fail> {
 fn expect_cut_output(
     rt: &impl Abort,
     alloc: Global,
+    file: &str,
     geometry: Geometry,
     takes_none: bool,
 ) -> Result<(), Fail> {
-    let subsystem = Subsystem::from_toml(alloc, DEMO.as_bytes())?;
+    let subsystem = Subsystem::from_toml(alloc, file.as_bytes())?;
     let mut machine = Machine::new(alloc, subsystem)?;
     let mut script = OverRead::new(b"list-ns /dev/nvme0\nbogus\n".as_slice());
     let mut out = CutSink::new(takes_none);
@@ -180,10 +193,11 @@ fn expect_cut_output(
 fn leaves_a_beginning_of_the_output(rt: HostRuntime) -> Result<(), Fail> {
     for geometry in &geometries(rt.alloc())? {
         for takes_none in [false, true] {
-            expect_cut_output(&rt, rt.alloc(), *geometry, takes_none)?;
+            expect_cut_output(&rt, rt.alloc(), DEMO, *geometry, takes_none)?;
         }
     }
-    Ok(())
+    let second = second_version(rt.alloc(), DEMO)?;
+    expect_cut_output(&rt, rt.alloc(), second.as_str(), Geometry::default(), true)
 }
 
 #[test]

@@ -46,11 +46,12 @@ fn format(lbaf: u8, mset: bool, pi: u8, pil: bool, ses: u8) -> Command<'static> 
     }
 }
 
-fn get(fid: u8, sel: u8) -> Command<'static> {
+fn get(fid: u8, sel: u8, cdw11: u32) -> Command<'static> {
     Command::GetFeature {
         fid,
         sel: ThreeBits::low(sel),
         nsid: 7,
+        cdw11,
     }
 }
 
@@ -75,8 +76,10 @@ fn format_by_its_entry(rt: HostRuntime) {
 
 #[test]
 fn features_by_their_entries(rt: HostRuntime) {
-    check_travel(&rt, get(0xff, 0), 0x0a, 0x0ff, 0);
-    check_travel(&rt, get(0x06, 7), 0x0a, 0x706, 0);
+    check_travel(&rt, get(0xff, 0, 0), 0x0a, 0x0ff, 0);
+    check_travel(&rt, get(0x06, 7, 0), 0x0a, 0x706, 0);
+    check_travel(&rt, get(0x04, 0, 0x0018_0000), 0x0a, 0x004, 0x0018_0000);
+    check_travel(&rt, get(0x04, 2, 0xffff_ffff), 0x0a, 0x204, 0xffff_ffff);
     check_travel(&rt, set(0x06, 0, true), 0x09, 0x8000_0006, 0);
     check_travel(&rt, set(0xff, 0xffff_ffff, false), 0x09, 0xff, 0xffff_ffff);
 }
@@ -91,7 +94,7 @@ fn check_decoded(rt: &impl Abort, entry: &Sqe, want: Result<Command, StatusCode>
 fn bits_beside_the_fields_are_ignored(rt: HostRuntime) {
     let plain = format(1, false, 0, false, 0);
     check_decoded(&rt, &entry(0x80, 0xffff_f001, 9), Ok(plain));
-    check_decoded(&rt, &entry(0x0a, 0xffff_f806, 9), Ok(get(0x06, 0)));
+    check_decoded(&rt, &entry(0x0a, 0xffff_f806, 9), Ok(get(0x06, 0, 9)));
     check_decoded(&rt, &entry(0x09, 0x7fff_ff06, 9), Ok(set(0x06, 9, false)));
 }
 
@@ -113,6 +116,7 @@ fn their_replies(rt: HostRuntime) {
         fid: 6,
         sel: ThreeBits::low(0),
         nsid: 7,
+        cdw11: 0,
     };
     room.read(&get, 5, &[]);
     assert!(rt; matches!(room.reply(), Reply::Number(5)));
