@@ -9,7 +9,9 @@ use Rattle.nv_file.proofs.controller.controller_entries_of.Given as goal
 
 abbrev pub invariant-loop-table : goal.invariant-loop-table
 invariant-loop-table l = record {
-  reads : readings (controller_entry_of l.version) (map controller_entry_view l.controllers.items) (tables_view (drop l.table-index l.tables)) ≡ readings (controller_entry_of l.version) [] (tables_view l.tables);
+  reads : readings (controller_entry_of l.version) (map controller_entry_view l.controllers.items)
+      (tables_view (drop l.table-index l.tables))
+      ≡ readings (controller_entry_of l.version) [] (tables_view l.tables);
   count : length l.controllers.items ≡ l.table-index;
   sound : All IsControllerEntry (map controller_entry_view l.controllers.items);
   cntlids : AllPairs (λ c d. c.identity.cntlid ≢ d.identity.cntlid) (map controller_entry_view l.controllers.items);

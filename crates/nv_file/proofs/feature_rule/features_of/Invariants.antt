@@ -8,7 +8,8 @@ use Rattle.nv_file.proofs.feature_rule.features_of.Given as goal
 
 abbrev pub invariant-loop-table : goal.invariant-loop-table
 invariant-loop-table l = record {
-  reads : readings (feature_of l.version l.wctemp) l.rules.items (tables_view (drop l.table-index l.tables)) ≡ readings (feature_of l.version l.wctemp) [] (tables_view l.tables);
+  reads : readings (feature_of l.version l.wctemp) l.rules.items (tables_view (drop l.table-index l.tables))
+      ≡ readings (feature_of l.version l.wctemp) [] (tables_view l.tables);
   sound : All IsFeatureRule l.rules.items;
   fids : AllPairs (λ r s. r.fid ≢ s.fid) l.rules.items;
 }
