@@ -1,3 +1,4 @@
 pub mod WordLaws
 pub mod BitSetLaws
 pub mod SlotsLaws
+pub mod NumberLaws

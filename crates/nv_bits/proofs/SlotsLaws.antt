@@ -6,7 +6,7 @@ use Rattle.std.specs.Ordering.{nat_cmp}
 use Rattle.std.specs.FinMap as map
 use Rattle.std.specs.FinMap.{len-empty, len-insert, len-remove}
 use Rattle.nv_bits.specs.BitSet.{RangeSet}
-use Rattle.nv_bits.specs.NumberLaws.{above_next, above_none, by_place-insert, by_place-remove, by_place_is, contains-insert, contains-remove, get_at, get_outside, len-all_of}
+use Rattle.nv_bits.proofs.NumberLaws.{above_next, above_none, by_place-insert, by_place-remove, by_place_is, contains-insert, contains-remove, get_at, get_outside, len-all_of}
 use Rattle.nv_bits.specs.Numbers.{IsLowest, IsNext, IsOf, NumberMap, above, all_of, as_member, insert}
 use Rattle.nv_bits.specs.Slots.{AreSlots, IsLowestFree, RangeMap, values_of}
 

@@ -1,5 +1,4 @@
 pub mod Words
 pub mod Numbers
-pub mod NumberLaws
 pub mod BitSet
 pub mod Slots

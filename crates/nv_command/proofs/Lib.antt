@@ -1,2 +1,10 @@
 pub mod PartLaws
 pub mod StatusNames
+pub mod EntryLaws
+pub mod FeatureLaws
+pub mod FormatLaws
+pub mod IdentifyLaws
+pub mod LogLaws
+pub mod ManagementLaws
+pub mod RefusalLaws
+pub mod TravelLaws

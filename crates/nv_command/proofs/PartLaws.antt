@@ -4,7 +4,7 @@ use Rattle.std.proofs.lemmas.Bool.{cases_lt}
 use Rattle.std.proofs.lemmas.List.{take-append-le, take-replicate, take_all}
 use Rattle.std.proofs.Math.Seq.{take-append-add}
 use Rattle.nv_layout.specs.Parts.{part}
-use Rattle.nv_layout.specs.PartLaws.{part_past}
+use Rattle.nv_layout.proofs.PartLaws.{part_past}
 
 past_end : (xs : List ℕ) (rest n : ℕ) → n ≡ length xs + rest → xs ++ replicate rest 0 ≡ take n (xs ++ replicate n 0)
 past_end xs rest n e =

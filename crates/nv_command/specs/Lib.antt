@@ -12,11 +12,3 @@ pub mod Decoding
 pub mod Reply
 pub mod Room
 pub mod Travel
-pub mod RefusalLaws
-pub mod EntryLaws
-pub mod IdentifyLaws
-pub mod ManagementLaws
-pub mod FormatLaws
-pub mod FeatureLaws
-pub mod LogLaws
-pub mod TravelLaws

@@ -1,10 +1,10 @@
 -- The data of replies.
 use Rattle.std.proofs.Common.{◌≡◌, ◌∙◌, ℕ, ◌≤◌, arith, refl, subst, List, [], ◌∷◌, length}
-use Rattle.nv_layout.specs.LogLaws.{length-bytes_of_smart, length-entries}
+use Rattle.nv_layout.proofs.LogLaws.{length-bytes_of_smart, length-entries}
 use Rattle.nv_prp.specs.Place.{written_at}
 use Rattle.nv_command.specs.Command.{bytes_to_host, transfer_by}
 use Rattle.nv_command.specs.Reply.{FitsRecord, IsReplyTo, data_of, log_of, page_of}
-use Rattle.nv_command.specs.TravelLaws.{replies_fit}
+use Rattle.nv_command.proofs.TravelLaws.{replies_fit}
 use Rattle.nv_command.specs.declared.command.Command.{Command}
 use Rattle.nv_command.specs.declared.command.Command.TheVariants.{IdentifyController, IdentifyNamespace, AllocatedNamespace, ActiveList, AllocatedList, Create, Delete}
 use Rattle.nv_command.specs.declared.command.Command.TheVariants.{Attachment, Format, GetFeature, SetFeature, GetLog}

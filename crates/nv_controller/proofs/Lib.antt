@@ -2,3 +2,4 @@ pub mod LogLaws
 pub mod EntryLaws
 pub mod TurnLaws
 pub mod DataLaws
+pub mod ResetLaws

@@ -1,6 +1,6 @@
 -- Parts of logs.
 use Rattle.std.proofs.Common.{◌≡◌, ◌∙◌, ℕ, ◌+◌, ◌≤◌, List, ap, arith, drop, length, min, sym, take}
-use Rattle.nv_layout.specs.PartLaws.{length-part, part-part, part_past}
+use Rattle.nv_layout.proofs.PartLaws.{length-part, part-part, part_past}
 use Rattle.nv_layout.specs.Parts.{part}
 
 -- a part of a part

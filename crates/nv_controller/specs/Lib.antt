@@ -1,10 +1,1 @@
-pub mod Bus
 pub mod BusCode
-pub mod Limit
-pub mod LimitLaws
-pub mod Call
-pub mod CallLaws
-pub mod TagLaws
-pub mod Entry
-pub mod Turn
-pub mod TurnLaws

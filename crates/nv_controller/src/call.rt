@@ -5,9 +5,9 @@ ghost use Rattle.nv_command.specs.Command.{transfer_by};
 ghost use Rattle.nv_command.specs.Decoding.{command_of};
 ghost use Rattle.nv_prp.specs.Place.{LieIn, places};
 ghost use Rattle.nv_prp.specs.Transfer.{transfer};
-ghost use Rattle.nv_controller.specs.Call.{HasRoom, call_of, data_places, length_of, places_of};
-ghost use Rattle.nv_controller.specs.Call.{within};
-ghost use Rattle.nv_controller.specs.Call.{prp_status, sent_from};
+ghost use Rattle.nv_bus.specs.Call.{HasRoom, call_of, data_places, length_of, places_of};
+ghost use Rattle.nv_bus.specs.Call.{within};
+ghost use Rattle.nv_bus.specs.Call.{prp_status, sent_from};
 
 use nv_command::{Command, StatusCode, Transfer};
 use nv_host::HostMemory;
@@ -25,7 +25,7 @@ fn prp_status(fault: PrpError) -> StatusCode
 }
 
 /// Walks the data pointer of an entry for so many bytes.
-#[tactic(auto, unfolding(crate::specs::Call::places_of))]
+#[tactic(auto, unfolding(nv_bus::specs::Call::places_of))]
 fn walk_data<M: HostMemory>(
     mem: &M,
     entry: &Sqe,

@@ -5,17 +5,18 @@ ghost use Rattle.nv_layout.specs.Parts.{part};
 ghost use Rattle.nv_command.specs.Command.{transfer_by};
 ghost use Rattle.nv_command.specs.Reply.{FitsRecord, IsReplyTo, data_of, log_of, page_of};
 ghost use Rattle.nv_prp.specs.Place.{LieIn, places, written_at};
-ghost use Rattle.nv_subsystem.specs.Step.{step};
-ghost use Rattle.nv_subsystem.specs.WellFormed.{IsWellFormed};
-ghost use Rattle.nv_controller.specs.Call.{call_of, length_of};
-ghost use Rattle.nv_controller.specs.Entry.{Moves, MovesBy, One, completion_of, scene};
-ghost use Rattle.nv_controller.specs.Entry.{step_unless, told_by};
-ghost use Rattle.nv_controller.specs.Limit.{limit_of};
-ghost use Rattle.nv_controller.specs.Turn.{can_take, reaches};
+ghost use Rattle.nv_model.specs.Step.{step};
+ghost use Rattle.nv_model.specs.WellFormed.{IsWellFormed};
+ghost use Rattle.nv_bus.specs.Call.{call_of, length_of};
+ghost use Rattle.nv_bus.specs.Entry.{Moves, MovesBy, One, completion_of, scene};
+ghost use Rattle.nv_bus.specs.Entry.{step_unless, told_by};
+ghost use Rattle.nv_bus.specs.Limit.{limit_of};
+ghost use Rattle.nv_bus.specs.Turn.{can_take, reaches};
 
 use crate::call::read_call;
 use crate::log_part::LogPart;
 use crate::scratch::Scratch;
+use nv_bus::Told;
 use nv_command::{Command, Refusal, Reply, Transfer};
 use nv_host::HostMemory;
 use nv_layout::{Cqe, NsList, Sqe, Status};
@@ -23,46 +24,37 @@ use nv_prp::{Spans, copy_out, write_out};
 use nv_register::Rings;
 use nv_subsystem::{Origin, Subsystem};
 
-/// What the completion of an entry tells of its answer.
-#[derive(Clone, Copy)]
-pub struct Told {
-    pub dword0: u32,
-    pub status: Status,
+/// What is told of a reply.
+fn reply_told(reply: &Reply) -> Told
+    ensures { result ≡ told_by (Ok reply.now) }
+{
+    Told {
+        dword0: reply.dword0(),
+        status: Status::SUCCESS,
+    }
 }
 
-impl Told {
-    /// A reply.
-    fn reply(reply: &Reply) -> Told
-        ensures { result ≡ told_by (Ok reply.now) }
-    {
-        Told {
-            dword0: reply.dword0(),
-            status: Status::SUCCESS,
-        }
+/// What is told of a refusal.
+fn refusal_told(refusal: &Refusal) -> Told
+    ensures { result ≡ told_by (Err refusal.now.status) }
+{
+    Told {
+        dword0: 0,
+        status: refusal.status,
     }
+}
 
-    /// A refusal.
-    fn refusal(refusal: &Refusal) -> Told
-        ensures { result ≡ told_by (Err refusal.now.status) }
-    {
-        Told {
-            dword0: 0,
-            status: refusal.status,
-        }
-    }
-
-    /// The completion that tells it; the ring gives it its phase tag.
-    fn completion(self, cid: u16, sq_head: u16) -> Cqe
-        ensures { result ≡ completion_of cid sq_head self }
-    {
-        Cqe {
-            command_specific: self.dword0,
-            sq_head,
-            sq_identifier: 0,
-            cid,
-            phase: false,
-            status: self.status,
-        }
+/// The completion that tells it; the ring gives it its phase tag.
+fn completion(told: Told, cid: u16, sq_head: u16) -> Cqe
+    ensures { result ≡ completion_of cid sq_head told }
+{
+    Cqe {
+        command_specific: told.dword0,
+        sq_head,
+        sq_identifier: 0,
+        cid,
+        phase: false,
+        status: told.status,
     }
 }
 
@@ -151,7 +143,7 @@ fn deliver<M: HostMemory>(
 
 /// How many bytes of data a command of a controller has at most. Section "Identify Controller data
 /// structure", Maximum Data Transfer Size.
-#[tactic(auto, using(crate::specs::LimitLaws::limit_bounds))]
+#[tactic(auto, using(nv_bus::proofs::LimitLaws::limit_bounds))]
 fn limit(subsystem: &Subsystem, ctrl: u16) -> u64
     requires ctrl { ctrl < length subsystem.now.controllers }
     requires well_formed { IsWellFormed subsystem.now }
@@ -189,9 +181,9 @@ fn execute<M: HostMemory>(
     let (told, refusal) = match subsystem.answer(ctrl, command, ids) {
         Ok(reply) => {
             deliver(mem, spans, page, command, &reply);
-            (Told::reply(&reply), None)
+            (reply_told(&reply), None)
         }
-        Err(refusal) => (Told::refusal(&refusal), Some(refusal)),
+        Err(refusal) => (refusal_told(&refusal), Some(refusal)),
     };
     subsystem.settle(ctrl, command, origin, refusal);
     told
@@ -239,7 +231,7 @@ fn answer_entry<M: HostMemory>(
         Err(code) => {
             let refusal = Refusal::from(code);
             subsystem.refuse(ctrl, origin, entry.nsid, refusal);
-            Told::refusal(&refusal)
+            refusal_told(&refusal)
         }
         Ok(command) => execute(subsystem, ctrl, mem, &command, origin, spans, page, ids),
     }
@@ -268,6 +260,6 @@ pub(crate) fn take_one<M: HostMemory>(
     let entry = rings.submission.next(mem).unwrap();
     let phase = rings.completion.phase();
     let told = answer_entry(subsystem, ctrl, mem, &entry, phase, scratch);
-    let posted = told.completion(entry.cid, rings.submission.head());
+    let posted = completion(told, entry.cid, rings.submission.head());
     rings.completion.put(mem, posted).unwrap();
 }

@@ -22,13 +22,12 @@
 //! let taken = machine.turn(0, &mut mem, 16);
 //! ```
 //!
-//! The test in `src/example.rt` is this example at full length, with a list that is written over
-//! the submission ring itself. `rt try --test` runs it.
+//! The tests of `nv_device_examples` have this example at full length, in `src/mistakes.rt`, with a
+//! list that is written over the submission ring itself.
 //!
 //! Sections are named as in the NVM Express Base Specification, revision 1.4.
 #![tactic(auto)]
 
-mod bus;
 mod call;
 mod entry;
 mod log_part;
@@ -36,5 +35,5 @@ mod machine;
 mod scratch;
 mod turn;
 
-pub use bus::Bus;
 pub use machine::Machine;
+pub use nv_bus::Bus;

@@ -1,13 +1,14 @@
 //! The controllers of a subsystem.
 
-ghost use Rattle.std.specs.Prelude.{◌≡◌, All, IfOk, length, replicate};
-ghost use Rattle.nv_register.specs.Port.{new_port};
-ghost use Rattle.nv_subsystem.specs.WellFormed.{IsWellFormed};
-ghost use Rattle.nv_controller.specs.Bus.{IsBus, IsEnabledWhereReady};
+ghost use Rattle.std.specs.Prelude.{◌≡◌, ◌<◌, IfOk, if◌then◌else◌, length, replicate};
+ghost use Rattle.nv_register.specs.Port.{new_port, stops_at, with_register_at};
+ghost use Rattle.nv_model.specs.Reset.{reset};
+ghost use Rattle.nv_model.specs.WellFormed.{IsWellFormed};
+ghost use Rattle.nv_bus.specs.Bus.{IsBus};
 
-use crate::bus::Bus;
 use crate::scratch::Scratch;
 use crate::turn::turn_port;
+use nv_bus::Bus;
 use nv_host::{HostMemory, Memory};
 use nv_register::Port;
 use nv_subsystem::Subsystem;
@@ -23,7 +24,7 @@ pub struct Machine {
 }
 
 impl Model for Machine {
-    ghost use Rattle.nv_controller.specs.Bus.{BusValue};
+    ghost use Rattle.nv_bus.specs.Bus.{BusValue};
 
     ghost Value = { BusValue };
 
@@ -52,6 +53,23 @@ fn new_ports(alloc: Global, count: u16) -> Result<Vec<Port>, Memory>
     Ok(ports)
 }
 
+/// Writes a register of a controller, which is reset where that clears an EN that was 1. Section
+/// "Controller Level Reset".
+#[tactic(auto, using(crate::proofs::ResetLaws::controllers_stay))]
+fn write_port(subsystem: &mut Subsystem, port: &mut Port, ctrl: u16, offset: u32, dword: u32)
+    requires { ctrl < length subsystem.old.controllers }
+    ensures state { subsystem.new
+        ≡ (if stops_at port.old offset dword then reset subsystem.old ctrl else subsystem.old) }
+    ensures port { port.new ≡ with_register_at port.old offset dword }
+    ensures controllers { length subsystem.new.controllers ≡ length subsystem.old.controllers }
+    ensures well_formed { IsWellFormed subsystem.old → IsWellFormed subsystem.new }
+{
+    if port.stops_at(offset, dword) {
+        subsystem.reset(ctrl);
+    }
+    port.write32(offset, dword);
+}
+
 impl Machine {
     /// The controllers of a subsystem after power on. Where memory is refused the subsystem is
     /// dropped.
@@ -61,7 +79,6 @@ impl Machine {
           ports = replicate (length subsystem.controllers) new_port;
         }) }
         ensures bus { IfOk result (λ m. IsWellFormed subsystem → IsBus m) }
-        ensures enabled { IfOk result (λ m. All IsEnabledWhereReady m.ports) }
     {
         let ports = new_ports(alloc, subsystem.controllers())?;
         Ok(Machine {
@@ -92,7 +109,7 @@ impl Bus for Machine {
 
     fn write32(&mut self, ctrl: u16, offset: u32, dword: u32) {
         let port = &mut self.ports[ctrl as usize];
-        port.write32(offset, dword);
+        write_port(&mut self.subsystem, port, ctrl, offset, dword);
     }
 
     fn turn<M: HostMemory>(&mut self, ctrl: u16, mem: &mut M, most: u16) -> u16 {

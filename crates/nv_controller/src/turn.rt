@@ -1,15 +1,15 @@
 //! The turn of a controller.
 
 ghost use Rattle.std.specs.Prelude.{◌≡◌, ◌<◌, length};
-ghost use Rattle.nv_subsystem.specs.WellFormed.{IsWellFormed};
-ghost use Rattle.nv_controller.specs.Entry.{scene};
-ghost use Rattle.nv_controller.specs.Turn.{PortTurn, RingsTurn, TakesCount, can_take, reaches};
-ghost use Rattle.nv_controller.specs.Turn.{site};
+ghost use Rattle.nv_model.specs.WellFormed.{IsWellFormed};
+ghost use Rattle.nv_bus.specs.Entry.{scene};
+ghost use Rattle.nv_bus.specs.Turn.{PortTurn, RingsTurn, TakesCount, can_take, reaches};
+ghost use Rattle.nv_bus.specs.Turn.{site};
 
 use crate::entry::take_one;
 use crate::scratch::Scratch;
 use nv_host::HostMemory;
-use nv_register::{Port, Rings};
+use nv_register::{Port, Readiness, Rings};
 use nv_subsystem::Subsystem;
 
 /// Whether an entry waits, and there is a free slot for its completion.
@@ -80,15 +80,12 @@ pub(crate) fn turn_port<M: HostMemory>(
     ensures len { length (M.bytes mem.new) ≡ length (M.bytes mem.old) }
     ensures page { M.page_len mem.new ≡ M.page_len mem.old }
 {
-    if port.cfs {
-        return 0;
-    }
-    match &mut port.rings {
-        None => 0,
-        Some(rings) => {
-            let (count, fatal) = take_entries(subsystem, rings, scratch, ctrl, mem, most);
-            port.cfs = fatal;
+    match &mut port.readiness {
+        Readiness::Ready { rings, fatal } if !*fatal => {
+            let (count, stopped) = take_entries(subsystem, rings, scratch, ctrl, mem, most);
+            *fatal = stopped;
             count
         }
+        _ => 0,
     }
 }

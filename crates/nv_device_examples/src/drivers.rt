@@ -1,7 +1,7 @@
 //! Drivers of the demonstration subsystem.
 
-ghost use Rattle.std.specs.Prelude.{◌≡◌, ◌<◌, All, IfOk, length};
-ghost use Rattle.nv_controller.specs.Bus.{IsBus, IsEnabledWhereReady};
+ghost use Rattle.std.specs.Prelude.{◌≡◌, ◌<◌, IfOk, length};
+ghost use Rattle.nv_bus.specs.Bus.{IsBus};
 ghost use Rattle.nv_driver.specs.Registers.{ports_of};
 
 use nv_command::{Command, Reply};
@@ -15,8 +15,7 @@ use std::test::Fail;
 
 /// The machine of the demonstration subsystem, after power on.
 pub(crate) fn machine(alloc: Global) -> Result<Machine, Fail>
-    ensures bus { IfOk result IsBus }
-    ensures enabled { IfOk result (λ m. All IsEnabledWhereReady m.ports) }
+    ensures { IfOk result IsBus }
 {
     let subsystem = Subsystem::from_toml(alloc, DEMO.as_bytes())?;
     let machine = Machine::new(alloc, subsystem)?;
@@ -24,7 +23,7 @@ pub(crate) fn machine(alloc: Global) -> Result<Machine, Fail>
 }
 
 /// What registers of a controller read.
-fn expect(rt: &impl Abort, machine: &Machine, ctrl: u16, want: &[(u32, u32)]) {
+pub(crate) fn expect(rt: &impl Abort, machine: &Machine, ctrl: u16, want: &[(u32, u32)]) {
     assert!(rt; ctrl < machine.controllers());
     for (offset, dword) in want {
         assert_eq!(rt; machine.read32(ctrl, *offset), *dword, "at {offset}");
@@ -134,7 +133,13 @@ fn lays_the_greatest_rings_in_the_greatest_pages(rt: HostRuntime) -> Result<(), 
 }
 
 /// Asks for the NSIDs that are attached to a controller.
-fn expect_list(rt: &impl Abort, driver: &mut Driver, machine: &mut Machine, ctrl: u16, want: &[u32])
+pub(crate) fn expect_list(
+    rt: &impl Abort,
+    driver: &mut Driver,
+    machine: &mut Machine,
+    ctrl: u16,
+    want: &[u32],
+)
     requires ctrl { ctrl < length driver.old.lanes }
     requires bus { IsBus machine.old }
     requires left { machine.old.ports ≡ ports_of driver.old }
@@ -150,7 +155,7 @@ fn expect_list(rt: &impl Abort, driver: &mut Driver, machine: &mut Machine, ctrl
 }
 
 /// Asks for a namespace that no controller can have.
-fn expect_refusal(rt: &impl Abort, driver: &mut Driver, machine: &mut Machine, ctrl: u16)
+pub(crate) fn expect_refusal(rt: &impl Abort, driver: &mut Driver, machine: &mut Machine, ctrl: u16)
     requires ctrl { ctrl < length driver.old.lanes }
     requires bus { IsBus machine.old }
     requires left { machine.old.ports ≡ ports_of driver.old }

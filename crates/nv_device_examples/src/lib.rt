@@ -6,6 +6,8 @@ mod drivers;
 #[cfg(test)]
 mod drivers_with_data;
 #[cfg(test)]
+mod drivers_with_resets;
+#[cfg(test)]
 mod file_ranges;
 #[cfg(test)]
 mod file_thresholds;
@@ -18,9 +20,13 @@ mod hostile_files;
 #[cfg(test)]
 mod mistakes;
 #[cfg(test)]
+mod resets;
+#[cfg(test)]
 mod subsystem_logs;
 #[cfg(test)]
 mod subsystem_management;
+#[cfg(test)]
+mod subsystem_resets;
 #[cfg(test)]
 mod turns;
 #[cfg(test)]

@@ -1,7 +1,7 @@
 //! Turns over entries that a host placed by hand.
 
 ghost use Rattle.std.specs.Prelude.{◌≡◌, IfOk, length};
-ghost use Rattle.nv_controller.specs.Bus.{IsBus};
+ghost use Rattle.nv_bus.specs.Bus.{IsBus};
 
 use nv_controller::*;
 use nv_host::{FlatMemory, HostMemory, is_page_size};

@@ -1,6 +1,6 @@
 //! Controller 0 of the demonstration subsystem, step by step.
 
-ghost use Rattle.nv_controller.specs.Bus.{IsBus};
+ghost use Rattle.nv_bus.specs.Bus.{IsBus};
 
 use crate::turns::{identify, machine, memory, pages};
 use nv_controller::*;
@@ -10,28 +10,28 @@ use std::alloc::Global;
 use std::process::Abort;
 use std::test::Fail;
 
-const CC: u32 = 0x14;
+pub(crate) const CC: u32 = 0x14;
 
-const CSTS: u32 = 0x1c;
+pub(crate) const CSTS: u32 = 0x1c;
 
-const AQA: u32 = 0x24;
+pub(crate) const AQA: u32 = 0x24;
 
-const ASQ: u32 = 0x28;
+pub(crate) const ASQ: u32 = 0x28;
 
-const ACQ: u32 = 0x30;
+pub(crate) const ACQ: u32 = 0x30;
 
-const TAIL: u32 = 0x1000;
+pub(crate) const TAIL: u32 = 0x1000;
 
-const HEAD: u32 = 0x1004;
+pub(crate) const HEAD: u32 = 0x1004;
 
 /// CC with pages of 4,096 bytes, and EN 1 or 0.
-const ENABLE: u32 = 0x0046_0001;
+pub(crate) const ENABLE: u32 = 0x0046_0001;
 
-const DISABLE: u32 = 0x0046_0000;
+pub(crate) const DISABLE: u32 = 0x0046_0000;
 
 /// A step of a test.
 #[derive(Clone, Copy)]
-enum Step {
+pub enum Step {
     /// Writes a register.
     Write(u32, u32),
     /// A register reads so.
@@ -76,7 +76,12 @@ fn take_step(rt: &impl Abort, machine: &mut Machine, mem: &mut FlatMemory, step:
     }
 }
 
-fn take_steps(rt: &impl Abort, machine: &mut Machine, mem: &mut FlatMemory, steps: &[Step])
+pub(crate) fn take_steps(
+    rt: &impl Abort,
+    machine: &mut Machine,
+    mem: &mut FlatMemory,
+    steps: &[Step],
+)
     requires { IsBus machine.old }
     ensures { IsBus machine.new }
 {

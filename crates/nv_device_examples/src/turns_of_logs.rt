@@ -1,7 +1,7 @@
 //! Entries of Get Log Page and Identify Controller, for controller 0 of the demonstration
 //! subsystem. Its error log has four entries, and 131,072 bytes are the most that it transfers.
 
-ghost use Rattle.nv_controller.specs.Bus.{IsBus};
+ghost use Rattle.nv_bus.specs.Bus.{IsBus};
 
 use crate::turns::{identify, machine, pages};
 use crate::turns_by_steps::{posted, submit};

@@ -1,6 +1,6 @@
 //! Entries of namespace management, for controller 0 of the demonstration subsystem.
 
-ghost use Rattle.nv_controller.specs.Bus.{IsBus};
+ghost use Rattle.nv_bus.specs.Bus.{IsBus};
 
 use crate::turns::{identify, machine, pages};
 use crate::turns_by_steps::{posted, submit};

@@ -1,4 +1,4 @@
--- One command of a driver, over the lanes of its controllers.
+-- One command of a driver or one reset, over the lanes of its controllers.
 use Rattle.std.specs.Prelude.{slice_set}
 use Rattle.std.proofs.Common.{◌≡◌, ◌≢◌, ◌∙◌, ◌⊎◌, ℕ, ◌+◌, ◌-◌, ◌*◌, ◌/◌, ◌^◌, ◌<◌, ◌≤◌, List, ap, arith, get_or, inl, inr, length, map, refl, subst, sym}
 use Rattle.std.proofs.Math.ListN.{length-set}
@@ -13,7 +13,7 @@ use Rattle.nv_prp.specs.Buffer.{IsApart}
 use Rattle.nv_queue.specs.Slots.{HoldsTags}
 use Rattle.nv_register.specs.Port.{new_port}
 use Rattle.nv_register.specs.declared.port.Port.{Port}
-use Rattle.nv_controller.specs.Bus.{BusValue, IsBus, port_at}
+use Rattle.nv_bus.specs.Bus.{BusValue, IsBus, port_at}
 use Rattle.nv_driver.specs.Driver.{IsDriver, IsPlaced, driver_value, lane_at, no_lane, page_count}
 use Rattle.nv_driver.specs.Exchange.{IsReady, KeepsOthers}
 use Rattle.nv_driver.specs.Lane.{IsLaid, Lane, idle_port}
@@ -56,6 +56,12 @@ ready_at {g} {mem} {ls} {b} {c} {l} is bus ports below here =
           ∙ ap (idle_port (mps_of g.page_size) g.page_size) at;
     }
 
+-- its lane lies where it was laid
+pub placed_at : {g : Geometry} {mem : PagedBytes} {ls : List LaneFields} {c : ℕ} {l : LaneFields} → IsDriver g mem ls → c < length ls → l ≡ get_or ls c l
+    → IsPlaced g c (lane_value l)
+placed_at {g} {mem} {ls} {c} {l} is below here =
+    subst (IsPlaced g c) (value_at ls c l no_lane below ∙ ap lane_value (sym here)) (is.placed c no_lane below)
+
 -- ---- after the command
 
 -- what holds of the other lanes, and of this one, holds of each
@@ -71,7 +77,7 @@ set_each P vs c v others own i d below =
     ]
 
 -- the completion slots of another lane stay
-slots_stay : (page_size : ℕ) (old new : List ℕ) (v u : Lane) → KeepsOthers page_size v old new → IsLaid page_size (length old) u → IsLaid page_size (length old) v
+pub slots_stay : (page_size : ℕ) (old new : List ℕ) (v u : Lane) → KeepsOthers page_size v old new → IsLaid page_size (length old) u → IsLaid page_size (length old) v
     → (end_of page_size u ≤ v.sq) ⊎ (end_of page_size v ≤ u.sq) → HoldsTags old u.cq u.depth u.number → HoldsTags new u.cq u.depth u.number
 slots_stay page_size old new v u keeps laid own apart tags s below =
     let top : s + 1 ≤ u.depth = omega arith in

@@ -7,19 +7,19 @@ use Rattle.nv_layout.specs.declared.status.Status.{Status}
 use Rattle.nv_command.specs.Refusal.{IsRefusal}
 use Rattle.nv_command.specs.Logs.{IsSendable, answer_received, received, without_phases}
 use Rattle.nv_command.specs.Reply.{FitsRecord, IsReplyTo, data_of, dword0_of, reply_in}
-use Rattle.nv_command.specs.TravelLaws.{replies_travel}
+use Rattle.nv_command.proofs.TravelLaws.{replies_travel}
 use Rattle.nv_command.specs.declared.command.Command.{Command}
 use Rattle.nv_command.specs.declared.refusal.Refusal.{Refusal}
 use Rattle.nv_command.specs.declared.reply.Reply.{Reply}
 use Rattle.nv_command.specs.declared.reply.Reply.TheVariants as reply
-use Rattle.nv_subsystem.specs.Refusal.{refusal_of}
-use Rattle.nv_subsystem.specs.ReplyLaws.{reply_fits}
-use Rattle.nv_subsystem.specs.State.{State}
-use Rattle.nv_subsystem.specs.Step.{step, step_by}
-use Rattle.nv_subsystem.specs.StepLaws.{refusal_fits}
-use Rattle.nv_subsystem.specs.WellFormed.{IsWellFormed}
-use Rattle.nv_controller.specs.Entry.{completion_with}
-use Rattle.nv_controller.specs.TagLaws.{dword0_tagged, tagged}
+use Rattle.nv_model.specs.Refusal.{refusal_of}
+use Rattle.nv_model.proofs.ReplyLaws.{reply_fits}
+use Rattle.nv_model.specs.State.{State}
+use Rattle.nv_model.specs.Step.{step, step_by}
+use Rattle.nv_model.proofs.StepLaws.{refusal_fits}
+use Rattle.nv_model.specs.WellFormed.{IsWellFormed}
+use Rattle.nv_bus.specs.Entry.{completion_with}
+use Rattle.nv_bus.proofs.TagLaws.{dword0_tagged, tagged}
 use Rattle.nv_command.specs.Command.{transfer_by}
 use Rattle.nv_queue.specs.Slots.{posted_as}
 use Rattle.nv_driver.specs.Schedule.{Answer, Sent, Setting, answer_read, is_success, places, received_from}

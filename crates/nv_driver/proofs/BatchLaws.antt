@@ -5,8 +5,8 @@ use Rattle.std.proofs.lemmas.Bool.{cases_lt}
 use Rattle.std.proofs.lemmas.Nat.{mod_below}
 use Rattle.nv_command.specs.Logs.{answer_received}
 use Rattle.nv_command.specs.declared.command.Command.{Command}
-use Rattle.nv_subsystem.specs.State.{State}
-use Rattle.nv_subsystem.specs.Step.{Step, next_serial, step}
+use Rattle.nv_model.specs.State.{State}
+use Rattle.nv_model.specs.Step.{Step, next_serial, step}
 use Rattle.nv_driver.specs.Batch.{answers_of, state_after}
 use Rattle.nv_driver.specs.Schedule.{Sent, after, answers_to}
 

@@ -10,15 +10,15 @@ use Rattle.std.specs.FinSet as set
 use Rattle.nv_host.specs.PageSets.{IsOf, Pages}
 use Rattle.nv_layout.specs.declared.cqe.Cqe.{Cqe}
 use Rattle.nv_prp.specs.Transfer.{IsLegal, transfer, transfer_places}
-use Rattle.nv_queue.specs.KeptLaws.{between_kept, first_kept}
+use Rattle.nv_queue.proofs.KeptLaws.{between_kept, first_kept}
 use Rattle.nv_queue.specs.Numbers.{IsSlotBetween, first_in_slot}
 use Rattle.nv_queue.specs.Rings.{CollectNumbers, SubmitNumbers, collected_one, known_to}
 use Rattle.nv_queue.specs.Slots.{IsAwaitedThere, awaited_completion, completion_at}
-use Rattle.nv_queue.specs.TagLaws.{tag_there}
+use Rattle.nv_queue.proofs.TagLaws.{tag_there}
 use Rattle.nv_command.specs.Command.{transfer_by}
 use Rattle.nv_command.specs.Logs.{IsSendable}
 use Rattle.nv_command.specs.declared.command.Command.{Command}
-use Rattle.nv_controller.specs.Call.{length_of}
+use Rattle.nv_bus.specs.Call.{length_of}
 use Rattle.nv_driver.specs.CommandPages.{AreTaken, all_pages, with_pages, without}
 use Rattle.nv_driver.specs.Schedule.{Answer, Sent, StaysNamed, World, answer_from, answer_read, answers_to, awaited, collect_ring, data_length, number, own_pages, places, received_from, slot, submit_ring}
 use Rattle.nv_driver.specs.Layout.{pages_of_command}

@@ -2,8 +2,8 @@
 use Rattle.std.proofs.Common.{◌≡◌, ◌≢◌, ◌∙◌, ℕ, ◌+◌, ◌-◌, ◌*◌, ◌<◌, ◌≤◌, true, nat_le, nat_lt, ap, arith, refl, sym}
 use Rattle.std.proofs.lemmas.Bool.Decides.{nat_tests}
 use Rattle.nv_queue.specs.Numbers.{IsSlotBetween, above, ahead, kept_number, next}
-use Rattle.nv_queue.specs.NumberLaws.{above_cases, slot_below}
-use Rattle.nv_queue.specs.KeptLaws.{above_kept, between_kept, first_kept, kept_below, kept_next, slot_kept, slots_apart}
+use Rattle.nv_queue.proofs.NumberLaws.{above_cases, slot_below}
+use Rattle.nv_queue.proofs.KeptLaws.{above_kept, between_kept, first_kept, kept_below, kept_next, slot_kept, slots_apart}
 use Rattle.nv_queue.specs.Rings.{FetchNumbers, PostNumbers}
 use Rattle.nv_register.specs.Port.{rung_by, told_by, with_register_at}
 use Rattle.nv_driver.specs.Schedule.{Setting, device_rings, number, port_with, slot}

@@ -1,17 +1,17 @@
 -- The data of a command: none, a page from the host, or up to 16,384 bytes from the controller.
 use Rattle.std.proofs.Common.{◌≡◌, ◌∙◌, ◌*◌, ◌<◌, ◌≤◌, ℕ, Bool, true, false, List, [], ◌∷◌, ◌++◌, ap, append-nil, arith, drop, get_or, length, length-drop, lit<, lit≤, refl, subst, sym}
 use Rattle.nv_prp.specs.Place.{AreDistinct, read_at, written_at}
-use Rattle.nv_prp.specs.PlaceLaws.{read_written}
+use Rattle.nv_prp.proofs.PlaceLaws.{read_written}
 use Rattle.nv_command.specs.Command.{CommandFits, bytes_from_host, bytes_to_host, host_data_of, transfer_by}
 use Rattle.nv_command.specs.Logs.{IsSendable, IsWhole, is_error_log}
 use Rattle.nv_command.specs.Reply.{with_data}
-use Rattle.nv_command.specs.TravelLaws.{commands_travel}
+use Rattle.nv_command.proofs.TravelLaws.{commands_travel}
 use Rattle.nv_command.specs.declared.command.Command.{Command}
 use Rattle.nv_command.specs.declared.command.Command.TheVariants.{IdentifyController, IdentifyNamespace, AllocatedNamespace, ActiveList, AllocatedList, Create, Delete, Attachment}
 use Rattle.nv_command.specs.declared.command.Command.TheVariants.{Format, GetFeature, SetFeature, GetLog}
 use Rattle.nv_command.specs.declared.transfer.Transfer.{Transfer}
 use Rattle.nv_command.specs.declared.transfer.Transfer.TheVariants.{NoData, ToHost, FromHost}
-use Rattle.nv_controller.specs.Call.{length_of, sent_from}
+use Rattle.nv_bus.specs.Call.{length_of, sent_from}
 use Rattle.nv_driver.specs.Schedule.{CanBeSent, received_from}
 
 -- ---- by commands

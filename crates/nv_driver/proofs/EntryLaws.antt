@@ -4,25 +4,25 @@ use Rattle.std.proofs.Math.Nat.{mul-le-mul_left}
 use Rattle.std.proofs.lemmas.Bool.{cases_lt, cases_order}
 use Rattle.std.proofs.lemmas.List.{get_or_default}
 use Rattle.nv_host.specs.Bytes.{bytes_at}
-use Rattle.nv_host.specs.PageLaws.{page_size_bounds}
+use Rattle.nv_host.proofs.PageLaws.{page_size_bounds}
 use Rattle.nv_layout.specs.Cqe.{CqeFits}
 use Rattle.nv_layout.specs.Sqe.{sqe_of_bytes}
 use Rattle.nv_layout.specs.declared.cqe.Cqe.{Cqe}
 use Rattle.nv_prp.specs.Buffer.{ChangesOnly, KeepsList}
-use Rattle.nv_queue.specs.SlotLaws.{length-with_completion, put_written}
+use Rattle.nv_queue.proofs.SlotLaws.{length-with_completion, put_written}
 use Rattle.nv_queue.specs.Slots.{HoldsTags, WritesCompletion, completion_at, posted_as}
-use Rattle.nv_queue.specs.TagLaws.{tags_after}
+use Rattle.nv_queue.proofs.TagLaws.{tags_after}
 use Rattle.nv_command.specs.Command.{CommandFits, namespace_of}
 use Rattle.nv_command.specs.declared.command.Command.{Command}
 use Rattle.nv_command.specs.Logs.{answer_received}
-use Rattle.nv_command.specs.TravelLaws.{commands_travel}
-use Rattle.nv_subsystem.specs.WellFormed.{IsWellFormed}
-use Rattle.nv_subsystem.specs.State.{State}
-use Rattle.nv_subsystem.specs.Step.{step}
-use Rattle.nv_subsystem.specs.StepLaws.{step_controllers, step_keeps}
-use Rattle.nv_controller.specs.Entry.{Scene, completion_with, scene}
-use Rattle.nv_controller.specs.Turn.{Takes}
-use Rattle.nv_controller.specs.TurnLaws.{length_moved}
+use Rattle.nv_command.proofs.TravelLaws.{commands_travel}
+use Rattle.nv_model.specs.WellFormed.{IsWellFormed}
+use Rattle.nv_model.specs.State.{State}
+use Rattle.nv_model.specs.Step.{step}
+use Rattle.nv_model.proofs.StepLaws.{step_controllers, step_keeps}
+use Rattle.nv_bus.specs.Entry.{Scene, completion_with, scene}
+use Rattle.nv_bus.specs.Turn.{Takes}
+use Rattle.nv_bus.proofs.TurnLaws.{length_moved}
 use Rattle.nv_driver.specs.Schedule.{Answer, AreApart, Holds, Sent, Setting, World, answer_read, device_rings, number, places, pointed, port_with, slot}
 use Rattle.nv_driver.proofs.AnswerLaws.{IsAnswerTo, answer_back, answer_sound, completion_fits}
 use Rattle.nv_driver.proofs.CountLaws.{number_below, number_next, slot_inside, slots_differ}

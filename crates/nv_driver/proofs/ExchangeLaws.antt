@@ -2,25 +2,25 @@
 use Rattle.std.specs.Prelude.{slice_set, IfSome, OnSome, Option, Some}
 use Rattle.nv_layout.specs.declared.cqe.Cqe.{Cqe}
 use Rattle.std.proofs.Math.ListN.{length-set}
-use Rattle.nv_queue.specs.NumberLaws.{above_cases}
+use Rattle.nv_queue.proofs.NumberLaws.{above_cases}
 use Rattle.std.proofs.lemmas.List.{get_or-set_same, set-set}
 use Rattle.nv_queue.specs.Rings.{CollectNumbers, SubmitNumbers, collected_one, known_to, submitted_one, told_all}
 use Rattle.std.proofs.Common.{All, min, ◌≡◌, ◌∙◌, ℕ, zero, suc, ◌+◌, ◌-◌, ◌*◌, ◌<◌, ◌≤◌, false, List, [], ◌∷◌, ap, arith, get_or, inl, inr, length, refl, subst, sym}
 use Rattle.std.proofs.Math.Nat.{mul-le-mul_right}
 use Rattle.nv_host.specs.PageSets.{IsOf, Pages}
 use Rattle.nv_queue.specs.Numbers.{IsDepth, IsFull, IsSlotBetween, above, first_in_slot, next, slot_of, tag_below}
-use Rattle.nv_queue.specs.KeptLaws.{between_kept, first_kept}
+use Rattle.nv_queue.proofs.KeptLaws.{between_kept, first_kept}
 use Rattle.nv_queue.specs.Slots.{HoldsTags, IsAwaitedThere, awaited_completion, completion_at, with_submission}
-use Rattle.nv_queue.specs.TagLaws.{tag_below_next_same}
-use Rattle.nv_subsystem.specs.Step.{step}
+use Rattle.nv_queue.proofs.TagLaws.{tag_below_next_same}
+use Rattle.nv_model.specs.Step.{step}
 use Rattle.nv_command.specs.Logs.{answer_received}
 use Rattle.nv_command.specs.declared.command.Command.{Command}
 use Rattle.nv_register.specs.Port.{new_port, with_register_at}
 use Rattle.nv_register.specs.declared.port.Port.{Port}
-use Rattle.nv_subsystem.specs.State.{State}
-use Rattle.nv_controller.specs.Bus.{BusValue, IsBus, port_at}
-use Rattle.nv_controller.specs.Turn as T
-use Rattle.nv_controller.specs.Turn.{PortTurn, Site, can_take, site}
+use Rattle.nv_model.specs.State.{State}
+use Rattle.nv_bus.specs.Bus.{BusValue, IsBus, port_at}
+use Rattle.nv_bus.specs.Turn as T
+use Rattle.nv_bus.specs.Turn.{PortTurn, Site, can_take, site}
 use Rattle.nv_driver.specs.CommandPages.{all_pages}
 use Rattle.nv_prp.specs.Buffer.{IsApart}
 use Rattle.nv_driver.specs.Exchange.{IsReady, KeepsOthers}

@@ -5,10 +5,10 @@ use Rattle.std.proofs.lemmas.Bool.{cases_lt}
 use Rattle.std.proofs.lemmas.List.{take_more}
 use Rattle.nv_host.specs.Bytes.{bytes_at}
 use Rattle.nv_queue.specs.Numbers.{kept_number, phase_of}
-use Rattle.nv_queue.specs.SlotLaws.{not_own}
+use Rattle.nv_queue.proofs.SlotLaws.{not_own}
 use Rattle.nv_queue.specs.Slots.{HoldsTags, completion_at}
-use Rattle.nv_queue.specs.TagLaws.{tag_below_here}
-use Rattle.nv_subsystem.specs.State.{State}
+use Rattle.nv_queue.proofs.TagLaws.{tag_below_here}
+use Rattle.nv_model.specs.State.{State}
 use Rattle.nv_register.specs.Port.{with_register_at}
 use Rattle.nv_register.specs.declared.port.Port.{Port}
 use Rattle.nv_driver.specs.Schedule.{Happens, IsIdle, Sent, Setting, World, answer_awaited, answers_to, device_rings, number, port_with, slot}

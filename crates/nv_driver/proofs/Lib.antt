@@ -26,3 +26,5 @@ pub mod LaneLaws
 pub mod LayoutLaws
 pub mod MemoryLaws
 pub mod RegisterLaws
+pub mod ZeroLaws
+pub mod ResetLaws

@@ -5,7 +5,7 @@ use Rattle.std.proofs.lemmas.Bool.{cases_lt}
 use Rattle.nv_host.specs.Bytes.{bytes_at}
 use Rattle.nv_prp.specs.Buffer.{ChangesOnly, IsApart, IsOutside, KeepsList}
 use Rattle.nv_prp.specs.Place.{AreDistinct, written_at}
-use Rattle.nv_prp.specs.PlaceLaws.{length-written_at, part_stays}
+use Rattle.nv_prp.proofs.PlaceLaws.{length-written_at, part_stays}
 use Rattle.nv_driver.specs.Schedule.{AreApart, AreOutside, Sent, Setting, data_length, own_pages, places, pointed}
 use Rattle.nv_driver.proofs.RegionLaws.{ChangesOnlyAt, length-places, other_page, place_page}
 

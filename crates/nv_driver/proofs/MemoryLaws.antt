@@ -1,21 +1,15 @@
--- A memory of zeros with a lane for each controller.
-use Rattle.std.proofs.Common.{◌≡◌, ◌∙◌, ℕ, ◌+◌, ◌-◌, ◌*◌, ◌/◌, ◌<◌, ◌≤◌, ◌^◌, false, ap, sym, refl, arith}
-use Rattle.std.proofs.Common.{All, List, length, map, take}
+-- The memory of a new driver, with a lane for each controller.
 use Rattle.std.specs.Prelude.{replicate, slice_index_or}
+use Rattle.std.proofs.Common.{◌≡◌, ◌∙◌, ℕ, ◌+◌, ◌*◌, ◌/◌, ◌<◌, ◌≤◌, ◌^◌, All, List, ap, arith, below_more, inl, length, map, refl, subst, sym}
 use Rattle.std.proofs.Math.Nat.{mul-div_cancel, mul-le-mul_right, zero-add}
-use Rattle.std.proofs.lemmas.Bool.Decides.{nat_tests}
 use Rattle.std.proofs.lemmas.Grind.{div_ceil_times}
-use Rattle.std.proofs.lemmas.List.{drop-replicate, length-map, length-replicate, take-replicate}
+use Rattle.std.proofs.lemmas.List.{get_or-map, length-map, length-replicate}
 use Rattle.std.proofs.lemmas.List.FromFn.{get_or-map-range_with_len, length-map-range_with_len}
-use Rattle.nv_host.specs.Bytes.{bytes_at}
-use Rattle.nv_host.specs.PageLaws.{page_size_bounds}
+use Rattle.nv_host.proofs.PageLaws.{page_size_bounds}
 use Rattle.nv_host.specs.Pages.{PagedBytes}
-use Rattle.nv_layout.specs.Cqe.{cqe_of_bytes}
-use Rattle.nv_layout.specs.Parts.{number_at}
-use Rattle.nv_queue.specs.NumberLaws.{phase_low, slot_low}
-use Rattle.nv_queue.specs.Numbers.{tag_below}
 use Rattle.nv_queue.specs.Slots.{HoldsTags}
 use Rattle.nv_driver.specs.Driver.{IsDriver, driver_value, new_driver, page_count}
+use Rattle.nv_driver.specs.Exchange.{KeepsOthers}
 use Rattle.nv_driver.specs.Geometry.{IsGeometry}
 use Rattle.nv_driver.specs.Lane.{IsLaid, Lane}
 use Rattle.nv_driver.specs.Layout.{completion_pages, lane_of, lane_pages, lanes_of, pages_of, set_pages, submission_pages}
@@ -23,25 +17,7 @@ use Rattle.nv_driver.specs.Quiet.{IsQuiet, lane_value}
 use Rattle.nv_driver.specs.Settled.{IsSettled, end_of}
 use Rattle.nv_driver.specs.declared.geometry.Geometry.{Geometry}
 use Rattle.nv_driver.specs.declared.lane.Lane.{Lane as LaneFields}
-
--- ---- zeros
-
-zeros_at : (n a k : ℕ) → a + k ≤ n → bytes_at (replicate n 0) a k ≡ replicate k 0
-unfolding bytes_at
-zeros_at n a k h = ap (take k) (drop-replicate a n 0) ∙ take-replicate k (n - a) 0 (omega arith)
-
-zero_phase : (cqe_of_bytes (replicate 16 0)).phase ≡ false
-unfolding cqe_of_bytes number_at
-zero_phase = refl
-
-zero_tag : (d slot : ℕ) → 0 < d → tag_below d 0 slot ≡ false
-unfolding tag_below
-zero_tag d slot h = grind (arith, nat_tests, slot_low d 0 h, phase_low d 0 h)
-
-pub zero_tags : (n base d : ℕ) → 0 < d → base + 16 * d ≤ n → HoldsTags (replicate n 0) base d 0
-zero_tags n base d p h slot below =
-    ap (λ bytes. (cqe_of_bytes bytes).phase) (zeros_at n (base + 16 * slot) 16 (omega arith))
-    ∙ (zero_phase ∙ sym (zero_tag d slot p))
+use Rattle.nv_driver.proofs.AdminLaws.{slots_stay}
 
 -- ---- the lanes
 
@@ -81,54 +57,79 @@ lane_laid g n i size is h e =
 lane_at : (g : Geometry) (n i : ℕ) (d : Lane) → i < n → slice_index_or (lanes_of g n) i d ≡ lane_of g i
 lane_at g n i d h = get_or-map-range_with_len (lane_of g) 0 n i i d h (zero-add i)
 
-pub settled_at_first : (g : Geometry) (n : ℕ) → IsGeometry g
-    → IsSettled g.page_size (replicate (pages_of g n * g.page_size) 0) (lanes_of g n)
-settled_at_first g n is =
-    let size = pages_of g n * g.page_size in
+-- the lane of controller i
+pub lane_is : (g : Geometry) (n i : ℕ) (ls : List LaneFields) (l : LaneFields) → map lane_value ls ≡ lanes_of g n → i < n → i < length ls
+    → l ≡ slice_index_or ls i l → lane_value l ≡ lane_of g i
+lane_is g n i ls l are h below here =
+    ap lane_value here ∙ sym (get_or-map lane_value ls i l (lane_value l) below)
+    ∙ ap (λ (vs : List Lane). slice_index_or vs i (lane_value l)) are ∙ lane_at g n i (lane_value l) h
+
+pub lane_count : (g : Geometry) (n : ℕ) (ls : List LaneFields) → map lane_value ls ≡ lanes_of g n → length ls ≡ n
+lane_count g n ls are =
+    sym (length-map ls lane_value) ∙ ap (λ (vs : List Lane). length vs) are ∙ length-map-range_with_len (lane_of g) 0 n
+
+-- ---- zeroed completion rings
+
+-- those of the lanes below stay so where that of lane c is zeroed too
+pub tags_more : (g : Geometry) (n c : ℕ) (old new : List ℕ) → IsGeometry g → c < n → length old ≡ pages_of g n * g.page_size
+    → KeepsOthers g.page_size (lane_of g c) old new → HoldsTags new (lane_of g c).cq g.depth 0
+    → ((k : ℕ) → k < c → HoldsTags old (lane_of g k).cq g.depth 0)
+    → (k : ℕ) → k < c + 1 → HoldsTags new (lane_of g k).cq g.depth 0
+tags_more g n c old new is h size keeps own tags =
+    below_more (λ k. HoldsTags new (lane_of g k).cq g.depth 0) c
+    (λ k l. slots_stay g.page_size old new (lane_of g c) (lane_of g k) keeps
+    (lane_laid g n k (length old) is (omega arith) size) (lane_laid g n c (length old) is h size) (inl (lane_ends g k c l)) (tags k l))
+    own
+
+pub settled_at_first : (g : Geometry) (n : ℕ) (bytes : List ℕ) → IsGeometry g → length bytes ≡ pages_of g n * g.page_size
+    → ((k : ℕ) → k < n → HoldsTags bytes (lane_of g k).cq g.depth 0) → IsSettled g.page_size bytes (lanes_of g n)
+settled_at_first g n bytes is size tags =
     let many : length (lanes_of g n) ≡ n = length-map-range_with_len (lane_of g) 0 n in
-    let bytes : length (replicate {A = ℕ} size 0) ≡ size = length-replicate size 0 in
-    let laid : (i : ℕ) → i < n → IsLaid g.page_size (length (replicate {A = ℕ} size 0)) (lane_of g i) =
-    λ i h. lane_laid g n i (length (replicate {A = ℕ} size 0)) is h bytes in
     record {
-      laid = λ i d h. rw (lane_at g n i d (omega arith)) (laid i (omega arith));
-      tags = λ i d h.
-          let l = laid i (omega arith) in
-          let deep = is.depth in
-          rw (lane_at g n i d (omega arith)) (zero_tags size (lane_of g i).cq g.depth (omega arith) (fits l bytes));
-      apart = λ i j d h k.
-          rw (lane_at g n i d (omega arith), lane_at g n j d (omega arith)) (lane_ends g i j h);
+      laid = λ i d h. rw (lane_at g n i d (omega arith)) (lane_laid g n i (length bytes) is (omega arith) size);
+      tags = λ i d h. rw (lane_at g n i d (omega arith)) (tags i (omega arith));
+      apart = λ i j d h k. rw (lane_at g n i d (omega arith), lane_at g n j d (omega arith)) (lane_ends g i j h);
     }
-  where
-    fits : {p size n : ℕ} {l : Lane} → IsLaid p size l → size ≡ n → l.cq + 16 * l.depth ≤ n
-    fits l e = omega (arith, l.pages, l.inside)
 
-pub pages_are : (n p : ℕ) → 0 < p → length (replicate {A = ℕ} (n * p) 0) / p ≡ n
-pages_are n p h = ap (λ x. x / p) (length-replicate (n * p) 0) ∙ mul-div_cancel n h
+-- ---- a new driver
 
-pub value_at_first : (g : Geometry) (n : ℕ) (mem : PagedBytes) (lanes : List LaneFields) → IsGeometry g
-    → mem ≡ record { page_size = g.page_size; bytes = replicate (pages_of g n * g.page_size) 0 }
-    → map lane_value lanes ≡ lanes_of g n → driver_value g mem lanes ≡ new_driver g n
-value_at_first g n mem lanes is made are =
-    let page = page_size_bounds g.page_size is.page_size in
-    let count = ap page_count made ∙ pages_are (pages_of g n) g.page_size (omega arith) in
-    rw (count, are) refl
+-- a new memory of so many pages
+pub memory_size : (g : Geometry) (n m pages : ℕ) (mem : PagedBytes) → pages ≡ pages_of g m → m ≡ n
+    → mem ≡ record { page_size = g.page_size; bytes = replicate (pages * g.page_size) 0 } → length mem.bytes ≡ pages_of g n * g.page_size
+memory_size g n m pages mem are same made =
+    ap (λ (x : PagedBytes). length x.bytes) made ∙ length-replicate (pages * g.page_size) 0
+    ∙ ap (λ x. x * g.page_size) (are ∙ ap (pages_of g) same)
 
-pub driver_at_first : (g : Geometry) (n : ℕ) (mem : PagedBytes) (lanes : List LaneFields) → IsGeometry g
-    → pages_of g n < 2 ^ 32
-    → mem ≡ record { page_size = g.page_size; bytes = replicate (pages_of g n * g.page_size) 0 }
-    → All IsQuiet lanes → map lane_value lanes ≡ lanes_of g n → IsDriver g mem lanes
-driver_at_first g n mem lanes is few made quiet are =
-    let size = pages_of g n * g.page_size in
-    let page = page_size_bounds g.page_size is.page_size in
-    let count = pages_are (pages_of g n) g.page_size (omega arith) in
-    let many : length lanes ≡ n =
-    sym (length-map lanes lane_value) ∙ (ap length are ∙ length-map-range_with_len (lane_of g) 0 n) in
-    rw made (record {
-      geometry = is;
-      page_size = refl;
-      whole = ap (λ x. x * g.page_size) count ∙ sym (length-replicate size 0);
-      numbered = rw count few;
-      quiet = quiet;
-      placed = λ i d h. rw (are, lane_at g n i d (omega arith)) refl;
-      settled = rw are (settled_at_first g n is);
-    })
+page_count_is : (g : Geometry) (n : ℕ) (mem : PagedBytes) → IsGeometry g → mem.page_size ≡ g.page_size
+    → length mem.bytes ≡ pages_of g n * g.page_size → page_count mem ≡ pages_of g n
+page_count_is g n mem is page size =
+    let bounds = page_size_bounds g.page_size is.page_size in
+    ap (λ x. x / mem.page_size) size ∙ ap (λ x. pages_of g n * g.page_size / x) page ∙ mul-div_cancel (pages_of g n) (omega arith)
+
+-- a driver of n controllers
+pub record IsFirst (g : Geometry) (n : ℕ) (mem : PagedBytes) (lanes : List LaneFields) : Type 0 where
+  pub driver : IsDriver g mem lanes
+  pub value : driver_value g mem lanes ≡ new_driver g n
+
+pub driver_at_first : (g : Geometry) (n m pages : ℕ) (made mem : PagedBytes) (lanes : List LaneFields) → IsGeometry g → m ≡ n → pages ≡ pages_of g m → pages < 2 ^ 32
+    → made ≡ record { page_size = g.page_size; bytes = replicate (pages * g.page_size) 0 } → mem.page_size ≡ made.page_size
+    → length mem.bytes ≡ length made.bytes → All IsQuiet lanes → map lane_value lanes ≡ lanes_of g m → IsSettled g.page_size mem.bytes (lanes_of g n)
+    → IsFirst g n mem lanes
+driver_at_first g n m pages made mem lanes is same are few zeros keeps_page keeps_size quiet lanes_are settled =
+    let page = keeps_page ∙ ap (λ (x : PagedBytes). x.page_size) zeros in
+    let size = keeps_size ∙ memory_size g n m pages made are same zeros in
+    let count = page_count_is g n mem is page size in
+    let each = lanes_are ∙ ap (lanes_of g) same in
+    let many = lane_count g n lanes each in
+    record {
+      driver = record {
+        geometry = is;
+        page_size = page;
+        whole = ap (λ x. x * mem.page_size) count ∙ ap (λ x. pages_of g n * x) page ∙ sym size;
+        numbered = subst (λ x. x < 2 ^ 32) (are ∙ ap (pages_of g) same ∙ sym count) few;
+        quiet = quiet;
+        placed = λ i d h. rw (each, lane_at g n i d (omega arith)) refl;
+        settled = rw (page, each) settled;
+      };
+      value = rw (count, each) refl;
+    }

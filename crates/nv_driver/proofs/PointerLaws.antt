@@ -5,19 +5,19 @@ use Rattle.std.proofs.lemmas.Bool.{cases_lt}
 use Rattle.std.proofs.lemmas.Grind.{div_ceil_times}
 use Rattle.std.specs.Int.{div_ceil}
 use Rattle.nv_host.specs.Pages.{IsPageSize}
-use Rattle.nv_host.specs.PageLaws.{page_size_bounds}
+use Rattle.nv_host.proofs.PageLaws.{page_size_bounds}
 use Rattle.nv_prp.specs.Buffer.{IsFor, KeepsList, buffer_place, buffer_places}
-use Rattle.nv_prp.specs.PlaceLaws.{table-same}
+use Rattle.nv_prp.proofs.PlaceLaws.{table-same}
 use Rattle.nv_prp.specs.Transfer.{IsLegal, Transfer, place_of, transfer, transfer_places}
 use Rattle.nv_command.specs.Command.{transfer_by}
 use Rattle.nv_layout.specs.declared.sqe.Sqe.{Sqe}
 use Rattle.nv_command.specs.Decoding.{command_of, transfer_of}
-use Rattle.nv_command.specs.TravelLaws.{commands_travel}
+use Rattle.nv_command.proofs.TravelLaws.{commands_travel}
 use Rattle.nv_command.specs.declared.command.Command.{Command}
 use Rattle.nv_command.specs.declared.transfer.Transfer.{Transfer as Moves}
 use Rattle.nv_command.specs.declared.transfer.Transfer.TheVariants.{FromHost, NoData, ToHost}
-use Rattle.nv_controller.specs.Call.{call_of, data_places, length_of, places_of, sent_from, within}
-use Rattle.nv_controller.specs.CallLaws.{legal_places, no_places, within_few}
+use Rattle.nv_bus.specs.Call.{call_of, data_places, length_of, places_of, sent_from, within}
+use Rattle.nv_bus.proofs.CallLaws.{legal_places, no_places, within_few}
 use Rattle.nv_driver.specs.Layout.{pages_of_command}
 use Rattle.nv_driver.specs.Schedule.{CanBeSent, HoldsSent, Sent, Setting, StaysNamed, data_length, entry, places, pointed}
 use Rattle.nv_driver.proofs.DataLaws.{HasShape, most, nothing, shape}

@@ -6,19 +6,19 @@ use Rattle.std.proofs.lemmas.Grind.{same_number_lists}
 use Rattle.std.proofs.lemmas.List.{get_or-map}
 use Rattle.std.proofs.lemmas.Nat.{div_below, mod_below}
 use Rattle.nv_host.specs.Bytes.{bytes_at}
-use Rattle.nv_host.specs.BytesLaws.{bytes_at-with_after, bytes_at-with_before}
+use Rattle.nv_host.proofs.BytesLaws.{bytes_at-with_after, bytes_at-with_before}
 use Rattle.nv_layout.specs.Cqe.{bytes_of_cqe}
-use Rattle.nv_layout.specs.RecordLaws.{length-bytes_of_cqe, length-bytes_of_sqe}
+use Rattle.nv_layout.proofs.RecordLaws.{length-bytes_of_cqe, length-bytes_of_sqe}
 use Rattle.nv_layout.specs.Sqe.{bytes_of_sqe}
 use Rattle.nv_layout.specs.declared.cqe.Cqe.{Cqe}
 use Rattle.nv_layout.specs.declared.sqe.Sqe.{Sqe}
 use Rattle.nv_prp.specs.Buffer.{ChangesOnly, IsApart, IsBuffer, IsOutside, buffer_place, buffer_places}
-use Rattle.nv_prp.specs.BufferLaws.{buffer_distinct}
+use Rattle.nv_prp.proofs.BufferLaws.{buffer_distinct}
 use Rattle.nv_prp.specs.Place.{AreDistinct, read_at, written_at}
-use Rattle.nv_prp.specs.PlaceLaws.{get_or-bytes_at, get_or-table, length-read_at, length-table, part_stays}
+use Rattle.nv_prp.proofs.PlaceLaws.{get_or-bytes_at, get_or-table, length-read_at, length-table, part_stays}
 use Rattle.nv_queue.specs.Rings.{PostNumbers, SubmitNumbers}
 use Rattle.nv_queue.specs.Slots.{completion_place, put_as, submission_place, with_completion, with_submission}
-use Rattle.nv_queue.specs.SlotLaws.{slot_within}
+use Rattle.nv_queue.proofs.SlotLaws.{slot_within}
 use Rattle.nv_command.specs.Command.{transfer_by}
 use Rattle.nv_driver.specs.Schedule.{AreApart, AreOutside, HoldsSent, Sent, Setting, data_length, own_pages, places}
 use Rattle.nv_driver.proofs.DataLaws.{ArePlaces, sent_same}

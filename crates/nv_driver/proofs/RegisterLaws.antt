@@ -1,49 +1,46 @@
 -- The registers of a controller as it is enabled.
-use Rattle.std.proofs.Common.{◌≡◌, ◌∙◌, ℕ, zero, suc, ◌+◌, ◌-◌, ◌*◌, ◌%◌, ◌^◌, ◌<◌, ◌≤◌, ◌⊎◌, inl, inr, ap, sym, refl, arith}
-use Rattle.std.proofs.Common.{Bool, true, false, List, length, fold, take, map, slice_set, None, Some}
-use Rattle.std.specs.Prelude.{◌≢◌, if◌then◌else◌, is_some, IsOk, MatchResult, Result, Ok, Err}
-use Rattle.std.proofs.Math.ListN.{get_or}
+use Rattle.std.proofs.Common.{◌≡◌, ◌∙◌, ℕ, zero, suc, ◌+◌, ◌-◌, ◌*◌, ◌/◌, ◌%◌, ◌^◌, ◌<◌, ◌≤◌, ◌⊎◌, inl, inr, ap, sym, refl, below_more, arith}
+use Rattle.std.proofs.Common.{true, false, List, length, map, slice_set}
+use Rattle.std.specs.Prelude.{◌≢◌, if◌then◌else◌, IsOk, MatchResult, Result, Ok, Err}
 use Rattle.std.proofs.Math.Nat.{mul-mod_left, zero-add}
 use Rattle.std.proofs.lemmas.Bool.Decides.{nat_tests}
-use Rattle.std.proofs.lemmas.List.{get_or-map, get_or-set_same, get_or_default, length-map, same_lists, set-set}
+use Rattle.std.proofs.lemmas.List.{get_or-map, get_or-set_other, get_or-set_same, get_or_default, length-map, same_lists, set-set}
 use Rattle.std.proofs.lemmas.List.FromFn.{get_or-map-range_with_len, length-map-range_with_len}
-use Rattle.std.proofs.lemmas.List.Sums.{fold_more}
 use Rattle.nv_host.specs.Pages.{IsPageSize}
-use Rattle.nv_register.specs.Dwords.{cc_of_dword}
-use Rattle.nv_register.specs.Port.{can_start, new_port, new_rings, start, with_cc, with_register_at}
-use Rattle.nv_register.specs.declared.controller_configuration.ControllerConfiguration.{ControllerConfiguration}
+use Rattle.nv_layout.specs.Parts.{bits}
+use Rattle.nv_register.specs.Dwords.{aqa_of_dword, cc_of_dword}
+use Rattle.nv_register.specs.Port.{can_start, new_port, new_rings, with_cc, with_high, with_low, with_register_at}
+use Rattle.nv_register.specs.Readiness.{is_ready}
+use Rattle.nv_register.specs.declared.admin_queue_attributes.AdminQueueAttributes.{AdminQueueAttributes}
+use Rattle.nv_register.specs.declared.controller_configuration.Sizes.{Sizes}
 use Rattle.nv_register.specs.declared.port.Port.{Port}
-use Rattle.nv_controller.specs.Bus.{IsEnabledWhereReady, port_at}
+use Rattle.nv_register.specs.declared.readiness.Readiness.{Readiness}
+use Rattle.nv_register.specs.declared.readiness.Readiness.TheVariants.{Off, Failed, Ready}
+use Rattle.nv_bus.specs.Bus.{port_at}
 use Rattle.nv_driver.specs.Geometry.{IsGeometry}
-use Rattle.nv_driver.specs.Lane.{idle_port}
+use Rattle.nv_driver.specs.Lane.{Lane, idle_port}
 use Rattle.nv_driver.specs.Layout.{lane_of, lane_pages, lanes_of, submission_pages}
-use Rattle.nv_driver.specs.Registers.{idle_ports, mps_of, with_dword, with_queues}
+use Rattle.nv_driver.specs.Registers.{HasQueues, disabled, idle_ports, mps_of, with_queues}
 use Rattle.nv_driver.specs.declared.error.DriverError.{DriverError}
 use Rattle.nv_driver.specs.declared.geometry.Geometry.{Geometry}
 
 -- ---- writes of one controller, one after another
 
--- a controller's registers change to p and then to f p
+-- a controller's registers change twice
+pub set_twice : (a b e : List Port) (c : ℕ) (p q : Port) → b ≡ slice_set a c p → e ≡ slice_set b c q → e ≡ slice_set a c q
+set_twice a b e c p q is more = more ∙ ap (λ x. slice_set x c q) is ∙ set-set a c p q
+
+-- to p and then to f p
 pub then_own : (a b e : List Port) (c : ℕ) (p : Port) (f : Port → Port) → c < length a → b ≡ slice_set a c p
     → e ≡ slice_set b c (f (port_at b c)) → e ≡ slice_set a c (f p)
 then_own a b e c p f h is more =
     let at : port_at b c ≡ p = ap (λ x. port_at x c) is ∙ get_or-set_same a c p new_port h in
-    more
-    ∙ (ap (λ x. slice_set x c (f (port_at b c))) is
-    ∙ (set-set a c p (f (port_at b c)) ∙ ap (λ q. slice_set a c (f q)) at))
-
-pub write_more : (a b e : List Port) (c : ℕ) (p : Port) (ws : List (ℕ × ℕ)) (i : ℕ) (w : ℕ × ℕ) → c < length a
-    → i < length ws → b ≡ slice_set a c (fold with_dword p (take i ws))
-    → e ≡ slice_set b c (with_dword (port_at b c) (get_or ws i w))
-    → e ≡ slice_set a c (fold with_dword p (take (i + 1) ws))
-write_more a b e c p ws i w h l is more =
-    then_own a b e c (fold with_dword p (take i ws)) (λ q. with_dword q (get_or ws i w)) h is more
-    ∙ ap (slice_set a c) (sym (fold_more with_dword p ws i w l))
+    set_twice a b e c p (f (port_at b c)) is more ∙ ap (λ q. slice_set a c (f q)) at
 
 -- ---- the values that are written
 
 pub cc_written : (m : ℕ) → m ≤ 4
-    → cc_of_dword (0x00460001 + m * 128) ≡ record { en = true; mps = m; iosqes = 6; iocqes = 4 }
+    → cc_of_dword (0x00460001 + m * 128) ≡ record { en = true; sizes = record { mps = m; iosqes = 6; iocqes = 4 } }
 cc_written zero h = refl
 cc_written (suc zero) h = refl
 cc_written (suc (suc zero)) h = refl
@@ -72,96 +69,139 @@ page_size_of_mps size h =
       ]
     ]
 
--- ---- EN is cleared and set
+-- ---- the queues are set
 
-pub record IsOff (p : Port) : Type 0 where
-  pub en : p.cc.en ≡ false
-  pub rings : p.rings ≡ None
-  pub cfs : p.cfs ≡ false
+queues_read : (m : ℕ) → m ≤ 4095 → aqa_of_dword (m * 65536 + m) ≡ record { asqs = m; acqs = m }
+queues_read m h =
+    let first : bits 0 12 (m * 65536 + m) ≡ m = omega arith in
+    let second : bits 16 12 (m * 65536 + m) ≡ m = omega arith in
+    ap (λ n. record { asqs = n; acqs = bits 16 12 (m * 65536 + m) }) first ∙ ap (λ n. record { asqs = m; acqs = n }) second
 
-pub cleared : (p : Port) → IsEnabledWhereReady p → IsOff (with_register_at p 0x14 0)
-cleared p h = cases p.cc.en refl
-  where
-    cases : (b : Bool) → p.cc.en ≡ b → IsOff (with_register_at p 0x14 0)
-    cases true e = rw e (record { en = refl; rings = refl; cfs = refl })
-    cases false e = let k = h e in rw e (record { en = refl; rings = k.0; cfs = k.1 })
+-- an address by its two dwords
+address_read : (old address : ℕ) → with_high (with_low old (address % 2 ^ 32)) (address / 2 ^ 32) ≡ address
+address_read old address = omega arith
 
-starts : (p : Port) (m l : ℕ) → p.cc.mps ≡ m → m ≤ 4 → p.aqa.asqs ≡ l → p.aqa.acqs ≡ l → 1 ≤ l → l ≤ 4095
+-- the five writes of a controller that is off
+queues_by : (p : Port) (m sq cq : ℕ) → p.readiness ≡ Off → m ≤ 4095
+    → with_register_at (with_register_at (with_register_at (with_register_at (with_register_at p 0x24 (m * 65536 + m))
+    0x28 (sq % 2 ^ 32)) 0x2c (sq / 2 ^ 32)) 0x30 (cq % 2 ^ 32)) 0x34 (cq / 2 ^ 32)
+    ≡ with_queues p m sq cq
+queues_by p m sq cq off deep =
+    let q : Port = record p { readiness = Off } in
+    let set = λ (a : AdminQueueAttributes) (s c : ℕ). record q { aqa = a; asq = s; acq = c } in
+    let attributes : AdminQueueAttributes = record { asqs = m; acqs = m } in
+    let high = with_high (with_low p.asq (sq % 2 ^ 32)) (sq / 2 ^ 32) in
+    let behind = with_high (with_low p.acq (cq % 2 ^ 32)) (cq / 2 ^ 32) in
+    ap (λ (r : Readiness). with_register_at (with_register_at (with_register_at (with_register_at (with_register_at (record p { readiness = r }) 0x24 (m * 65536 + m))
+    0x28 (sq % 2 ^ 32)) 0x2c (sq / 2 ^ 32)) 0x30 (cq % 2 ^ 32)) 0x34 (cq / 2 ^ 32)) off
+    ∙ ap (λ a. set a high behind) (queues_read m deep)
+    ∙ ap (λ n. set attributes n behind) (address_read p.asq sq)
+    ∙ ap (λ n. set attributes sq n) (address_read p.acq cq)
+    ∙ ap (λ (r : Readiness). record (with_queues p m sq cq) { readiness = r }) (sym off)
+
+pub queues_written : (a b d e f k : List Port) (c m sq cq x s1 s2 q1 q2 : ℕ) → c < length a → (port_at a c).readiness ≡ Off → m ≤ 4095
+    → x ≡ m * 65536 + m → s1 ≡ sq % 2 ^ 32 → s2 ≡ sq / 2 ^ 32 → q1 ≡ cq % 2 ^ 32 → q2 ≡ cq / 2 ^ 32
+    → b ≡ slice_set a c (with_register_at (port_at a c) 0x24 x) → d ≡ slice_set b c (with_register_at (port_at b c) 0x28 s1)
+    → e ≡ slice_set d c (with_register_at (port_at d c) 0x2c s2) → f ≡ slice_set e c (with_register_at (port_at e c) 0x30 q1)
+    → k ≡ slice_set f c (with_register_at (port_at f c) 0x34 q2) → k ≡ slice_set a c (with_queues (port_at a c) m sq cq)
+queues_written a b d e f k c m sq cq x s1 s2 q1 q2 h off deep is low high behind above first second third fourth fifth =
+    let w = λ (p : Port) (o v : ℕ). with_register_at p o v in
+    let p = port_at a c in
+    let one = w p 0x24 x in
+    let two = w one 0x28 s1 in
+    let three = w two 0x2c s2 in
+    let four = w three 0x30 q1 in
+    let to_two = then_own a b d c one (λ q. w q 0x28 s1) h first second in
+    let to_three = then_own a d e c two (λ q. w q 0x2c s2) h to_two third in
+    let to_four = then_own a e f c three (λ q. w q 0x30 q1) h to_three fourth in
+    let all : w four 0x34 q2 ≡ with_queues p m sq cq = rw (is, low, high, behind, above) (queues_by p m sq cq off deep) in
+    then_own a f k c four (λ q. w q 0x34 q2) h to_four fifth ∙ ap (slice_set a c) all
+
+-- ---- EN is set
+
+starts : (p : Port) (m l : ℕ) → p.sizes.mps ≡ m → m ≤ 4 → p.aqa.asqs ≡ l → p.aqa.acqs ≡ l → 1 ≤ l → l ≤ 4095
     → p.asq % 2 ^ (12 + m) ≡ 0 → p.acq % 2 ^ (12 + m) ≡ 0 → can_start p ≡ true
 starts p m l is h sq cq low high at behind = rw (is, sq, cq, at, behind) (grind (arith, nat_tests))
-
-on : (p : Port) (m d sq cq x : ℕ) → IsOff p → m ≤ 4 → 1 < d → d ≤ 4096
-    → sq % 2 ^ (12 + m) ≡ 0 → cq % 2 ^ (12 + m) ≡ 0
-    → cc_of_dword x ≡ record { en = true; mps = m; iosqes = 6; iocqes = 4 }
-    → with_register_at (with_queues p (d - 1) sq cq) 0x14 x
-    ≡ record {
-      cc = record { en = true; mps = m; iosqes = 6; iocqes = 4 };
-      cfs = false;
-      aqa = record { asqs = d - 1; acqs = d - 1 };
-      asq = sq;
-      acq = cq;
-      rings = Some (record {
-        page_size = 2 ^ (12 + m);
-        submission = record { base = sq; depth = d - 1 + 1; fetched = 0; rung = 0 };
-        completion = record { base = cq; depth = d - 1 + 1; posted = 0; told = 0 };
-      });
-    }
-on p m d sq cq x is_off h low high at behind is =
-    let r : Port = with_queues p (d - 1) sq cq in
-    let cc : ControllerConfiguration = record { en = true; mps = m; iosqes = 6; iocqes = 4 } in
-    let q : Port = record r { cc = cc } in
-    let can : can_start q ≡ true = starts q m (d - 1) refl h refl refl (omega arith) (omega arith) at behind in
-    ap (λ (k : ControllerConfiguration). with_cc r k) is
-    ∙ (ap (λ (b : Bool). if b then r else start q) is_off.en
-    ∙ (ap (λ (b : Bool). if b then record q { rings = Some (new_rings q) } else record q { cfs = true }) can
-    ∙ ap (λ (b : Bool). record q { rings = Some (new_rings q); cfs = b }) is_off.cfs))
-
--- ---- a controller is enabled
 
 in_pages : (n p m : ℕ) → 2 ^ (12 + m) ≡ p → (n * p) % 2 ^ (12 + m) ≡ 0
 in_pages n p m e = rw e (mul-mod_left n p)
 
-pub enabled_port : (p : Port) (g : Geometry) (i x : ℕ) → IsEnabledWhereReady p → IsGeometry g
+-- a controller that is off, with these sizes and the queues of a lane
+abbrev pub off_port : Sizes → Lane → Port
+off_port sizes l = record {
+  sizes = sizes;
+  readiness = Off;
+  aqa = record { asqs = l.depth - 1; acqs = l.depth - 1 };
+  asq = l.sq;
+  acq = l.cq;
+}
+
+is_off_port : (p : Port) (l : Lane) → HasQueues l p → p ≡ off_port p.sizes l
+is_off_port p l has =
+    ap (λ r. record p { readiness = r }) has.off
+    ∙ ap (λ q. record p { readiness = Off; aqa = q }) has.aqa
+    ∙ ap (λ n. record p { readiness = Off; aqa = record { asqs = l.depth - 1; acqs = l.depth - 1 }; asq = n }) has.asq
+    ∙ ap (λ n. record p { readiness = Off; aqa = record { asqs = l.depth - 1; acqs = l.depth - 1 }; asq = l.sq; acq = n }) has.acq
+
+started_port : (p : Port) (g : Geometry) (i x : ℕ) → HasQueues (lane_of g i) p → IsGeometry g
     → x ≡ 0x00460001 + mps_of g.page_size * 128
-    → with_register_at (with_queues (with_register_at p 0x14 0) (g.depth - 1) (lane_of g i).sq (lane_of g i).cq) 0x14 x
-    ≡ idle_port (mps_of g.page_size) g.page_size (lane_of g i)
-enabled_port p g i x h is e =
+    → with_register_at p 0x14 x ≡ idle_port (mps_of g.page_size) g.page_size (lane_of g i)
+started_port p g i x has is e =
     let m = mps_of g.page_size in
-    let d = g.depth in
     let size = page_size_of_mps g.page_size is.page_size in
     let deep = is.depth in
-    let cc = ap cc_of_dword e ∙ cc_written m size.1 in
     let at = in_pages (i * lane_pages g) g.page_size m size.0 in
     let behind = in_pages (i * lane_pages g + submission_pages g) g.page_size m size.0 in
-    let back : d - 1 + 1 ≡ d = omega arith in
-    let q = with_register_at p 0x14 0 in
-    on q m d (lane_of g i).sq (lane_of g i).cq x (cleared p h) size.1 deep.0 deep.1 at behind cc
+    let back : g.depth - 1 + 1 ≡ g.depth = omega arith in
+    let q = off_port (record { mps = m; iosqes = 6; iocqes = 4 }) (lane_of g i) in
+    let can : can_start q ≡ true = starts q m (g.depth - 1) refl size.1 refl refl (omega arith) (omega arith) at behind in
+    ap (λ v. with_register_at v 0x14 x) (is_off_port p (lane_of g i) has)
+    ∙ ap (with_cc (off_port p.sizes (lane_of g i))) (ap cc_of_dword e ∙ cc_written m size.1)
+    ∙ ap (λ b. record q { readiness = if b then Ready (new_rings q) false else Failed }) can
     ∙ rw (size.0, back) refl
 
--- EN is cleared, the queues are set, and EN is set
-pub enabled_ports : (a b d e : List Port) (c : ℕ) (g : Geometry) (x : ℕ) → c < length a
-    → IsEnabledWhereReady (port_at a c) → IsGeometry g → x ≡ 0x00460001 + mps_of g.page_size * 128
-    → b ≡ slice_set a c (with_register_at (port_at a c) 0x14 0)
-    → d ≡ slice_set b c (with_queues (port_at b c) (g.depth - 1) (lane_of g c).sq (lane_of g c).cq)
-    → e ≡ slice_set d c (with_register_at (port_at d c) 0x14 x)
-    → e ≡ slice_set a c (idle_port (mps_of g.page_size) g.page_size (lane_of g c))
-enabled_ports a b d e c g x h off is value first second third =
-    let queues = λ (p : Port). with_queues p (g.depth - 1) (lane_of g c).sq (lane_of g c).cq in
-    let p = with_register_at (port_at a c) 0x14 0 in
-    then_own a d e c (queues p) (λ q. with_register_at q 0x14 x) h (then_own a b d c p queues h first second) third
-    ∙ ap (slice_set a c) (enabled_port (port_at a c) g c x off is value)
+pub started : (a b : List Port) (c : ℕ) (g : Geometry) (x : ℕ) → HasQueues (lane_of g c) (port_at a c) → IsGeometry g
+    → x ≡ 0x00460001 + mps_of g.page_size * 128 → b ≡ slice_set a c (with_register_at (port_at a c) 0x14 x)
+    → b ≡ slice_set a c (idle_port (mps_of g.page_size) g.page_size (lane_of g c))
+started a b c g x has is value written = written ∙ ap (slice_set a c) (started_port (port_at a c) g c x has is value)
 
 -- and then it is ready
-pub is_enabled : (a e : List Port) (c : ℕ) (g : Geometry) (r : Result (Unit {0}) DriverError) → c < length a
+pub is_started : (a e : List Port) (c : ℕ) (g : Geometry) (r : Result (Unit {0}) DriverError) → c < length a
     → e ≡ slice_set a c (idle_port (mps_of g.page_size) g.page_size (lane_of g c))
-    → MatchResult r (λ _. is_some (port_at e c).rings ≡ true) (λ _. is_some (port_at e c).rings ≢ true) → IsOk r
-is_enabled a e c g (Ok x) h is found = refl
-is_enabled a e c g (Err x) h is found =
+    → MatchResult r (λ _. is_ready (port_at e c).readiness ≡ true) (λ _. is_ready (port_at e c).readiness ≢ true) → IsOk r
+is_started a e c g (Ok x) h is found = refl
+is_started a e c g (Err x) h is found =
     let idle = idle_port (mps_of g.page_size) g.page_size (lane_of g c) in
     let own : port_at e c ≡ idle = ap (λ x. port_at x c) is ∙ get_or-set_same a c idle new_port h in
-    absurd (found (ap (λ (p : Port). is_some p.rings) own))
+    absurd (found (ap (λ (p : Port). is_ready p.readiness) own))
+
+-- ---- EN is cleared, the queues are set, and EN is set
+
+pub enabled_ports : (a b d e : List Port) (c : ℕ) (g : Geometry) (p : Port) → c < length a
+    → b ≡ slice_set a c (disabled (port_at a c))
+    → d ≡ slice_set b c (with_queues (port_at b c) (g.depth - 1) (lane_of g c).sq (lane_of g c).cq)
+    → e ≡ slice_set d c p → e ≡ slice_set a c p
+enabled_ports a b d e c g p h first second third =
+    let l = lane_of g c in
+    let queues = λ (q : Port). with_queues q (g.depth - 1) l.sq l.cq in
+    let off = disabled (port_at a c) in
+    set_twice a d e c (queues off) p (then_own a b d c off queues h first second) third
 
 -- ---- all controllers
+
+-- one controller more has its registers
+pub below_set : (a b : List Port) (c : ℕ) (f : ℕ → Port) → c < length a → b ≡ slice_set a c (f c)
+    → ((k : ℕ) → k < c → port_at a k ≡ f k) → (k : ℕ) → k < c + 1 → port_at b k ≡ f k
+below_set a b c f h is below =
+    below_more (λ k. port_at b k ≡ f k) c
+    (λ k l. ap (λ x. port_at x k) is ∙ get_or-set_other a c k (f c) new_port (omega arith) ∙ below k l)
+    (ap (λ x. port_at x c) is ∙ get_or-set_same a c (f c) new_port h)
+
+-- and those above stay
+pub above_set : (a b o : List Port) (c : ℕ) (p : Port) → b ≡ slice_set a c p
+    → ((k : ℕ) → c ≤ k → port_at a k ≡ port_at o k) → (k : ℕ) → c + 1 ≤ k → port_at b k ≡ port_at o k
+above_set a b o c p is above k h =
+    ap (λ x. port_at x k) is ∙ get_or-set_other a c k p new_port (omega arith) ∙ above k (omega arith)
 
 pub all_enabled : (ports : List Port) (n : ℕ) (g : Geometry) → length ports ≡ n
     → ((k : ℕ) → k < n → port_at ports k ≡ idle_port (mps_of g.page_size) g.page_size (lane_of g k))

@@ -8,9 +8,9 @@ use Rattle.nv_queue.specs.Numbers.{slot_of}
 use Rattle.nv_queue.specs.Rings.{CollectNumbers, told_all}
 use Rattle.nv_register.specs.Port.{with_register_at}
 use Rattle.nv_register.specs.declared.port.Port.{Port}
-use Rattle.nv_controller.specs.Bus.{BusValue, IsBus, port_at}
-use Rattle.nv_controller.specs.Turn as T
-use Rattle.nv_controller.specs.Turn.{PortTurn, site}
+use Rattle.nv_bus.specs.Bus.{BusValue, IsBus, port_at}
+use Rattle.nv_bus.specs.Turn as T
+use Rattle.nv_bus.specs.Turn.{PortTurn, site}
 use Rattle.nv_driver.specs.Batch.{state_after}
 use Rattle.nv_driver.specs.Schedule.{Setting, World, after, collect_ring, device_rings, number, port_with, slot}
 use Rattle.nv_driver.specs.UnderWay.{IsBusOf, IsUnderWay, Run, left_of, setting_of}
@@ -26,7 +26,7 @@ use Rattle.nv_driver.proofs.UnderWayLaws.{those}
 -- ---- ports
 
 -- one controller's port is changed again
-set_again : (ports one two : List Port) (c : ℕ) (p q : Port) → c < length ports → one ≡ slice_set ports c p → two ≡ slice_set one c q
+pub set_again : (ports one two : List Port) (c : ℕ) (p q : Port) → c < length ports → one ≡ slice_set ports c p → two ≡ slice_set one c q
     → two ≡ slice_set ports c (port_at two c)
 set_again ports one two c p q below first second =
     let all : two ≡ slice_set ports c q = second ∙ ap (λ x. slice_set x c q) first ∙ set-set ports c p q in

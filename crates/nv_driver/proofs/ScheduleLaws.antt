@@ -1,6 +1,6 @@
 -- Every schedule.
 use Rattle.std.proofs.Common.{List, [], ◌∷◌, arith, subst, sym}
-use Rattle.nv_subsystem.specs.State.{State}
+use Rattle.nv_model.specs.State.{State}
 use Rattle.nv_driver.specs.Schedule.{Event, Submit, Bell, Turn, Collect, Tell, EveryScheduleIsSerial, Happens, IsSerial, Runs, Setting, World}
 use Rattle.nv_driver.specs.Keeping.{Keeps}
 use Rattle.nv_driver.proofs.KeptLaws.{bell_keeps, collect_keeps, idle_keeps, tell_keeps}

@@ -1,8 +1,8 @@
 -- Commands one at a time: their answers, and the state after them.
 use Rattle.std.proofs.Common.{◌≡◌, ◌∙◌, ℕ, zero, suc, ◌+◌, ◌<◌, List, [], ◌∷◌, ◌++◌, add-one, ap, arith, get_or, length, refl, take}
 use Rattle.nv_command.specs.Logs.{answer_received}
-use Rattle.nv_subsystem.specs.State.{State}
-use Rattle.nv_subsystem.specs.Step.{Step, step}
+use Rattle.nv_model.specs.State.{State}
+use Rattle.nv_model.specs.Step.{Step, step}
 use Rattle.nv_driver.specs.Schedule.{Answer, Sent, after, answers_to}
 
 -- what command x does after the first n of some commands

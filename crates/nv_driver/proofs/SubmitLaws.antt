@@ -3,15 +3,15 @@ use Rattle.std.proofs.Common.{◌≡◌, ◌∙◌, ℕ, ◌+◌, ◌*◌, ◌<�
 use Rattle.std.proofs.Math.Nat.{mul-le-mul_left}
 use Rattle.std.proofs.lemmas.Bool.{cases_lt}
 use Rattle.std.proofs.lemmas.List.{get_or_append_left, get_or_push, take-append-le}
-use Rattle.nv_host.specs.PageLaws.{page_size_bounds}
+use Rattle.nv_host.proofs.PageLaws.{page_size_bounds}
 use Rattle.nv_layout.specs.Cqe.{cqe_of_bytes}
 use Rattle.nv_layout.specs.Sqe.{SqeFits, sqe_of_bytes}
 use Rattle.nv_prp.specs.Buffer.{ChangesOnly}
-use Rattle.nv_prp.specs.BufferLaws.{rest_distinct}
-use Rattle.nv_queue.specs.SlotLaws.{length-with_submission, push_written}
+use Rattle.nv_prp.proofs.BufferLaws.{rest_distinct}
+use Rattle.nv_queue.proofs.SlotLaws.{length-with_submission, push_written}
 use Rattle.nv_queue.specs.Slots.{completion_at, submission_at, with_submission}
-use Rattle.nv_command.specs.TravelLaws.{commands_travel}
-use Rattle.nv_subsystem.specs.State.{State}
+use Rattle.nv_command.proofs.TravelLaws.{commands_travel}
+use Rattle.nv_model.specs.State.{State}
 use Rattle.nv_driver.specs.Schedule.{AreApart, AreOutside, Happens, Holds, HoldsSent, IsPrepared, MaySubmit, Sent, Setting, StaysNamed, Submit, World, after, answers_to, entry, slot, submit_ring}
 use Rattle.nv_driver.proofs.CountLaws.{slot_inside, slots_differ}
 use Rattle.nv_driver.proofs.HeldLaws.{holds_on}

@@ -4,16 +4,16 @@ use Rattle.std.proofs.Math.Nat.{mul-le-mul_right}
 use Rattle.nv_host.specs.PageSets.{IsOf, Pages}
 use Rattle.nv_host.specs.Pages.{HasPage, IsPageSize}
 use Rattle.nv_host.specs.Bytes.{bytes_at}
-use Rattle.nv_host.specs.PageLaws.{page_size_bounds}
-use Rattle.nv_prp.specs.PlaceLaws.{length-written_at}
+use Rattle.nv_host.proofs.PageLaws.{page_size_bounds}
+use Rattle.nv_prp.proofs.PlaceLaws.{length-written_at}
 use Rattle.nv_prp.specs.Buffer.{IsBuffer, IsListPlace, IsOutside, KeepsList, KeepsOutside, StaysFor}
-use Rattle.nv_prp.specs.BufferLaws.{rest_distinct}
+use Rattle.nv_prp.proofs.BufferLaws.{rest_distinct}
 use Rattle.nv_prp.specs.Place.{AreDistinct, written_at}
 use Rattle.nv_prp.specs.Transfer.{transfer, transfer_places}
 use Rattle.nv_command.specs.Command.{CommandFits, host_data_of, transfer_by}
 use Rattle.nv_driver.specs.CommandPages.{AreTaken, all_pages, data_pages}
 use Rattle.nv_driver.specs.Geometry.{IsGeometry}
-use Rattle.nv_controller.specs.Call.{sent_from}
+use Rattle.nv_bus.specs.Call.{sent_from}
 use Rattle.nv_driver.specs.Schedule.{AreOutside, IsPrepared, Sent, StaysNamed, data_length, own_pages, places, pointed}
 use Rattle.nv_driver.specs.declared.command_pages.CommandPages.{CommandPages}
 use Rattle.nv_driver.specs.declared.geometry.Geometry.{Geometry}

@@ -11,18 +11,18 @@ use Rattle.nv_queue.specs.Numbers.{above, slot_of}
 use Rattle.nv_queue.specs.Slots.{completion_at, with_completion}
 use Rattle.nv_command.specs.Command.{transfer_by}
 use Rattle.nv_command.specs.Reply.{data_of}
-use Rattle.nv_command.specs.TravelLaws.{replies_fit}
+use Rattle.nv_command.proofs.TravelLaws.{replies_fit}
 use Rattle.nv_command.specs.declared.status_code.StatusCode.{StatusCode}
 use Rattle.nv_register.specs.declared.rings.Rings.{Rings}
-use Rattle.nv_subsystem.specs.State.{State}
-use Rattle.nv_subsystem.specs.Step.{Step, step}
-use Rattle.nv_controller.specs.Call.{Call, call_of}
-use Rattle.nv_controller.specs.Entry.{Moves, MovesBy, One, Scene, completion_with, entry_in, entry_step, scene, step_unless}
-use Rattle.nv_controller.specs.TagLaws.{tagged}
-use Rattle.nv_controller.specs.TurnLaws.{can_means}
-use Rattle.nv_controller.specs.Limit.{limit_of}
-use Rattle.nv_controller.specs.LimitLaws.{limit_bounds}
-use Rattle.nv_controller.specs.Turn.{can_take}
+use Rattle.nv_model.specs.State.{State}
+use Rattle.nv_model.specs.Step.{Step, step}
+use Rattle.nv_bus.specs.Call.{Call, call_of}
+use Rattle.nv_bus.specs.Entry.{Moves, MovesBy, One, Scene, completion_with, entry_in, entry_step, scene, step_unless}
+use Rattle.nv_bus.proofs.TagLaws.{tagged}
+use Rattle.nv_bus.proofs.TurnLaws.{can_means}
+use Rattle.nv_bus.specs.Limit.{limit_of}
+use Rattle.nv_bus.proofs.LimitLaws.{limit_bounds}
+use Rattle.nv_bus.specs.Turn.{can_take}
 use Rattle.nv_driver.specs.Schedule.{Answer, AreOutside, Sent, Setting, World, data_length, device_rings, entry, number, own_pages, places, pointed, received_from, slot}
 use Rattle.nv_driver.proofs.AnswerLaws.{Delivers, IsAnswerTo}
 use Rattle.nv_driver.proofs.DataLaws.{ArePlaces, received_back, received_same}

@@ -1,11 +1,11 @@
 -- What a turn keeps.
-use Rattle.std.proofs.Common.{◌≡◌, ◌∙◌, ℕ, zero, suc, ◌+◌, ◌-◌, ◌<◌, [], Some, ap, arith, length, min, refl, subst, sym}
+use Rattle.std.proofs.Common.{◌≡◌, ◌∙◌, ℕ, zero, suc, ◌+◌, ◌-◌, ◌<◌, [], ap, arith, length, min, refl, subst, sym}
 use Rattle.nv_queue.specs.Numbers.{above}
 use Rattle.nv_command.specs.declared.command.Command.TheVariants.{ActiveList}
-use Rattle.nv_subsystem.specs.State.{State}
-use Rattle.nv_controller.specs.Entry.{Scene, scene}
-use Rattle.nv_controller.specs.TurnLaws.{turn_count_is}
-use Rattle.nv_controller.specs.Turn.{PortTurn, RingsLie, Site, Taken, turn_count, site}
+use Rattle.nv_model.specs.State.{State}
+use Rattle.nv_bus.specs.Entry.{Scene, scene}
+use Rattle.nv_bus.proofs.TurnLaws.{turn_count_is}
+use Rattle.nv_bus.specs.Turn.{PortTurn, RingsLie, Site, Taken, ready_port, turn_count, site}
 use Rattle.nv_driver.specs.Schedule.{Happens, Sent, Setting, Turn, World, device_rings, least, number, port_with}
 use Rattle.nv_driver.proofs.CountLaws.{number_above, number_below}
 use Rattle.nv_driver.proofs.EntryLaws.{entry_keeps, world_after}
@@ -96,7 +96,7 @@ by_rings t s w most count z k turn =
     record {
       last = last;
       reached = taken_keep t s count w last k turn.2.entries;
-      left = turn.3 ∙ ap (λ b. site last.state (record (port_with t (now t w)) { cfs = b; rings = Some last.rings }) last.bytes) counted.1;
+      left = turn.3 ∙ ap (λ b. site last.state (ready_port (port_with t (now t w)) last.rings b) last.bytes) counted.1;
       number = counted.0;
     }
 

@@ -7,12 +7,12 @@ use Rattle.std.proofs.lemmas.List.{drop-append-le, get_or-drop, get_or-set_other
 use Rattle.std.proofs.lemmas.Nat.{mod_below}
 use Rattle.std.specs.FinSet as set
 use Rattle.nv_host.specs.PageSets.{IsOf, Pages}
-use Rattle.nv_queue.specs.KeptLaws.{slots_apart}
+use Rattle.nv_queue.proofs.KeptLaws.{slots_apart}
 use Rattle.nv_queue.specs.Numbers.{next, slot_of}
 use Rattle.nv_queue.specs.Rings.{CollectNumbers, IsSubmitFull, SubmitNumbers, submitted_one}
 use Rattle.nv_queue.specs.Slots.{with_submission}
 use Rattle.nv_command.specs.declared.command.Command.{Command}
-use Rattle.nv_subsystem.specs.Step.{next_serial}
+use Rattle.nv_model.specs.Step.{next_serial}
 use Rattle.nv_driver.specs.CommandPages.{AreTaken, all_pages, without}
 use Rattle.nv_driver.specs.Exchange.{IsReady}
 use Rattle.nv_driver.specs.Keeping.{Keeps}

@@ -2,8 +2,8 @@
 use Rattle.std.specs.Prelude.{ℕ, List, [], ◌∷◌}
 use Rattle.nv_command.specs.Logs.{answer_received}
 use Rattle.nv_command.specs.declared.command.Command.{Command}
-use Rattle.nv_subsystem.specs.State.{State}
-use Rattle.nv_subsystem.specs.Step.{next_serial, step}
+use Rattle.nv_model.specs.State.{State}
+use Rattle.nv_model.specs.Step.{next_serial, step}
 use Rattle.nv_driver.specs.Schedule.{Answer}
 
 -- what is received of the answers of controller c in state s, where the first command has this

@@ -4,7 +4,7 @@ use Rattle.std.specs.Prelude.{slice_set}
 use Rattle.nv_host.specs.Pages.{PagedBytes}
 use Rattle.nv_driver.specs.Exchange.{after_one, after_some}
 use Rattle.nv_driver.specs.Geometry.{IsGeometry}
-use Rattle.nv_driver.specs.Lane.{Lane}
+use Rattle.nv_driver.specs.Lane.{Lane, renewed_lane}
 use Rattle.nv_driver.specs.Layout.{lane_of, lanes_of, pages_of}
 use Rattle.nv_driver.specs.Quiet.{IsQuiet, lane_value}
 use Rattle.nv_driver.specs.Settled.{DriverValue, IsSettled}
@@ -56,3 +56,9 @@ after_command d c = record d { lanes = slice_set d.lanes c (after_one (lane_at d
 -- and after so many commands
 abbrev pub after_commands : DriverValue → ℕ → ℕ → DriverValue
 after_commands d c n = record d { lanes = slice_set d.lanes c (after_some n (lane_at d.lanes c)) }
+
+-- ---- a reset
+
+-- the driver after a reset of controller c
+abbrev pub after_reset : DriverValue → ℕ → DriverValue
+after_reset d c = record d { lanes = slice_set d.lanes c (renewed_lane (lane_at d.lanes c)) }

@@ -4,9 +4,9 @@ use Rattle.nv_host.specs.Bytes.{bytes_at}
 use Rattle.nv_prp.specs.Buffer.{IsApart}
 use Rattle.nv_queue.specs.Numbers.{kept_number, next}
 use Rattle.nv_queue.specs.Slots.{HoldsTags}
-use Rattle.nv_subsystem.specs.Step.{next_serial}
-use Rattle.nv_subsystem.specs.declared.origin.TheConstants.{SERIALS}
-use Rattle.nv_controller.specs.Bus.{BusValue, IsBus, port_at}
+use Rattle.nv_model.specs.Step.{next_serial}
+use Rattle.nv_model.specs.declared.origin.TheConstants.{SERIALS}
+use Rattle.nv_bus.specs.Bus.{BusValue, IsBus, port_at}
 use Rattle.nv_driver.specs.Geometry.{IsGeometry}
 use Rattle.nv_driver.specs.Lane.{IsLaid, Lane, idle_port}
 use Rattle.nv_driver.specs.Layout.{pages_of_command}

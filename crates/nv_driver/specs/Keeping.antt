@@ -5,8 +5,8 @@ use Rattle.nv_host.specs.Pages.{IsPageSize}
 use Rattle.nv_prp.specs.Place.{AreDistinct}
 use Rattle.nv_queue.specs.Numbers.{IsDepth}
 use Rattle.nv_queue.specs.Slots.{HoldsTags, submission_at}
-use Rattle.nv_subsystem.specs.State.{State}
-use Rattle.nv_subsystem.specs.WellFormed.{IsWellFormed}
+use Rattle.nv_model.specs.State.{State}
+use Rattle.nv_model.specs.WellFormed.{IsWellFormed}
 use Rattle.nv_driver.specs.Schedule.{AreApart, AreOthers, AreOutside, CanBeSent, Holds, HoldsSent}
 use Rattle.nv_driver.specs.Schedule.{Sent, Setting, StaysNamed, World, after, answers_to}
 use Rattle.nv_driver.specs.Schedule.{data_length, device_rings, entry, number, own_pages, places}

@@ -1,9 +1,10 @@
 -- One controller's place in the driver's memory, and its registers as the driver leaves them.
-use Rattle.std.specs.Prelude.{ℕ, ◌+◌, ◌-◌, ◌*◌, ◌<◌, ◌≤◌, true, false, Some}
+use Rattle.std.specs.Prelude.{ℕ, ◌+◌, ◌-◌, ◌*◌, ◌<◌, ◌≤◌, false}
 use Rattle.nv_queue.specs.Numbers.{IsDepth}
 use Rattle.nv_register.specs.declared.port.Port.{Port}
+use Rattle.nv_register.specs.declared.readiness.Readiness.TheVariants.{Ready}
 use Rattle.nv_register.specs.declared.rings.Rings.{Rings}
-use Rattle.nv_subsystem.specs.declared.origin.TheConstants.{SERIALS}
+use Rattle.nv_model.specs.declared.origin.TheConstants.{SERIALS}
 
 -- where its rings and its pages lie, and of its next command the number, as the rings keep it, and
 -- the command identifier
@@ -16,6 +17,10 @@ pub record Lane : Type 0 where
   pub first_page : ℕ
   pub page_count : ℕ
 
+-- the lane after a reset: its numbers begin at 0 again, and the command identifiers go on
+abbrev pub renewed_lane : Lane → Lane
+renewed_lane l = record l { number = 0 }
+
 -- rings of this lane whose numbers are all that of the next command
 abbrev pub idle_rings : ℕ → Lane → Rings
 idle_rings page_size l = record {
@@ -27,12 +32,11 @@ idle_rings page_size l = record {
 -- the registers of a controller that was enabled for this lane and has no command outstanding
 abbrev pub idle_port : ℕ → ℕ → Lane → Port
 idle_port mps page_size l = record {
-  cc = record { en = true; mps = mps; iosqes = 6; iocqes = 4 };
-  cfs = false;
+  sizes = record { mps = mps; iosqes = 6; iocqes = 4 };
+  readiness = Ready (idle_rings page_size l) false;
   aqa = record { asqs = l.depth - 1; acqs = l.depth - 1 };
   asq = l.sq;
   acq = l.cq;
-  rings = Some (idle_rings page_size l);
 }
 
 -- the submission ring, the completion ring and the pages follow one another in a memory of this

@@ -1,18 +1,26 @@
 -- What a driver's controllers have in their registers.
-use Rattle.std.specs.Prelude.{ℕ, ◌==◌, List, map, if◌then◌else◌}
+use Rattle.std.specs.Prelude.{◌≡◌, ℕ, ◌-◌, ◌==◌, List, map, if◌then◌else◌}
 use Rattle.nv_register.specs.Port.{with_register_at}
 use Rattle.nv_register.specs.declared.port.Port.{Port}
+use Rattle.nv_register.specs.declared.readiness.Readiness.TheVariants.{Off}
 use Rattle.nv_driver.specs.Lane.{Lane, idle_port}
 use Rattle.nv_driver.specs.Settled.{DriverValue}
 
--- a write of a dword: its offset and its value
-abbrev pub with_dword : Port → ℕ × ℕ → Port
-with_dword p write = with_register_at p write.0 write.1
+-- EN is cleared
+abbrev pub disabled : Port → Port
+disabled p = with_register_at p 0x14 0
 
 -- queues of so many entries, less one, at these addresses
 abbrev pub with_queues : Port → ℕ → ℕ → ℕ → Port
 with_queues p less_one sq cq =
     record p { aqa = record { asqs = less_one; acqs = less_one }; asq = sq; acq = cq }
+
+-- a controller that is off, with the queues of a lane
+pub record HasQueues (l : Lane) (p : Port) : Type 0 where
+  pub off : p.readiness ≡ Off
+  pub aqa : p.aqa ≡ record { asqs = l.depth - 1; acqs = l.depth - 1 }
+  pub asq : p.asq ≡ l.sq
+  pub acq : p.acq ≡ l.cq
 
 -- the power of two that a page size is of 4,096
 abbrev pub mps_of : ℕ → ℕ

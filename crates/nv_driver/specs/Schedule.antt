@@ -2,7 +2,7 @@
 -- in any order.
 use Rattle.std.specs.Prelude.{◌≡◌, ◌-◌, ◌≢◌, ◌⊎◌, ℕ, ◌+◌, ◌*◌, ◌<◌, ◌≤◌, ◌^◌, ◌==◌, ◌&&◌, Bool}
 use Rattle.std.specs.Prelude.{false, All, List, [], ◌∷◌, ◌++◌, if◌then◌else◌, length, min, not}
-use Rattle.std.specs.Prelude.{slice_index_or, take, Some, Result, Ok, Err}
+use Rattle.std.specs.Prelude.{slice_index_or, take, Result, Ok, Err}
 use Rattle.nv_host.specs.Bytes.{bytes_at}
 use Rattle.nv_host.specs.Pages.{IsPageSize}
 use Rattle.nv_layout.specs.declared.cqe.Cqe.{Cqe}
@@ -26,11 +26,11 @@ use Rattle.nv_command.specs.declared.transfer.Transfer.TheVariants.{FromHost, No
 use Rattle.nv_register.specs.Port.{with_register_at}
 use Rattle.nv_register.specs.declared.port.Port.{Port}
 use Rattle.nv_register.specs.declared.rings.Rings.{Rings}
-use Rattle.nv_subsystem.specs.State.{State}
-use Rattle.nv_subsystem.specs.Step.{step}
-use Rattle.nv_subsystem.specs.WellFormed.{IsWellFormed}
-use Rattle.nv_controller.specs.Call.{length_of, sent_from}
-use Rattle.nv_controller.specs.Turn.{PortTurn, site}
+use Rattle.nv_model.specs.State.{State}
+use Rattle.nv_model.specs.Step.{step}
+use Rattle.nv_model.specs.WellFormed.{IsWellFormed}
+use Rattle.nv_bus.specs.Call.{length_of, sent_from}
+use Rattle.nv_bus.specs.Turn.{PortTurn, ready_port, site}
 
 -- ---- commands, one at a time
 
@@ -123,7 +123,7 @@ device_rings t rung done told = record {
 }
 
 abbrev pub port_with : Setting → Rings → Port
-port_with t rings = record t.port { cfs = false; rings = Some rings }
+port_with t rings = ready_port t.port rings false
 
 -- ---- submitting
 

@@ -5,9 +5,9 @@ use Rattle.nv_queue.specs.Rings.{submitted_one}
 use Rattle.nv_queue.specs.Slots.{with_submission}
 use Rattle.nv_command.specs.Command.{transfer_by}
 use Rattle.nv_command.specs.declared.command.Command.{Command}
-use Rattle.nv_controller.specs.Call.{length_of}
+use Rattle.nv_bus.specs.Call.{length_of}
 use Rattle.nv_prp.specs.Transfer.{Transfer, transfer}
-use Rattle.nv_subsystem.specs.Step.{next_serial}
+use Rattle.nv_model.specs.Step.{next_serial}
 use Rattle.nv_driver.specs.CommandPages.{AreTaken, all_pages, data_pages, without}
 use Rattle.nv_driver.specs.Layout.{pages_of_command}
 use Rattle.nv_driver.specs.Schedule.{IsPrepared, Sent, data_length, entry}

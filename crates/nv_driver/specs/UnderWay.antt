@@ -4,8 +4,8 @@ use Rattle.std.specs.Prelude.{Option, None, Some, drop, length, min, slice_index
 use Rattle.std.specs.Prelude.{take}
 use Rattle.nv_host.specs.PageSets.{IsOf}
 use Rattle.nv_command.specs.declared.command.Command.{Command}
-use Rattle.nv_subsystem.specs.declared.origin.TheConstants.{SERIALS}
-use Rattle.nv_controller.specs.Bus.{BusValue, IsBus, port_at}
+use Rattle.nv_model.specs.declared.origin.TheConstants.{SERIALS}
+use Rattle.nv_bus.specs.Bus.{BusValue, IsBus, port_at}
 use Rattle.nv_driver.specs.Batch.{answers_of, state_after}
 use Rattle.nv_driver.specs.CommandPages.{AreTaken, without}
 use Rattle.nv_driver.specs.Exchange.{IsReady}

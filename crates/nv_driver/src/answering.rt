@@ -4,7 +4,7 @@ ghost use Rattle.std.specs.Prelude.{◌≡◌, ◌<◌, ◌≤◌, Ok};
 ghost use Rattle.nv_command.specs.Command.{transfer_by};
 ghost use Rattle.nv_command.specs.Logs.{IsSendable};
 ghost use Rattle.nv_command.specs.Reply.{reply_in};
-ghost use Rattle.nv_controller.specs.Call.{length_of};
+ghost use Rattle.nv_bus.specs.Call.{length_of};
 ghost use Rattle.nv_prp.specs.Place.{read_at};
 ghost use Rattle.nv_prp.specs.Transfer.{IsLegal, transfer_places};
 ghost use Rattle.nv_driver.specs.Schedule.{answer_from, received_from};

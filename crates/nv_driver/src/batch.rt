@@ -2,11 +2,11 @@
 
 ghost use Rattle.std.specs.Prelude.{◌≡◌, ◌+◌, ◌-◌, ◌%◌, ◌<◌, ◌≤◌, All, MatchOption, false, length};
 ghost use Rattle.std.specs.Prelude.{None, min, set, slice_set, true};
-ghost use Rattle.nv_controller.specs.Bus.{IsBus, port_at};
+ghost use Rattle.nv_bus.specs.Bus.{IsBus, port_at};
 ghost use Rattle.nv_queue.specs.Numbers.{slot_of};
 ghost use Rattle.nv_queue.specs.Rings.{told_all};
 ghost use Rattle.nv_register.specs.Port.{with_register_at};
-ghost use Rattle.nv_subsystem.specs.declared.origin.TheConstants.{SERIALS};
+ghost use Rattle.nv_model.specs.declared.origin.TheConstants.{SERIALS};
 ghost use Rattle.nv_driver.specs.Batch.{answers_of, state_after};
 ghost use Rattle.nv_driver.specs.Exchange.{IsReady, KeepsOthers, after_some};
 ghost use Rattle.nv_driver.specs.Quiet.{lane_value};
@@ -21,11 +21,11 @@ use crate::geometry::Geometry;
 use crate::lane::Lane;
 use crate::scratch::Scratch;
 use crate::submitting::{Outstanding, submit};
+use nv_bus::Bus;
 use nv_command::Command;
-use nv_controller::Bus;
 use nv_host::HostMemory;
+use nv_model::SERIALS;
 use nv_register::offset;
-use nv_subsystem::SERIALS;
 
 /// The most commands that are outstanding at a time.
 const MOST: usize = 16;

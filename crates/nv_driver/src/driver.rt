@@ -1,27 +1,30 @@
 //! The driver of the controllers of a bus.
 
-ghost use Rattle.std.specs.Prelude.{◌≡◌, ◌≢◌, ◌<◌, ◌≤◌, ◌↔◌, All, Err, IfOk, OnErr, Some, length};
-ghost use Rattle.nv_controller.specs.Bus.{IsBus, IsEnabledWhereReady};
+ghost use Rattle.std.specs.Prelude.{◌≡◌, ◌≢◌, ◌<◌, ◌≤◌, ◌↔◌, All, Err, IfOk, IsOk, OnErr, Some};
+ghost use Rattle.std.specs.Prelude.{length};
+ghost use Rattle.nv_bus.specs.Bus.{IsBus, enabled_in};
 ghost use Rattle.nv_command.specs.Command.{CommandFits};
 ghost use Rattle.nv_command.specs.Logs.{IsSendable, answer_received};
-ghost use Rattle.nv_subsystem.specs.Step.{step};
+ghost use Rattle.nv_model.specs.Reset.{reset, reset_where};
+ghost use Rattle.nv_model.specs.Step.{step};
 ghost use Rattle.nv_driver.specs.Batch.{answers_of, state_after};
-ghost use Rattle.nv_driver.specs.Driver.{after_command, after_commands, lane_at, new_driver};
-ghost use Rattle.nv_driver.specs.Geometry.{IsGeometry, fault_of};
+ghost use Rattle.nv_driver.specs.Driver.{after_command, after_commands, after_reset, lane_at};
+ghost use Rattle.nv_driver.specs.Driver.{new_driver};
+ghost use Rattle.nv_driver.specs.Geometry.{fault_of};
 ghost use Rattle.nv_driver.specs.Registers.{ports_of};
 
 use crate::answer_slot::{Answer, AnswerSlot};
 use crate::batch::exchange_all;
-use crate::enabling::enable_all;
+use crate::enabling::{enable_all, reset};
 use crate::error::DriverError;
 use crate::exchange::exchange;
 use crate::geometry::Geometry;
 use crate::geometry_field::GeometryField;
 use crate::lane::{Lane, new_lanes};
 use crate::scratch::Scratch;
+use nv_bus::Bus;
 use nv_command::Command;
-use nv_controller::Bus;
-use nv_host::{FlatMemory, HostMemory, Memory};
+use nv_host::{FlatMemory, HostMemory};
 use std::alloc::Global;
 use std::marker::Model;
 
@@ -48,35 +51,18 @@ impl Model for Driver {
 }
 
 impl Driver {
-    /// A driver of so many controllers, of which none is enabled yet. Its memory is zeroed.
-    fn new(alloc: Global, geometry: Geometry, controllers: u16) -> Result<Driver, Memory>
-        requires geometry { IsGeometry geometry }
-        requires controllers { controllers ≤ 16 }
-        ensures { IfOk result (λ d. d ≡ new_driver geometry controllers) }
-    {
-        let pages = geometry.pages(controllers);
-        let mem = FlatMemory::new(alloc, geometry.page_size, pages)?;
-        let lanes = new_lanes(alloc, geometry, controllers)?;
-        Ok(Driver {
-            mem,
-            geometry,
-            lanes,
-            scratch: Scratch::new(),
-        })
-    }
-
-    /// Makes the host's memory, and makes each controller ready with rings in it. After `Geometry`,
-    /// which has the first field out of its limits, and after `Memory` the bus is untouched. A bus
-    /// that keeps its contract never gives `NoReady`. Section "Controller Initialization and
-    /// Shutdown Processing".
+    /// Makes the host's memory, and makes each controller ready with rings in it. A controller that
+    /// was enabled is reset. After `Geometry`, which has the first field out of its limits, and
+    /// after `Memory` the bus is untouched. A bus that keeps its contract never gives `NoReady`.
+    /// Section "Controller Initialization and Shutdown Processing".
     pub fn bring_up<B: Bus>(
         alloc: Global,
         bus: &mut B,
         geometry: Geometry,
     ) -> Result<Driver, DriverError>
-        requires bus { IsBus (B.meaning bus.old) }
-        requires enabled { All IsEnabledWhereReady (B.meaning bus.old).ports }
-        ensures state { (B.meaning bus.new).state ≡ (B.meaning bus.old).state }
+        requires { IsBus (B.meaning bus.old) }
+        ensures state { IfOk result (λ _. (B.meaning bus.new).state
+            ≡ reset_where (enabled_in (B.meaning bus.old).ports) (B.meaning bus.old).state) }
         ensures bus { IsBus (B.meaning bus.new) }
         ensures geometry { (field : GeometryField)
             → (result ≡ Err (DriverError.Geometry field)) ↔ (fault_of geometry ≡ Some field) }
@@ -89,9 +75,34 @@ impl Driver {
         if let Err(field) = geometry.check() {
             return Err(DriverError::Geometry(field));
         }
-        let driver = Driver::new(alloc, geometry, bus.controllers())?;
-        enable_all(bus, geometry)?;
-        Ok(driver)
+        let controllers = bus.controllers();
+        let mut mem = FlatMemory::new(alloc, geometry.page_size, geometry.pages(controllers))?;
+        let lanes = new_lanes(alloc, geometry, controllers)?;
+        enable_all(bus, &mut mem, &lanes, geometry)?;
+        Ok(Driver {
+            mem,
+            geometry,
+            lanes,
+            scratch: Scratch::new(),
+        })
+    }
+
+    /// Resets a controller: each value of its features becomes the saved one, or the default where
+    /// none was saved, and its rings begin anew; the command identifiers go on. It takes no memory.
+    /// The bus is as this driver left it; one that keeps its contract never gives `NoReady`, the
+    /// only error. Section "Controller Level Reset".
+    pub fn reset<B: Bus>(&mut self, bus: &mut B, ctrl: u16) -> Result<(), DriverError>
+        requires ctrl { ctrl < length self.old.lanes }
+        requires bus { IsBus (B.meaning bus.old) }
+        requires left { (B.meaning bus.old).ports ≡ ports_of self.old }
+        ensures ok { IsOk result }
+        ensures state { (B.meaning bus.new).state ≡ reset (B.meaning bus.old).state ctrl }
+        ensures bus { IsBus (B.meaning bus.new) }
+        ensures driver { self.new ≡ after_reset self.old ctrl }
+        ensures left { (B.meaning bus.new).ports ≡ ports_of self.new }
+    {
+        let lane = &mut self.lanes[ctrl as usize];
+        reset(bus, ctrl, &mut self.mem, lane, self.geometry)
     }
 
     /// Sends a command to a controller and awaits its answer: the reply, or the status of the

@@ -1,16 +1,27 @@
-//! How controllers are enabled.
+//! How controllers are enabled and reset.
 
-ghost use Rattle.std.specs.Prelude.{◌≡◌, ◌≢◌, ◌<◌, ◌≤◌, All, IfErr, IsOk, MatchResult, false};
-ghost use Rattle.std.specs.Prelude.{fold, is_some, length, slice_set};
-ghost use Rattle.nv_controller.specs.Bus.{IsBus, IsEnabledWhereReady, port_at};
+ghost use Rattle.std.specs.Prelude.{◌≡◌, ◌≢◌, ◌*◌, ◌<◌, ◌≤◌, All, IfErr, IsOk, MatchResult};
+ghost use Rattle.std.specs.Prelude.{length, map, slice_set};
+ghost use Rattle.nv_queue.specs.Slots.{HoldsTags};
+ghost use Rattle.nv_register.specs.Readiness.{is_ready};
+ghost use Rattle.nv_register.specs.declared.readiness.Readiness.TheVariants.{Off};
+ghost use Rattle.nv_model.specs.Reset.{reset, reset_if, reset_where};
+ghost use Rattle.nv_bus.specs.Bus.{IsBus, enabled_in, port_at};
+ghost use Rattle.nv_driver.specs.Driver.{IsPlaced};
+ghost use Rattle.nv_driver.specs.Exchange.{IsReady, KeepsOthers};
 ghost use Rattle.nv_driver.specs.Geometry.{IsGeometry};
-ghost use Rattle.nv_driver.specs.Layout.{lane_of, lanes_of};
-ghost use Rattle.nv_driver.specs.Lane.{idle_port};
-ghost use Rattle.nv_driver.specs.Registers.{idle_ports, mps_of, with_dword, with_queues};
+ghost use Rattle.nv_driver.specs.Lane.{IsLaid, idle_port, renewed_lane};
+ghost use Rattle.nv_driver.specs.Layout.{lane_of, lanes_of, pages_of};
+ghost use Rattle.nv_driver.specs.Quiet.{IsQuiet, lane_value};
+ghost use Rattle.nv_driver.specs.Registers.{HasQueues, disabled, idle_ports, mps_of};
+ghost use Rattle.nv_driver.specs.Registers.{with_queues};
+ghost use Rattle.nv_driver.specs.Settled.{IsSettled};
 
 use crate::error::DriverError;
 use crate::geometry::Geometry;
-use nv_controller::Bus;
+use crate::lane::Lane;
+use nv_bus::Bus;
+use nv_host::HostMemory;
 use nv_register::offset;
 
 /// CC.EN, and the entry sizes of I/O queues: 64 and 16 bytes. Section "Controller Configuration".
@@ -33,25 +44,12 @@ fn mps(page_size: u32) -> u32
     }
 }
 
-/// Writes dwords to a controller's registers, one after another.
-fn write_all<B: Bus>(bus: &mut B, ctrl: u16, writes: &[(u32, u32)])
-    requires { ctrl < length (B.meaning bus.old).ports }
-    ensures state { (B.meaning bus.new).state ≡ (B.meaning bus.old).state }
-    ensures ports { (B.meaning bus.new).ports ≡ slice_set (B.meaning bus.old).ports ctrl
-        (fold with_dword (port_at (B.meaning bus.old).ports ctrl) writes.now) }
-    ensures bus { IsBus (B.meaning bus.old) → IsBus (B.meaning bus.new) }
-{
-    for (address, dword) in writes {
-        bus.write32(ctrl, *address, *dword);
-    }
-}
-
 /// Awaits that CSTS.RDY has a value. Section "Controller Status".
 fn await_ready<B: Bus>(bus: &B, ctrl: u16, ready: bool) -> Result<(), DriverError>
     requires { ctrl < length (B.meaning bus.now).ports }
     ensures ready { MatchResult result
-        (λ _. is_some (port_at (B.meaning bus.now).ports ctrl).rings ≡ ready)
-        (λ _. is_some (port_at (B.meaning bus.now).ports ctrl).rings ≢ ready) }
+        (λ _. is_ready (port_at (B.meaning bus.now).ports ctrl).readiness ≡ ready)
+        (λ _. is_ready (port_at (B.meaning bus.now).ports ctrl).readiness ≢ ready) }
     ensures no_ready { IfErr result (λ e. e ≡ DriverError.NoReady) }
 {
     for _ in 0..READS {
@@ -62,66 +60,147 @@ fn await_ready<B: Bus>(bus: &B, ctrl: u16, ready: bool) -> Result<(), DriverErro
     Err(DriverError::NoReady)
 }
 
+/// Clears EN of a controller and awaits that it is not ready. Where EN was 1 this resets it. Section
+/// "Controller Configuration", Enable.
+fn disable<B: Bus>(bus: &mut B, ctrl: u16) -> Result<(), DriverError>
+    requires { ctrl < length (B.meaning bus.old).ports }
+    ensures ok { IsOk result }
+    ensures state { (B.meaning bus.new).state
+        ≡ reset_if (enabled_in (B.meaning bus.old).ports) (B.meaning bus.old).state ctrl }
+    ensures ports { (B.meaning bus.new).ports ≡ slice_set (B.meaning bus.old).ports ctrl
+        (disabled (port_at (B.meaning bus.old).ports ctrl)) }
+    ensures off { (port_at (B.meaning bus.new).ports ctrl).readiness ≡ Off }
+    ensures bus { IsBus (B.meaning bus.old) → IsBus (B.meaning bus.new) }
+{
+    bus.write32(ctrl, offset::CC, 0);
+    await_ready(bus, ctrl, false)
+}
+
 /// Sets the queues of a controller that is not enabled: how many entries each has, less one, and
 /// where it begins. Sections "Admin Queue Attributes", "Admin Submission Queue Base Address" and
 /// "Admin Completion Queue Base Address".
 fn set_queues<B: Bus>(bus: &mut B, ctrl: u16, less_one: u32, sq: u64, cq: u64)
     requires ctrl { ctrl < length (B.meaning bus.old).ports }
-    requires off { (port_at (B.meaning bus.old).ports ctrl).cc.en ≡ false }
+    requires off { (port_at (B.meaning bus.old).ports ctrl).readiness ≡ Off }
     requires deep { less_one ≤ 4095 }
     ensures state { (B.meaning bus.new).state ≡ (B.meaning bus.old).state }
     ensures ports { (B.meaning bus.new).ports ≡ slice_set (B.meaning bus.old).ports ctrl
         (with_queues (port_at (B.meaning bus.old).ports ctrl) less_one sq cq) }
     ensures bus { IsBus (B.meaning bus.old) → IsBus (B.meaning bus.new) }
 {
-    write_all(
-        bus,
-        ctrl,
-        &[
-            (offset::AQA, (less_one << 16) + less_one),
-            (offset::ASQ_LOW, (sq % (1 << 32)) as u32),
-            (offset::ASQ_HIGH, (sq >> 32) as u32),
-            (offset::ACQ_LOW, (cq % (1 << 32)) as u32),
-            (offset::ACQ_HIGH, (cq >> 32) as u32),
-        ],
-    );
+    bus.write32(ctrl, offset::AQA, (less_one << 16) + less_one);
+    bus.write32(ctrl, offset::ASQ_LOW, (sq % (1 << 32)) as u32);
+    bus.write32(ctrl, offset::ASQ_HIGH, (sq >> 32) as u32);
+    bus.write32(ctrl, offset::ACQ_LOW, (cq % (1 << 32)) as u32);
+    bus.write32(ctrl, offset::ACQ_HIGH, (cq >> 32) as u32);
 }
 
-/// Makes a controller ready with new rings at their places. Section "Controller Initialization and
-/// Shutdown Processing".
-fn enable<B: Bus>(bus: &mut B, ctrl: u16, geometry: Geometry) -> Result<(), DriverError>
+/// Sets EN of a controller whose queues are set, and awaits that it is ready with new rings.
+/// Section "Controller Configuration", Enable.
+fn start<B: Bus>(bus: &mut B, ctrl: u16, geometry: Geometry) -> Result<(), DriverError>
     requires geometry { IsGeometry geometry }
     requires ctrl { ctrl < length (B.meaning bus.old).ports }
-    requires few { ctrl < 16 }
-    requires enabled { IsEnabledWhereReady (port_at (B.meaning bus.old).ports ctrl) }
+    requires queues { HasQueues (lane_of geometry ctrl) (port_at (B.meaning bus.old).ports ctrl) }
     ensures ok { IsOk result }
     ensures state { (B.meaning bus.new).state ≡ (B.meaning bus.old).state }
     ensures ports { (B.meaning bus.new).ports ≡ slice_set (B.meaning bus.old).ports ctrl
         (idle_port (mps_of geometry.page_size) geometry.page_size (lane_of geometry ctrl)) }
     ensures bus { IsBus (B.meaning bus.old) → IsBus (B.meaning bus.new) }
 {
-    bus.write32(ctrl, offset::CC, 0);
-    await_ready(bus, ctrl, false)?;
-    let place = geometry.place(ctrl);
-    set_queues(bus, ctrl, geometry.depth - 1, place.sq, place.cq);
     bus.write32(ctrl, offset::CC, ENABLE + (mps(geometry.page_size) << 7));
     await_ready(bus, ctrl, true)
 }
 
-/// Enables each controller.
-#[tactic(auto, using(crate::proofs::RegisterLaws::all_enabled))]
-pub(crate) fn enable_all<B: Bus>(bus: &mut B, geometry: Geometry) -> Result<(), DriverError>
+/// Makes a controller ready with new rings at their places, of which the completion ring is zeroed.
+/// Section "Controller Initialization and Shutdown Processing".
+fn enable<B: Bus, M: HostMemory>(
+    bus: &mut B,
+    ctrl: u16,
+    mem: &mut M,
+    lane: &Lane,
+    geometry: Geometry,
+) -> Result<(), DriverError>
+    requires geometry { IsGeometry geometry }
+    requires ctrl { ctrl < length (B.meaning bus.old).ports }
+    requires few { ctrl < 16 }
+    requires quiet { IsQuiet lane.now }
+    requires lane { lane_value lane.now ≡ lane_of geometry ctrl }
+    requires laid { IsLaid geometry.page_size (length (M.bytes mem.old)) (lane_of geometry ctrl) }
+    ensures ok { IsOk result }
+    ensures state { (B.meaning bus.new).state
+        ≡ reset_if (enabled_in (B.meaning bus.old).ports) (B.meaning bus.old).state ctrl }
+    ensures ports { (B.meaning bus.new).ports ≡ slice_set (B.meaning bus.old).ports ctrl
+        (idle_port (mps_of geometry.page_size) geometry.page_size (lane_of geometry ctrl)) }
+    ensures bus { IsBus (B.meaning bus.old) → IsBus (B.meaning bus.new) }
+    ensures tags { HoldsTags (M.bytes mem.new) (lane_of geometry ctrl).cq geometry.depth 0 }
+    ensures others { KeepsOthers geometry.page_size (lane_of geometry ctrl)
+        (M.bytes mem.old) (M.bytes mem.new) }
+    ensures len { length (M.bytes mem.new) ≡ length (M.bytes mem.old) }
+    ensures page { M.page_len mem.new ≡ M.page_len mem.old }
+{
+    disable(bus, ctrl)?;
+    lane.completion.zero(mem);
+    let place = geometry.place(ctrl);
+    set_queues(bus, ctrl, geometry.depth - 1, place.sq, place.cq);
+    start(bus, ctrl, geometry)
+}
+
+/// Enables each controller with the rings of its lane. Those that were enabled are reset.
+pub(crate) fn enable_all<B: Bus, M: HostMemory>(
+    bus: &mut B,
+    mem: &mut M,
+    lanes: &[Lane],
+    geometry: Geometry,
+) -> Result<(), DriverError>
     requires geometry { IsGeometry geometry }
     requires bus { IsBus (B.meaning bus.old) }
-    requires enabled { All IsEnabledWhereReady (B.meaning bus.old).ports }
+    requires quiet { All IsQuiet lanes.now }
+    requires lanes { map lane_value lanes.now
+        ≡ lanes_of geometry (length (B.meaning bus.old).ports) }
+    requires len { length (M.bytes mem.old)
+        ≡ pages_of geometry (length (B.meaning bus.old).ports) * geometry.page_size }
     ensures ok { IsOk result }
-    ensures state { (B.meaning bus.new).state ≡ (B.meaning bus.old).state }
+    ensures state { (B.meaning bus.new).state
+        ≡ reset_where (enabled_in (B.meaning bus.old).ports) (B.meaning bus.old).state }
     ensures ports { (B.meaning bus.new).ports
         ≡ idle_ports geometry.page_size (lanes_of geometry (length (B.meaning bus.old).ports)) }
     ensures bus { IsBus (B.meaning bus.new) }
+    ensures settled { IsSettled geometry.page_size (M.bytes mem.new)
+        (lanes_of geometry (length (B.meaning bus.old).ports)) }
+    ensures len { length (M.bytes mem.new) ≡ length (M.bytes mem.old) }
+    ensures page { M.page_len mem.new ≡ M.page_len mem.old }
 {
     for ctrl in 0..bus.controllers() {
-        enable(bus, ctrl, geometry)?;
+        enable(bus, ctrl, mem, &lanes[ctrl as usize], geometry)?;
     }
     Ok(())
+}
+
+/// Resets a controller none of whose commands is outstanding: disables it, renews its rings and
+/// starts it with them. Section "Controller Level Reset".
+pub(crate) fn reset<B: Bus, M: HostMemory>(
+    bus: &mut B,
+    ctrl: u16,
+    mem: &mut M,
+    lane: &mut Lane,
+    geometry: Geometry,
+) -> Result<(), DriverError>
+    requires ready { IsReady geometry (B.meaning bus.old) ctrl
+        lane.old (M.page_len mem.old) (M.bytes mem.old) }
+    requires placed { IsPlaced geometry ctrl (lane_value lane.old) }
+    ensures ok { IsOk result }
+    ensures state { (B.meaning bus.new).state ≡ reset (B.meaning bus.old).state ctrl }
+    ensures ready { IsReady geometry (B.meaning bus.new) ctrl
+        lane.new (M.page_len mem.new) (M.bytes mem.new) }
+    ensures ports { (B.meaning bus.new).ports
+        ≡ slice_set (B.meaning bus.old).ports ctrl (port_at (B.meaning bus.new).ports ctrl) }
+    ensures lane { lane_value lane.new ≡ renewed_lane (lane_value lane.old) }
+    ensures others { KeepsOthers geometry.page_size (lane_value lane.old)
+        (M.bytes mem.old) (M.bytes mem.new) }
+    ensures len { length (M.bytes mem.new) ≡ length (M.bytes mem.old) }
+    ensures page { M.page_len mem.new ≡ M.page_len mem.old }
+{
+    disable(bus, ctrl)?;
+    lane.renew(mem);
+    start(bus, ctrl, geometry)
 }

@@ -1,4 +1,4 @@
-//! Why no driver is brought up.
+//! Why a driver is not brought up, or a controller not reset.
 
 ghost use Rattle.std.specs.Prelude.{◌≡◌};
 ghost use Rattle.nv_driver.specs.declared.error.DriverError.TheVariants.{Memory as NoMemory};
@@ -7,7 +7,7 @@ use crate::geometry_field::GeometryField;
 use nv_host::Memory;
 use thiserror::Error;
 
-/// Why no driver is brought up.
+/// Why a driver is not brought up, or a controller not reset.
 #[derive(Clone, Copy, Debug, PartialEq, Eq, Error)]
 pub enum DriverError {
     /// The first field of the geometry that is out of its limits.

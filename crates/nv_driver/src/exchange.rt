@@ -2,8 +2,8 @@
 
 ghost use Rattle.std.specs.Prelude.{◌≡◌, length, slice_set};
 ghost use Rattle.nv_command.specs.Logs.{answer_received};
-ghost use Rattle.nv_subsystem.specs.Step.{step};
-ghost use Rattle.nv_controller.specs.Bus.{port_at};
+ghost use Rattle.nv_model.specs.Step.{step};
+ghost use Rattle.nv_bus.specs.Bus.{port_at};
 ghost use Rattle.nv_driver.specs.Exchange.{IsReady, KeepsOthers, after_one};
 ghost use Rattle.nv_driver.specs.Quiet.{lane_value};
 ghost use Rattle.nv_driver.specs.Schedule.{CanBeSent};
@@ -14,8 +14,8 @@ use crate::geometry::Geometry;
 use crate::lane::Lane;
 use crate::scratch::Scratch;
 use crate::submitting::submit;
+use nv_bus::Bus;
 use nv_command::Command;
-use nv_controller::Bus;
 use nv_host::HostMemory;
 use nv_register::offset;
 

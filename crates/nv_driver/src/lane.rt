@@ -1,12 +1,15 @@
 //! The host's side of one controller.
 
-ghost use Rattle.std.specs.Prelude.{◌≡◌, ◌<◌, ◌≤◌, All, IfOk, map};
+ghost use Rattle.std.specs.Prelude.{◌≡◌, ◌+◌, ◌*◌, ◌<◌, ◌≤◌, All, IfOk, length, map, replicate};
+ghost use Rattle.nv_host.specs.Bytes.{with_bytes};
+ghost use Rattle.nv_queue.specs.Slots.{HoldsTags};
 ghost use Rattle.nv_driver.specs.Geometry.{IsGeometry};
+ghost use Rattle.nv_driver.specs.Lane.{renewed_lane};
 ghost use Rattle.nv_driver.specs.Layout.{lane_of, lanes_of};
 ghost use Rattle.nv_driver.specs.Quiet.{IsQuiet, lane_value};
 
 use crate::geometry::Geometry;
-use nv_host::{Memory, PageSet};
+use nv_host::{HostMemory, Memory, PageSet};
 use nv_queue::{CompletionRing, SubmitRing};
 use std::alloc::Global;
 
@@ -37,6 +40,25 @@ impl Lane {
             serial: 0,
             pages: PageSet::new(alloc, place.first_page, place.page_count)?,
         })
+    }
+
+    /// Begins its rings anew, after zeroing the completion ring, where no command is outstanding.
+    /// The command identifiers go on.
+    pub(crate) fn renew<M: HostMemory>(&mut self, mem: &mut M)
+        requires quiet { IsQuiet self.old }
+        requires inside { self.old.completion.base + 16 * self.old.completion.depth
+            ≤ length (M.bytes mem.old) }
+        ensures quiet { IsQuiet self.new }
+        ensures lane { lane_value self.new ≡ renewed_lane (lane_value self.old) }
+        ensures bytes { M.bytes mem.new ≡ with_bytes (M.bytes mem.old) self.old.completion.base
+            (replicate (16 * self.old.completion.depth) 0) }
+        ensures tags { HoldsTags (M.bytes mem.new) self.old.completion.base
+            self.old.completion.depth 0 }
+        ensures page { M.page_len mem.new ≡ M.page_len mem.old }
+    {
+        self.completion.zero(mem);
+        self.completion.renew();
+        self.submission.renew();
     }
 }
 

@@ -25,6 +25,14 @@
 //! [`Driver::admin_all`] sends a list of commands, as many outstanding at a time as the geometry's
 //! window allows. The answers are those of one command at a time, and it goes on after a refusal.
 //!
+//! [`Driver::reset`] resets a controller between its commands: the values of its features that were
+//! not saved are the defaults again, and its rings begin anew, while the command identifiers go on.
+//! [`Driver::bring_up`] resets each controller that it finds enabled.
+//!
+//! ```
+//! driver.reset(&mut machine, 0)?;
+//! ```
+//!
 //! Sections are named as in the NVM Express Base Specification, revision 1.4.
 #![tactic(auto)]
 

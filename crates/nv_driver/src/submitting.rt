@@ -8,10 +8,10 @@ ghost use Rattle.nv_prp.specs.Transfer.{IsLegal, data_pages as pages_of};
 ghost use Rattle.nv_prp.specs.Transfer.{transfer, transfer_places};
 ghost use Rattle.nv_command.specs.Command.{bytes_from_host, host_data_of, transfer_by};
 ghost use Rattle.nv_command.specs.Logs.{IsSendable};
-ghost use Rattle.nv_controller.specs.Call.{length_of};
+ghost use Rattle.nv_bus.specs.Call.{length_of};
 ghost use Rattle.nv_queue.specs.Numbers.{next, slot_of};
 ghost use Rattle.nv_queue.specs.Rings.{IsSubmitFull};
-ghost use Rattle.nv_subsystem.specs.declared.origin.TheConstants.{SERIALS};
+ghost use Rattle.nv_model.specs.declared.origin.TheConstants.{SERIALS};
 ghost use Rattle.nv_driver.specs.CommandPages.{data_pages};
 ghost use Rattle.nv_driver.specs.Geometry.{IsGeometry};
 ghost use Rattle.nv_driver.specs.Layout.{pages_of_command};
@@ -24,8 +24,8 @@ use crate::lane::Lane;
 use crate::scratch::Scratch;
 use nv_command::{Command, Transfer};
 use nv_host::HostMemory;
+use nv_model::SERIALS;
 use nv_prp::{Buffer, build, copy_out, walk};
-use nv_subsystem::SERIALS;
 
 /// What an outstanding command has: its pages, and its data pointer. Section "Submission Queue
 /// Entry".

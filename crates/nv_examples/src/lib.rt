@@ -45,6 +45,10 @@ mod management;
 #[cfg(test)]
 mod over_streams;
 #[cfg(test)]
+mod reset;
+#[cfg(test)]
+mod resets_over_runs;
+#[cfg(test)]
 mod rows;
 #[cfg(test)]
 mod scripts;

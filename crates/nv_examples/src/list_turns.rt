@@ -1,7 +1,7 @@
 //! In how many turns `list` asks controllers.
 
 ghost use Rattle.std.specs.Prelude.{◌≡◌, All, IfOk};
-ghost use Rattle.nv_controller.specs.Bus.{IsBus, IsEnabledWhereReady};
+ghost use Rattle.nv_bus.specs.Bus.{IsBus};
 
 use crate::list::{shared_file, shared_namespaces};
 use crate::listed::lines_of;

@@ -1,20 +1,19 @@
 //! A script line by line, with what each line writes and leaves.
 
-ghost use Rattle.std.specs.Prelude.{All, IfSome};
-ghost use Rattle.nv_controller.specs.Bus.{IsBus, IsEnabledWhereReady};
+ghost use Rattle.std.specs.Prelude.{IfSome};
+ghost use Rattle.nv_bus.specs.Bus.{IsBus};
 
+use crate::kept::Kept;
 use nv_controller::Machine;
 use nv_subsystem::Subsystem;
 use std::alloc::{AllocError, Global};
 
-/// What a line writes, on one of the two streams, and how many refusals and commands the first
-/// controller has counted after it.
+/// What a line writes, on one of the two streams, and what the first controller has after it.
 #[derive(Drop)]
 pub struct Line {
     pub out: String,
     pub message: String,
-    pub refusals: u64,
-    pub commands: u64,
+    pub kept: Kept,
 }
 
 /// One of the two streams that a line may write on.
@@ -42,53 +41,44 @@ impl Stream {
     }
 }
 
-/// How many refusals and commands the first controller has counted.
-pub(crate) fn counts_of(machine: &Machine) -> (u64, u64) {
-    let subsystem = machine.subsystem();
-    if subsystem.controllers() == 0 {
-        return (0, 0);
-    }
-    subsystem.counts(0)
-}
-
 /// A script over the subsystem of a file, and its lines.
 #[derive(Drop)]
 pub struct Case {
     pub file: String,
+    /// What the first controller has before the first line.
+    pub before: Kept,
     pub script: String,
     pub lines: Vec<Line>,
 }
 
 impl Case {
-    /// No lines yet.
-    pub(crate) fn new(alloc: Global, file: &str) -> Result<Case, AllocError> {
+    /// No lines yet, over a file whose first controller has this value of its write cache.
+    pub(crate) fn new(alloc: Global, file: &str, cache: Option<u32>) -> Result<Case, AllocError> {
         Ok(Case {
             file: String::from_str(alloc, file)?,
+            before: Kept {
+                counts: (0, 0),
+                cache,
+            },
             script: String::new(alloc),
             lines: Vec::new(alloc),
         })
     }
 
-    /// Adds a line, with what it writes and with the counts after it.
+    /// Adds a line, with what it writes and what the first controller has after it.
     fn add(
         &mut self,
         line: &str,
         out: String,
         message: String,
-        counts: (u64, u64),
+        kept: Kept,
     ) -> Result<(), AllocError> {
         write!(self.script, "{line}\n")?;
-        let (refusals, commands) = counts;
-        self.lines.push(Line {
-            out,
-            message,
-            refusals,
-            commands,
-        })?;
+        self.lines.push(Line { out, message, kept })?;
         Ok(())
     }
 
-    /// A line that prints a text.
+    /// A line that prints a text, and leaves the write cache as it is.
     pub(crate) fn prints(
         &mut self,
         alloc: Global,
@@ -96,8 +86,20 @@ impl Case {
         text: &str,
         counts: (u64, u64),
     ) -> Result<(), AllocError> {
+        let cache = self.kept(self.lines.len()).cache;
+        self.sets(alloc, line, text, Kept { counts, cache })
+    }
+
+    /// A line that prints a text.
+    pub(crate) fn sets(
+        &mut self,
+        alloc: Global,
+        line: &str,
+        text: &str,
+        kept: Kept,
+    ) -> Result<(), AllocError> {
         let out = format!(in alloc; "{text}\n")?;
-        self.add(line, out, String::new(alloc), counts)
+        self.add(line, out, String::new(alloc), kept)
     }
 
     /// A line that is refused with a status.
@@ -108,9 +110,10 @@ impl Case {
         status: &str,
         counts: (u64, u64),
     ) -> Result<(), AllocError> {
+        let cache = self.kept(self.lines.len()).cache;
         let number = self.lines.len().saturating_add(1);
         let message = format!(in alloc; "line {number}: NVMe status: {status}\n")?;
-        self.add(line, String::new(alloc), message, counts)
+        self.add(line, String::new(alloc), message, Kept { counts, cache })
     }
 
     /// What the first lines write on a stream.
@@ -127,11 +130,11 @@ impl Case {
         Ok(text)
     }
 
-    /// The counts of refusals and commands of the first controller after so many lines.
-    pub(crate) fn counts(&self, lines: usize) -> (u64, u64) {
+    /// What the first controller has after so many lines.
+    pub(crate) fn kept(&self, lines: usize) -> Kept {
         match self.lines.iter().take(lines).last() {
-            Some(line) => (line.refusals, line.commands),
-            None => (0, 0),
+            Some(line) => line.kept,
+            None => self.before,
         }
     }
 
@@ -145,8 +148,7 @@ impl Case {
 
     /// The controllers of its subsystem, after power on; none where memory was refused.
     pub(crate) fn machine(&self, alloc: Global) -> Option<Machine>
-        ensures bus { IfSome result IsBus }
-        ensures enabled { IfSome result (λ m. All IsEnabledWhereReady m.ports) }
+        ensures { IfSome result IsBus }
     {
         let subsystem = Subsystem::from_toml(alloc, self.file.as_bytes()).ok()?;
         Machine::new(alloc, subsystem).ok()

@@ -1,14 +1,20 @@
 //! The scripts that are cut short.
 
 use crate::case::Case;
+use crate::kept::Kept;
 use nv_subsystem::DEMO;
 use std::alloc::{AllocError, Global};
+
+/// The write cache's value where it is on, as in the demonstration subsystem.
+const ON: Option<u32> = Some(1);
+
+const OFF: Option<u32> = Some(0);
 
 const NAMESPACE: &str = "Invalid Namespace or Format (0x600b)";
 
 /// Two lines that list, and one that is refused.
 fn lists(alloc: Global) -> Result<Case, AllocError> {
-    let mut case = Case::new(alloc, DEMO)?;
+    let mut case = Case::new(alloc, DEMO, ON)?;
     let list = "list-ns /dev/nvme0";
     case.prints(alloc, list, "[   0]:0x1\n[   1]:0x3", (0, 1))?;
     case.refused(alloc, "id-ns /dev/nvme0 -n 0", NAMESPACE, (1, 2))?;
@@ -18,7 +24,7 @@ fn lists(alloc: Global) -> Result<Case, AllocError> {
 
 /// A namespace of all that is left, one more, and the error that this makes.
 fn capacity(alloc: Global) -> Result<Case, AllocError> {
-    let mut case = Case::new(alloc, DEMO)?;
+    let mut case = Case::new(alloc, DEMO, ON)?;
     case.prints(
         alloc,
         "create-ns /dev/nvme0 -s 18423 -c 18423",
@@ -60,7 +66,7 @@ const ERRORS: &str = "{\"errors\":[\
 
 /// Three refusals, and the log of them in JSON.
 fn errors(alloc: Global) -> Result<Case, AllocError> {
-    let mut case = Case::new(alloc, DEMO)?;
+    let mut case = Case::new(alloc, DEMO, ON)?;
     case.refused(alloc, "id-ns /dev/nvme0 -n 0", NAMESPACE, (1, 1))?;
     case.refused(alloc, "id-ns /dev/nvme0 -n 9", NAMESPACE, (2, 2))?;
     let field = "Invalid Field in Command (0x6002)";
@@ -72,7 +78,7 @@ fn errors(alloc: Global) -> Result<Case, AllocError> {
 /// A log of 256 entries after 300 refusals.
 fn longest_log(alloc: Global) -> Result<Case, AllocError> {
     let file = DEMO.replace(alloc, "elpe = 3", "elpe = 255")?;
-    let mut case = Case::new(alloc, file.as_str())?;
+    let mut case = Case::new(alloc, file.as_str(), ON)?;
     for count in 1..301u64 {
         case.refused(alloc, "id-ns /dev/nvme0 -n 0", NAMESPACE, (count, count))?;
     }
@@ -136,7 +142,7 @@ fn add_device(text: &mut String, controller: u32, nsid: u32) -> Result<(), Alloc
 /// The list of forty namespaces on two controllers, in JSON.
 fn shared(alloc: Global) -> Result<Case, AllocError> {
     let file = shared_file(alloc)?;
-    let mut case = Case::new(alloc, file.as_str())?;
+    let mut case = Case::new(alloc, file.as_str(), None)?;
     let mut text = String::from_str(alloc, "{\"devices\":[")?;
     for controller in 0..2u32 {
         for nsid in 1..41u32 {
@@ -149,6 +155,37 @@ fn shared(alloc: Global) -> Result<Case, AllocError> {
     Ok(case)
 }
 
+/// A line that sets the write cache, and one that resets the controller.
+const SET_OFF: (&str, &str) = (
+    "set-feature /dev/nvme0 -f 6 -v 0",
+    "set-feature:0x6 (Volatile Write Cache), value:0x0, save:0",
+);
+
+const RESET: (&str, &str) = ("reset /dev/nvme0", "reset: Success");
+
+/// A value that a reset takes back, twice, and one that is saved.
+fn resets(alloc: Global) -> Result<Case, AllocError> {
+    let mut case = Case::new(alloc, DEMO, ON)?;
+    for (line, text, counts, cache) in [
+        (SET_OFF.0, SET_OFF.1, (0, 1), OFF),
+        (RESET.0, RESET.1, (0, 1), ON),
+        (SET_OFF.0, SET_OFF.1, (0, 2), OFF),
+        (RESET.0, RESET.1, (0, 2), ON),
+        (
+            "set-feature /dev/nvme0 -f 6 -v 0 -s",
+            "set-feature:0x6 (Volatile Write Cache), value:0x0, save:1",
+            (0, 3),
+            OFF,
+        ),
+        (RESET.0, RESET.1, (0, 3), OFF),
+    ] {
+        case.sets(alloc, line, text, Kept { counts, cache })?;
+    }
+    case.refused(alloc, "id-ns /dev/nvme0 -n 0", NAMESPACE, (1, 4))?;
+    case.prints(alloc, RESET.0, RESET.1, (1, 4))?;
+    Ok(case)
+}
+
 /// All of them.
 pub(crate) fn cases(alloc: Global) -> Result<Vec<Case>, AllocError> {
     let mut cases = Vec::new(alloc);
@@ -157,5 +194,6 @@ pub(crate) fn cases(alloc: Global) -> Result<Vec<Case>, AllocError> {
     cases.push(errors(alloc)?)?;
     cases.push(longest_log(alloc)?)?;
     cases.push(shared(alloc)?)?;
+    cases.push(resets(alloc)?)?;
     Ok(cases)
 }

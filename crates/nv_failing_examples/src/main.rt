@@ -9,6 +9,7 @@ mod cases;
 mod cut_sink;
 #[cfg(test)]
 mod cut_source;
+mod kept;
 mod memory;
 #[cfg(test)]
 mod reads;

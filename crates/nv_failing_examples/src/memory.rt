@@ -1,7 +1,8 @@
 //! Memory that is refused at any place: all texts of the lines before stand whole, nothing of the
 //! line's own, and of its commands none, some or all were executed.
 
-use crate::case::{Case, Stream, counts_of};
+use crate::case::{Case, Stream};
+use crate::kept::Kept;
 use nv_script::{Geometry, OverRead, OverWrite, RunEnd, run};
 use std::alloc::{AllocError, Global};
 use std::{fmt, io};
@@ -30,30 +31,26 @@ impl fmt::Display for Left {
     }
 }
 
-/// What the two streams took, and what the first controller has counted.
+/// What the two streams took, and what the first controller has.
 #[derive(Drop)]
 struct Streams {
     out: Vec<u8>,
     messages: Vec<u8>,
-    refusals: u64,
-    commands: u64,
+    kept: Kept,
 }
 
 impl Streams {
     /// Whether they hold the texts of the first lines and nothing else, and the controller has
-    /// counted what it has after them, or after some commands of the next line.
+    /// what it has after them, or after some commands of the next line.
     fn are_of(&self, alloc: Global, case: &Case, lines: usize) -> Result<bool, AllocError> {
         let out = case.text(alloc, Stream::Output, lines)?;
         let messages = case.text(alloc, Stream::Messages, lines)?;
-        let (least_refusals, least) = case.counts(lines);
-        let (most_refusals, most) = case.counts(lines.saturating_add(1));
+        let before = case.kept(lines);
+        let after = case.kept(lines.saturating_add(1));
         Ok(
             self.out.as_slice() == out.as_bytes()
                 && self.messages.as_slice() == messages.as_bytes()
-                && least_refusals <= self.refusals
-                && self.refusals <= most_refusals
-                && least <= self.commands
-                && self.commands <= most,
+                && self.kept.is_between(before, after),
         )
     }
 
@@ -84,12 +81,10 @@ pub(crate) fn run_case(alloc: Global, case: &Case) -> io::Result<Left> {
         &mut out,
         &mut messages,
     );
-    let (refusals, commands) = counts_of(&machine);
     let streams = Streams {
         out: out.into_inner(),
         messages: messages.into_inner(),
-        refusals,
-        commands,
+        kept: Kept::of(&machine),
     };
     let is_right = match end {
         RunEnd::Status(status) => {

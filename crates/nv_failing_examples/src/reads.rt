@@ -2,9 +2,10 @@
 
 ghost use Rattle.std.specs.Prelude.{◌<◌};
 
-use crate::case::{Case, Stream, counts_of};
+use crate::case::{Case, Stream};
 use crate::cases::cases;
 use crate::cut_source::CutSource;
+use crate::kept::Kept;
 use nv_controller::Machine;
 use nv_script::{Geometry, OverWrite, RunEnd, run, run_within};
 use nv_subsystem::{DEMO, Subsystem};
@@ -50,7 +51,7 @@ fn fails_at(
     assert!(rt; out.into_inner().as_slice() == output.as_bytes());
     let message = case.text(alloc, Stream::Messages, lines)?;
     assert!(rt; messages.into_inner().as_slice() == message.as_bytes());
-    assert!(rt; counts_of(&machine) == case.counts(lines));
+    assert!(rt; Kept::of(&machine) == case.kept(lines));
     match end {
         RunEnd::Read => Ok(true),
         RunEnd::Status(_) => {

@@ -1,9 +1,10 @@
 //! A write that fails at each call: all texts of the lines before stand whole, of the line's own
 //! text a beginning, and the line has been executed.
 
-use crate::case::{Case, Stream, counts_of};
+use crate::case::{Case, Stream};
 use crate::cases::cases;
 use crate::cut_sink::CutSink;
+use crate::kept::Kept;
 use nv_script::{Geometry, OverRead, RunEnd, run};
 use std::alloc::Global;
 use std::process::Abort;
@@ -64,7 +65,7 @@ fn fails_after(
     assert!(rt; whole.as_bytes().starts_with(failing.taken.as_slice()));
     let before = case.text(alloc, stream.other(), cut)?;
     assert!(rt; other.taken.as_slice() == before.as_bytes());
-    assert!(rt; counts_of(&machine) == case.counts(cut.saturating_add(1)));
+    assert!(rt; Kept::of(&machine) == case.kept(cut.saturating_add(1)));
     Ok(true)
 }
 

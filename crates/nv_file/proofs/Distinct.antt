@@ -4,7 +4,7 @@ use Rattle.std.specs.Prelude.{AllPairs}
 use Rattle.std.specs.List.{list_any}
 use Rattle.std.proofs.lemmas.List.{map_push}
 use Rattle.std.proofs.lemmas.List.Quantifiers.{all_pairs_push}
-use Rattle.nv_file.specs.declared.feature_rule.FeatureRule.{FeatureRule}
+use Rattle.nv_model.specs.declared.feature_rule.FeatureRule.{FeatureRule}
 use Rattle.nv_file.specs.declared.controller.ControllerEntry.{ControllerEntry}
 use Rattle.nv_file.specs.declared.namespace.NamespaceEntry.{NamespaceEntry}
 use Rattle.nv_file.specs.FileValue.{controller_entry_view, namespace_entry_view}

@@ -12,7 +12,7 @@ use Rattle.nv_file.specs.declared.error.SubsystemError.TheVariants.{NotToml, Ran
 use Rattle.nv_file.specs.declared.error.SubsystemError.TheVariants.{Attachment}
 use Rattle.nv_file.specs.declared.table_name.TableName.TheVariants as table
 use Rattle.nv_file.specs.declared.key.Key.TheVariants as key
-use Rattle.nv_file.specs.declared.section.TheConstants.{GREATEST_INTEGER}
+use Rattle.nv_model.specs.declared.integer.TheConstants.{GREATEST_INTEGER}
 use Rattle.nv_file.specs.Fault.{◌>>=◌, ensure}
 use Rattle.nv_file.specs.FileValue.{ControllerValue, NamespaceValue, FileValue}
 use Rattle.nv_file.specs.Section.{integer, integer_or, text, tables, tables_or_none, only_known}

@@ -2,14 +2,14 @@
 use Rattle.std.specs.Prelude.{ℕ, ℤ, pos, Bool, List, map, string_bytes}
 use Rattle.std.specs.List.{list_any}
 use Rattle.std.specs.Ordering.{int_eq}
-use Rattle.nv_file.specs.declared.format.Format.{Format}
-use Rattle.nv_file.specs.declared.namespace.Namespace.{Namespace}
-use Rattle.nv_file.specs.declared.feature_rule.FeatureRule.{FeatureRule}
-use Rattle.nv_file.specs.declared.smart_base.SmartBase.{SmartBase}
+use Rattle.nv_model.specs.declared.format.Format.{Format}
+use Rattle.nv_model.specs.declared.namespace.Namespace.{Namespace}
+use Rattle.nv_model.specs.declared.feature_rule.FeatureRule.{FeatureRule}
+use Rattle.nv_model.specs.declared.smart_base.SmartBase.{SmartBase}
 use Rattle.nv_file.specs.declared.controller.ControllerEntry.{ControllerEntry}
 use Rattle.nv_file.specs.declared.namespace.NamespaceEntry.{NamespaceEntry}
 use Rattle.nv_file.specs.declared.file.File.{File}
-use Rattle.nv_file.specs.Identity.{Identity, identity_view}
+use Rattle.nv_model.specs.Identity.{Identity, identity_view}
 
 pub record ControllerValue : Type 0 where
   pub identity : Identity

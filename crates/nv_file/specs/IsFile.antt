@@ -1,11 +1,11 @@
 -- What holds of whatever a file gives.
 use Rattle.std.specs.Prelude.{◌≡◌, ◌≢◌, ℕ, pos, ◌≤◌, false, List, length, sum_by, IsSomeAnd, All}
 use Rattle.std.specs.Prelude.{Any, AllPairs, slice_get}
-use Rattle.nv_file.specs.declared.format.Format.{Format}
+use Rattle.nv_model.specs.declared.format.Format.{Format}
 use Rattle.nv_file.specs.FileValue.{ControllerValue, NamespaceValue, FileValue}
 use Rattle.nv_file.specs.File.{Top}
-use Rattle.nv_file.specs.Ranges.{AreTopKeys, IsFormat, IsFeatureRule, IsSmart, IsIdentity}
-use Rattle.nv_file.specs.Ranges.{IsInFormat}
+use Rattle.nv_model.specs.Ranges.{AreTopKeys, IsFormat, IsFeatureRule, IsSmart, IsIdentity}
+use Rattle.nv_model.specs.Ranges.{IsInFormat}
 
 pub record IsControllerEntry (c : ControllerValue) : Type 0 where
   pub identity : IsIdentity c.identity

@@ -1,12 +1,9 @@
-pub mod Defaults
 pub mod Fault
 pub mod FaultText
 pub mod File
 pub mod FileValue
-pub mod Identity
 pub mod IsFile
 pub mod Names
-pub mod Ranges
 pub mod Section
 pub mod SectionView
 pub mod Tables

@@ -14,7 +14,7 @@ use Rattle.nv_file.specs.declared.table_name.TableName.{TableName}
 use Rattle.nv_file.specs.declared.key.Key.{Key}
 use Rattle.nv_file.specs.Names.{key_text, keys_of}
 use Rattle.nv_file.specs.Fault.{◌>>=◌, ensure}
-use Rattle.nv_file.specs.Ranges.{is_text}
+use Rattle.nv_model.specs.Ranges.{is_text}
 
 -- an integer from low to high
 unfoldable pub in_range : TableName → Key → ℕ → ℕ → ℤ → Result ℕ SubsystemError

@@ -5,22 +5,23 @@ use Rattle.std.specs.Prelude.{slice_index, length, if◌then◌else◌}
 use Rattle.std.specs.List.{list_any}
 use Rattle.std.specs.Option.{ok_or}
 use Rattle.toml.specs.Data.{Members}
-use Rattle.nv_file.specs.declared.format.Format.{Format}
-use Rattle.nv_file.specs.declared.defaults.Defaults.{Defaults}
-use Rattle.nv_file.specs.declared.defaults.Defaults.TheVariants.{One, Thresholds}
-use Rattle.nv_file.specs.declared.feature_rule.FeatureRule.{FeatureRule}
-use Rattle.nv_file.specs.declared.smart_base.Counters.{Counters}
-use Rattle.nv_file.specs.declared.smart_base.SmartBase.{SmartBase}
-use Rattle.nv_file.specs.declared.identity.IdentityNumbers.{IdentityNumbers}
+use Rattle.nv_model.specs.declared.format.Format.{Format}
+use Rattle.nv_model.specs.declared.defaults.Defaults.{Defaults}
+use Rattle.nv_model.specs.declared.defaults.Defaults.TheVariants.{One, Thresholds}
+use Rattle.nv_model.specs.declared.feature_rule.FeatureRule.{FeatureRule}
+use Rattle.nv_model.specs.declared.smart_base.Counters.{Counters}
+use Rattle.nv_model.specs.declared.smart_base.SmartBase.{SmartBase}
+use Rattle.nv_model.specs.declared.identity.IdentityNumbers.{IdentityNumbers}
+use Rattle.nv_model.specs.Formats.{may_extend}
 use Rattle.nv_file.specs.declared.error.SubsystemError.{SubsystemError}
 use Rattle.nv_file.specs.declared.table_name.TableName.TheVariants as table
 use Rattle.nv_file.specs.declared.key.Key.{Key}
 use Rattle.nv_file.specs.declared.key.Key.TheVariants as key
 use Rattle.nv_file.specs.declared.error.SubsystemError.TheVariants.{Range, Repeated}
-use Rattle.nv_file.specs.declared.section.TheConstants.{GREATEST_INTEGER}
+use Rattle.nv_model.specs.declared.integer.TheConstants.{GREATEST_INTEGER}
 use Rattle.nv_file.specs.Fault.{◌>>=◌, ensure}
 use Rattle.nv_layout.specs.Feature as feature
-use Rattle.nv_file.specs.Identity.{Identity}
+use Rattle.nv_model.specs.Identity.{Identity}
 use Rattle.nv_file.specs.FileValue.{ControllerValue, NamespaceValue}
 use Rattle.nv_file.specs.Section.{integer, integer_or, flag_or, text, tables_or_none, table_or_none}
 use Rattle.nv_file.specs.Section.{integers_or_none, integers_in_range_or_none, readings, element}
@@ -212,10 +213,6 @@ controller_entry_of version before members = do
   rules ← readings (feature_of version identity.numbers.wctemp) [] features
   base ← smart_or_zero smart
   Ok (record { identity = identity; rules = rules; smart = base })
-
--- metadata can lie at the end of the blocks of a format that has some, where bit 0 of mc is 1
-abbrev pub may_extend : ℕ → Format → Bool → Bool
-may_extend mc format extended = not extended || (nat_lt 0 format.ms && (bit_and mc 1 == 1))
 
 -- a namespace, with those before it at hand
 unfoldable pub namespace_entry_of : ℕ → ℕ → List Format → List NamespaceValue → Members

@@ -10,12 +10,13 @@ ghost use Rattle.nv_file.specs.Tables.{controller_entry_of};
 ghost use Rattle.nv_file.specs.IsFile.{IsControllerEntry};
 
 use crate::error::SubsystemError;
-use crate::feature_rule::{FeatureRule, features_of};
-use crate::identity::{Identity, identity_of};
+use crate::feature_rule::features_of;
+use crate::identity::identity_of;
 use crate::key::Key;
 use crate::section::Section;
-use crate::smart_base::{SmartBase, smart_or_zero};
+use crate::smart_base::smart_or_zero;
 use crate::table_name::TableName;
+use nv_model::{FeatureRule, Identity, SmartBase};
 use std::alloc::Global;
 use toml::Table;
 

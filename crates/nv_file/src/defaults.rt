@@ -2,7 +2,7 @@
 ghost use Rattle.std.specs.Prelude.{◌≡◌, ◌≤◌, ℕ, true, All, IfOk, IsSomeAnd, length};
 ghost use Rattle.toml.specs.View.{table_view};
 ghost use Rattle.nv_layout.specs.Feature.{feature_of, is_value};
-ghost use Rattle.nv_file.specs.Defaults.{AreDefaults, AreThresholds, default_at};
+ghost use Rattle.nv_model.specs.Defaults.{AreDefaults, AreThresholds, default_at};
 ghost use Rattle.nv_file.specs.Fault.{IsUnlessMemory};
 ghost use Rattle.nv_file.specs.Tables.{default_over, defaults_of, nine, thresholds_or};
 
@@ -11,36 +11,9 @@ use crate::key::Key;
 use crate::section::Section;
 use crate::smart_base::number_at;
 use crate::table_name::TableName;
+use nv_model::Defaults;
 use std::alloc::Global;
 use toml::Table;
-
-/// The values of a feature before any is set.
-#[derive(Clone, Copy, Debug, PartialEq, Eq)]
-pub enum Defaults {
-    /// Of a feature of one value.
-    One(u32),
-    /// Of Temperature Threshold, each list by TMPSEL, in Kelvin.
-    Thresholds { over: [u16; 9], under: [u16; 9] },
-}
-
-impl Defaults {
-    /// The default under a selector: of thresholds that is TMPSEL, plus 16 for those under.
-    pub fn at(self, selector: u8) -> u32
-        ensures { result ≡ default_at self selector }
-    {
-        match self {
-            Defaults::One(value) => value,
-            Defaults::Thresholds { over, under } => {
-                let number = if selector < 16 {
-                    number_at(&over, selector as usize)
-                } else {
-                    number_at(&under, selector as usize - 16)
-                };
-                number as u32
-            }
-        }
-    }
-}
 
 fn nine(numbers: &[u16]) -> [u16; 9]
     ensures exact { result ≡ nine numbers.now }

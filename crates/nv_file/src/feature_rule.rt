@@ -6,29 +6,17 @@ ghost use Rattle.nv_file.specs.Fault.{IsUnlessMemory};
 ghost use Rattle.nv_file.specs.Section.{readings};
 ghost use Rattle.nv_file.specs.SectionView.{tables_view};
 ghost use Rattle.nv_file.specs.Tables.{feature_of};
-ghost use Rattle.nv_file.specs.Ranges.{IsFeatureRule};
+ghost use Rattle.nv_model.specs.Ranges.{IsFeatureRule};
 
-use crate::defaults::{Defaults, defaults_of};
+use crate::defaults::defaults_of;
 use crate::error::{SubsystemError, ensure};
 use crate::key::Key;
 use crate::section::Section;
 use crate::table_name::{TableName, feature_keys};
 use nv_layout::Feature;
+use nv_model::FeatureRule;
 use std::alloc::Global;
 use toml::Table;
-
-/// How a controller treats a feature ("Set Features command", "Feature Specific Information").
-#[derive(Clone, Copy, Debug, PartialEq, Eq)]
-pub struct FeatureRule {
-    /// The feature identifier.
-    pub fid: u8,
-    /// The values before any is set.
-    pub defaults: Defaults,
-    /// Whether a value can be saved; that of Error Recovery never can.
-    pub saveable: bool,
-    /// Whether Set Features can change the value.
-    pub changeable: bool,
-}
 
 fn has_fid(rules: &[FeatureRule], fid: u8) -> bool
     ensures { result ≡ list_any (λ rule. rule.fid == fid) rules.now }

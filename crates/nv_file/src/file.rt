@@ -9,9 +9,10 @@ ghost use Rattle.nv_file.specs.IsFile.{IsFile};
 use crate::attachment::attaches;
 use crate::controller::{ControllerEntry, controller_entries_of};
 use crate::error::{SubsystemError, ensure};
-use crate::format::{Format, formats_of};
+use crate::format::formats_of;
 use crate::namespace::{NamespaceEntry, namespace_entries_of};
 use crate::top::top_of;
+use nv_model::Format;
 use std::alloc::Global;
 use toml::Table;
 

@@ -5,25 +5,15 @@ ghost use Rattle.nv_file.specs.Fault.{IsUnlessMemory};
 ghost use Rattle.nv_file.specs.Section.{readings};
 ghost use Rattle.nv_file.specs.SectionView.{tables_view};
 ghost use Rattle.nv_file.specs.Tables.{format_of};
-ghost use Rattle.nv_file.specs.Ranges.{IsFormat};
+ghost use Rattle.nv_model.specs.Ranges.{IsFormat};
 
 use crate::error::SubsystemError;
 use crate::key::Key;
 use crate::section::Section;
 use crate::table_name::TableName;
+use nv_model::Format;
 use std::alloc::Global;
 use toml::Table;
-
-/// A format of logical blocks ("Identify Namespace Data Structure", LBA Format).
-#[derive(Clone, Copy, Debug, PartialEq, Eq)]
-pub struct Format {
-    /// The size of a logical block as a power of two, 9 to 16.
-    pub lbads: u8,
-    /// The bytes of metadata of a logical block.
-    pub ms: u16,
-    /// The relative performance, 0 to 3.
-    pub rp: u8,
-}
 
 #[tactic(auto, unfolding(crate::specs::Tables::format_of))]
 fn format_of(table: &Table) -> Result<Format, SubsystemError>

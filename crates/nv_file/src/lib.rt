@@ -37,14 +37,12 @@ mod table_name;
 mod top;
 
 pub use controller::ControllerEntry;
-pub use defaults::Defaults;
 pub use demo::DEMO;
 pub use error::SubsystemError;
-pub use feature_rule::FeatureRule;
 pub use file::File;
-pub use format::Format;
-pub use identity::{Identity, IdentityNumbers};
 pub use key::Key;
-pub use namespace::{Namespace, NamespaceEntry};
-pub use smart_base::{Counters, SmartBase};
+pub use namespace::NamespaceEntry;
+pub use nv_model::{
+    Counters, Defaults, FeatureRule, Format, Identity, IdentityNumbers, Namespace, SmartBase,
+};
 pub use table_name::TableName;

@@ -8,30 +8,18 @@ ghost use Rattle.nv_file.specs.Fault.{IsUnlessMemory};
 ghost use Rattle.nv_file.specs.FileValue.{namespace_entry_view};
 ghost use Rattle.nv_file.specs.Section.{readings};
 ghost use Rattle.nv_file.specs.SectionView.{tables_view};
-ghost use Rattle.nv_file.specs.Tables.{may_extend, namespace_entry_of};
-ghost use Rattle.nv_file.specs.Ranges.{IsFormat};
+ghost use Rattle.nv_file.specs.Tables.{namespace_entry_of};
+ghost use Rattle.nv_model.specs.Formats.{may_extend};
+ghost use Rattle.nv_model.specs.Ranges.{IsFormat};
 ghost use Rattle.nv_file.specs.IsFile.{IsNamespaceEntry};
 
 use crate::error::{SubsystemError, ensure};
-use crate::format::Format;
 use crate::key::Key;
-use crate::section::{GREATEST_INTEGER, Section};
+use crate::section::Section;
 use crate::table_name::TableName;
+use nv_model::{Format, GREATEST_INTEGER, Namespace};
 use std::alloc::Global;
 use toml::Table;
-
-/// A namespace, without its NSID and its attachments.
-#[derive(Clone, Copy, Debug, PartialEq, Eq)]
-pub struct Namespace {
-    /// The capacity in bytes.
-    pub capacity: u64,
-    /// The index of its format, 0 to 15.
-    pub format: u8,
-    /// Whether metadata lies at the end of each logical block.
-    pub extended: bool,
-    /// Whether more than one controller may have it attached.
-    pub shared: bool,
-}
 
 /// A namespace of a file, with the identifiers of the controllers that it is attached to.
 #[derive(Debug, Drop)]

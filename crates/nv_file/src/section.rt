@@ -13,7 +13,7 @@ ghost use Rattle.nv_file.specs.Section.{text, items_as, tables_in, tables, table
 ghost use Rattle.nv_file.specs.Section.{table_or_none, integers_in, integers_or_none, readings};
 ghost use Rattle.nv_file.specs.Section.{element, has_key, integers_in_range_or_none, only};
 ghost use Rattle.nv_file.specs.Section.{only_known};
-ghost use Rattle.nv_file.specs.Ranges.{is_text};
+ghost use Rattle.nv_model.specs.Ranges.{is_text};
 ghost use Rattle.nv_file.specs.SectionView.{tables_view};
 
 use crate::error::{SubsystemError, ensure};
@@ -21,9 +21,6 @@ use crate::key::Key;
 use crate::table_name::TableName;
 use std::alloc::Global;
 use toml::{Table, Value};
-
-/// The greatest integer that a file can spell.
-pub const GREATEST_INTEGER: u64 = 9223372036854775807;
 
 /// A table of the file, with the name that a fault gives it.
 #[derive(Clone, Copy)]

@@ -3,53 +3,15 @@ ghost use Rattle.std.specs.Prelude.{◌≡◌, ◌≤◌, All, IfOk, option_map,
 ghost use Rattle.toml.specs.View.{table_view};
 ghost use Rattle.nv_file.specs.Fault.{IsUnlessMemory};
 ghost use Rattle.nv_file.specs.Tables.{counters_of, eight, smart_of, zero_smart, smart_or_zero};
-ghost use Rattle.nv_file.specs.Ranges.{IsCounters, IsSmart};
+ghost use Rattle.nv_model.specs.Ranges.{IsCounters, IsSmart};
 
 use crate::error::SubsystemError;
 use crate::key::Key;
-use crate::section::{GREATEST_INTEGER, Section};
+use crate::section::Section;
 use crate::table_name::TableName;
+use nv_model::{Counters, GREATEST_INTEGER, SmartBase};
 use std::alloc::Global;
 use toml::Table;
-
-/// The counters of the health log that the file gives ("SMART / Health Information").
-#[derive(Clone, Copy, Debug, PartialEq, Eq)]
-pub struct Counters {
-    /// Thousands of 512 bytes that hosts read.
-    pub data_units_read: u64,
-    /// Thousands of 512 bytes that hosts wrote.
-    pub data_units_written: u64,
-    pub host_read_commands: u64,
-    pub host_write_commands: u64,
-    /// In minutes.
-    pub controller_busy_time: u64,
-    pub power_cycles: u64,
-    pub power_on_hours: u64,
-    pub unsafe_shutdowns: u64,
-    pub media_errors: u64,
-}
-
-/// What the file gives of the health log ("SMART / Health Information").
-#[derive(Clone, Copy, Debug, PartialEq, Eq)]
-pub struct SmartBase {
-    /// The bits of the warnings.
-    pub critical_warning: u8,
-    /// The composite temperature in Kelvin.
-    pub temperature: u16,
-    /// In percent.
-    pub avail_spare: u8,
-    /// In percent.
-    pub spare_thresh: u8,
-    /// In percent; it may pass 100.
-    pub percent_used: u8,
-    pub counters: Counters,
-    /// Minutes at a warning temperature.
-    pub warning_temp_time: u32,
-    /// Minutes at a critical temperature.
-    pub critical_comp_time: u32,
-    /// The temperature sensors in Kelvin; 0 is a sensor that isn't there.
-    pub sensors: [u16; 8],
-}
 
 #[tactic(auto, unfolding(crate::specs::Tables::counters_of))]
 fn counters_of(table: &Table) -> Result<Counters, SubsystemError>

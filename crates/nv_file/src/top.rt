@@ -8,8 +8,9 @@ ghost use Rattle.nv_file.specs.IsFile.{IsTop};
 
 use crate::error::{SubsystemError, ensure};
 use crate::key::Key;
-use crate::section::{GREATEST_INTEGER, Section};
+use crate::section::Section;
 use crate::table_name::TableName;
+use nv_model::GREATEST_INTEGER;
 use std::alloc::Global;
 use toml::Table;
 

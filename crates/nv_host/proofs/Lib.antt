@@ -1,1 +1,3 @@
 pub mod PageSetLaws
+pub mod BytesLaws
+pub mod PageLaws

@@ -5,7 +5,7 @@ use Rattle.std.specs.Ordering.{nat_cmp}
 use Rattle.std.specs.FinMap as map
 use Rattle.std.specs.FinSet as set
 use Rattle.nv_bits.specs.BitSet.{RangeSet}
-use Rattle.nv_bits.specs.NumberLaws.{get_of_insert, get_of_remove}
+use Rattle.nv_bits.proofs.NumberLaws.{get_of_insert, get_of_remove}
 use Rattle.nv_bits.specs.Numbers.{IsLowest, NumberSet, all_of, by_place, insert}
 use Rattle.nv_host.specs.PageSets.{Pages, as_set, consecutive, contains_of_insert, contains_of_remove, pages_of}
 

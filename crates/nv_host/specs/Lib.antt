@@ -1,5 +1,4 @@
 pub mod Bytes
 pub mod Pages
 pub mod PageSets
-pub mod BytesLaws
-pub mod PageLaws
+pub mod FlatMemory

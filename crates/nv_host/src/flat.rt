@@ -3,7 +3,7 @@
 ghost use Rattle.std.specs.Prelude.{◌≡◌, ◌+◌, ◌*◌, ◌≤◌, ◌↔◌, IfOk, IsOk, length, refl, replicate};
 ghost use Rattle.std.specs.Prelude.{take};
 ghost use Rattle.nv_host.specs.Bytes.{with_bytes};
-ghost use Rattle.nv_host.specs.BytesLaws.{page_within, take-with_bytes};
+ghost use Rattle.nv_host.specs.FlatMemory.{page_within, take-with_bytes};
 ghost use Rattle.nv_host.specs.Pages.{IsPageSize};
 
 use crate::{HostMemory, Memory, OutOfMemoryRange};
@@ -32,7 +32,7 @@ impl Model for FlatMemory {
 impl FlatMemory {
     /// A memory of this many pages, all of whose bytes are 0. A page has 4096, 8192, 16384, 32768
     /// or 65536 bytes.
-    #[tactic(auto, using(crate::specs::PageLaws::page_size_bounds))]
+    #[tactic(auto, using(crate::proofs::PageLaws::page_size_bounds))]
     pub fn new(alloc: Global, page_size: u32, pages: u32) -> Result<FlatMemory, Memory>
         requires { IsPageSize page_size }
         ensures { IfOk result (λ m. m ≡ record {

@@ -14,7 +14,7 @@ pub fn load_inside<M: HostMemory>(mem: &M, addr: u64, out: &mut [u8])
 }
 
 /// Writes the bytes from an address on.
-#[tactic(auto, using(crate::specs::BytesLaws::length_with_bytes))]
+#[tactic(auto, using(crate::proofs::BytesLaws::length_with_bytes))]
 pub fn store_inside<M: HostMemory>(mem: &mut M, addr: u64, source: &[u8])
     requires { addr + length source.now ≤ length (M.bytes mem.old) }
     ensures bytes { M.bytes mem.new ≡ with_bytes (M.bytes mem.old) addr source.now }

@@ -9,10 +9,3 @@ pub mod IdCtrl
 pub mod Smart
 pub mod ErrorEntry
 pub mod Feature
-pub mod FeatureTableLaws
-pub mod PartLaws
-pub mod TableLaws
-pub mod NsListLaws
-pub mod IdentifyLaws
-pub mod RecordLaws
-pub mod LogLaws

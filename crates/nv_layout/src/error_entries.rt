@@ -80,7 +80,7 @@ impl<'a> ErrorEntries<'a> {
 }
 
 /// Writes the bytes of an entry from a place on, as many as there is room for.
-#[tactic(auto, using(crate::specs::PartLaws::part_within))]
+#[tactic(auto, using(crate::proofs::PartLaws::part_within))]
 fn put_part(entry: &ErrorEntry, from: usize, out: &mut [u8])
     requires { from + length out.old ≤ 64 }
     ensures { out.new ≡ part (bytes_of_error_entry entry.now) from (length out.old) }

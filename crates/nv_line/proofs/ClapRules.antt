@@ -12,7 +12,7 @@ use Rattle.nv_line.specs.declared.verb.Verb.{Verb}
 use Rattle.nv_line.specs.declared.verb.Verb.TheVariants.{Of, List as ListAll}
 use Rattle.nv_line.specs.declared.verb.DeviceVerb.TheVariants.{IdCtrl, IdNs, ListNs, CreateNs}
 use Rattle.nv_line.specs.declared.verb.DeviceVerb.TheVariants.{AttachNs, DetachNs, DeleteNs, Format}
-use Rattle.nv_line.specs.declared.verb.DeviceVerb.TheVariants.{GetFeature, SetFeature, SmartLog, ErrorLog}
+use Rattle.nv_line.specs.declared.verb.DeviceVerb.TheVariants.{GetFeature, SetFeature, SmartLog, ErrorLog, Reset}
 
 each_is_simple : (v : Verb) → is_simple_and_free (app_for v) ≡ true
 each_is_simple (Of IdCtrl) = refl
@@ -27,6 +27,7 @@ each_is_simple (Of GetFeature) = refl
 each_is_simple (Of SetFeature) = refl
 each_is_simple (Of SmartLog) = refl
 each_is_simple (Of ErrorLog) = refl
+each_is_simple (Of Reset) = refl
 each_is_simple ListAll = refl
 
 pub simple_as : (v : Verb) (a : App) → a ≡ app_for v → is_simple_and_free a ≡ true

@@ -25,7 +25,7 @@ use Rattle.nv_line.specs.declared.verb.DeviceVerb.{DeviceVerb}
 use Rattle.nv_line.specs.declared.verb.DeviceVerb.TheVariants.{IdCtrl, IdNs, ListNs, CreateNs}
 use Rattle.nv_line.specs.declared.verb.DeviceVerb.TheVariants.{AttachNs, DetachNs, DeleteNs, Format}
 use Rattle.nv_line.specs.declared.verb.DeviceVerb.TheVariants.{GetFeature, SetFeature, SmartLog}
-use Rattle.nv_line.specs.declared.verb.DeviceVerb.TheVariants.{ErrorLog}
+use Rattle.nv_line.specs.declared.verb.DeviceVerb.TheVariants.{ErrorLog, Reset}
 use Rattle.nv_line.specs.declared.verb.TheConstants.{OUTPUT_FORMAT}
 use Rattle.nv_line.specs.declared.verb.Verb.{Verb}
 use Rattle.nv_line.specs.declared.verb.Verb.TheVariants.{Of, List}
@@ -44,6 +44,7 @@ ask_of GetFeature = get_feature_of
 ask_of SetFeature = set_feature_of
 ask_of SmartLog = smart_log_of
 ask_of ErrorLog = error_log_of
+ask_of Reset = λ rows device. Ok ask.Reset
 
 abbrev pub device_in : ℕ → ListOf Row → Result Device LineFault
 device_in controllers rows =

@@ -6,12 +6,12 @@ use Rattle.nv_line.specs.declared.option.CommandOption.{CommandOption}
 use Rattle.nv_line.specs.declared.verb.TheConstants.{VERBS, ATTACHMENT, CREATE_NS, DELETE_NS}
 use Rattle.nv_line.specs.declared.verb.TheConstants.{ERROR_LOG, FORMAT}
 use Rattle.nv_line.specs.declared.verb.TheConstants.{FORMAT_ALONE, GET_FEATURE, ID_NS, LIST_NS}
-use Rattle.nv_line.specs.declared.verb.TheConstants.{SET_FEATURE, SMART_LOG}
+use Rattle.nv_line.specs.declared.verb.TheConstants.{RESET, SET_FEATURE, SMART_LOG}
 use Rattle.nv_line.specs.declared.verb.DeviceVerb.{DeviceVerb}
 use Rattle.nv_line.specs.declared.verb.DeviceVerb.TheVariants.{IdCtrl, IdNs, ListNs, CreateNs}
 use Rattle.nv_line.specs.declared.verb.DeviceVerb.TheVariants.{AttachNs, DetachNs, DeleteNs, Format}
 use Rattle.nv_line.specs.declared.verb.DeviceVerb.TheVariants.{GetFeature, SetFeature, SmartLog}
-use Rattle.nv_line.specs.declared.verb.DeviceVerb.TheVariants.{ErrorLog}
+use Rattle.nv_line.specs.declared.verb.DeviceVerb.TheVariants.{ErrorLog, Reset}
 use Rattle.nv_line.specs.declared.verb.Verb.{Verb}
 use Rattle.nv_line.specs.declared.verb.Verb.TheVariants.{Of, List}
 
@@ -28,6 +28,7 @@ device_word_of GetFeature = codes "get-feature"
 device_word_of SetFeature = codes "set-feature"
 device_word_of SmartLog = codes "smart-log"
 device_word_of ErrorLog = codes "error-log"
+device_word_of Reset = codes "reset"
 
 abbrev pub word_of : Verb → Text
 word_of (Of verb) = device_word_of verb
@@ -47,6 +48,7 @@ device_options_of GetFeature = GET_FEATURE
 device_options_of SetFeature = SET_FEATURE
 device_options_of SmartLog = SMART_LOG
 device_options_of ErrorLog = ERROR_LOG
+device_options_of Reset = RESET
 
 abbrev pub options_of : Verb → ListOf CommandOption
 options_of (Of verb) = device_options_of verb

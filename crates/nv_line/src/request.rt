@@ -87,6 +87,8 @@ pub enum Ask {
     ErrorLog {
         entries: u32,
     },
+    /// The controller is reset ("Controller Level Reset").
+    Reset,
 }
 
 /// What one controller is asked.
@@ -144,6 +146,7 @@ fn read_ask(
         DeviceVerb::SetFeature => set_feature(matches, device),
         DeviceVerb::SmartLog => smart_log(matches, device),
         DeviceVerb::ErrorLog => error_log(matches, device),
+        DeviceVerb::Reset => Ok(Ask::Reset),
     }
 }
 

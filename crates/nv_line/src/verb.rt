@@ -196,7 +196,7 @@ pub const OUTPUT_FORMAT: FormatOption = FormatOption {
     letter: 'o',
 };
 
-static VERBS: [Verb; 13] = [
+static VERBS: [Verb; 14] = [
     Verb::Of(DeviceVerb::IdCtrl),
     Verb::Of(DeviceVerb::IdNs),
     Verb::Of(DeviceVerb::ListNs),
@@ -209,6 +209,7 @@ static VERBS: [Verb; 13] = [
     Verb::Of(DeviceVerb::SetFeature),
     Verb::Of(DeviceVerb::SmartLog),
     Verb::Of(DeviceVerb::ErrorLog),
+    Verb::Of(DeviceVerb::Reset),
     Verb::List,
 ];
 
@@ -275,6 +276,8 @@ static ERROR_LOG: [CommandOption; 2] = [
     CommandOption::Format(OUTPUT_FORMAT),
 ];
 
+static RESET: [CommandOption; 0] = [];
+
 /// The word of a command that is given to one device.
 #[derive(Clone, Copy, PartialEq, Eq)]
 pub enum DeviceVerb {
@@ -290,6 +293,7 @@ pub enum DeviceVerb {
     SetFeature,
     SmartLog,
     ErrorLog,
+    Reset,
 }
 
 /// A command word.
@@ -320,6 +324,7 @@ impl DeviceVerb {
             DeviceVerb::SetFeature => "set-feature",
             DeviceVerb::SmartLog => "smart-log",
             DeviceVerb::ErrorLog => "error-log",
+            DeviceVerb::Reset => "reset",
         }
     }
 
@@ -339,6 +344,7 @@ impl DeviceVerb {
             DeviceVerb::SetFeature => SET_FEATURE.as_slice(),
             DeviceVerb::SmartLog => SMART_LOG.as_slice(),
             DeviceVerb::ErrorLog => ERROR_LOG.as_slice(),
+            DeviceVerb::Reset => RESET.as_slice(),
         }
     }
 }

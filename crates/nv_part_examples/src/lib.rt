@@ -24,3 +24,5 @@ mod queue;
 mod records_of_logs;
 #[cfg(test)]
 mod register;
+#[cfg(test)]
+mod rings_anew;

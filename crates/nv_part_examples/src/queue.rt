@@ -9,9 +9,9 @@ use nv_queue::*;
 use std::alloc::AllocError;
 use std::process::Abort;
 
-const COMPLETIONS: u64 = 0x40000;
+pub(crate) const COMPLETIONS: u64 = 0x40000;
 
-fn command(number: u16) -> Sqe {
+pub(crate) fn command(number: u16) -> Sqe {
     Sqe {
         opcode: 0x06,
         fuse: 0,
@@ -31,7 +31,7 @@ fn command(number: u16) -> Sqe {
 }
 
 /// The completion of a command, with this SQ head and a phase tag that a ring is to replace.
-fn completion(number: u16, sq_head: u16, phase: bool) -> Cqe {
+pub(crate) fn completion(number: u16, sq_head: u16, phase: bool) -> Cqe {
     let status = Status {
         sc: 0x0b,
         sct: 0,
@@ -49,7 +49,7 @@ fn completion(number: u16, sq_head: u16, phase: bool) -> Cqe {
     }
 }
 
-fn put(rt: &impl Abort, ring: &mut Post, mem: &mut FlatMemory, number: u16)
+pub(crate) fn put(rt: &impl Abort, ring: &mut Post, mem: &mut FlatMemory, number: u16)
     ensures { length mem.new.bytes ≡ length mem.old.bytes }
 {
     let phase = ring.phase();
@@ -58,7 +58,7 @@ fn put(rt: &impl Abort, ring: &mut Post, mem: &mut FlatMemory, number: u16)
 }
 
 /// The completion of this number stands in this slot, with this phase tag.
-fn stands(rt: &impl Abort, mem: &FlatMemory, slot: u64, number: u16, phase: bool) {
+pub(crate) fn stands(rt: &impl Abort, mem: &FlatMemory, slot: u64, number: u16, phase: bool) {
     let mut bytes = [0; 16];
     assert_eq!(rt;
         mem.load(COMPLETIONS.wrapping_add(slot.wrapping_mul(16)), &mut bytes),
@@ -153,11 +153,27 @@ fn heads_that_are_ignored(rt: HostRuntime) {
 
 /// Both sides of both rings.
 #[derive(Drop)]
-struct Pair {
-    submit: SubmitRing,
-    fetch: Fetch,
-    post: Post,
-    collect: CompletionRing,
+pub(crate) struct Pair {
+    pub(crate) submit: SubmitRing,
+    pub(crate) fetch: Fetch,
+    pub(crate) post: Post,
+    pub(crate) collect: CompletionRing,
+}
+
+impl Pair {
+    /// Rings of this depth, submissions from place 0 on.
+    pub(crate) fn new(depth: u16) -> Pair
+        requires { IsDepth depth }
+        ensures submit { (result.submit.base ≡ 0) × (result.submit.depth ≡ depth) }
+        ensures collect { (result.collect.base ≡ 262144) × (result.collect.depth ≡ depth) }
+    {
+        Pair {
+            submit: SubmitRing::new(0, depth),
+            fetch: Fetch::new(0, depth),
+            post: Post::new(COMPLETIONS, depth),
+            collect: CompletionRing::new(COMPLETIONS, depth),
+        }
+    }
 }
 
 /// One command there and back, by the numbers that the rings must show.
@@ -203,6 +219,28 @@ fn exchange(rt: &impl Abort, pair: &mut Pair, mem: &mut FlatMemory, depth: u16, 
     pair.submit.freed(next);
 }
 
+/// The first commands there and back, of rings that are new.
+pub(crate) fn exchange_first(
+    rt: &impl Abort,
+    pair: &mut Pair,
+    mem: &mut FlatMemory,
+    depth: u16,
+    count: u16,
+)
+    requires deep { IsDepth depth }
+    requires few { count ≤ 3 * depth }
+    requires size { 327680 ≤ length mem.old.bytes }
+    requires submit { (pair.old.submit.base ≡ 0) × (pair.old.submit.depth ≡ depth) }
+    requires collect { (pair.old.collect.base ≡ 262144) × (pair.old.collect.depth ≡ depth) }
+    ensures size { 327680 ≤ length mem.new.bytes }
+    ensures submit { (pair.new.submit.base ≡ 0) × (pair.new.submit.depth ≡ depth) }
+    ensures collect { (pair.new.collect.base ≡ 262144) × (pair.new.collect.depth ≡ depth) }
+{
+    for number in 0..count {
+        exchange(rt, pair, mem, depth, number);
+    }
+}
+
 /// Fills the submission ring, which refuses one more, and leaves it so.
 fn fill(rt: &impl Abort, pair: &mut Pair, mem: &mut FlatMemory, depth: u16)
     requires deep { IsDepth depth }
@@ -227,15 +265,8 @@ fn both_rings_wrap(rt: HostRuntime) {
             return;
         };
         assert!(rt; 2 <= depth && depth <= 4096);
-        let mut pair = Pair {
-            submit: SubmitRing::new(0, depth),
-            fetch: Fetch::new(0, depth),
-            post: Post::new(COMPLETIONS, depth),
-            collect: CompletionRing::new(COMPLETIONS, depth),
-        };
-        for number in 0..3 * depth {
-            exchange(&rt, &mut pair, &mut mem, depth, number);
-        }
+        let mut pair = Pair::new(depth);
+        exchange_first(&rt, &mut pair, &mut mem, depth, 3 * depth);
         fill(&rt, &mut pair, &mut mem, depth);
     }
 }

@@ -173,9 +173,9 @@ fn takes_pages_of_65536_bytes(rt: HostRuntime) {
         ],
     );
     expect(&rt, &port, &[(0x1c, 1)]);
-    match &port.rings {
-        Some(rings) => assert_eq!(rt; rings.page_size, 65536),
-        None => assert!(rt; false),
+    match &port.readiness {
+        Readiness::Ready { rings, .. } => assert_eq!(rt; rings.page_size, 65536),
+        Readiness::Off | Readiness::Failed => assert!(rt; false),
     }
 }
 
@@ -185,9 +185,11 @@ fn rings_by_doorbells(rt: HostRuntime) {
     let mut port = ready();
     for (tail, is_empty) in [(4, true), (0x0001_0001, true), (3, false), (0, true)] {
         port.write32(0x1000, tail);
-        match &port.rings {
-            Some(rings) => assert_eq!(rt; rings.submission.is_empty(), is_empty),
-            None => assert!(rt; false),
+        match &port.readiness {
+            Readiness::Ready { rings, .. } => {
+                assert_eq!(rt; rings.submission.is_empty(), is_empty);
+            }
+            Readiness::Off | Readiness::Failed => assert!(rt; false),
         }
     }
     // New rings are empty.
@@ -195,10 +197,53 @@ fn rings_by_doorbells(rt: HostRuntime) {
         &mut port,
         &[(0x1000, 2), (0x14, 0x0046_0000), (0x14, 0x0046_0001)],
     );
-    match &port.rings {
-        Some(rings) => assert!(rt; rings.submission.is_empty()),
-        None => assert!(rt; false),
+    match &port.readiness {
+        Readiness::Ready { rings, .. } => assert!(rt; rings.submission.is_empty()),
+        Readiness::Off | Readiness::Failed => assert!(rt; false),
     }
+}
+
+/// A write of CC with EN 0 stops what was enabled, whatever else it holds; no other write does.
+#[test]
+fn stops_where_en_is_cleared(rt: HostRuntime) {
+    for (offset, dword, stops) in [
+        (0x14, 0, true),
+        (0x14, 0xffff_fffe, true),
+        (0x14, 0x0046_0000, true),
+        (0x14, 0x0046_0001, false),
+        (0x14, 1, false),
+        (0x15, 0, false),
+        (0x24, 0, false),
+        (0x1000, 0, false),
+        (0x1004, 0, false),
+    ] {
+        let port = ready();
+        assert_eq!(rt; port.stops_at(offset, dword), stops, "{offset}: {dword}");
+        assert!(rt; !Port::new().stops_at(offset, dword));
+    }
+}
+
+/// A turn's fatal status beside RDY 1 goes where EN is cleared, and so does one of a failed start.
+#[test]
+fn a_fatal_status_goes_with_en(rt: HostRuntime) {
+    let mut port = ready();
+    if let Readiness::Ready { fatal, .. } = &mut port.readiness {
+        *fatal = true;
+    }
+    expect(&rt, &port, &[(0x14, 0x0046_0001), (0x1c, 3)]);
+    // While it stands no queue is set.
+    port.write32(0x24, 0);
+    expect(&rt, &port, &[(0x24, 0x0007_0003), (0x1c, 3)]);
+    assert!(rt; port.stops_at(0x14, 0));
+    port.write32(0x14, 0);
+    expect(&rt, &port, &[(0x14, 0x0046_0000), (0x1c, 0)]);
+    port.write32(0x30, 0x2001);
+    port.write32(0x14, 0x0046_0001);
+    expect(&rt, &port, &[(0x14, 0x0046_0001), (0x1c, 2)]);
+    assert!(rt; port.stops_at(0x14, 0));
+    port.write32(0x14, 0);
+    assert!(rt; !port.stops_at(0x14, 0));
+    expect(&rt, &port, &[(0x14, 0x0046_0000), (0x1c, 0)]);
 }
 
 /// Writes AQA, ASQ and ACQ.

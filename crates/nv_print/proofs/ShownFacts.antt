@@ -32,3 +32,4 @@ data_no_float (shown.Deleted nsid) = refl
 data_no_float (shown.Formatted nsid) = refl
 data_no_float (shown.FeatureValue f s v) = refl
 data_no_float (shown.FeatureSet f v s) = refl
+data_no_float shown.Reset = refl

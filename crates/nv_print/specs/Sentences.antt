@@ -43,3 +43,7 @@ abbrev pub feature_set : Feature → ℕ → Bool → List ℕ
 feature_set f value save =
     codes "set-feature:" ++ (feature_text f ++ (codes ", value:" ++ (hexadecimal value
     ++ (codes ", save:" ++ (decimal (bit save) ++ 10 ∷ [])))))
+
+-- "reset: Success", and a newline
+abbrev pub reset_done : List ℕ
+reset_done = codes "reset: Success" ++ 10 ∷ []

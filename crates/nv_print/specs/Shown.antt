@@ -9,7 +9,7 @@ use Rattle.nv_print.specs.IdCtrl.{fields_of_id_ctrl}
 use Rattle.nv_print.specs.IdNs.{namespace_data, namespace_text}
 use Rattle.nv_print.specs.Logs.{entries_data, entries_text, fields_of_smart, holds_error}
 use Rattle.nv_print.specs.NsList.{nsids_data, nsids_text}
-use Rattle.nv_print.specs.Sentences.{feature_set, feature_value, success}
+use Rattle.nv_print.specs.Sentences.{feature_set, feature_value, reset_done, success}
 use Rattle.nv_print.specs.declared.shown.Shown.{Shown}
 use Rattle.nv_print.specs.declared.shown.Shown.TheVariants as shown
 
@@ -27,6 +27,7 @@ text_of (shown.Deleted nsid) = success (codes "delete-ns: Success, deleted nsid:
 text_of (shown.Formatted nsid) = success (codes "format: Success, nsid:") nsid
 text_of (shown.FeatureValue feature select value) = feature_value feature select value
 text_of (shown.FeatureSet feature value save) = feature_set feature value save
+text_of shown.Reset = reset_done
 
 -- records and lists have a JSON form, a line has none
 abbrev pub has_json : Shown → Bool

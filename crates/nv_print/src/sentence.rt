@@ -1,7 +1,7 @@
 //! What is shown of a command that has no record: one line.
 
 ghost use Rattle.std.specs.Prelude.{◌≡◌, IfOk, string_bytes};
-ghost use Rattle.nv_print.specs.Sentences.{feature_set, feature_value, success};
+ghost use Rattle.nv_print.specs.Sentences.{feature_set, feature_value, reset_done, success};
 
 use crate::hexadecimal::Hexadecimal;
 use crate::select::Select;
@@ -60,4 +60,11 @@ pub(crate) fn feature_set(
     let value = Hexadecimal(u64::from(value));
     let save = save as u8;
     format!(in alloc; "set-feature:{feature}, value:{value}, save:{save}\n")
+}
+
+/// The line of a controller that was reset.
+pub(crate) fn reset(alloc: Global) -> Result<String, AllocError>
+    ensures { IfOk result (λ t. string_bytes t ≡ reset_done) }
+{
+    format!(in alloc; "reset: Success\n")
 }

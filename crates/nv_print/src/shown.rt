@@ -15,7 +15,7 @@ use crate::logs::{entries_data, entries_text};
 use crate::namespace::{namespace_data, namespace_text};
 use crate::ns_list::{nsids_data, nsids_text};
 use crate::select::Select;
-use crate::sentence::{feature_set, feature_value, success};
+use crate::sentence::{feature_set, feature_value, reset, success};
 use nv_layout::{ErrorEntries, Feature, IdCtrl, IdNs, NamespaceIds, Smart};
 use serde_json::Value;
 use std::alloc::{AllocError, Global};
@@ -67,6 +67,8 @@ pub enum Shown<'a> {
         value: u32,
         save: bool,
     },
+    /// A controller was reset.
+    Reset,
 }
 
 impl Shown<'_> {
@@ -113,6 +115,7 @@ pub fn text(alloc: Global, shown: &Shown) -> Result<String, AllocError>
             value,
             save,
         } => feature_set(alloc, *feature, *value, *save),
+        Shown::Reset => reset(alloc),
     }
 }
 

@@ -4,9 +4,9 @@ use Rattle.std.proofs.lemmas.Bool.{cases_lt, cases_order, lt-ltb}
 use Rattle.std.proofs.lemmas.Nat.{div_below, mod-mul-add}
 use Rattle.std.proofs.lemmas.Bool.Decides.{nat_tests}
 use Rattle.nv_host.specs.Bytes.{bytes_at}
-use Rattle.nv_host.specs.BytesLaws.{bytes_at-bytes_at}
+use Rattle.nv_host.proofs.BytesLaws.{bytes_at-bytes_at}
 use Rattle.nv_host.specs.Pages.{HasPage, IsPageSize}
-use Rattle.nv_host.specs.PageLaws.{page_size_bounds, page_size_in_qwords}
+use Rattle.nv_host.proofs.PageLaws.{page_size_bounds, page_size_in_qwords}
 use Rattle.nv_prp.specs.Buffer.{IsBuffer, IsFor, IsListPlace, KeepsList, NamesPages, buffer_place}
 use Rattle.nv_prp.specs.Transfer.{Transfer, data_pages, entry_fault, list_qwords, naming_number, naming_qword, offset, page_base, place_of, prp2_fault, qword, qword_fault, qword_place, qwords, room}
 use Rattle.nv_prp.proofs.FaultLaws.{multiple_stays, no_fault_at, no_fault_of_page}

@@ -4,12 +4,12 @@ use Rattle.std.proofs.Math.Seq.{take-add, take-suc}
 use Rattle.std.proofs.lemmas.List.{drop-drop, places as item_places, same_lists, take-append-drop, drop_all, drop_more, take_all, get_or-drop, get_or-map, get_or-take, length-take-le, map-append, set_split}
 use Rattle.std.proofs.lemmas.Slice.{take-put_mid}
 use Rattle.nv_host.specs.Bytes.{bytes_at, with_bytes}
-use Rattle.nv_host.specs.BytesLaws.{bytes_at-bytes_at, length-bytes_at, length-with_bytes}
+use Rattle.nv_host.proofs.BytesLaws.{bytes_at-bytes_at, length-bytes_at, length-with_bytes}
 use borrow.Rule.Slice.PartMut.{put_mid}
 use Rattle.std.specs.List.{flat_map}
 use Rattle.std.proofs.lemmas.Grind.{same_number_lists}
 use Rattle.nv_prp.specs.Place.{LieIn, places, read_at, span_places, table, written_at}
-use Rattle.nv_prp.specs.PlaceLaws.{get_or-table, length-read_at, length-span_places, length-table}
+use Rattle.nv_prp.proofs.PlaceLaws.{get_or-table, length-read_at, length-span_places, length-table}
 use Rattle.nv_prp.specs.declared.spans.Span.{Span}
 
 pub none_written : (m : List ℕ) (a : ℕ) → with_bytes m a [] ≡ m

@@ -5,7 +5,7 @@ use Rattle.std.proofs.lemmas.Bool.Decides.{nat_tests}
 use Rattle.std.proofs.lemmas.Bool.{cases_lt, lt-ltb}
 use Rattle.std.proofs.lemmas.Nat.{mod-mul-add}
 use Rattle.nv_host.specs.Pages.{HasPage, IsPageSize}
-use Rattle.nv_host.specs.PageLaws.{page_size_bounds}
+use Rattle.nv_host.proofs.PageLaws.{page_size_bounds}
 use Rattle.nv_prp.specs.Transfer.{entry_fault, IsLegal, Transfer, data_pages, fault_after_prp1, first_fault, first_qword_fault, list_qwords, prp1_fault, prp2_fault, qword_fault, qwords, room}
 use Rattle.std.specs.Option.{option_or}
 use Rattle.nv_prp.specs.declared.error.PrpError.{PrpError}

@@ -5,3 +5,5 @@ pub mod ListLaws
 pub mod WriteLaws
 pub mod SpanLaws
 pub mod BuiltLaws
+pub mod BufferLaws
+pub mod PlaceLaws

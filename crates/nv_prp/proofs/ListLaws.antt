@@ -5,7 +5,7 @@ use Rattle.std.proofs.lemmas.Bool.{lt-ltb}
 use Rattle.std.proofs.lemmas.Bool.Decides.{nat_tests}
 use Rattle.std.proofs.lemmas.Nat.{div-add-mod'}
 use Rattle.nv_host.specs.Pages.{IsPageSize}
-use Rattle.nv_host.specs.PageLaws.{page_size_bounds, page_size_in_qwords}
+use Rattle.nv_host.proofs.PageLaws.{page_size_bounds, page_size_in_qwords}
 use Rattle.nv_prp.specs.ListWalk.{Comes, IsList, Turn, cursor_of, used_of}
 use Rattle.nv_prp.specs.Transfer.{Transfer, data_pages, entry_fault, fault_after_prp1, first_qword_fault, list_place, list_qwords, naming_number, naming_qword, page_base, qword, qword_fault, qword_place, room, second_page}
 use Rattle.nv_prp.specs.declared.error.PrpError.{PrpError}

@@ -7,9 +7,9 @@ use Rattle.std.proofs.lemmas.Bool.{le-ltb}
 use Rattle.std.proofs.lemmas.Grind.{div_ceil_times, flat_map-append}
 use Rattle.std.proofs.lemmas.Nat.{div-mul-add, mod-mul-add}
 use Rattle.nv_host.specs.Pages.{IsPageSize}
-use Rattle.nv_host.specs.PageLaws.{page_size_bounds}
+use Rattle.nv_host.proofs.PageLaws.{page_size_bounds}
 use Rattle.nv_prp.specs.Place.{places, span_places, table}
-use Rattle.nv_prp.specs.PlaceLaws.{length-table, table-append, table-more, table-same}
+use Rattle.nv_prp.proofs.PlaceLaws.{length-table, table-append, table-more, table-same}
 use Rattle.nv_prp.specs.declared.spans.Span.{Span}
 use Rattle.nv_prp.specs.Transfer.{Transfer, data_pages, first_byte, offset, page_base, place_of, span_of, spans_of, transfer_places}
 

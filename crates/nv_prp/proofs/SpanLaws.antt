@@ -2,9 +2,9 @@
 use Rattle.std.proofs.Common.{None, ◌≡◌, ℕ, ◌+◌, ◌<◌, ◌≤◌, arith, inl, inr, length}
 use Rattle.std.proofs.lemmas.Bool.Decides.{nat_tests}
 use Rattle.std.proofs.lemmas.Bool.{cases_lt}
-use Rattle.nv_host.specs.PageLaws.{page_size_bounds}
+use Rattle.nv_host.proofs.PageLaws.{page_size_bounds}
 use Rattle.nv_prp.specs.Place.{LieIn}
-use Rattle.nv_prp.specs.PlaceLaws.{All-table}
+use Rattle.nv_prp.proofs.PlaceLaws.{All-table}
 use Rattle.nv_prp.specs.Transfer.{IsLegal, Transfer, data_pages, entry_fault, naming_qword, page_base, prp2_fault, qword_fault, qwords, span_of, spans_of}
 use Rattle.nv_prp.proofs.FaultLaws.{from_no_fault, legal_from_none, none_from_legal}
 use Rattle.nv_prp.proofs.ListLaws.{base_by_list}

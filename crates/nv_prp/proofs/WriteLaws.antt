@@ -6,9 +6,9 @@ use Rattle.std.proofs.lemmas.Bool.Decides.{nat_tests}
 use Rattle.std.proofs.lemmas.Bool.{cases_lt, cases_order}
 use Rattle.std.proofs.lemmas.Nat.{from_le_bytes-to_le_bytes_8, mod-mul-add}
 use Rattle.nv_host.specs.Bytes.{bytes_at, with_bytes}
-use Rattle.nv_host.specs.BytesLaws.{bytes_at-with_after, bytes_at-with_before, bytes_at-with_same}
+use Rattle.nv_host.proofs.BytesLaws.{bytes_at-with_after, bytes_at-with_before, bytes_at-with_same}
 use Rattle.nv_host.specs.Pages.{IsPageSize}
-use Rattle.nv_host.specs.PageLaws.{page_size_bounds, page_size_in_qwords}
+use Rattle.nv_host.proofs.PageLaws.{page_size_bounds, page_size_in_qwords}
 use Rattle.nv_prp.specs.Buffer.{ChangesOnly, IsApart, IsListPlace, NamesPages}
 use Rattle.nv_prp.proofs.FaultLaws.{multiple_stays}
 use Rattle.nv_prp.proofs.ListLaws.{whole_room}

@@ -29,7 +29,7 @@ pub(crate) fn check<M: HostMemory>(mem: &M, alignment: u32, entry: u64) -> Resul
 }
 
 /// Whether an entry is the address of a page of the memory.
-#[tactic(auto, using(nv_host::specs::PageLaws::page_size_bounds))]
+#[tactic(auto, using(nv_host::proofs::PageLaws::page_size_bounds))]
 pub(crate) fn check_page<M: HostMemory>(mem: &M, entry: u64) -> Result<(), PrpError>
     ensures { let fault = entry_fault (M.page_len mem.now) (length (M.bytes mem.now))
         (M.page_len mem.now) entry in

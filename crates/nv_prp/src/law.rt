@@ -11,13 +11,13 @@ pub fn build_then_walk()
 {}
 
 /// What is copied out to distinct places is copied in from them.
-#[tactic(auto, using(crate::specs::PlaceLaws::written_is_read))]
+#[tactic(auto, using(crate::proofs::PlaceLaws::written_is_read))]
 pub fn copy_out_then_in()
     ensures { WrittenIsRead }
 {}
 
 /// What is left at the places to which bytes were written one after the other, and elsewhere.
-#[tactic(auto, using(crate::specs::PlaceLaws::later_stays, crate::specs::PlaceLaws::others_stay))]
+#[tactic(auto, using(crate::proofs::PlaceLaws::later_stays, crate::proofs::PlaceLaws::others_stay))]
 pub fn written_one_by_one()
     ensures later { LaterStays }
     ensures others { OthersStay }

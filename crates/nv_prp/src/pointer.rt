@@ -19,7 +19,7 @@ pub struct DataPointer {
 }
 
 /// Where an address lies in its page.
-#[tactic(auto, using(nv_host::specs::PageLaws::page_size_bounds))]
+#[tactic(auto, using(nv_host::proofs::PageLaws::page_size_bounds))]
 pub(crate) fn offset_in_page<M: HostMemory>(mem: &M, addr: u64) -> u32
     ensures value { result ≡ addr % M.page_len mem.now }
     ensures inside { result < M.page_len mem.now }

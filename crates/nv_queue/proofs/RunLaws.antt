@@ -9,12 +9,12 @@ use Rattle.std.proofs.Math.Seq.{get_or-append_seam}
 use Rattle.nv_layout.specs.Cqe.{CqeFits}
 use Rattle.nv_layout.specs.declared.cqe.Cqe.{Cqe}
 use Rattle.nv_queue.specs.Numbers.{IsDepth, kept_number}
-use Rattle.nv_queue.specs.KeptLaws.{above_kept, between_kept, first_kept, kept_next, kept_zero}
+use Rattle.nv_queue.proofs.KeptLaws.{above_kept, between_kept, first_kept, kept_next, kept_zero}
 use Rattle.nv_queue.specs.Rings.{IsPostFull}
 use Rattle.nv_queue.specs.Slots.{HoldsPosted, IsAwaitedThere, awaited_completion}
 use Rattle.nv_queue.specs.Slots.{put_as, with_completion}
-use Rattle.nv_queue.specs.SlotLaws.{awaited_posted, awaited_stands, holds_one_more}
-use Rattle.nv_queue.specs.SlotLaws.{length-with_completion}
+use Rattle.nv_queue.proofs.SlotLaws.{awaited_posted, awaited_stands, holds_one_more}
+use Rattle.nv_queue.proofs.SlotLaws.{length-with_completion}
 use Rattle.nv_queue.specs.Runs.{EveryRunIsInOrder, Event, Exchange, Happens, IsHeadTaken, IsInOrder}
 use Rattle.nv_queue.specs.Runs.{IsNew, Poll, Put, Runs, Tell}
 use Rattle.nv_queue.specs.Runs.{with_head, with_polled, with_put, with_told}

@@ -1,6 +1,6 @@
--- Submissions and completions have numbers, from 0 since their rings were made. A ring keeps the
--- rest of a number modulo twice its depth: the number's slot and phase, and how far two numbers
--- less than twice the depth lie apart, depend on that alone.
+-- Submissions and completions have numbers, from 0 since their rings were made or renewed. A ring
+-- keeps the rest of a number modulo twice its depth: the number's slot and phase, and how far two
+-- numbers less than twice the depth lie apart, depend on that alone.
 use Rattle.std.specs.Prelude.{◌≡◌, ℕ, ◌+◌, ◌-◌, ◌*◌, ◌/◌, ◌%◌, ◌==◌, ◌<◌, ◌≤◌, Bool, if◌then◌else◌}
 use Rattle.std.specs.Prelude.{nat_lt, not}
 

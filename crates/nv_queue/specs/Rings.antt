@@ -108,3 +108,17 @@ told_to ring head = record ring { told = first_in_slot ring.depth ring.told head
 -- all that was collected is told
 abbrev pub told_all : CollectNumbers → CollectNumbers
 told_all ring = record ring { told = ring.collected; untold = false }
+
+-- ---- a ring whose numbers begin at 0 again
+
+abbrev pub renewed_submit : SubmitNumbers → SubmitNumbers
+renewed_submit ring = record ring { submitted = 0; known = 0 }
+
+abbrev pub renewed_collect : CollectNumbers → CollectNumbers
+renewed_collect ring = record ring { collected = 0; told = 0; untold = false }
+
+abbrev pub renewed_fetch : FetchNumbers → FetchNumbers
+renewed_fetch ring = record ring { fetched = 0; rung = 0 }
+
+abbrev pub renewed_post : PostNumbers → PostNumbers
+renewed_post ring = record ring { posted = 0; told = 0 }

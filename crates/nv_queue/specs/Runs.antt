@@ -15,7 +15,7 @@ pub data Event : Type 0 where
   Poll : Event
   Tell : Event
 
--- the memory, both sides of the ring, and what was posted and polled since it was made
+-- the memory, both sides of the ring, and what was posted and polled since it was new
 pub record Exchange : Type 0 where
   pub bytes : List ℕ
   pub device : PostNumbers
@@ -66,7 +66,7 @@ abbrev pub Runs : List Event → Exchange → Exchange → Type 0
 Runs [] x y = y ≡ x
 Runs (event ∷ events) x y = (z : Exchange) × Happens event x z × Runs events z y
 
--- a ring that was just made, in a memory that has it, with phase tag 0 in each slot
+-- a ring that was just made or renewed, in a memory that has it, with phase tag 0 in each slot
 pub record IsNew (base depth : ℕ) (x : Exchange) : Type 0 where
   pub deep : IsDepth depth
   pub inside : base + 16 * depth ≤ length x.bytes

@@ -1,11 +1,12 @@
 //! The host's side of a completion ring.
 
 ghost use Rattle.std.specs.Prelude.{◌≡◌, ◌+◌, ◌*◌, ◌<◌, ◌≤◌, ◌↔◌, IfNone, IfSome, IsNone, IsSome};
-ghost use Rattle.std.specs.Prelude.{OnSome, false, length};
+ghost use Rattle.std.specs.Prelude.{OnSome, false, length, replicate};
+ghost use Rattle.nv_host.specs.Bytes.{with_bytes};
 ghost use Rattle.nv_queue.specs.Numbers.{IsDepth, slot_of};
-ghost use Rattle.nv_queue.specs.Rings.{IsCollectRing, collected_one, told_all};
-ghost use Rattle.nv_queue.specs.Slots.{CollectsPosted, FindsByTags, IsAwaitedThere};
-ghost use Rattle.nv_queue.specs.Slots.{awaited_completion};
+ghost use Rattle.nv_queue.specs.Rings.{IsCollectRing, collected_one, renewed_collect, told_all};
+ghost use Rattle.nv_queue.specs.Slots.{CollectsPosted, FindsByTags, HoldsTags};
+ghost use Rattle.nv_queue.specs.Slots.{IsAwaitedThere, awaited_completion};
 
 use crate::ring::Ring;
 use nv_host::{HostMemory, load_inside};
@@ -39,21 +40,45 @@ impl Model for CompletionRing {
 
 impl CompletionRing {
     /// A new ring of `depth` slots, 2 to 4,096, from address `base` on. Nothing was collected. The
-    /// host zeroes the slots before the device posts: a completion is told from what a slot held
-    /// before by its phase tag alone. Each `poll` needs all slots in its memory.
+    /// host zeroes the slots before the device posts, by `zero`: a completion is told from what a
+    /// slot held before by its phase tag alone. Each `poll` needs all slots in its memory.
     pub fn new(base: u64, depth: u16) -> CompletionRing
         requires { IsDepth depth }
         ensures { result
             ≡ record { base = base; depth = depth; collected = 0; told = 0; untold = false } }
     {
-        CompletionRing {
+        let mut completions = CompletionRing {
             ring: Ring::new(base, depth),
             untold: false,
-        }
+        };
+        completions.renew();
+        completions
+    }
+
+    /// Begins anew: completion number 0 is awaited, and no head is to be told. The host zeroes the
+    /// slots, as for a new ring.
+    pub fn renew(&mut self)
+        ensures { self.new ≡ renewed_collect self.old }
+    {
+        self.ring.renew();
+        self.untold = false;
+    }
+
+    /// Zeroes its slots, all of which lie in the memory: no slot has the phase tag that is due in a
+    /// ring that begins anew. Section "Completion Queue Entry".
+    #[tactic(auto, using(crate::proofs::ZeroLaws::zeroed_tags))]
+    pub fn zero<M: HostMemory>(&self, mem: &mut M)
+        requires { self.now.base + 16 * self.now.depth ≤ length (M.bytes mem.old) }
+        ensures bytes { M.bytes mem.new ≡ with_bytes (M.bytes mem.old) self.now.base
+            (replicate (16 * self.now.depth) 0) }
+        ensures tags { HoldsTags (M.bytes mem.new) self.now.base self.now.depth 0 }
+        ensures page { M.page_len mem.new ≡ M.page_len mem.old }
+    {
+        self.ring.zero(mem);
     }
 
     /// The completion in the awaited slot, if it has the phase tag that is due.
-    #[tactic(auto, using(crate::specs::NumberLaws::slot_below))]
+    #[tactic(auto, using(crate::proofs::NumberLaws::slot_below))]
     fn peek<M: HostMemory>(&self, mem: &M) -> Option<Cqe>
         requires { self.now.base + 16 * self.now.depth ≤ length (M.bytes mem.now) }
         ensures awaited { IsSome result ↔ IsAwaitedThere (M.bytes mem.now) self.now }
@@ -73,7 +98,7 @@ impl CompletionRing {
 
     /// Collects the awaited completion. It was posted exactly where its slot has the phase tag of
     /// its number. Section "Completion Queue Entry". All slots lie in the memory.
-    #[tactic(auto, using(crate::specs::TagLaws::finds_by_tags))]
+    #[tactic(auto, using(crate::proofs::TagLaws::finds_by_tags))]
     pub fn poll<M: HostMemory>(&mut self, mem: &M) -> Option<Cqe>
         requires { self.old.base + 16 * self.old.depth ≤ length (M.bytes mem.now) }
         ensures awaited { IsSome result ↔ IsAwaitedThere (M.bytes mem.now) self.old }

@@ -3,7 +3,7 @@
 ghost use Rattle.std.specs.Prelude.{◌≡◌, ◌+◌, ◌*◌, ◌<◌, ◌≤◌, ◌↔◌, IfNone, IfSome, IsNone, IsTrue};
 ghost use Rattle.std.specs.Prelude.{OnSome, length};
 ghost use Rattle.nv_queue.specs.Numbers.{IsDepth, slot_of};
-ghost use Rattle.nv_queue.specs.Rings.{IsFetchRing, fetched_one, rung_to};
+ghost use Rattle.nv_queue.specs.Rings.{IsFetchRing, fetched_one, renewed_fetch, rung_to};
 ghost use Rattle.nv_queue.specs.Slots.{next_submission, submission_place};
 
 use crate::ring::Ring;
@@ -35,14 +35,24 @@ impl Model for Fetch {
 
 impl Fetch {
     /// A new ring of `depth` slots, 2 to 4,096, from address `base` on. It is empty.
-    #[tactic(auto, using(crate::specs::NumberLaws::within_new))]
+    #[tactic(auto, using(crate::proofs::NumberLaws::within_new))]
     pub fn new(base: u64, depth: u16) -> Fetch
         requires { IsDepth depth }
         ensures { result ≡ record { base = base; depth = depth; fetched = 0; rung = 0 } }
     {
-        Fetch {
+        let mut fetch = Fetch {
             ring: Ring::new(base, depth),
-        }
+        };
+        fetch.renew();
+        fetch
+    }
+
+    /// Begins anew: the next submission is number 0, and there is none.
+    #[tactic(auto, using(crate::proofs::NumberLaws::within_new))]
+    pub fn renew(&mut self)
+        ensures { self.new ≡ renewed_fetch self.old }
+    {
+        self.ring.renew();
     }
 
     /// Takes a write to the tail doorbell. A tail that names no slot is ignored. Section

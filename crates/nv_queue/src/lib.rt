@@ -1,14 +1,14 @@
 //! The submission and the completion queue of NVM Express, rings in the host's memory, from the
 //! host's side and from the device's.
 //!
-//! Submissions and completions have numbers, from 0 since the rings were made. Number n stands in
-//! slot n modulo the depth. A completion's phase tag is 1 in the first pass over its ring, and is
-//! inverted on each.
+//! Submissions and completions have numbers, from 0 since the rings were made or renewed. Number n
+//! stands in slot n modulo the depth. A completion's phase tag is 1 in the first pass over its
+//! ring, and is inverted on each.
 //!
 //! A ring has 2 to 4,096 slots, of 64 bytes for submissions and 16 for completions. The host's
 //! rings lie in its memory, and the host zeroes the slots of a completion ring before the device
-//! uses it. The device asks by `fits` before it takes or posts, since a ring that it was told of
-//! may leave the memory.
+//! uses it, by `zero`. The device asks by `fits` before it takes or posts, since a ring that it was
+//! told of may leave the memory.
 //!
 //! # Example
 //!

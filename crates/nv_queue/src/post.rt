@@ -3,7 +3,7 @@
 ghost use Rattle.std.specs.Prelude.{◌≡◌, ◌+◌, ◌*◌, ◌<◌, ◌≤◌, ◌↔◌, IsErr, IsTrue, OnErr, OnOk};
 ghost use Rattle.std.specs.Prelude.{length};
 ghost use Rattle.nv_queue.specs.Numbers.{IsDepth, IsSlotBetween, phase_of};
-ghost use Rattle.nv_queue.specs.Rings.{IsPostFull, IsPostRing, posted_one, told_to};
+ghost use Rattle.nv_queue.specs.Rings.{IsPostFull, IsPostRing, posted_one, renewed_post, told_to};
 ghost use Rattle.nv_queue.specs.Slots.{HoldsOneMore, KeepsTags, completion_place, with_completion};
 
 use crate::ring::Ring;
@@ -41,14 +41,24 @@ impl Model for Post {
 
 impl Post {
     /// A new ring of `depth` slots, 2 to 4,096, from address `base` on. Nothing was posted.
-    #[tactic(auto, using(crate::specs::NumberLaws::within_new))]
+    #[tactic(auto, using(crate::proofs::NumberLaws::within_new))]
     pub fn new(base: u64, depth: u16) -> Post
         requires { IsDepth depth }
         ensures { result ≡ record { base = base; depth = depth; posted = 0; told = 0 } }
     {
-        Post {
+        let mut post = Post {
             ring: Ring::new(base, depth),
-        }
+        };
+        post.renew();
+        post
+    }
+
+    /// Begins anew: the next completion is number 0, and every slot is free.
+    #[tactic(auto, using(crate::proofs::NumberLaws::within_new))]
+    pub fn renew(&mut self)
+        ensures { self.new ≡ renewed_post self.old }
+    {
+        self.ring.renew();
     }
 
     /// Takes a write to the head doorbell. A head that is not reached by freeing posted slots is
@@ -94,7 +104,7 @@ impl Post {
     /// Posts a completion with the phase tag that is due in place of its own, and writes no byte
     /// but those of its slot, which lies in the memory, as `fits` tells. Where the ring is full,
     /// nothing changes.
-    #[tactic(auto, using(crate::specs::TagLaws::posts))]
+    #[tactic(auto, using(crate::proofs::TagLaws::posts))]
     pub fn put<M: HostMemory>(&mut self, mem: &mut M, completion: Cqe) -> Result<(), CqFull>
         requires { completion_place self.old.base self.old.depth self.old.posted + 16
             ≤ length (M.bytes mem.old) }

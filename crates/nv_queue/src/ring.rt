@@ -1,13 +1,14 @@
 //! A ring of slots in the host's memory, with two places in it.
 
 ghost use Rattle.std.specs.Prelude.{◌≡◌, ◌≢◌, ◌+◌, ◌*◌, ◌<◌, ◌≤◌, ◌↔◌, IfSome, IsNone, IsTrue};
-ghost use Rattle.std.specs.Prelude.{length};
+ghost use Rattle.std.specs.Prelude.{length, replicate};
+ghost use Rattle.nv_host.specs.Bytes.{with_bytes};
 ghost use Rattle.nv_queue.specs.Numbers.{IsDepth, IsFull, IsSlotBetween, first_in_slot, next};
 ghost use Rattle.nv_queue.specs.Numbers.{phase_of, slot_of};
 ghost use Rattle.nv_queue.specs.Rings.{IsRing, IsToldAhead, IsToldBehind};
 
 use crate::place::Place;
-use nv_host::{HostMemory, size_of_memory};
+use nv_host::{HostMemory, size_of_memory, store_inside};
 use std::marker::Model;
 
 /// A ring as one of the four sides keeps it: its own place, and the place that one side told the
@@ -51,6 +52,14 @@ impl Ring {
         }
     }
 
+    /// Sets both places to those of number 0.
+    pub(crate) fn renew(&mut self)
+        ensures { self.new ≡ record self.old { own = 0; told = 0 } }
+    {
+        self.own = Place::first();
+        self.told = Place::first();
+    }
+
     /// The slot of the own place.
     #[tactic(auto, using(crate::proofs::PlaceLaws::places))]
     pub(crate) fn slot(&self) -> u16
@@ -81,7 +90,7 @@ impl Ring {
     }
 
     /// Whether the own place is as far above the told one as it may come.
-    #[tactic(auto, using(crate::proofs::PlaceLaws::places, crate::specs::NumberLaws::full_slots))]
+    #[tactic(auto, using(crate::proofs::PlaceLaws::places, crate::proofs::NumberLaws::full_slots))]
     pub(crate) fn is_full(&self) -> bool
         requires { IsToldBehind self.now }
         ensures { IsTrue result ↔ IsFull self.now.depth self.now.told self.now.own }
@@ -90,7 +99,7 @@ impl Ring {
     }
 
     /// Whether the own place has come to the told one.
-    #[tactic(auto, using(crate::proofs::PlaceLaws::places, crate::specs::NumberLaws::empty_slots))]
+    #[tactic(auto, using(crate::proofs::PlaceLaws::places, crate::proofs::NumberLaws::empty_slots))]
     pub(crate) fn is_empty(&self) -> bool
         requires { IsToldAhead self.now }
         ensures { IsTrue result ↔ (self.now.own ≡ self.now.told) }
@@ -110,7 +119,7 @@ impl Ring {
     }
 
     /// Whether a slot is met on the way from the told place to the own one, ends included.
-    #[tactic(auto, using(crate::proofs::PlaceLaws::places, crate::specs::NumberLaws::ahead_slot))]
+    #[tactic(auto, using(crate::proofs::PlaceLaws::places, crate::proofs::NumberLaws::ahead_slot))]
     pub(crate) fn may_free(&self, slot: u16) -> bool
         requires { IsToldBehind self.now }
         ensures { IsTrue result ↔ IsSlotBetween self.now.depth self.now.told self.now.own slot }
@@ -171,5 +180,20 @@ impl Ring {
         // That the memory has the slot bounds the sum.
         let _bytes = size_of_memory(mem);
         self.base + u64::from(size) * u64::from(self.own.slot)
+    }
+
+    /// Zeroes the slots, of 16 bytes each. All of them lie in the memory.
+    pub(crate) fn zero<M: HostMemory>(&self, mem: &mut M)
+        requires { self.now.base + 16 * self.now.depth ≤ length (M.bytes mem.old) }
+        ensures bytes { M.bytes mem.new ≡ with_bytes (M.bytes mem.old) self.now.base
+            (replicate (16 * self.now.depth) 0) }
+        ensures page { M.page_len mem.new ≡ M.page_len mem.old }
+    {
+        // That the memory has the slots bounds the sums.
+        let _bytes = size_of_memory(mem);
+        for slot in 0..self.depth {
+            let addr = self.base + 16 * u64::from(slot);
+            store_inside(mem, addr, &[0; 16]);
+        }
     }
 }

@@ -3,7 +3,8 @@
 ghost use Rattle.std.specs.Prelude.{◌≡◌, ◌+◌, ◌*◌, ◌<◌, ◌≤◌, ◌↔◌, IfOk, IsErr, IsTrue, OnErr, OnOk};
 ghost use Rattle.std.specs.Prelude.{length};
 ghost use Rattle.nv_queue.specs.Numbers.{IsDepth, IsSlotBetween, next, slot_of};
-ghost use Rattle.nv_queue.specs.Rings.{IsSubmitFull, IsSubmitRing, known_to, submitted_one};
+ghost use Rattle.nv_queue.specs.Rings.{IsSubmitFull, IsSubmitRing, known_to, renewed_submit};
+ghost use Rattle.nv_queue.specs.Rings.{submitted_one};
 ghost use Rattle.nv_queue.specs.Slots.{with_submission};
 
 use crate::ring::Ring;
@@ -42,20 +43,30 @@ impl Model for SubmitRing {
 impl SubmitRing {
     /// A new ring of `depth` slots, 2 to 4,096, from address `base` on. Nothing was submitted. Each
     /// `push` needs all slots in its memory; it writes them, so they need no bytes before.
-    #[tactic(auto, using(crate::specs::NumberLaws::within_new))]
+    #[tactic(auto, using(crate::proofs::NumberLaws::within_new))]
     pub fn new(base: u64, depth: u16) -> SubmitRing
         requires { IsDepth depth }
         ensures { result ≡ record { base = base; depth = depth; submitted = 0; known = 0 } }
     {
-        SubmitRing {
+        let mut submissions = SubmitRing {
             ring: Ring::new(base, depth),
-        }
+        };
+        submissions.renew();
+        submissions
+    }
+
+    /// Begins anew: the next submission is number 0, and none is outstanding.
+    #[tactic(auto, using(crate::proofs::NumberLaws::within_new))]
+    pub fn renew(&mut self)
+        ensures { self.new ≡ renewed_submit self.old }
+    {
+        self.ring.renew();
     }
 
     /// Submits a command, and answers the new tail, for the tail doorbell. The ring is full where
     /// all but one of its slots hold commands that are not known to be taken. Then nothing changes.
     /// All slots lie in the memory.
-    #[tactic(auto, using(crate::specs::NumberLaws::slot_below))]
+    #[tactic(auto, using(crate::proofs::NumberLaws::slot_below))]
     pub fn push<M: HostMemory>(&mut self, mem: &mut M, command: &Sqe) -> Result<u16, RingFull>
         requires { self.old.base + 64 * self.old.depth ≤ length (M.bytes mem.old) }
         ensures full { IsErr result ↔ IsSubmitFull self.old }

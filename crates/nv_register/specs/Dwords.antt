@@ -8,15 +8,13 @@ use Rattle.nv_register.specs.declared.controller_status.ControllerStatus.{Contro
 
 -- EN 0, MPS 10:7, IOSQES 19:16, IOCQES 23:20
 abbrev pub cc_dword : ControllerConfiguration → ℕ
-cc_dword r = at_bits 0 1 (bit r.en) + at_bits 7 4 r.mps + at_bits 16 4 r.iosqes
-    + at_bits 20 4 r.iocqes
+cc_dword r = at_bits 0 1 (bit r.en) + at_bits 7 4 r.sizes.mps + at_bits 16 4 r.sizes.iosqes
+    + at_bits 20 4 r.sizes.iocqes
 
 abbrev pub cc_of_dword : ℕ → ControllerConfiguration
 cc_of_dword x = record {
   en = bits 0 1 x == 1;
-  mps = bits 7 4 x;
-  iosqes = bits 16 4 x;
-  iocqes = bits 20 4 x;
+  sizes = record { mps = bits 7 4 x; iosqes = bits 16 4 x; iocqes = bits 20 4 x };
 }
 
 -- RDY 0, CFS 1

@@ -1,4 +1,5 @@
 pub mod Register
 pub mod Dwords
 pub mod PageSize
+pub mod Readiness
 pub mod Port

@@ -1,16 +1,17 @@
 -- The registers of one controller, and what a read and a write of a dword do.
-use Rattle.std.specs.Prelude.{ℕ, ◌+◌, ◌*◌, ◌-◌, ◌/◌, ◌%◌, ◌^◌, ◌<◌, ◌==◌, ◌&&◌, Bool, true, false}
-use Rattle.std.specs.Prelude.{nat_le, nat_lt, is_some, if◌then◌else◌, Option, Some, None}
-use Rattle.std.specs.Prelude.{option_map}
+use Rattle.std.specs.Prelude.{ℕ, ◌+◌, ◌*◌, ◌/◌, ◌%◌, ◌^◌, ◌==◌, ◌&&◌, Bool, false}
+use Rattle.std.specs.Prelude.{nat_le, nat_lt, not, if◌then◌else◌}
 use Rattle.std.specs.Option.{option_map_or}
 use Rattle.nv_queue.specs.Numbers.{above, ahead}
 use Rattle.nv_queue.specs.Rings.{FetchNumbers, PostNumbers, rung_to, told_to}
 use Rattle.nv_register.specs.Dwords.{aqa_dword, aqa_of_dword, cc_dword, cc_of_dword, csts_dword}
 use Rattle.nv_register.specs.PageSize.{page_size_of}
+use Rattle.nv_register.specs.Readiness.{is_enabled, is_fatal, is_ready, with_rings}
 use Rattle.nv_register.specs.Register.{register_at}
-use Rattle.nv_register.specs.declared.admin_queue_attributes.AdminQueueAttributes.{AdminQueueAttributes}
 use Rattle.nv_register.specs.declared.controller_configuration.ControllerConfiguration.{ControllerConfiguration}
+use Rattle.nv_register.specs.declared.controller_configuration.Sizes.{Sizes}
 use Rattle.nv_register.specs.declared.port.Port.{Port}
+use Rattle.nv_register.specs.declared.readiness.Readiness.TheVariants.{Off, Failed, Ready}
 use Rattle.nv_register.specs.declared.rings.Rings.{Rings}
 use Rattle.nv_register.specs.declared.register.Register.{Register}
 use Rattle.nv_register.specs.declared.register.Register.TheVariants.{CapLow, CapHigh, Vs, Cc, Csts}
@@ -21,23 +22,26 @@ use Rattle.nv_register.specs.declared.register.Register.TheVariants.{HeadDoorbel
 -- after power on
 abbrev pub new_port : Port
 new_port = record {
-  cc = record { en = false; mps = 0; iosqes = 0; iocqes = 0 };
-  cfs = false;
+  sizes = record { mps = 0; iosqes = 0; iocqes = 0 };
+  readiness = Off;
   aqa = record { asqs = 0; acqs = 0 };
   asq = 0;
   acq = 0;
-  rings = None;
 }
 
 -- ---- reads
+
+-- CC, of which EN says whether the controller is enabled
+abbrev pub cc_of : Port → ControllerConfiguration
+cc_of p = record { en = is_enabled p.readiness; sizes = p.sizes }
 
 -- what a register reads; doorbells read 0
 abbrev pub value_of : Port → Register → ℕ
 value_of p CapLow = 0x01010fff
 value_of p CapHigh = 0x00400020
 value_of p Vs = 0x00010400
-value_of p Cc = cc_dword p.cc
-value_of p Csts = csts_dword (record { rdy = is_some p.rings; cfs = p.cfs })
+value_of p Cc = cc_dword (cc_of p)
+value_of p Csts = csts_dword (record { rdy = is_ready p.readiness; cfs = is_fatal p.readiness })
 value_of p Aqa = aqa_dword p.aqa
 value_of p AsqLow = p.asq % 2 ^ 32
 value_of p AsqHigh = p.asq / 2 ^ 32
@@ -53,37 +57,38 @@ value_at p offset = option_map_or (value_of p) (register_at offset) 0
 -- ---- enabling
 
 -- a queue of so many entries, less one
-abbrev pub is_queue : ControllerConfiguration → ℕ → ℕ → Bool
-is_queue cc base less_one =
-    base % page_size_of cc == 0 && (nat_le 1 less_one && nat_le less_one 4095)
+abbrev pub is_queue : Sizes → ℕ → ℕ → Bool
+is_queue sizes base less_one =
+    base % page_size_of sizes == 0 && (nat_le 1 less_one && nat_le less_one 4095)
 
 -- the values with which a controller becomes ready: a page has at most 65,536 bytes, and both
 -- queues begin at a page and have 2 to 4,096 entries
 abbrev pub can_start : Port → Bool
 can_start p =
-    nat_le p.cc.mps 4 && (is_queue p.cc p.asq p.aqa.asqs && is_queue p.cc p.acq p.aqa.acqs)
+    nat_le p.sizes.mps 4
+    && (is_queue p.sizes p.asq p.aqa.asqs && is_queue p.sizes p.acq p.aqa.acqs)
 
 -- new rings: their numbers begin at 0
 abbrev pub new_rings : Port → Rings
 new_rings p = record {
-  page_size = page_size_of p.cc;
+  page_size = page_size_of p.sizes;
   submission = record { base = p.asq; depth = p.aqa.asqs + 1; fetched = 0; rung = 0 };
   completion = record { base = p.acq; depth = p.aqa.acqs + 1; posted = 0; told = 0 };
 }
 
 -- EN was set: ready at once, or a fatal status
 abbrev pub start : Port → Port
-start p = if can_start p then record p { rings = Some (new_rings p) } else record p { cfs = true }
+start p = record p { readiness = if can_start p then Ready (new_rings p) false else Failed }
 
 -- EN was cleared, which clears RDY and CFS
 abbrev pub stop : Port → Port
-stop p = record p { cc = record p.cc { en = false }; cfs = false; rings = None }
+stop p = record p { readiness = Off }
 
 -- while EN is 1 a write of CC changes EN alone
 abbrev pub with_cc : Port → ControllerConfiguration → Port
 with_cc p cc =
-    if p.cc.en then (if cc.en then p else stop p)
-    else (if cc.en then start (record p { cc = cc }) else record p { cc = cc })
+    if is_enabled p.readiness then (if cc.en then p else stop p)
+    else (if cc.en then start (record p { sizes = cc.sizes }) else record p { sizes = cc.sizes })
 
 -- ---- doorbells: both are ignored where the controller is not ready
 
@@ -115,7 +120,7 @@ with_high address dword = dword * 2 ^ 32 + address % 2 ^ 32
 
 -- the queue registers ignore writes while EN is 1
 abbrev pub unless_enabled : Port → Port → Port
-unless_enabled p other = if p.cc.en then p else other
+unless_enabled p other = if is_enabled p.readiness then p else other
 
 -- a write of a register
 abbrev pub with_register : Port → Register → ℕ → Port
@@ -129,9 +134,18 @@ with_register p AsqLow x = unless_enabled p (record p { asq = with_low p.asq x }
 with_register p AsqHigh x = unless_enabled p (record p { asq = with_high p.asq x })
 with_register p AcqLow x = unless_enabled p (record p { acq = with_low p.acq x })
 with_register p AcqHigh x = unless_enabled p (record p { acq = with_high p.acq x })
-with_register p TailDoorbell x = record p { rings = option_map (with_tail x) p.rings }
-with_register p HeadDoorbell x = record p { rings = option_map (with_head x) p.rings }
+with_register p TailDoorbell x = record p { readiness = with_rings (with_tail x) p.readiness }
+with_register p HeadDoorbell x = record p { readiness = with_rings (with_head x) p.readiness }
 
 -- a write of the dword at an offset; ignored where no register begins
 abbrev pub with_register_at : Port → ℕ → ℕ → Port
 with_register_at p offset x = option_map_or (λ r. with_register p r x) (register_at offset) p
+
+-- ---- a write that clears an EN that is 1
+
+abbrev pub stops_by : Port → Register → ℕ → Bool
+stops_by p Cc x = is_enabled p.readiness && not (cc_of_dword x).en
+stops_by p register x = false
+
+abbrev pub stops_at : Port → ℕ → ℕ → Bool
+stops_at p offset x = option_map_or (λ r. stops_by p r x) (register_at offset) false

@@ -6,12 +6,10 @@ ghost use Rattle.nv_register.specs.PageSize.{page_size_of};
 
 use nv_layout::{bits_of, to_bits};
 
-/// Controller Configuration (CC), as far as it is kept. Its other bits read 0. Section "Controller
+/// The sizes of CC: of a page, and of the entries of I/O queues. Section "Controller
 /// Configuration".
 #[derive(Clone, Copy, Debug, PartialEq, Eq)]
-pub struct ControllerConfiguration {
-    /// Enable.
-    pub en: bool,
+pub struct Sizes {
     /// Memory Page Size, 4 bits: a page has two to this power times 4,096 bytes.
     pub mps: u8,
     /// I/O Submission Queue Entry Size, 4 bits.
@@ -20,29 +18,7 @@ pub struct ControllerConfiguration {
     pub iocqes: u8,
 }
 
-impl ControllerConfiguration {
-    /// The register as a dword.
-    pub fn dword(self) -> u32
-        ensures { result ≡ cc_dword self }
-    {
-        to_bits(self.en as u32, 0, 1)
-            + to_bits(self.mps as u32, 7, 4)
-            + to_bits(self.iosqes as u32, 16, 4)
-            + to_bits(self.iocqes as u32, 20, 4)
-    }
-
-    /// The register that a dword sets.
-    pub fn of(dword: u32) -> ControllerConfiguration
-        ensures { result ≡ cc_of_dword dword }
-    {
-        ControllerConfiguration {
-            en: bits_of(dword, 0, 1) == 1,
-            mps: bits_of(dword, 7, 4) as u8,
-            iosqes: bits_of(dword, 16, 4) as u8,
-            iocqes: bits_of(dword, 20, 4) as u8,
-        }
-    }
-
+impl Sizes {
     /// How many bytes a page has, 4,096 to 65,536.
     pub fn page_size(self) -> u32
         requires { self.mps ≤ 4 }
@@ -54,6 +30,41 @@ impl ControllerConfiguration {
             2 => 16384,
             3 => 32768,
             _ => 65536,
+        }
+    }
+}
+
+/// Controller Configuration (CC), as far as it is kept. Its other bits read 0. Section "Controller
+/// Configuration".
+#[derive(Clone, Copy, Debug, PartialEq, Eq)]
+pub struct ControllerConfiguration {
+    /// Enable.
+    pub en: bool,
+    pub sizes: Sizes,
+}
+
+impl ControllerConfiguration {
+    /// The register as a dword.
+    pub fn dword(self) -> u32
+        ensures { result ≡ cc_dword self }
+    {
+        to_bits(self.en as u32, 0, 1)
+            + to_bits(self.sizes.mps as u32, 7, 4)
+            + to_bits(self.sizes.iosqes as u32, 16, 4)
+            + to_bits(self.sizes.iocqes as u32, 20, 4)
+    }
+
+    /// The register that a dword sets.
+    pub fn of(dword: u32) -> ControllerConfiguration
+        ensures { result ≡ cc_of_dword dword }
+    {
+        ControllerConfiguration {
+            en: bits_of(dword, 0, 1) == 1,
+            sizes: Sizes {
+                mps: bits_of(dword, 7, 4) as u8,
+                iosqes: bits_of(dword, 16, 4) as u8,
+                iocqes: bits_of(dword, 20, 4) as u8,
+            },
         }
     }
 }

@@ -22,12 +22,14 @@ mod controller_configuration;
 mod controller_status;
 pub mod offset;
 mod port;
+mod readiness;
 mod register;
 mod rings;
 
 pub use admin_queue_attributes::AdminQueueAttributes;
-pub use controller_configuration::ControllerConfiguration;
+pub use controller_configuration::{ControllerConfiguration, Sizes};
 pub use controller_status::ControllerStatus;
 pub use port::Port;
+pub use readiness::Readiness;
 pub use register::Register;
 pub use rings::Rings;

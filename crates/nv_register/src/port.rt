@@ -1,13 +1,16 @@
 //! What a host reads and writes of one controller.
 
-ghost use Rattle.std.specs.Prelude.{◌≡◌, ◌≤◌, true, option_map};
-ghost use Rattle.nv_register.specs.Port.{can_start, is_queue, new_port, new_rings, start, stop};
-ghost use Rattle.nv_register.specs.Port.{value_at, value_of, with_cc, with_head, with_high};
-ghost use Rattle.nv_register.specs.Port.{with_low, with_register, with_register_at, with_tail};
+ghost use Rattle.std.specs.Prelude.{◌≡◌, ◌≤◌, true};
+ghost use Rattle.nv_register.specs.Port.{can_start, cc_of, is_queue, new_port, new_rings, start};
+ghost use Rattle.nv_register.specs.Port.{stop, stops_at, stops_by, value_at, value_of, with_cc};
+ghost use Rattle.nv_register.specs.Port.{with_head, with_high, with_low, with_register};
+ghost use Rattle.nv_register.specs.Port.{with_register_at, with_tail};
+ghost use Rattle.nv_register.specs.Readiness.{is_enabled, with_rings};
 
 use crate::admin_queue_attributes::AdminQueueAttributes;
-use crate::controller_configuration::ControllerConfiguration;
+use crate::controller_configuration::{ControllerConfiguration, Sizes};
 use crate::controller_status::ControllerStatus;
+use crate::readiness::Readiness;
 use crate::register::Register;
 use crate::rings::Rings;
 use nv_queue::{Fetch, Post};
@@ -24,16 +27,14 @@ const VS: u32 = 0x0001_0400;
 /// The registers of one controller, and the rings that they make where it is ready.
 #[derive(Drop)]
 pub struct Port {
-    pub cc: ControllerConfiguration,
-    /// Controller Fatal Status.
-    pub cfs: bool,
+    /// What CC says beside EN.
+    pub sizes: Sizes,
+    pub readiness: Readiness,
     pub aqa: AdminQueueAttributes,
     /// Admin Submission Queue Base Address.
     pub asq: u64,
     /// Admin Completion Queue Base Address.
     pub acq: u64,
-    /// The rings, exactly where the controller is ready.
-    pub rings: Option<Rings>,
 }
 
 /// An address with another low dword.
@@ -51,11 +52,11 @@ fn high_dword_set(address: u64, dword: u32) -> u64
 }
 
 /// Whether a queue begins at a page and has 2 to 4,096 entries.
-fn is_queue(cc: ControllerConfiguration, base: u64, less_one: u16) -> bool
-    requires { cc.mps ≤ 4 }
-    ensures { result ≡ is_queue cc base less_one }
+fn is_queue(sizes: Sizes, base: u64, less_one: u16) -> bool
+    requires { sizes.mps ≤ 4 }
+    ensures { result ≡ is_queue sizes base less_one }
 {
-    base % u64::from(cc.page_size()) == 0 && less_one >= 1 && less_one <= 4095
+    base % u64::from(sizes.page_size()) == 0 && less_one >= 1 && less_one <= 4095
 }
 
 impl Port {
@@ -64,17 +65,32 @@ impl Port {
         ensures { result ≡ new_port }
     {
         Port {
-            cc: ControllerConfiguration {
-                en: false,
+            sizes: Sizes {
                 mps: 0,
                 iosqes: 0,
                 iocqes: 0,
             },
-            cfs: false,
+            readiness: Readiness::Off,
             aqa: AdminQueueAttributes { asqs: 0, acqs: 0 },
             asq: 0,
             acq: 0,
-            rings: None,
+        }
+    }
+
+    /// Whether EN is 1. Section "Controller Configuration".
+    pub fn is_enabled(&self) -> bool
+        ensures { result ≡ is_enabled self.now.readiness }
+    {
+        self.readiness.is_enabled()
+    }
+
+    /// What CC holds.
+    fn configuration(&self) -> ControllerConfiguration
+        ensures { result ≡ cc_of self.now }
+    {
+        ControllerConfiguration {
+            en: self.is_enabled(),
+            sizes: self.sizes,
         }
     }
 
@@ -86,11 +102,11 @@ impl Port {
             Register::CapLow => CAP_LOW,
             Register::CapHigh => CAP_HIGH,
             Register::Vs => VS,
-            Register::Cc => self.cc.dword(),
+            Register::Cc => self.configuration().dword(),
             Register::Csts => {
                 let status = ControllerStatus {
-                    rdy: self.rings.is_some(),
-                    cfs: self.cfs,
+                    rdy: self.readiness.is_ready(),
+                    cfs: self.readiness.is_fatal(),
                 };
                 status.dword()
             }
@@ -117,9 +133,9 @@ impl Port {
     fn can_start(&self) -> bool
         ensures { result ≡ can_start self.now }
     {
-        self.cc.mps <= 4
-            && is_queue(self.cc, self.asq, self.aqa.asqs)
-            && is_queue(self.cc, self.acq, self.aqa.acqs)
+        self.sizes.mps <= 4
+            && is_queue(self.sizes, self.asq, self.aqa.asqs)
+            && is_queue(self.sizes, self.acq, self.aqa.acqs)
     }
 
     /// The rings that the registers make.
@@ -128,7 +144,7 @@ impl Port {
         ensures { result ≡ new_rings self.now }
     {
         Rings {
-            page_size: self.cc.page_size(),
+            page_size: self.sizes.page_size(),
             submission: Fetch::new(self.asq, self.aqa.asqs + 1),
             completion: Post::new(self.acq, self.aqa.acqs + 1),
         }
@@ -138,32 +154,33 @@ impl Port {
     fn start(&mut self)
         ensures { self.new ≡ start self.old }
     {
-        if self.can_start() {
-            self.rings = Some(self.new_rings());
+        self.readiness = if self.can_start() {
+            Readiness::Ready {
+                rings: self.new_rings(),
+                fatal: false,
+            }
         } else {
-            self.cfs = true;
-        }
+            Readiness::Failed
+        };
     }
 
     /// Clears EN, and with it RDY and CFS.
     fn stop(&mut self)
         ensures { self.new ≡ stop self.old }
     {
-        self.cc.en = false;
-        self.cfs = false;
-        self.rings = None;
+        self.readiness = Readiness::Off;
     }
 
     /// Takes a write to CC. While EN is 1 only EN changes.
     fn configure(&mut self, cc: ControllerConfiguration)
         ensures { self.new ≡ with_cc self.old cc }
     {
-        if self.cc.en {
+        if self.is_enabled() {
             if !cc.en {
                 self.stop();
             }
         } else {
-            self.cc = cc;
+            self.sizes = cc.sizes;
             if cc.en {
                 self.start();
             }
@@ -172,18 +189,18 @@ impl Port {
 
     fn ring_tail(&mut self, tail: u32)
         ensures { self.new
-            ≡ record self.old { rings = option_map (with_tail tail) self.old.rings } }
+            ≡ record self.old { readiness = with_rings (with_tail tail) self.old.readiness } }
     {
-        if let Some(rings) = &mut self.rings {
+        if let Readiness::Ready { rings, .. } = &mut self.readiness {
             rings.ring_tail(tail);
         }
     }
 
     fn ring_head(&mut self, head: u32)
         ensures { self.new
-            ≡ record self.old { rings = option_map (with_head head) self.old.rings } }
+            ≡ record self.old { readiness = with_rings (with_head head) self.old.readiness } }
     {
-        if let Some(rings) = &mut self.rings {
+        if let Readiness::Ready { rings, .. } = &mut self.readiness {
             rings.ring_head(head);
         }
     }
@@ -195,18 +212,40 @@ impl Port {
         match register {
             Register::CapLow | Register::CapHigh | Register::Vs | Register::Csts => {}
             Register::Cc => self.configure(ControllerConfiguration::of(dword)),
-            Register::Aqa if !self.cc.en => self.aqa = AdminQueueAttributes::of(dword),
-            Register::AsqLow if !self.cc.en => self.asq = low_dword_set(self.asq, dword),
-            Register::AsqHigh if !self.cc.en => self.asq = high_dword_set(self.asq, dword),
-            Register::AcqLow if !self.cc.en => self.acq = low_dword_set(self.acq, dword),
-            Register::AcqHigh if !self.cc.en => self.acq = high_dword_set(self.acq, dword),
             Register::Aqa
             | Register::AsqLow
             | Register::AsqHigh
             | Register::AcqLow
-            | Register::AcqHigh => {}
+            | Register::AcqHigh
+                if self.is_enabled() => {}
+            Register::Aqa => self.aqa = AdminQueueAttributes::of(dword),
+            Register::AsqLow => self.asq = low_dword_set(self.asq, dword),
+            Register::AsqHigh => self.asq = high_dword_set(self.asq, dword),
+            Register::AcqLow => self.acq = low_dword_set(self.acq, dword),
+            Register::AcqHigh => self.acq = high_dword_set(self.acq, dword),
             Register::TailDoorbell => self.ring_tail(dword),
             Register::HeadDoorbell => self.ring_head(dword),
+        }
+    }
+
+    /// Whether a write to a register clears an EN that is 1.
+    fn stops_by(&self, register: Register, dword: u32) -> bool
+        ensures { result ≡ stops_by self.now register dword }
+    {
+        match register {
+            Register::Cc => self.is_enabled() && !ControllerConfiguration::of(dword).en,
+            _ => false,
+        }
+    }
+
+    /// Whether a write of a dword at an offset in bytes clears an EN that is 1, which resets the
+    /// controller. Section "Controller Configuration".
+    pub fn stops_at(&self, offset: u32, dword: u32) -> bool
+        ensures { result ≡ stops_at self.now offset dword }
+    {
+        match Register::at(offset) {
+            Some(register) => self.stops_by(register, dword),
+            None => false,
         }
     }
 

@@ -15,12 +15,13 @@ use Rattle.nv_driver.specs.Schedule.{Answer}
 use Rattle.nv_driver.specs.Settled.{DriverValue}
 use Rattle.nv_layout.specs.declared.id_ctrl.IdCtrl.{IdCtrl}
 use Rattle.nv_print.specs.declared.device.Device.{Device}
-use Rattle.nv_subsystem.specs.State.{State}
-use Rattle.nv_subsystem.specs.Step.{next_serial, step}
-use Rattle.nv_subsystem.specs.declared.origin.TheConstants.{SERIALS}
+use Rattle.nv_model.specs.State.{State}
+use Rattle.nv_model.specs.Step.{next_serial, step}
+use Rattle.nv_model.specs.declared.origin.TheConstants.{SERIALS}
+use Rattle.nv_script.specs.Exchange.{order_of}
 use Rattle.nv_script.specs.Link.{serials_of}
 use Rattle.nv_script.specs.Listing.{IsListed, Standing, asked, asked_all, devices_more, devices_with, listing_answered}
-use Rattle.nv_script.specs.Orders.{namespace_orders, order_of}
+use Rattle.nv_script.specs.Orders.{namespace_orders}
 use Rattle.nv_script.specs.Shown.{Listing}
 
 -- ---- the commands

@@ -1,13 +1,13 @@
 -- What one line leaves, by how its text was printed.
-use Rattle.std.proofs.Common.{◌≡◌, ◌∙◌, ℕ, ◌+◌, List, [], ◌++◌, length, take, sym, ap, subst, refl, inl, inr, append-nil, arith, Bool, false, String, string_bytes, Option, Result, Ok, Err}
+use Rattle.std.proofs.Common.{◌≡◌, ◌∙◌, ℕ, ◌+◌, List, [], ◌++◌, length, take, sym, ap, subst, refl, inl, inr, append-nil, arith, Bool, String, string_bytes, Option, Result, Ok, Err}
 use Rattle.std.specs.Prelude.{IfOk, unwrap_or}
 use Rattle.std.specs.Io.KnownBytes.{Appends}
 use Rattle.std.proofs.lemmas.List.{take_all}
-use Rattle.nv_subsystem.specs.State.{State}
+use Rattle.nv_model.specs.State.{State}
 use Rattle.nv_script.specs.Cuts.{IsCutIn, Holds, Left, left_at, state_amid}
-use Rattle.nv_script.specs.Feeding.{IsFailureOf, LineLeaves, PrintLeaves}
+use Rattle.nv_script.specs.Feeding.{LineLeaves, PrintLeaves}
 use Rattle.nv_line.specs.LineFault.{IsUnlessMemory}
-use Rattle.nv_script.specs.Orders.{commands_of}
+use Rattle.nv_script.specs.Orders.{orders_of}
 use Rattle.nv_script.specs.Outcomes.{outcome_of}
 use Rattle.nv_line.specs.Line.{reading}
 use Rattle.nv_script.specs.Results.{LineResult, Progress, line_result, request_result, result_at, said_at}
@@ -108,12 +108,12 @@ pub said_here : (p : Progress) (text : List ℕ) (s : State) (controllers : ℕ)
 said_here p text s controllers said es ec e = ap (λ (x : State). reading text (length x.controllers)) (sym es) ∙ ap (reading text) (sym ec) ∙ e
 
 pub result_asked : (p : Progress) (text : List ℕ) (r : Request) (s : State) (serials : List ℕ) (n : ℕ) → said_at p text ≡ Ok (line.Request r) → s ≡ p.state → serials ≡ p.serials → n ≡ p.number
-    → result_at p text ≡ request_result (n + 1) s r (outcome_of s serials (commands_of s r.query))
+    → result_at p text ≡ request_result (n + 1) s r (outcome_of s serials (orders_of s r.query))
 result_asked p text r s serials n e es er en =
     ap (λ (x : Said). line_result p.state p.serials (p.number + 1) x) e
-    ∙ ap (λ (x : State). request_result (p.number + 1) x r (outcome_of x p.serials (commands_of x r.query))) (sym es)
-    ∙ ap (λ (x : List ℕ). request_result (p.number + 1) s r (outcome_of s x (commands_of s r.query))) (sym er)
-    ∙ ap (λ (x : ℕ). request_result (x + 1) s r (outcome_of s serials (commands_of s r.query))) (sym en)
+    ∙ ap (λ (x : State). request_result (p.number + 1) x r (outcome_of x p.serials (orders_of x r.query))) (sym es)
+    ∙ ap (λ (x : List ℕ). request_result (p.number + 1) s r (outcome_of s x (orders_of s r.query))) (sym er)
+    ∙ ap (λ (x : ℕ). request_result (x + 1) s r (outcome_of s serials (orders_of s r.query))) (sym en)
 
 pub result_fault : (p : Progress) (text : List ℕ) (f : LineFault) (s : State) (serials : List ℕ) (n : ℕ) → said_at p text ≡ Err f → s ≡ p.state → serials ≡ p.serials → n ≡ p.number
     → result_at p text ≡ line_result s serials (n + 1) (Err f)
@@ -129,14 +129,14 @@ amid-zero s serials (Ok (line.Request r)) = refl
 amid-zero s serials (Err f) = refl
 
 pub amid-some : (p : Progress) (text : List ℕ) (r : Request) (s : State) (serials : List ℕ) (k : ℕ) → said_at p text ≡ Ok (line.Request r) → s ≡ p.state → serials ≡ p.serials
-    → (outcome_of s serials (take k (commands_of s r.query))).state ≡ state_amid p.state p.serials (said_at p text) k
+    → (outcome_of s serials (take k (orders_of s r.query))).state ≡ state_amid p.state p.serials (said_at p text) k
 amid-some p text r s serials k e es er =
-    ap (λ (x : State). (outcome_of x serials (take k (commands_of x r.query))).state) es
-    ∙ ap (λ (x : List ℕ). (outcome_of p.state x (take k (commands_of p.state r.query))).state) er
+    ap (λ (x : State). (outcome_of x serials (take k (orders_of x r.query))).state) es
+    ∙ ap (λ (x : List ℕ). (outcome_of p.state x (take k (orders_of p.state r.query))).state) er
     ∙ ap (λ (x : Said). state_amid p.state p.serials x k) (sym e)
 
 pub amid-all : (p : Progress) (text : List ℕ) (r : Request) (s : State) (serials : List ℕ) → said_at p text ≡ Ok (line.Request r) → s ≡ p.state → serials ≡ p.serials
-    → (outcome_of s serials (commands_of s r.query)).state ≡ state_amid p.state p.serials (said_at p text) (length (commands_of s r.query))
+    → (outcome_of s serials (orders_of s r.query)).state ≡ state_amid p.state p.serials (said_at p text) (length (orders_of s r.query))
 amid-all p text r s serials e es er =
-    ap (λ os. (outcome_of s serials os).state) (sym (take_all (length (commands_of s r.query)) (commands_of s r.query) (omega arith)))
-    ∙ amid-some p text r s serials (length (commands_of s r.query)) e es er
+    ap (λ os. (outcome_of s serials os).state) (sym (take_all (length (orders_of s r.query)) (orders_of s r.query) (omega arith)))
+    ∙ amid-some p text r s serials (length (orders_of s r.query)) e es er

@@ -11,11 +11,11 @@ use Rattle.std.proofs.lemmas.Map.Views.{All-from_any}
 use Rattle.std.proofs.lemmas.Option.{get_or_from_slice_get, slice_get_within}
 use Rattle.nv_command.specs.declared.command.Command.TheVariants.{ActiveList, IdentifyController}
 use Rattle.nv_bits.specs.Numbers.{above}
-use Rattle.nv_subsystem.specs.Nsid.{active_nsids}
-use Rattle.nv_subsystem.specs.State.{Controller, State, ascending, controller_at}
-use Rattle.nv_subsystem.specs.WellFormed.{IsController, IsWellFormed}
-use Rattle.nv_script.specs.Exchange.{Order}
-use Rattle.nv_script.specs.Orders.{namespace_orders, order_of, orders_of_controller, orders_of_list}
+use Rattle.nv_model.specs.Nsid.{active_nsids}
+use Rattle.nv_model.specs.State.{Controller, State, ascending, controller_at}
+use Rattle.nv_model.specs.WellFormed.{IsController, IsWellFormed}
+use Rattle.nv_script.specs.Exchange.{Order, order_of}
+use Rattle.nv_script.specs.Orders.{namespace_orders, orders_of_controller, orders_of_list}
 use Rattle.nv_script.proofs.LookupLaws.{AreLookups, IsAlike}
 
 -- ---- NSIDs that are attached are from 1 to NN

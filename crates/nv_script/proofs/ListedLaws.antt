@@ -4,8 +4,8 @@ use Rattle.std.proofs.Math.Seq.{take-append_seam}
 use Rattle.nv_line.specs.declared.request.Query.TheVariants as query
 use Rattle.nv_print.specs.declared.device.Device.{Device}
 use Rattle.nv_print.specs.declared.shown.Shown.TheVariants as shown
-use Rattle.nv_subsystem.specs.State.{State}
-use Rattle.nv_subsystem.specs.WellFormed.{IsWellFormed}
+use Rattle.nv_model.specs.State.{State}
+use Rattle.nv_model.specs.WellFormed.{IsWellFormed}
 use Rattle.nv_script.specs.Listing.{AreBegun, IsListed, ListLeaves, Standing, asked_all}
 use Rattle.nv_script.specs.Orders.{orders_of_list}
 use Rattle.nv_script.specs.Outcomes.{Outcome, outcome_of}
@@ -46,3 +46,4 @@ module _ (s now : State) (serials next : List ℕ) (ok : IsWellFormed s) where
       → StopLeaves e query.List s serials now next
   list_stopped A (stop.Refused status) devices h = absurd h
   list_stopped A stop.Memory devices h = begun_left h
+  list_stopped A stop.NoReady devices h = absurd h

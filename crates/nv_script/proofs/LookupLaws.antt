@@ -9,15 +9,18 @@ use Rattle.nv_command.specs.declared.command.Command.{Command}
 use Rattle.nv_command.specs.declared.command.Command.TheVariants.{IdentifyController, IdentifyNamespace, AllocatedNamespace, ActiveList, AllocatedList, Create, Delete, Attachment, Format, GetFeature, SetFeature, GetLog}
 use Rattle.nv_command.specs.declared.command.TheConstants.{BROADCAST_NSID}
 use Rattle.nv_command.specs.declared.status_code.StatusCode.TheVariants.{InvalidNamespaceOrFormat}
-use Rattle.nv_subsystem.specs.Identify.{list_rows}
-use Rattle.nv_subsystem.specs.Nsid.{active_nsids}
-use Rattle.nv_subsystem.specs.Refusal.{refusal_of}
-use Rattle.nv_subsystem.specs.Reply.{reply_of}
-use Rattle.nv_subsystem.specs.Row.{first_refusal, row}
-use Rattle.nv_subsystem.specs.State.{Controller, State, ascending, changed_at}
-use Rattle.nv_subsystem.specs.Step.{Step, next_count, step, step_by, with_command}
+use Rattle.nv_model.specs.Identify.{list_rows}
+use Rattle.nv_model.specs.Nsid.{active_nsids}
+use Rattle.nv_model.specs.Refusal.{refusal_of}
+use Rattle.nv_model.specs.Reply.{reply_of}
+use Rattle.nv_model.specs.Row.{first_refusal, row}
+use Rattle.nv_model.specs.State.{Controller, State, ascending, changed_at}
+use Rattle.nv_model.specs.Step.{Step, next_count, step, step_by, with_command}
 use Rattle.nv_command.specs.declared.reply.Reply.{Reply}
-use Rattle.nv_script.specs.Exchange.{Order, exchange_of}
+use Rattle.nv_command.specs.declared.reply.Reply.TheVariants.{Done}
+use Rattle.nv_script.specs.Exchange.{Order, exchange_by}
+use Rattle.nv_script.specs.declared.order.Act.{Act}
+use Rattle.nv_script.specs.declared.order.Act.TheVariants.{Send, Reset}
 use Rattle.nv_script.specs.Listing.{Standing, asked, asked_all, listing_answered}
 use Rattle.nv_script.specs.Outcomes.{outcome_after, outcome_of}
 use Rattle.nv_script.specs.Shown.{listing_of}
@@ -30,8 +33,12 @@ IsLookup nn (ActiveList after) = after ≡ 0
 IsLookup nn (IdentifyNamespace n) = (1 ≤ n) × (n ≤ nn)
 IsLookup nn _ = ⊥
 
+abbrev pub IsLookupAct : ℕ → Act → Type 0
+IsLookupAct nn (Send k) = IsLookup nn k
+IsLookupAct nn Reset = ⊥
+
 abbrev pub AreLookups : ℕ → List Order → Type 0
-AreLookups nn orders = AllByRecursion (λ (o : Order). IsLookup nn o.command) orders
+AreLookups nn orders = AllByRecursion (λ (o : Order). IsLookupAct nn o.act) orders
 
 -- ---- one command
 
@@ -106,10 +113,14 @@ lookups_at : (nn now : ℕ) (orders : List Order) → now ≡ nn → AreLookups 
 lookups_at nn now orders e h = subst (λ n. AreLookups n orders) (sym e) h
 
 -- the state after a command of list
-pub asked_alike : (w : Standing) (o : Order) → IsLookup w.state.nn o.command → IsAlike w.state (asked w o).state
-asked_alike w o h =
-    counted w.state (asked w o).state o.controller
-    (ap (λ (x : Step). x.state) (looked w.state o.controller o.command (get_or w.serials o.controller 0) h))
+pub asked_alike : (w : Standing) (o : Order) → IsLookupAct w.state.nn o.act → IsAlike w.state (asked w o).state
+asked_alike w o h = at_act o.act h
+  where
+    at_act : (a : Act) → IsLookupAct w.state.nn a → IsAlike w.state (exchange_by a w.state w.serials o.controller).state
+    at_act (Send k) h =
+        counted w.state (exchange_by (Send k) w.state w.serials o.controller).state o.controller
+        (ap (λ (x : Step). x.state) (looked w.state o.controller k (get_or w.serials o.controller 0) h))
+    at_act Reset h = absurd h
 
 pub asked_all_alike : (w : Standing) (orders : List Order) → AreLookups w.state.nn orders → IsAlike w.state (asked_all w orders).state
 asked_all_alike w [] h = alike-self w.state
@@ -133,10 +144,17 @@ received_same (GetFeature fid sel n cdw11) nn s c h = absurd h
 received_same (SetFeature fid value save n) nn s c h = absurd h
 received_same (GetLog lid n offset dwords) nn s c h = absurd h
 
-accepted : (s : State) (serials : List ℕ) (o : Order) → IsLookup s.nn o.command → (exchange_of s serials o).answer ≡ Ok (reply_of s o.controller o.command)
-accepted s serials o h =
-    ap (λ (x : Step). answer_received o.command x.answer) (looked s o.controller o.command (get_or serials o.controller 0) h)
-    ∙ received_same o.command s.nn s o.controller h
+-- the reply to an act
+reply_to : State → ℕ → Act → Reply
+reply_to s c (Send k) = reply_of s c k
+reply_to s c Reset = Done
+
+accepted : (s : State) (serials : List ℕ) (c : ℕ) (a : Act) → IsLookupAct s.nn a → (exchange_by a s serials c).answer ≡ Ok (reply_to s c a)
+unfolding reply_to
+accepted s serials c (Send k) h =
+    ap (λ (x : Step). answer_received k x.answer) (looked s c k (get_or serials c 0) h)
+    ∙ received_same k s.nn s c h
+accepted s serials c Reset h = absurd h
 
 -- so their outcome is where `list` stands, and their replies are what it lists
 pub record AreAccepted (w : Standing) (orders : List Order) : Type 0 where
@@ -147,9 +165,9 @@ pub record AreAccepted (w : Standing) (orders : List Order) : Type 0 where
 pub all_accepted : (w : Standing) (orders : List Order) → AreLookups w.state.nn orders → AreAccepted w orders
 all_accepted w [] h = record { replies = []; outcome = refl; listing = refl }
 all_accepted w (o ∷ os) h =
-    let reply = reply_of w.state o.controller o.command in
+    let reply = reply_to w.state o.controller o.act in
     let next = asked w o in
-    let is = accepted w.state w.serials o h.0 in
+    let is = accepted w.state w.serials o.controller o.act h.0 in
     let rest = all_accepted next os (lookups_at w.state.nn next.state.nn os (asked_alike w o h.0).nn h.1) in
     record {
       replies = reply ∷ rest.replies;

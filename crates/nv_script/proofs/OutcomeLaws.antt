@@ -1,7 +1,7 @@
 -- The outcome of commands by that of the first.
 use Rattle.std.proofs.Common.{◌≡◌, ℕ, ap, sym, List, [], ◌∷◌, None, Some, Ok, Err}
 use Rattle.nv_layout.specs.declared.status.Status.{Status}
-use Rattle.nv_subsystem.specs.State.{State}
+use Rattle.nv_model.specs.State.{State}
 use Rattle.nv_command.specs.declared.reply.Reply.{Reply}
 use Rattle.nv_script.specs.Exchange.{Exchange, Order, exchange_of}
 use Rattle.nv_script.specs.Outcomes.{Outcome, outcome_after, outcome_of}

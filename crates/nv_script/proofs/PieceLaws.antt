@@ -4,7 +4,7 @@ use Rattle.std.proofs.lemmas.List.{take_more, take-append-drop, length-append}
 use Rattle.std.proofs.lemmas.Grind.{fold-append}
 use Rattle.std.proofs.lemmas.Bool.Decides.{nat_tests}
 use Rattle.std.specs.Prelude.{Option, Some, None, nat_le}
-use Rattle.nv_subsystem.specs.State.{State}
+use Rattle.nv_model.specs.State.{State}
 use Rattle.nv_script.specs.Cuts.{joined_lines}
 use Rattle.nv_script.specs.Results.{after, start, whole}
 use Rattle.nv_script.specs.ScriptLines.{Pieces, as_line, buffer_of, buffer_with, pieces, script_lines}

@@ -1,5 +1,5 @@
--- What a query leaves, by how far its commands were sent.
-use Rattle.std.proofs.Common.{◌≡◌, ◌∙◌, ℕ, ◌+◌, arith, ap, sym, refl, List, [], ◌∷◌, length, Option, None, Some, Result, Ok, Err}
+-- What a query leaves, by how far its orders were carried out.
+use Rattle.std.proofs.Common.{◌≡◌, ◌∙◌, ℕ, ◌+◌, arith, ap, sym, refl, List, [], ◌∷◌, length, get_or, Option, None, Some, Result, Ok, Err}
 use Rattle.std.specs.Option.{option_map_or}
 use Rattle.std.proofs.lemmas.List.{take_all}
 use Rattle.nv_layout.specs.declared.status.Status.{Status}
@@ -9,21 +9,22 @@ use Rattle.nv_command.specs.declared.command.Command.TheVariants.{IdentifyContro
 use Rattle.nv_command.specs.declared.refusal.Refusal.{Refusal}
 use Rattle.nv_command.specs.declared.reply.Reply.{Reply}
 use Rattle.nv_command.specs.declared.reply.Reply.TheVariants as reply
-use Rattle.nv_subsystem.specs.IdentifyController.{id_ctrl_of, no_controller}
-use Rattle.nv_subsystem.specs.Logs.{entry_count}
-use Rattle.nv_subsystem.specs.Refusal.{refusal_of}
-use Rattle.nv_subsystem.specs.State.{Controller, State, controller_at}
-use Rattle.nv_subsystem.specs.Step.{step, step_by}
+use Rattle.nv_model.specs.IdentifyController.{id_ctrl_of, no_controller}
+use Rattle.nv_model.specs.Logs.{entry_count}
+use Rattle.nv_model.specs.Refusal.{refusal_of}
+use Rattle.nv_model.specs.State.{Controller, State, controller_at}
+use Rattle.nv_model.specs.Step.{step_by}
 use Rattle.nv_line.specs.declared.request.Ask.{Ask}
 use Rattle.nv_line.specs.declared.request.Ask.TheVariants as ask
 use Rattle.nv_line.specs.declared.request.Query.{Query}
 use Rattle.nv_line.specs.declared.request.Query.TheVariants.{One}
 use Rattle.nv_line.specs.declared.request.Question.{Question}
-use Rattle.nv_script.specs.Exchange.{Exchange, exchange_of}
-use Rattle.nv_script.specs.Orders.{commands_of, errors_command, first_command, later_orders, next_command, order_of, second_command}
+use Rattle.nv_script.specs.Exchange.{Exchange, Order, exchange_by, exchange_of, exchange_with, order_of}
+use Rattle.nv_script.specs.Orders.{errors_command, first_act, later_orders, next_command, orders_of, second_command}
 use Rattle.nv_script.specs.Outcomes.{Outcome, outcome_after, outcome_of}
-use Rattle.nv_script.specs.Performing.{IsReached, QueryLeaves, StopLeaves}
+use Rattle.nv_script.specs.Performing.{IsReached, OrderLeaves, QueryLeaves, StopLeaves}
 use Rattle.nv_script.specs.Shown.{shown_of}
+use Rattle.nv_script.specs.declared.performing.Stop.{Stop}
 use Rattle.nv_script.specs.declared.performing.Stop.TheVariants as stop
 use Rattle.nv_print.specs.declared.shown.Shown.{Shown}
 use Rattle.nv_script.proofs.OutcomeLaws.{accepted_first, accepted_with, refused_at_once, refused_with}
@@ -41,9 +42,9 @@ kept_told : (s : State) (o : Option Controller)
 kept_told s None = refl
 kept_told s (Some x) = refl
 
-module _ (s : State) (c serial : ℕ) where
+module _ (s : State) (serials : List ℕ) (c : ℕ) where
   errors_next : (entries : ℕ) (refusal : Option Refusal) (r : Reply)
-      → Ok r ≡ answer_received IdentifyController (step_by refusal s c IdentifyController serial).answer
+      → Ok r ≡ answer_received IdentifyController (step_by refusal s c IdentifyController (get_or serials c 0)).answer
       → next_command (ask.ErrorLog entries) r ≡ second_command (entry_count s c) (ask.ErrorLog entries)
   unfolding reply_or_done
   errors_next entries None r e =
@@ -51,7 +52,7 @@ module _ (s : State) (c serial : ℕ) where
       ∙ ap (λ n. Some (errors_command entries n)) (kept_told s (controller_at s c))
   errors_next entries (Some refusal) r e = absurd (cc)
 
-  pub second_is_next : (a : Ask) (reply : Reply) → Ok reply ≡ answer_received (first_command a) (step s c (first_command a) serial).answer
+  pub second_is_next : (a : Ask) (reply : Reply) → Ok reply ≡ (exchange_by (first_act a) s serials c).answer
       → next_command a reply ≡ second_command (entry_count s c) a
   second_is_next ask.IdCtrl reply e = refl
   second_is_next (ask.ListNs first all) reply e = refl
@@ -63,6 +64,7 @@ module _ (s : State) (c serial : ℕ) where
   second_is_next (ask.GetFeature fid sel nsid cdw11) reply e = refl
   second_is_next (ask.SetFeature fid value save nsid) reply e = refl
   second_is_next (ask.SmartLog nsid) reply e = refl
+  second_is_next ask.Reset reply e = refl
   second_is_next (ask.ErrorLog entries) reply e = errors_next entries (refusal_of s c IdentifyController) reply e
 
 -- ---- where an outcome leads
@@ -72,7 +74,7 @@ reached o s serials state next = record { subsystem = state; next = next }
 
 module _ (s now : State) (serials next : List ℕ) (q : Query) where
   abbrev whole : Outcome
-  whole = outcome_of s serials (commands_of s q)
+  whole = outcome_of s serials (orders_of s q)
 
   pub left_refused : (replies : List Reply) (status : Status) → whole ≡ refused_with replies status now next
       → StopLeaves (stop.Refused status) q s serials now next
@@ -82,55 +84,55 @@ module _ (s now : State) (serials next : List ℕ) (q : Query) where
   )
 
   pub left_shown : (shown : Option Shown) (replies : List Reply) → whole ≡ accepted_with replies now next
-      → shown ≡ shown_of (commands_of s q) q replies → QueryLeaves (Ok shown) q s serials now next
+      → shown ≡ shown_of (orders_of s q) q replies → QueryLeaves (Ok shown) q s serials now next
   left_shown shown replies e is = (
     ap (λ (x : Outcome). x.refusal) e,
-    is ∙ ap (λ (x : Outcome). shown_of (commands_of s q) q x.replies) (sym e),
+    is ∙ ap (λ (x : Outcome). shown_of (orders_of s q) q x.replies) (sym e),
     reached whole now next (sym (ap (λ (x : Outcome). x.state) e)) (sym (ap (λ (x : Outcome). x.serials) e)),
   )
 
-  -- memory was refused after all commands
+  -- memory was refused after all orders
   pub left_memory : IsReached whole now next → StopLeaves stop.Memory q s serials now next
   left_memory is =
-      let all = ap (outcome_of s serials) (take_all (length (commands_of s q)) (commands_of s q) (omega arith)) in (
-        length (commands_of s q),
+      let all = ap (outcome_of s serials) (take_all (length (orders_of s q)) (orders_of s q) (omega arith)) in (
+        length (orders_of s q),
         reached _ now next (is.subsystem ∙ sym (ap (λ (x : Outcome). x.state) all)) (is.next ∙ sym (ap (λ (x : Outcome). x.serials) all)),
       )
 
--- ---- the commands of a question
+-- ---- the orders of a question
 
 module _ (s now : State) (serials next : List ℕ) (q : Question) where
-  abbrev first : Exchange
-  first = exchange_of s serials (order_of q.controller (first_command q.ask))
+  abbrev first : Order
+  first = record { controller = q.controller; act = first_act q.ask }
 
-  -- the first was refused
-  pub first_refused : (status : Status) → ◌≡◌ {A = Exchange} (record { answer = Err status; state = now; serials = next }) first
-      → outcome_of s serials (commands_of s (One q)) ≡ refused_with [] status now next
-  first_refused status e = refused_at_once s now serials next (order_of q.controller (first_command q.ask)) (later_orders q.controller (second_command (entry_count s q.controller) q.ask)) status e
-
-  module _ (reply : Reply) (e : ◌≡◌ {A = Exchange} (record { answer = Ok reply; state = now; serials = next }) first) (later : Option Command)
+  module _ (reply : Reply) (e : exchange_with (Ok reply) now next ≡ exchange_of s serials first) (later : Option Command)
       (is : later ≡ next_command q.ask reply) where
-    begun : outcome_of s serials (commands_of s (One q)) ≡ outcome_after (Ok reply) now next (outcome_of now next (later_orders q.controller later))
+    begun : outcome_of s serials (orders_of s (One q)) ≡ outcome_after (Ok reply) now next (outcome_of now next (later_orders q.controller later))
     begun =
-        accepted_first s now serials next (order_of q.controller (first_command q.ask)) (later_orders q.controller (second_command (entry_count s q.controller) q.ask)) reply e
+        accepted_first s now serials next first (later_orders q.controller (second_command (entry_count s q.controller) q.ask)) reply e
         ∙ ap (λ x. outcome_after (Ok reply) now next (outcome_of now next (later_orders q.controller x)))
-        (sym (is ∙ second_is_next s q.controller _ q.ask reply (ap (λ (x : Exchange). x.answer) e)))
+        (sym (is ∙ second_is_next s serials q.controller q.ask reply (ap (λ (x : Exchange). x.answer) e)))
 
   -- the first was all
-  pub one_accepted : (reply : Reply) → ◌≡◌ {A = Exchange} (record { answer = Ok reply; state = now; serials = next }) first
-      → None ≡ next_command q.ask reply → outcome_of s serials (commands_of s (One q)) ≡ accepted_with (reply ∷ []) now next
+  pub one_accepted : (reply : Reply) → exchange_with (Ok reply) now next ≡ exchange_of s serials first
+      → None ≡ next_command q.ask reply → outcome_of s serials (orders_of s (One q)) ≡ accepted_with (reply ∷ []) now next
   one_accepted reply e is = begun reply e None is
 
-  module _ (last : State) (end : List ℕ) (reply : Reply) (e : ◌≡◌ {A = Exchange} (record { answer = Ok reply; state = now; serials = next }) first) (k : Command)
+  module _ (last : State) (end : List ℕ) (reply : Reply) (e : exchange_with (Ok reply) now next ≡ exchange_of s serials first) (k : Command)
       (is : Some k ≡ next_command q.ask reply) where
-    pub second_refused : (status : Status) → ◌≡◌ {A = Exchange} (record { answer = Err status; state = last; serials = end }) (exchange_of now next (order_of q.controller k))
-        → outcome_of s serials (commands_of s (One q)) ≡ refused_with (reply ∷ []) status last end
+    second_refused : (status : Status) → exchange_with (Err status) last end ≡ exchange_of now next (order_of q.controller k)
+        → outcome_of s serials (orders_of s (One q)) ≡ refused_with (reply ∷ []) status last end
     second_refused status e2 =
         begun reply e (Some k) is
         ∙ ap (outcome_after (Ok reply) now next) (refused_at_once now last next end (order_of q.controller k) [] status e2)
 
-    pub two_accepted : (second : Reply) → ◌≡◌ {A = Exchange} (record { answer = Ok second; state = last; serials = end }) (exchange_of now next (order_of q.controller k))
-        → outcome_of s serials (commands_of s (One q)) ≡ accepted_with (reply ∷ second ∷ []) last end
+    pub second_stopped : (e : Stop) → OrderLeaves (Err e) (order_of q.controller k) now next last end → StopLeaves e (One q) s serials last end
+    second_stopped (stop.Refused status) h = left_refused s last serials end (One q) (reply ∷ []) status (second_refused status h)
+    second_stopped stop.Memory h = absurd h
+    second_stopped stop.NoReady h = absurd h
+
+    pub two_accepted : (second : Reply) → exchange_with (Ok second) last end ≡ exchange_of now next (order_of q.controller k)
+        → outcome_of s serials (orders_of s (One q)) ≡ accepted_with (reply ∷ second ∷ []) last end
     two_accepted second e2 =
         begun reply e (Some k) is
         ∙ ap (outcome_after (Ok reply) now next) (accepted_first now last next end (order_of q.controller k) [] second e2)

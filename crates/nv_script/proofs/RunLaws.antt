@@ -4,14 +4,14 @@ use Rattle.std.specs.Prelude.{IfSome, MatchResult, replicate}
 use Rattle.std.specs.Io.KnownBytes.{Appends, Consumes, IsAtEnd, Keeps}
 use Rattle.std.proofs.lemmas.Bool.Decides.{nat_tests}
 use Rattle.std.proofs.lemmas.List.{length-append, length-take-le}
-use Rattle.nv_subsystem.specs.State.{State}
+use Rattle.nv_model.specs.State.{State}
 use Rattle.nv_script.specs.Cuts.{IsCutShort, Holds, Left}
 use Rattle.nv_driver.specs.Geometry.{fault_of}
 use Rattle.nv_driver.specs.declared.error.DriverError.{DriverError}
 use Rattle.nv_driver.specs.declared.error.DriverError.TheVariants as error
 use Rattle.nv_driver.specs.declared.geometry.Geometry.{Geometry as DriverGeometry}
 use Rattle.nv_driver.specs.declared.geometry_field.GeometryField.{GeometryField}
-use Rattle.nv_script.specs.Ends.{AreFaults, Headline, IsEndOf, IsEndWithout, IsFaultOf, IsRun, Leaves, RunState, Runs, RunsWithin, WasRead, end_without, has_stopped, left_by}
+use Rattle.nv_script.specs.Ends.{AllEnabled, AreFaults, Headline, IsEndOf, IsEndWithout, IsFaultOf, IsRun, Leaves, RunState, Runs, RunsFrom, WasRead, begun, end_without, has_stopped, left_by}
 use Rattle.nv_script.specs.Feeding.{IsFailureOf, LastLeaves, PieceLeaves, Stands}
 use Rattle.nv_script.specs.Results.{Progress, whole}
 use Rattle.nv_script.specs.ScriptLines.{as_line, pieces, script_lines}
@@ -61,11 +61,11 @@ read_whole None new bytes P h k p = tt
 read_whole (Some xs) None bytes P h k p = absurd h
 read_whole (Some xs) (Some ys) bytes P h k p = subst P (sym (h ∙ ap (λ z. bytes ++ z) k ∙ append-nil bytes)) p
 
-pub headline : (reads : ℕ) (end : RunEnd) (old new : RunState) → RunsWithin reads end old new → Headline end old new
+pub headline : (reads : ℕ) (end : RunEnd) (old new : RunState) → RunsFrom (begun old) reads end old new → Headline end old new
 headline reads end old new h status e =
-    let left : Leaves (Status status) old.subsystem h.bytes (left_by old new) = subst (λ x. Leaves x old.subsystem h.bytes (left_by old new)) e h.left in
+    let left : Leaves (Status status) (begun old) h.bytes (left_by old new) = subst (λ x. Leaves x (begun old) h.bytes (left_by old new)) e h.left in
     let ended : IsEndOf (Status status) reads new = subst (λ x. IsEndOf x reads new) e h.end_of in
-    read_whole old.script.to_come new.script.to_come h.bytes (λ script. Leaves (Status status) old.subsystem script (left_by old new)) h.was_read.first ended.4 left
+    read_whole old.script.to_come new.script.to_come h.bytes (λ script. Leaves (Status status) (begun old) script (left_by old new)) h.was_read.first ended.4 left
 
 -- cut short: what is left
 pub cut_leaves : (end : RunEnd) (s : State) (bytes : List ℕ) (left : Left) → IsCutShort end s bytes left → Leaves end s bytes left
@@ -155,9 +155,21 @@ without g (error.Geometry field) h = h
 without g error.Memory h = h
 without g error.NoReady h = absurd h
 
-pub with_driver : (g : DriverGeometry) (reads : ℕ) (end : RunEnd) (old mid new : RunState) → fault_of g ≡ None → mid ≡ old
-    → RunsWithin reads end mid new → Runs g reads end old new
-with_driver g reads end old mid new is same runs = inr (is, subst (λ (x : RunState). RunsWithin reads end x new) same runs)
+-- a driver was brought up before
+pub with_driver : (g : DriverGeometry) (reads : ℕ) (end : RunEnd) (old new : RunState) (s : State) (enabled : List Bool) → fault_of g ≡ None → s ≡ begun old
+    → RunsFrom s reads end (record old { subsystem = s; enabled = enabled }) new → AllEnabled new → Runs g reads end old new
+with_driver g reads end old new s enabled is same runs all =
+    inr (
+      is,
+      record {
+        bytes = runs.bytes;
+        was_read = runs.was_read;
+        left = subst (λ (x : State). Leaves end x runs.bytes (left_by old new)) same runs.left;
+        end_of = runs.end_of;
+        calls = runs.calls;
+      },
+      all,
+    )
 
 runs_headline : (g : DriverGeometry) (reads : ℕ) (end : RunEnd) (old new : RunState) → Runs g reads end old new → Headline end old new
 runs_headline g reads end old new (inl h) status e = absurd (subst (IsEndWithout g) e h.0)

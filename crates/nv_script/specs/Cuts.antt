@@ -2,8 +2,8 @@
 use Rattle.std.specs.Prelude.{◌≡◌, ℕ, ◌+◌, ◌<◌, List, [], ◌∷◌, ◌++◌, length, take, flat_map, Option}
 use Rattle.std.specs.Prelude.{Result, Ok, Err}
 use Rattle.std.specs.Io.KnownBytes.{Appends}
-use Rattle.nv_subsystem.specs.State.{State}
-use Rattle.nv_script.specs.Orders.{commands_of}
+use Rattle.nv_model.specs.State.{State}
+use Rattle.nv_script.specs.Orders.{orders_of}
 use Rattle.nv_script.specs.Outcomes.{outcome_of}
 use Rattle.nv_script.specs.Results.{Progress, result_at, said_at, whole}
 use Rattle.nv_script.specs.ScriptLines.{script_lines}
@@ -46,11 +46,11 @@ abbrev pub HoldsWhole : State → List (List ℕ) → Left → Type 0
 HoldsWhole s lines left =
     Holds left (whole s lines).output (whole s lines).messages (whole s lines).state
 
--- the state after the first k commands of a line
+-- the state after the first k orders of a line
 abbrev pub state_amid : State → List ℕ → Result Line LineFault → ℕ → State
 state_amid s serials (Ok line.Skipped) k = s
 state_amid s serials (Ok (line.Request r)) k =
-    (outcome_of s serials (take k (commands_of s r.query))).state
+    (outcome_of s serials (take k (orders_of s r.query))).state
 state_amid s serials (Err fault) k = s
 
 -- The beginnings, at a line after p. The output failed: the texts before the line stand whole, and
@@ -64,7 +64,7 @@ abbrev pub IsMessageBeginning : Progress → List ℕ → Left → Type 0
 IsMessageBeginning p line left = (part : List ℕ) × IsBeginning part (result_at p line).message
     × Holds left p.output (p.messages ++ part) (result_at p line).state
 
--- memory was refused: nothing of the line stands, and some of its commands were executed
+-- memory was refused: nothing of the line stands, and some of its orders were carried out
 abbrev pub IsMemoryBeginning : Progress → List ℕ → Left → Type 0
 IsMemoryBeginning p line left = (k : ℕ)
     × Holds left p.output p.messages (state_amid p.state p.serials (said_at p line) k)

@@ -1,8 +1,10 @@
 -- What a run promises: how it ends, and what each of its ends leaves.
 use Rattle.std.specs.Prelude.{◌≡◌, ◌≢◌, ◌↔◌, ◌⊎◌, ℕ, ◌≤◌, ◌==◌, ◌||◌, Bool, true, false, List}
-use Rattle.std.specs.Prelude.{length, IfSome, Some, None}
+use Rattle.std.specs.Prelude.{length, replicate, IfSome, Some, None}
 use Rattle.std.specs.Io.KnownBytes.{Consumes, IsAtEnd}
-use Rattle.nv_subsystem.specs.State.{State}
+use Rattle.nv_model.specs.Reset.{reset_where}
+use Rattle.nv_model.specs.State.{State}
+use Rattle.nv_bus.specs.Bus.{BusValue, enabled_in}
 use Rattle.nv_driver.specs.Geometry.{fault_of}
 use Rattle.nv_driver.specs.declared.error.DriverError.{DriverError}
 use Rattle.nv_driver.specs.declared.error.DriverError.TheVariants as error
@@ -16,16 +18,30 @@ use Rattle.nv_script.specs.declared.ends.RunEnd.{RunEnd}
 use Rattle.nv_script.specs.declared.ends.RunEnd.TheVariants.{Status, Geometry, NoReady, Read}
 use Rattle.nv_script.specs.declared.ends.RunEnd.TheVariants.{OutWrite, MessageWrite, Memory}
 
--- what a run works on
+-- what a run works on: the subsystem, which of its controllers are enabled, and the streams
 pub record RunState : Type 0 where
   pub subsystem : State
+  pub enabled : List Bool
   pub script : SourceState
   pub out : SinkState
   pub messages : SinkState
 
-abbrev pub run_state : State → SourceState → SinkState → SinkState → RunState
-run_state subsystem script out messages =
-    record { subsystem = subsystem; script = script; out = out; messages = messages }
+abbrev pub run_state : BusValue → SourceState → SinkState → SinkState → RunState
+run_state b script out messages = record {
+  subsystem = b.state;
+  enabled = enabled_in b.ports;
+  script = script;
+  out = out;
+  messages = messages;
+}
+
+-- the subsystem as the first line finds it: each controller that was enabled has been reset
+abbrev pub begun : RunState → State
+begun old = reset_where old.enabled old.subsystem
+
+-- each controller is enabled
+abbrev pub AllEnabled : RunState → Type 0
+AllEnabled now = now.enabled ≡ replicate (length now.subsystem.controllers) true
 
 -- what a run left, beside what there was before it
 abbrev pub left_by : RunState → RunState → Left
@@ -70,11 +86,11 @@ IsEndOf OutWrite reads now = (now.out.has_failed ≡ true) × (now.messages.has_
 IsEndOf MessageWrite reads now = (now.out.has_failed ≡ false) × (now.messages.has_failed ≡ true)
 IsEndOf Memory reads now = (now.out.has_failed ≡ false) × (now.messages.has_failed ≡ false)
 
--- a run of at most so many reads
-pub record RunsWithin (reads : ℕ) (end : RunEnd) (old new : RunState) : Type 0 where
+-- a run of at most so many reads, which began at s
+pub record RunsFrom (s : State) (reads : ℕ) (end : RunEnd) (old new : RunState) : Type 0 where
   pub bytes : List ℕ
   pub was_read : WasRead old.script new.script bytes
-  pub left : Leaves end old.subsystem bytes (left_by old new)
+  pub left : Leaves end s bytes (left_by old new)
   pub end_of : IsEndOf end reads new
   pub calls : new.script.calls ≤ reads
 
@@ -99,17 +115,18 @@ IsEndWithout g Memory = fault_of g ≡ None
 IsEndWithout g _ = ⊥
 
 -- A run without a driver changes nothing. One with a driver is in a geometry within its limits,
--- which occurs nowhere else.
+-- which occurs nowhere else, and leaves each controller enabled.
 abbrev pub Runs : DriverGeometry → ℕ → RunEnd → RunState → RunState → Type 0
 Runs g reads end old new =
-    (IsEndWithout g end × (new ≡ old)) ⊎ ((fault_of g ≡ None) × RunsWithin reads end old new)
+    (IsEndWithout g end × (new ≡ old))
+    ⊎ ((fault_of g ≡ None) × RunsFrom (begun old) reads end old new × AllEnabled new)
 
 -- the headline: a script that is told and was read to its end leaves what the fold over its lines
 -- says
 abbrev pub Headline : RunEnd → RunState → RunState → Type 0
 Headline end old new = (status : ℕ) → end ≡ Status status
     → IfSome old.script.to_come
-    (λ script. Leaves (Status status) old.subsystem script (left_by old new))
+    (λ script. Leaves (Status status) (begun old) script (left_by old new))
 
 -- When each fault comes: a write's exactly where that sink has failed; a read's exactly where the
 -- source has stopped, no write failed and no memory was refused; a controller that isn't ready,

@@ -1,10 +1,10 @@
--- A bus and its driver between two commands.
+-- A bus and its driver between two orders.
 use Rattle.std.specs.Prelude.{◌≡◌, ℕ, List, length, map, replicate}
-use Rattle.nv_controller.specs.Bus.{BusValue, IsBus}
+use Rattle.nv_bus.specs.Bus.{BusValue, IsBus}
 use Rattle.nv_driver.specs.Lane.{Lane}
 use Rattle.nv_driver.specs.Registers.{ports_of}
 use Rattle.nv_driver.specs.Settled.{DriverValue}
-use Rattle.nv_subsystem.specs.State.{State}
+use Rattle.nv_model.specs.State.{State}
 use Rattle.nv_script.specs.declared.session.Session.{Session}
 
 -- the next command identifier of each controller
@@ -16,7 +16,7 @@ pub record IsLinked (b : BusValue) (d : DriverValue) : Type 0 where
   pub bus : IsBus b
   pub left : b.ports ≡ ports_of d
 
--- a session before the first line and the first command
+-- a session before the first line
 pub record IsFirst (s : State) (session : Session) : Type 0 where
   pub next : serials_of session.driver ≡ replicate (length s.controllers) 0
   pub number : session.number ≡ 0

@@ -1,7 +1,7 @@
--- Where `list` stands between two of its commands.
+-- Where `list` stands between two of its orders.
 use Rattle.std.specs.Prelude.{◌≡◌, ℕ, List, [], ◌∷◌, ◌++◌, Result, Ok, Err, fold}
 use Rattle.nv_layout.specs.declared.status.Status.{Status}
-use Rattle.nv_subsystem.specs.State.{State}
+use Rattle.nv_model.specs.State.{State}
 use Rattle.nv_command.specs.declared.reply.Reply.{Reply}
 use Rattle.nv_command.specs.declared.reply.Reply.TheVariants as reply
 use Rattle.nv_driver.specs.Schedule.{Answer}
@@ -21,10 +21,10 @@ pub record Standing : Type 0 where
 
 -- a refusal adds nothing
 abbrev pub listing_answered : Listing → Order → Result Reply Status → Listing
-listing_answered l o (Ok reply) = listing_told o.controller l o.command reply
+listing_answered l o (Ok reply) = listing_told o.controller l o.act reply
 listing_answered l o (Err status) = l
 
--- after one command more, refused or not
+-- after one order more, refused or not
 abbrev pub asked : Standing → Order → Standing
 asked w o =
     let e = exchange_of w.state w.serials o in
@@ -40,7 +40,7 @@ pub record IsListed (w : Standing) (state : State) (serials : List ℕ)
   pub next : serials ≡ w.serials
   pub listed : devices ≡ w.listing.devices
 
--- the first of some commands were executed
+-- the first of some orders were carried out
 pub record AreBegun (w : Standing) (orders : List Order) (state : State)
     (serials : List ℕ) : Type 0 where
   pub done : List Order
@@ -49,13 +49,15 @@ pub record AreBegun (w : Standing) (orders : List Order) (state : State)
   pub subsystem : state ≡ (asked_all w done).state
   pub next : serials ≡ (asked_all w done).serials
 
--- all of some commands were executed and their replies are listed, or memory was refused amid them
+-- all of some orders were carried out and their replies are listed, or memory was refused amid
+-- them
 abbrev pub ListLeaves : {A : Type 0} → Result A Stop → Standing → List Order → State → List ℕ
     → List Device → Type 0
 ListLeaves (Ok done) w orders state serials devices =
     IsListed (asked_all w orders) state serials devices
 ListLeaves (Err (stop.Refused status)) w orders state serials devices = ⊥
 ListLeaves (Err stop.Memory) w orders state serials devices = AreBegun w orders state serials
+ListLeaves (Err stop.NoReady) w orders state serials devices = ⊥
 
 -- ---- a batch
 

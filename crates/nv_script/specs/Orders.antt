@@ -1,11 +1,11 @@
--- The commands that a query stands for.
+-- What a query has controllers do.
 use Rattle.std.specs.Prelude.{ℕ, ◌+◌, ◌-◌, ◌*◌, max, min, Bool, List, [], ◌∷◌, Option, Some, None}
 use Rattle.std.specs.Prelude.{flat_map, if◌then◌else◌, length, map}
 use Rattle.std.specs.List.{range_with_len}
 use Rattle.nv_bits.specs.Numbers.{above}
-use Rattle.nv_subsystem.specs.Logs.{entry_count}
-use Rattle.nv_subsystem.specs.Nsid.{active_nsids}
-use Rattle.nv_subsystem.specs.State.{State}
+use Rattle.nv_model.specs.Logs.{entry_count}
+use Rattle.nv_model.specs.Nsid.{active_nsids}
+use Rattle.nv_model.specs.State.{State}
 use Rattle.nv_command.specs.declared.command.Command.{Command}
 use Rattle.nv_command.specs.declared.command.Command.TheVariants.{IdentifyController}
 use Rattle.nv_command.specs.declared.command.Command.TheVariants.{IdentifyNamespace}
@@ -16,16 +16,20 @@ use Rattle.nv_command.specs.declared.command.Command.TheVariants.{Format, GetFea
 use Rattle.nv_command.specs.declared.command.Command.TheVariants.{GetLog}
 use Rattle.nv_command.specs.declared.reply.Reply.{Reply}
 use Rattle.nv_command.specs.declared.reply.Reply.TheVariants as reply
-use Rattle.nv_script.specs.Exchange.{Order}
+use Rattle.nv_command.specs.Logs.{IsSendable}
+use Rattle.nv_script.specs.Exchange.{Order, order_of}
+use Rattle.nv_script.specs.declared.order.Act.{Act}
+use Rattle.nv_script.specs.declared.order.Act.TheVariants.{Send, Reset}
 use Rattle.nv_line.specs.declared.request.Ask.{Ask}
 use Rattle.nv_line.specs.declared.request.Ask.TheVariants as ask
 use Rattle.nv_line.specs.declared.request.Query.{Query}
 use Rattle.nv_line.specs.declared.request.Query.TheVariants as query
 use Rattle.nv_line.specs.declared.request.Question.{Question}
 
--- a command of a controller
-abbrev pub order_of : ℕ → Command → Order
-order_of c k = record { controller = c; command = k }
+-- a driver can do it: a command is one that it may send
+abbrev pub IsDoable : Act → Type 0
+IsDoable (Send k) = IsSendable k
+IsDoable Reset = Unit {0}
 
 -- ---- one controller is asked
 
@@ -35,27 +39,28 @@ list_command all after = if all then AllocatedList after else ActiveList after
 abbrev pub namespace_command : Bool → ℕ → Command
 namespace_command force nsid = if force then AllocatedNamespace nsid else IdentifyNamespace nsid
 
--- the command that is sent first for what a controller is asked; a list begins at an NSID, and is
--- asked for after the one before it
-abbrev pub first_command : Ask → Command
-first_command ask.IdCtrl = IdentifyController
-first_command (ask.ListNs first all) = list_command all (first - 1)
-first_command (ask.IdNs nsid force) = namespace_command force nsid
-first_command (ask.Create nsze ncap flbas dps nmic) = Create nsze ncap flbas dps nmic
-first_command (ask.Attachment nsid detach controllers) = Attachment nsid detach controllers
-first_command (ask.Delete nsid) = Delete nsid
-first_command (ask.Format nsid lbaf mset pi pil ses) = Format nsid lbaf mset pi pil ses
-first_command (ask.GetFeature fid sel nsid cdw11) = GetFeature fid sel nsid cdw11
-first_command (ask.SetFeature fid value save nsid) = SetFeature fid value save nsid
-first_command (ask.SmartLog nsid) = GetLog 0x02 nsid 0 128
-first_command (ask.ErrorLog entries) = IdentifyController
+-- what is done first for what a controller is asked; a list begins at an NSID, and is asked for
+-- after the one before it
+abbrev pub first_act : Ask → Act
+first_act ask.IdCtrl = Send IdentifyController
+first_act (ask.ListNs first all) = Send (list_command all (first - 1))
+first_act (ask.IdNs nsid force) = Send (namespace_command force nsid)
+first_act (ask.Create nsze ncap flbas dps nmic) = Send (Create nsze ncap flbas dps nmic)
+first_act (ask.Attachment nsid detach controllers) = Send (Attachment nsid detach controllers)
+first_act (ask.Delete nsid) = Send (Delete nsid)
+first_act (ask.Format nsid lbaf mset pi pil ses) = Send (Format nsid lbaf mset pi pil ses)
+first_act (ask.GetFeature fid sel nsid cdw11) = Send (GetFeature fid sel nsid cdw11)
+first_act (ask.SetFeature fid value save nsid) = Send (SetFeature fid value save nsid)
+first_act (ask.SmartLog nsid) = Send (GetLog 0x02 nsid 0 128)
+first_act (ask.ErrorLog entries) = Send IdentifyController
+first_act ask.Reset = Reset
 
 -- the entries of an error log, 16 dwords each: so many, as far as a controller keeps them, and one
 -- at least
 abbrev pub errors_command : ℕ → ℕ → Command
 errors_command entries kept = GetLog 0x01 0 0 (16 * max (min entries kept) 1)
 
--- the command that follows on the first one, if any, at a controller that keeps so many errors
+-- the command that follows on the first act, if any, at a controller that keeps so many errors
 abbrev pub second_command : ℕ → Ask → Option Command
 second_command kept (ask.ErrorLog entries) = Some (errors_command entries kept)
 second_command kept _ = None
@@ -72,7 +77,7 @@ later_orders c (Some k) = order_of c k ∷ []
 
 abbrev pub orders_of_one : State → Question → List Order
 orders_of_one s q =
-    order_of q.controller (first_command q.ask)
+    record { controller = q.controller; act = first_act q.ask }
     ∷ later_orders q.controller (second_command (entry_count s q.controller) q.ask)
 
 -- ---- each controller is asked for its namespaces
@@ -89,7 +94,7 @@ orders_of_controller s c =
 abbrev pub orders_of_list : State → List Order
 orders_of_list s = flat_map (orders_of_controller s) (range_with_len 0 (length s.controllers))
 
--- the commands that a query stands for
-abbrev pub commands_of : State → Query → List Order
-commands_of s (query.One question) = orders_of_one s question
-commands_of s query.List = orders_of_list s
+-- the orders that a query stands for
+abbrev pub orders_of : State → Query → List Order
+orders_of s (query.One question) = orders_of_one s question
+orders_of s query.List = orders_of_list s

@@ -1,7 +1,7 @@
--- What commands come to, one after the other.
+-- What orders come to, one after the other.
 use Rattle.std.specs.Prelude.{ℕ, List, [], ◌∷◌, Option, Some, None, Result, Ok, Err}
 use Rattle.nv_layout.specs.declared.status.Status.{Status}
-use Rattle.nv_subsystem.specs.State.{State}
+use Rattle.nv_model.specs.State.{State}
 use Rattle.nv_command.specs.declared.reply.Reply.{Reply}
 use Rattle.nv_script.specs.Exchange.{Order, exchange_of}
 
@@ -12,7 +12,7 @@ pub record Outcome : Type 0 where
   pub state : State
   pub serials : List ℕ
 
--- a refusal ends the list; a reply goes before those of the later commands
+-- a refusal ends the list; a reply goes before those of the later orders
 abbrev pub outcome_after : Result Reply Status → State → List ℕ → Outcome → Outcome
 outcome_after (Err status) s serials later = record {
   replies = [];
@@ -22,7 +22,7 @@ outcome_after (Err status) s serials later = record {
 }
 outcome_after (Ok reply) s serials later = record later { replies = reply ∷ later.replies }
 
--- the outcome of commands in order, up to the first refusal
+-- the outcome of orders, one after the other up to the first refusal
 abbrev pub outcome_of : State → List ℕ → List Order → Outcome
 outcome_of s serials [] = record { replies = []; refusal = None; state = s; serials = serials }
 outcome_of s serials (o ∷ os) =

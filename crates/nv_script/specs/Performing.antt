@@ -1,39 +1,51 @@
 -- What performing a request leaves.
 use Rattle.std.specs.Prelude.{◌≡◌, ℕ, List, take, string_bytes, Option, None, Some, Result, Ok, Err}
 use Rattle.std.specs.declared.string.String.{String}
-use Rattle.nv_subsystem.specs.State.{State}
+use Rattle.nv_command.specs.declared.reply.Reply.{Reply}
+use Rattle.nv_model.specs.State.{State}
 use Rattle.nv_line.specs.declared.request.Query.{Query}
 use Rattle.nv_line.specs.declared.request.Query.TheVariants as query
 use Rattle.nv_line.specs.declared.request.Request.{Request}
 use Rattle.nv_print.specs.declared.device.Device.{Device}
 use Rattle.nv_print.specs.declared.shown.Shown.{Shown}
 use Rattle.nv_print.specs.declared.shown.Shown.TheVariants as shown
-use Rattle.nv_script.specs.Orders.{commands_of}
+use Rattle.nv_script.specs.Exchange.{Order, exchange_of, exchange_with}
+use Rattle.nv_script.specs.Orders.{orders_of}
 use Rattle.nv_script.specs.Outcomes.{Outcome, outcome_of}
 use Rattle.nv_script.specs.Results.{output_for}
 use Rattle.nv_script.specs.Shown.{shown_of}
 use Rattle.nv_script.specs.declared.performing.Stop.{Stop}
 use Rattle.nv_script.specs.declared.performing.Stop.TheVariants as stop
 
+-- an order was carried out, with this reply or refusal
+abbrev pub OrderLeaves : Result Reply Stop → Order → State → List ℕ → State → List ℕ → Type 0
+OrderLeaves (Ok reply) o s serials state next =
+    exchange_with (Ok reply) state next ≡ exchange_of s serials o
+OrderLeaves (Err (stop.Refused status)) o s serials state next =
+    exchange_with (Err status) state next ≡ exchange_of s serials o
+OrderLeaves (Err stop.Memory) o s serials state next = ⊥
+OrderLeaves (Err stop.NoReady) o s serials state next = ⊥
+
 -- the subsystem and the serials are those that an outcome leads to
 pub record IsReached (o : Outcome) (state : State) (serials : List ℕ) : Type 0 where
   pub subsystem : state ≡ o.state
   pub next : serials ≡ o.serials
 
--- a query was refused, or memory was, after some of its commands
+-- a query was refused, or memory was, after some of its orders
 abbrev pub StopLeaves : Stop → Query → State → List ℕ → State → List ℕ → Type 0
 StopLeaves (stop.Refused status) q s serials state next =
-    let o = outcome_of s serials (commands_of s q) in
+    let o = outcome_of s serials (orders_of s q) in
     (o.refusal ≡ Some status) × IsReached o state next
 StopLeaves stop.Memory q s serials state next = (k : ℕ)
-    × IsReached (outcome_of s serials (take k (commands_of s q))) state next
+    × IsReached (outcome_of s serials (take k (orders_of s q))) state next
+StopLeaves stop.NoReady q s serials state next = ⊥
 
--- what the replies to all commands show, or why there is nothing to show
+-- what the replies to all orders show, or why there is nothing to show
 abbrev pub QueryLeaves : Result (Option Shown) Stop → Query → State → List ℕ → State
     → List ℕ → Type 0
 QueryLeaves (Ok shown) q s serials state next =
-    let o = outcome_of s serials (commands_of s q) in
-    (o.refusal ≡ None) × (shown ≡ shown_of (commands_of s q) q o.replies) × IsReached o state next
+    let o = outcome_of s serials (orders_of s q) in
+    (o.refusal ≡ None) × (shown ≡ shown_of (orders_of s q) q o.replies) × IsReached o state next
 QueryLeaves (Err stop) q s serials state next = StopLeaves stop q s serials state next
 
 -- the devices that `list` shows, or why there are none
@@ -46,6 +58,6 @@ ListedAll (Err stop) s serials state next = StopLeaves stop query.List s serials
 abbrev pub RequestLeaves : {Z : Type 0} → Result (String Z) Stop → Request
     → State → List ℕ → State → List ℕ → Type 0
 RequestLeaves (Ok text) r s serials state next =
-    let o = outcome_of s serials (commands_of s r.query) in
+    let o = outcome_of s serials (orders_of s r.query) in
     (o.refusal ≡ None) × (string_bytes text ≡ output_for s r o.replies) × IsReached o state next
 RequestLeaves (Err stop) r s serials state next = StopLeaves stop r.query s serials state next

@@ -2,9 +2,9 @@
 use Rattle.std.specs.Prelude.{ℕ, ◌+◌, List, [], ◌++◌, length, replicate, Option, None, Some, Result}
 use Rattle.std.specs.Prelude.{Ok, Err, unwrap_or, fold}
 use Rattle.nv_layout.specs.declared.status.Status.{Status}
-use Rattle.nv_subsystem.specs.State.{State}
+use Rattle.nv_model.specs.State.{State}
 use Rattle.nv_command.specs.declared.reply.Reply.{Reply}
-use Rattle.nv_script.specs.Orders.{commands_of}
+use Rattle.nv_script.specs.Orders.{orders_of}
 use Rattle.nv_script.specs.Outcomes.{Outcome, outcome_of}
 use Rattle.nv_script.specs.Shown.{output_of, shown_of}
 use Rattle.nv_line.specs.Line.{reading}
@@ -31,7 +31,7 @@ message_at number cause = message_of (record { line = number; cause = cause })
 
 -- what a request prints in state s by these replies, in its format
 abbrev pub output_for : State → Request → List Reply → List ℕ
-output_for s r replies = output_of r.format (shown_of (commands_of s r.query) r.query replies)
+output_for s r replies = output_of r.format (shown_of (orders_of s r.query) r.query replies)
 
 -- a request in state s prints what it shows, or the message of its refusal
 abbrev pub answer_result : Option Status → ℕ → State → Request → Outcome → LineResult
@@ -53,7 +53,7 @@ answer_result (Some status) number s r o = record {
 abbrev pub request_result : ℕ → State → Request → Outcome → LineResult
 request_result number s r o = answer_result o.refusal number s r o
 
--- a line that sends no command
+-- a line that stands for no order
 abbrev pub quiet_result : State → List ℕ → List ℕ → Option ℕ → LineResult
 quiet_result s serials message status = record {
   output = [];
@@ -67,7 +67,7 @@ quiet_result s serials message status = record {
 abbrev pub line_result : State → List ℕ → ℕ → Result Line LineFault → LineResult
 line_result s serials number (Ok line.Skipped) = quiet_result s serials [] None
 line_result s serials number (Ok (line.Request r)) =
-    request_result number s r (outcome_of s serials (commands_of s r.query))
+    request_result number s r (outcome_of s serials (orders_of s r.query))
 line_result s serials number (Err fault) =
     quiet_result s serials (message_at number (cause.Line fault)) (Some 1)
 

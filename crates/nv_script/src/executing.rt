@@ -15,7 +15,7 @@ use crate::ends::RunEnd;
 use crate::performing::{Stop, perform};
 use crate::session::Session;
 use crate::streams::Sink;
-use nv_controller::Bus;
+use nv_bus::Bus;
 use nv_line::{Line, LineFault, read_line};
 use nv_print::{Fault, FaultCause, message};
 use std::alloc::{AllocError, Global};
@@ -127,6 +127,7 @@ pub(crate) fn execute_line<B: Bus, O: Sink, M: Sink>(
                 print(out, Ok(text), RunEnd::OutWrite)
             }
             Err(Stop::Memory) => Err(RunEnd::Memory),
+            Err(Stop::NoReady) => Err(RunEnd::NoReady),
             Err(Stop::Refused(status)) => {
                 session.status = 2;
                 let fault = Fault {

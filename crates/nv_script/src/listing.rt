@@ -11,8 +11,8 @@ ghost use Rattle.nv_script.specs.Performing.{ListedAll};
 
 use crate::performing::Stop;
 use crate::session::{Answers, BATCH};
+use nv_bus::Bus;
 use nv_command::{Command, Reply};
-use nv_controller::Bus;
 use nv_driver::{Answer, AnswerSlot, Driver};
 use nv_layout::IdCtrl;
 use nv_print::{Device, DeviceList};

@@ -1,14 +1,22 @@
-//! The commands that a request stands for.
+//! What a request has controllers do.
 
 ghost use Rattle.std.specs.Prelude.{◌≡◌, ◌+◌, IfSome};
 ghost use Rattle.nv_command.specs.Logs.{IsSendable};
-ghost use Rattle.nv_script.specs.Orders.{errors_command, first_command, list_command};
+ghost use Rattle.nv_script.specs.Orders.{IsDoable, errors_command, first_act, list_command};
 ghost use Rattle.nv_script.specs.Orders.{namespace_command, next_command};
 
-use nv_command::{Command, DwordCount, Reply};
+use nv_command::{Command, DwordCount, ERROR_INFORMATION, HEALTH, Reply};
 use nv_line::Ask;
-use nv_subsystem::{ERROR_INFORMATION, HEALTH};
 use std::cmp;
+
+/// What is done at a controller.
+#[derive(Drop)]
+pub enum Act<'a> {
+    /// A command is sent to it.
+    Send(Command<'a>),
+    /// It is reset.
+    Reset,
+}
 
 /// The command for the NSIDs above one: those attached to the controller, or all allocated ones.
 fn list_command<'a>(all: bool, after: u32) -> Command<'a>
@@ -32,12 +40,12 @@ fn namespace_command<'a>(force: bool, nsid: u32) -> Command<'a>
     }
 }
 
-/// The command that is sent first for what a controller is asked.
-pub(crate) fn first_command(ask: &Ask) -> Command<'_>
-    ensures command { result ≡ first_command ask.now }
-    ensures sendable { IsSendable result }
+/// What is done first for what a controller is asked.
+pub(crate) fn first_act(ask: &Ask) -> Act<'_>
+    ensures act { result ≡ first_act ask.now }
+    ensures sendable { IsDoable result }
 {
-    match ask {
+    let command = match ask {
         Ask::IdCtrl => Command::IdentifyController,
         Ask::ListNs { first, all } => list_command(*all, first.saturating_sub(1)),
         Ask::IdNs { nsid, force } => namespace_command(*force, *nsid),
@@ -108,7 +116,9 @@ pub(crate) fn first_command(ask: &Ask) -> Command<'_>
             dwords: DwordCount::from_zeros_based(127),
         },
         Ask::ErrorLog { entries: _ } => Command::IdentifyController,
-    }
+        Ask::Reset => return Act::Reset,
+    };
+    Act::Send(command)
 }
 
 /// The command for the entries of an error log: so many, as far as a controller keeps them, and one

@@ -1,18 +1,20 @@
-//! One request: its commands, and the text of what their replies show.
+//! One request: its orders, and the text of what their replies show.
 
 ghost use Rattle.std.specs.Prelude.{◌≡◌, ◌<◌, length};
 ghost use Rattle.nv_line.specs.Request.{IsQueryKnown};
 ghost use Rattle.nv_line.specs.declared.request.Query.TheVariants.{One};
 ghost use Rattle.nv_script.specs.Link.{IsLinked, serials_of};
-ghost use Rattle.nv_script.specs.Performing.{QueryLeaves, RequestLeaves};
+ghost use Rattle.nv_script.specs.Orders.{IsDoable};
+ghost use Rattle.nv_script.specs.Performing.{OrderLeaves, QueryLeaves, RequestLeaves};
 ghost use Rattle.nv_script.specs.declared.performing.Stop.TheVariants.{Refused, Memory};
 
 use crate::listing::list;
-use crate::order::{first_command, next_command};
+use crate::order::{Act, first_act, next_command};
 use crate::session::Answers;
 use crate::shown::{shown, write};
-use nv_controller::Bus;
-use nv_driver::Driver;
+use nv_bus::Bus;
+use nv_command::Reply;
+use nv_driver::{AnswerSlot, Driver};
 use nv_layout::Status;
 use nv_line::{Query, Question, Request};
 use nv_print::Shown;
@@ -25,6 +27,8 @@ pub enum Stop {
     Refused(Status),
     /// Memory was refused.
     Memory,
+    /// A controller that was reset isn't ready: a bus that keeps its contract has no such stop.
+    NoReady,
 }
 
 impl From<Status> for Stop {
@@ -43,8 +47,37 @@ impl From<AllocError> for Stop {
     }
 }
 
-/// Sends the commands of a question, up to the first refusal. What the last reply shows stays in
-/// `answers`.
+/// Does an act at a controller. The reply to it stands in the slot.
+fn carry_out<'a, B: Bus>(
+    bus: &mut B,
+    driver: &mut Driver,
+    ctrl: u16,
+    act: &Act,
+    slot: &'a mut AnswerSlot,
+) -> Result<Reply<'a>, Stop>
+    requires linked { IsLinked (B.meaning bus.old) driver.old }
+    requires controller { ctrl < length driver.old.lanes }
+    requires doable { IsDoable act.now }
+    ensures left { OrderLeaves result (record { controller = ctrl; act = act.now })
+        (B.meaning bus.old).state (serials_of driver.old)
+        (B.meaning bus.new).state (serials_of driver.new) }
+    ensures linked { IsLinked (B.meaning bus.new) driver.new }
+    ensures lanes { length driver.new.lanes ≡ length driver.old.lanes }
+{
+    match act {
+        Act::Send(command) => {
+            command.fits();
+            Ok(driver.admin(bus, ctrl, command, slot)?)
+        }
+        Act::Reset => match driver.reset(bus, ctrl) {
+            Ok(()) => Ok(Reply::Done),
+            Err(_) => Err(Stop::NoReady),
+        },
+    }
+}
+
+/// Carries out the orders of a question, up to the first refusal. What the last reply shows stays
+/// in `answers`.
 fn ask_one<'a, B: Bus>(
     bus: &mut B,
     driver: &mut Driver,
@@ -60,18 +93,15 @@ fn ask_one<'a, B: Bus>(
 {
     let Answers { first, second, .. } = answers;
     let ctrl = question.controller;
-    let command = first_command(&question.ask);
-    command.fits();
-    let reply = driver.admin(bus, ctrl, &command, first)?;
+    let reply = carry_out(bus, driver, ctrl, &first_act(&question.ask), first)?;
     let Some(command) = next_command(&question.ask, &reply) else {
         return Ok(shown(&question.ask, reply));
     };
-    command.fits();
-    let next = driver.admin(bus, ctrl, &command, second)?;
+    let next = carry_out(bus, driver, ctrl, &Act::Send(command), second)?;
     Ok(shown(&question.ask, next))
 }
 
-/// Sends the commands of a query, up to the first refusal, and tells what their replies show.
+/// Carries out the orders of a query, up to the first refusal, and tells what their replies show.
 fn ask<'a, B: Bus>(
     alloc: Global,
     bus: &mut B,
@@ -92,7 +122,7 @@ fn ask<'a, B: Bus>(
     }
 }
 
-/// Sends the commands of a request, up to the first refusal, and makes the text of what their
+/// Carries out the orders of a request, up to the first refusal, and makes the text of what their
 /// replies show, in the format that is asked for.
 pub(crate) fn perform<B: Bus>(
     alloc: Global,

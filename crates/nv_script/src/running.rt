@@ -1,11 +1,11 @@
 //! The run of a script, line by line as its newlines are read.
 
-ghost use Rattle.std.specs.Prelude.{◌≡◌, ◌≢◌, ◌↔◌, ◌+◌, ◌<◌, ◌≤◌, ◌^◌, All, List, Option, Some, ℕ};
+ghost use Rattle.std.specs.Prelude.{◌≡◌, ◌≢◌, ◌↔◌, ◌+◌, ◌<◌, ◌≤◌, ◌^◌, List, Option, Some, ℕ};
 ghost use Rattle.std.specs.Prelude.{false, true, length, OnOk};
-ghost use Rattle.nv_subsystem.specs.State.{State};
-ghost use Rattle.nv_controller.specs.Bus.{IsBus, IsEnabledWhereReady};
+ghost use Rattle.nv_model.specs.State.{State};
+ghost use Rattle.nv_bus.specs.Bus.{IsBus};
 ghost use Rattle.nv_script.specs.Cuts.{left_at};
-ghost use Rattle.nv_script.specs.Ends.{IsRun, RunsWithin, run_state};
+ghost use Rattle.nv_script.specs.Ends.{IsRun, RunsFrom, run_state};
 ghost use Rattle.nv_script.specs.Feeding.{IsFailureOf, LastLeaves, PieceLeaves, Stands};
 ghost use Rattle.nv_script.specs.Link.{IsFirst, IsLinked};
 ghost use Rattle.nv_script.specs.Results.{whole};
@@ -17,7 +17,7 @@ use crate::executing::execute_line;
 use crate::line_buffer::LineBuffer;
 use crate::session::Session;
 use crate::streams::{READ_SIZE, Sink, Source};
-use nv_controller::Bus;
+use nv_bus::Bus;
 use nv_driver::Geometry;
 use std::alloc::Global;
 
@@ -106,10 +106,10 @@ fn run_session<B: Bus, R: Source, O: Sink, M: Sink>(
     requires fresh_out { (O.state out.old).has_failed ≡ false }
     requires fresh_messages { (M.state messages.old).has_failed ≡ false }
     requires some_read { 0 < reads }
-    ensures runs { RunsWithin reads result
-        (run_state (B.meaning bus.old).state (R.state script.old) (O.state out.old)
+    ensures runs { RunsFrom (B.meaning bus.old).state reads result
+        (run_state (B.meaning bus.old) (R.state script.old) (O.state out.old)
         (M.state messages.old))
-        (run_state (B.meaning bus.new).state (R.state script.new) (O.state out.new)
+        (run_state (B.meaning bus.new) (R.state script.new) (O.state out.new)
         (M.state messages.new)) }
     ensures linked { IsLinked (B.meaning bus.new) session.new.driver }
 {
@@ -151,20 +151,18 @@ pub fn run_within<B: Bus, R: Source, O: Sink, M: Sink>(
     reads: u32,
 ) -> RunEnd
     requires bus { IsBus (B.meaning bus.old) }
-    requires enabled { All IsEnabledWhereReady (B.meaning bus.old).ports }
     requires fresh_script { IsFresh (R.state script.old) }
     requires fresh_out { (O.state out.old).has_failed ≡ false }
     requires fresh_messages { (M.state messages.old).has_failed ≡ false }
     requires some_read { 0 < reads }
     // The headline, each end with what it leaves, and when each fault comes.
     ensures run { IsRun geometry reads result
-        (run_state (B.meaning bus.old).state (R.state script.old) (O.state out.old)
+        (run_state (B.meaning bus.old) (R.state script.old) (O.state out.old)
         (M.state messages.old))
-        (run_state (B.meaning bus.new).state (R.state script.new) (O.state out.new)
+        (run_state (B.meaning bus.new) (R.state script.new) (O.state out.new)
         (M.state messages.new)) }
     // The bus can be run on again.
     ensures bus { IsBus (B.meaning bus.new) }
-    ensures enabled { All IsEnabledWhereReady (B.meaning bus.new).ports }
 {
     match Session::begin(alloc, bus, geometry) {
         Ok(mut session) => run_session(alloc, bus, &mut session, script, out, messages, reads),
@@ -172,11 +170,11 @@ pub fn run_within<B: Bus, R: Source, O: Sink, M: Sink>(
     }
 }
 
-/// Runs a script on the subsystem of a bus, by a driver of this geometry: its lines in order, each
-/// executed as soon as its newline is read, with the texts of what they ask on `out` and the
-/// messages of faults and refusals on `messages`. At most 4,294,967,295 reads are made, and none
-/// after one that gave no byte or failed. Where the geometry is out of its limits, nothing is read
-/// or written and the subsystem stays.
+/// Runs a script on the subsystem of a bus, by a driver of this geometry: each controller that is
+/// enabled is reset, and then the lines are executed in order, each as soon as its newline is read,
+/// with the texts of what they ask on `out` and the messages of faults and refusals on `messages`.
+/// At most 4,294,967,295 reads are made, and none after one that gave no byte or failed. Where the
+/// geometry is out of its limits, nothing is read or written and the subsystem stays.
 pub fn run<B: Bus, R: Source, O: Sink, M: Sink>(
     alloc: Global,
     bus: &mut B,
@@ -186,19 +184,17 @@ pub fn run<B: Bus, R: Source, O: Sink, M: Sink>(
     messages: &mut M,
 ) -> RunEnd
     requires bus { IsBus (B.meaning bus.old) }
-    requires enabled { All IsEnabledWhereReady (B.meaning bus.old).ports }
     requires fresh_script { IsFresh (R.state script.old) }
     requires fresh_out { (O.state out.old).has_failed ≡ false }
     requires fresh_messages { (M.state messages.old).has_failed ≡ false }
     // The headline, each end with what it leaves, and when each fault comes.
     ensures run { IsRun geometry READ_LIMIT result
-        (run_state (B.meaning bus.old).state (R.state script.old) (O.state out.old)
+        (run_state (B.meaning bus.old) (R.state script.old) (O.state out.old)
         (M.state messages.old))
-        (run_state (B.meaning bus.new).state (R.state script.new) (O.state out.new)
+        (run_state (B.meaning bus.new) (R.state script.new) (O.state out.new)
         (M.state messages.new)) }
     // The bus can be run on again.
     ensures bus { IsBus (B.meaning bus.new) }
-    ensures enabled { All IsEnabledWhereReady (B.meaning bus.new).ports }
 {
     run_within(alloc, bus, geometry, script, out, messages, READ_LIMIT)
 }

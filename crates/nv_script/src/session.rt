@@ -1,6 +1,6 @@
 //! What a run keeps from line to line.
 
-use nv_controller::Bus;
+use nv_bus::Bus;
 use nv_driver::{AnswerSlot, Driver, DriverError, Geometry};
 use std::alloc::{AllocError, Global};
 use std::array;
@@ -38,32 +38,37 @@ pub struct Session {
 }
 
 impl Session {
-    ghost use Rattle.std.specs.Prelude.{◌≡◌, All, IfOk, MatchResult, None};
-    ghost use Rattle.nv_controller.specs.Bus.{IsBus, IsEnabledWhereReady};
+    ghost use Rattle.std.specs.Prelude.{◌≡◌, IfOk, MatchResult, None, OnErr};
+    ghost use Rattle.nv_bus.specs.Bus.{IsBus, enabled_in};
     ghost use Rattle.nv_driver.specs.Geometry.{fault_of};
+    ghost use Rattle.nv_model.specs.Reset.{reset_where};
     ghost use Rattle.nv_script.specs.Ends.{IsFaultOf};
     ghost use Rattle.nv_script.specs.Link.{IsFirst, IsLinked};
 
-    /// Before the first line: a driver of this geometry is brought up, and there is room for
-    /// answers. Where there is none, each controller may be ready with no driver.
+    /// Before the first line: there is room for answers, and a driver of this geometry is brought
+    /// up, by which each controller that was enabled is reset. Where there is none, the bus is
+    /// untouched.
     pub(crate) fn begin<B: Bus>(
         alloc: Global,
         bus: &mut B,
         geometry: Geometry,
     ) -> Result<Session, DriverError>
         requires bus { IsBus (B.meaning bus.old) }
-        requires enabled { All IsEnabledWhereReady (B.meaning bus.old).ports }
-        ensures state { (B.meaning bus.new).state ≡ (B.meaning bus.old).state }
+        ensures state { IfOk result (λ _. (B.meaning bus.new).state
+            ≡ reset_where (enabled_in (B.meaning bus.old).ports) (B.meaning bus.old).state) }
+        ensures untouched { OnErr result (B.meaning bus.new ≡ B.meaning bus.old) }
         ensures bus { IsBus (B.meaning bus.new) }
-        ensures enabled { All IsEnabledWhereReady (B.meaning bus.new).ports }
         ensures fault { MatchResult result (λ _. fault_of geometry ≡ None) (IsFaultOf geometry) }
         ensures first { IfOk result (λ s. IsFirst (B.meaning bus.new).state s) }
         ensures linked { IfOk result (λ s. IsLinked (B.meaning bus.new) s.driver) }
     {
-        let driver = Driver::bring_up(alloc, bus, geometry)?;
+        if let Err(field) = geometry.check() {
+            return Err(DriverError::Geometry(field));
+        }
         let Ok(answers) = Answers::new(alloc) else {
             return Err(DriverError::Memory);
         };
+        let driver = Driver::bring_up(alloc, bus, geometry)?;
         Ok(Session {
             driver,
             answers,

@@ -68,6 +68,7 @@ pub(crate) fn shown<'a>(ask: &Ask, reply: Reply<'a>) -> Option<Shown<'a>>
         ) => feature_set(*fid, *value, *save),
         (Ask::SmartLog { .. }, Reply::Smart(smart)) => Some(Shown::Smart(smart)),
         (Ask::ErrorLog { .. }, Reply::Errors(errors)) => Some(Shown::Errors(errors)),
+        (Ask::Reset, Reply::Done) => Some(Shown::Reset),
         _ => None,
     }
 }

@@ -3,12 +3,12 @@ use Rattle.std.proofs.Common.{◌≡◌, ◌∙◌, ℕ, suc, zero, ◌+◌, ◌
 use Rattle.std.specs.Prelude.{replicate}
 use Rattle.std.proofs.lemmas.List.{length-replicate}
 use Rattle.std.proofs.lemmas.List.Elements.{All-from_get_or}
-use Rattle.nv_host.specs.PageLaws.{page_size_bounds}
+use Rattle.nv_host.proofs.PageLaws.{page_size_bounds}
 use Rattle.nv_host.specs.Pages.{HasPage, IsPageSize, PagedBytes}
 use Rattle.nv_prp.specs.Buffer.{IsBuffer, IsListPlace}
 use Rattle.nv_prp.specs.Place.{AreDistinct, table}
-use Rattle.nv_prp.specs.BufferLaws.{buffer_kept}
-use Rattle.nv_prp.specs.PlaceLaws.{get_or-table, length-table}
+use Rattle.nv_prp.proofs.BufferLaws.{buffer_kept}
+use Rattle.nv_prp.proofs.PlaceLaws.{get_or-table, length-table}
 
 -- the memory was made of so many pages
 pub made_size : (m : PagedBytes) (size : ℕ) → IsPageSize size → m ≡ record { page_size = size; bytes = replicate (259 * size) 0 }

@@ -1,8 +1,8 @@
 //! The controllers on which lines are measured.
 
-ghost use Rattle.std.specs.Prelude.{All, IfOk};
-ghost use Rattle.nv_controller.specs.Bus.{IsBus, IsEnabledWhereReady};
-ghost use Rattle.nv_subsystem.specs.WellFormed.{IsWellFormed};
+ghost use Rattle.std.specs.Prelude.{IfOk};
+ghost use Rattle.nv_bus.specs.Bus.{IsBus};
+ghost use Rattle.nv_model.specs.WellFormed.{IsWellFormed};
 
 use nv_command::{Command, ReplyRoom};
 use nv_controller::Machine;
@@ -79,8 +79,7 @@ pub(crate) fn largest(alloc: Global) -> io::Result<Subsystem>
 /// The controllers of a subsystem, after power on.
 pub(crate) fn machine_of(alloc: Global, subsystem: Subsystem) -> io::Result<Machine>
     requires { IsWellFormed subsystem }
-    ensures bus { IfOk result IsBus }
-    ensures enabled { IfOk result (λ m. All IsEnabledWhereReady m.ports) }
+    ensures { IfOk result IsBus }
 {
     let Ok(machine) = Machine::new(alloc, subsystem) else {
         return Err(io::Error::from(ErrorKind::OutOfMemory));

@@ -1,6 +1,6 @@
 //! What a run of a script writes and takes.
 
-ghost use Rattle.nv_subsystem.specs.WellFormed.{IsWellFormed};
+ghost use Rattle.nv_model.specs.WellFormed.{IsWellFormed};
 
 use crate::counting_sink::CountingSink;
 use crate::machines::machine_of;

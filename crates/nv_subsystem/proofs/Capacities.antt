@@ -5,12 +5,12 @@ use Rattle.std.specs.List.{fold}
 use Rattle.std.specs.FinMap as map_of
 use Rattle.std.proofs.lemmas.Bool.{ne_eqb}
 use Rattle.std.proofs.lemmas.List.Sums.{sum_by-cons}
-use Rattle.nv_bits.specs.NumberLaws.{get_of_insert}
-use Rattle.nv_subsystem.specs.Capacity.{used}
-use Rattle.nv_subsystem.specs.UsedLaws.{used-insert}
+use Rattle.nv_bits.proofs.NumberLaws.{get_of_insert}
+use Rattle.nv_model.specs.Capacity.{used}
+use Rattle.nv_model.proofs.UsedLaws.{used-insert}
 use Rattle.nv_file.specs.FileValue.{NamespaceValue}
 use Rattle.nv_subsystem.specs.FromFile.{with_namespace}
-use Rattle.nv_subsystem.specs.State.{Namespaces}
+use Rattle.nv_model.specs.State.{Namespaces}
 
 pub used-all : (m : Namespaces) (ns : List NamespaceValue) → AllPairs (λ a b. a.nsid ≢ b.nsid) ns → All (λ n. map_of.get m n.nsid ≡ None) ns → used (fold with_namespace m ns) ≡ used m + sum_by (λ n. n.namespace.capacity) ns
 used-all m [] pairs new = omega arith

@@ -3,10 +3,10 @@ use Rattle.std.proofs.Common.{◌≡◌, ◌∙◌, ℕ, ◌+◌, ◌<◌, ◌++
 use Rattle.std.specs.Prelude.{All, if◌then◌else◌}
 use Rattle.std.proofs.lemmas.List.Elements.{All-set}
 use Rattle.nv_subsystem.specs.ControllerView.{controller_view}
-use Rattle.nv_subsystem.specs.Management.{Attached, with_nsids}
-use Rattle.nv_subsystem.specs.MappedLaws.{next_mapped}
+use Rattle.nv_model.specs.Management.{Attached, with_nsids}
+use Rattle.nv_model.proofs.MappedLaws.{next_mapped}
 use Rattle.nv_subsystem.specs.Sound.{IsSized}
-use Rattle.nv_subsystem.specs.State.{Controller}
+use Rattle.nv_model.specs.State.{Controller}
 use Rattle.nv_subsystem.specs.declared.controller.Controller as code
 
 -- the first i of them were changed

@@ -4,8 +4,8 @@ use Rattle.std.specs.Prelude.{All, sum_by}
 use Rattle.std.specs.Ordering.{nat_cmp}
 use Rattle.std.specs.FinMap.{get-empty}
 use Rattle.std.proofs.lemmas.List.Sums.{sum_by-cons}
-use Rattle.nv_subsystem.specs.Capacity.{used}
-use Rattle.nv_subsystem.specs.UsedLaws.{used-empty}
+use Rattle.nv_model.specs.Capacity.{used}
+use Rattle.nv_model.proofs.UsedLaws.{used-empty}
 use Rattle.nv_subsystem.proofs.Capacities.{used-all}
 use Rattle.std.specs.FinMap as map_of
 use Rattle.std.proofs.lemmas.List.{get_or-map, length-map}
@@ -14,16 +14,16 @@ use Rattle.nv_subsystem.specs.ControllerView.{controller_view}
 use Rattle.nv_file.specs.FileValue.{controller_entry_view, file_view, namespace_entry_view}
 use Rattle.nv_subsystem.specs.FromFile.{controller_of, state_of}
 use Rattle.nv_file.specs.IsFile.{IsFile}
-use Rattle.nv_file.specs.Ranges.{IsFeatureRule, IsFormat}
+use Rattle.nv_model.specs.Ranges.{IsFeatureRule, IsFormat}
 use Rattle.nv_bits.specs.Numbers.{IsOf}
 use Rattle.nv_bits.specs.Slots.{RangeMap}
 use Rattle.nv_subsystem.specs.Sound.{IsSized, IsSound}
 use Rattle.nv_subsystem.specs.declared.controller.Controller.{Controller}
 use Rattle.nv_file.specs.declared.file.File.{File}
 use Rattle.nv_file.specs.declared.namespace.NamespaceEntry.{NamespaceEntry}
-use Rattle.nv_file.specs.declared.namespace.Namespace.{Namespace}
+use Rattle.nv_model.specs.declared.namespace.Namespace.{Namespace}
 use Rattle.nv_subsystem.proofs.FileStates.{state_ok}
-use Rattle.nv_subsystem.specs.InFormatLaws.{format_below}
+use Rattle.nv_model.proofs.InFormatLaws.{format_below}
 
 pub nsids_within : (f : File) → IsFile (file_view f) → (k : ℕ) (d : NamespaceEntry)
     → k < length f.namespaces.items → IsOf 1 f.nn (get_or f.namespaces.items k d).nsid

@@ -8,23 +8,23 @@ use Rattle.std.specs.Option.{option_map_or}
 use Rattle.std.specs.FinMap as map_of
 use Rattle.std.specs.FinMap.{get-empty}
 use Rattle.std.proofs.lemmas.Bool.Decides.{nat_tests}
-use Rattle.nv_bits.specs.NumberLaws.{get_of_insert}
+use Rattle.nv_bits.proofs.NumberLaws.{get_of_insert}
 use Rattle.nv_layout.specs.Feature.{feature_of, is_selector, row_of}
-use Rattle.nv_layout.specs.FeatureTableLaws.{feature_at}
+use Rattle.nv_layout.proofs.FeatureTableLaws.{feature_at}
 use Rattle.nv_layout.specs.declared.feature.Feature.{Feature}
 use Rattle.nv_layout.specs.declared.feature.TheConstants.Feature.{ALL}
 use Rattle.nv_file.specs.FileValue.{NamespaceValue, is_attached_to}
-use Rattle.nv_file.specs.Ranges.{IsFeatureRule}
-use Rattle.nv_file.specs.declared.feature_rule.FeatureRule.{FeatureRule}
-use Rattle.nv_subsystem.specs.Change.{changed}
-use Rattle.nv_subsystem.specs.FeatureLaws.{AreSound, first_is_sound, has_inserted, sound-insert, values-with}
-use Rattle.nv_subsystem.specs.FeatureRules.{FeatureRules, first_value}
+use Rattle.nv_model.specs.Ranges.{IsFeatureRule}
+use Rattle.nv_model.specs.declared.feature_rule.FeatureRule.{FeatureRule}
+use Rattle.nv_model.specs.Change.{changed}
+use Rattle.nv_model.proofs.FeatureLaws.{AreSound, first_is_sound, has_inserted, sound-insert, values-with}
+use Rattle.nv_model.specs.FeatureRules.{FeatureRules, first_value}
 use Rattle.nv_subsystem.specs.FromFile.{defaults_of, fill, rules_of, with_attachment, with_default, with_recovery, with_rule}
-use Rattle.nv_subsystem.specs.State.{Nsids}
-use Rattle.nv_subsystem.specs.Supported.{is_supported}
-use Rattle.nv_subsystem.specs.ValueKey.{FeatureValues, ValueKey, key_cmp, key_of, recovery_key}
-use Rattle.nv_subsystem.specs.ValueLaws.{by_numbers, is_key}
-use Rattle.nv_subsystem.specs.WellFormed.{AreRules, AreValues}
+use Rattle.nv_model.specs.State.{Nsids}
+use Rattle.nv_model.specs.Supported.{is_supported}
+use Rattle.nv_model.specs.ValueKey.{FeatureValues, ValueKey, key_cmp, key_of, recovery_key}
+use Rattle.nv_model.proofs.ValueLaws.{by_numbers, is_key}
+use Rattle.nv_model.specs.WellFormed.{AreRules, AreValues}
 
 -- ---- rules
 

@@ -3,7 +3,7 @@ use Rattle.std.proofs.Common.{◌≡◌, ◌≢◌, ◌∙◌, ℕ, zero, suc, �
 use Rattle.std.specs.Prelude.{All, AllPairs, if◌then◌else◌, count_by}
 use Rattle.std.specs.List.{fold, list_any}
 use Rattle.std.specs.Ordering.{nat_cmp}
-use Rattle.nv_bits.specs.NumberLaws.{get_of_insert}
+use Rattle.nv_bits.proofs.NumberLaws.{get_of_insert}
 use Rattle.std.specs.FinMap as map_of
 use Rattle.std.specs.FinMap.{get-empty}
 use Rattle.std.proofs.lemmas.Bool.{ne_eqb}
@@ -15,11 +15,11 @@ use Rattle.nv_file.specs.FileValue.{ControllerValue, FileValue, NamespaceValue, 
 use Rattle.nv_subsystem.specs.FromFile.{controller_of, rules_of, state_of, with_attachment, with_namespace}
 use Rattle.nv_file.specs.IsFile.{IsAttached, IsControllerEntry, IsFile, IsNamespaceEntry}
 use Rattle.nv_subsystem.proofs.FileFeatures.{are_rules, attached_values, start_values}
-use Rattle.nv_subsystem.specs.State.{Namespaces, Nsids}
-use Rattle.nv_subsystem.specs.WellFormed.{IsController, IsNamespace, IsWellFormed}
-use Rattle.nv_file.specs.declared.namespace.Namespace.{Namespace}
-use Rattle.nv_subsystem.specs.MappedLaws.{none_pass, pairs_map, untrue}
-use Rattle.nv_subsystem.specs.UsedLaws.{used-empty}
+use Rattle.nv_model.specs.State.{Namespaces, Nsids}
+use Rattle.nv_model.specs.WellFormed.{IsController, IsNamespace, IsWellFormed}
+use Rattle.nv_model.specs.declared.namespace.Namespace.{Namespace}
+use Rattle.nv_model.proofs.MappedLaws.{none_pass, pairs_map, untrue}
+use Rattle.nv_model.proofs.UsedLaws.{used-empty}
 use Rattle.nv_subsystem.proofs.Capacities.{used-all}
 
 -- the namespace of a file with an NSID

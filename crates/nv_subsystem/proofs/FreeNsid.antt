@@ -5,7 +5,7 @@ use Rattle.std.specs.List.{find, range_with_len}
 use Rattle.std.specs.FinMap as map_of
 use Rattle.nv_bits.specs.Numbers.{IsOf}
 use Rattle.nv_bits.specs.Slots.{IsLowestFree, RangeMap}
-use Rattle.nv_file.specs.declared.namespace.Namespace.{Namespace}
+use Rattle.nv_model.specs.declared.namespace.Namespace.{Namespace}
 
 none_found : (p : ℕ → Bool) (first count : ℕ) → ((q : ℕ) → IsOf first count q → p q ≡ false)
     → find p (range_with_len first count) ≡ None

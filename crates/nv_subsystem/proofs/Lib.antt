@@ -9,3 +9,4 @@ pub mod FileStates
 pub mod FileCode
 pub mod NumbersAbove
 pub mod ValueTableLaws
+pub mod Restoring

@@ -4,14 +4,14 @@ use Rattle.std.specs.Prelude.{All}
 use Rattle.std.specs.FinMap as map_of
 use Rattle.std.specs.FinMap.{get-empty}
 use Rattle.std.specs.Ordering.{nat_cmp}
-use Rattle.nv_bits.specs.NumberLaws.{get_of_insert, get_of_remove, remove_absent}
+use Rattle.nv_bits.proofs.NumberLaws.{get_of_insert, get_of_remove, remove_absent}
 use Rattle.nv_bits.specs.Slots.{RangeMap}
-use Rattle.nv_file.specs.declared.format.Format.{Format}
-use Rattle.nv_file.specs.declared.namespace.Namespace.{Namespace}
-use Rattle.nv_subsystem.specs.Capacity.{used}
-use Rattle.nv_subsystem.specs.ManagementLaws.{left}
+use Rattle.nv_model.specs.declared.format.Format.{Format}
+use Rattle.nv_model.specs.declared.namespace.Namespace.{Namespace}
+use Rattle.nv_model.specs.Capacity.{used}
+use Rattle.nv_model.proofs.ManagementLaws.{left}
 use Rattle.nv_subsystem.specs.Sound.{IsSized, IsSound}
-use Rattle.nv_subsystem.specs.UsedLaws.{used-change, used-empty, used-insert, used-remove}
+use Rattle.nv_model.proofs.UsedLaws.{used-change, used-empty, used-insert, used-remove}
 use Rattle.nv_subsystem.specs.declared.controller.Controller.{Controller}
 
 abbrev AddsUp : RangeMap Namespace → List Format → List Controller → ℕ → ℕ → Type 0

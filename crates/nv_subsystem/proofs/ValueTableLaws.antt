@@ -11,23 +11,23 @@ use Rattle.std.specs.Cmp.{both_ways, nat_cmp_total, unsigned_tied}
 use Rattle.std.specs.FinMap as map_of
 use Rattle.std.specs.FinMap.{empty_of_len, get-empty, get-entries, get-from_entries, len-remove}
 use Rattle.std.specs.FinMap.Entries.{find}
-use Rattle.nv_bits.specs.NumberLaws.{contains-insert, contains-remove, get_of_insert, get_of_remove}
+use Rattle.nv_bits.proofs.NumberLaws.{contains-insert, contains-remove, get_of_insert, get_of_remove}
 use Rattle.nv_bits.specs.Numbers.{NumberMap}
 use Rattle.nv_bits.specs.Slots.{RangeMap}
 use Rattle.nv_layout.specs.Feature.{is_selector, row_of, stored}
-use Rattle.nv_layout.specs.FeatureTableLaws.{fid_below, of_namespaces}
-use Rattle.nv_layout.specs.FeatureTableLaws.{selector_below}
+use Rattle.nv_layout.proofs.FeatureTableLaws.{fid_below, of_namespaces}
+use Rattle.nv_layout.proofs.FeatureTableLaws.{selector_below}
 use Rattle.nv_layout.specs.declared.feature.Feature.{Feature}
 use Rattle.nv_layout.specs.declared.feature.Feature.TheVariants.{ErrorRecovery}
-use Rattle.nv_subsystem.specs.ValueKey.{FeatureValues, ValueKey, is_alone, key_cmp, key_of}
-use Rattle.nv_subsystem.specs.Change.{changed_at}
-use Rattle.nv_subsystem.specs.Features.{is_set, write}
-use Rattle.nv_subsystem.specs.FeatureValue.{written}
-use Rattle.nv_subsystem.specs.ValueLaws.{is_itself, is_key, key_cmp_total, put_back, removed_absent}
-use Rattle.nv_subsystem.specs.ValueLaws.{same_key, same_values}
-use Rattle.nv_subsystem.specs.ValueLaws.{value_of_insert, value_of_remove, value_of_retain}
+use Rattle.nv_model.specs.ValueKey.{FeatureValues, ValueKey, is_alone, key_cmp, key_of}
+use Rattle.nv_model.specs.Change.{changed_at}
+use Rattle.nv_model.specs.Features.{is_set, write}
+use Rattle.nv_model.specs.FeatureValue.{written}
+use Rattle.nv_model.proofs.ValueLaws.{is_itself, is_key, key_cmp_total, put_back, removed_absent}
+use Rattle.nv_model.proofs.ValueLaws.{same_key, same_values}
+use Rattle.nv_model.proofs.ValueLaws.{value_of_insert, value_of_remove, value_of_retain}
 use Rattle.nv_subsystem.specs.ValueTable.{IsTable, ValueTable, key_at, slot_of, slots_alone, values_of}
-use Rattle.nv_subsystem.specs.declared.feature_value.FeatureValue.{FeatureValue}
+use Rattle.nv_model.specs.declared.feature_value.FeatureValue.{FeatureValue}
 
 abbrev Numbered : Type 0
 Numbered = NumberMap FeatureValue

@@ -2,9 +2,9 @@
 use Rattle.std.proofs.Common.{◌≡◌, ◌∙◌, ℕ, ◌<◌, ap, sym, arith, List, length, map, set, get_or}
 use Rattle.std.proofs.lemmas.List.{length-map}
 use Rattle.nv_subsystem.specs.ControllerView.{controller_view}
-use Rattle.nv_subsystem.specs.State.{Controller, State, with_controller}
+use Rattle.nv_model.specs.State.{Controller, State, with_controller}
 use Rattle.nv_subsystem.specs.declared.controller.Controller as code
-use Rattle.nv_subsystem.specs.ChangedAtLaws.{views_changed}
+use Rattle.nv_model.proofs.ChangedAtLaws.{views_changed}
 
 abbrev pub with_controllers : State → List Controller → State
 with_controllers s cs = record s { controllers = cs }

@@ -1,6 +1,6 @@
 -- The controllers of the code as values.
-use Rattle.nv_file.specs.Identity.{identity_view}
-use Rattle.nv_subsystem.specs.State.{Controller}
+use Rattle.nv_model.specs.Identity.{identity_view}
+use Rattle.nv_model.specs.State.{Controller}
 use Rattle.nv_subsystem.specs.declared.controller.Controller as controllers
 
 abbrev pub controller_view : controllers.Controller → Controller

@@ -3,8 +3,8 @@ use Rattle.std.specs.Prelude.{◌≡◌, ℕ, ◌+◌, ◌<◌, ◌≤◌, List,
 use Rattle.std.specs.FinMap as map_of
 use Rattle.nv_bits.specs.Slots.{RangeMap}
 use Rattle.nv_subsystem.specs.declared.controller.Controller.{Controller}
-use Rattle.nv_file.specs.declared.format.Format.{Format}
-use Rattle.nv_file.specs.declared.namespace.Namespace.{Namespace}
+use Rattle.nv_model.specs.declared.format.Format.{Format}
+use Rattle.nv_model.specs.declared.namespace.Namespace.{Namespace}
 
 -- a bit for each NSID, room for a value of each, and room for ELPE + 1 log entries
 pub record IsSized (nn : ℕ) (x : Controller) : Type 0 where

@@ -4,20 +4,20 @@ use Rattle.std.proofs.Common.{inl, inr}
 use Rattle.std.specs.FinMap as map_of
 use Rattle.std.specs.FinSet as set_of
 use Rattle.std.specs.Coded.{Coded, code_by, coded×, coded⊎, coded_ℕ, coded_bool, coded_list}
-use Rattle.nv_subsystem.specs.ErrorLog.{entry_code}
-use Rattle.nv_file.specs.Identity.{Identity}
-use Rattle.nv_subsystem.specs.FeatureRules.{FeatureRules}
-use Rattle.nv_subsystem.specs.State.{Controller, State, Namespaces, Nsids}
-use Rattle.nv_subsystem.specs.ValueKey.{FeatureValues, feature_values_code}
+use Rattle.nv_model.specs.ErrorLog.{entry_code}
+use Rattle.nv_model.specs.Identity.{Identity}
+use Rattle.nv_model.specs.FeatureRules.{FeatureRules}
+use Rattle.nv_model.specs.State.{Controller, State, Namespaces, Nsids}
+use Rattle.nv_model.specs.ValueKey.{FeatureValues, feature_values_code}
 use Rattle.nv_layout.specs.declared.error_entry.ErrorEntry.{ErrorEntry}
-use Rattle.nv_file.specs.declared.smart_base.Counters.{Counters}
-use Rattle.nv_file.specs.declared.defaults.Defaults.{Defaults}
-use Rattle.nv_file.specs.declared.defaults.Defaults.TheVariants.{One, Thresholds}
-use Rattle.nv_file.specs.declared.feature_rule.FeatureRule.{FeatureRule}
-use Rattle.nv_file.specs.declared.format.Format.{Format}
-use Rattle.nv_file.specs.declared.identity.IdentityNumbers.{IdentityNumbers}
-use Rattle.nv_file.specs.declared.namespace.Namespace.{Namespace}
-use Rattle.nv_file.specs.declared.smart_base.SmartBase.{SmartBase}
+use Rattle.nv_model.specs.declared.smart_base.Counters.{Counters}
+use Rattle.nv_model.specs.declared.defaults.Defaults.{Defaults}
+use Rattle.nv_model.specs.declared.defaults.Defaults.TheVariants.{One, Thresholds}
+use Rattle.nv_model.specs.declared.feature_rule.FeatureRule.{FeatureRule}
+use Rattle.nv_model.specs.declared.format.Format.{Format}
+use Rattle.nv_model.specs.declared.identity.IdentityNumbers.{IdentityNumbers}
+use Rattle.nv_model.specs.declared.namespace.Namespace.{Namespace}
+use Rattle.nv_model.specs.declared.smart_base.SmartBase.{SmartBase}
 
 abbrev pub format_code : Coded Format
 format_code = code_by (ℕ × (ℕ × ℕ))

@@ -7,8 +7,8 @@ use Rattle.nv_bits.specs.Numbers.{NumberMap}
 use Rattle.nv_bits.specs.Slots.{RangeMap}
 use Rattle.nv_layout.specs.Feature.{row_of}
 use Rattle.nv_layout.specs.declared.feature.Feature.TheVariants.{ErrorRecovery}
-use Rattle.nv_subsystem.specs.ValueKey.{FeatureValues, ValueKey, feature_values_code}
-use Rattle.nv_subsystem.specs.declared.feature_value.FeatureValue.{FeatureValue}
+use Rattle.nv_model.specs.ValueKey.{FeatureValues, ValueKey, feature_values_code}
+use Rattle.nv_model.specs.declared.feature_value.FeatureValue.{FeatureValue}
 
 -- the values, where NSIDs go up to a greatest one
 pub record ValueTable : Type 0 where

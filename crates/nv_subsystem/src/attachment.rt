@@ -3,21 +3,22 @@
 
 ghost use Rattle.std.specs.Prelude.{◌≡◌, ℕ, false, true, map, All};
 ghost use Rattle.nv_bits.specs.Numbers.{IsOf};
-ghost use Rattle.nv_subsystem.specs.Attachment.{attach_rows, attached, attachment_rows, count_with};
-ghost use Rattle.nv_subsystem.specs.Attachment.{detach_rows, detached, fewer, first_rows};
-ghost use Rattle.nv_subsystem.specs.Attachment.{has_one_attached, is_ascending, is_known};
-ghost use Rattle.nv_subsystem.specs.Attachment.{is_list_of, is_listed, is_private};
-ghost use Rattle.nv_subsystem.specs.Attachment.{lacks_one_attached, more, with_attachments};
+ghost use Rattle.nv_model.specs.Attachment.{attach_rows, attached, attachment_rows, count_with};
+ghost use Rattle.nv_model.specs.Attachment.{detach_rows, detached, fewer, first_rows};
+ghost use Rattle.nv_model.specs.Attachment.{has_one_attached, is_ascending, is_known};
+ghost use Rattle.nv_model.specs.Attachment.{is_list_of, is_listed, is_private};
+ghost use Rattle.nv_model.specs.Attachment.{lacks_one_attached, more, with_attachments};
 ghost use Rattle.nv_subsystem.specs.ControllerView.{controller_view};
-ghost use Rattle.nv_subsystem.specs.Management.{with_nsids, without, without_any};
-ghost use Rattle.nv_subsystem.specs.Nsid.{is_valid};
-ghost use Rattle.nv_subsystem.specs.Row.{Checks};
+ghost use Rattle.nv_model.specs.Management.{with_nsids, without, without_any};
+ghost use Rattle.nv_model.specs.Nsid.{is_valid};
+ghost use Rattle.nv_model.specs.Row.{Checks};
 ghost use Rattle.nv_subsystem.specs.Sound.{IsSized};
 
 use crate::controller::Controller;
-use crate::row::{Row, check};
+use crate::row::check;
 use crate::subsystem::Subsystem;
 use nv_command::{Refusal, StatusCode};
+use nv_model::Row;
 
 /// Whether a list of controller identifiers names the controller.
 fn is_listed(ids: &[u16], controller: &Controller) -> bool

@@ -2,13 +2,13 @@
 
 ghost use Rattle.std.specs.Prelude.{◌≡◌, ◌≤◌, ◌<◌, false};
 ghost use Rattle.std.specs.FinMap as map_of;
-ghost use Rattle.nv_subsystem.specs.Capacity.{unallocated};
-ghost use Rattle.nv_subsystem.specs.Format.{with_format};
-ghost use Rattle.nv_subsystem.specs.Nsid.{is_allocated};
+ghost use Rattle.nv_model.specs.Capacity.{unallocated};
+ghost use Rattle.nv_model.specs.Format.{with_format};
+ghost use Rattle.nv_model.specs.Nsid.{is_allocated};
 
 use crate::subsystem::Subsystem;
-use nv_file::Namespace;
 use nv_layout::FourBits;
+use nv_model::Namespace;
 
 impl Subsystem {
     /// The bytes of capacity that no namespace has.

@@ -3,23 +3,19 @@
 ghost use Rattle.std.specs.Prelude.{◌≡◌, ◌+◌, ◌<◌, ◌^◌, ℕ};
 ghost use Rattle.nv_subsystem.specs.ControllerView.{controller_view};
 ghost use Rattle.nv_bits.specs.Numbers.{IsOf};
-ghost use Rattle.nv_subsystem.specs.Attachment.{with_one};
-ghost use Rattle.nv_subsystem.specs.Management.{with_nsids, without, without_any};
+ghost use Rattle.nv_model.specs.Attachment.{with_one};
+ghost use Rattle.nv_model.specs.Management.{with_nsids, without, without_any};
 ghost use Rattle.nv_subsystem.specs.Sound.{IsSized};
-ghost use Rattle.nv_subsystem.specs.FeatureRules.{rule_of};
-ghost use Rattle.nv_subsystem.specs.Step.{next_count, with_refusal};
+ghost use Rattle.nv_model.specs.FeatureRules.{rule_for, rule_of};
+ghost use Rattle.nv_model.specs.Step.{next_count, with_refusal};
 
 use crate::error_log::ErrorLog;
-use crate::feature_value::{FeatureValue, default_rule};
+use crate::feature_value::default_rule;
 use crate::feature_values::FeatureValues;
-use crate::origin::Origin;
 use nv_bits::{BitSet, Slots};
 use nv_command::Refusal;
-use nv_file::{FeatureRule, Identity, SmartBase};
 use nv_layout::Feature;
-
-/// The greatest value of a count, where it stays.
-pub const GREATEST_COUNT: u64 = u64::MAX;
+use nv_model::{FeatureRule, FeatureValue, Identity, Origin, SmartBase};
 
 /// A controller: what its file table gives, and what its commands change.
 #[derive(Drop)]
@@ -36,12 +32,19 @@ pub struct Controller {
     pub values: FeatureValues,
 }
 
-/// How a controller treats a feature: by its rule, or by what stands for a missing one.
+/// How a controller treats the feature with an identifier: by its rule, or by what stands for a
+/// missing one.
+pub(crate) fn rule_for(rules: &Slots<FeatureRule>, fid: u8) -> FeatureRule
+    ensures { result ≡ rule_for rules.now.values fid }
+{
+    rules.get(u32::from(fid)).unwrap_or(default_rule(fid))
+}
+
+/// How a controller treats a feature.
 pub(crate) fn rule_of(rules: &Slots<FeatureRule>, feature: Feature) -> FeatureRule
     ensures { result ≡ rule_of rules.now.values feature }
 {
-    let fid = feature.fid();
-    rules.get(u32::from(fid)).unwrap_or(default_rule(fid))
+    rule_for(rules, feature.fid())
 }
 
 impl Controller {

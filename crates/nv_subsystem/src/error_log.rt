@@ -3,12 +3,12 @@
 ghost use Rattle.std.specs.Prelude.{◌≡◌, ◌-◌, ◌≤◌, ◌∷◌, ◌++◌, [], length, map, replicate, take};
 ghost use Rattle.std.specs.Prelude.{slice_get, IfOk, option_map};
 ghost use Rattle.nv_layout.specs.ErrorEntry.{no_entry, without_phase};
-ghost use Rattle.nv_subsystem.specs.ErrorLog.{log_entry};
+ghost use Rattle.nv_model.specs.ErrorLog.{log_entry};
 
-use crate::origin::Origin;
 use circular_buffer::HeapCircularBuffer;
 use nv_command::Refusal;
 use nv_layout::{ErrorEntries, ErrorEntry};
+use nv_model::Origin;
 use std::alloc::{AllocError, Global};
 use std::marker::Model;
 
@@ -22,7 +22,7 @@ pub struct ErrorLog {
 impl Model for ErrorLog {
     ghost use Rattle.std.specs.Prelude.{◌≤◌, length, map};
     ghost use Rattle.nv_layout.specs.ErrorEntry.{without_phase};
-    ghost use Rattle.nv_subsystem.specs.ErrorLog.{Log, log_code};
+    ghost use Rattle.nv_model.specs.ErrorLog.{Log, log_code};
 
     ghost Value = { Log };
 

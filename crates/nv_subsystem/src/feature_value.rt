@@ -1,41 +1,12 @@
-//! The value of a feature.
+//! The features that a controller has, and their defaults.
 
 ghost use Rattle.std.specs.Prelude.{◌≡◌};
-ghost use Rattle.nv_subsystem.specs.FeatureValue.{at_default, default_of, default_rule, written};
-ghost use Rattle.nv_subsystem.specs.Supported.{is_supported};
+ghost use Rattle.nv_model.specs.FeatureValue.{default_of, default_rule};
+ghost use Rattle.nv_model.specs.Supported.{is_supported};
 
 use nv_bits::Slots;
-use nv_file::{Defaults, FeatureRule};
 use nv_layout::Feature;
-
-/// The current value of a feature, and the saved one where one was saved. Section "Feature Values".
-#[derive(Clone, Copy, Debug, PartialEq, Eq)]
-pub struct FeatureValue {
-    pub current: u32,
-    pub saved: Option<u32>,
-}
-
-impl FeatureValue {
-    /// The value under a selector before any is set.
-    pub(crate) fn at_default(rule: FeatureRule, selector: u8) -> FeatureValue
-        ensures { result ≡ at_default rule selector }
-    {
-        FeatureValue {
-            current: default_of(rule, selector),
-            saved: None,
-        }
-    }
-
-    /// With another current value, which is saved too where that is asked for.
-    pub(crate) fn written(self, value: u32, save: bool) -> FeatureValue
-        ensures { result ≡ written value save self }
-    {
-        FeatureValue {
-            current: value,
-            saved: if save { Some(value) } else { self.saved },
-        }
-    }
-}
+use nv_model::{Defaults, FeatureRule};
 
 /// The default under a selector.
 pub(crate) fn default_of(rule: FeatureRule, selector: u8) -> u32

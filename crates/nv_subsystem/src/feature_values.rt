@@ -4,15 +4,19 @@ ghost use Rattle.std.specs.Prelude.{◌≡◌, ◌+◌, ◌^◌, ◌≤◌, ◌<
 ghost use Rattle.std.specs.FinMap as map_of;
 ghost use Rattle.nv_bits.specs.Numbers.{IsOf};
 ghost use Rattle.nv_layout.specs.Feature.{is_selector, row_of};
-ghost use Rattle.nv_subsystem.specs.Change.{changed, changed_at};
-ghost use Rattle.nv_subsystem.specs.Features.{write};
-ghost use Rattle.nv_subsystem.specs.ValueKey.{is_alone, key_of, recovery_key};
-ghost use Rattle.nv_subsystem.specs.ValueTable.{slot_of};
+ghost use Rattle.nv_model.specs.Change.{changed, changed_at};
+ghost use Rattle.nv_model.specs.FeatureRules.{first_value};
+ghost use Rattle.nv_model.specs.Features.{write};
+ghost use Rattle.nv_model.specs.Reset.{all_restored};
+ghost use Rattle.nv_model.specs.ValueKey.{is_alone, key_of, recovery_key};
+ghost use Rattle.nv_subsystem.specs.ValueTable.{key_at, slot_of};
 
-use crate::feature_value::FeatureValue;
+use crate::controller::{rule_for, rule_of};
+use crate::feature_value::default_of;
 use crate::features::NewValue;
 use nv_bits::Slots;
 use nv_layout::Feature;
+use nv_model::{FeatureRule, FeatureValue};
 use std::alloc::{AllocError, Global};
 use std::marker::Model;
 
@@ -57,6 +61,18 @@ fn slot(feature: Feature, nsid: u32, selector: u8) -> u32
         nsid + (SLOTS_ALONE - 1)
     } else {
         u32::from(feature.fid()) * 32 + u32::from(selector)
+    }
+}
+
+/// The default of the value in a slot.
+fn default_in(rules: &Slots<FeatureRule>, number: u32) -> u32
+    ensures { result ≡ (first_value rules.now.values (key_at number)).current }
+{
+    if number < SLOTS_ALONE {
+        let rule = rule_for(rules, (number / 32) as u8);
+        default_of(rule, (number % 32) as u8)
+    } else {
+        default_of(rule_of(rules, Feature::ErrorRecovery), 0)
     }
 }
 
@@ -134,6 +150,19 @@ impl FeatureValues {
     {
         while let Some(number) = self.slots.next_above(SLOTS_ALONE - 1) {
             self.slots.remove(number);
+        }
+    }
+    /// Makes each saved value current, or the default where nothing was saved.
+    pub(crate) fn restore(&mut self, rules: &Slots<FeatureRule>)
+        ensures { self.new ≡ record self.old {
+          values = all_restored rules.now.values self.old.values;
+        } }
+    {
+        for number in 0..self.slots.count() {
+            if let Some(value) = self.slots.get(number) {
+                let restored = value.restored(default_in(rules, number));
+                self.slots.insert(number, restored);
+            }
         }
     }
 }

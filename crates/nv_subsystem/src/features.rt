@@ -4,25 +4,25 @@
 ghost use Rattle.std.specs.Prelude.{◌≡◌, ◌<◌, ℕ, true, length, map, All};
 ghost use Rattle.std.specs.List.{fold};
 ghost use Rattle.nv_layout.specs.Feature.{is_selector};
-ghost use Rattle.nv_subsystem.specs.Change.{changed};
+ghost use Rattle.nv_model.specs.Change.{changed};
 ghost use Rattle.nv_subsystem.specs.ControllerView.{controller_view};
-ghost use Rattle.nv_subsystem.specs.Features.{capabilities, feature_number, get_feature_rows};
-ghost use Rattle.nv_subsystem.specs.Features.{get_rows, rule_at, selected, set_feature_rows};
-ghost use Rattle.nv_subsystem.specs.Features.{set_rows, supported_at, told, with_feature};
-ghost use Rattle.nv_subsystem.specs.Features.{with_value, with_values, write};
-ghost use Rattle.nv_subsystem.specs.Row.{Checks};
+ghost use Rattle.nv_model.specs.Features.{capabilities, feature_number, get_feature_rows};
+ghost use Rattle.nv_model.specs.Features.{get_rows, rule_at, selected, set_feature_rows};
+ghost use Rattle.nv_model.specs.Features.{set_rows, supported_at, told, with_feature};
+ghost use Rattle.nv_model.specs.Features.{with_value, with_values, write};
+ghost use Rattle.nv_model.specs.Row.{Checks};
 ghost use Rattle.nv_subsystem.specs.Sound.{IsSized};
-ghost use Rattle.nv_subsystem.specs.State.{with_controller};
-ghost use Rattle.nv_subsystem.specs.ValueKey.{key_of};
+ghost use Rattle.nv_model.specs.State.{with_controller};
+ghost use Rattle.nv_model.specs.ValueKey.{key_of};
 
 use crate::controller::{Controller, rule_of};
-use crate::feature_value::{FeatureValue, default_of, is_supported};
+use crate::feature_value::{default_of, is_supported};
 use crate::feature_values::FeatureValues;
-use crate::row::{Row, check};
+use crate::row::check;
 use crate::subsystem::Subsystem;
 use nv_command::{BROADCAST_NSID, Refusal, StatusCode};
-use nv_file::FeatureRule;
 use nv_layout::{Feature, ThreeBits};
+use nv_model::{FeatureRule, FeatureValue, Row};
 
 /// What a host asks of a feature: another value, which is saved too where `save` says so. Section
 /// "Set Features command".

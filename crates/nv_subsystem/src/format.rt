@@ -2,47 +2,17 @@
 
 ghost use Rattle.std.specs.Prelude.{◌≡◌, ◌<◌, length};
 ghost use Rattle.std.specs.List.{list_any};
-ghost use Rattle.nv_subsystem.specs.ChangedKeys.{changed_at_keys};
-ghost use Rattle.nv_subsystem.specs.Format.{can_erase_by_key, format_rows, formatted};
-ghost use Rattle.nv_subsystem.specs.Format.{has_one_below, in_format, is_below, new_format};
-ghost use Rattle.nv_subsystem.specs.Nsid.{concerned};
-ghost use Rattle.nv_subsystem.specs.Row.{Checks};
+ghost use Rattle.nv_model.specs.ChangedKeys.{changed_at_keys};
+ghost use Rattle.nv_model.specs.Format.{can_erase_by_key, format_rows, formatted};
+ghost use Rattle.nv_model.specs.Format.{has_one_below, in_format, is_below};
+ghost use Rattle.nv_model.specs.Nsid.{concerned};
+ghost use Rattle.nv_model.specs.Row.{Checks};
 
-use crate::row::{Row, check};
+use crate::row::check;
 use crate::subsystem::Subsystem;
 use nv_command::{BROADCAST_NSID, Refusal, StatusCode};
-use nv_layout::{FourBits, ThreeBits};
-
-/// What a host asks of a format, by the names of its fields. Section "Format NVM command".
-#[derive(Clone, Copy, Debug, PartialEq, Eq)]
-pub struct NewFormat {
-    pub lbaf: FourBits,
-    pub mset: bool,
-    pub pi: ThreeBits,
-    pub pil: bool,
-    pub ses: ThreeBits,
-}
-
-impl NewFormat {
-    /// The fields of a format.
-    pub(crate) fn new(
-        lbaf: FourBits,
-        mset: bool,
-        pi: ThreeBits,
-        pil: bool,
-        ses: ThreeBits,
-    ) -> NewFormat
-        ensures { result ≡ new_format lbaf mset pi pil ses }
-    {
-        NewFormat {
-            lbaf,
-            mset,
-            pi,
-            pil,
-            ses,
-        }
-    }
-}
+use nv_layout::FourBits;
+use nv_model::{NewFormat, Row};
 
 impl Subsystem {
     /// Whether a namespace has a capacity below a size.

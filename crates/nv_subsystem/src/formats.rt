@@ -1,10 +1,10 @@
 //! The table of formats.
 
 ghost use Rattle.std.specs.Prelude.{◌≡◌, ◌≤◌, IfSome};
-ghost use Rattle.nv_subsystem.specs.Formats.{can_have, format_at};
+ghost use Rattle.nv_model.specs.Formats.{can_have, format_at};
 
 use crate::subsystem::Subsystem;
-use nv_file::Format;
+use nv_model::Format;
 
 impl Subsystem {
     /// The format with an index.

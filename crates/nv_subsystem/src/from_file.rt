@@ -4,10 +4,10 @@ ghost use Rattle.std.specs.Prelude.{◌≡◌, ◌≤◌, ◌+◌, true, false, 
 ghost use Rattle.std.specs.List.{fold};
 ghost use Rattle.std.specs.FinMap as map_of;
 ghost use Rattle.nv_bits.specs.Numbers.{IsOf};
-ghost use Rattle.nv_file.specs.Ranges.{IsFeatureRule};
+ghost use Rattle.nv_model.specs.Ranges.{IsFeatureRule};
 ghost use Rattle.nv_layout.specs.Feature.{is_selector, row_of};
-ghost use Rattle.nv_subsystem.specs.Change.{changed};
-ghost use Rattle.nv_subsystem.specs.ValueKey.{key_of};
+ghost use Rattle.nv_model.specs.Change.{changed};
+ghost use Rattle.nv_model.specs.ValueKey.{key_of};
 ghost use Rattle.nv_subsystem.specs.ControllerView.{controller_view};
 ghost use Rattle.nv_file.specs.FileValue.{controller_entry_view, namespace_entry_view};
 ghost use Rattle.nv_subsystem.specs.FromFile.{controller_of, defaults_of, fill, rules_of};
@@ -17,11 +17,12 @@ ghost use Rattle.nv_subsystem.specs.Sound.{IsSized};
 
 use crate::controller::{Controller, rule_of};
 use crate::error_log::ErrorLog;
-use crate::feature_value::{FeatureValue, is_supported};
+use crate::feature_value::is_supported;
 use crate::feature_values::{FEATURE_LIMIT, FeatureValues};
 use nv_bits::{BitSet, Slots};
-use nv_file::{ControllerEntry, FeatureRule, Identity, Namespace, NamespaceEntry, SubsystemError};
+use nv_file::{ControllerEntry, NamespaceEntry, SubsystemError};
 use nv_layout::Feature;
+use nv_model::{FeatureRule, FeatureValue, Identity, Namespace};
 use std::alloc::Global;
 
 /// The bytes of capacity that the namespaces of a file leave.

@@ -1,21 +1,21 @@
 //! The Identify commands: when they are refused, and what they answer. Section "Identify command".
 
 ghost use Rattle.std.specs.Prelude.{◌≡◌, ◌≤◌, ◌<◌, length, All};
-ghost use Rattle.nv_subsystem.specs.Capacity.{blocks};
-ghost use Rattle.nv_subsystem.specs.Identify.{active_list_reply, active_namespace, active_reply};
-ghost use Rattle.nv_subsystem.specs.Identify.{active_rows, allocated_list_reply};
-ghost use Rattle.nv_subsystem.specs.Identify.{allocated_namespace, allocated_reply, allocated_rows};
-ghost use Rattle.nv_subsystem.specs.Identify.{blank, common_of, flbas_of, id_ns_of, lbaf_of};
-ghost use Rattle.nv_subsystem.specs.Identify.{lbafs_of, list_rows};
-ghost use Rattle.nv_subsystem.specs.Nsid.{is_active};
-ghost use Rattle.nv_subsystem.specs.Row.{Checks};
+ghost use Rattle.nv_model.specs.Capacity.{blocks};
+ghost use Rattle.nv_model.specs.Identify.{active_list_reply, active_namespace, active_reply};
+ghost use Rattle.nv_model.specs.Identify.{active_rows, allocated_list_reply};
+ghost use Rattle.nv_model.specs.Identify.{allocated_namespace, allocated_reply, allocated_rows};
+ghost use Rattle.nv_model.specs.Identify.{blank, common_of, flbas_of, id_ns_of, lbaf_of};
+ghost use Rattle.nv_model.specs.Identify.{lbafs_of, list_rows};
+ghost use Rattle.nv_model.specs.Nsid.{is_active};
+ghost use Rattle.nv_model.specs.Row.{Checks};
 
 use crate::listing::{allocated_above, attached_above};
 use crate::row::refuse_if;
 use crate::subsystem::Subsystem;
 use nv_command::{BROADCAST_NSID, Refusal, Reply, StatusCode};
-use nv_file::{Format, Namespace};
 use nv_layout::{IdNs, Lbaf, NsList};
+use nv_model::{Format, Namespace};
 
 /// The least NSID after which no list can be asked for.
 pub const LIST_LIMIT: u32 = 0xffff_fffe;

@@ -2,8 +2,8 @@
 
 ghost use Rattle.std.specs.Prelude.{◌≡◌, ◌<◌, length};
 ghost use Rattle.nv_subsystem.specs.ControllerView.{controller_view};
-ghost use Rattle.nv_subsystem.specs.IdentifyController.{cmic_of, controller_reply, fna_of};
-ghost use Rattle.nv_subsystem.specs.IdentifyController.{id_ctrl_of, padded};
+ghost use Rattle.nv_model.specs.IdentifyController.{cmic_of, controller_reply, fna_of};
+ghost use Rattle.nv_model.specs.IdentifyController.{id_ctrl_of, padded};
 
 use crate::controller::Controller;
 use crate::subsystem::Subsystem;

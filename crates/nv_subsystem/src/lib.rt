@@ -16,15 +16,14 @@ mod identify_controller;
 mod listing;
 mod logs;
 mod management;
-mod origin;
+mod reset;
 mod row;
 mod subsystem;
 
-pub use controller::GREATEST_COUNT;
 pub use nv_command::{Command, ERROR_INFORMATION, HEALTH, Refusal, Reply, StatusCode};
-pub use nv_file::{
-    Counters, DEMO, Defaults, FeatureRule, Format, Identity, IdentityNumbers, Key, Namespace,
-    SmartBase, SubsystemError, TableName,
+pub use nv_file::{DEMO, Key, SubsystemError, TableName};
+pub use nv_model::{
+    Counters, Defaults, FeatureRule, Format, GREATEST_COUNT, Identity, IdentityNumbers, Namespace,
+    Origin, SERIALS, SmartBase,
 };
-pub use origin::{Origin, SERIALS};
 pub use subsystem::Subsystem;

@@ -3,14 +3,14 @@
 ghost use Rattle.std.specs.Prelude.{◌≡◌, ◌≤◌, ◌<◌, length};
 ghost use Rattle.std.specs.FinMap as map_of;
 ghost use Rattle.nv_bits.specs.Numbers.{above};
-ghost use Rattle.nv_subsystem.specs.Nsid.{concerned};
-ghost use Rattle.nv_subsystem.specs.State.{ascending};
+ghost use Rattle.nv_model.specs.Nsid.{concerned};
+ghost use Rattle.nv_model.specs.State.{ascending};
 
 use crate::subsystem::Subsystem;
 use nv_bits::{BitSet, Slots};
 use nv_command::BROADCAST_NSID;
-use nv_file::Namespace;
 use nv_layout::NsList;
+use nv_model::Namespace;
 
 /// The attached NSIDs above one.
 pub(crate) fn attached_above(attached: &BitSet, after: u32, list: &mut NsList)

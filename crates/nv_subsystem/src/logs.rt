@@ -5,15 +5,16 @@ ghost use Rattle.std.specs.Prelude.{◌≡◌, ◌+◌, ◌<◌, ◌≤◌, leng
 ghost use Rattle.nv_layout.specs.ErrorEntry.{without_phase};
 ghost use Rattle.nv_command.specs.Logs.{without_phases};
 ghost use Rattle.nv_subsystem.specs.ControllerView.{controller_view};
-ghost use Rattle.nv_subsystem.specs.Logs.{entry_count, errors_of, log_length, log_reply, log_rows};
-ghost use Rattle.nv_subsystem.specs.Logs.{smart_of};
-ghost use Rattle.nv_subsystem.specs.Row.{Checks};
+ghost use Rattle.nv_model.specs.Logs.{entry_count, errors_of, log_length, log_reply, log_rows};
+ghost use Rattle.nv_model.specs.Logs.{smart_of};
+ghost use Rattle.nv_model.specs.Row.{Checks};
 
 use crate::controller::Controller;
-use crate::row::{Row, check};
+use crate::row::check;
 use crate::subsystem::Subsystem;
 use nv_command::{BROADCAST_NSID, ERROR_INFORMATION, HEALTH, Refusal, Reply, StatusCode};
 use nv_layout::{ErrorEntries, Smart};
+use nv_model::Row;
 
 impl Controller {
     /// The error log, newest first, with entries without an error up to ELPE + 1.

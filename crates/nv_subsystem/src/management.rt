@@ -2,45 +2,19 @@
 //! changes. Section "Namespace Management command".
 
 ghost use Rattle.std.specs.Prelude.{◌≡◌, ◌≤◌, None};
-ghost use Rattle.nv_subsystem.specs.Capacity.{unallocated};
-ghost use Rattle.nv_subsystem.specs.Management.{bytes_needed, capacity_refusal, create_rows};
-ghost use Rattle.nv_subsystem.specs.Management.{created, created_nsid, delete_rows, deleted};
-ghost use Rattle.nv_subsystem.specs.Management.{format_index, is_extended, new_namespace, wanted};
-ghost use Rattle.nv_subsystem.specs.Management.{without_all, without_one};
-ghost use Rattle.nv_subsystem.specs.Nsid.{free_nsid};
-ghost use Rattle.nv_subsystem.specs.Row.{Checks, first_refusal};
+ghost use Rattle.nv_model.specs.Capacity.{unallocated};
+ghost use Rattle.nv_model.specs.Management.{bytes_needed, capacity_refusal, create_rows};
+ghost use Rattle.nv_model.specs.Management.{created, created_nsid, delete_rows, deleted};
+ghost use Rattle.nv_model.specs.Management.{format_index, is_extended, new_namespace};
+ghost use Rattle.nv_model.specs.Management.{without_all, without_one};
+ghost use Rattle.nv_model.specs.Nsid.{free_nsid};
+ghost use Rattle.nv_model.specs.Row.{Checks, first_refusal};
 
 use crate::attachment::{detach_all, detach_everywhere};
-use crate::row::{Row, check};
+use crate::row::check;
 use crate::subsystem::Subsystem;
 use nv_command::{BROADCAST_NSID, Refusal, StatusCode};
-use nv_file::Namespace;
-
-/// What a host asks of a new namespace, by the names of its fields. Sections "Namespace Management
-/// command" and "Identify Namespace data structure".
-#[derive(Clone, Copy, Debug, PartialEq, Eq)]
-pub struct NewNamespace {
-    pub nsze: u64,
-    pub ncap: u64,
-    pub flbas: u8,
-    pub dps: u8,
-    pub nmic: u8,
-}
-
-impl NewNamespace {
-    /// The fields of a create.
-    pub(crate) fn new(nsze: u64, ncap: u64, flbas: u8, dps: u8, nmic: u8) -> NewNamespace
-        ensures { result ≡ wanted nsze ncap flbas dps nmic }
-    {
-        NewNamespace {
-            nsze,
-            ncap,
-            flbas,
-            dps,
-            nmic,
-        }
-    }
-}
+use nv_model::{Namespace, NewNamespace, Row};
 
 /// The index of the format (FLBAS 3:0).
 fn format_index(flbas: u8) -> u8

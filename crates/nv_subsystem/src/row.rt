@@ -1,28 +1,10 @@
 //! Refusals as ordered rows.
 
-ghost use Rattle.std.specs.Prelude.{◌≡◌, ◌∷◌, []};
-ghost use Rattle.nv_subsystem.specs.Row.{Checks, row};
+ghost use Rattle.std.specs.Prelude.{◌∷◌, []};
+ghost use Rattle.nv_model.specs.Row.{Checks, row};
 
 use nv_command::{Refusal, StatusCode};
-
-/// A condition, and the refusal where it holds.
-#[derive(Clone, Copy, Debug, PartialEq, Eq)]
-pub struct Row {
-    pub when: bool,
-    pub refusal: Refusal,
-}
-
-impl Row {
-    /// A row with nothing specific to its command.
-    pub(crate) fn new(when: bool, code: StatusCode) -> Row
-        ensures { result ≡ row when code }
-    {
-        Row {
-            when,
-            refusal: Refusal::from(code),
-        }
-    }
-}
+use nv_model::Row;
 
 /// Refuses by the first row whose condition holds.
 pub(crate) fn check(rows: &[Row]) -> Result<(), Refusal>

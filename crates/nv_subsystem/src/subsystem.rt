@@ -1,35 +1,33 @@
 //! A subsystem, and what its commands do.
 
 ghost use Rattle.std.specs.Prelude.{◌≡◌, ◌<◌, ◌^◌, ℕ, length, option_map, None, IfOk, IfErr};
-ghost use Rattle.nv_subsystem.specs.Entry.{counts_of, log_entry_of, mdts_of};
+ghost use Rattle.nv_model.specs.Entry.{counts_of, log_entry_of, mdts_of};
 ghost use Rattle.nv_layout.specs.ErrorEntry.{without_phase};
 ghost use Rattle.nv_command.specs.Logs.{without_phases};
 ghost use Rattle.nv_file.specs.Fault.{IsUnlessMemory};
 ghost use Rattle.nv_file.specs.FileValue.{file_view};
 ghost use Rattle.nv_subsystem.specs.FromFile.{state_of, subsystem};
 ghost use Rattle.nv_file.specs.IsFile.{IsFile};
-ghost use Rattle.nv_subsystem.specs.Effect.{effect_of};
-ghost use Rattle.nv_subsystem.specs.Fits.{RepliesFit};
-ghost use Rattle.nv_subsystem.specs.Nsid.{is_valid};
-ghost use Rattle.nv_subsystem.specs.Refusal.{refusal_of, rows_of};
-ghost use Rattle.nv_subsystem.specs.Reply.{reply_of};
-ghost use Rattle.nv_subsystem.specs.Row.{Checks};
-ghost use Rattle.nv_subsystem.specs.Step.{answer_to, answer_without_phases, refused, step};
-ghost use Rattle.nv_subsystem.specs.Step.{with_command};
-ghost use Rattle.nv_subsystem.specs.WellFormed.{IsWellFormed};
+ghost use Rattle.nv_model.specs.Effect.{effect_of};
+ghost use Rattle.nv_model.specs.Fits.{RepliesFit};
+ghost use Rattle.nv_model.specs.Nsid.{is_valid};
+ghost use Rattle.nv_model.specs.Refusal.{refusal_of, rows_of};
+ghost use Rattle.nv_model.specs.Reply.{reply_of};
+ghost use Rattle.nv_model.specs.Row.{Checks};
+ghost use Rattle.nv_model.specs.Step.{answer_to, answer_without_phases, refused, step};
+ghost use Rattle.nv_model.specs.Step.{with_command};
+ghost use Rattle.nv_model.specs.WellFormed.{IsWellFormed};
 ghost use Rattle.nv_command.specs.Refusal.{IsRefusal};
 
 use crate::controller::Controller;
 use crate::features::NewValue;
-use crate::format::NewFormat;
 use crate::from_file::{controllers, slots, unallocated};
 use crate::identify::check_list;
-use crate::management::NewNamespace;
-use crate::origin::Origin;
 use nv_bits::Slots;
 use nv_command::{Command, Refusal, Reply, ReplyRoom};
-use nv_file::{File, Format, Namespace, SubsystemError};
+use nv_file::{File, SubsystemError};
 use nv_layout::{ErrorEntry, NsList};
+use nv_model::{Format, Namespace, NewFormat, NewNamespace, Origin};
 use std::alloc::Global;
 use std::marker::Model;
 
@@ -49,14 +47,14 @@ pub struct Subsystem {
 
 impl Model for Subsystem {
     ghost use Rattle.std.specs.Prelude.{◌≡◌, ◌+◌, map, string_bytes};
-    ghost use Rattle.nv_subsystem.specs.State.{State};
+    ghost use Rattle.nv_model.specs.State.{State};
     ghost use Rattle.nv_subsystem.specs.StateCode.{state_code};
 
     ghost Value = { State };
 
     ghost coded = { state_code };
 
-    ghost use Rattle.nv_subsystem.specs.Capacity.{used};
+    ghost use Rattle.nv_model.specs.Capacity.{used};
     ghost use Rattle.nv_subsystem.specs.ControllerView.{controller_view};
     ghost use Rattle.nv_subsystem.specs.Sound.{IsSound};
 

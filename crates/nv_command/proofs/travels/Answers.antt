@@ -1,4 +1,4 @@
-use Rattle.nv_command.specs.TravelLaws.{commands_travel, replies_fit, replies_travel}
+use Rattle.nv_command.proofs.TravelLaws.{commands_travel, replies_fit, replies_travel}
 use Rattle.nv_command.proofs.travels.Goals as goal
 
 pub returns-clause-commands : goal.returns-clause-commands

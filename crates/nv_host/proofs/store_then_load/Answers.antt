@@ -1,5 +1,5 @@
 use Rattle.std.proofs.Common.{length, refl}
-use Rattle.nv_host.specs.BytesLaws.{bytes_at-with_after, bytes_at-with_before, bytes_at-with_same, length-with_bytes}
+use Rattle.nv_host.proofs.BytesLaws.{bytes_at-with_after, bytes_at-with_before, bytes_at-with_same, length-with_bytes}
 use Rattle.nv_host.proofs.store_then_load.Goals as goal
 
 pub returns-clause-written : goal.returns-clause-written

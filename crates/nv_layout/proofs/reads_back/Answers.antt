@@ -1,6 +1,6 @@
-use Rattle.nv_layout.specs.LogLaws.{error_entry_back, smart_back}
-use Rattle.nv_layout.specs.IdentifyLaws.{id_ctrl_back, id_ns_back}
-use Rattle.nv_layout.specs.RecordLaws.{cqe_back, ctrl_list_back, ns_list_back, sqe_back, status_back}
+use Rattle.nv_layout.proofs.LogLaws.{error_entry_back, smart_back}
+use Rattle.nv_layout.proofs.IdentifyLaws.{id_ctrl_back, id_ns_back}
+use Rattle.nv_layout.proofs.RecordLaws.{cqe_back, ctrl_list_back, ns_list_back, sqe_back, status_back}
 use Rattle.nv_layout.proofs.reads_back.Goals as goal
 
 pub returns-clause-sqe : goal.returns-clause-sqe

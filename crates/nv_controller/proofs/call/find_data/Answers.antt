@@ -1,7 +1,7 @@
 use Rattle.std.proofs.Common.{◌∙◌, ap, arith, sym, length}
 use Rattle.nv_prp.specs.Place.{places}
-use Rattle.nv_controller.specs.Call.{length_of}
-use Rattle.nv_controller.specs.CallLaws.{no_places, nothing_lies_in, places-nil}
+use Rattle.nv_bus.specs.Call.{length_of}
+use Rattle.nv_bus.proofs.CallLaws.{no_places, nothing_lies_in, places-nil}
 use Rattle.nv_controller.proofs.call.find_data.Goals as goal
 
 pub returns-in-NoData-clause-found : goal.returns-in-NoData-clause-found

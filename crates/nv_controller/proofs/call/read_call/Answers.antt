@@ -1,5 +1,5 @@
 use Rattle.std.proofs.Common.{sym}
-use Rattle.nv_controller.specs.CallLaws.{has_room}
+use Rattle.nv_bus.proofs.CallLaws.{has_room}
 use Rattle.nv_controller.proofs.call.read_call.Goals as goal
 
 pub find_data-requires : goal.find_data-requires

@@ -1,6 +1,6 @@
 use Rattle.std.proofs.Common.{refl}
 use Rattle.nv_prp.specs.Place.{places}
-use Rattle.nv_controller.specs.CallLaws.{legal_places}
+use Rattle.nv_bus.proofs.CallLaws.{legal_places}
 use Rattle.nv_controller.proofs.call.walk_data.Goals as goal
 
 pub returns-in-Ok-clause-found : goal.returns-in-Ok-clause-found

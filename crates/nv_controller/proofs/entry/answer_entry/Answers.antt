@@ -1,5 +1,5 @@
-use Rattle.nv_subsystem.specs.ChangedAtLaws.{length-changed_at}
-use Rattle.nv_subsystem.specs.StepLaws.{step_controllers}
+use Rattle.nv_model.proofs.ChangedAtLaws.{length-changed_at}
+use Rattle.nv_model.proofs.StepLaws.{step_controllers}
 use Rattle.nv_controller.proofs.entry.answer_entry.Goals as goal
 
 pub returns-in-Ok-clause-controllers : goal.returns-in-Ok-clause-controllers

@@ -1,5 +1,5 @@
 use Rattle.std.proofs.Common.{◌∙◌, ap, arith, sym}
-use Rattle.nv_layout.specs.PartLaws.{length-part}
+use Rattle.nv_layout.proofs.PartLaws.{length-part}
 use Rattle.nv_layout.specs.Parts.{part}
 use Rattle.nv_command.specs.Reply.{log_of}
 use Rattle.nv_prp.specs.Place.{places, written_at}

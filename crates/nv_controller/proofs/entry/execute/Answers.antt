@@ -1,8 +1,8 @@
 use Rattle.std.proofs.Common.{◌∙◌, Option, ap}
 use Rattle.nv_prp.specs.Place.{places}
 use Rattle.nv_command.specs.declared.refusal.Refusal.{Refusal}
-use Rattle.nv_controller.specs.Entry.{told_by}
-use Rattle.nv_controller.specs.declared.entry.Told.{Told}
+use Rattle.nv_bus.specs.Entry.{told_by}
+use Rattle.nv_bus.specs.declared.told.Told.{Told}
 use Rattle.nv_controller.proofs.EntryLaws.{answered, moved_none, moved_reply, refused_by}
 use Rattle.nv_controller.proofs.entry.execute.Goals.{in-Ok, in-Err}
 use Rattle.nv_controller.proofs.entry.execute.Goals as goal
@@ -18,10 +18,10 @@ deliver-requires-clause-fits g c =
 pub returns-clause-told : goal.returns-clause-told
 returns-clause-told g c = elim c.match-answer.branch [
   | in-Ok w ↦
-      ap (λ (p : Told × Option Refusal). p.0) w.refusal-is ∙ w.reply.ensures
+      ap (λ (p : Told × Option Refusal). p.0) w.refusal-is ∙ w.reply_told.ensures
       ∙ (answered _ c.args.ctrl c.args.command.now c.args.origin.cid _ w.in-Ok.reply c.requires.well_formed w.in-Ok.is c.answer.ensures).told
   | in-Err w ↦
-      ap (λ (p : Told × Option Refusal). p.0) w.refusal-is ∙ w.refusal.ensures
+      ap (λ (p : Told × Option Refusal). p.0) w.refusal-is ∙ w.refusal_told.ensures
       ∙ ap told_by (refused_by _ c.args.ctrl c.args.command.now c.args.origin.cid _ _ w.in-Err.is c.answer.ensures).answer
 ]
 

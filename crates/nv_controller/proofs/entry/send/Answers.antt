@@ -1,6 +1,6 @@
 use Rattle.std.proofs.Common.{◌∙◌, ap, length, sym}
 use Rattle.nv_command.specs.Command.{bytes_to_host}
-use Rattle.nv_command.specs.TravelLaws.{replies_fit}
+use Rattle.nv_command.proofs.TravelLaws.{replies_fit}
 use Rattle.nv_prp.specs.Place.{places, written_at}
 use Rattle.nv_controller.proofs.DataLaws.{log_length, page_data, page_size}
 use Rattle.nv_controller.proofs.entry.send.Goals as goal

@@ -1,5 +1,5 @@
 use Rattle.std.proofs.Common.{◌∙◌, ap, rules}
-use Rattle.nv_controller.specs.Entry.{completion_of, scene}
+use Rattle.nv_bus.specs.Entry.{completion_of, scene}
 use Rattle.nv_controller.proofs.EntryLaws.{taken_one}
 use Rattle.nv_controller.proofs.entry.take_one.Goals as goal
 

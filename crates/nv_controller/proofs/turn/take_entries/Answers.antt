@@ -1,6 +1,6 @@
 use Rattle.std.proofs.Common.{◌∙◌, ℕ, ap, sym, length}
-use Rattle.nv_controller.specs.Entry.{scene}
-use Rattle.nv_controller.specs.Turn.{reaches}
+use Rattle.nv_bus.specs.Entry.{scene}
+use Rattle.nv_bus.specs.Turn.{reaches}
 use Rattle.nv_controller.proofs.TurnLaws.{taken_more}
 use Rattle.nv_controller.proofs.turn.take_entries.Goals as goal
 

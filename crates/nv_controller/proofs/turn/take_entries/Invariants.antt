@@ -1,4 +1,4 @@
-use Rattle.nv_controller.specs.Entry.{scene}
+use Rattle.nv_bus.specs.Entry.{scene}
 use Rattle.nv_controller.proofs.TurnLaws.{Goes}
 use Rattle.nv_controller.proofs.turn.take_entries.Given as goal
 

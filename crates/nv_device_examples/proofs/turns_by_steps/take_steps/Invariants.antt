@@ -1,4 +1,4 @@
-use Rattle.nv_controller.specs.Bus.{IsBus}
+use Rattle.nv_bus.specs.Bus.{IsBus}
 use Rattle.nv_device_examples.proofs.turns_by_steps.take_steps.Given as goal
 
 abbrev pub invariant-loop-step : goal.invariant-loop-step

@@ -1,16 +1,16 @@
-use Rattle.std.proofs.Common.{arith}
-use Rattle.nv_driver.proofs.RegisterLaws.{enabled_ports, is_enabled}
+use Rattle.nv_driver.proofs.RegisterLaws.{enabled_ports}
+use Rattle.nv_driver.proofs.ZeroLaws.{zeroed_length, zeroed_others}
 use Rattle.nv_driver.proofs.enabling.enable.Goals as goal
 
 pub returns-clause-ports : goal.returns-clause-ports
 returns-clause-ports g c =
-    enabled_ports _ _ _ _ c.args.ctrl c.args.geometry _ c.requires.ctrl c.requires.enabled c.requires.geometry
-    (omega (arith, c.mps.ensures))
-    c.write32.ensures.ports
+    enabled_ports _ _ _ _ c.args.ctrl c.args.geometry _ c.requires.ctrl
+    c.disable.ensures.ports
     (rw (c.place-place.ensures.sq, c.place-place.ensures.cq) at c.set_queues.ensures.ports)
-    c.write32-2.ensures.ports
+    c.start.ensures.ports
 
-pub returns-clause-ok : goal.returns-clause-ok
-returns-clause-ok g c =
-    is_enabled (g.B.Bus.meaning c.args.bus.now).ports _ c.args.ctrl c.args.geometry _ c.requires.ctrl
-    (returns-clause-ports g c) c.await_ready-2.ensures.ready
+pub returns-clause-others : goal.returns-clause-others
+returns-clause-others g c = zeroed_others _ _ c.requires.quiet c.requires.lane c.requires.laid c.zero.ensures.bytes
+
+pub returns-clause-len : goal.returns-clause-len
+returns-clause-len g c = zeroed_length _ _ c.requires.quiet c.requires.lane c.requires.laid c.zero.ensures.bytes

@@ -1,5 +1,5 @@
 use Rattle.std.proofs.Common.{arith}
-use Rattle.nv_host.specs.PageLaws.{page_size_bounds}
+use Rattle.nv_host.proofs.PageLaws.{page_size_bounds}
 use Rattle.nv_driver.proofs.PointerLaws.{enough_pages, seven_pages}
 use Rattle.nv_driver.proofs.submitting.page_count.Goals as goal
 

@@ -1,7 +1,7 @@
 use Rattle.std.proofs.Common.{◌≡◌, ◌++◌, ◌∷◌, [], arith}
 use Rattle.std.proofs.lemmas.Grind.{common_steps}
 use Rattle.std.proofs.lemmas.List.Elements.{All-push}
-use Rattle.nv_file.specs.Ranges.{IsFeatureRule}
+use Rattle.nv_model.specs.Ranges.{IsFeatureRule}
 use Rattle.nv_file.proofs.Distinct.{fresh_rule}
 use Rattle.nv_file.proofs.feature_rule.features_of.Goals as goal
 

@@ -1,6 +1,6 @@
 use Rattle.std.proofs.Common.{◌≡◌, ◌≢◌, [], drop}
 use Rattle.std.specs.Prelude.{All, AllPairs}
-use Rattle.nv_file.specs.Ranges.{IsFeatureRule}
+use Rattle.nv_model.specs.Ranges.{IsFeatureRule}
 use Rattle.nv_file.specs.Section.{readings}
 use Rattle.nv_file.specs.SectionView.{tables_view}
 use Rattle.nv_file.specs.Tables.{feature_of}

@@ -1,6 +1,6 @@
 use Rattle.std.proofs.Common.{◌≡◌, [], drop, length}
 use Rattle.std.specs.Prelude.{All}
-use Rattle.nv_file.specs.Ranges.{IsFormat}
+use Rattle.nv_model.specs.Ranges.{IsFormat}
 use Rattle.nv_file.specs.Section.{readings}
 use Rattle.nv_file.specs.SectionView.{tables_view}
 use Rattle.nv_file.specs.Tables.{format_of}

@@ -1,5 +1,5 @@
 use Rattle.std.proofs.Common.{arith}
-use Rattle.nv_layout.specs.PartLaws.{all_below}
+use Rattle.nv_layout.proofs.PartLaws.{all_below}
 use Rattle.nv_layout.proofs.parts.each_u16_fits.Goals as goal
 
 pub returns : goal.returns

@@ -1,5 +1,5 @@
 use Rattle.std.proofs.Common.{arith}
-use Rattle.nv_layout.specs.PartLaws.{byte_placed}
+use Rattle.nv_layout.proofs.PartLaws.{byte_placed}
 use Rattle.nv_layout.proofs.parts.put_u8.Goals as goal
 
 pub returns : goal.returns

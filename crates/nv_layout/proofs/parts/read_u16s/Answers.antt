@@ -1,5 +1,5 @@
 use Rattle.std.proofs.Common.{◌∙◌, ◌+◌, ◌-◌, ◌*◌, arith, length}
-use Rattle.nv_layout.specs.PartLaws.{number_at-part, numbers_read}
+use Rattle.nv_layout.proofs.PartLaws.{number_at-part, numbers_read}
 use Rattle.nv_layout.proofs.parts.read_u16s.Goals as goal
 
 pub returns : goal.returns

@@ -1,4 +1,4 @@
-use Rattle.nv_layout.specs.PartLaws.{to_bits_value}
+use Rattle.nv_layout.proofs.PartLaws.{to_bits_value}
 use Rattle.nv_layout.proofs.parts.to_bits.Goals as goal
 
 pub returns : goal.returns

@@ -1,5 +1,5 @@
 use Rattle.std.proofs.Common.{◌∙◌, ◌+◌, ◌-◌, ◌*◌, arith}
-use Rattle.nv_layout.specs.PartLaws.{number_at-part, numbers_read}
+use Rattle.nv_layout.proofs.PartLaws.{number_at-part, numbers_read}
 use Rattle.nv_layout.proofs.parts.u32s_at.Goals as goal
 
 pub returns : goal.returns

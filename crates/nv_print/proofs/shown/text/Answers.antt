@@ -43,3 +43,6 @@ returns-in-FeatureValue-clause-bound c = text_within c.feature_value.result _ _ 
 
 pub returns-in-FeatureSet-clause-bound : goal.returns-in-FeatureSet-clause-bound
 returns-in-FeatureSet-clause-bound c = text_within c.feature_set.result _ _ c.feature_set.ensures (omega (arith, feature_set_length c.in-FeatureSet.feature c.in-FeatureSet.value c.in-FeatureSet.save))
+
+pub returns-in-Reset-clause-bound : goal.returns-in-Reset-clause-bound
+returns-in-Reset-clause-bound c = text_within c.reset.result _ _ c.reset.ensures (omega arith)

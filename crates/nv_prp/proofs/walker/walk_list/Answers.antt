@@ -2,7 +2,7 @@ use Rattle.std.proofs.Common.{◌≡◌, ◌∙◌, ◌+◌, ap, arith, length, 
 use Rattle.std.proofs.lemmas.Result.{err_from_is_err_and}
 use Rattle.nv_prp.specs.ListWalk.{used_of}
 use Rattle.nv_prp.specs.Place.{table}
-use Rattle.nv_prp.specs.PlaceLaws.{length-table}
+use Rattle.nv_prp.proofs.PlaceLaws.{length-table}
 use Rattle.nv_prp.specs.Transfer.{span_of, transfer_of}
 use Rattle.nv_prp.proofs.ListLaws.{comes_first, fault_found, is_list}
 use Rattle.nv_prp.proofs.PageLaws.{spans}

@@ -1,6 +1,6 @@
 use Rattle.std.proofs.Common.{◌∙◌, ◌+◌, sym, ap, refl, length, [], Some, Ok, Err}
 use Rattle.nv_script.specs.Cuts.{left_at}
-use Rattle.nv_script.specs.Orders.{commands_of}
+use Rattle.nv_script.specs.Orders.{orders_of}
 use Rattle.nv_script.specs.Outcomes.{outcome_of}
 use Rattle.nv_script.specs.Results.{LineResult, answer_result, message_at, output_for, quiet_result}
 use Rattle.nv_script.specs.Link.{serials_of}
@@ -17,11 +17,11 @@ returns-in-Ok-perform-clause-left g c text p o m is stands =
     let r = c.in-Request.request in
     let said = line_said c.in-Ok.said _ (c.in-Ok.ensures.said text is) ∙ ap Ok c.in-Request.is in
     let here = said_here p text s c.controllers.result (Ok (line.Request r)) stands.holds.reached (c.controllers.ensures ∙ c.requires.linked.bus.ports) said in
-    let come = outcome_of s serials (commands_of s r.query) in
+    let come = outcome_of s serials (orders_of s r.query) in
     let left = c.in-Ok-perform.ensures.left in
     let lr : LineResult = record { output = output_for s r come.replies; message = []; status = Some 0; state = come.state; serials = come.serials } in
     let same = result_asked p text r s serials n here stands.holds.reached stands.next stands.number ∙ ap (λ x. answer_result x (n + 1) s r come) left.0 in
-    output_leaves p text lr (length (commands_of s r.query)) (left_at o (g.O.Sink.state c.args.out.now).taken m (g.M.Sink.state c.args.messages.now).taken s) (g.B.Bus.meaning c.perform.new.bus).state _
+    output_leaves p text lr (length (orders_of s r.query)) (left_at o (g.O.Sink.state c.args.out.now).taken m (g.M.Sink.state c.args.messages.now).taken s) (g.B.Bus.meaning c.perform.new.bus).state _
     same stands.holds left.2.subsystem left.2.next (ap (λ n. n + 1) stands.number) refl (amid-all p text r s serials here stands.holds.reached stands.next)
     c.print-in-Ok-perform.result (Ok c.in-Ok-perform.text) (g.O.Sink.state c.print-in-Ok-perform.new.sink).taken _ refl left.1 c.print-in-Ok-perform.ensures
 
@@ -33,12 +33,12 @@ returns-clause-left g c text p o m is stands =
     let r = c.in-Request.request in
     let said = line_said c.in-Ok.said _ (c.in-Ok.ensures.said text is) ∙ ap Ok c.in-Request.is in
     let here = said_here p text s c.controllers.result (Ok (line.Request r)) stands.holds.reached (c.controllers.ensures ∙ c.requires.linked.bus.ports) said in
-    let come = outcome_of s serials (commands_of s r.query) in
+    let come = outcome_of s serials (orders_of s r.query) in
     let status = c.in-Err-Refused.status in
     let left = rw c.in-Err-Refused.field-0-is at c.in-Err-Refused.ensures.left in
     let lr : LineResult = record { output = []; message = message_at (n + 1) (cause.Refused status); status = Some 2; state = come.state; serials = come.serials } in
     let same = result_asked p text r s serials n here stands.holds.reached stands.next stands.number ∙ ap (λ x. answer_result x (n + 1) s r come) left.0 in
-    message_leaves p text lr (length (commands_of s r.query)) (left_at o (g.O.Sink.state c.args.out.now).taken m (g.M.Sink.state c.args.messages.now).taken s) (g.B.Bus.meaning c.perform.new.bus).state _
+    message_leaves p text lr (length (orders_of s r.query)) (left_at o (g.O.Sink.state c.args.out.now).taken m (g.M.Sink.state c.args.messages.now).taken s) (g.B.Bus.meaning c.perform.new.bus).state _
     same stands.holds left.1.subsystem left.1.next (ap (λ n. n + 1) stands.number) refl (amid-all p text r s serials here stands.holds.reached stands.next)
     c.print-in-Err-Refused.result c.message-in-Err-Refused.result (g.M.Sink.state c.print-in-Err-Refused.new.sink).taken _ refl c.message-in-Err-Refused.ensures.exact c.print-in-Err-Refused.ensures
 

@@ -1,6 +1,6 @@
 use Rattle.std.proofs.Common.{◌∙◌, ◌+◌, ◌++◌, ap, append_assoc, sym, subst}
 use Rattle.std.proofs.lemmas.Result.{err_from_is_err_and}
-use Rattle.nv_subsystem.specs.WellFormed.{IsWellFormed}
+use Rattle.nv_model.specs.WellFormed.{IsWellFormed}
 use Rattle.nv_script.specs.Link.{serials_of}
 use Rattle.nv_script.specs.Listing.{IsListed, asked_all}
 use Rattle.nv_script.specs.Orders.{orders_of_controller, orders_of_list}

@@ -1,7 +1,8 @@
 use Rattle.std.proofs.Common.{◌∙◌, ap, sym, [], ◌∷◌, Ok}
 use Rattle.nv_command.specs.declared.command.Command.TheVariants.{ActiveList, IdentifyController}
+use Rattle.nv_script.specs.Exchange.{order_of}
 use Rattle.nv_script.specs.Link.{serials_of}
-use Rattle.nv_script.specs.Orders.{namespace_orders, order_of, orders_of_controller}
+use Rattle.nv_script.specs.Orders.{namespace_orders, orders_of_controller}
 use Rattle.nv_script.proofs.GreetingLaws.{greeted_identity, greeted_listed, greeted_orders}
 use Rattle.nv_script.proofs.ListLaws.{leaves_after}
 use Rattle.nv_script.proofs.listing.list_controller.Goals as goal

@@ -1,5 +1,5 @@
 use Rattle.std.proofs.Common.{◌≡◌, ◌≤◌, ◌+◌, false, List, ℕ, Option, Ok, take}
-use Rattle.nv_subsystem.specs.State.{State}
+use Rattle.nv_model.specs.State.{State}
 use Rattle.nv_script.specs.Cuts.{left_at}
 use Rattle.nv_script.specs.Feeding.{PieceLeaves, Stands}
 use Rattle.nv_script.specs.Results.{whole}

@@ -1,4 +1,4 @@
-use Rattle.nv_subsystem.specs.WellFormed.{IsWellFormed}
+use Rattle.nv_model.specs.WellFormed.{IsWellFormed}
 use Rattle.nv_speed.proofs.machines.demo.Given as goal
 
 abbrev pub invariant-loop-round : goal.invariant-loop-round

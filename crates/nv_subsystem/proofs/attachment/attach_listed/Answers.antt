@@ -1,5 +1,5 @@
 use Rattle.std.proofs.Common.{◌∙◌, ◌+◌, arith, sym, subst, get_or}
-use Rattle.nv_subsystem.specs.Attachment.{more, unchanged, with_one}
+use Rattle.nv_model.specs.Attachment.{more, unchanged, with_one}
 use Rattle.nv_subsystem.specs.ControllerView.{controller_view}
 use Rattle.nv_subsystem.proofs.EachController.{Changed, chosen, one_more, other}
 use Rattle.nv_subsystem.proofs.attachment.attach_listed.Goals as goal

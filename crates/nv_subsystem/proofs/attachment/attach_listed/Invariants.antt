@@ -1,4 +1,4 @@
-use Rattle.nv_subsystem.specs.Attachment.{more}
+use Rattle.nv_model.specs.Attachment.{more}
 use Rattle.nv_subsystem.proofs.EachController.{Changed}
 use Rattle.nv_subsystem.proofs.attachment.attach_listed.Given as goal
 

@@ -1,4 +1,4 @@
-use Rattle.nv_subsystem.specs.Management.{without_any}
+use Rattle.nv_model.specs.Management.{without_any}
 use Rattle.nv_subsystem.proofs.EachController.{Changed}
 use Rattle.nv_subsystem.proofs.attachment.detach_all.Given as goal
 

@@ -1,5 +1,5 @@
 use Rattle.std.proofs.Common.{arith}
-use Rattle.nv_subsystem.specs.Management.{without}
+use Rattle.nv_model.specs.Management.{without}
 use Rattle.nv_subsystem.proofs.EachController.{one_more}
 use Rattle.nv_subsystem.proofs.attachment.detach_everywhere.Goals as goal
 

@@ -1,4 +1,4 @@
-use Rattle.nv_subsystem.specs.Management.{without}
+use Rattle.nv_model.specs.Management.{without}
 use Rattle.nv_subsystem.proofs.EachController.{Changed}
 use Rattle.nv_subsystem.proofs.attachment.detach_everywhere.Given as goal
 

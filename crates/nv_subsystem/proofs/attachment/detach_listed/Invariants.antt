@@ -1,4 +1,4 @@
-use Rattle.nv_subsystem.specs.Attachment.{fewer}
+use Rattle.nv_model.specs.Attachment.{fewer}
 use Rattle.nv_subsystem.proofs.EachController.{Changed}
 use Rattle.nv_subsystem.proofs.attachment.detach_listed.Given as goal
 

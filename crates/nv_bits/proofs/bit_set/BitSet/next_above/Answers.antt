@@ -1,5 +1,5 @@
 use Rattle.std.proofs.Common.{◌+◌}
-use Rattle.nv_bits.specs.NumberLaws.{above_next, above_none}
+use Rattle.nv_bits.proofs.NumberLaws.{above_next, above_none}
 use Rattle.nv_bits.proofs.BitSetLaws.{next_is, no_next}
 use Rattle.nv_bits.proofs.bit_set.BitSet.next_above.Goals as goal
 

@@ -2,7 +2,7 @@ use Rattle.std.proofs.Common.{◌≡◌, ◌+◌, ◌-◌, ◌/◌, ◌∙◌, a
 use Rattle.std.proofs.lemmas.Bool.{OnTrue_at}
 use Rattle.std.proofs.lemmas.Grind.{get_or_default_zero}
 use Rattle.nv_bits.specs.BitSet.{RangeSet}
-use Rattle.nv_bits.specs.NumberLaws.{has_one, remove_absent}
+use Rattle.nv_bits.proofs.NumberLaws.{has_one, remove_absent}
 use Rattle.nv_bits.specs.Words.{bit_of}
 use Rattle.nv_bits.proofs.WordLaws.{bit_of-and_not}
 use Rattle.nv_bits.proofs.BitSetLaws.{are-remove, contains_at, members-remove}

@@ -1,7 +1,7 @@
 use Rattle.std.proofs.Common.{◌≡◌, ◌+◌, ◌-◌, ◌∙◌, None, arith, sym, get_or}
 use Rattle.std.proofs.lemmas.Bool.{OnTrue_at}
 use Rattle.std.proofs.lemmas.List.{get_or_read_under}
-use Rattle.nv_bits.specs.NumberLaws.{get_at}
+use Rattle.nv_bits.proofs.NumberLaws.{get_at}
 use Rattle.nv_bits.proofs.slots.Slots.get.Goals as goal
 
 pub returns-clause-value : goal.returns-clause-value

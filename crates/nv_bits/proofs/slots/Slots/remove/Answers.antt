@@ -1,5 +1,5 @@
 use Rattle.std.proofs.Common.{◌≡◌, ◌+◌, ◌-◌, ◌∙◌, ap, arith, is_some, length, sym}
-use Rattle.nv_bits.specs.NumberLaws.{remove_absent}
+use Rattle.nv_bits.proofs.NumberLaws.{remove_absent}
 use Rattle.nv_bits.specs.Slots.{RangeMap}
 use Rattle.nv_bits.proofs.SlotsLaws.{slots-remove, values-remove}
 use Rattle.nv_bits.proofs.slots.Slots.remove.Goals as goal

@@ -1,4 +1,4 @@
-use Rattle.nv_command.specs.TravelLaws.{commands_travel}
+use Rattle.nv_command.proofs.TravelLaws.{commands_travel}
 use Rattle.nv_command.proofs.command.Command.entry.Goals as goal
 
 pub returns-clause-arrives : goal.returns-clause-arrives

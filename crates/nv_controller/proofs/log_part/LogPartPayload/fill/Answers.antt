@@ -1,5 +1,5 @@
 use Rattle.std.proofs.Common.{arith}
-use Rattle.nv_layout.specs.PartLaws.{length-part}
+use Rattle.nv_layout.proofs.PartLaws.{length-part}
 use Rattle.nv_command.specs.Reply.{log_of}
 use Rattle.nv_controller.proofs.log_part.LogPartPayload.fill.Goals as goal
 

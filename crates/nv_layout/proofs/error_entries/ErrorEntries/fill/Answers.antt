@@ -2,8 +2,8 @@ use Rattle.std.proofs.Common.{◌≡◌, ◌++◌, ◌∙◌, ◌-◌, ◌+◌, 
 use Rattle.std.proofs.lemmas.List.{take_all}
 use Rattle.std.proofs.lemmas.Slice.{take-put_mid}
 use Rattle.nv_layout.specs.ErrorEntry.{bytes_of_entries, bytes_of_error_entry}
-use Rattle.nv_layout.specs.LogLaws.{length-entries, part_of_entry}
-use Rattle.nv_layout.specs.PartLaws.{part-append, part_past}
+use Rattle.nv_layout.proofs.LogLaws.{length-entries, part_of_entry}
+use Rattle.nv_layout.proofs.PartLaws.{part-append, part_past}
 use Rattle.nv_layout.specs.Parts.{part}
 use Rattle.nv_layout.proofs.error_entries.ErrorEntries.fill.Goals as goal
 

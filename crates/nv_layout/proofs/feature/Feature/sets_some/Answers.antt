@@ -1,7 +1,7 @@
 use Rattle.std.proofs.Common.{◌∙◌}
 use Rattle.std.specs.List.{list_any}
 use Rattle.nv_layout.specs.Feature.{is_for, row_of, selector_in}
-use Rattle.nv_layout.specs.FeatureTableLaws.{some_kept}
+use Rattle.nv_layout.proofs.FeatureTableLaws.{some_kept}
 use Rattle.nv_layout.proofs.feature.Feature.sets_some.Goals as goal
 
 pub returns : goal.returns

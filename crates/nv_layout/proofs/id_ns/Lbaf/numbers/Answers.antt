@@ -1,7 +1,7 @@
 use Rattle.std.proofs.Common.{◌∙◌, arith, rules, sym, tests}
 use Rattle.nv_layout.specs.IdNs.{number_of_lbaf}
 use Rattle.nv_layout.specs.declared.id_ns.Lbaf.{Lbaf}
-use Rattle.nv_layout.specs.PartLaws.{map_read}
+use Rattle.nv_layout.proofs.PartLaws.{map_read}
 use Rattle.nv_layout.proofs.id_ns.Lbaf.numbers.Goals as goal
 
 none : Lbaf

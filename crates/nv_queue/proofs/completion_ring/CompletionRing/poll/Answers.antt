@@ -1,4 +1,4 @@
-use Rattle.nv_queue.specs.SlotLaws.{collects_posted}
+use Rattle.nv_queue.proofs.SlotLaws.{collects_posted}
 use Rattle.nv_queue.proofs.completion_ring.CompletionRing.poll.Goals as goal
 
 pub returns-then-is_some-clause-posted : goal.returns-then-is_some-clause-posted

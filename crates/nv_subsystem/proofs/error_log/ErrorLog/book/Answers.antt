@@ -2,7 +2,7 @@ use Rattle.std.proofs.Common.{◌∙◌, ◌∷◌, List, ap, sym, take}
 use Rattle.std.proofs.lemmas.List.{take-map}
 use Rattle.nv_layout.specs.declared.error_entry.ErrorEntry.{ErrorEntry}
 use Rattle.nv_layout.specs.ErrorEntry.{without_phase}
-use Rattle.nv_subsystem.specs.ErrorLog.{Log}
+use Rattle.nv_model.specs.ErrorLog.{Log}
 use Rattle.nv_subsystem.proofs.error_log.ErrorLog.book.Goals as goal
 
 abbrev with_newest : ErrorEntry → Log → Log

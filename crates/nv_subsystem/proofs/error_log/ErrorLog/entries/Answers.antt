@@ -3,7 +3,7 @@ use Rattle.std.specs.Prelude.{replicate}
 use Rattle.std.proofs.lemmas.List.{length-append, length-map, map-append}
 use Rattle.nv_layout.specs.ErrorEntry.{no_entry, without_phase}
 use Rattle.nv_layout.specs.declared.error_entry.ErrorEntry.{ErrorEntry}
-use Rattle.nv_subsystem.specs.ErrorLog.{Log}
+use Rattle.nv_model.specs.ErrorLog.{Log}
 use Rattle.nv_subsystem.proofs.error_log.ErrorLog.entries.Goals as goal
 
 -- entries, and as many without an error as make this many

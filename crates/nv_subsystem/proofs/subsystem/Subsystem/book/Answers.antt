@@ -1,4 +1,4 @@
-use Rattle.nv_subsystem.specs.Step.{with_refusal}
+use Rattle.nv_model.specs.Step.{with_refusal}
 use Rattle.nv_subsystem.specs.contracts.subsystem.Subsystem.{the_view}
 use Rattle.nv_subsystem.proofs.WithController.{controller_written}
 use Rattle.nv_subsystem.proofs.subsystem.Subsystem.book.Goals as goal

@@ -1,7 +1,7 @@
 use Rattle.std.proofs.Common.{◌∙◌, ap, sym, subst}
-use Rattle.nv_subsystem.specs.Step.{with_command}
-use Rattle.nv_subsystem.specs.WellFormed.{IsWellFormed}
-use Rattle.nv_subsystem.specs.StepLaws.{refused_keeps}
+use Rattle.nv_model.specs.Step.{with_command}
+use Rattle.nv_model.specs.WellFormed.{IsWellFormed}
+use Rattle.nv_model.proofs.StepLaws.{refused_keeps}
 use Rattle.nv_subsystem.proofs.subsystem.Subsystem.refuse.Goals as goal
 
 pub returns-clause-well_formed : goal.returns-clause-well_formed

@@ -1,7 +1,7 @@
 use Rattle.std.proofs.Common.{◌∙◌, ap, sym, subst, length, arith}
-use Rattle.nv_subsystem.specs.Step.{with_command}
-use Rattle.nv_subsystem.specs.StepLaws.{effect_controllers, effect_keeps, refusal_fits, with_command_keeps}
-use Rattle.nv_subsystem.specs.WellFormed.{IsWellFormed}
+use Rattle.nv_model.specs.Step.{with_command}
+use Rattle.nv_model.proofs.StepLaws.{effect_controllers, effect_keeps, refusal_fits, with_command_keeps}
+use Rattle.nv_model.specs.WellFormed.{IsWellFormed}
 use Rattle.nv_subsystem.proofs.subsystem.Subsystem.settle.Goals as goal
 
 pub count-requires : goal.count-requires

@@ -1,0 +1,4 @@
+pub mod LimitLaws
+pub mod CallLaws
+pub mod TagLaws
+pub mod TurnLaws

@@ -1,0 +1,109 @@
+-- What taking one entry does.
+use Rattle.std.specs.Prelude.{◌≡◌, ℕ, false, List, Result, Ok, Err}
+use Rattle.nv_layout.specs.declared.cqe.Cqe.{Cqe}
+use Rattle.nv_layout.specs.declared.sqe.Sqe.{Sqe}
+use Rattle.nv_layout.specs.declared.status.Status.{Status}
+use Rattle.nv_prp.specs.Place.{written_at}
+use Rattle.nv_queue.specs.Numbers.{next, slot_of}
+use Rattle.nv_queue.specs.Rings.{fetched_one, posted_one}
+use Rattle.nv_queue.specs.Slots.{next_submission, with_completion}
+use Rattle.nv_command.specs.Logs.{without_phases}
+use Rattle.nv_command.specs.Refusal.{refusal_by}
+use Rattle.nv_command.specs.Reply.{data_of, dword0_of}
+use Rattle.nv_command.specs.StatusCode.{status_of_code}
+use Rattle.nv_command.specs.declared.command.Command.{Command}
+use Rattle.nv_command.specs.declared.reply.Reply.{Reply}
+use Rattle.nv_command.specs.declared.status_code.StatusCode.{StatusCode}
+use Rattle.nv_model.specs.State.{State}
+use Rattle.nv_model.specs.Step.{Step, refused, step, with_command}
+use Rattle.nv_register.specs.declared.rings.Rings.{Rings}
+use Rattle.nv_bus.specs.Call.{Call, call_of}
+use Rattle.nv_bus.specs.Limit.{limit_of}
+use Rattle.nv_bus.specs.declared.told.Told.{Told}
+
+-- what an entry reads and changes: the subsystem, its controller's rings, and the host's memory
+pub record Scene : Type 0 where
+  pub state : State
+  pub rings : Rings
+  pub bytes : List ℕ
+
+abbrev pub scene : State → Rings → List ℕ → Scene
+scene state rings bytes = record { state = state; rings = rings; bytes = bytes }
+
+abbrev pub entry_in : Scene → Sqe
+entry_in x = next_submission x.bytes x.rings.submission
+
+-- what controller c finds of it
+abbrev pub call_in : ℕ → Scene → Result Call StatusCode
+call_in c x = call_of x.rings.page_size (limit_of x.state c) x.bytes (entry_in x)
+
+-- an entry that breaks a rule is refused and booked with its own NSID; any other does its command's
+-- step
+abbrev pub step_unless : Result Call StatusCode → State → ℕ → Sqe → Step
+step_unless (Err code) s c e =
+    record {
+      answer = Err (status_of_code code);
+      state = with_command (refused s c e.nsid e.cid (refusal_by code)) c;
+    }
+step_unless (Ok call) s c e = step s c call.command e.cid
+
+abbrev pub entry_step : ℕ → Scene → Step
+entry_step c x = step_unless (call_in c x) x.state c (entry_in x)
+
+-- the data of a reply, whose entries of the error log have their phase tags, goes to its places
+-- byte after byte, so that of two bytes for one place the later stays; a refusal moves none
+abbrev pub Moves : Command → List ℕ → Result Reply Status → List ℕ → List ℕ → Type 0
+Moves k places (Ok reply) old new =
+    (r : Reply) × (without_phases r ≡ reply) × (new ≡ written_at old places (data_of k r))
+Moves k places (Err status) old new = new ≡ old
+
+abbrev pub MovesBy : Result Call StatusCode → Result Reply Status → List ℕ → List ℕ → Type 0
+MovesBy (Ok call) answer old new = Moves call.command call.places answer old new
+MovesBy (Err code) answer old new = new ≡ old
+
+abbrev pub success : Status
+success = record { sc = 0; sct = 0; crd = 0; more = false; dnr = false }
+
+abbrev pub status_in : Result Reply Status → Status
+status_in (Ok reply) = success
+status_in (Err status) = status
+
+abbrev pub dword0_in : Result Reply Status → ℕ
+dword0_in (Ok reply) = dword0_of reply
+dword0_in (Err status) = 0
+
+-- what a completion tells of an answer
+abbrev pub told_by : Result Reply Status → Told
+told_by answer = record { dword0 = dword0_in answer; status = status_in answer }
+
+-- a completion, whose phase tag its number gives
+abbrev pub completion_of : ℕ → ℕ → Told → Cqe
+completion_of cid sq_head told = record {
+  command_specific = told.dword0;
+  sq_head = sq_head;
+  sq_identifier = 0;
+  cid = cid;
+  phase = false;
+  status = told.status;
+}
+
+abbrev pub completion_with : ℕ → ℕ → Result Reply Status → Cqe
+completion_with cid sq_head answer = completion_of cid sq_head (told_by answer)
+
+-- the completion of the entry: the submission queue head is past the entry
+abbrev pub completion_in : ℕ → Scene → Cqe
+completion_in c x =
+    let ring = x.rings.submission in
+    completion_with (entry_in x).cid (slot_of ring.depth (next ring.depth ring.fetched))
+    (entry_step c x).answer
+
+-- one entry of controller c: its step, then its data, and then its completion; no other byte of the
+-- memory changes
+pub record One (c : ℕ) (old new : Scene) : Type 0 where
+  pub state : new.state ≡ (entry_step c old).state
+  pub rings : new.rings ≡ record old.rings {
+    submission = fetched_one old.rings.submission;
+    completion = posted_one old.rings.completion;
+  }
+  pub bytes : (moved : List ℕ) × MovesBy (call_in c old) (entry_step c old).answer old.bytes moved
+      × (new.bytes ≡ with_completion moved old.rings.completion (completion_in c old))

@@ -1,0 +1,5 @@
+pub mod Bus
+pub mod Limit
+pub mod Call
+pub mod Entry
+pub mod Turn

@@ -1,0 +1,119 @@
+-- What a turn of a controller does.
+use Rattle.std.specs.Prelude.{◌≡◌, ℕ, zero, suc, ◌+◌, ◌*◌, ◌-◌, ◌<◌, ◌≤◌, ◌==◌, ◌&&◌, min, not}
+use Rattle.std.specs.Prelude.{nat_le, Bool, true, false, List, length, slice_set}
+use Rattle.nv_queue.specs.Numbers.{above}
+use Rattle.nv_queue.specs.Rings.{IsFetchRing, IsPostRing}
+use Rattle.nv_queue.specs.Slots.{completion_place, submission_place}
+use Rattle.nv_register.specs.Readiness.{is_fatal}
+use Rattle.nv_register.specs.declared.port.Port.{Port}
+use Rattle.nv_register.specs.declared.readiness.Readiness.{Readiness}
+use Rattle.nv_register.specs.declared.readiness.Readiness.TheVariants.{Off, Failed, Ready}
+use Rattle.nv_register.specs.declared.rings.Rings.{Rings}
+use Rattle.nv_model.specs.State.{State}
+use Rattle.nv_bus.specs.Bus.{BusValue, port_at}
+use Rattle.nv_bus.specs.Entry.{One, Scene, scene}
+
+-- an entry waits, and there is a free slot for its completion
+abbrev pub can_take : Rings → Bool
+can_take r =
+    not (r.submission.fetched == r.submission.rung)
+    && not
+    (above r.completion.depth r.completion.posted r.completion.told == r.completion.depth - 1)
+
+-- a memory of this page size and length has the page size that the controller was enabled with, the
+-- entry's slot and that of its completion
+abbrev pub reaches : Rings → ℕ → ℕ → Bool
+reaches r page_size size =
+    (page_size == r.page_size)
+    && (nat_le
+    (submission_place r.submission.base r.submission.depth r.submission.fetched + 64) size
+    && nat_le (completion_place r.completion.base r.completion.depth r.completion.posted + 16) size)
+
+-- an entry that is taken
+pub record Takes (page_size c : ℕ) (old new : Scene) : Type 0 where
+  pub can : can_take old.rings ≡ true
+  pub reached : reaches old.rings page_size (length old.bytes) ≡ true
+  pub one : One c old new
+
+-- so many entries, one after another, each over what the one before left
+abbrev pub Taken : ℕ → ℕ → ℕ → Scene → Scene → Type 0
+Taken zero page_size c old new = new ≡ old
+Taken (suc k) page_size c old new =
+    (mid : Scene) × Takes page_size c old mid × Taken k page_size c mid new
+
+-- where a turn stops: after the most entries that it may take, where none can be taken, or where
+-- the memory does not reach the next one that it may take, which is a fatal status
+abbrev pub Stops : ℕ → ℕ → ℕ → Scene → Bool → Type 0
+Stops page_size most count x fatal =
+    (count ≤ most) × (count < most → can_take x.rings ≡ true → fatal ≡ true)
+    × (fatal ≡ true → (count < most) × (can_take x.rings ≡ true)
+    × (reaches x.rings page_size (length x.bytes) ≡ false))
+
+-- a turn of a ready controller
+pub record RingsTurn (page_size c most count : ℕ) (old new : Scene) (fatal : Bool) : Type 0 where
+  pub entries : Taken count page_size c old new
+  pub stop : Stops page_size most count new fatal
+
+-- what a turn of one controller reads and changes
+pub record Site : Type 0 where
+  pub state : State
+  pub port : Port
+  pub bytes : List ℕ
+
+abbrev pub site : State → Port → List ℕ → Site
+site state port bytes = record { state = state; port = port; bytes = bytes }
+
+-- the registers where the controller is ready with these rings
+abbrev pub ready_port : Port → Rings → Bool → Port
+ready_port p rings fatal = record p { readiness = Ready rings fatal }
+
+-- a turn by whether the controller is ready
+abbrev pub TurnBy : Readiness → ℕ → ℕ → ℕ → ℕ → Site → Site → Type 0
+TurnBy Off page_size c most count old new = (count ≡ 0) × (new ≡ old)
+TurnBy Failed page_size c most count old new = (count ≡ 0) × (new ≡ old)
+TurnBy (Ready rings true) page_size c most count old new = (count ≡ 0) × (new ≡ old)
+TurnBy (Ready rings false) page_size c most count old new =
+    (last : Scene) × (fatal : Bool)
+    × RingsTurn page_size c most count (scene old.state rings old.bytes) last fatal
+    × (new ≡ site last.state (ready_port old.port last.rings fatal) last.bytes)
+
+-- a turn of controller c, which takes nothing where it isn't ready or has a fatal status
+abbrev pub PortTurn : ℕ → ℕ → ℕ → ℕ → Site → Site → Type 0
+PortTurn page_size c most count old new =
+    TurnBy old.port.readiness page_size c most count old new
+
+-- a turn of controller c of a bus: the other controllers' registers and rings stay
+pub record Turn (page_size c most count : ℕ) (b : BusValue) (bytes : List ℕ) (b' : BusValue)
+    (bytes' : List ℕ) : Type 0 where
+  pub own : PortTurn page_size c most count (site b.state (port_at b.ports c) bytes)
+      (site b'.state (port_at b'.ports c) bytes')
+  pub others : b'.ports ≡ slice_set b.ports c (port_at b'.ports c)
+
+-- ---- how many entries a turn takes
+
+-- both rings lie in a memory of this page size and length, and have the numbers of rings
+pub record RingsLie (r : Rings) (page_size size : ℕ) : Type 0 where
+  pub page : page_size ≡ r.page_size
+  pub submission : r.submission.base + 64 * r.submission.depth ≤ size
+  pub completion : r.completion.base + 16 * r.completion.depth ≤ size
+  pub fetch : IsFetchRing r.submission
+  pub post : IsPostRing r.completion
+
+-- how many entries wait
+abbrev pub waiting : Rings → ℕ
+waiting r = above r.submission.depth r.submission.rung r.submission.fetched
+
+-- how many completions find a free slot
+abbrev pub free_slots : Rings → ℕ
+free_slots r =
+    r.completion.depth - 1 - above r.completion.depth r.completion.posted r.completion.told
+
+-- the least of the most that were asked for, the entries that wait, and the free slots
+abbrev pub turn_count : ℕ → Rings → ℕ
+turn_count most r = min most (min (waiting r) (free_slots r))
+
+-- a ready controller takes so many of rings that lie in the memory, and gets no fatal status
+abbrev pub TakesCount : ℕ → ℕ → ℕ → Port → ℕ → Port → Type 0
+TakesCount page_size size most old count new =
+    (r : Rings) → old.readiness ≡ Ready r false → RingsLie r page_size size
+    → (count ≡ turn_count most r) × (is_fatal new.readiness ≡ false)

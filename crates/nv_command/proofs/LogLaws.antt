@@ -1,0 +1,185 @@
+-- What is asked of Get Log Page arrives, and so do logs.
+use Rattle.std.proofs.Common.{◌≡◌, ◌∙◌, ℕ, zero, suc, ◌+◌, ◌-◌, ◌*◌, ◌/◌, ◌%◌, ◌<◌, ◌≤◌, ◌^◌, Bool}
+use Rattle.std.proofs.Common.{true, false, List, [], ◌∷◌, ◌++◌, ap, arith, drop, get_or, length}
+use Rattle.std.proofs.Common.{lit<, map, refl, replicate, sym, take}
+use Rattle.std.specs.List.{AllByRecursion}
+use Rattle.std.specs.Simd.{first_chunks}
+use Rattle.std.proofs.lemmas.List.{drop-drop, get_or-take, length-append, length-map}
+use Rattle.std.proofs.lemmas.List.{length-replicate, length-take-le}
+use Rattle.nv_layout.specs.ErrorEntry.{ErrorEntryFits, bytes_of_entries, bytes_of_error_entry}
+use Rattle.nv_layout.specs.ErrorEntry.{no_entry, without_phase}
+use Rattle.nv_layout.proofs.LogLaws.{error_entry_back, length-bytes_of_error_entry}
+use Rattle.nv_layout.proofs.LogLaws.{length-bytes_of_smart, no_entry_fits, part_of_entry, smart_back}
+use Rattle.nv_layout.proofs.PartLaws.{get_or-past, length-part, map_read, part-part, part_whole}
+use Rattle.nv_layout.specs.Parts.{at_bits, bits, part}
+use Rattle.nv_layout.specs.Smart.{bytes_of_smart, smart_of_bytes}
+use Rattle.nv_layout.specs.declared.error_entry.ErrorEntry.{ErrorEntry}
+use Rattle.nv_command.specs.Entry.{entry_of, with_pointer}
+use Rattle.nv_command.proofs.EntryLaws.{FieldsFit}
+use Rattle.nv_command.specs.Logs.{GetLogFits, IsWhole, entries_in, entry_received, first_entries}
+use Rattle.nv_command.specs.Logs.{first_of_log, get_log_command, get_log_fields, is_error_log}
+use Rattle.nv_command.specs.Logs.{log_in, without_phases}
+use Rattle.nv_command.specs.Reply.{FitsRecord, IsLog, IsReplyTo, log_of}
+use Rattle.nv_command.specs.declared.command.Command.{Command}
+use Rattle.nv_command.specs.declared.command.Command.TheVariants.{GetLog}
+use Rattle.nv_command.specs.declared.reply.Reply.{Reply}
+use Rattle.nv_command.specs.declared.reply.Reply.TheVariants as reply
+
+pub get_log_fits : (lid offset dwords : ℕ) → offset < 2 ^ 64
+    → FieldsFit (get_log_fields lid offset dwords)
+get_log_fits lid offset dwords h = record {
+  opcode = lit< tt;
+  cdw10 = omega arith;
+  cdw11 = omega arith;
+  cdw12 = omega arith;
+  cdw13 = omega (arith, h);
+}
+
+lid_back : (lid numd : ℕ) → lid < 2 ^ 8 → bits 0 8 (at_bits 0 8 lid + at_bits 16 16 numd) ≡ lid
+lid_back lid numd h = omega arith
+
+pub dwords_back : (lid dwords : ℕ) → 0 < dwords → dwords ≤ 2 ^ 32
+    → bits 16 16 (at_bits 0 8 lid + at_bits 16 16 (dwords - 1))
+    + at_bits 16 16 (bits 16 16 (dwords - 1)) + 1 ≡ dwords
+dwords_back lid dwords some h = omega arith
+
+pub get_log_back : (lid n offset dwords cid p q : ℕ) → GetLogFits lid n offset dwords
+    → get_log_command (with_pointer (entry_of (GetLog lid n offset dwords) cid) p q)
+    ≡ GetLog lid n offset dwords
+get_log_back lid n offset dwords cid p q fits =
+    let whole : offset % 2 ^ 32 + offset / 2 ^ 32 * 2 ^ 32 ≡ offset = omega arith in
+    λ k. GetLog (lid_back lid (dwords - 1) fits.lid k) n (whole k)
+    (dwords_back lid dwords fits.some fits.dwords k)
+
+-- ---- entries in bytes
+
+length-first_chunks : (w n : ℕ) (xs : List ℕ) → length (first_chunks w n xs) ≡ n
+length-first_chunks w zero xs = refl
+length-first_chunks w (suc n) xs = ap suc (length-first_chunks w n (drop w xs))
+
+get_or-first_chunks : (w n : ℕ) (xs : List ℕ) (k : ℕ) → k < n
+    → get_or (first_chunks w n xs) k [] ≡ take w (drop (w * k) xs)
+get_or-first_chunks w zero xs k h = absurd (omega arith)
+get_or-first_chunks w (suc n) xs zero h = let none : 0 ≡ w * 0 =
+    omega arith in ap (λ m. take w (drop m xs)) none
+get_or-first_chunks w (suc n) xs (suc k) h =
+    let next : w + w * k ≡ w * suc k = omega arith in
+    get_or-first_chunks w n (drop w xs) k (omega arith)
+    ∙ ap (take w) (drop-drop (w * k) w xs)
+    ∙ ap (λ m. take w (drop m xs)) next
+
+each_fits : (es : List ErrorEntry) (k : ℕ) → AllByRecursion ErrorEntryFits es
+    → ErrorEntryFits (get_or es k no_entry)
+each_fits [] k fits = no_entry_fits
+each_fits (e ∷ es) zero fits = fits.0
+each_fits (e ∷ es) (suc k) fits = each_fits es k fits.1
+
+get_or-without_phase : (es : List ErrorEntry) (k : ℕ)
+    → get_or (map without_phase es) k no_entry ≡ without_phase (get_or es k no_entry)
+get_or-without_phase [] k = refl
+get_or-without_phase (e ∷ es) zero = refl
+get_or-without_phase (e ∷ es) (suc k) = get_or-without_phase es k
+
+length-first_entries : (count : ℕ) (es : List ErrorEntry) → length (first_entries count es) ≡ count
+length-first_entries count es =
+    length-take-le count (es ++ replicate count no_entry)
+    (simp (length-append, length-replicate) (omega arith))
+
+-- so many entries of a log, as they are asked for
+abbrev asked_of : List ErrorEntry → ℕ → List ℕ
+asked_of es count = part (bytes_of_entries es) 0 (64 * count)
+
+chunk_of_entry : (es : List ErrorEntry) (count k : ℕ) → k < count
+    → take 64 (drop (64 * k) (asked_of es count)) ≡ bytes_of_error_entry (get_or es k no_entry)
+chunk_of_entry es count k h =
+    let e = get_or es k no_entry in
+    part-part (bytes_of_entries es) 0 (64 * count) (64 * k) 64 (omega arith)
+    ∙ ap (λ m. part (bytes_of_entries es) m 64) (omega arith)
+    ∙ part_of_entry es k 0 64 (omega arith)
+    ∙ part_whole (bytes_of_error_entry e) 64 (length-bytes_of_error_entry e)
+
+entry_back : (es : List ErrorEntry) (count k : ℕ) → AllByRecursion ErrorEntryFits es → k < count
+    → get_or (first_entries count (map without_phase es)) k no_entry
+    ≡ entry_received (get_or (first_chunks 64 count (asked_of es count)) k [])
+entry_back es count k fits h =
+    get_or-take count (map without_phase es ++ replicate count no_entry) k no_entry h
+    ∙ get_or-past (map without_phase es) no_entry count k
+    ∙ get_or-without_phase es k
+    ∙ ap without_phase (sym (error_entry_back (get_or es k no_entry) (each_fits es k fits)))
+    ∙ ap entry_received (sym (chunk_of_entry es count k h))
+    ∙ ap entry_received (sym (get_or-first_chunks 64 count (asked_of es count) k h))
+
+entries_back : (es : List ErrorEntry) (count : ℕ) → AllByRecursion ErrorEntryFits es
+    → entries_in (asked_of es count) ≡ first_entries count (map without_phase es)
+entries_back es count fits =
+    let bytes = asked_of es count in
+    let whole = length-part (bytes_of_entries es) 0 (64 * count) in
+    let size : length bytes / 64 ≡ count = omega (arith, whole) in
+    let chunks = length-first_chunks 64 count bytes in
+    let entries = first_entries count (map without_phase es) in
+    ap (λ n. map entry_received (first_chunks 64 n bytes)) size
+    ∙ sym (map_read entry_received (first_chunks 64 count bytes) entries [] no_entry
+    (length-first_entries count (map without_phase es) ∙ sym chunks)
+    (λ k below. entry_back es count k fits (omega (arith, chunks))))
+
+pub log_arrives : (is_errors : Bool) (r : Reply) (offset dwords : ℕ) → IsLog is_errors r
+    → FitsRecord r
+    → IsWhole is_errors offset dwords
+    → log_in is_errors (part (log_of r) offset (4 * dwords))
+    ≡ first_of_log (dwords / 16) (without_phases r)
+log_arrives true (reply.Errors es) offset dwords is fits whole =
+    let size : 4 * dwords ≡ 64 * (dwords / 16) = omega (arith, whole.1.whole) in
+    (λ i. reply.Errors (entries_in (part (bytes_of_entries es) (whole.0 i) (size i))))
+    ∙ ap reply.Errors (entries_back es (dwords / 16) fits.entries)
+log_arrives false (reply.Smart r) offset dwords is fits whole =
+    (λ i. reply.Smart (smart_of_bytes (part (bytes_of_smart r) (whole.0 i) (whole.1 i))))
+    ∙ ap (λ b. reply.Smart (smart_of_bytes b))
+    (part_whole (bytes_of_smart r) 512 (length-bytes_of_smart r fits.sensor_count))
+    ∙ ap reply.Smart (smart_back r fits)
+log_arrives is_errors r offset dwords is fits whole = absurd is
+
+-- ---- what is known of a reply without its phase tags
+
+errors_alike : (is_errors : Bool) (es fs : List ErrorEntry) → IsLog is_errors (reply.Errors es)
+    → IsLog is_errors (reply.Errors fs)
+errors_alike true es fs is = tt
+errors_alike false es fs is = is
+
+errors_reply : (k : Command) (es fs : List ErrorEntry) → IsReplyTo k (reply.Errors es)
+    → IsReplyTo k (reply.Errors fs)
+errors_reply (GetLog lid n offset dwords) es fs is = errors_alike (is_error_log lid) es fs is
+errors_reply k es fs is = is
+
+pub is_reply-without_phases : (k : Command) (r : Reply) → IsReplyTo k (without_phases r)
+    → IsReplyTo k r
+is_reply-without_phases k (reply.Errors es) is = errors_reply k (map without_phase es) es is
+is_reply-without_phases k r is = is
+
+entries_fit : (es : List ErrorEntry) → AllByRecursion ErrorEntryFits (map without_phase es)
+    → AllByRecursion ErrorEntryFits es
+entries_fit [] fits = tt
+entries_fit (e ∷ es) fits =
+    let one = fits.0 in (
+      record {
+        count = one.count;
+        sqid = one.sqid;
+        cid = one.cid;
+        status = one.status;
+        location = one.location;
+        lba = one.lba;
+        nsid = one.nsid;
+        vendor = one.vendor;
+        specific = one.specific;
+      },
+      entries_fit es fits.1,
+    )
+
+pub fits-without_phases : (r : Reply) → FitsRecord (without_phases r) → FitsRecord r
+fits-without_phases (reply.Errors es) fits =
+    let size = length-map es without_phase in
+    record {
+      some = omega (arith, size, fits.some);
+      count = omega (arith, size, fits.count);
+      entries = entries_fit es fits.entries;
+    }
+fits-without_phases r fits = fits

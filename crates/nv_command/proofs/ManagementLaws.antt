@@ -1,0 +1,91 @@
+-- What is asked of Namespace Management and Namespace Attachment arrives, and so do their replies.
+use Rattle.std.proofs.Common.{◌≡◌, ℕ, ◌<◌, ◌^◌, Bool, true, false, List, Ok, ap, refl, zero, suc}
+use Rattle.std.proofs.Common.{replicate, length, lit<, arith}
+use Rattle.std.specs.List.{AllByRecursion}
+use Rattle.nv_layout.specs.CtrlList.{bytes_of_ctrl_list}
+use Rattle.nv_layout.specs.IdNs.{IdNsFits, LbafFits, bytes_of_id_ns}
+use Rattle.nv_layout.proofs.IdentifyLaws.{id_ns_back, length-bytes_of_id_ns}
+use Rattle.nv_layout.proofs.RecordLaws.{ctrl_list_back, length-bytes_of_ctrl_list}
+use Rattle.nv_command.proofs.EntryLaws.{FieldsFit}
+use Rattle.nv_command.specs.Logs.{without_phases}
+use Rattle.nv_command.specs.Management.{AttachmentFits, CreateFits, asked, attachment_fields}
+use Rattle.nv_command.specs.Management.{attachment_in, create_in, creation, management_fields}
+use Rattle.nv_command.specs.Management.{no_format}
+use Rattle.nv_command.specs.Reply.{IsDone, IsNumber, dword0_of, page_of}
+use Rattle.nv_command.specs.declared.command.Command.TheVariants.{Create, Attachment}
+use Rattle.nv_command.specs.declared.reply.Reply.{Reply}
+use Rattle.nv_command.specs.declared.reply.Reply.TheVariants as reply
+
+pub management_fits : (select : ℕ) → select < 2 ^ 4 → FieldsFit (management_fields select)
+management_fits select h = record {
+  opcode = lit< tt;
+  cdw10 = omega (arith, h);
+  cdw11 = lit< tt;
+  cdw12 = lit< tt;
+  cdw13 = lit< tt;
+}
+
+pub attachment_fits : (detach : Bool) → FieldsFit (attachment_fields detach)
+attachment_fits true =
+    record { opcode = lit< tt; cdw10 = lit< tt; cdw11 = lit< tt; cdw12 = lit< tt; cdw13 = lit< tt }
+attachment_fits false =
+    record { opcode = lit< tt; cdw10 = lit< tt; cdw11 = lit< tt; cdw12 = lit< tt; cdw13 = lit< tt }
+
+none_fit : (n : ℕ) → AllByRecursion LbafFits (replicate n no_format)
+none_fit zero = tt
+none_fit (suc n) = (record { ms = lit< tt; lbads = lit< tt; rp = lit< tt }, none_fit n)
+
+pub asked_fits : (nsze ncap flbas dps nmic : ℕ) → CreateFits nsze ncap flbas dps nmic
+    → IdNsFits (asked nsze ncap flbas dps nmic)
+asked_fits nsze ncap flbas dps nmic fits =
+    record {
+      nsze = fits.nsze;
+      ncap = fits.ncap;
+      nuse = lit< tt;
+      nsfeat = lit< tt;
+      nlbaf = lit< tt;
+      flbas = fits.flbas;
+      mc = lit< tt;
+      dpc = lit< tt;
+      dps = fits.dps;
+      nmic = fits.nmic;
+      nvmcap = lit< tt;
+      formats = refl;
+      each_format = none_fit 16;
+    }
+
+-- a page from the host
+
+pub length_of_creation : (nsze ncap flbas dps nmic : ℕ)
+    → length (bytes_of_id_ns (asked nsze ncap flbas dps nmic)) ≡ 4096
+length_of_creation nsze ncap flbas dps nmic =
+    length-bytes_of_id_ns (asked nsze ncap flbas dps nmic) refl
+
+pub create_back : (nsze ncap flbas dps nmic : ℕ) → CreateFits nsze ncap flbas dps nmic
+    → create_in (bytes_of_id_ns (asked nsze ncap flbas dps nmic))
+    ≡ Ok (Create nsze ncap flbas dps nmic)
+create_back nsze ncap flbas dps nmic fits =
+    let size = length_of_creation nsze ncap flbas dps nmic in
+    rw size (ap (λ r. Ok (creation r)) (id_ns_back (asked nsze ncap flbas dps nmic)
+    (asked_fits nsze ncap flbas dps nmic fits)))
+
+pub attachment_back : (detach : Bool) (n : ℕ) (ids : List ℕ) → AttachmentFits n ids
+    → attachment_in detach n (bytes_of_ctrl_list ids) ≡ Ok (Attachment n detach ids)
+attachment_back detach n ids fits =
+    let size = length-bytes_of_ctrl_list ids fits.list.count in
+    let back = ctrl_list_back ids fits.list in
+    rw (size, back)
+
+-- ---- replies without data
+
+pub record IsBare (r : Reply) (read : Reply) : Type 0 where
+  pub bytes : length (page_of r) ≡ 0
+  pub reply : read ≡ without_phases r
+
+pub number_arrives : (r : Reply) → IsNumber r → IsBare r (reply.Number (dword0_of r))
+number_arrives (reply.Number n) is = record { bytes = refl; reply = refl }
+number_arrives r is = absurd is
+
+pub done_arrives : (r : Reply) → IsDone r → IsBare r reply.Done
+done_arrives reply.Done is = record { bytes = refl; reply = refl }
+done_arrives r is = absurd is

@@ -1,0 +1,139 @@
+-- The law of what travels, for those who cite it.
+use Rattle.std.proofs.Common.{◌≡◌, ◌*◌, ap, false, lit<, Ok, refl, true}
+use Rattle.nv_layout.proofs.PartLaws.{length-part}
+use Rattle.nv_layout.proofs.RecordLaws.{length-bytes_of_ctrl_list}
+use Rattle.nv_command.proofs.EntryLaws.{entry_with_fits}
+use Rattle.nv_command.proofs.FeatureLaws.{get_feature_back, get_feature_fits, set_feature_back}
+use Rattle.nv_command.proofs.FeatureLaws.{set_feature_fits}
+use Rattle.nv_command.proofs.FormatLaws.{format_back, format_fits}
+use Rattle.nv_command.proofs.IdentifyLaws.{controller_arrives, identify_fits, list_arrives}
+use Rattle.nv_command.proofs.IdentifyLaws.{namespace_arrives}
+use Rattle.nv_command.proofs.LogLaws.{dwords_back, get_log_back, get_log_fits, log_arrives}
+use Rattle.nv_command.specs.Logs.{IsSendable, is_error_log, log_data, received, without_phases}
+use Rattle.nv_command.proofs.ManagementLaws.{attachment_back, attachment_fits, create_back}
+use Rattle.nv_command.proofs.ManagementLaws.{done_arrives, length_of_creation, management_fits}
+use Rattle.nv_command.proofs.ManagementLaws.{number_arrives}
+use Rattle.nv_command.specs.Reply.{FitsRecord, IsReplyTo, data_of, dword0_of, log_of, reply_in}
+use Rattle.nv_command.specs.Travel.{CommandsTravel, RepliesFit, RepliesTravel}
+use Rattle.nv_command.specs.declared.command.Command.{Command}
+use Rattle.nv_command.specs.declared.command.Command.TheVariants.{IdentifyController}
+use Rattle.nv_command.specs.declared.command.Command.TheVariants.{IdentifyNamespace}
+use Rattle.nv_command.specs.declared.command.Command.TheVariants.{AllocatedNamespace, ActiveList}
+use Rattle.nv_command.specs.declared.command.Command.TheVariants.{AllocatedList, Create, Delete}
+use Rattle.nv_command.specs.declared.command.Command.TheVariants.{Attachment, Format, GetFeature}
+use Rattle.nv_command.specs.declared.command.Command.TheVariants.{SetFeature, GetLog}
+use Rattle.nv_command.specs.declared.reply.Reply.{Reply}
+
+pub commands_travel : CommandsTravel
+commands_travel IdentifyController cid fits low = record {
+  fits = entry_with_fits _ 0 cid (identify_fits 0x01 (lit< tt)) (lit< tt) low;
+  transfer = λ p q. refl;
+  command = λ p q. refl;
+  sent = refl;
+}
+commands_travel (IdentifyNamespace n) cid fits low = record {
+  fits = entry_with_fits _ n cid (identify_fits 0x00 (lit< tt)) fits low;
+  transfer = λ p q. refl;
+  command = λ p q. refl;
+  sent = refl;
+}
+commands_travel (AllocatedNamespace n) cid fits low = record {
+  fits = entry_with_fits _ n cid (identify_fits 0x11 (lit< tt)) fits low;
+  transfer = λ p q. refl;
+  command = λ p q. refl;
+  sent = refl;
+}
+commands_travel (ActiveList n) cid fits low = record {
+  fits = entry_with_fits _ n cid (identify_fits 0x02 (lit< tt)) fits low;
+  transfer = λ p q. refl;
+  command = λ p q. refl;
+  sent = refl;
+}
+commands_travel (AllocatedList n) cid fits low = record {
+  fits = entry_with_fits _ n cid (identify_fits 0x10 (lit< tt)) fits low;
+  transfer = λ p q. refl;
+  command = λ p q. refl;
+  sent = refl;
+}
+commands_travel (Create nsze ncap flbas dps nmic) cid fits low = record {
+  fits = entry_with_fits _ 0 cid (management_fits 0x0 (lit< tt)) (lit< tt) low;
+  transfer = λ p q. refl;
+  command = λ p q. create_back nsze ncap flbas dps nmic fits;
+  sent = length_of_creation nsze ncap flbas dps nmic;
+}
+commands_travel (Delete n) cid fits low = record {
+  fits = entry_with_fits _ n cid (management_fits 0x1 (lit< tt)) fits low;
+  transfer = λ p q. refl;
+  command = λ p q. refl;
+  sent = refl;
+}
+commands_travel (Attachment n true ids) cid fits low = record {
+  fits = entry_with_fits _ n cid (attachment_fits true) fits.nsid low;
+  transfer = λ p q. refl;
+  command = λ p q. attachment_back true n ids fits;
+  sent = length-bytes_of_ctrl_list ids fits.list.count;
+}
+commands_travel (Attachment n false ids) cid fits low = record {
+  fits = entry_with_fits _ n cid (attachment_fits false) fits.nsid low;
+  transfer = λ p q. refl;
+  command = λ p q. attachment_back false n ids fits;
+  sent = length-bytes_of_ctrl_list ids fits.list.count;
+}
+commands_travel (Format n lbaf mset pi pil ses) cid fits low = record {
+  fits = entry_with_fits _ n cid (format_fits lbaf mset pi pil ses) fits.nsid low;
+  transfer = λ p q. refl;
+  command = λ p q. ap Ok (format_back n lbaf mset pi pil ses cid p q fits);
+  sent = refl;
+}
+commands_travel (GetFeature fid sel n cdw11) cid fits low = record {
+  fits = entry_with_fits _ n cid (get_feature_fits fid sel cdw11 fits.cdw11) fits.nsid low;
+  transfer = λ p q. refl;
+  command = λ p q. ap Ok (get_feature_back fid sel n cdw11 cid p q fits);
+  sent = refl;
+}
+commands_travel (SetFeature fid value save n) cid fits low = record {
+  fits = entry_with_fits _ n cid (set_feature_fits fid value save fits.value) fits.nsid low;
+  transfer = λ p q. refl;
+  command = λ p q. ap Ok (set_feature_back fid value save n cid p q fits);
+  sent = refl;
+}
+commands_travel (GetLog lid n offset dwords) cid fits low = record {
+  fits = entry_with_fits _ n cid (get_log_fits lid offset dwords fits.offset) fits.nsid low;
+  transfer = λ p q. ap (λ d. Ok (log_data d)) (dwords_back lid dwords fits.some fits.dwords);
+  command = λ p q. ap Ok (get_log_back lid n offset dwords cid p q fits);
+  sent = refl;
+}
+
+pub replies_fit : RepliesFit
+replies_fit IdentifyController r is fits = (controller_arrives r is fits).bytes
+replies_fit (IdentifyNamespace n) r is fits = (namespace_arrives r is fits).bytes
+replies_fit (AllocatedNamespace n) r is fits = (namespace_arrives r is fits).bytes
+replies_fit (ActiveList n) r is fits = (list_arrives r is fits).bytes
+replies_fit (AllocatedList n) r is fits = (list_arrives r is fits).bytes
+replies_fit (Create nsze ncap flbas dps nmic) r is fits = (number_arrives r is).bytes
+replies_fit (Delete n) r is fits = (done_arrives r is).bytes
+replies_fit (Attachment n detach ids) r is fits = (done_arrives r is).bytes
+replies_fit (Format n lbaf mset pi pil ses) r is fits = (done_arrives r is).bytes
+replies_fit (GetFeature fid sel n cdw11) r is fits = (number_arrives r is).bytes
+replies_fit (SetFeature fid value save n) r is fits = (done_arrives r is).bytes
+replies_fit (GetLog lid n offset dwords) r is fits = length-part (log_of r) offset (4 * dwords)
+
+replies_arrive : (k : Command) (r : Reply) → IsReplyTo k r → FitsRecord r → IsSendable k
+    → reply_in k (dword0_of r) (data_of k r) ≡ received k (without_phases r)
+replies_arrive IdentifyController r is fits sends = (controller_arrives r is fits).reply
+replies_arrive (IdentifyNamespace n) r is fits sends = (namespace_arrives r is fits).reply
+replies_arrive (AllocatedNamespace n) r is fits sends = (namespace_arrives r is fits).reply
+replies_arrive (ActiveList n) r is fits sends = (list_arrives r is fits).reply
+replies_arrive (AllocatedList n) r is fits sends = (list_arrives r is fits).reply
+replies_arrive (Create nsze ncap flbas dps nmic) r is fits sends = (number_arrives r is).reply
+replies_arrive (Delete n) r is fits sends = (done_arrives r is).reply
+replies_arrive (Attachment n detach ids) r is fits sends = (done_arrives r is).reply
+replies_arrive (Format n lbaf mset pi pil ses) r is fits sends = (done_arrives r is).reply
+replies_arrive (GetFeature fid sel n cdw11) r is fits sends = (number_arrives r is).reply
+replies_arrive (SetFeature fid value save n) r is fits sends = (done_arrives r is).reply
+replies_arrive (GetLog lid n offset dwords) r is fits sends =
+    log_arrives (is_error_log lid) r offset dwords is fits sends
+
+pub replies_travel : RepliesTravel
+replies_travel k r is fits sends =
+    record { bytes = replies_fit k r is fits; reply = replies_arrive k r is fits sends }

@@ -1,0 +1,8 @@
+-- A reset makes and takes no controller.
+use Rattle.std.proofs.Common.{◌≡◌, ℕ, length}
+use Rattle.nv_model.specs.Reset.{reset}
+use Rattle.nv_model.proofs.ResetLaws.{length-reset}
+use Rattle.nv_model.specs.State.{State}
+
+pub controllers_stay : (s : State) (c : ℕ) → length (reset s c).controllers ≡ length s.controllers
+controllers_stay s c = length-reset s c

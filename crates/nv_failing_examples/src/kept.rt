@@ -1,0 +1,57 @@
+//! What the first controller of a subsystem has, of all that a script can change.
+
+use nv_controller::Machine;
+use nv_layout::{NsList, ThreeBits};
+use nv_subsystem::{Command, Reply, Subsystem};
+
+/// How many refusals and commands it has counted, and its write cache's current value, if there is
+/// a cache.
+#[derive(Clone, Copy, PartialEq, Eq)]
+pub struct Kept {
+    pub counts: (u64, u64),
+    pub cache: Option<u32>,
+}
+
+/// The current value of the first controller's write cache.
+fn cache_of(subsystem: &Subsystem) -> Option<u32> {
+    let get = Command::GetFeature {
+        fid: 6,
+        sel: ThreeBits::low(0),
+        nsid: 0,
+        cdw11: 0,
+    };
+    if subsystem.controllers() == 0 {
+        return None;
+    }
+    let mut list = NsList::new();
+    match subsystem.answer(0, &get, &mut list) {
+        Ok(Reply::Number(value)) => Some(value),
+        _ => None,
+    }
+}
+
+impl Kept {
+    /// What it has now.
+    pub(crate) fn of(machine: &Machine) -> Kept {
+        let subsystem = machine.subsystem();
+        let counts = if subsystem.controllers() == 0 {
+            (0, 0)
+        } else {
+            subsystem.counts(0)
+        };
+        Kept {
+            counts,
+            cache: cache_of(subsystem),
+        }
+    }
+
+    /// Whether it can stand between two others, of which one came before the other.
+    pub(crate) fn is_between(self, before: Kept, after: Kept) -> bool {
+        let (refusals, commands) = self.counts;
+        before.counts.0 <= refusals
+            && refusals <= after.counts.0
+            && before.counts.1 <= commands
+            && commands <= after.counts.1
+            && (self.cache == before.cache || self.cache == after.cache)
+    }
+}

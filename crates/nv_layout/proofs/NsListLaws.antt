@@ -1,0 +1,133 @@
+-- Lists of identifiers that end at the first zero.
+use Rattle.std.proofs.Common.{◌≡◌, ◌≢◌, ◌∙◌, ℕ, zero, suc, ◌+◌, ◌-◌, ◌*◌, ◌^◌, ◌<◌, ◌≤◌, ap, refl}
+use Rattle.std.proofs.Common.{sym, not, arith, append-nil, true, false, List, [], ◌∷◌, ◌++◌, drop}
+use Rattle.std.proofs.Common.{take, length, get_or}
+use Rattle.std.specs.List.{AllByRecursion, before_first, flat_map, prefix_len}
+use Rattle.std.proofs.lemmas.Bool.{false_from_ne_true}
+use Rattle.std.proofs.lemmas.Grind.{flat_map-append}
+use Rattle.std.proofs.lemmas.List.{drop-replicate, drop_all, length-append}
+use Rattle.byteorder.specs.Endian.{little_bytes}
+use Rattle.nv_layout.specs.NsList.{is_zero, padded}
+use Rattle.nv_layout.specs.Parts.{number_at, numbers, numbers_at, placed, zeros}
+use Rattle.nv_layout.proofs.PartLaws.{get_or-numbers_at, length-numbers_at, length_zeros}
+
+-- ---- what stands before the first zero
+
+zero_from_test : (x : ℕ) → is_zero x ≡ true → x ≡ 0
+zero_from_test x t = grind (arith, t)
+
+before_first-cons : (x : ℕ) (xs : List ℕ) → is_zero x ≡ false
+    → x ∷ before_first is_zero xs ≡ before_first is_zero (x ∷ xs)
+before_first-cons x xs h =
+    let n = prefix_len (λ y. not (is_zero y)) xs in
+    let one : suc n ≡ 1 + n = omega arith in
+    rw h (ap (λ m. take m (x ∷ xs)) one)
+
+-- the first numbers of xs, where none is zero and the next one is
+is_before_zero : (xs ys : List ℕ) → length ys ≤ length xs
+    → ((k : ℕ) → k < length ys → get_or ys k 0 ≡ get_or xs k 0)
+    → ((k : ℕ) → k < length ys → get_or ys k 0 ≢ 0)
+    → (length ys < length xs → get_or xs (length ys) 0 ≡ 0) → ys ≡ before_first is_zero xs
+is_before_zero [] [] size same full end = refl
+is_before_zero (x ∷ xs) [] size same full end = let first : x ≡ 0 =
+    end (omega arith) in rw first refl
+is_before_zero [] (y ∷ ys) size same full end = absurd (omega arith)
+is_before_zero (x ∷ xs) (y ∷ ys) size same full end =
+    let first : y ≡ x = same 0 (omega arith) in
+    let some : y ≢ 0 = full 0 (omega arith) in
+    let test : is_zero x ≡ false =
+    false_from_ne_true (is_zero x) (λ t. some (first ∙ zero_from_test x t)) in
+    let rest = is_before_zero xs ys (omega arith)
+    (λ k below. let at : get_or ys k 0 ≡ get_or xs k 0 = same (suc k) (omega arith) in at)
+    (λ k below. let at : get_or ys k 0 ≢ 0 = full (suc k) (omega arith) in at)
+    (λ more. let at : get_or xs (length ys) 0 ≡ 0 = end (omega arith) in at) in
+    (λ i. first i ∷ rest i) ∙ before_first-cons x xs test
+
+-- a list that was read number by number, up to the first zero or the end
+pub list_read : (n : ℕ) (bytes list : List ℕ) (i : ℕ) → i ≤ n → length list ≡ i
+    → ((k : ℕ) → k < i → get_or list k 0 ≡ number_at (4 * k) 4 bytes)
+    → ((k : ℕ) → k < i → get_or list k 0 ≢ 0)
+    → (i < n → number_at (4 * i) 4 bytes ≡ 0) → list ≡ before_first is_zero (numbers_at 0 4 n bytes)
+list_read n bytes list i h size read full end =
+    let whole = length-numbers_at 0 4 n bytes in
+    is_before_zero (numbers_at 0 4 n bytes) list (omega (arith, whole))
+    (λ k below. read k (omega arith)
+    ∙ ap (λ m. number_at m 4 bytes) (omega arith)
+    ∙ sym (get_or-numbers_at 0 4 n bytes k (omega arith)))
+    (λ k below. full k (omega arith))
+    (λ more. ap (λ m. get_or (numbers_at 0 4 n bytes) m 0) size
+    ∙ get_or-numbers_at 0 4 n bytes i (omega (arith, whole))
+    ∙ ap (λ m. number_at m 4 bytes) (omega arith)
+    ∙ end (omega (arith, whole)))
+
+-- ---- a list and the zeros after it
+
+abbrev pub AreIdentifiers : List ℕ → Type 0
+AreIdentifiers = AllByRecursion (λ x. (x ≢ 0) × (x < 2 ^ 32))
+
+before_first-append : (xs ys : List ℕ) → AreIdentifiers xs → before_first is_zero ys ≡ []
+    → xs ≡ before_first is_zero (xs ++ ys)
+before_first-append [] ys f e = sym e
+before_first-append (x ∷ xs) ys f e =
+    let test : is_zero x ≡ false =
+    false_from_ne_true (is_zero x) (λ t. f.0.0 (zero_from_test x t)) in
+    ap (λ t. x ∷ t) (before_first-append xs ys f.1 e) ∙ before_first-cons x (xs ++ ys) test
+
+before_first-zeros : (n : ℕ) → before_first is_zero (zeros n) ≡ []
+unfolding zeros
+before_first-zeros zero = refl
+before_first-zeros (suc n) = refl
+
+pub before_first-padded : (n : ℕ) (xs : List ℕ) → AreIdentifiers xs
+    → before_first is_zero (padded n xs) ≡ xs
+before_first-padded n xs f =
+    sym (before_first-append xs (zeros (n - length xs)) f (before_first-zeros (n - length xs)))
+
+zeros_fit : (n : ℕ) → AllByRecursion (λ x. x < 2 ^ 32) (zeros n)
+unfolding zeros
+zeros_fit zero = tt
+zeros_fit (suc n) = (omega arith, zeros_fit n)
+
+append_fits : (xs : List ℕ) (n : ℕ) → AreIdentifiers xs → AllByRecursion (λ x. x < 2 ^ 32) (xs
+    ++ zeros n)
+append_fits [] n f = zeros_fit n
+append_fits (x ∷ xs) n f = (f.0.1, append_fits xs n f.1)
+
+pub padded_fits : (n : ℕ) (xs : List ℕ) → AreIdentifiers xs → AllByRecursion (λ x. x < 2 ^ 32)
+    (padded n xs)
+padded_fits n xs f = append_fits xs (n - length xs) f
+
+pub length-padded : (n : ℕ) (xs : List ℕ) → length xs ≤ n → length (padded n xs) ≡ n
+length-padded n xs h =
+    length-append xs (zeros (n - length xs))
+    ∙ ap (λ m. length xs + m) (length_zeros (n - length xs)) ∙ omega arith
+
+-- ---- the bytes of the list
+
+each_zero : (n : ℕ) → flat_map (little_bytes 4) (zeros n) ≡ zeros (4 * n)
+unfolding zeros
+each_zero zero = refl
+each_zero (suc n) =
+    ap (λ (rest : List ℕ). 0 ∷ 0 ∷ 0 ∷ 0 ∷ rest) (each_zero n)
+    ∙ (let size : suc (suc (suc (suc (4 * n)))) ≡ 4 * suc n = omega arith in ap (λ m. zeros m) size)
+
+zeros_left : (n count : ℕ) → n ≤ count → drop (4 * n) (zeros (4 * count))
+    ≡ flat_map (little_bytes 4) (zeros (count - n))
+unfolding zeros
+zeros_left n count h =
+    let left : 4 * count - 4 * n ≡ 4 * (count - n) = omega arith in
+    drop-replicate (4 * n) (4 * count) 0 ∙ ap (λ m. zeros m) left ∙ sym (each_zero (count - n))
+
+none_left : (n : ℕ) → drop n (zeros n) ≡ []
+none_left n = drop_all n (zeros n) (omega (arith, length_zeros n))
+
+-- a list's numbers over zeros, with or without the zeros after them
+pub placed-padded : (count : ℕ) (ids : List ℕ) → length ids ≤ count
+    → placed (zeros (4 * count)) (numbers 0 4 (length ids) ids)
+    ≡ placed (zeros (4 * count)) (numbers 0 4 count (padded count ids))
+unfolding placed
+placed-padded count ids h =
+    ap (λ t. flat_map (little_bytes 4) ids ++ t) (zeros_left (length ids) count h)
+    ∙ sym (flat_map-append (little_bytes 4) ids (zeros (count - length ids)))
+    ∙ sym (append-nil (flat_map (little_bytes 4) (padded count ids)))
+    ∙ ap (λ t. flat_map (little_bytes 4) (padded count ids) ++ t) (sym (none_left (4 * count)))

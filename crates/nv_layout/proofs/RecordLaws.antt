@@ -1,0 +1,184 @@
+-- Entries of the rings and lists, whose fields fit, read back, and how many bytes each has.
+use Rattle.std.proofs.Common.{◌≡◌, ◌≢◌, ◌∙◌, ℕ, Bool, true, false, ◌==◌, ◌+◌, ◌^◌, ◌<◌, ◌≤◌, nat_le}
+use Rattle.std.proofs.Common.{ap, refl, arith, List, length}
+use Rattle.std.specs.List.{AllByRecursion, before_first}
+use Rattle.nv_layout.specs.Cqe.{CqeReadsBack, bytes_of_cqe, cqe_of_bytes, cqe_parts}
+use Rattle.nv_layout.specs.CtrlList.{CtrlListReadsBack, bytes_of_ctrl_list, ctrl_list_of_bytes}
+use Rattle.nv_layout.specs.CtrlList.{ctrl_list_parts}
+use Rattle.nv_layout.specs.NsList.{bytes_of_ns_list, is_zero, ns_list_of_bytes, ns_list_parts}
+use Rattle.nv_layout.specs.Parts.{Fits, at_bits, bit, bits, is_table, numbers}
+use Rattle.nv_layout.specs.Sqe.{SqeReadsBack, bytes_of_sqe, sqe_of_bytes, sqe_parts}
+use Rattle.nv_layout.specs.Status.{StatusReadsBack, number_of_status, status_of_number}
+use Rattle.nv_layout.specs.declared.cqe.Cqe.{Cqe}
+use Rattle.nv_layout.specs.declared.sqe.Sqe.{Sqe}
+use Rattle.nv_layout.specs.declared.status.Status.{Status}
+use Rattle.nv_layout.proofs.NsListLaws.{before_first-padded, length-padded, padded_fits}
+use Rattle.nv_layout.proofs.TableLaws.{length-laid_out, table_back}
+
+-- ---- flags
+
+pub flag_back : (flag : Bool) → (bit flag == 1) ≡ flag
+flag_back true = refl
+flag_back false = refl
+
+pub bit_below : (flag : Bool) → bit flag < 2
+bit_below true = omega arith
+bit_below false = omega arith
+
+-- ---- the status field
+
+pub number_of_status_below : (s : Status) → number_of_status s < 2 ^ 15
+unfolding number_of_status
+number_of_status_below s = omega arith
+
+status_bits : (a b c d e : ℕ) → a < 2 ^ 8 → b < 2 ^ 3 → c < 2 ^ 2 → d < 2 → e < 2
+    → let n = at_bits 0 8 a + at_bits 8 3 b + at_bits 11 2 c + at_bits 13 1 d + at_bits 14 1 e in
+    (bits 0 8 n ≡ a) × (bits 8 3 n ≡ b) × (bits 11 2 n ≡ c) × (bits 13 1 n ≡ d) × (bits 14 1 n ≡ e)
+status_bits a b c d e ha hb hc hd he =
+    (omega arith, omega arith, omega arith, omega arith, omega arith)
+
+pub status_back : StatusReadsBack
+unfolding number_of_status status_of_number
+status_back s fits =
+    let (sc, sct, crd, more, dnr) =
+    status_bits s.sc s.sct s.crd (bit s.more) (bit s.dnr)
+    fits.sc fits.sct fits.crd (bit_below s.more) (bit_below s.dnr) in
+    λ i. record {
+      sc = sc i;
+      sct = sct i;
+      crd = crd i;
+      more = (ap (λ x. x == 1) more ∙ flag_back s.more) i;
+      dnr = (ap (λ x. x == 1) dnr ∙ flag_back s.dnr) i;
+    }
+
+-- ---- submission queue entries
+
+pub length-bytes_of_sqe : (r : Sqe) → length (bytes_of_sqe r) ≡ 64
+unfolding bytes_of_sqe
+length-bytes_of_sqe r = length-laid_out 64 (sqe_parts r) refl (
+  tt,
+  (tt, (tt, (tt, (tt, (tt, (tt, (tt, (tt, (tt, (tt, tt)))))))))),
+)
+
+dword0_bits : (o f p c : ℕ) → o < 2 ^ 8 → f < 2 ^ 2 → p < 2 ^ 2 → c < 2 ^ 16
+    → let n = at_bits 0 8 o + at_bits 8 2 f + at_bits 14 2 p + at_bits 16 16 c in
+    (n < 256 ^ 4) × (bits 0 8 n ≡ o) × (bits 8 2 n ≡ f) × (bits 14 2 n ≡ p) × (bits 16 16 n ≡ c)
+dword0_bits o f p c ho hf hp hc = (omega arith, omega arith, omega arith, omega arith, omega arith)
+
+pub sqe_back : SqeReadsBack
+unfolding bytes_of_sqe sqe_of_bytes
+sqe_back r fits =
+    let (small, opcode, fuse, psdt, cid) =
+    dword0_bits r.opcode r.fuse r.psdt r.cid fits.opcode fits.fuse fits.psdt fits.cid in
+    let parts_fit : AllByRecursion Fits (sqe_parts r) = (
+      small,
+      (
+        fits.nsid,
+        (
+          fits.mptr,
+          (
+            fits.prp1,
+            (
+              fits.prp2,
+              (fits.cdw10, (fits.cdw11, (fits.cdw12, (fits.cdw13, (fits.cdw14, (fits.cdw15, tt)))))),
+            ),
+          ),
+        ),
+      ),
+    )
+    in
+    let (
+      dword0,
+      (nsid, (mptr, (prp1, (prp2, (cdw10, (cdw11, (cdw12, (cdw13, (cdw14, (cdw15, end)))))))))),
+    ) =
+    table_back 64 (sqe_parts r) refl parts_fit in
+    λ i. record {
+      opcode = (ap (bits 0 8) dword0 ∙ opcode) i;
+      fuse = (ap (bits 8 2) dword0 ∙ fuse) i;
+      psdt = (ap (bits 14 2) dword0 ∙ psdt) i;
+      cid = (ap (bits 16 16) dword0 ∙ cid) i;
+      nsid = nsid i;
+      mptr = mptr i;
+      prp1 = prp1 i;
+      prp2 = prp2 i;
+      cdw10 = cdw10 i;
+      cdw11 = cdw11 i;
+      cdw12 = cdw12 i;
+      cdw13 = cdw13 i;
+      cdw14 = cdw14 i;
+      cdw15 = cdw15 i;
+    }
+
+-- ---- completion queue entries
+
+pub length-bytes_of_cqe : (r : Cqe) → length (bytes_of_cqe r) ≡ 16
+unfolding bytes_of_cqe
+length-bytes_of_cqe r = length-laid_out 16 (cqe_parts r) refl (tt, (tt, (tt, (tt, tt))))
+
+dword3_bits : (c p s : ℕ) → c < 2 ^ 16 → p < 2 → s < 2 ^ 15
+    → let n = at_bits 0 16 c + at_bits 16 1 p + at_bits 17 15 s in
+    (n < 256 ^ 4) × (bits 0 16 n ≡ c) × (bits 16 1 n ≡ p) × (bits 17 15 n ≡ s)
+dword3_bits c p s hc hp hs = (omega arith, omega arith, omega arith, omega arith)
+
+pub cqe_back : CqeReadsBack
+unfolding bytes_of_cqe cqe_of_bytes
+cqe_back r fits =
+    let (small, cid, phase, status) =
+    dword3_bits r.cid (bit r.phase) (number_of_status r.status)
+    fits.cid (bit_below r.phase) (number_of_status_below r.status) in
+    let (specific, (sq_head, (sq_identifier, (dword3, end)))) =
+    table_back 16 (cqe_parts r) refl
+    (fits.command_specific, (fits.sq_head, (fits.sq_identifier, (small, tt)))) in
+    λ i. record {
+      command_specific = specific i;
+      sq_head = sq_head i;
+      sq_identifier = sq_identifier i;
+      cid = (ap (bits 0 16) dword3 ∙ cid) i;
+      phase = (ap (λ x. bits 16 1 x == 1) dword3 ∙ ap (λ x. x == 1) phase ∙ flag_back r.phase) i;
+      status = (ap (λ x. status_of_number (bits 17 15 x)) dword3
+          ∙ ap status_of_number status
+          ∙ status_back r.status fits.status) i;
+    }
+
+-- ---- namespace lists
+
+pub length-bytes_of_ns_list : (ids : List ℕ) → length ids ≤ 1024 → length (bytes_of_ns_list ids)
+    ≡ 4096
+unfolding bytes_of_ns_list
+length-bytes_of_ns_list ids h =
+    length-laid_out 4096 (ns_list_parts ids) refl (length-padded 1024 ids h, tt)
+
+pub ns_list_back : (ids : List ℕ) → length ids ≤ 1024 → AllByRecursion (λ x. (x ≢ 0)
+    × (x < 2 ^ 32)) ids
+    → ns_list_of_bytes (bytes_of_ns_list ids) ≡ ids
+unfolding bytes_of_ns_list ns_list_of_bytes
+ns_list_back ids h fits =
+    let all = table_back 4096 (ns_list_parts ids) refl (
+      (
+        length-padded 1024 ids h,
+        padded_fits 1024 ids fits,
+      ),
+      tt,
+    ) in
+    ap (before_first is_zero) all.0 ∙ before_first-padded 1024 ids fits
+
+-- ---- controller lists
+
+is_table_of_ids : (ids : List ℕ) → length ids ≤ 2047 → is_table 0 4096 (ctrl_list_parts ids) ≡ true
+is_table_of_ids ids h = grind arith
+
+pub length-bytes_of_ctrl_list : (ids : List ℕ) → length ids ≤ 2047 → length (bytes_of_ctrl_list ids)
+    ≡ 4096
+unfolding bytes_of_ctrl_list
+length-bytes_of_ctrl_list ids h =
+    length-laid_out 4096 (ctrl_list_parts ids) (is_table_of_ids ids h) (tt, (refl, tt))
+
+pub ctrl_list_back : CtrlListReadsBack
+unfolding bytes_of_ctrl_list ctrl_list_of_bytes
+ctrl_list_back ids fits =
+    let parts_fit : AllByRecursion Fits (ctrl_list_parts ids) =
+    (omega (arith, fits.count), ((refl, fits.numbers), tt)) in
+    let (count, (each, end)) =
+    table_back 4096 (ctrl_list_parts ids) (is_table_of_ids ids fits.count) parts_fit in
+    let room : nat_le (length ids) 2047 ≡ true = grind (arith, fits.count) in
+    rw (count, room, each)

@@ -1,0 +1,139 @@
+-- A table of fields: its bytes hold each field's value.
+use Rattle.std.proofs.Common.{◌≡◌, ◌∙◌, ℕ, Bool, true, zero, suc, ◌&&◌, nat_le, ◌+◌, ◌*◌, ◌^◌, ◌<◌}
+use Rattle.std.proofs.Common.{◌≤◌, ap, refl, sym, arith, append-nil, List, [], ◌∷◌, ◌++◌, take}
+use Rattle.std.proofs.Common.{drop, fold, length}
+use Rattle.std.specs.List.{AllByRecursion, flat_map}
+use Rattle.std.proofs.lemmas.List.{drop-drop, drop-take, take-take}
+use Rattle.std.proofs.Math.Seq.{drop-append_seam, take-append_seam}
+use Rattle.byteorder.specs.Endian.{little_bytes, little_from}
+use Rattle.byteorder.specs.Numbers.{length-bytes_low_first, little_from-take}
+use Rattle.byteorder.specs.Numbers.{little_number-reads_back}
+use Rattle.nv_layout.specs.Parts.{Fits, Holds, Part, bytes_of, is_table, laid_out, number}
+use Rattle.nv_layout.specs.Parts.{number_at, numbers, numbers_at, place_of, placed, text, text_at}
+use Rattle.nv_layout.specs.Parts.{width_of, zeros}
+use Rattle.nv_layout.proofs.PartLaws.{IsSized, length-placed, length_zeros, text_at-placed}
+use Rattle.nv_layout.proofs.PartLaws.{text_at-placed_before, times_suc}
+
+-- ---- places
+
+both_true : (a b : ℕ) (rest : Bool) → (nat_le a b && rest) ≡ true → (a ≤ b) × (rest ≡ true)
+both_true a b rest h = (grind (arith, h), grind (arith, h))
+
+table_end : (from size : ℕ) (ps : List Part) → is_table from size ps ≡ true → from ≤ size
+table_end from size [] t = grind (arith, t)
+table_end from size (p ∷ ps) t =
+    let split = both_true from (place_of p) _ t in
+    let later = table_end (place_of p + width_of p) size ps split.1 in
+    omega (arith, split.0)
+
+length-fold_placed : (b : List ℕ) (from size : ℕ) (ps : List Part) → is_table from size ps ≡ true
+    → AllByRecursion IsSized ps → length b ≡ size → length (fold placed b ps) ≡ size
+length-fold_placed b from size [] t s e = e
+length-fold_placed b from size (p ∷ ps) t s e =
+    let split = both_true from (place_of p) _ t in
+    let later = table_end (place_of p + width_of p) size ps split.1 in
+    length-fold_placed (placed b p) (place_of p + width_of p) size ps split.1 s.1
+    (length-placed b p s.0 (omega (arith, later)) ∙ e)
+
+-- a record has as many bytes as its size
+pub length-laid_out : (size : ℕ) (ps : List Part) → is_table 0 size ps ≡ true
+    → AllByRecursion IsSized ps
+    → length (laid_out size ps) ≡ size
+length-laid_out size ps t s = length-fold_placed (zeros size) 0 size ps t s (length_zeros size)
+
+-- what stands before a table's fields stays
+before_table : (b : List ℕ) (from size : ℕ) (ps : List Part) → is_table from size ps ≡ true
+    → AllByRecursion IsSized ps → length b ≡ size → (at n : ℕ) → at + n ≤ from
+    → text_at at n (fold placed b ps) ≡ text_at at n b
+before_table b from size [] t s e at n h = refl
+before_table b from size (p ∷ ps) t s e at n h =
+    let split = both_true from (place_of p) _ t in
+    let later = table_end (place_of p + width_of p) size ps split.1 in
+    let same = length-placed b p s.0 (omega (arith, later)) in
+    before_table (placed b p) (place_of p + width_of p) size ps split.1 s.1 (same ∙ e) at n
+    (omega (arith, split.0))
+    ∙ text_at-placed_before b p at n (omega (arith, split.0)) (omega (arith, later))
+
+abbrev Stands : List ℕ → Part → Type 0
+Stands b p = text_at (place_of p) (width_of p) b ≡ bytes_of p
+
+all_stand : (b : List ℕ) (from size : ℕ) (ps : List Part) → is_table from size ps ≡ true
+    → AllByRecursion IsSized ps → length b ≡ size → AllByRecursion (Stands (fold placed b ps)) ps
+all_stand b from size [] t s e = tt
+all_stand b from size (p ∷ ps) t s e =
+    let split = both_true from (place_of p) _ t in
+    let later = table_end (place_of p + width_of p) size ps split.1 in
+    let same = length-placed b p s.0 (omega (arith, later)) in
+    let here = before_table (placed b p) (place_of p + width_of p) size ps split.1 s.1 (same
+    ∙ e) (place_of p) (width_of p) (omega arith)
+    ∙ text_at-placed b p s.0 (omega (arith, later)) in
+    (here, all_stand (placed b p) (place_of p + width_of p) size ps split.1 s.1 (same ∙ e))
+
+-- ---- values
+
+number_back : (at width x : ℕ) (bytes : List ℕ) → x < 256 ^ width
+    → text_at at width bytes ≡ little_bytes width x → number_at at width bytes ≡ x
+unfolding text_at number_at
+number_back at width x bytes f e =
+    sym (little_from-take 0 width width (drop at bytes) (omega arith))
+    ∙ ap (little_from 0 width) (e ∙ sym (append-nil (little_bytes width x)))
+    ∙ little_number-reads_back width x [] f
+
+-- the first number of an array, and the rest
+first_and_rest : (at width n x : ℕ) (rest bytes : List ℕ)
+    → text_at at (width * suc n) bytes ≡ little_bytes width x ++ rest
+    → (text_at at width bytes ≡ little_bytes width x) × (text_at (at + width) (width * n) bytes
+    ≡ rest)
+unfolding text_at
+first_and_rest at width n x rest bytes e =
+    let size : length (little_bytes width x) ≡ width = length-bytes_low_first 0 width x in
+    let whole : take (width + width * n) (drop at bytes) ≡ little_bytes width x ++ rest =
+    ap (λ m. take m (drop at bytes)) (sym (times_suc width n)) ∙ e in (
+      sym (take-take width (width + width * n) (drop at bytes) (omega arith))
+          ∙ ap (take width) whole
+          ∙ ap (λ m. take m (little_bytes width x ++ rest)) (sym size)
+          ∙ take-append_seam (little_bytes width x) rest,
+      ap (take (width * n)) (sym (drop-drop width at bytes))
+          ∙ sym (drop-take width (width * n) (drop at bytes))
+          ∙ ap (drop width) whole
+          ∙ ap (λ m. drop m (little_bytes width x ++ rest)) (sym size)
+          ∙ drop-append_seam (little_bytes width x) rest,
+    )
+
+numbers_back : (at width count : ℕ) (xs bytes : List ℕ) → length xs ≡ count
+    → AllByRecursion (λ x. x < 256 ^ width) xs
+    → text_at at (width * count) bytes ≡ flat_map (little_bytes width) xs
+    → numbers_at at width count bytes ≡ xs
+unfolding numbers_at
+numbers_back at width zero [] bytes l f e = refl
+numbers_back at width (suc n) [] bytes l f e = absurd (omega arith)
+numbers_back at width zero (x ∷ xs) bytes l f e = absurd (omega arith)
+numbers_back at width (suc n) (x ∷ xs) bytes l f e =
+    let split = first_and_rest at width n x (flat_map (little_bytes width) xs) bytes e in
+    (λ i. number_back at width x bytes f.0 split.0 i ∷ numbers_back (at + width) width n xs bytes
+    (omega arith) f.1 split.1 i)
+
+value_back : (bytes : List ℕ) (p : Part) → Fits p → Stands bytes p → Holds bytes p
+value_back bytes (number at width x) f e = number_back at width x bytes f e
+value_back bytes (numbers at width count xs) f e = numbers_back at width count xs bytes f.0 f.1 e
+value_back bytes (text at width t) f e = e
+
+values_back : (bytes : List ℕ) (ps : List Part) → AllByRecursion Fits ps
+    → AllByRecursion (Stands bytes) ps → AllByRecursion (Holds bytes) ps
+values_back bytes [] f e = tt
+values_back bytes (p ∷ ps) f e = (value_back bytes p f.0 e.0, values_back bytes ps f.1 e.1)
+
+sized : (p : Part) → Fits p → IsSized p
+sized (number at width x) f = tt
+sized (numbers at width count xs) f = f.0
+sized (text at width bytes) f = f
+
+all_sized : (ps : List Part) → AllByRecursion Fits ps → AllByRecursion IsSized ps
+all_sized [] f = tt
+all_sized (p ∷ ps) f = (sized p f.0, all_sized ps f.1)
+
+-- every field of a table reads back
+pub table_back : (size : ℕ) (ps : List Part) → is_table 0 size ps ≡ true → AllByRecursion Fits ps
+    → AllByRecursion (Holds (laid_out size ps)) ps
+table_back size ps t f =
+    values_back _ ps f (all_stand (zeros size) 0 size ps t (all_sized ps f) (length_zeros size))

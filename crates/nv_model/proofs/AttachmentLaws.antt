@@ -1,0 +1,166 @@
+-- An attach and a detach leave a well-formed subsystem well formed.
+use Rattle.std.proofs.Common.{rules, ◌≡◌, ◌∙◌, ℕ, ◌==◌, ◌≤◌, ◌||◌, ◌&&◌, Bool, true, false, not}
+use Rattle.std.proofs.Common.{cond, List, length, Some, None, nat_lt, refl, sym, ap, arith}
+use Rattle.std.specs.Prelude.{count_by, if◌then◌else◌}
+use Rattle.std.specs.List.{AllByRecursion}
+use Rattle.std.specs.Option.{option_map_or}
+use Rattle.std.specs.FinMap as map_of
+use Rattle.std.proofs.lemmas.Bool.Decides.{nat_tests}
+use Rattle.std.proofs.lemmas.List.{length-map}
+use Rattle.nv_bits.proofs.NumberLaws.{contains-insert}
+use Rattle.nv_model.specs.declared.namespace.Namespace.{Namespace}
+use Rattle.nv_command.proofs.RefusalLaws.{is_refusal-refusal_by}
+use Rattle.nv_model.specs.Attachment.{attach_rows, attached, attachment_rows, detached, fewer}
+use Rattle.nv_model.specs.Attachment.{has_attached, is_listed, is_private, more, unchanged}
+use Rattle.nv_model.specs.Attachment.{with_attachments, with_one}
+use Rattle.nv_model.proofs.ChoiceLaws.{not_false}
+use Rattle.nv_model.proofs.FeatureLaws.{values-with, values-without}
+use Rattle.nv_model.specs.Management.{with_attached, with_nsids, without}
+use Rattle.nv_model.proofs.ManagementLaws.{AllRefuse, attached_keep, left, none_holds}
+use Rattle.nv_model.proofs.MappedLaws.{count_by-map, count_by-map_le}
+use Rattle.nv_model.specs.Nsid.{is_allocated}
+use Rattle.nv_model.specs.Row.{first_refusal}
+use Rattle.nv_model.specs.State.{Controller, State}
+use Rattle.nv_model.specs.WellFormed.{AreValues, IsController, IsWellFormed}
+
+-- ---- attach
+
+-- what an attach makes of the NSIDs of a controller
+has_more : (n : ℕ) (ids : List ℕ) (x : Controller) (q : ℕ)
+    → map_of.contains_key (more n ids x).nsids q
+    ≡ (cond (q == n) (is_listed ids x) false || map_of.contains_key x.attached q)
+has_more n ids x q = at_test (is_listed ids x)
+  where
+    same : (b c : Bool) → cond b true c ≡ (cond b true false || c)
+    same true c = refl
+    same false c = refl
+
+    none : (b c : Bool) → c ≡ (cond b false false || c)
+    none true c = refl
+    none false c = refl
+
+    at_test : (b : Bool) → map_of.contains_key
+        (if b then with_one n x else unchanged x).nsids q
+        ≡ (cond (q == n) b false || map_of.contains_key x.attached q)
+    at_test true = contains-insert x.attached n tt q
+        ∙ same (q == n) (map_of.contains_key x.attached q)
+    at_test false = none (q == n) (map_of.contains_key x.attached q)
+
+or_comm : (a b : Bool) → (a || b) ≡ (b || a)
+or_comm true true = refl
+or_comm true false = refl
+or_comm false true = refl
+or_comm false false = refl
+
+attach_keeps : (s : State) (n : ℕ) (ids : List ℕ) → IsWellFormed s
+    → first_refusal (attach_rows s n ids) ≡ None → IsWellFormed (attached s n ids)
+attach_keeps s n ids w accepted = attached_keep s (more n ids) s.namespaces w (record {
+  allocated = λ x is q t. at_nsid x is q (q == n) refl (sym (has_more n ids x q) ∙ t);
+  namespaces = λ q x e. let old = w.namespaces q x e in
+      record { nsid = old.nsid; format = old.format; private = λ p. private q x e p (q == n) refl };
+  values = λ x is. with_values x is (is_listed ids x);
+  capacities = w.capacities;
+})
+  where
+    rows : AllByRecursion (λ r. r.when ≡ false) (attach_rows s n ids)
+    rows = none_holds (attach_rows s n ids) accepted
+
+    with_values : (x : Controller) → IsController s.namespaces x → (b : Bool)
+        → AreValues x.rules x.identity.numbers.vwc (if b then with_one n x else unchanged x).nsids
+        (if b then with_one n x else unchanged x).values
+    with_values x is true =
+        values-with x.rules x.identity.numbers.vwc x.attached x.values is.values is.rules n
+    with_values x is false = is.values
+
+    at_nsid : (x : Controller) → IsController s.namespaces x → (q : ℕ) (b : Bool) → (q == n) ≡ b
+        → (cond b (is_listed ids x) false || map_of.contains_key x.attached q) ≡ true
+        → map_of.contains_key s.namespaces q ≡ true
+    at_nsid x is q true e t = let same : q ≡ n = grind (arith, nat_tests) in
+        ap (map_of.contains_key s.namespaces) same ∙ not_false (is_allocated s n) rows.1.0
+    at_nsid x is q false e t = is.attached q t
+
+    few : (b c : Bool) → b ≡ true → (b && c) ≡ false → c ≡ false
+    few true c h e = e
+    few false c h e = absurd (cc h)
+
+    private : (q : ℕ) (x : Namespace) → map_of.get s.namespaces q ≡ Some x → x.shared ≡ false
+        → (b : Bool) → (q == n) ≡ b
+        → count_by (has_attached q) (with_attached s (more n ids)).controllers ≤ 1
+    private q x e p true is =
+        let same : q ≡ n = grind (arith, nat_tests) in
+        let alone : is_private s n
+        ≡ true = ap (λ o. option_map_or (λ (x : Namespace). not x.shared) o false)
+        (sym (ap (map_of.get s.namespaces) same) ∙ e) ∙ ap not p in
+        let one = few (is_private s n) _ alone rows.1.1.1.1.0 in
+        let count = count_by-map (has_attached q) (with_nsids (more n ids)) (λ c. has_attached n c
+        || is_listed ids c)
+        (λ c. has_more n ids c q
+        ∙ ap (λ b. cond b (is_listed ids c) false || map_of.contains_key c.attached q) is
+        ∙ ap (λ m. is_listed ids c || map_of.contains_key c.attached m) same
+        ∙ or_comm (is_listed ids c) (has_attached n c)) s.controllers in
+        at_most (count_by (λ c. has_attached n c || is_listed ids c) s.controllers) _ count one
+      where
+        at_most : (k m : ℕ) → m ≡ k → nat_lt 1 k ≡ false → m ≤ 1
+        at_most k m e h = grind (arith, nat_tests)
+    private q x e p false is =
+        let count = count_by-map (has_attached q) (with_nsids (more n ids)) (has_attached q)
+        (λ c. has_more n ids c q
+        ∙ ap (λ b. cond b (is_listed ids c) false || map_of.contains_key c.attached q) is)
+        s.controllers in
+        omega (arith, count, (w.namespaces q x e).private p)
+
+-- ---- detach
+
+kept : (n : ℕ) (ids : List ℕ) (x : Controller) (q : ℕ) → map_of.contains_key (fewer n ids x).nsids q
+    ≡ true → map_of.contains_key x.attached q ≡ true
+kept n ids x q = at_test (is_listed ids x)
+  where
+    at_test : (b : Bool) → map_of.contains_key
+        (if b then without n x else unchanged x).nsids q ≡ true
+        → map_of.contains_key x.attached q ≡ true
+    at_test true t = (left x.attached n q t).1
+    at_test false t = t
+
+detach_keeps : (s : State) (n : ℕ) (ids : List ℕ) → IsWellFormed s → IsWellFormed (detached s n ids)
+detach_keeps s n ids w = attached_keep s (fewer n ids) s.namespaces w (record {
+  allocated = λ x is q t. is.attached q (kept n ids x q t);
+  namespaces = λ q x e.
+      let old = w.namespaces q x e in
+      record {
+        nsid = old.nsid;
+        format = old.format;
+        private = λ p. omega (
+          arith,
+          old.private p,
+          count_by-map_le (has_attached q) (with_nsids (fewer n ids)) (has_attached q)
+              (λ c t. kept n ids c q t) s.controllers,
+        );
+      };
+  values = λ x is. less_values x is (is_listed ids x);
+  capacities = w.capacities;
+})
+  where
+    less_values : (x : Controller) → IsController s.namespaces x → (b : Bool)
+        → AreValues x.rules x.identity.numbers.vwc (if b then without n x else unchanged x).nsids
+        (if b then without n x else unchanged x).values
+    less_values x is true =
+        values-without x.rules x.identity.numbers.vwc x.attached x.values is.values n
+    less_values x is false = is.values
+
+-- ---- both
+
+pub attachment_rows_fit : (s : State) (n : ℕ) (detach : Bool) (ids : List ℕ)
+    → AllRefuse (attachment_rows s n detach ids)
+attachment_rows_fit s n true ids = search (rules, is_refusal-refusal_by)
+attachment_rows_fit s n false ids = search (rules, is_refusal-refusal_by)
+
+pub attachment_keeps : (s : State) (n : ℕ) (detach : Bool) (ids : List ℕ) → IsWellFormed s
+    → first_refusal (attachment_rows s n detach ids) ≡ None
+    → IsWellFormed (with_attachments s n detach ids)
+attachment_keeps s n true ids w accepted = detach_keeps s n ids w
+attachment_keeps s n false ids w accepted = attach_keeps s n ids w accepted
+
+pub attachment_controllers : (s : State) (n : ℕ) (detach : Bool) (ids : List ℕ)
+    → length (with_attachments s n detach ids).controllers ≡ length s.controllers
+attachment_controllers s n true ids = length-map s.controllers (with_nsids (fewer n ids))
+attachment_controllers s n false ids = length-map s.controllers (with_nsids (more n ids))

@@ -1,0 +1,204 @@
+-- A format leaves a well-formed subsystem well formed.
+use Rattle.std.proofs.Common.{rules, ◌≡◌, ◌∙◌, ℕ, ◌-◌, ◌==◌, ◌≤◌, ◌^◌, ◌||◌, Bool, true, false}
+use Rattle.std.proofs.Common.{cond, List, [], ◌∷◌, Option, Some, None, nat_lt, refl, sym, ap, subst}
+use Rattle.std.proofs.Common.{arith}
+use Rattle.std.specs.Prelude.{IsSomeAnd, slice_get}
+use Rattle.std.specs.List.{AllByRecursion, fold, list_any}
+use Rattle.std.specs.Option.{option_map_or}
+use Rattle.std.specs.FinMap as map_of
+use Rattle.std.proofs.lemmas.Bool.Decides.{nat_tests}
+use Rattle.std.proofs.lemmas.List.Elements.{All-weaker}
+use Rattle.nv_bits.proofs.NumberLaws.{contains-insert, get_of_insert}
+use Rattle.nv_model.specs.Ranges.{IsInFormat}
+use Rattle.nv_model.specs.Formats.{may_extend}
+use Rattle.nv_model.specs.declared.format.Format.{Format}
+use Rattle.nv_model.specs.declared.namespace.Namespace.{Namespace}
+use Rattle.nv_command.proofs.RefusalLaws.{is_refusal-refusal_by}
+use Rattle.nv_model.specs.Format.{format_rows, formatted, in_format, is_below, with_format}
+use Rattle.std.specs.Cmp.{nat_cmp_total}
+use Rattle.std.specs.FinMap.{nat_cmp-IsAntisymmetric}
+use Rattle.nv_model.specs.ChangedKeys.{changed_at_keys}
+use Rattle.nv_model.proofs.ChangedKeysLaws.{folded}
+use Rattle.nv_model.proofs.ChoiceLaws.{not_false}
+use Rattle.nv_model.specs.Formats.{can_have, format_at}
+use Rattle.nv_model.proofs.ManagementLaws.{AllRefuse, extends_by, none_holds}
+use Rattle.nv_model.specs.Nsid.{concerned}
+use Rattle.nv_model.specs.Row.{first_refusal}
+use Rattle.nv_model.specs.State.{Namespaces, State}
+use Rattle.nv_model.proofs.UsedLaws.{used-change}
+use Rattle.nv_model.specs.WellFormed.{IsController, IsNamespace, IsWellFormed}
+use Rattle.nv_model.specs.declared.new_format.NewFormat.{NewFormat}
+
+pub format_rows_fit : (s : State) (c n : ℕ) (f : NewFormat) → AllRefuse (format_rows s c n f)
+format_rows_fit s c n f = search (rules, is_refusal-refusal_by)
+
+-- a capacity below a size
+abbrev below : ℕ → Option Namespace → Bool
+below size o = option_map_or (λ x. nat_lt x.capacity size) o false
+
+-- ---- one namespace
+
+module _ (format : Format) (lbaf : ℕ) (mset : Bool) where
+  abbrev as_format : Namespace → Namespace
+  as_format x = in_format lbaf mset x
+
+  -- the subsystem with one namespace in the format
+  abbrev with_one : State → ℕ → State
+  with_one s n = record s { namespaces = with_format lbaf mset s.namespaces n }
+
+  -- what has to be so that it can be
+  pub record CanHave (s : State) : Type 0 where
+    pub found : slice_get s.formats lbaf ≡ Some format
+    pub extends : may_extend s.mc format mset ≡ true
+
+  size_of : (s : State) (n : ℕ) (x : Namespace) → map_of.get s.namespaces n ≡ Some x
+      → is_below s (2 ^ format.lbads) n ≡ false → 2 ^ format.lbads ≤ x.capacity
+  size_of s n x found room =
+      let big : nat_lt x.capacity (2 ^ format.lbads) ≡ false
+      = sym (ap (below (2 ^ format.lbads)) found) ∙ room in
+      grind (arith, nat_tests)
+
+  few : (mc : ℕ) (x : Namespace) (o : Option Format) → IsSomeAnd o (λ f. IsInFormat mc f x)
+      → x.capacity ≤ 2 ^ 63 - 1
+  few mc x None is = absurd is
+  few mc x (Some f) is = is.capacity.1
+
+  one_keeps : (s : State) (n : ℕ) (o : Option Namespace) → map_of.get s.namespaces n ≡ o
+      → CanHave s → is_below s (2 ^ format.lbads) n ≡ false → IsWellFormed s
+      → IsWellFormed (record s {
+        namespaces = option_map_or (λ x. map_of.insert s.namespaces n (as_format x)) o s.namespaces;
+      })
+  one_keeps s n None at can room w = w
+  one_keeps s n (Some x) at can room w =
+      let to : Namespaces = map_of.insert s.namespaces n (as_format x) in
+      record {
+        keys = w.keys;
+        format_count = w.format_count;
+        formats = w.formats;
+        controller_count = w.controller_count;
+        controllers = All-weaker (IsController s.namespaces) (IsController to)
+            (λ c is. record {
+              identity = is.identity;
+              rules = is.rules;
+              smart = is.smart;
+              log = is.log;
+              entries = is.entries;
+              refusals = is.refusals;
+              commands = is.commands;
+              attached = λ q t. contains-insert s.namespaces n (as_format x) q
+                  ∙ kept (q == n) (is.attached q t);
+              values = is.values;
+            }) s.controllers w.controllers;
+        cntlids = w.cntlids;
+        namespaces = λ q y e. named q y (q == n) refl
+            (sym (get_of_insert s.namespaces n (as_format x) q) ∙ e);
+        capacities = omega (
+          arith,
+          used-change s.namespaces n x (as_format x) at refl,
+          w.capacities,
+        );
+      }
+    where
+      kept : (b : Bool) {t : Bool} → t ≡ true → cond b true t ≡ true
+      kept true h = refl
+      kept false h = h
+
+      fits_format : IsInFormat s.mc format (as_format x)
+      fits_format =
+          let old = w.namespaces n x at in
+          record {
+            capacity =
+                (size_of s n x at room, few s.mc x (slice_get s.formats x.format) old.format);
+            extended = extends_by format.ms s.mc mset can.extends;
+          }
+
+      named : (q : ℕ) (y : Namespace) (b : Bool) → (q == n) ≡ b
+          → cond b (Some (as_format x)) (map_of.get s.namespaces q) ≡ Some y
+          → IsNamespace
+          (record s { namespaces = map_of.insert s.namespaces n (as_format x) }) q y
+      named q y true is e =
+          let here : n ≡ q = grind (arith, nat_tests) in
+          let same : as_format x ≡ y = cc e in
+          let old = w.namespaces n x at in
+          let to = record s { namespaces = map_of.insert s.namespaces n (as_format x) } in
+          subst (λ m. IsNamespace to m y) here (subst (IsNamespace to n) same (record {
+            nsid = old.nsid;
+            format = subst (λ o. IsSomeAnd o (λ f. IsInFormat s.mc f (as_format x)))
+                (sym can.found) fits_format;
+            private = old.private;
+          }))
+      named q y false is e = let old = w.namespaces q y e in
+          record { nsid = old.nsid; format = old.format; private = old.private }
+
+  -- ---- one after another
+
+  -- what has room keeps it
+  room_stays : (s : State) (n q size : ℕ) → is_below s size q ≡ false
+      → is_below (with_one s n) size q ≡ false
+  room_stays s n q size room = by (map_of.get s.namespaces n) refl
+    where
+      at_test : (x : Namespace) (b : Bool) → (q == n) ≡ b → map_of.get s.namespaces n ≡ Some x
+          → below size (cond b (Some (as_format x)) (map_of.get s.namespaces q)) ≡ false
+      at_test x true e found =
+          let here : q ≡ n = grind (arith, nat_tests) in
+          sym (ap (below size) (ap (map_of.get s.namespaces) here ∙ found)) ∙ room
+      at_test x false e found = room
+
+      by : (o : Option Namespace) → map_of.get s.namespaces n ≡ o → below size
+          (map_of.get
+          (option_map_or (λ x. map_of.insert s.namespaces n (as_format x)) o s.namespaces) q)
+          ≡ false
+      by None found = room
+      by (Some x) found = ap (below size) (get_of_insert s.namespaces n (as_format x) q)
+          ∙ at_test x (q == n) refl found
+
+  all_keep : (ns : List ℕ) (s : State) → CanHave s
+      → AllByRecursion (λ n. is_below s (2 ^ format.lbads) n ≡ false) ns → IsWellFormed s
+      → IsWellFormed (record s { namespaces = fold (with_format lbaf mset) s.namespaces ns })
+  all_keep [] s can room w = w
+  all_keep (n ∷ ns) s can room w =
+      all_keep ns (with_one s n) (record { found = can.found; extends = can.extends })
+      (rooms ns room.1) (one_keeps s n (map_of.get s.namespaces n) refl can room.0 w)
+    where
+      rooms : (ns : List ℕ) → AllByRecursion (λ n. is_below s (2 ^ format.lbads) n ≡ false) ns
+          → AllByRecursion (λ q. is_below (with_one s n) (2 ^ format.lbads) q ≡ false) ns
+      rooms [] h = tt
+      rooms (q ∷ qs) h = (room_stays s n q (2 ^ format.lbads) h.0, rooms qs h.1)
+
+none_passes : (p : ℕ → Bool) (ns : List ℕ) → list_any p ns ≡ false
+    → AllByRecursion (λ n. p n ≡ false) ns
+none_passes p [] h = tt
+none_passes p (n ∷ ns) h = both (p n) (list_any p ns) h (none_passes p ns)
+  where
+    both : (a b : Bool) → (a || b) ≡ false → (b ≡ false → AllByRecursion (λ n. p n ≡ false) ns)
+        → (a ≡ false) × AllByRecursion (λ n. p n ≡ false) ns
+    both true b h rest = absurd (cc h)
+    both false b h rest = (refl, rest h)
+
+-- ---- a format
+
+pub formatted_each : (lbaf : ℕ) (mset : Bool) (ns : List ℕ) (m : Namespaces)
+    → fold (with_format lbaf mset) m ns ≡ changed_at_keys ns (in_format lbaf mset) m
+formatted_each lbaf mset ns m =
+    folded nat_cmp_total nat_cmp-IsAntisymmetric (in_format lbaf mset) (λ x. refl) ns m
+
+format_by : (s : State) (ns : List ℕ) (f : NewFormat) (o : Option Format)
+    → slice_get s.formats f.lbaf ≡ o
+    → option_map_or (λ format. may_extend s.mc format f.mset) o false ≡ true
+    → option_map_or (λ format. list_any (is_below s (2 ^ format.lbads)) ns) o false ≡ false
+    → IsWellFormed s
+    → IsWellFormed
+    (record s { namespaces = changed_at_keys ns (in_format f.lbaf f.mset) s.namespaces })
+format_by s ns f None at can room w = absurd (cc can)
+format_by s ns f (Some format) at can room w =
+    subst (λ m. IsWellFormed (record s { namespaces = m }))
+    (formatted_each f.lbaf f.mset ns s.namespaces)
+    (all_keep format f.lbaf f.mset ns s (record { found = at; extends = can })
+    (none_passes (is_below s (2 ^ format.lbads)) ns room) w)
+
+pub format_keeps : (s : State) (c n : ℕ) (f : NewFormat) → IsWellFormed s
+    → first_refusal (format_rows s c n f) ≡ None → IsWellFormed (formatted s c n f)
+format_keeps s c n f w accepted =
+    let rows = none_holds (format_rows s c n f) accepted in
+    format_by s (concerned s c n) f (format_at s f.lbaf) refl
+    (not_false (can_have s f.lbaf f.mset) rows.1.1.0) rows.1.1.1.1.0 w

@@ -1,0 +1,110 @@
+-- What Identify says of a namespace fits its record.
+use Rattle.std.proofs.Common.{◌≡◌, ◌∙◌, ℕ, zero, suc, ◌+◌, ◌-◌, ◌/◌, ◌<◌, ◌≤◌, ◌^◌, refl, arith}
+use Rattle.std.proofs.Common.{lit<, true, false, List, [], ◌∷◌, ◌++◌, length, map, get_or, Option}
+use Rattle.std.proofs.Common.{Some, None}
+use Rattle.std.specs.Prelude.{All, replicate, slice_get, if◌then◌else◌}
+use Rattle.std.specs.List.{AllByRecursion}
+use Rattle.std.specs.Option.{option_map_or}
+use Rattle.std.proofs.lemmas.List.{length-append, length-map, length-replicate}
+use native.Mathlib.Nat.{div-le_self}
+use Rattle.nv_layout.specs.IdNs.{IdNsFits, LbafFits}
+use Rattle.nv_model.specs.Ranges.{IsFormat}
+use Rattle.nv_model.proofs.ChoiceLaws.{chosen_fits}
+use Rattle.nv_model.specs.Identify.{blank, common_of, id_ns_of, flbas_of, lbaf_of, lbafs_of}
+use Rattle.nv_model.specs.Identify.{no_lbaf}
+use Rattle.nv_model.specs.declared.format.Format.{Format}
+use Rattle.nv_model.specs.declared.namespace.Namespace.{Namespace}
+
+no_lbaf_fits : LbafFits no_lbaf
+no_lbaf_fits = record { ms = lit< tt; lbads = lit< tt; rp = lit< tt }
+
+blanks_fit : (n : ℕ) → AllByRecursion LbafFits (replicate n no_lbaf)
+blanks_fit zero = tt
+blanks_fit (suc n) = (no_lbaf_fits, blanks_fit n)
+
+formats_fit : (fs : List Format) (n : ℕ) → All IsFormat fs → AllByRecursion LbafFits (map lbaf_of fs
+    ++ replicate n no_lbaf)
+formats_fit [] n h = blanks_fit n
+formats_fit (f ∷ fs) n h =
+    let at : IsFormat f = h 0 f (omega arith) in (
+      record {
+        ms = omega (arith, at.ms);
+        lbads = omega (arith, at.lbads.1);
+        rp = omega (arith, at.rp);
+      },
+      formats_fit fs n (λ k d l. let later : IsFormat (get_or fs k d) = h (suc k) d (omega arith) in
+          later),
+    )
+
+length_lbafs : (fs : List Format) → length fs ≤ 16 → length (lbafs_of fs) ≡ 16
+length_lbafs fs h = length-append (map lbaf_of fs) (replicate (16 - length fs) no_lbaf)
+    ∙ (let a = length-map fs lbaf_of in let b = length-replicate (16 - length fs) no_lbaf in
+    omega (arith, a, b))
+
+pub blank_fits : IdNsFits blank
+blank_fits = record {
+  nsze = lit< tt;
+  ncap = lit< tt;
+  nuse = lit< tt;
+  nsfeat = lit< tt;
+  nlbaf = lit< tt;
+  flbas = lit< tt;
+  mc = lit< tt;
+  dpc = lit< tt;
+  dps = lit< tt;
+  nmic = lit< tt;
+  nvmcap = lit< tt;
+  formats = refl;
+  each_format = blanks_fit 16;
+}
+
+pub common_fits : (fs : List Format) (mc : ℕ) → mc ≤ 3 → length fs ≤ 16 → All IsFormat fs
+    → IdNsFits (common_of fs mc)
+common_fits fs mc m few h = record {
+  nsze = lit< tt;
+  ncap = lit< tt;
+  nuse = lit< tt;
+  nsfeat = lit< tt;
+  nlbaf = omega arith;
+  flbas = lit< tt;
+  mc = omega arith;
+  dpc = lit< tt;
+  dps = lit< tt;
+  nmic = lit< tt;
+  nvmcap = lit< tt;
+  formats = length_lbafs fs few;
+  each_format = formats_fit fs (16 - length fs) h;
+}
+
+blocks_of : (o : Option Format) (capacity : ℕ) → capacity < 2 ^ 64
+    → option_map_or (λ f. capacity / 2 ^ f.lbads) o 0 < 2 ^ 64
+blocks_of None capacity h = lit< tt
+blocks_of (Some f) capacity h = omega (arith, div-le_self capacity (2 ^ f.lbads))
+
+flbas_fits : (x : Namespace) → x.format < 16 → flbas_of x < 2 ^ 8
+flbas_fits x h = elim x.extended as (λ b. x.format + (if b then 16 else 0) < 2 ^ 8) [
+  | true
+      ↦ omega arith
+  | false ↦ omega arith
+]
+
+pub id_ns_fits : (fs : List Format) (mc : ℕ) (x : Namespace) → mc ≤ 3 → length fs ≤ 16
+    → All IsFormat fs → x.format < 16 → x.capacity < 2 ^ 64 → IdNsFits (id_ns_of fs mc x)
+id_ns_fits fs mc x m few h f c =
+    let common = common_fits fs mc m few h in
+    let size = blocks_of (slice_get fs x.format) x.capacity c in
+    record {
+      nsze = size;
+      ncap = size;
+      nuse = common.nuse;
+      nsfeat = common.nsfeat;
+      nlbaf = common.nlbaf;
+      flbas = flbas_fits x f;
+      mc = common.mc;
+      dpc = common.dpc;
+      dps = common.dps;
+      nmic = chosen_fits (λ n. n < 2 ^ 8) x.shared 1 0 (lit< tt) (lit< tt);
+      nvmcap = omega arith;
+      formats = common.formats;
+      each_format = common.each_format;
+    }

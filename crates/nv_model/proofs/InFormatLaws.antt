@@ -1,0 +1,24 @@
+-- A namespace in its format.
+use Rattle.std.proofs.Common.{◌≡◌, ℕ, ◌<◌, ◌^◌, arith, refl, List, length, Option, Some, None}
+use Rattle.std.specs.Prelude.{IsSomeAnd, slice_get}
+use Rattle.std.proofs.lemmas.Option.{slice_get_within}
+use Rattle.nv_model.specs.Ranges.{IsInFormat}
+use Rattle.nv_model.specs.declared.format.Format.{Format}
+use Rattle.nv_model.specs.declared.namespace.Namespace.{Namespace}
+
+some_within : (fs : List Format) (i : ℕ) (P : Format → Type 0) (o : Option Format) → slice_get fs i
+    ≡ o → IsSomeAnd o P → i < length fs
+some_within fs i P None e h = absurd h
+some_within fs i P (Some f) e h = slice_get_within fs i f e
+
+-- it names a format of the table
+pub format_below : (mc : ℕ) (x : Namespace) (fs : List Format) → IsSomeAnd (slice_get fs x.format)
+    (λ f. IsInFormat mc f x) → x.format < length fs
+format_below mc x fs h =
+    some_within fs x.format (λ f. IsInFormat mc f x) (slice_get fs x.format) refl h
+
+-- its capacity fits its field
+pub capacity_fits : (mc : ℕ) (x : Namespace) (o : Option Format)
+    → IsSomeAnd o (λ f. IsInFormat mc f x) → x.capacity < 2 ^ 64
+capacity_fits mc x None h = absurd h
+capacity_fits mc x (Some f) h = omega (arith, h.capacity.1)

@@ -1,0 +1,96 @@
+-- The refusals of a Get Log Page have a status, and the logs fit their records.
+use Rattle.std.proofs.Common.{rules, ◌≡◌, ℕ, zero, suc, ◌+◌, ◌-◌, ◌^◌, refl, arith, lit<, List, []}
+use Rattle.std.proofs.Common.{◌∷◌, ◌++◌, length, get_or, Option, Some, None}
+use Rattle.std.specs.Prelude.{All, replicate}
+use Rattle.std.specs.List.{AllByRecursion}
+use Rattle.std.specs.Option.{option_map_or}
+use Rattle.std.proofs.lemmas.List.{length-append, length-replicate}
+use Rattle.nv_layout.specs.ErrorEntry.{ErrorEntryFits, no_entry}
+use Rattle.nv_layout.proofs.LogLaws.{no_entry_fits}
+use Rattle.nv_layout.proofs.PartLaws.{all_below}
+use Rattle.nv_layout.specs.Smart.{SmartFits}
+use Rattle.nv_layout.specs.declared.error_entry.ErrorEntry.{ErrorEntry}
+use Rattle.nv_command.proofs.RefusalLaws.{is_refusal-refusal_by}
+use Rattle.nv_command.specs.Reply.{IsEntryList}
+use Rattle.nv_model.specs.Logs.{errors_of, log_rows, no_health, smart_of}
+use Rattle.nv_model.proofs.ManagementLaws.{AllRefuse}
+use Rattle.nv_model.specs.State.{Controller, Namespaces, State}
+use Rattle.nv_model.specs.WellFormed.{IsController}
+
+pub log_rows_fit : (s : State) (c lid n offset : ℕ) → AllRefuse (log_rows s c lid n offset)
+log_rows_fit s c lid n offset = search (rules, is_refusal-refusal_by)
+
+entries_fit : (es : List ErrorEntry) (n : ℕ) → All ErrorEntryFits es
+    → AllByRecursion ErrorEntryFits (es ++ replicate n no_entry)
+entries_fit [] zero all = tt
+entries_fit [] (suc n) all = (no_entry_fits, entries_fit [] n all)
+entries_fit (e ∷ es) n all = (
+  all 0 e (omega arith),
+  entries_fit es n (λ k d l. let later : ErrorEntryFits (get_or es k d) =
+      all (suc k) d (omega arith) in later),
+)
+
+module _ (ns : Namespaces) where
+  pub errors_fit : (o : Option Controller) → ((x : Controller) → o ≡ Some x → IsController ns x)
+      → IsEntryList (option_map_or errors_of o (no_entry ∷ []))
+  errors_fit None is = record { some = lit< tt; count = omega arith; entries = (no_entry_fits, tt) }
+  errors_fit (Some x) is =
+      let c = is x refl in
+      let more = x.identity.numbers.elpe + 1 - length x.log in
+      let whole = length-append x.log (replicate more no_entry) in
+      let rest = length-replicate more no_entry in
+      record {
+        some = omega (arith, c.log);
+        count = omega (arith, c.log, c.identity.numbers.elpe);
+        entries = entries_fit x.log more c.entries;
+      }
+
+  pub smart_fits : (o : Option Controller) → ((x : Controller) → o ≡ Some x → IsController ns x)
+      → SmartFits (option_map_or smart_of o no_health)
+  smart_fits None is = record {
+    critical_warning = lit< tt;
+    temperature = lit< tt;
+    avail_spare = lit< tt;
+    spare_thresh = lit< tt;
+    percent_used = lit< tt;
+    data_units_read = lit< tt;
+    data_units_written = lit< tt;
+    host_read_commands = lit< tt;
+    host_write_commands = lit< tt;
+    controller_busy_time = lit< tt;
+    power_cycles = lit< tt;
+    power_on_hours = lit< tt;
+    unsafe_shutdowns = lit< tt;
+    media_errors = lit< tt;
+    num_err_log_entries = lit< tt;
+    warning_temp_time = lit< tt;
+    critical_comp_time = lit< tt;
+    sensor_count = refl;
+    each_sensor = search rules;
+  }
+  smart_fits (Some x) is =
+      let c = is x refl in
+      let s = c.smart in
+      let n = s.counters in
+      record {
+        critical_warning = omega (arith, s.critical_warning);
+        temperature = omega (arith, s.temperature);
+        avail_spare = omega (arith, s.avail_spare);
+        spare_thresh = omega (arith, s.spare_thresh);
+        percent_used = omega (arith, s.percent_used);
+        data_units_read = omega (arith, n.data_units_read);
+        data_units_written = omega (arith, n.data_units_written);
+        host_read_commands = omega (arith, n.host_read_commands);
+        host_write_commands = omega (arith, n.host_write_commands);
+        controller_busy_time = omega (arith, n.controller_busy_time);
+        power_cycles = omega (arith, n.power_cycles);
+        power_on_hours = omega (arith, n.power_on_hours);
+        unsafe_shutdowns = omega (arith, n.unsafe_shutdowns);
+        media_errors = omega (arith, n.media_errors);
+        num_err_log_entries = omega (arith, c.refusals);
+        warning_temp_time = omega (arith, s.warning_temp_time);
+        critical_comp_time = omega (arith, s.critical_comp_time);
+        sensor_count = s.sensors.0;
+        each_sensor = all_below (2 ^ 16) x.smart.sensors
+            (λ k h. let few = s.sensors.1 k 0 h in omega (arith, few));
+      }

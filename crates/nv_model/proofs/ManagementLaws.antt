@@ -1,0 +1,350 @@
+-- A create and a delete leave a well-formed subsystem well formed.
+use Rattle.std.proofs.Common.{rules, ◌≡◌, ◌≢◌, ◌∙◌, ℕ, zero, suc, ◌+◌, ◌*◌, ◌-◌, ◌==◌, ◌<◌, ◌≤◌}
+use Rattle.std.proofs.Common.{◌^◌, ◌||◌, ◌&&◌, Bool, true, false, not, cond, List, [], ◌∷◌, length}
+use Rattle.std.proofs.Common.{Option, Some, None, is_some, bit_and, nat_lt, refl, sym, ap, subst}
+use Rattle.std.proofs.Common.{arith, lit<}
+use Rattle.std.specs.Prelude.{IsSomeAnd, count_by, if◌then◌else◌, unwrap_or}
+use Rattle.std.specs.List.{AllByRecursion, find, range_with_len}
+use Rattle.std.specs.Option.{option_map_or}
+use Rattle.std.specs.FinMap as map_of
+use Rattle.std.specs.FinMap.{get-empty}
+use Rattle.std.specs.Ordering.{nat_cmp}
+use Rattle.std.proofs.lemmas.Bool.Decides.{nat_tests}
+use Rattle.std.proofs.lemmas.List.{length-map}
+use Rattle.std.proofs.lemmas.List.Elements.{All-map, All-weaker}
+use Rattle.nv_bits.specs.Numbers.{NumberMap}
+use Rattle.nv_bits.proofs.NumberLaws.{contains-insert, contains-remove, get_of_insert, get_of_remove}
+use Rattle.nv_bits.proofs.NumberLaws.{remove_absent}
+use Rattle.nv_model.specs.Ranges.{IsInFormat}
+use Rattle.nv_model.specs.Formats.{may_extend}
+use Rattle.nv_model.specs.declared.format.Format.{Format}
+use Rattle.nv_model.specs.declared.namespace.Namespace.{Namespace}
+use Rattle.nv_command.specs.Refusal.{IsRefusal}
+use Rattle.nv_command.proofs.RefusalLaws.{is_refusal-refusal_by}
+use Rattle.nv_command.specs.declared.command.TheConstants.{BROADCAST_NSID}
+use Rattle.nv_command.specs.declared.status_code.StatusCode.TheVariants.{NamespaceInsufficientCapacity}
+use Rattle.nv_model.specs.Capacity.{unallocated, used}
+use Rattle.nv_model.proofs.ChoiceLaws.{not_false}
+use Rattle.nv_model.specs.Formats.{format_at}
+use Rattle.nv_model.specs.Management.{Attached, bytes_needed, capacity_refusal, create_rows}
+use Rattle.nv_model.specs.Management.{created, created_nsid, delete_rows, deleted, format_index}
+use Rattle.nv_model.specs.Management.{is_extended, new_namespace, with_attached, with_nsids}
+use Rattle.nv_model.specs.Management.{without, without_all, without_any, without_one}
+use Rattle.nv_model.proofs.FeatureLaws.{values-without, values-without_any}
+use Rattle.nv_model.proofs.MappedLaws.{count_by-map_le, none_pass, pairs_map, untrue}
+use Rattle.nv_model.specs.Nsid.{free_nsid, is_allocated}
+use Rattle.nv_model.specs.Row.{first_refusal}
+use Rattle.nv_model.specs.State.{Controller, Namespaces, State}
+use Rattle.nv_model.proofs.UsedLaws.{used-empty, used-insert, used-remove}
+use Rattle.nv_model.specs.WellFormed.{AreValues, IsController, IsNamespace, IsWellFormed}
+use Rattle.nv_model.specs.declared.new_namespace.NewNamespace.{NewNamespace}
+use Rattle.nv_model.specs.declared.row.Row.{Row}
+
+-- ---- rows
+
+-- where none refuses, the condition of none holds
+pub none_holds : (rows : List Row) → first_refusal rows ≡ None
+    → AllByRecursion (λ r. r.when ≡ false) rows
+none_holds [] e = tt
+none_holds (r ∷ rows) e = at_test r.when refl e (none_holds rows)
+  where
+    at_test : (b : Bool) → r.when ≡ b → (if b then Some r.refusal else first_refusal rows) ≡ None
+        → (first_refusal rows ≡ None → AllByRecursion (λ r. r.when ≡ false) rows)
+        → (r.when ≡ false) × AllByRecursion (λ r. r.when ≡ false) rows
+    at_test true h e rest = absurd (cc e)
+    at_test false h e rest = (h, rest e)
+
+capacity_refused : (bytes : ℕ) → IsRefusal (capacity_refusal bytes)
+capacity_refused bytes =
+    let is = is_refusal-refusal_by NamespaceInsufficientCapacity in
+    record { status = is.status; fails = is.fails; specific = omega arith }
+
+-- what rows have to be, so that a refusal by one of them is a refusal
+abbrev pub AllRefuse : List Row → Type 0
+AllRefuse rows = AllByRecursion (λ row. IsRefusal row.refusal) rows
+
+pub create_rows_fit : (s : State) (w : NewNamespace) → AllRefuse (create_rows s w)
+create_rows_fit s w = search (rules, is_refusal-refusal_by, capacity_refused) depth 12
+
+pub delete_rows_fit : (s : State) (n : ℕ) → AllRefuse (delete_rows s n)
+delete_rows_fit s n = search (rules, is_refusal-refusal_by)
+
+-- ---- the least free NSID
+
+-- the first of a range that passes a test is of the range, and passes
+first_of : (p : ℕ → Bool) (first count n : ℕ) → find p (range_with_len first count) ≡ Some n
+    → ((first ≤ n) × (n < first + count)) × (p n ≡ true)
+first_of p first zero n e = absurd (cc e)
+first_of p first (suc count) n e = at_test (p first) refl e (first_of p (first + 1) count n)
+  where
+    at_test : (b : Bool) → p first ≡ b → cond b (Some first)
+        (find p (range_with_len (first + 1) count)) ≡ Some n
+        → (find p (range_with_len (first + 1) count) ≡ Some n
+        → ((first + 1 ≤ n) × (n < first + 1 + count)) × (p n ≡ true))
+        → ((first ≤ n) × (n < first + suc count)) × (p n ≡ true)
+    at_test true h e rest = let same : first ≡ n = cc e in
+        ((omega arith, omega arith), subst (λ m. p m ≡ true) same h)
+    at_test false h e rest = let r = rest e in ((omega (arith, r.0.0), omega (arith, r.0.1)), r.1)
+
+pub free_is : (s : State) (n : ℕ) → free_nsid s ≡ Some n
+    → ((1 ≤ n) × (n ≤ s.nn)) × (is_allocated s n ≡ false)
+free_is s n e =
+    let is = first_of (λ q. not (is_allocated s q)) 1 s.nn n e in
+    ((is.0.0, omega (arith, is.0.1)), not_true (is_allocated s n) is.1)
+  where
+    not_true : (b : Bool) → not b ≡ true → b ≡ false
+    not_true true h = absurd (cc h)
+    not_true false h = refl
+
+pub created_nsid_fits : (s : State) → s.nn ≤ 1024 → created_nsid s < 2 ^ 32
+created_nsid_fits s h = by (free_nsid s) refl
+  where
+    by : (o : Option ℕ) → free_nsid s ≡ o → unwrap_or o 0 < 2 ^ 32
+    by None e = lit< tt
+    by (Some n) e = omega (arith, (free_is s n e).0.1)
+
+-- ---- create
+
+none_of : (o : Option Namespace) → is_some o ≡ false → o ≡ None
+none_of None e = refl
+none_of (Some x) e = absurd (cc e)
+
+-- what lets metadata lie at the end of logical blocks
+pub extends_by : (ms mc : ℕ) (e : Bool) → (not e || (nat_lt 0 ms && (bit_and mc 1 == 1))) ≡ true
+    → e ≡ true
+    → (0 < ms) × (bit_and mc 1 ≡ 1)
+extends_by ms mc true h e = grind (arith, nat_tests)
+extends_by ms mc false h e = absurd (cc e)
+
+some_blocks : (n b : ℕ) → 0 < n → b ≤ n * b
+some_blocks n b h = grind arith
+
+-- the new namespace is in its format
+in_format : (mc bytes nsze format : ℕ) (extended shared : Bool) (o : Option Format)
+    → not (option_map_or (λ f. may_extend mc f extended) o false) ≡ false → 0 < nsze
+    → option_map_or (λ f. nsze * 2 ^ f.lbads) o 0 ≡ bytes → bytes ≤ 2 ^ 63 - 1
+    → IsSomeAnd o (λ f. IsInFormat mc f
+    (record { capacity = bytes; format = format; extended = extended; shared = shared }))
+in_format mc bytes nsze format extended shared None h some is few = absurd (cc h)
+in_format mc bytes nsze format extended shared (Some f) h some is few =
+    let can : may_extend mc f extended ≡ true = not_false (may_extend mc f extended) h in
+    record {
+      capacity = (omega (arith, some_blocks nsze (2 ^ f.lbads) some), omega arith);
+      extended = extends_by f.ms mc extended can;
+    }
+
+-- no controller has an NSID attached that no namespace has
+none_attached : (s : State) (n : ℕ) → IsWellFormed s → is_allocated s n ≡ false
+    → count_by (λ c. map_of.contains_key c.attached n) s.controllers ≡ 0
+none_attached s n w free =
+    none_pass (λ c. map_of.contains_key c.attached n) s.controllers
+    (All-weaker (IsController s.namespaces) (λ c. map_of.contains_key c.attached n ≡ false)
+    (λ c is. untrue (map_of.contains_key c.attached n)
+    (λ t. let both : true ≡ false = sym (is.attached n t) ∙ free in absurd (cc both))) s.controllers
+    w.controllers)
+
+create_by : (s : State) (w : NewNamespace) (o : Option ℕ) → free_nsid s ≡ o → IsWellFormed s
+    → first_refusal (create_rows s w) ≡ None
+    → IsWellFormed (option_map_or
+    (λ n. record s { namespaces = map_of.insert s.namespaces n (new_namespace s w) }) o s)
+create_by s w None e well accepted = well
+create_by s w (Some n) e well accepted =
+    let free = free_is s n e in
+    let rows = none_holds (create_rows s w) accepted in
+    let x = new_namespace s w in
+    let fits : bytes_needed s w ≤ unallocated s = room rows.1.1.1.1.1.1.1.0 in
+    let some : 0 < w.nsze = blocks rows.1.1.0 in
+    let to : Namespaces = map_of.insert s.namespaces n x in
+    record {
+      keys = well.keys;
+      format_count = well.format_count;
+      formats = well.formats;
+      controller_count = well.controller_count;
+      controllers = All-weaker (IsController s.namespaces) (IsController to)
+          (λ c is. record {
+            identity = is.identity;
+            rules = is.rules;
+            smart = is.smart;
+            log = is.log;
+            entries = is.entries;
+            refusals = is.refusals;
+            commands = is.commands;
+            attached = λ q t. contains-insert s.namespaces n x q ∙ kept (q == n) (is.attached q t);
+            values = is.values;
+          }) s.controllers well.controllers;
+      cntlids = well.cntlids;
+      namespaces = λ q y at. named q y (q == n) refl (sym (get_of_insert s.namespaces n x q) ∙ at);
+      capacities = omega (
+        arith,
+        fits,
+        used-insert s.namespaces n x
+            (none_of (map_of.get s.namespaces n) free.1),
+        well.capacities,
+      );
+    }
+  where
+    room : nat_lt (unallocated s) (bytes_needed s w) ≡ false → bytes_needed s w ≤ unallocated s
+    room h = grind (arith, nat_tests)
+
+    blocks : (w.nsze == 0) ≡ false → 0 < w.nsze
+    blocks h = grind (arith, nat_tests)
+
+    kept : (b : Bool) {t : Bool} → t ≡ true → cond b true t ≡ true
+    kept true h = refl
+    kept false h = h
+
+    named : (q : ℕ) (y : Namespace) (t : Bool) → (q == n) ≡ t
+        → cond t (Some (new_namespace s w)) (map_of.get s.namespaces q) ≡ Some y
+        → IsNamespace
+        (record s { namespaces = map_of.insert s.namespaces n (new_namespace s w) }) q y
+    named q y true is at =
+        let here : q ≡ n = grind (arith, nat_tests) in
+        let same : new_namespace s w ≡ y = cc at in
+        let free = free_is s n e in
+        let rows = none_holds (create_rows s w) accepted in
+        let fits = room rows.1.1.1.1.1.1.1.0 in
+        subst (IsNamespace _ q) same (record {
+          nsid = (omega (arith, free.0.0), omega (arith, free.0.1));
+          format = in_format s.mc (bytes_needed s w) w.nsze (bit_and w.flbas 0xf)
+              (is_extended w.flbas) (new_namespace s w).shared (format_at s (format_index w.flbas))
+              rows.0
+              (blocks rows.1.1.0) refl (omega (arith, fits, well.keys.tnvmcap));
+          private = λ p. omega (arith, none_attached s q well (ap (is_allocated s) here ∙ free.1));
+        })
+    named q y false is at = let old = well.namespaces q y at in
+        record { nsid = old.nsid; format = old.format; private = old.private }
+
+pub create_keeps : (s : State) (w : NewNamespace) → IsWellFormed s
+    → first_refusal (create_rows s w) ≡ None → IsWellFormed (created s w)
+create_keeps s w well accepted = create_by s w (free_nsid s) refl well accepted
+
+-- ---- delete
+
+-- other attachments, of namespaces that are there
+pub record AreAttached (s : State) (change : Controller → Attached) (to : Namespaces) : Type 0 where
+  pub allocated : (x : Controller) → IsController s.namespaces x → (n : ℕ)
+      → map_of.contains_key (change x).nsids n ≡ true → map_of.contains_key to n ≡ true
+  pub values : (x : Controller) → IsController s.namespaces x
+      → AreValues x.rules x.identity.numbers.vwc (change x).nsids (change x).values
+  pub namespaces : (n : ℕ) (x : Namespace) → map_of.get to n ≡ Some x
+      → IsNamespace (record (with_attached s change) { namespaces = to }) n x
+  pub capacities : used to ≤ s.tnvmcap
+
+pub attached_keep : (s : State) (change : Controller → Attached) (to : Namespaces) → IsWellFormed s
+    → AreAttached s change to → IsWellFormed (record (with_attached s change) { namespaces = to })
+attached_keep s change to w are = record {
+  keys = w.keys;
+  format_count = w.format_count;
+  formats = w.formats;
+  controller_count = subst (λ n. (1 ≤ n) × (n ≤ 16))
+      (sym (length-map s.controllers (with_nsids change))) w.controller_count;
+  controllers = All-map (IsController to) (with_nsids change) s.controllers
+      (All-weaker (IsController s.namespaces) (λ x. IsController to (with_nsids change x))
+      (λ x is. record {
+        identity = is.identity;
+        rules = is.rules;
+        smart = is.smart;
+        log = is.log;
+        entries = is.entries;
+        refusals = is.refusals;
+        commands = is.commands;
+        attached = are.allocated x is;
+        values = are.values x is;
+      })
+      s.controllers w.controllers);
+  cntlids = pairs_map (λ x y. x.identity.cntlid ≢ y.identity.cntlid)
+      (with_nsids change) s.controllers w.cntlids;
+  namespaces = are.namespaces;
+  capacities = are.capacities;
+}
+
+-- a number that is left after a removal was there, and is another
+pub left : {A : Type 0} (m : NumberMap A) (n q : ℕ) → map_of.contains_key (map_of.remove m n) q
+    ≡ true → ((q == n) ≡ false) × (map_of.contains_key m q ≡ true)
+left m n q t = at_test (q == n) refl (sym (contains-remove m n q) ∙ t)
+  where
+    at_test : (b : Bool) → (q == n) ≡ b → cond b false (map_of.contains_key m q) ≡ true
+        → ((q == n) ≡ false) × (map_of.contains_key m q ≡ true)
+    at_test true h e = absurd (cc e)
+    at_test false h e = (h, e)
+
+used-remove_le : (m : Namespaces) (n : ℕ) (o : Option Namespace) → map_of.get m n ≡ o
+    → used (map_of.remove m n) ≤ used m
+used-remove_le m n None e = let same = ap used (remove_absent m n (ap is_some e)) in omega arith
+used-remove_le m n (Some x) e = omega (arith, used-remove m n x e)
+
+one_keeps : (s : State) (n : ℕ) → IsWellFormed s → IsWellFormed (without_one s n)
+one_keeps s n w = attached_keep s (without n) (map_of.remove s.namespaces n) w
+    (record {
+      allocated = λ x is q t. let l = left x.attached n q t in contains-remove s.namespaces n q
+          ∙ ap (λ b. cond b false (map_of.contains_key s.namespaces q)) l.0 ∙ is.attached q l.1;
+      values = λ x is.
+          values-without x.rules x.identity.numbers.vwc x.attached x.values is.values n;
+      namespaces = λ q x e.
+          let l = left s.namespaces n q (ap is_some e) in
+          let old = w.namespaces q x (sym (ap (λ b. cond b None (map_of.get s.namespaces q)) l.0)
+          ∙ sym (get_of_remove s.namespaces n q) ∙ e) in
+          record {
+            nsid = old.nsid;
+            format = old.format;
+            private = λ p. omega (
+              arith,
+              old.private p,
+              count_by-map_le (λ (c : Controller). map_of.contains_key c.attached q)
+                  (with_nsids (without n)) (λ c. map_of.contains_key c.attached q)
+                  (λ c t. (left c.attached n q t).1) s.controllers,
+            );
+          };
+      capacities = omega (
+        arith,
+        used-remove_le s.namespaces n (map_of.get s.namespaces n) refl,
+        w.capacities,
+      );
+    })
+
+all_keep : (s : State) → IsWellFormed s → IsWellFormed (without_all s)
+all_keep s w = attached_keep s without_any map_of.empty w (record {
+  allocated = λ x is q t. let both : true ≡ false = sym t
+      ∙ ap is_some (get-empty nat_cmp q) in absurd (cc both);
+  values = λ x is. values-without_any x.rules x.identity.numbers.vwc x.attached x.values is.values
+      (no_first x is (map_of.contains_key x.attached 0) refl);
+  namespaces = λ q x e. let both : None ≡ Some x = sym (get-empty nat_cmp q)
+      ∙ e in absurd (cc both);
+  capacities = omega (arith, used-empty);
+})
+  where
+    is_first : (o : Option Namespace) → map_of.get s.namespaces 0 ≡ o → is_some o ≡ true → ⊥
+    is_first None e t = cc t
+    is_first (Some x) e t = absurd (omega (arith, (w.namespaces 0 x e).nsid.0))
+
+    -- NSIDs begin at 1
+    no_first : (x : Controller) → IsController s.namespaces x → (b : Bool)
+        → map_of.contains_key x.attached 0 ≡ b → b ≡ false
+    no_first x is true e =
+        absurd (is_first (map_of.get s.namespaces 0) refl (is.attached 0 e))
+    no_first x is false e = refl
+
+pub delete_keeps : (s : State) (n : ℕ) → IsWellFormed s → IsWellFormed (deleted s n)
+delete_keeps s n w = elim (n == BROADCAST_NSID) as (λ b. IsWellFormed
+    (if b then without_all s else without_one s n))
+    [ true ↦ all_keep s w | false ↦ one_keeps s n w ]
+
+pub created_controllers : (s : State) (w : NewNamespace) → length (created s w).controllers
+    ≡ length s.controllers
+created_controllers s w = by (free_nsid s)
+  where
+    by : (o : Option ℕ) → length
+        (option_map_or (λ n. record s
+        { namespaces = map_of.insert s.namespaces n (new_namespace s w) }) o s).controllers
+        ≡ length s.controllers
+    by None = refl
+    by (Some n) = refl
+
+pub deleted_controllers : (s : State) (n : ℕ) → length (deleted s n).controllers
+    ≡ length s.controllers
+deleted_controllers s n = elim (n == BROADCAST_NSID) as
+    (λ b. length (if b then without_all s else without_one s n).controllers
+    ≡ length s.controllers) [
+      | true ↦ length-map s.controllers (with_nsids without_any)
+      | false ↦ length-map s.controllers (with_nsids (without n))
+    ]

@@ -1,0 +1,198 @@
+-- A reset leaves a well-formed subsystem well formed, and makes and takes no controller.
+use Rattle.std.proofs.Common.{◌≡◌, ◌∙◌, ℕ, zero, suc, ◌+◌, ◌&&◌, Bool, true, false, cond, List, []}
+use Rattle.std.proofs.Common.{◌∷◌, map, length, Option, Some, None, is_some, refl, sym, ap, subst}
+use Rattle.std.proofs.Common.{arith}
+use Rattle.std.proofs.Math.Numerals.{suc-eq-add-one}
+use Rattle.std.proofs.lemmas.Bool.{and_parts}
+use Rattle.std.specs.Prelude.{option_map, replicate, slice_index_or, unwrap_or, if◌then◌else◌}
+use Rattle.std.specs.List.{fold, range_with_len}
+use Rattle.std.specs.Option.{option_map_or}
+use Rattle.std.specs.FinMap as map_of
+use Rattle.std.specs.FinMap.{find, get-entries, get-from_entries}
+use Rattle.nv_layout.specs.Feature.{feature_of, is_value}
+use Rattle.nv_layout.proofs.FeatureTableLaws.{feature_with}
+use Rattle.nv_layout.specs.declared.feature.Feature.{Feature}
+use Rattle.nv_model.proofs.ChangedAtLaws.{length-changed_at}
+use Rattle.nv_model.proofs.FeatureLaws.{AreSound, default_is_sound}
+use Rattle.nv_model.specs.FeatureRules.{FeatureRules, first_value, rule_for, rule_of}
+use Rattle.nv_model.specs.FeatureValue.{default_of, restored}
+use Rattle.nv_model.proofs.KeepingLaws.{Keeps, keeps}
+use Rattle.nv_model.specs.Reset.{all_restored, reset, reset_if, reset_where, with_restored}
+use Rattle.nv_model.specs.State.{State}
+use Rattle.nv_model.specs.ValueKey.{FeatureValues, ValueKey, key_cmp}
+use Rattle.nv_model.proofs.ValueLaws.{is_key, key_cmp_total, same_key}
+use Rattle.nv_model.specs.WellFormed.{AreRules, IsWellFormed, is_value_at, may_have}
+use Rattle.nv_model.specs.declared.feature_value.FeatureValue.{FeatureValue}
+
+-- ---- what each key has
+
+found : (g : ValueKey → FeatureValue → FeatureValue) (es : List (ValueKey × FeatureValue))
+    (k : ValueKey)
+    → find key_cmp k (map (λ e. (e.0, g e.0 e.1)) es) ≡ option_map (g k) (find key_cmp k es)
+found g [] k = refl
+found g (e ∷ es) k = at_test (is_key k e.0) _ _ refl (found g es k)
+  where
+    at_test : (b : Bool) (o p : Option FeatureValue) → is_key k e.0 ≡ b → o ≡ option_map (g k) p
+        → cond b (Some (g e.0 e.1)) o ≡ option_map (g k) (cond b (Some e.1) p)
+    at_test true o p same later = ap (λ q. Some (g q e.1)) (sym (same_key k e.0 same))
+    at_test false o p same later = later
+
+pub get-all_restored : (rules : FeatureRules) (values : FeatureValues) (k : ValueKey)
+    → map_of.get (all_restored rules values) k
+    ≡ option_map (restored (first_value rules k).current) (map_of.get values k)
+get-all_restored rules values k =
+    get-from_entries key_cmp_total _ k
+    ∙ found (λ q x. restored (first_value rules q).current x) (map_of.entries values) k
+    ∙ ap (option_map (restored (first_value rules k).current)) (sym (get-entries values k))
+
+-- ---- one controller
+
+has_restored : (d : ℕ) (o : Option FeatureValue) → is_some (option_map (restored d) o) ≡ is_some o
+has_restored d None = refl
+has_restored d (Some x) = refl
+
+module _ (rules : FeatureRules) (are : AreRules rules) where
+  -- a saved value was sound before, and a default is
+  current_is_sound : (f : Feature) (selector d : ℕ) (saved : Option ℕ)
+      → d ≡ default_of (rule_of rules f) selector
+      → option_map_or (is_value f) saved true ≡ true → is_value f (unwrap_or saved d) ≡ true
+  current_is_sound f selector d None is fits =
+      ap (is_value f) is ∙ default_is_sound rules are f selector
+  current_is_sound f selector d (Some v) is fits = fits
+
+  both : (a b : Bool) → a ≡ true → b ≡ true → (a && b) ≡ true
+  both a b e h = λ i. e i && h i
+
+  one_is_sound : (k : ValueKey) (x : FeatureValue) → is_value_at k x ≡ true
+      → is_value_at k (restored (first_value rules k).current x) ≡ true
+  one_is_sound k x fits = by (feature_of k.fid) refl fits
+    where
+      by : (o : Option Feature) → feature_of k.fid ≡ o
+          → option_map_or (λ f. may_have f x) o false ≡ true
+          → option_map_or (λ f. may_have f (restored (first_value rules k).current x)) o false
+          ≡ true
+      by None e fits = absurd (cc fits)
+      by (Some f) e fits =
+          let saved = (and_parts (is_value f x.current) _ fits).1 in
+          let is = ap (λ fid. default_of (rule_for rules fid) k.selector)
+          (feature_with k.fid f e) in
+          both _ _ (current_is_sound f k.selector _ x.saved is saved) saved
+
+  all_sound : (values : FeatureValues) → AreSound values → AreSound (all_restored rules values)
+  all_sound values sound k y e =
+      by (map_of.get values k) refl (sym (get-all_restored rules values k) ∙ e)
+    where
+      by : (o : Option FeatureValue) → map_of.get values k ≡ o
+          → option_map (restored (first_value rules k).current) o ≡ Some y
+          → is_value_at k y ≡ true
+      by None e is = absurd (cc is)
+      by (Some x) e is =
+          let same : restored (first_value rules k).current x ≡ y = cc is in
+          subst (λ z. is_value_at k z ≡ true) same (one_is_sound k x (sound k x e))
+
+restoring_keeps : Keeps with_restored
+restoring_keeps = record {
+  identity = λ x. refl;
+  attached = λ x. refl;
+  sound = λ s x h. record {
+    identity = h.identity;
+    rules = h.rules;
+    smart = h.smart;
+    log = h.log;
+    entries = h.entries;
+    refusals = h.refusals;
+    commands = h.commands;
+    attached = h.attached;
+    values = record {
+      keys = λ k. ap is_some (get-all_restored x.rules x.values k)
+          ∙ has_restored (first_value x.rules k).current (map_of.get x.values k)
+          ∙ h.values.keys k;
+      sound = all_sound x.rules h.rules x.values h.values.sound;
+    };
+  };
+}
+
+pub reset_keeps : (s : State) (c : ℕ) → IsWellFormed s → IsWellFormed (reset s c)
+reset_keeps s c w = keeps s c with_restored restoring_keeps w
+
+pub length-reset : (s : State) (c : ℕ) → length (reset s c).controllers ≡ length s.controllers
+length-reset s c = length-changed_at with_restored s.controllers c
+
+reset_if_keeps : (b : Bool) (s : State) (c : ℕ) → IsWellFormed s
+    → IsWellFormed (if b then reset s c else s)
+reset_if_keeps true s c w = reset_keeps s c w
+reset_if_keeps false s c w = w
+
+length-reset_if : (b : Bool) (s : State) (c : ℕ)
+    → length (if b then reset s c else s).controllers ≡ length s.controllers
+length-reset_if true s c = length-reset s c
+length-reset_if false s c = refl
+
+-- ---- the enabled ones of some controllers
+
+module _ (enabled : List Bool) where
+  each_keeps : (cs : List ℕ) (s : State) → IsWellFormed s
+      → IsWellFormed (fold (reset_if enabled) s cs)
+  each_keeps [] s w = w
+  each_keeps (c ∷ cs) s w = each_keeps cs (reset_if enabled s c)
+      (reset_if_keeps (slice_index_or enabled c false) s c w)
+
+  length-each : (cs : List ℕ) (s : State)
+      → length (fold (reset_if enabled) s cs).controllers ≡ length s.controllers
+  length-each [] s = refl
+  length-each (c ∷ cs) s = length-each cs (reset_if enabled s c)
+      ∙ length-reset_if (slice_index_or enabled c false) s c
+
+  -- where none is enabled
+  each_same : ((c : ℕ) → slice_index_or enabled c false ≡ false) → (cs : List ℕ) (s : State)
+      → fold (reset_if enabled) s cs ≡ s
+  each_same off [] s = refl
+  each_same off (c ∷ cs) s =
+      ap (λ b. fold (reset_if enabled) (if b then reset s c else s) cs) (off c)
+      ∙ each_same off cs s
+
+  pub reset_where_keeps : (s : State) → IsWellFormed s → IsWellFormed (reset_where enabled s)
+  reset_where_keeps s w = each_keeps (range_with_len 0 (length enabled)) s w
+
+  pub length-reset_where : (s : State)
+      → length (reset_where enabled s).controllers ≡ length s.controllers
+  length-reset_where s = length-each (range_with_len 0 (length enabled)) s
+
+  pub reset_nowhere : ((c : ℕ) → slice_index_or enabled c false ≡ false) → (s : State)
+      → reset_where enabled s ≡ s
+  reset_nowhere off s = each_same off (range_with_len 0 (length enabled)) s
+
+  -- ---- the enabled ones of the first n controllers, for a loop over all
+
+  abbrev pub reset_first : ℕ → State → State
+  reset_first n s = fold (reset_if enabled) s (range_with_len 0 n)
+
+  one_more : (a n : ℕ) (s : State) → fold (reset_if enabled) s (range_with_len a (suc n))
+      ≡ reset_if enabled (fold (reset_if enabled) s (range_with_len a n)) (a + n)
+  one_more a zero s = ap (reset_if enabled s) last
+    where
+      last : a ≡ a + 0
+      last = omega arith
+  one_more a (suc n) s = one_more (a + 1) n (reset_if enabled s a)
+      ∙ ap (reset_if enabled (fold (reset_if enabled) s (range_with_len a (suc n)))) last
+    where
+      last : (a + 1) + n ≡ a + suc n
+      last = omega arith
+
+  pub reset_first_more : (n : ℕ) (s : State)
+      → reset_first (n + 1) s ≡ reset_if enabled (reset_first n s) n
+  reset_first_more n s =
+      ap (λ m. reset_first m s) (sym (suc-eq-add-one n)) ∙ one_more 0 n s
+      ∙ ap (reset_if enabled (reset_first n s)) last
+    where
+      last : 0 + n ≡ n
+      last = omega arith
+
+-- before any controller is enabled
+pub reset_where_off : (n : ℕ) (s : State) → reset_where (replicate n false) s ≡ s
+reset_where_off n s = reset_nowhere (replicate n false) (off n) s
+  where
+    off : (n c : ℕ) → slice_index_or (replicate n false) c false ≡ false
+    off zero c = refl
+    off (suc n) zero = refl
+    off (suc n) (suc c) = off n c

@@ -1,0 +1,255 @@
+-- Get Features and Set Features leave a well-formed subsystem well formed, and their replies fit.
+use Rattle.std.proofs.Common.{rules, ◌≡◌, ◌∙◌, ℕ, ◌+◌, ◌==◌, ◌<◌, ◌^◌, ◌&&◌, Bool, true, false}
+use Rattle.std.proofs.Common.{List, [], ◌∷◌, length, Option, Some, None, is_some, refl, sym, ap}
+use Rattle.std.proofs.Common.{subst, lit<, map}
+use Rattle.std.specs.Prelude.{if◌then◌else◌, option_map, unwrap_or}
+use Rattle.std.specs.List.{fold}
+use Rattle.std.specs.Option.{option_map_or}
+use Rattle.std.specs.FinMap as map_of
+use Rattle.std.proofs.lemmas.Option.{get_or_from_slice_get, slice_get_within}
+use Rattle.nv_layout.specs.Feature.{feature_of, is_accepted, is_get_selector, is_value, row_of}
+use Rattle.nv_layout.specs.Feature.{selector_in, stored}
+use Rattle.nv_layout.proofs.FeatureTableLaws.{feature_at, stored_is_value, value_fits}
+use Rattle.nv_layout.specs.declared.feature.Feature.{Feature}
+use Rattle.nv_model.specs.declared.feature_rule.FeatureRule.{FeatureRule}
+use Rattle.nv_command.proofs.RefusalLaws.{is_refusal-refusal_by}
+use Rattle.nv_model.specs.Change.{changed, changed_at}
+use Rattle.nv_model.proofs.ChangedAtLaws.{length-changed_at}
+use Rattle.nv_model.proofs.ChoiceLaws.{chosen_fits, not_false}
+use Rattle.nv_model.proofs.FeatureLaws.{default_is_sound, sound_at, values-written}
+use Rattle.nv_model.specs.FeatureRules.{FeatureRules, rule_of}
+use Rattle.nv_model.specs.Features.{changed_nsids, feature_number, get_feature_rows}
+use Rattle.nv_model.specs.Features.{get_rows, is_set}
+use Rattle.nv_model.specs.Features.{selected, set_feature_rows, set_rows, supported_at, told}
+use Rattle.nv_model.specs.Features.{with_feature, with_value, with_values, write}
+use Rattle.nv_model.specs.FeatureValue.{default_of, written}
+use Rattle.nv_model.proofs.KeepingLaws.{Keeps, keeps}
+use Rattle.nv_model.proofs.ManagementLaws.{AllRefuse, none_holds}
+use Rattle.nv_command.specs.declared.status_code.StatusCode.TheVariants.{InvalidFieldInCommand}
+use Rattle.nv_model.specs.Row.{first_refusal, row}
+use Rattle.nv_model.specs.State.{Controller, Nsids, State, controller_at}
+use Rattle.nv_model.specs.State.{with_controller}
+use Rattle.nv_model.specs.Supported.{is_supported, supported}
+use Rattle.nv_model.specs.ValueKey.{FeatureValues, key_of}
+use Rattle.nv_model.proofs.ValueLaws.{put_back, removed_absent}
+use Rattle.nv_model.specs.WellFormed.{AreValues, IsController, IsWellFormed, is_value_at}
+use Rattle.nv_model.specs.WellFormed.{may_have}
+use Rattle.nv_model.specs.declared.feature_value.FeatureValue.{FeatureValue}
+use Rattle.nv_model.specs.declared.row.Row.{Row}
+
+-- ---- rows
+
+get_rows_fit : (s : State) (c sel n cdw11 : ℕ) (f : Feature)
+    → AllRefuse (get_rows s c sel n cdw11 f)
+get_rows_fit s c sel n cdw11 f = search (rules, is_refusal-refusal_by)
+
+set_rows_fit : (s : State) (c value : ℕ) (save : Bool) (n : ℕ) (f : Feature)
+    → AllRefuse (set_rows s c value save n f)
+set_rows_fit s c value save n f = search (rules, is_refusal-refusal_by)
+
+supported_rows_fit : (o : Option Feature) (rows : Feature → List Row) (others : List Row)
+    → ((f : Feature) → AllRefuse (rows f)) → AllRefuse others
+    → AllRefuse (option_map_or rows o others)
+supported_rows_fit None rows others fit other = other
+supported_rows_fit (Some f) rows others fit other = fit f
+
+pub get_feature_rows_fit : (s : State) (c fid sel n cdw11 : ℕ)
+    → AllRefuse (get_feature_rows s c fid sel n cdw11)
+get_feature_rows_fit s c fid sel n cdw11 =
+    supported_rows_fit (supported_at s c fid) (get_rows s c sel n cdw11) _
+    (get_rows_fit s c sel n cdw11) (search (rules, is_refusal-refusal_by))
+
+pub set_feature_rows_fit : (s : State) (c fid value : ℕ) (save : Bool) (n : ℕ)
+    → AllRefuse (set_feature_rows s c fid value save n)
+set_feature_rows_fit s c fid value save n =
+    supported_rows_fit (supported_at s c fid) (set_rows s c value save n) _
+    (set_rows_fit s c value save n) (search (rules, is_refusal-refusal_by))
+
+-- ---- a set
+
+and_parts : (a b : Bool) → (a && b) ≡ true → (a ≡ true) × (b ≡ true)
+and_parts true b e = (refl, e)
+and_parts false b e = absurd (cc e)
+
+-- what a feature may have, by a key of it
+sound_value : (f : Feature) (n s : ℕ) (x : FeatureValue) → is_value_at (key_of f n s) x ≡ true
+    → may_have f x ≡ true
+sound_value f n s x e =
+    sym (ap (λ o. option_map_or (λ g. may_have g x) o false) (feature_at f)) ∙ e
+
+may_have_written : (f : Feature) (value : ℕ) (save : Bool) (x : FeatureValue)
+    → is_value f value ≡ true
+    → may_have f x ≡ true → may_have f (written value save x) ≡ true
+may_have_written f value true x fits e = rw fits refl
+may_have_written f value false x fits e = rw fits (and_parts (is_value f x.current) _ e).1
+
+module _ (f : Feature) (value : ℕ) (save : Bool) (fits : is_accepted f value ≡ true)
+    (rules : FeatureRules) (vwc : ℕ) (attached : Nsids) where
+  abbrev AreHere : FeatureValues → Type 0
+  AreHere = AreValues rules vwc attached
+
+  one_selector : (values : FeatureValues) (n s : ℕ) → AreHere values
+      → AreHere (changed_at (write f value save) values (key_of f n s))
+  one_selector values n s are = by (is_set f value s) (map_of.get values (key_of f n s)) refl
+    where
+      by : (b : Bool) (o : Option FeatureValue) → map_of.get values (key_of f n s) ≡ o
+          → AreHere (option_map_or (map_of.insert values (key_of f n s))
+          (if b then option_map (written (stored f value) save) o else o)
+          (map_of.remove values (key_of f n s)))
+      by false o e = subst AreHere (sym (put_back values (key_of f n s) o e)) are
+      by true None e = subst AreHere (sym (removed_absent values (key_of f n s) e)) are
+      by true (Some x) e =
+          values-written rules vwc attached values are (key_of f n s)
+          (written (stored f value) save x) (ap is_some e)
+          (sound_at f n s (written (stored f value) save x)
+          (may_have_written f (stored f value) save x (stored_is_value f value fits)
+          (sound_value f n s x (are.sound (key_of f n s) x e))))
+
+  some_selectors : (n : ℕ) (ss : List ℕ) (values : FeatureValues) → AreHere values
+      → AreHere (changed (write f value save) (map (key_of f n) ss) values)
+  some_selectors n [] values are = are
+  some_selectors n (s ∷ ss) values are =
+      some_selectors n ss (changed_at (write f value save) values (key_of f n s))
+      (one_selector values n s are)
+
+  all_values : (ns : List ℕ) (values : FeatureValues) → AreHere values
+      → AreHere (fold (with_value f value save) values ns)
+  all_values [] values are = are
+  all_values (n ∷ ns) values are =
+      all_values ns (with_value f value save values n)
+      (some_selectors n (row_of f).selectors values are)
+
+set_keeps : (f : Feature) (value : ℕ) (save : Bool) (ns : List ℕ) → is_accepted f value ≡ true
+    → Keeps (with_values f value save ns)
+set_keeps f value save ns fits = record {
+  identity = λ x. refl;
+  attached = λ x. refl;
+  sound = λ s x h. record {
+    identity = h.identity;
+    rules = h.rules;
+    smart = h.smart;
+    log = h.log;
+    entries = h.entries;
+    refusals = h.refusals;
+    commands = h.commands;
+    attached = h.attached;
+    values =
+        all_values f value save fits x.rules x.identity.numbers.vwc x.attached ns x.values h.values;
+  };
+}
+
+-- an accepted set has a dword that the feature accepts
+module _ (s : State) (c fid value : ℕ) (save : Bool) (n : ℕ) (f : Feature) where
+  abbrev accepted_by : Option Feature → Type 0
+  accepted_by o = first_refusal
+      (option_map_or (set_rows s c value save n) o (row true InvalidFieldInCommand ∷ [])) ≡ None
+
+  by_support : (b : Bool) (g : Feature) → accepted_by (if b then Some g else None) → g ≡ f
+      → is_accepted f value ≡ true
+  by_support true g accepted same =
+      let rows = none_holds (set_rows s c value save n g) accepted in
+      subst (λ h. is_accepted h value ≡ true) same (not_false (is_accepted g value) rows.0)
+  by_support false g accepted same = absurd (cc accepted)
+
+  by_feature : (x : Controller) (o : Option Feature)
+      → accepted_by (option_map_or
+      (λ g. if is_supported x.rules x.identity.numbers.vwc g then Some g else None) o None)
+      → o ≡ Some f → is_accepted f value ≡ true
+  by_feature x None accepted e = absurd (cc e)
+  by_feature x (Some g) accepted e =
+      let same : g ≡ f = cc e in
+      by_support (is_supported x.rules x.identity.numbers.vwc g) g accepted same
+
+  by_controller : (x : Option Controller)
+      → accepted_by (option_map_or (λ x. supported x.rules x.identity.numbers.vwc fid) x None)
+      → feature_of fid ≡ Some f → is_accepted f value ≡ true
+  by_controller None accepted e = absurd (cc accepted)
+  by_controller (Some x) accepted e = by_feature x (feature_of fid) accepted e
+
+pub feature_keeps : (s : State) (c fid value : ℕ) (save : Bool) (n : ℕ) → IsWellFormed s
+    → first_refusal (set_feature_rows s c fid value save n) ≡ None
+    → IsWellFormed (with_feature s c fid value save n)
+feature_keeps s c fid value save n w accepted = by (feature_of fid) refl
+  where
+    by : (o : Option Feature) → feature_of fid ≡ o → IsWellFormed
+        (option_map_or (λ f. with_controller s c (with_values f value save (changed_nsids s c n f)))
+        o s)
+    by None e = w
+    by (Some f) e = keeps s c (with_values f value save (changed_nsids s c n f))
+        (set_keeps f value save (changed_nsids s c n f)
+        (by_controller s c fid value save n f (controller_at s c) accepted e)) w
+
+pub feature_controllers : (s : State) (c fid value : ℕ) (save : Bool) (n : ℕ)
+    → length (with_feature s c fid value save n).controllers ≡ length s.controllers
+feature_controllers s c fid value save n = by (feature_of fid)
+  where
+    by : (o : Option Feature)
+        → length
+        (option_map_or
+        (λ f. with_controller s c (with_values f value save (changed_nsids s c n f))) o
+        s).controllers
+        ≡ length s.controllers
+    by None = refl
+    by (Some f) =
+        length-changed_at (with_values f value save (changed_nsids s c n f)) s.controllers c
+
+-- ---- a number that is told
+
+capabilities_fit : (a b c : Bool)
+    → (if a then 1 else 0) + (if b then 2 else 0) + (if c then 4 else 0) < 2 ^ 32
+capabilities_fit true true true = lit< tt
+capabilities_fit true true false = lit< tt
+capabilities_fit true false true = lit< tt
+capabilities_fit true false false = lit< tt
+capabilities_fit false true true = lit< tt
+capabilities_fit false true false = lit< tt
+capabilities_fit false false true = lit< tt
+capabilities_fit false false false = lit< tt
+
+selected_fits : (rule : FeatureRule) (f : Feature) (sel selector : ℕ) (x : FeatureValue)
+    → is_value f (default_of rule selector) ≡ true
+    → may_have f x ≡ true → selected rule f sel selector x < 2 ^ 32
+selected_fits rule f sel selector x default is =
+    let parts = and_parts (is_value f x.current) (option_map_or (is_value f) x.saved true) is in
+    let first = value_fits f (default_of rule selector) default in
+    chosen_fits (λ n. n < 2 ^ 32) (sel == 0) _ _ (value_fits f x.current parts.0)
+    (chosen_fits (λ n. n < 2 ^ 32) (sel == 1) _ _ first
+    (chosen_fits (λ n. n < 2 ^ 32) (sel == 2) _ _ (saved_fits x.saved parts.1)
+    (capabilities_fit rule.saveable (row_of f).per_namespace rule.changeable)))
+  where
+    saved_fits : (o : Option ℕ) → option_map_or (is_value f) o true ≡ true
+        → unwrap_or o (default_of rule selector) < 2 ^ 32
+    saved_fits None e = value_fits f (default_of rule selector) default
+    saved_fits (Some v) e = value_fits f v e
+
+told_fits : (s : State) (x : Controller) → IsController s.namespaces x
+    → (f : Feature) (sel n cdw11 : ℕ) → told f sel n cdw11 x < 2 ^ 32
+told_fits s x is f sel n cdw11 = chosen_fits (λ m. m < 2 ^ 32) (is_get_selector f cdw11) _ 0
+    (by (selector_in f cdw11) (map_of.get x.values (key_of f n (selector_in f cdw11))) refl)
+    (lit< tt)
+  where
+    by : (t : ℕ) (o : Option FeatureValue) → map_of.get x.values (key_of f n t) ≡ o
+        → option_map_or (selected (rule_of x.rules f) f sel t) o 0 < 2 ^ 32
+    by t None e = lit< tt
+    by t (Some v) e = selected_fits (rule_of x.rules f) f sel t v
+        (default_is_sound x.rules is.rules f t)
+        (sound_value f n t v (is.values.sound (key_of f n t) v e))
+
+pub feature_number_fits : (s : State) (c fid sel n cdw11 : ℕ) → IsWellFormed s
+    → feature_number s c fid sel n cdw11 < 2 ^ 32
+feature_number_fits s c fid sel n cdw11 w = by_feature (feature_of fid)
+  where
+    is_controller : (x : Controller) → controller_at s c ≡ Some x → IsController s.namespaces x
+    is_controller x e =
+        subst (IsController s.namespaces) (get_or_from_slice_get s.controllers c x x e)
+        (w.controllers c x (slice_get_within s.controllers c x e))
+
+    by_controller : (f : Feature) (o : Option Controller) → controller_at s c ≡ o
+        → option_map_or (told f sel n cdw11) o 0 < 2 ^ 32
+    by_controller f None e = lit< tt
+    by_controller f (Some x) e = told_fits s x (is_controller x e) f sel n cdw11
+
+    by_feature : (o : Option Feature)
+        → option_map_or (λ f. option_map_or (told f sel n cdw11) (controller_at s c) 0) o 0 < 2 ^ 32
+    by_feature None = lit< tt
+    by_feature (Some f) = by_controller f (controller_at s c) refl

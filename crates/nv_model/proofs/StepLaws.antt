@@ -1,0 +1,213 @@
+-- A command leaves a well-formed subsystem well formed.
+use Rattle.std.proofs.Common.{◌≡◌, ◌∙◌, ℕ, ◌+◌, ◌<◌, ◌≤◌, ◌^◌, lit<, refl, subst, arith, suc, Bool}
+use Rattle.std.proofs.Common.{true, false, List, [], ◌∷◌, length, take, Option, Some, None, min}
+use Rattle.std.proofs.lemmas.List.{length-take}
+use Rattle.std.proofs.lemmas.List.Elements.{All-cons, All-take}
+use Rattle.std.specs.Prelude.{All, if◌then◌else◌}
+use Rattle.std.specs.List.{AllByRecursion}
+use Rattle.nv_model.specs.State.{State}
+use Rattle.nv_model.specs.declared.count.TheConstants.{GREATEST_COUNT}
+use Rattle.nv_model.specs.Step.{next_count, refused, step, step_by, with_command, with_refusal}
+use Rattle.nv_model.specs.Effect.{effect_of}
+use Rattle.nv_model.specs.ErrorLog.{log_entry}
+use Rattle.nv_model.specs.Refusal.{refusal_of, rows_of}
+use Rattle.nv_model.specs.Row.{first_refusal}
+use Rattle.nv_model.specs.declared.row.Row.{Row}
+use Rattle.nv_command.specs.Command.{namespace_of}
+use Rattle.nv_command.specs.Refusal.{IsRefusal}
+use Rattle.nv_command.proofs.RefusalLaws.{is_refusal-refusal_by}
+use Rattle.nv_model.specs.WellFormed.{IsWellFormed}
+use Rattle.nv_command.specs.declared.command.Command.{Command}
+use Rattle.nv_command.specs.declared.command.Command.TheVariants.{IdentifyController}
+use Rattle.nv_command.specs.declared.command.Command.TheVariants.{IdentifyNamespace}
+use Rattle.nv_command.specs.declared.command.Command.TheVariants.{AllocatedNamespace, ActiveList}
+use Rattle.nv_command.specs.declared.command.Command.TheVariants.{AllocatedList, Create, Delete}
+use Rattle.nv_command.specs.declared.command.Command.TheVariants.{Attachment, Format, GetFeature}
+use Rattle.nv_command.specs.declared.command.Command.TheVariants.{SetFeature, GetLog}
+use Rattle.nv_command.specs.declared.status_code.StatusCode.TheVariants.{InvalidNamespaceOrFormat}
+use Rattle.nv_command.specs.declared.refusal.Refusal.{Refusal}
+use Rattle.nv_layout.specs.ErrorEntry.{ErrorEntryFits}
+use Rattle.nv_layout.specs.declared.error_entry.ErrorEntry.{ErrorEntry}
+use Rattle.nv_model.proofs.AttachmentLaws.{attachment_controllers, attachment_keeps}
+use Rattle.nv_model.proofs.AttachmentLaws.{attachment_rows_fit}
+use Rattle.nv_model.specs.Management.{wanted}
+use Rattle.nv_model.specs.Format.{new_format}
+use Rattle.nv_model.proofs.FormatLaws.{format_keeps, format_rows_fit}
+use Rattle.nv_model.proofs.LogLaws.{log_rows_fit}
+use Rattle.nv_model.proofs.ManagementLaws.{create_keeps, create_rows_fit, created_controllers}
+use Rattle.nv_model.proofs.ManagementLaws.{delete_keeps, delete_rows_fit, deleted_controllers}
+use Rattle.nv_model.proofs.ChangedAtLaws.{length-changed_at}
+use Rattle.nv_model.proofs.KeepingLaws.{Keeps, keeps}
+use Rattle.nv_model.proofs.SetFeatureLaws.{feature_controllers, feature_keeps}
+use Rattle.nv_model.proofs.SetFeatureLaws.{get_feature_rows_fit, set_feature_rows_fit}
+
+next_count-le : (n : ℕ) → next_count n ≤ GREATEST_COUNT
+next_count-le n = omega arith
+
+pub counting_keeps : Keeps (λ x. record x { commands = next_count x.commands })
+counting_keeps = record {
+  identity = λ x. refl;
+  attached = λ x. refl;
+  sound = λ s x h. record {
+    identity = h.identity;
+    rules = h.rules;
+    smart = h.smart;
+    log = h.log;
+    entries = h.entries;
+    refusals = h.refusals;
+    commands = next_count-le x.commands;
+    attached = h.attached;
+    values = h.values;
+  };
+}
+
+length-with_refusal : (most refusals : ℕ) (e : ErrorEntry) (log : List ErrorEntry) → 0 < most → most
+    ≤ 256 → refusals ≤ GREATEST_COUNT → length log ≡ min refusals most
+    → length (take most (e ∷ log)) ≡ min (next_count refusals) most
+length-with_refusal most refusals e log some few low len =
+    length-take most (e ∷ log) ∙ (let up : length (e ∷ log) ≡ suc (length log) = refl in
+    omega arith)
+
+all_entries : (most : ℕ) (e : ErrorEntry) (log : List ErrorEntry) → ErrorEntryFits e
+    → All ErrorEntryFits log → All ErrorEntryFits (take most (e ∷ log))
+all_entries most e log h all =
+    All-take ErrorEntryFits most (e ∷ log) (All-cons ErrorEntryFits e log h all)
+
+entry_fits : (count cid nsid : ℕ) (r : Refusal) → count ≤ GREATEST_COUNT → nsid < 2 ^ 32
+    → cid < 2 ^ 16
+    → IsRefusal r → ErrorEntryFits (log_entry count cid nsid r)
+entry_fits count cid nsid r low a b fits = record {
+  count = omega (arith, low);
+  sqid = lit< tt;
+  cid = b;
+  status = fits.status;
+  location = lit< tt;
+  lba = lit< tt;
+  nsid = a;
+  vendor = lit< tt;
+  specific = omega (arith, fits.specific);
+}
+
+pub booking_keeps : (nsid cid : ℕ) (r : Refusal) → nsid < 2 ^ 32 → cid < 2 ^ 16 → IsRefusal r
+    → Keeps (with_refusal nsid cid r)
+booking_keeps nsid cid r a b fits = record {
+  identity = λ x. refl;
+  attached = λ x. refl;
+  sound = λ s x h. record {
+    identity = h.identity;
+    rules = h.rules;
+    smart = h.smart;
+    log = length-with_refusal (x.identity.numbers.elpe + 1) x.refusals _ x.log (omega arith)
+        (omega (arith, h.identity.numbers.elpe)) h.refusals h.log;
+    entries = all_entries (x.identity.numbers.elpe + 1) (log_entry (next_count x.refusals) cid nsid
+        r) x.log (entry_fits (next_count x.refusals) cid nsid r (next_count-le x.refusals) a b fits)
+        h.entries;
+    refusals = next_count-le x.refusals;
+    commands = h.commands;
+    attached = h.attached;
+    values = h.values;
+  };
+}
+
+pub with_command_keeps : (s : State) (c : ℕ) → IsWellFormed s → IsWellFormed (with_command s c)
+with_command_keeps s c w = keeps s c _ counting_keeps w
+
+pub refused_keeps : (s : State) (c nsid cid : ℕ) (r : Refusal) → nsid < 2 ^ 32 → cid < 2 ^ 16
+    → IsRefusal r → IsWellFormed s → IsWellFormed (with_command (refused s c nsid cid r) c)
+refused_keeps s c nsid cid r a b fits w = with_command_keeps (refused s c nsid cid r) c
+    (keeps s c _ (booking_keeps nsid cid r a b fits) w)
+
+-- ---- one command
+
+pub rows_fit : (s : State) (c : ℕ) (k : Command) → AllByRecursion (λ row. IsRefusal row.refusal)
+    (rows_of s c k)
+rows_fit s c IdentifyController = tt
+rows_fit s c (IdentifyNamespace n) = (is_refusal-refusal_by InvalidNamespaceOrFormat, tt)
+rows_fit s c (AllocatedNamespace n) = (is_refusal-refusal_by InvalidNamespaceOrFormat, tt)
+rows_fit s c (ActiveList after) = (is_refusal-refusal_by InvalidNamespaceOrFormat, tt)
+rows_fit s c (AllocatedList after) = (is_refusal-refusal_by InvalidNamespaceOrFormat, tt)
+rows_fit s c (Create nsze ncap flbas dps nmic) = create_rows_fit s (wanted nsze ncap flbas dps nmic)
+rows_fit s c (Delete n) = delete_rows_fit s n
+rows_fit s c (Attachment n detach ids) = attachment_rows_fit s n detach ids
+rows_fit s c (Format n lbaf mset pi pil ses) =
+    format_rows_fit s c n (new_format lbaf mset pi pil ses)
+rows_fit s c (GetFeature fid sel n cdw11) = get_feature_rows_fit s c fid sel n cdw11
+rows_fit s c (SetFeature fid value save n) = set_feature_rows_fit s c fid value save n
+rows_fit s c (GetLog lid n offset dwords) = log_rows_fit s c lid n offset
+
+chosen_fits : (b : Bool) (first r : Refusal) (later : Option Refusal) → IsRefusal first
+    → (later ≡ Some r → IsRefusal r)
+    → (if b then Some first else later) ≡ Some r → IsRefusal r
+chosen_fits true first r later here there e = let same : first ≡ r = cc in subst IsRefusal same here
+chosen_fits false first r later here there e = there e
+
+first_fits : (rows : List Row) (r : Refusal) → AllByRecursion (λ row. IsRefusal row.refusal) rows
+    → first_refusal rows ≡ Some r → IsRefusal r
+first_fits [] r all e = absurd (cc)
+first_fits (row ∷ rows) r all e =
+    chosen_fits row.when row.refusal r (first_refusal rows) all.0 (first_fits rows r all.1) e
+
+pub refusal_fits : (s : State) (c : ℕ) (k : Command) (r : Refusal) → refusal_of s c k ≡ Some r
+    → IsRefusal r
+refusal_fits s c k r e = first_fits (rows_of s c k) r (rows_fit s c k) e
+
+-- what an accepted command changes keeps well-formedness, and makes and takes no controller
+pub effect_keeps : (s : State) (c : ℕ) (k : Command) → refusal_of s c k ≡ None → IsWellFormed s
+    → IsWellFormed (effect_of s c k)
+effect_keeps s c IdentifyController accepted w = w
+effect_keeps s c (IdentifyNamespace n) accepted w = w
+effect_keeps s c (AllocatedNamespace n) accepted w = w
+effect_keeps s c (ActiveList after) accepted w = w
+effect_keeps s c (AllocatedList after) accepted w = w
+effect_keeps s c (Create nsze ncap flbas dps nmic) accepted w =
+    create_keeps s (wanted nsze ncap flbas dps nmic) w accepted
+effect_keeps s c (Delete n) accepted w = delete_keeps s n w
+effect_keeps s c (Attachment n detach ids) accepted w = attachment_keeps s n detach ids w accepted
+effect_keeps s c (Format n lbaf mset pi pil ses) accepted w =
+    format_keeps s c n (new_format lbaf mset pi pil ses) w accepted
+effect_keeps s c (GetFeature fid sel n cdw11) accepted w = w
+effect_keeps s c (SetFeature fid value save n) accepted w =
+    feature_keeps s c fid value save n w accepted
+effect_keeps s c (GetLog lid n offset dwords) accepted w = w
+
+pub effect_controllers : (s : State) (c : ℕ) (k : Command) → length (effect_of s c k).controllers
+    ≡ length s.controllers
+effect_controllers s c IdentifyController = refl
+effect_controllers s c (IdentifyNamespace n) = refl
+effect_controllers s c (AllocatedNamespace n) = refl
+effect_controllers s c (ActiveList after) = refl
+effect_controllers s c (AllocatedList after) = refl
+effect_controllers s c (Create nsze ncap flbas dps nmic) =
+    created_controllers s (wanted nsze ncap flbas dps nmic)
+effect_controllers s c (Delete n) = deleted_controllers s n
+effect_controllers s c (Attachment n detach ids) = attachment_controllers s n detach ids
+effect_controllers s c (Format n lbaf mset pi pil ses) = refl
+effect_controllers s c (GetFeature fid sel n cdw11) = refl
+effect_controllers s c (SetFeature fid value save n) = feature_controllers s c fid value save n
+effect_controllers s c (GetLog lid n offset dwords) = refl
+
+step_by_keeps : (o : Option Refusal) (s : State) (c : ℕ) (k : Command) (cid : ℕ) → refusal_of s c k
+    ≡ o → ((r : Refusal) → o ≡ Some r → IsRefusal r) → namespace_of k < 2 ^ 32 → cid < 2 ^ 16
+    → IsWellFormed s → IsWellFormed (step_by o s c k cid).state
+step_by_keeps None s c k cid is fits a b w =
+    with_command_keeps (effect_of s c k) c (effect_keeps s c k is w)
+step_by_keeps (Some r) s c k cid is fits a b w =
+    refused_keeps s c (namespace_of k) cid r a b (fits r refl) w
+
+pub step_keeps : (s : State) (c : ℕ) (k : Command) (cid : ℕ) → namespace_of k < 2 ^ 32 → cid
+    < 2 ^ 16 → IsWellFormed s → IsWellFormed (step s c k cid).state
+step_keeps s c k cid a b w =
+    step_by_keeps (refusal_of s c k) s c k cid refl (refusal_fits s c k) a b w
+
+-- no command makes or takes a controller
+step_by_controllers : (o : Option Refusal) (s : State) (c : ℕ) (k : Command) (cid : ℕ)
+    → length (step_by o s c k cid).state.controllers ≡ length s.controllers
+step_by_controllers None s c k cid = length-changed_at _ (effect_of s c k).controllers c
+    ∙ effect_controllers s c k
+step_by_controllers (Some r) s c k cid =
+    length-changed_at _ (refused s c (namespace_of k) cid r).controllers c
+    ∙ length-changed_at (with_refusal (namespace_of k) cid r) s.controllers c
+
+pub step_controllers : (s : State) (c : ℕ) (k : Command) (cid : ℕ)
+    → length (step s c k cid).state.controllers ≡ length s.controllers
+step_controllers s c k cid = step_by_controllers (refusal_of s c k) s c k cid

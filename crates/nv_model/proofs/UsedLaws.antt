@@ -1,0 +1,97 @@
+-- The capacity that is in use, when a namespace comes or goes.
+use Rattle.std.proofs.Common.{◌≡◌, ◌∙◌, ℕ, ◌+◌, ◌==◌, List, [], ◌∷◌, map, length, cond, Bool, true}
+use Rattle.std.proofs.Common.{false, Option, Some, None, refl, sym, ap, arith, Ordering}
+use Rattle.std.specs.Prelude.{sum_by}
+use Rattle.std.specs.Ordering.{nat_cmp}
+use Rattle.std.specs.declared.cmp.Ordering.TheVariants.{Less, Equal, Greater}
+use Rattle.std.specs.Cmp.{nat_cmp_total}
+use Rattle.std.specs.FinMap as map_of
+use Rattle.std.specs.FinMap.{entries-insert, get-entries, len-empty, len-entries}
+use Rattle.std.specs.FinMap.Entries.{put, find}
+use Rattle.std.proofs.lemmas.Bool.{eq-eqb}
+use Rattle.std.proofs.lemmas.Bool.Decides.{nat_tests}
+use Rattle.std.proofs.lemmas.List.Sums.{sum_by-cons}
+use Rattle.nv_bits.proofs.NumberLaws.{get_of_insert, get_of_remove, same_numbers}
+use Rattle.nv_model.specs.Capacity.{used}
+use Rattle.nv_model.specs.State.{Namespaces}
+use Rattle.nv_model.specs.declared.namespace.Namespace.{Namespace}
+
+total : List (ℕ × Namespace) → ℕ
+total es = sum_by (λ x. x.capacity) (map (λ e. e.1) es)
+
+total-cons : (e : ℕ × Namespace) (es : List (ℕ × Namespace)) → total (e ∷ es)
+    ≡ e.1.capacity + total es
+unfolding total
+total-cons e es = sum_by-cons (λ x. x.capacity) e.1 (map (λ e. e.1) es)
+
+put_at : (o : Ordering) (k : ℕ) (v : Namespace) (e : ℕ × Namespace) (es : List (ℕ × Namespace))
+    → nat_cmp k e.0 ≡ o → find nat_cmp k (e ∷ es) ≡ None
+    → (find nat_cmp k es ≡ None → total (put nat_cmp k v es) ≡ v.capacity + total es)
+    → total (put nat_cmp k v (e ∷ es)) ≡ v.capacity + total (e ∷ es)
+put_at Less k v e es is none rest = rw is (total-cons (k, v) (e ∷ es))
+put_at Equal k v e es is none rest = let some : Some e.1 ≡ None = rw is at none in absurd (cc some)
+put_at Greater k v e es is none rest =
+    let free : find nat_cmp k es ≡ None = rw is at none in
+    rw is (omega (arith, total-cons e (put nat_cmp k v es), total-cons e es, rest free))
+
+total-put : (k : ℕ) (v : Namespace) (es : List (ℕ × Namespace)) → find nat_cmp k es ≡ None
+    → total (put nat_cmp k v es) ≡ v.capacity + total es
+total-put k v [] none = total-cons (k, v) []
+total-put k v (e ∷ es) none = put_at (nat_cmp k e.0) k v e es refl none (total-put k v es)
+
+pub used-insert : (m : Namespaces) (k : ℕ) (v : Namespace) → map_of.get m k ≡ None
+    → used (map_of.insert m k v) ≡ v.capacity + used m
+unfolding total
+used-insert m k v none = ap total (entries-insert nat_cmp_total m k v)
+    ∙ total-put k v (map_of.entries m) (sym (get-entries m k) ∙ none)
+
+-- what is taken away gives its capacity back
+put_back : (m : Namespaces) (n : ℕ) (v : Namespace) → map_of.get m n ≡ Some v
+    → map_of.insert (map_of.remove m n) n v ≡ m
+put_back m n v found =
+    same_numbers _ m (λ q. get_of_insert (map_of.remove m n) n v q
+    ∙ ap (cond (q == n) (Some v)) (get_of_remove m n q) ∙ at_test q (q == n) refl)
+  where
+    at_test : (q : ℕ) (t : Bool) → (q == n) ≡ t → cond t (Some v) (cond t None (map_of.get m q))
+        ≡ map_of.get m q
+    at_test q true e = let same : q ≡ n = grind (arith, nat_tests) in
+        sym (ap (map_of.get m) same ∙ found)
+    at_test q false e = refl
+
+pub used-remove : (m : Namespaces) (n : ℕ) (v : Namespace) → map_of.get m n ≡ Some v
+    → used m ≡ v.capacity + used (map_of.remove m n)
+used-remove m n v found =
+    sym (ap used (put_back m n v found))
+    ∙ used-insert (map_of.remove m n) n v
+    (get_of_remove m n n ∙ ap (λ b. cond b None (map_of.get m n)) (eq-eqb n n refl))
+
+-- a namespace of another kind and the same capacity
+pub used-change : (m : Namespaces) (n : ℕ) (v w : Namespace) → map_of.get m n ≡ Some v
+    → w.capacity ≡ v.capacity → used (map_of.insert m n w) ≡ used m
+used-change m n v w found same =
+    let again : map_of.insert m n w ≡ map_of.insert (map_of.remove m n) n w = same_numbers _ _
+    (λ q. get_of_insert m n w q ∙ shadowed (q == n) (map_of.get m q)
+    ∙ sym (get_of_insert (map_of.remove m n) n w q
+    ∙ ap (cond (q == n) (Some w)) (get_of_remove m n q))) in
+    omega (
+      arith,
+      ap used again,
+      used-insert (map_of.remove m n) n w
+          (get_of_remove m n n ∙ ap (λ b. cond b None (map_of.get m n)) (eq-eqb n n refl)),
+      used-remove m n v found,
+    )
+  where
+    shadowed : (b : Bool) (o : Option Namespace) → cond b (Some w) o
+        ≡ cond b (Some w) (cond b None o)
+    shadowed true o = refl
+    shadowed false o = refl
+
+none_used : (es : List (ℕ × Namespace)) → length es ≡ 0 → total es ≡ 0
+unfolding total
+none_used [] h = refl
+none_used (e ∷ es) h = absurd (omega arith)
+
+pub used-empty : used map_of.empty ≡ 0
+unfolding total
+used-empty = none_used (map_of.entries map_of.empty)
+    (sym (len-entries map_of.empty) ∙ len-empty nat_cmp Namespace)

@@ -1,0 +1,105 @@
+-- Laws of the values of features under their keys.
+use Rattle.std.proofs.Common.{◌≡◌, ◌∙◌, ℕ, ◌==◌, ◌&&◌, Bool, true, false, cond}
+use Rattle.std.proofs.Common.{Option, Some, None, refl, sym, ap, arith, Ordering}
+use Rattle.std.proofs.lemmas.Bool.Decides.{nat_tests}
+use Rattle.std.specs.Option.{option_map_or}
+use Rattle.std.specs.Ordering.{eq_by_cmp, is_eq, nat_cmp, ordering_then}
+use Rattle.std.specs.declared.cmp.Ordering.TheVariants.{Less, Equal, Greater}
+use Rattle.std.specs.Cmp.{Equal-is, IsTotalOrder, unsigned_tied}
+use Rattle.std.specs.Cmp.Lexicographic.{nat_list_cmp_total}
+use Rattle.std.specs.FinMap as map_of
+use Rattle.std.specs.FinMap.{IsAntisymmetric, get-insert, get-remove, get-retain_keys}
+use Rattle.std.specs.FinMap.{nat_cmp-IsAntisymmetric, same_map, slice_cmp-IsAntisymmetric}
+use Rattle.nv_model.specs.ValueKey.{FeatureValues, ValueKey, key_cmp, numbers_of}
+use Rattle.nv_model.specs.declared.feature_value.FeatureValue.{FeatureValue}
+
+-- ---- the order of keys
+
+pub key_cmp_total : IsTotalOrder key_cmp
+key_cmp_total = record {
+  antisymm = λ x y. nat_list_cmp_total.antisymm (numbers_of x) (numbers_of y);
+  trans = λ x y z. nat_list_cmp_total.trans (numbers_of x) (numbers_of y) (numbers_of z);
+  congr = λ x y z. nat_list_cmp_total.congr (numbers_of x) (numbers_of y) (numbers_of z);
+}
+
+pub key_cmp-IsAntisymmetric : IsAntisymmetric key_cmp
+key_cmp-IsAntisymmetric x y e =
+    let same : numbers_of x ≡ numbers_of y =
+    slice_cmp-IsAntisymmetric nat_cmp-IsAntisymmetric (numbers_of x) (numbers_of y) e in
+    let fid : x.fid ≡ y.fid = cc in
+    let nsid : x.nsid ≡ y.nsid = cc in
+    let selector : x.selector ≡ y.selector = cc in
+    λ i. record { fid = fid i; nsid = nsid i; selector = selector i }
+
+-- the same key
+abbrev pub is_key : ValueKey → ValueKey → Bool
+is_key q k = eq_by_cmp key_cmp q k
+
+pub same_key : (q k : ValueKey) → is_key q k ≡ true → q ≡ k
+same_key q k e = key_cmp-IsAntisymmetric q k ((Equal-is (key_cmp q k)).0 e)
+
+then_equal : (r s t : Ordering)
+    → is_eq (ordering_then r (ordering_then s (ordering_then t Equal)))
+    ≡ (is_eq r && (is_eq s && is_eq t))
+then_equal Less s t = refl
+then_equal Equal Less t = refl
+then_equal Equal Equal Less = refl
+then_equal Equal Equal Equal = refl
+then_equal Equal Equal Greater = refl
+then_equal Equal Greater t = refl
+then_equal Greater s t = refl
+
+pub by_numbers : (q k : ValueKey) → is_key q k
+    ≡ ((q.fid == k.fid) && ((q.nsid == k.nsid) && (q.selector == k.selector)))
+by_numbers q k = then_equal (nat_cmp q.fid k.fid) (nat_cmp q.nsid k.nsid)
+    (nat_cmp q.selector k.selector)
+    ∙ λ i. unsigned_tied q.fid k.fid i
+    && (unsigned_tied q.nsid k.nsid i && unsigned_tied q.selector k.selector i)
+
+pub is_itself : (k : ValueKey) → is_key k k ≡ true
+is_itself k = by_numbers k k ∙ λ i. same k.fid i && (same k.nsid i && same k.selector i)
+  where
+    same : (n : ℕ) → (n == n) ≡ true
+    same n = grind (arith, nat_tests)
+
+-- ---- what is found after a change
+
+pub value_of_insert : (m : FeatureValues) (k : ValueKey) (x : FeatureValue) (q : ValueKey)
+    → map_of.get (map_of.insert m k x) q ≡ cond (is_key q k) (Some x) (map_of.get m q)
+value_of_insert m k x q = get-insert key_cmp_total m k x q
+
+pub value_of_remove : (m : FeatureValues) (k q : ValueKey)
+    → map_of.get (map_of.remove m k) q ≡ cond (is_key q k) None (map_of.get m q)
+value_of_remove m k q = get-remove key_cmp_total m k q
+
+pub value_of_retain : (m : FeatureValues) (p : ValueKey → Bool) (q : ValueKey)
+    → map_of.get (map_of.retain_keys m p) q ≡ cond (p q) (map_of.get m q) None
+value_of_retain m p q =
+    get-retain_keys m p q (λ x e. ap p (sym (key_cmp-IsAntisymmetric q x e)))
+
+pub same_values : (m n : FeatureValues)
+    → ((q : ValueKey) → map_of.get m q ≡ map_of.get n q) → m ≡ n
+same_values m n = same_map key_cmp_total key_cmp-IsAntisymmetric m n
+
+-- what isn't there can be taken away
+pub removed_absent : (m : FeatureValues) (k : ValueKey) → map_of.get m k ≡ None
+    → map_of.remove m k ≡ m
+removed_absent m k none =
+    same_values _ m (λ q. value_of_remove m k q ∙ at_test q (is_key q k) refl)
+  where
+    at_test : (q : ValueKey) (b : Bool) → is_key q k ≡ b → cond b None (map_of.get m q)
+        ≡ map_of.get m q
+    at_test q true e = sym (ap (map_of.get m) (same_key q k e) ∙ none)
+    at_test q false e = refl
+
+-- what is there can be put there
+pub put_back : (m : FeatureValues) (k : ValueKey) (o : Option FeatureValue) → map_of.get m k ≡ o
+    → option_map_or (map_of.insert m k) o (map_of.remove m k) ≡ m
+put_back m k None e = removed_absent m k e
+put_back m k (Some x) e =
+    same_values _ m (λ q. value_of_insert m k x q ∙ at_test q (is_key q k) refl)
+  where
+    at_test : (q : ValueKey) (b : Bool) → is_key q k ≡ b → cond b (Some x) (map_of.get m q)
+        ≡ map_of.get m q
+    at_test q true t = sym (ap (map_of.get m) (same_key q k t) ∙ e)
+    at_test q false t = refl

@@ -1,0 +1,130 @@
+-- Get Features and Set Features: when they are refused, what they answer, and what they change.
+use Rattle.std.specs.Prelude.{ℕ, ◌+◌, ◌==◌, ◌&&◌, ◌||◌, not, nat_lt, Bool, true, List, [], ◌∷◌}
+use Rattle.std.specs.Prelude.{Option, None, option_map, unwrap_or, if◌then◌else◌}
+use Rattle.std.specs.List.{fold, list_any}
+use Rattle.std.specs.Option.{option_map_or}
+use Rattle.std.specs.FinMap as map_of
+use Rattle.nv_layout.specs.Feature.{feature_of, is_accepted, is_get_selector, row_of}
+use Rattle.nv_layout.specs.Feature.{selector_in, selectors_set, stored}
+use Rattle.nv_layout.specs.declared.feature.Feature.{Feature}
+use Rattle.nv_model.specs.declared.feature_rule.FeatureRule.{FeatureRule}
+use Rattle.nv_command.specs.declared.command.TheConstants.{BROADCAST_NSID}
+use Rattle.nv_command.specs.declared.status_code.StatusCode.TheVariants.{FeatureNotChangeable}
+use Rattle.nv_command.specs.declared.status_code.StatusCode.TheVariants.{FeatureNotNamespaceSpecific}
+use Rattle.nv_command.specs.declared.status_code.StatusCode.TheVariants.{FeatureIdentifierNotSaveable}
+use Rattle.nv_command.specs.declared.status_code.StatusCode.TheVariants.{InvalidFieldInCommand}
+use Rattle.nv_command.specs.declared.status_code.StatusCode.TheVariants.{InvalidNamespaceOrFormat}
+use Rattle.nv_model.specs.Change.{Change, changed}
+use Rattle.nv_model.specs.FeatureRules.{rule_of}
+use Rattle.nv_model.specs.FeatureValue.{default_of, default_rule, written}
+use Rattle.nv_model.specs.Nsid.{concerned, is_active, is_valid}
+use Rattle.nv_model.specs.Row.{row}
+use Rattle.nv_model.specs.State.{Controller, State, controller_at, with_controller}
+use Rattle.nv_model.specs.Supported.{supported}
+use Rattle.nv_model.specs.ValueKey.{FeatureValues, key_of, keys_of}
+use Rattle.nv_model.specs.declared.feature_value.FeatureValue.{FeatureValue}
+use Rattle.nv_model.specs.declared.row.Row.{Row}
+
+-- how a controller treats a feature
+abbrev pub rule_at : State → ℕ → Feature → FeatureRule
+rule_at s c f =
+    option_map_or (λ x. rule_of x.rules f) (controller_at s c) (default_rule (row_of f).fid)
+
+-- the feature with an identifier, where the controller supports it
+abbrev pub supported_at : State → ℕ → ℕ → Option Feature
+supported_at s c fid =
+    option_map_or (λ x. supported x.rules x.identity.numbers.vwc fid) (controller_at s c) None
+
+-- ---- rows
+
+-- an identifier of no supported feature; else the feature's rows
+abbrev pub supported_rows : State → ℕ → ℕ → (Feature → List Row) → List Row
+supported_rows s c fid rows =
+    option_map_or rows (supported_at s c fid) (row true InvalidFieldInCommand ∷ [])
+
+-- a select above 3; a selector that the feature doesn't have; and where each namespace has a value
+-- of its own, an NSID that is not valid, or not active
+abbrev pub get_rows : State → ℕ → ℕ → ℕ → ℕ → Feature → List Row
+get_rows s c sel n cdw11 f =
+    row (nat_lt 3 sel) InvalidFieldInCommand
+    ∷ row (not (is_get_selector f cdw11)) InvalidFieldInCommand
+    ∷ row ((row_of f).per_namespace && not (is_valid s n)) InvalidNamespaceOrFormat
+    ∷ row ((row_of f).per_namespace && not (is_active s c n)) InvalidFieldInCommand
+    ∷ []
+
+abbrev pub get_feature_rows : State → ℕ → ℕ → ℕ → ℕ → ℕ → List Row
+get_feature_rows s c fid sel n cdw11 = supported_rows s c fid (get_rows s c sel n cdw11)
+
+abbrev pub set_rows : State → ℕ → ℕ → Bool → ℕ → Feature → List Row
+set_rows s c value save n f =
+    let each = (row_of f).per_namespace in
+    let all = n == BROADCAST_NSID in
+    row (not (is_accepted f value)) InvalidFieldInCommand
+    ∷ row (each && not (is_valid s n || all)) InvalidNamespaceOrFormat
+    ∷ row (each && not (is_active s c n || all)) InvalidFieldInCommand
+    ∷ row (not each && not (n == 0 || all)) FeatureNotNamespaceSpecific
+    ∷ row (save && not (rule_at s c f).saveable) FeatureIdentifierNotSaveable
+    ∷ row (not (rule_at s c f).changeable) FeatureNotChangeable
+    ∷ []
+
+abbrev pub set_feature_rows : State → ℕ → ℕ → ℕ → Bool → ℕ → List Row
+set_feature_rows s c fid value save n = supported_rows s c fid (set_rows s c value save n)
+
+-- ---- replies
+
+-- what can be done with a feature: bit 0 save, bit 1 a value for each namespace, bit 2 change
+abbrev pub capabilities : FeatureRule → Feature → ℕ
+capabilities rule f =
+    (if rule.saveable then 1 else 0) + (if (row_of f).per_namespace then 2 else 0)
+    + (if rule.changeable then 4 else 0)
+
+-- what a select names: the current value, the default, the saved one, or the capabilities
+abbrev pub selected : FeatureRule → Feature → ℕ → ℕ → FeatureValue → ℕ
+selected rule f sel selector x =
+    if sel == 0 then x.current
+    else if sel == 1 then default_of rule selector
+    else if sel == 2 then unwrap_or x.saved (default_of rule selector)
+    else capabilities rule f
+
+-- the same of a controller's feature under a selector
+abbrev pub told_under : ℕ → Feature → ℕ → ℕ → Controller → ℕ
+told_under selector f sel n x = option_map_or (selected (rule_of x.rules f) f sel selector)
+    (map_of.get x.values (key_of f n selector)) 0
+
+-- and under that of CDW11
+abbrev pub told : Feature → ℕ → ℕ → ℕ → Controller → ℕ
+told f sel n cdw11 x =
+    if is_get_selector f cdw11 then told_under (selector_in f cdw11) f sel n x else 0
+
+abbrev pub feature_number : State → ℕ → ℕ → ℕ → ℕ → ℕ → ℕ
+feature_number s c fid sel n cdw11 =
+    option_map_or (λ f. option_map_or (told f sel n cdw11) (controller_at s c) 0) (feature_of fid) 0
+
+-- ---- effects
+
+-- the NSIDs whose values a set changes
+abbrev pub changed_nsids : State → ℕ → ℕ → Feature → List ℕ
+changed_nsids s c n f = if (row_of f).per_namespace then concerned s c n else 0 ∷ []
+
+-- a Set with this dword is for the selector
+abbrev pub is_set : Feature → ℕ → ℕ → Bool
+is_set f dword selector = list_any (λ x. x == selector) (selectors_set f dword)
+
+-- where a Set is for the key's selector, a value that is there is written over by what is stored
+-- of the dword
+abbrev pub write : Feature → ℕ → Bool → Change
+write f dword save k old =
+    if is_set f dword k.selector then option_map (written (stored f dword) save) old else old
+
+-- for an NSID, and for each of some
+abbrev pub with_value : Feature → ℕ → Bool → FeatureValues → ℕ → FeatureValues
+with_value f value save values n = changed (write f value save) (keys_of f n) values
+
+abbrev pub with_values : Feature → ℕ → Bool → List ℕ → Controller → Controller
+with_values f value save ns x =
+    record x { values = fold (with_value f value save) x.values ns }
+
+abbrev pub with_feature : State → ℕ → ℕ → ℕ → Bool → ℕ → State
+with_feature s c fid value save n =
+    option_map_or (λ f. with_controller s c (with_values f value save (changed_nsids s c n f)))
+    (feature_of fid) s

@@ -1,0 +1,65 @@
+-- Format NVM: when a format is refused, and what it changes.
+use Rattle.std.specs.Prelude.{ℕ, ◌^◌, ◌==◌, ◌&&◌, ◌||◌, not, nat_lt, Bool, false, List, [], ◌∷◌}
+use Rattle.std.specs.List.{list_any}
+use Rattle.std.specs.Option.{option_map_or}
+use Rattle.std.specs.FinMap as map_of
+use Rattle.nv_command.specs.declared.command.TheConstants.{BROADCAST_NSID}
+use Rattle.nv_command.specs.declared.status_code.StatusCode.TheVariants.{InvalidFieldInCommand}
+use Rattle.nv_command.specs.declared.status_code.StatusCode.TheVariants.{InvalidFormat}
+use Rattle.nv_command.specs.declared.status_code.StatusCode.TheVariants.{InvalidNamespaceOrFormat}
+use Rattle.nv_model.specs.declared.namespace.Namespace.{Namespace}
+use Rattle.nv_model.specs.ChangedKeys.{changed_at_keys}
+use Rattle.nv_model.specs.Formats.{can_have, format_at}
+use Rattle.nv_model.specs.Nsid.{concerned, is_active, is_valid}
+use Rattle.nv_model.specs.Row.{row}
+use Rattle.nv_model.specs.State.{Namespaces, State, controller_at}
+use Rattle.nv_model.specs.declared.new_format.NewFormat.{NewFormat}
+use Rattle.nv_model.specs.declared.row.Row.{Row}
+
+abbrev pub new_format : ℕ → Bool → ℕ → Bool → ℕ → NewFormat
+new_format lbaf mset pi pil ses = record {
+  lbaf = lbaf;
+  mset = mset;
+  pi = pi;
+  pil = pil;
+  ses = ses;
+}
+
+-- a namespace with a capacity below a size
+abbrev pub is_below : State → ℕ → ℕ → Bool
+is_below s size n = option_map_or (λ x. nat_lt x.capacity size) (map_of.get s.namespaces n) false
+
+-- one of some namespaces has no room for a logical block of a format
+abbrev pub has_one_below : State → ℕ → List ℕ → Bool
+has_one_below s lbaf ns =
+    option_map_or (λ format. list_any (is_below s (2 ^ format.lbads)) ns)
+    (format_at s lbaf) false
+
+-- the controller can erase by a key
+abbrev pub can_erase_by_key : State → ℕ → Bool
+can_erase_by_key s c = option_map_or (λ x. x.identity.crypto_erase) (controller_at s c) false
+
+abbrev pub format_rows : State → ℕ → ℕ → NewFormat → List Row
+format_rows s c n f =
+    row (not (is_valid s n || n == BROADCAST_NSID)) InvalidNamespaceOrFormat
+    ∷ row (not (is_active s c n || n == BROADCAST_NSID)) InvalidFieldInCommand
+    ∷ row (not (can_have s f.lbaf f.mset)) InvalidFormat
+    ∷ row (not (f.pi == 0) || f.pil) InvalidFormat
+    ∷ row (has_one_below s f.lbaf (concerned s c n)) InvalidFormat
+    ∷ row (nat_lt 2 f.ses || (f.ses == 2 && not (can_erase_by_key s c))) InvalidFieldInCommand
+    ∷ []
+
+-- a namespace in another format, with its metadata elsewhere; its capacity stays
+abbrev pub in_format : ℕ → Bool → Namespace → Namespace
+in_format lbaf mset x = record x { format = lbaf; extended = mset }
+
+-- one of the namespaces, where it is there
+abbrev pub with_format : ℕ → Bool → Namespaces → ℕ → Namespaces
+with_format lbaf mset m n =
+    option_map_or (λ x. map_of.insert m n (in_format lbaf mset x)) (map_of.get m n) m
+
+abbrev pub formatted : State → ℕ → ℕ → NewFormat → State
+formatted s c n f =
+    record s {
+      namespaces = changed_at_keys (concerned s c n) (in_format f.lbaf f.mset) s.namespaces;
+    }

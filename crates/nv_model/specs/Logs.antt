@@ -1,0 +1,102 @@
+-- Get Log Page: when it is refused, and what it answers.
+use Rattle.std.specs.Prelude.{ℕ, ◌+◌, ◌-◌, ◌*◌, ◌%◌, ◌==◌, ◌||◌, not, nat_lt, Bool, List, [], ◌∷◌}
+use Rattle.std.specs.Prelude.{◌++◌, length, replicate, if◌then◌else◌}
+use Rattle.std.specs.Option.{option_map_or}
+use Rattle.nv_layout.specs.ErrorEntry.{no_entry}
+use Rattle.nv_layout.specs.declared.error_entry.ErrorEntry.{ErrorEntry}
+use Rattle.nv_layout.specs.declared.smart.Smart.{Smart}
+use Rattle.nv_command.specs.Logs.{is_error_log}
+use Rattle.nv_command.specs.declared.command.TheConstants.{BROADCAST_NSID}
+use Rattle.nv_command.specs.declared.reply.Reply.{Reply}
+use Rattle.nv_command.specs.declared.reply.Reply.TheVariants as reply
+use Rattle.nv_command.specs.declared.status_code.StatusCode.TheVariants.{InvalidFieldInCommand}
+use Rattle.nv_command.specs.declared.status_code.StatusCode.TheVariants.{InvalidLogPage}
+use Rattle.nv_model.specs.Row.{row}
+use Rattle.nv_model.specs.State.{Controller, State, controller_at}
+use Rattle.nv_model.specs.declared.row.Row.{Row}
+
+-- ---- refusals
+
+-- the error log, or the health log
+abbrev pub is_log : ℕ → Bool
+is_log lid = is_error_log lid || lid == 0x02
+
+-- how many entries the error log has: ELPE + 1
+abbrev pub entry_count : State → ℕ → ℕ
+entry_count s c = option_map_or (λ x. x.identity.numbers.elpe + 1) (controller_at s c) 1
+
+-- the bytes of a log
+abbrev pub log_length : State → ℕ → ℕ → ℕ
+log_length s c lid = if is_error_log lid then 64 * entry_count s c else 512
+
+-- another log; an NSID other than 0 and the broadcast one; an offset past the end of the log, or
+-- inside a dword
+abbrev pub log_rows : State → ℕ → ℕ → ℕ → ℕ → List Row
+log_rows s c lid n offset =
+    row (not (is_log lid)) InvalidLogPage
+    ∷ row (not (n == 0 || n == BROADCAST_NSID)) InvalidFieldInCommand
+    ∷ row (nat_lt (log_length s c lid) offset || not (offset % 4 == 0)) InvalidFieldInCommand
+    ∷ []
+
+-- ---- replies
+
+-- the errors of a controller newest first, and entries without one up to ELPE + 1
+abbrev pub errors_of : Controller → List ErrorEntry
+errors_of x = x.log ++ replicate (x.identity.numbers.elpe + 1 - length x.log) no_entry
+
+-- its health: what the file gives, and how many commands it refused
+abbrev pub smart_of : Controller → Smart
+smart_of x = record {
+  critical_warning = x.smart.critical_warning;
+  temperature = x.smart.temperature;
+  avail_spare = x.smart.avail_spare;
+  spare_thresh = x.smart.spare_thresh;
+  percent_used = x.smart.percent_used;
+  data_units_read = x.smart.counters.data_units_read;
+  data_units_written = x.smart.counters.data_units_written;
+  host_read_commands = x.smart.counters.host_read_commands;
+  host_write_commands = x.smart.counters.host_write_commands;
+  controller_busy_time = x.smart.counters.controller_busy_time;
+  power_cycles = x.smart.counters.power_cycles;
+  power_on_hours = x.smart.counters.power_on_hours;
+  unsafe_shutdowns = x.smart.counters.unsafe_shutdowns;
+  media_errors = x.smart.counters.media_errors;
+  num_err_log_entries = x.refusals;
+  warning_temp_time = x.smart.warning_temp_time;
+  critical_comp_time = x.smart.critical_comp_time;
+  sensors = x.smart.sensors;
+}
+
+-- of a controller that isn't there
+abbrev pub no_health : Smart
+no_health = record {
+  critical_warning = 0;
+  temperature = 0;
+  avail_spare = 0;
+  spare_thresh = 0;
+  percent_used = 0;
+  data_units_read = 0;
+  data_units_written = 0;
+  host_read_commands = 0;
+  host_write_commands = 0;
+  controller_busy_time = 0;
+  power_cycles = 0;
+  power_on_hours = 0;
+  unsafe_shutdowns = 0;
+  media_errors = 0;
+  num_err_log_entries = 0;
+  warning_temp_time = 0;
+  critical_comp_time = 0;
+  sensors = replicate 8 0;
+}
+
+abbrev pub errors_at : State → ℕ → List ErrorEntry
+errors_at s c = option_map_or errors_of (controller_at s c) (no_entry ∷ [])
+
+abbrev pub smart_at : State → ℕ → Smart
+smart_at s c = option_map_or smart_of (controller_at s c) no_health
+
+-- the error log, or the health log
+abbrev pub log_reply : State → ℕ → ℕ → Reply
+log_reply s c lid =
+    if is_error_log lid then reply.Errors (errors_at s c) else reply.Smart (smart_at s c)

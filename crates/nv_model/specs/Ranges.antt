@@ -1,0 +1,86 @@
+-- The ranges of what a subsystem is made of.
+use Rattle.std.specs.Prelude.{◌≡◌, ℕ, ◌-◌, ◌^◌, ◌<◌, ◌≤◌, Bool, true, false, not, ◌&&◌, List}
+use Rattle.std.specs.Prelude.{length, All, bit_and, nat_le, ◌==◌, slice_index, IsSomeAnd}
+use Rattle.std.specs.List.{list_all}
+use Rattle.nv_model.specs.declared.format.Format.{Format}
+use Rattle.nv_model.specs.declared.namespace.Namespace.{Namespace}
+use Rattle.nv_model.specs.declared.feature_rule.FeatureRule.{FeatureRule}
+use Rattle.nv_model.specs.declared.smart_base.Counters.{Counters}
+use Rattle.nv_model.specs.declared.smart_base.SmartBase.{SmartBase}
+use Rattle.nv_model.specs.declared.identity.IdentityNumbers.{IdentityNumbers}
+use Rattle.nv_model.specs.declared.integer.TheConstants.{GREATEST_INTEGER}
+use Rattle.nv_layout.specs.Feature.{feature_of, is_value}
+use Rattle.nv_model.specs.Defaults.{AreDefaults, default_at}
+use Rattle.nv_model.specs.Identity.{Identity}
+
+-- 1 to most bytes, each 20h to 7Eh and the last one not a space
+abbrev pub is_text : ℕ → List ℕ → Bool
+is_text most s =
+    (nat_le 1 (length s) && nat_le (length s) most)
+    && (list_all (λ b. nat_le 32 b && nat_le b 126) s && not (slice_index s (length s - 1) == 32))
+
+-- The greatest NSID, the capacity in bytes, where metadata can lie, and the name of the subsystem.
+pub record AreTopKeys (last_nsid capacity metadata : ℕ) (name : List ℕ) : Type 0 where
+  pub nn : (1 ≤ last_nsid) × (last_nsid ≤ 1024)
+  pub tnvmcap : capacity ≤ GREATEST_INTEGER
+  pub mc : metadata ≤ 3
+  pub subnqn : is_text 223 name ≡ true
+
+pub record IsFormat (f : Format) : Type 0 where
+  pub lbads : (9 ≤ f.lbads) × (f.lbads ≤ 16)
+  pub ms : f.ms ≤ 65535
+  pub rp : f.rp ≤ 3
+
+-- One of the features, with defaults that are values of it. Error Recovery is never saveable.
+pub record IsFeatureRule (r : FeatureRule) : Type 0 where
+  pub defaults : AreDefaults r.defaults
+  pub default : IsSomeAnd (feature_of r.fid)
+      (λ f. (s : ℕ) → is_value f (default_at r.defaults s) ≡ true)
+  pub saveable : r.fid ≡ 0x05 → r.saveable ≡ false
+
+pub record IsCounters (c : Counters) : Type 0 where
+  pub data_units_read : c.data_units_read ≤ GREATEST_INTEGER
+  pub data_units_written : c.data_units_written ≤ GREATEST_INTEGER
+  pub host_read_commands : c.host_read_commands ≤ GREATEST_INTEGER
+  pub host_write_commands : c.host_write_commands ≤ GREATEST_INTEGER
+  pub controller_busy_time : c.controller_busy_time ≤ GREATEST_INTEGER
+  pub power_cycles : c.power_cycles ≤ GREATEST_INTEGER
+  pub power_on_hours : c.power_on_hours ≤ GREATEST_INTEGER
+  pub unsafe_shutdowns : c.unsafe_shutdowns ≤ GREATEST_INTEGER
+  pub media_errors : c.media_errors ≤ GREATEST_INTEGER
+
+pub record IsSmart (s : SmartBase) : Type 0 where
+  pub critical_warning : s.critical_warning ≤ 255
+  pub temperature : s.temperature ≤ 65535
+  pub avail_spare : s.avail_spare ≤ 255
+  pub spare_thresh : s.spare_thresh ≤ 255
+  pub percent_used : s.percent_used ≤ 255
+  pub counters : IsCounters s.counters
+  pub warning_temp_time : s.warning_temp_time ≤ 4294967295
+  pub critical_comp_time : s.critical_comp_time ≤ 4294967295
+  pub sensors : (length s.sensors ≡ 8) × All (λ n. n ≤ 65535) s.sensors
+
+-- The numbers that a controller says of itself.
+pub record IsIdentityNumbers (n : IdentityNumbers) : Type 0 where
+  pub vid : n.vid ≤ 65535
+  pub ssvid : n.ssvid ≤ 65535
+  pub rab : n.rab ≤ 255
+  pub ieee : n.ieee ≤ 16777215
+  pub mdts : (2 ≤ n.mdts) × (n.mdts ≤ 8)
+  pub elpe : n.elpe ≤ 255
+  pub wctemp : n.wctemp ≤ 65535
+  pub cctemp : n.cctemp ≤ 65535
+  pub vwc : n.vwc ≤ 7
+
+pub record IsIdentity (i : Identity) : Type 0 where
+  pub cntlid : i.cntlid ≤ 65519
+  pub sn : is_text 20 i.sn ≡ true
+  pub mn : is_text 40 i.mn ≡ true
+  pub fr : is_text 8 i.fr ≡ true
+  pub numbers : IsIdentityNumbers i.numbers
+
+-- A namespace has at least one block of its format, and extended blocks only where format and
+-- subsystem allow them.
+pub record IsInFormat (mc : ℕ) (f : Format) (n : Namespace) : Type 0 where
+  pub capacity : (2 ^ f.lbads ≤ n.capacity) × (n.capacity ≤ GREATEST_INTEGER)
+  pub extended : n.extended ≡ true → (0 < f.ms) × (bit_and mc 1 ≡ 1)

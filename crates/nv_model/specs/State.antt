@@ -1,0 +1,63 @@
+-- An NVM subsystem as a value: what commands read and change, and nothing of how they travel.
+use Rattle.std.specs.Prelude.{ℕ, zero, suc, List, [], ◌∷◌, Option, slice_get}
+use Rattle.std.specs.Ordering.{nat_cmp}
+use Rattle.std.specs.FinMap as map_of
+use Rattle.std.specs.FinSet as set_of
+use Rattle.nv_model.specs.Identity.{Identity}
+use Rattle.nv_model.specs.FeatureRules.{FeatureRules}
+use Rattle.nv_model.specs.ValueKey.{FeatureValues}
+use Rattle.nv_layout.specs.declared.error_entry.ErrorEntry.{ErrorEntry}
+use Rattle.nv_model.specs.declared.format.Format.{Format}
+use Rattle.nv_model.specs.declared.namespace.Namespace.{Namespace}
+use Rattle.nv_model.specs.declared.smart_base.SmartBase.{SmartBase}
+
+-- what finds what by its NSID
+abbrev pub Namespaces : Type 0
+Namespaces = map_of.FinMap nat_cmp Namespace
+
+abbrev pub Nsids : Type 0
+Nsids = set_of.FinSet nat_cmp
+
+-- a controller: what its file table gives, its error log newest first and without phase tags, how
+-- many commands it refused and how many it took, the NSIDs that are attached to it, and the values
+-- of its features
+pub record Controller : Type 0 where
+  pub identity : Identity
+  pub rules : FeatureRules
+  pub smart : SmartBase
+  pub log : List ErrorEntry
+  pub refusals : ℕ
+  pub commands : ℕ
+  pub attached : Nsids
+  pub values : FeatureValues
+
+-- a subsystem: the greatest NSID, the capacity in bytes, how metadata may lie, the name, the
+-- formats, the controllers, and the namespaces by their NSIDs
+pub record State : Type 0 where
+  pub nn : ℕ
+  pub tnvmcap : ℕ
+  pub mc : ℕ
+  pub subnqn : List ℕ
+  pub formats : List Format
+  pub controllers : List Controller
+  pub namespaces : Namespaces
+
+abbrev pub controller_at : State → ℕ → Option Controller
+controller_at s c = slice_get s.controllers c
+
+-- the NSIDs of a set, ascending
+abbrev pub ascending : Nsids → List ℕ
+ascending ns = map_of.keys ns
+
+-- the allocated NSIDs, ascending
+abbrev pub allocated_nsids : State → List ℕ
+allocated_nsids s = map_of.keys s.namespaces
+
+-- a list with the element at a place changed, and a subsystem with such a controller
+abbrev pub changed_at : {A : Type 0} → List A → ℕ → (A → A) → List A
+changed_at [] n f = []
+changed_at (x ∷ xs) zero f = f x ∷ xs
+changed_at (x ∷ xs) (suc n) f = x ∷ changed_at xs n f
+
+abbrev pub with_controller : State → ℕ → (Controller → Controller) → State
+with_controller s c f = record s { controllers = changed_at s.controllers c f }

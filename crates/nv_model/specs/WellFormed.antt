@@ -1,0 +1,82 @@
+-- What holds of every subsystem that a file gives, and after every command.
+use Rattle.std.specs.Prelude.{◌≡◌, ◌≢◌, ℕ, ◌+◌, ◌≤◌, ◌==◌, ◌&&◌, Bool, min, true}
+use Rattle.std.specs.Prelude.{false, if◌then◌else◌, length, count_by, All, AllPairs, Some, IsSomeAnd, slice_get}
+use Rattle.std.specs.FinMap as map_of
+use Rattle.nv_model.specs.Capacity.{used}
+use Rattle.nv_model.specs.Ranges.{AreTopKeys, IsFeatureRule, IsFormat, IsIdentity, IsInFormat}
+use Rattle.nv_model.specs.Ranges.{IsSmart}
+use Rattle.std.specs.Option.{option_map_or}
+use Rattle.nv_layout.specs.Feature.{feature_of, is_selector, is_value, row_of}
+use Rattle.nv_layout.specs.declared.feature.Feature.{Feature}
+use Rattle.nv_model.specs.declared.feature_rule.FeatureRule.{FeatureRule}
+use Rattle.nv_model.specs.Supported.{is_supported}
+use Rattle.nv_model.specs.FeatureRules.{FeatureRules}
+use Rattle.nv_model.specs.ValueKey.{FeatureValues, ValueKey}
+use Rattle.nv_model.specs.declared.feature_value.FeatureValue.{FeatureValue}
+use Rattle.nv_model.specs.State.{Controller, Namespaces, Nsids, State}
+use Rattle.nv_model.specs.declared.count.TheConstants.{GREATEST_COUNT}
+use Rattle.nv_layout.specs.ErrorEntry.{ErrorEntryFits}
+use Rattle.nv_model.specs.declared.namespace.Namespace.{Namespace}
+
+-- each rule stands under its feature identifier
+abbrev pub AreRules : FeatureRules → Type 0
+AreRules rules = (fid : ℕ) (r : FeatureRule) → map_of.get rules fid ≡ Some r
+    → IsFeatureRule r × (r.fid ≡ fid)
+
+-- what a feature may have, the saved value too
+abbrev pub may_have : Feature → FeatureValue → Bool
+may_have f x = is_value f x.current && option_map_or (is_value f) x.saved true
+
+-- a value under the key of a feature that may have it
+abbrev pub is_value_at : ValueKey → FeatureValue → Bool
+is_value_at k x = option_map_or (λ f. may_have f x) (feature_of k.fid) false
+
+-- the NSIDs under which a feature has values: the attached ones where each namespace has a value of
+-- its own, and else 0 alone
+abbrev pub is_nsid_of : Nsids → Feature → ℕ → Bool
+is_nsid_of attached f nsid =
+    if (row_of f).per_namespace then map_of.contains_key attached nsid else nsid == 0
+
+-- a supported feature has a value under each of its selectors
+abbrev pub has_value : FeatureRules → ℕ → Nsids → ValueKey → Bool
+has_value rules vwc attached k = option_map_or
+    (λ f. is_supported rules vwc f && (is_selector f k.selector && is_nsid_of attached f k.nsid))
+    (feature_of k.fid) false
+
+-- exactly these keys have a value, and one that their feature may have
+pub record AreValues (rules : FeatureRules) (vwc : ℕ) (attached : Nsids) (values : FeatureValues)
+    : Type 0 where
+  pub keys : (k : ValueKey) → map_of.contains_key values k ≡ has_value rules vwc attached k
+  pub sound : (k : ValueKey) (x : FeatureValue) → map_of.get values k ≡ Some x
+      → is_value_at k x ≡ true
+
+-- a controller of the subsystem: what its file table gives is in range, it has only namespaces of
+-- the subsystem, and its log has the newest of its refusals
+pub record IsController (namespaces : Namespaces) (x : Controller) : Type 0 where
+  pub identity : IsIdentity x.identity
+  pub rules : AreRules x.rules
+  pub smart : IsSmart x.smart
+  pub log : length x.log ≡ min x.refusals (x.identity.numbers.elpe + 1)
+  pub entries : All ErrorEntryFits x.log
+  pub refusals : x.refusals ≤ GREATEST_COUNT
+  pub commands : x.commands ≤ GREATEST_COUNT
+  pub attached : (n : ℕ) → map_of.contains_key x.attached n ≡ true
+      → map_of.contains_key namespaces n ≡ true
+  pub values : AreValues x.rules x.identity.numbers.vwc x.attached x.values
+
+-- a namespace of the subsystem
+pub record IsNamespace (s : State) (n : ℕ) (x : Namespace) : Type 0 where
+  pub nsid : (1 ≤ n) × (n ≤ s.nn)
+  pub format : IsSomeAnd (slice_get s.formats x.format) (λ f. IsInFormat s.mc f x)
+  pub private : x.shared ≡ false
+      → count_by (λ c. map_of.contains_key c.attached n) s.controllers ≤ 1
+
+pub record IsWellFormed (s : State) : Type 0 where
+  pub keys : AreTopKeys s.nn s.tnvmcap s.mc s.subnqn
+  pub format_count : (1 ≤ length s.formats) × (length s.formats ≤ 16)
+  pub formats : All IsFormat s.formats
+  pub controller_count : (1 ≤ length s.controllers) × (length s.controllers ≤ 16)
+  pub controllers : All (IsController s.namespaces) s.controllers
+  pub cntlids : AllPairs (λ c d. c.identity.cntlid ≢ d.identity.cntlid) s.controllers
+  pub namespaces : (n : ℕ) (x : Namespace) → map_of.get s.namespaces n ≡ Some x → IsNamespace s n x
+  pub capacities : used s.namespaces ≤ s.tnvmcap

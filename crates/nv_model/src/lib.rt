@@ -1,0 +1,31 @@
+//! An NVM subsystem as a value: what a controller says of itself, namespaces, features and logs, and
+//! what each command answers and changes. Its definitions are what the crates above it promise.
+#![tactic(auto)]
+
+mod count;
+mod defaults;
+mod feature_rule;
+mod feature_value;
+mod format;
+mod identity;
+mod integer;
+mod namespace;
+mod new_format;
+mod new_namespace;
+mod origin;
+mod row;
+mod smart_base;
+
+pub use count::GREATEST_COUNT;
+pub use defaults::Defaults;
+pub use feature_rule::FeatureRule;
+pub use feature_value::FeatureValue;
+pub use format::Format;
+pub use identity::{Identity, IdentityNumbers};
+pub use integer::GREATEST_INTEGER;
+pub use namespace::Namespace;
+pub use new_format::NewFormat;
+pub use new_namespace::NewNamespace;
+pub use origin::{Origin, SERIALS};
+pub use row::Row;
+pub use smart_base::{Counters, SmartBase};

@@ -1,0 +1,83 @@
+-- What buffers and lists keep while a memory changes, and the places of a buffer.
+use Rattle.std.proofs.Common.{◌≡◌, ℕ, suc, ◌+◌, ◌*◌, ◌/◌, ◌%◌, ◌<◌, ◌≤◌, List, ◌∷◌, arith, get_or}
+use Rattle.std.proofs.Common.{inl, inr, length, subst, sym}
+use Rattle.std.proofs.Math.Nat.{mul-le-mul_right}
+use Rattle.std.proofs.lemmas.Bool.{cases_lt}
+use Rattle.std.proofs.lemmas.Nat.{div-add-mod', div_below, same_from_place}
+use Rattle.nv_host.specs.Pages.{HasPage}
+use Rattle.nv_prp.specs.Buffer.{IsBuffer, IsListPlace, buffer_place, buffer_places}
+use Rattle.nv_prp.specs.Place.{AreDistinct}
+use Rattle.nv_prp.proofs.PlaceLaws.{table-same, table_distinct}
+use Rattle.nv_prp.specs.Transfer.{Transfer, place_of, transfer_places}
+
+-- a memory that keeps its size keeps its buffers, and its places for lists
+
+pub buffer_kept : (old new : List ℕ) (page_size : ℕ) (pages : List ℕ) (start len : ℕ) → length new
+    ≡ length old
+    → IsBuffer old page_size pages start len → IsBuffer new page_size pages start len
+buffer_kept old new page_size pages start len same buffer = record {
+  below = buffer.below;
+  aligned = buffer.aligned;
+  enough = buffer.enough;
+  inside = λ k d below. let has : HasPage old page_size (get_or pages k d) =
+      buffer.inside k d below in omega arith;
+}
+
+pub list_place_kept : (old new : List ℕ) (page_size first second start : ℕ) → length new
+    ≡ length old
+    → IsListPlace old page_size first second start → IsListPlace new page_size first second start
+list_place_kept old new page_size first second start same place = record {
+  below = place.below;
+  aligned = place.aligned;
+  has_first = omega (arith, place.has_first);
+  has_second = omega (arith, place.has_second);
+}
+
+-- ---- the places of a buffer
+
+-- those of distinct pages are distinct
+pub buffer_distinct : (page_size : ℕ) (pages : List ℕ) (start len : ℕ) → 0 < page_size → start + len
+    ≤ length pages * page_size
+    → AreDistinct pages → AreDistinct (buffer_places page_size pages start len)
+unfolding buffer_places buffer_place
+buffer_distinct page_size pages start len some enough distinct =
+    table_distinct len (buffer_place page_size pages start)
+    (λ i k below within e.
+    let first = start + i in
+    let later = start + k in
+    let split_first : first / page_size * page_size + first % page_size ≡ first =
+    div-add-mod' first page_size in
+    let split_later : later / page_size * page_size + later % page_size ≡ later =
+    div-add-mod' later page_size in
+    let same = same_from_place (get_or pages (first / page_size) 0) (first % page_size)
+    (get_or pages (later / page_size) 0) (later % page_size)
+    page_size (omega arith) (omega arith) e in
+    elim (cases_lt (first / page_size) (later / page_size)) [
+      | inl before ↦
+          distinct (first / page_size) (later / page_size) 0 before
+          (div_below later page_size (length pages) some (omega arith)) same.0
+      | inr after ↦
+          let least : later / page_size * page_size ≤ first / page_size * page_size =
+          mul-le-mul_right page_size after in
+          omega (arith, same.1)
+    ])
+
+pub built_is_walked : (t : Transfer) (pages : List ℕ) (offset : ℕ)
+    → IsBuffer t.bytes t.page_size pages offset t.len
+    → ((i : ℕ) → i < t.len → place_of t i ≡ buffer_place t.page_size pages offset i)
+    → (transfer_places t ≡ buffer_places t.page_size pages offset t.len)
+    × (AreDistinct pages → AreDistinct (transfer_places t))
+unfolding transfer_places buffer_places
+built_is_walked t pages offset buffer each =
+    let same : transfer_places t ≡ buffer_places t.page_size pages offset t.len =
+    table-same t.len (place_of t) (buffer_place t.page_size pages offset) each in (
+      same,
+      λ distinct. subst AreDistinct (sym same)
+          (buffer_distinct t.page_size pages offset t.len (omega (arith, buffer.below))
+          buffer.enough distinct),
+    )
+
+-- distinct pages after two others are distinct
+pub rest_distinct : (p q : ℕ) (pages : List ℕ) → AreDistinct (p ∷ q ∷ pages) → AreDistinct pages
+rest_distinct p q pages distinct i k d below inside =
+    distinct (suc (suc i)) (suc (suc k)) d (omega arith) (omega arith)

@@ -1,0 +1,129 @@
+-- Whole numbers, and what a ring keeps of them.
+use Rattle.std.proofs.Common.{◌≡◌, ◌≢◌, ℕ, ◌+◌, ◌-◌, ◌*◌, ◌/◌, ◌%◌, ◌==◌, ◌<◌, ◌≤◌, ◌⊎◌, not, inl}
+use Rattle.std.proofs.Common.{inr, sym, ap, ◌∙◌, arith}
+use Rattle.std.proofs.lemmas.Bool.{cases_lt}
+use Rattle.std.proofs.lemmas.Nat.{mod_below}
+use Rattle.std.proofs.Math.Nat.{add-mod_right, add-mul-mod_self_left, div-add-mod, mod-add-mod}
+use Rattle.std.proofs.Math.Nat.{zero-mod}
+use Rattle.nv_queue.specs.Numbers.{IsSlotBetween, above, ahead, first_in_slot, kept_number, next}
+use Rattle.nv_queue.specs.Numbers.{phase_of, slot_of}
+use Rattle.nv_queue.proofs.NumberLaws.{above_cases, ahead_slot, rest_is, slot_below, slot_cases}
+use Rattle.nv_queue.proofs.NumberLaws.{times_is}
+
+-- ---- whole numbers
+
+pub slot_again : (d n : ℕ) → slot_of d (n + d) ≡ slot_of d n
+unfolding slot_of
+slot_again d n = add-mod_right n d
+
+even_next : (r : ℕ) → r < 2 → (r + 1) % 2 == 0 ≡ not (r == 0)
+even_next r h =
+    elim (cases_lt r 1) [
+      | inl l ↦ let e : r ≡ 0 = omega arith in rw e
+      | inr g ↦ let e : r ≡ 1 = omega arith in rw e
+    ]
+
+even_after : (q : ℕ) → (q + 1) % 2 == 0 ≡ not (q % 2 == 0)
+even_after q =
+    ap (λ x. x == 0) (sym (mod-add-mod q 2 1)) ∙ even_next (q % 2) (mod_below q 2 (omega arith))
+
+pub phase_again : (d n : ℕ) → 0 < d → phase_of d (n + d) ≡ not (phase_of d n)
+unfolding phase_of
+phase_again d n p =
+    let e : n + d ≡ (n / d + 1) * d + n % d = omega (arith, div-add-mod n d) in
+    let times = times_is (n + d) (n / d + 1) d (n % d) e (mod_below n d p) in
+    ap (λ x. x % 2 == 0) times ∙ even_after (n / d)
+
+-- ---- what is kept of them
+
+pub kept_below : (d n : ℕ) → 0 < d → kept_number d n < 2 * d
+unfolding kept_number
+kept_below d n h = mod_below n (2 * d) (omega arith)
+
+pub kept_zero : (d : ℕ) → kept_number d 0 ≡ 0
+unfolding kept_number
+kept_zero d = zero-mod (2 * d)
+
+pub kept_more : (d a b j : ℕ) → a ≡ b + j → kept_number d a ≡ (kept_number d b + j) % (2 * d)
+unfolding kept_number
+kept_more d a b j e = ap (λ x. x % (2 * d)) e ∙ sym (mod-add-mod b (2 * d) j)
+
+pub kept_next : (d n : ℕ) → next d (kept_number d n) ≡ kept_number d (n + 1)
+unfolding kept_number next
+kept_next d n = mod-add-mod n (2 * d) 1
+
+whole : (d n : ℕ) → n ≡ n % (2 * d) + d * (2 * (n / (2 * d)))
+whole d n = omega (arith, div-add-mod n (2 * d))
+
+pub slot_kept : (d n : ℕ) → slot_of d (kept_number d n) ≡ slot_of d n
+unfolding slot_of kept_number
+slot_kept d n =
+    let r = n % (2 * d) in
+    sym (ap (λ x. x % d) (whole d n) ∙ add-mul-mod_self_left r d (2 * (n / (2 * d))))
+
+pub phase_kept : (d n : ℕ) → 0 < d → phase_of d (kept_number d n) ≡ phase_of d n
+unfolding phase_of kept_number
+phase_kept d n p =
+    let r = n % (2 * d) in let k = n / (2 * d) in
+    let e : n ≡ (r / d + 2 * k) * d + r % d =
+    omega (arith, div-add-mod n (2 * d), div-add-mod r d) in
+    let times = times_is n (r / d + 2 * k) d (r % d) e (mod_below r d p) in
+    sym (ap (λ x. x % 2 == 0) times ∙ ap (λ x. x == 0) (add-mul-mod_self_left (r / d) 2 k))
+
+-- j numbers further, from the number r that is kept
+further : (d r j : ℕ) → r < 2 * d → j < 2 * d
+    → ((r + j < 2 * d) × ((r + j) % (2 * d) ≡ r + j))
+    ⊎ ((2 * d ≤ r + j) × ((r + j) % (2 * d) ≡ r + j - 2 * d))
+further d r j h i =
+    elim (cases_lt (r + j) (2 * d)) [
+      | inl l ↦ inl (l, rest_is (r + j) 0 (2 * d) (r + j) (omega arith) l)
+      | inr g ↦ inr (g, rest_is (r + j) 1 (2 * d) (r + j - 2 * d) (omega arith) (omega arith))
+    ]
+
+above_further : (d r j x : ℕ) → r < 2 * d → j < 2 * d → x ≡ (r + j) % (2 * d) → x < 2 * d
+    → above d x r ≡ j
+above_further d r j x h i e l = grind (arith, further d r j h i, above_cases d x r l h)
+
+pub above_kept : (d a b j : ℕ) → 0 < d → a ≡ b + j → j < 2 * d
+    → above d (kept_number d a) (kept_number d b) ≡ j
+above_kept d a b j p e l =
+    above_further d (kept_number d b) j (kept_number d a) (kept_below d b p) l (kept_more d a b j e)
+    (kept_below d a p)
+
+-- numbers less than a depth apart stand in two slots
+pub slots_apart : (d a b : ℕ) → b < a → a < b + d → slot_of d a ≢ slot_of d b
+slots_apart d a b l h =
+    let e : a ≡ b + (a - b) = omega arith in
+    let far : above d (kept_number d a) (kept_number d b) ≡ a - b =
+    above_kept d a b (a - b) (omega arith) e (omega arith) in
+    let low = kept_below d b (omega arith) in
+    let high = kept_below d a (omega arith) in
+    λ same. let slots = slot_kept d a ∙ (same ∙ sym (slot_kept d b)) in
+    apart_slots d (kept_number d a) (kept_number d b) high low (omega arith) (omega arith) slots
+  where
+    apart_slots : (d x r : ℕ) → x < 2 * d → r < 2 * d → 0 < above d x r → above d x r < d
+        → slot_of d x ≡ slot_of d r → ⊥
+    apart_slots d x r h i more less same =
+        grind (arith, above_cases d x r h i, slot_cases d x h, slot_cases d r i)
+
+-- the slot of a number less than a depth further is reached as that number
+pub ahead_kept : (d a b j : ℕ) → a ≡ b + j → j < d
+    → ahead d (kept_number d b) (slot_of d (kept_number d a)) ≡ j
+ahead_kept d a b j e l =
+    let is = above_kept d a b j (omega arith) e (omega arith) in
+    let low = kept_below d b (omega arith) in
+    let high = kept_below d a (omega arith) in
+    ahead_slot d (kept_number d a) (kept_number d b) high low (omega arith) ∙ is
+
+pub first_kept : (d a b j : ℕ) → a ≡ b + j → j < d
+    → first_in_slot d (kept_number d b) (slot_of d (kept_number d a)) ≡ kept_number d a
+unfolding first_in_slot
+first_kept d a b j e l =
+    ap (λ x. (kept_number d b + x) % (2 * d)) (ahead_kept d a b j e l) ∙ sym (kept_more d a b j e)
+
+pub between_kept : (d b j m a c : ℕ) → j ≤ m → m < d → a ≡ b + j → c ≡ b + m
+    → IsSlotBetween d (kept_number d b) (kept_number d c) (slot_of d (kept_number d a))
+between_kept d b j m a c l h at end =
+    let near = ahead_kept d a b j at (omega arith) in
+    let far = above_kept d c b m (omega arith) end (omega arith) in
+    (slot_below d (kept_number d a) (kept_below d a (omega arith)), omega arith)

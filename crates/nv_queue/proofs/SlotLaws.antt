@@ -1,0 +1,257 @@
+-- What the slots of a ring hold as entries are written.
+use Rattle.std.proofs.Common.{◌≡◌, ◌≢◌, ℕ, ◌+◌, ◌-◌, ◌*◌, ◌<◌, ◌≤◌, inl, inr, Bool, true, false}
+use Rattle.std.proofs.Common.{not}
+use Rattle.std.proofs.Common.{List, [], ◌∷◌, ◌++◌, length, slice_index_or, Option, None, Some}
+use Rattle.std.proofs.Common.{IfSome}
+use Rattle.std.proofs.Common.{IsSome, ◌↔◌, refl, sym, ap, ◌∙◌, arith}
+use Rattle.std.proofs.lemmas.Bool.{cases_lt}
+use Rattle.std.proofs.lemmas.Nat.{mod_below}
+use Rattle.std.proofs.lemmas.List.{get_or_append_left, get_or_push, length_push}
+use Rattle.std.proofs.Math.Nat.{mul-le-mul_left}
+use Rattle.nv_host.specs.Bytes.{bytes_at, with_bytes}
+use Rattle.nv_host.proofs.BytesLaws.{bytes_at-with_after, bytes_at-with_before, bytes_at-with_same}
+use Rattle.nv_host.proofs.BytesLaws.{length-with_bytes}
+use Rattle.nv_layout.specs.Cqe.{CqeFits, bytes_of_cqe, cqe_of_bytes}
+use Rattle.nv_layout.specs.Sqe.{SqeFits, bytes_of_sqe, sqe_of_bytes}
+use Rattle.nv_layout.specs.declared.cqe.Cqe.{Cqe}
+use Rattle.nv_layout.specs.declared.sqe.Sqe.{Sqe}
+use Rattle.nv_layout.proofs.RecordLaws.{cqe_back, length-bytes_of_cqe, length-bytes_of_sqe, sqe_back}
+use Rattle.nv_queue.specs.Numbers.{kept_number, phase_of, slot_of}
+use Rattle.nv_queue.proofs.NumberLaws.{phase_low, slot_low}
+use Rattle.nv_queue.proofs.KeptLaws.{phase_again, phase_kept, slot_again, slot_kept, slots_apart}
+use Rattle.nv_queue.specs.Rings.{CollectNumbers, IsCollectRing, PostNumbers, SubmitNumbers}
+use Rattle.nv_queue.specs.Slots.{CollectsPosted, HoldsOneMore, HoldsPosted, IsAwaitedThere}
+use Rattle.nv_queue.specs.Slots.{WritesCompletion, WritesSubmission, awaited_completion}
+use Rattle.nv_queue.specs.Slots.{completion_at}
+use Rattle.nv_queue.specs.Slots.{completion_place, posted_as, put_as, submission_place}
+use Rattle.nv_queue.specs.Slots.{with_completion, with_submission}
+
+-- ---- the awaited slot
+
+turned_back : (a b : Bool) → b ≡ not a → a ≡ not b
+turned_back true b e = rw e refl
+turned_back false b e = rw e refl
+
+pub not_own : (a b : Bool) → a ≡ not b → a ≢ b
+not_own true true e = λ same. cc
+not_own true false e = λ same. cc
+not_own false true e = λ same. cc
+not_own false false e = λ same. cc
+
+pub posted_tag : (bytes : List ℕ) (base d : ℕ) (posted : List Cqe) (k : ℕ)
+    → HoldsPosted bytes base d posted → k < length posted → length posted ≤ k + d
+    → (completion_at bytes base (slot_of d k)).phase ≡ phase_of d k
+posted_tag bytes base d posted k holds l h =
+    let c = completion_at bytes base (slot_of d k) in
+    ap (λ x. x.phase) (holds.standing k c l h) ∙ holds.phases k c l
+
+awaited_tag : (bytes : List ℕ) (base d : ℕ) (posted : List Cqe) (k : ℕ) → 0 < d
+    → HoldsPosted bytes base d posted → k ≡ length posted
+    → (completion_at bytes base (slot_of d k)).phase ≡ not (phase_of d k)
+awaited_tag bytes base d posted k p holds e =
+    elim (cases_lt k d) [
+      | inl l ↦ rw (slot_low d k l, phase_low d k l) (holds.blank k (omega arith) l)
+      | inr g ↦
+          let n = k - d in
+          let back : k ≡ n + d = omega arith in
+          let there = posted_tag bytes base d posted n holds (omega arith) (omega arith) in
+          let slots : slot_of d k ≡ slot_of d n = ap (slot_of d) back ∙ slot_again d n in
+          let turned = ap (phase_of d) back ∙ phase_again d n p in
+          ap (λ s. (completion_at bytes base s).phase) slots
+          ∙ (there ∙ turned_back (phase_of d n) (phase_of d k) turned)
+    ]
+
+-- the slot of a number that was not posted has not its phase
+pub not_posted : (bytes : List ℕ) (base d : ℕ) (posted : List Cqe) (k : ℕ) → 0 < d
+    → HoldsPosted bytes base d posted → k ≡ length posted
+    → (completion_at bytes base (slot_of d k)).phase ≢ phase_of d k
+not_posted bytes base d posted k p holds e =
+    not_own _ _ (awaited_tag bytes base d posted k p holds e)
+
+-- ---- one slot is written
+
+pub slot_within : (d n : ℕ) → 0 < d → slot_of d n < d
+unfolding slot_of
+slot_within d n p = mod_below n d p
+
+-- the other slots keep their bytes, where each has `size`
+pub other_slot : (bytes : List ℕ) (base size d s t : ℕ) (written : List ℕ)
+    → base + size * d ≤ length bytes → length written ≡ size → s < d → t < d → s ≢ t
+    → bytes_at (with_bytes bytes (base + size * t) written) (base + size * s) size
+    ≡ bytes_at bytes (base + size * s) size
+other_slot bytes base size d s t written inside len h i apart =
+    let at = base + size * t in
+    let under : t + 1 ≤ d = omega arith in
+    let ends = mul-le-mul_left size under in
+    elim (cases_lt s t) [
+      | inl l ↦
+          let before : s + 1 ≤ t = omega arith in
+          let near = mul-le-mul_left size before in
+          bytes_at-with_before bytes at written (base + size * s) size (omega arith) (omega arith)
+      | inr g ↦
+          let after : t + 1 ≤ s = omega (arith, apart) in
+          let near = mul-le-mul_left size after in
+          let top : s + 1 ≤ d = omega arith in
+          let room = mul-le-mul_left size top in
+          bytes_at-with_after bytes at written (base + size * s) size (omega arith) (omega arith)
+    ]
+
+pub completion_written : (bytes : List ℕ) (base d t : ℕ) (c : Cqe) → base + 16 * d ≤ length bytes
+    → t < d → CqeFits c
+    → WritesCompletion bytes (with_bytes bytes (base + 16 * t) (bytes_of_cqe c)) base d t c
+completion_written bytes base d t c inside h fits =
+    let len = length-bytes_of_cqe c in
+    record {
+      here = ap cqe_of_bytes
+          (bytes_at-with_same bytes (base + 16 * t) 16 (bytes_of_cqe c) (omega arith) (sym len))
+          ∙ cqe_back c fits;
+      others = λ s l o.
+          ap cqe_of_bytes (other_slot bytes base 16 d s t (bytes_of_cqe c) inside len l h o);
+    }
+
+pub put_written : (bytes : List ℕ) (ring : PostNumbers) (c : Cqe) → 0 < ring.depth
+    → ring.base + 16 * ring.depth ≤ length bytes → CqeFits c
+    → WritesCompletion bytes (with_completion bytes ring c) ring.base ring.depth
+    (slot_of ring.depth ring.posted) (put_as ring c)
+put_written bytes ring c p inside fits =
+    completion_written bytes ring.base ring.depth (slot_of ring.depth ring.posted) (put_as ring c)
+    inside (slot_within ring.depth ring.posted p) (record {
+      command_specific = fits.command_specific;
+      sq_head = fits.sq_head;
+      sq_identifier = fits.sq_identifier;
+      cid = fits.cid;
+      status = fits.status;
+    })
+
+pub length-with_completion : (bytes : List ℕ) (ring : PostNumbers) (c : Cqe) → 0 < ring.depth
+    → ring.base + 16 * ring.depth ≤ length bytes
+    → length (with_completion bytes ring c) ≡ length bytes
+length-with_completion bytes ring c p inside =
+    let place = completion_place ring.base ring.depth ring.posted in
+    let low = slot_within ring.depth ring.posted p in
+    let len = length-bytes_of_cqe (put_as ring c) in
+    length-with_bytes bytes place (bytes_of_cqe (put_as ring c)) (omega arith)
+
+-- ---- a submission
+
+pub length-with_submission : (bytes : List ℕ) (ring : SubmitNumbers) (c : Sqe) → 0 < ring.depth
+    → ring.base + 64 * ring.depth ≤ length bytes
+    → length (with_submission bytes ring c) ≡ length bytes
+length-with_submission bytes ring c p inside =
+    let place = submission_place ring.base ring.depth ring.submitted in
+    let low = slot_within ring.depth ring.submitted p in
+    let len = length-bytes_of_sqe c in
+    length-with_bytes bytes place (bytes_of_sqe c) (omega arith)
+
+-- it stands in its slot, and the others stay
+pub push_written : (bytes : List ℕ) (ring : SubmitNumbers) (c : Sqe) → 0 < ring.depth
+    → ring.base + 64 * ring.depth ≤ length bytes → SqeFits c
+    → WritesSubmission bytes (with_submission bytes ring c) ring.base ring.depth
+    (slot_of ring.depth ring.submitted) c
+push_written bytes ring c p inside fits =
+    let base = ring.base in let d = ring.depth in let t = slot_of d ring.submitted in
+    let low = slot_within d ring.submitted p in
+    let len = length-bytes_of_sqe c in
+    record {
+      here = ap sqe_of_bytes
+          (bytes_at-with_same bytes (base + 64 * t) 64 (bytes_of_sqe c) (omega arith) (sym len))
+          ∙ sqe_back c fits;
+      others = λ s l o.
+          ap sqe_of_bytes (other_slot bytes base 64 d s t (bytes_of_sqe c) inside len l low o);
+    }
+
+-- ---- a completion more
+
+pub holds_after : (old new : List ℕ) (base d : ℕ) (posted : List Cqe) (c : Cqe) → 0 < d
+    → WritesCompletion old new base d (slot_of d (length posted)) (posted_as d (length posted) c)
+    → HoldsPosted old base d posted
+    → HoldsPosted new base d (posted ++ posted_as d (length posted) c ∷ [])
+holds_after old new base d posted c p written holds =
+    let n = length posted in
+    let one = posted_as d n c in
+    let more = length_push posted one in
+    record {
+      phases = λ m other l.
+          elim (cases_lt m n) [
+            | inl b ↦
+                ap (λ x. x.phase) (get_or_append_left posted (one ∷ []) other m b)
+                ∙ holds.phases m other b
+            | inr g ↦
+                let is : m ≡ n = omega arith in
+                ap (λ x. x.phase) (get_or_push posted one other m (sym is))
+                ∙ ap (phase_of d) (sym is)
+          ];
+      standing = λ m other l h.
+          elim (cases_lt m n) [
+            | inl b ↦
+                let apart = slots_apart d n m b (omega arith) in
+                written.others (slot_of d m) (slot_within d m p) (λ same. apart (sym same))
+                ∙ (holds.standing m other b (omega arith)
+                ∙ sym (get_or_append_left posted (one ∷ []) other m b))
+            | inr g ↦
+                let is : m ≡ n = omega arith in
+                ap (completion_at new base) (ap (slot_of d) is)
+                ∙ (written.here ∙ sym (get_or_push posted one other m (sym is)))
+          ];
+      blank = λ s l h.
+          let at : slot_of d n ≡ n = slot_low d n (omega arith) in
+          ap (λ x. x.phase) (written.others s h (λ same. omega arith))
+          ∙ holds.blank s (omega arith) h;
+    }
+
+-- ---- the calls
+
+pub holds_one_more : (old new : List ℕ) (ring : PostNumbers) (c : Cqe) → 1 < ring.depth
+    → new ≡ with_completion old ring c → HoldsOneMore old new ring c
+holds_one_more old new ring c p is posted number inside fits holds =
+    let d = ring.depth in let n = length posted in
+    let slot = ap (slot_of d) number ∙ slot_kept d n in
+    let phase = ap (phase_of d) number ∙ phase_kept d n (omega arith) in
+    let written = rw (slot, phase) at (put_written old ring c (omega arith) inside fits) in
+    rw (is, slot, phase) (
+    let one = bytes_of_cqe (posted_as d n c) in
+    holds_after old (with_bytes old (ring.base + 16 * slot_of d n) one) ring.base d posted c
+    (omega arith) written holds
+    )
+
+-- completion k is awaited: its slot has its phase exactly where it was posted
+pub awaited_posted : (bytes : List ℕ) (ring : CollectNumbers) (posted : List Cqe) (k : ℕ)
+    → 1 < ring.depth
+    → ring.collected ≡ kept_number ring.depth k → k ≤ length posted → length posted ≤ k + ring.depth
+    → HoldsPosted bytes ring.base ring.depth posted
+    → IsAwaitedThere bytes ring ↔ (k < length posted)
+awaited_posted bytes ring posted k p number l h holds =
+    let base = ring.base in let d = ring.depth in
+    let slot = ap (slot_of d) number ∙ slot_kept d k in
+    let phase = ap (phase_of d) number ∙ phase_kept d k (omega arith) in
+    rw (slot, phase) (
+      (λ there. elim (cases_lt k (length posted)) [
+        | inl b ↦ b
+        | inr g ↦ absurd (not_posted bytes base d posted k (omega arith) holds (omega arith) there)
+      ]),
+      (λ below. posted_tag bytes base d posted k holds below h),
+    )
+
+-- and then it stands there
+pub awaited_stands : (bytes : List ℕ) (ring : CollectNumbers) (posted : List Cqe) (k : ℕ)
+    (other : Cqe)
+    → 1 < ring.depth → ring.collected ≡ kept_number ring.depth k → k < length posted
+    → length posted ≤ k + ring.depth → HoldsPosted bytes ring.base ring.depth posted
+    → awaited_completion bytes ring ≡ slice_index_or posted k other
+awaited_stands bytes ring posted k other p number l h holds =
+    let slot = ap (slot_of ring.depth) number ∙ slot_kept ring.depth k in
+    ap (completion_at bytes ring.base) slot ∙ holds.standing k other l h
+
+pub collects_posted : (bytes : List ℕ) (ring : CollectNumbers) (r : Option Cqe) → IsCollectRing ring
+    → (IsSome r ↔ IsAwaitedThere bytes ring) → IfSome r (λ c. c ≡ awaited_completion bytes ring)
+    → CollectsPosted bytes ring r
+collects_posted bytes ring None is awaited value posted k number l h holds =
+    let deep = is.deep in
+    let there = awaited_posted bytes ring posted k deep.0 number l h holds in
+    (((λ e. cc), (λ below. awaited.1 (there.1 below))), tt)
+collects_posted bytes ring (Some c) is awaited value posted k number l h holds =
+    let deep = is.deep in
+    let there = awaited_posted bytes ring posted k deep.0 number l h holds in
+    let below = there.0 (awaited.0 refl) in
+    let stands = awaited_stands bytes ring posted k c deep.0 number below h holds in
+    (((λ e. below), (λ b. refl)), value ∙ stands)

@@ -1,0 +1,126 @@
+-- The phase tags of a completion ring's slots, by the number of the next completion.
+use Rattle.std.proofs.Common.{if◌then◌else◌, ◌≡◌, ◌≢◌, ℕ, ◌-◌, ◌*◌, ◌<◌, ◌≤◌, Bool, true}
+use Rattle.std.proofs.Common.{false}
+use Rattle.std.proofs.Common.{not, nat_lt, List, refl, sym, ◌∙◌, ap, arith, inl, inr, ◌⊎◌}
+use Rattle.std.proofs.Common.{Option, None, Some, IsSome, ◌↔◌}
+use Rattle.std.proofs.lemmas.Bool.{cases_eq, cases_lt}
+use Rattle.std.proofs.lemmas.Bool.Decides.{nat_tests}
+use Rattle.nv_layout.specs.declared.cqe.Cqe.{Cqe}
+use Rattle.nv_queue.specs.Numbers.{above, next, phase_of, slot_of, tag_below}
+use Rattle.nv_queue.proofs.NumberLaws.{above_cases, next_below, next_cases, phase_high, phase_low}
+use Rattle.nv_queue.proofs.NumberLaws.{slot_below, slot_cases, slot_high, slot_low}
+use Rattle.nv_queue.specs.Rings.{CollectNumbers, IsCollectRing, PostNumbers}
+use Rattle.nv_queue.specs.Slots.{FindsByTags, HoldsTags, IsAwaitedThere, KeepsTags}
+use Rattle.nv_queue.specs.Slots.{WritesCompletion}
+use Rattle.nv_queue.specs.Slots.{completion_at, posted_as, with_completion}
+use Rattle.nv_queue.proofs.SlotLaws.{holds_one_more, not_own, put_written}
+
+-- at numbers of the first pass tag 1 stands in the slots below, at those of the second in the rest
+tag_cases : (d n s : ℕ) → n < 2 * d
+    → ((n < d) × (tag_below d n s ≡ nat_lt s n))
+    ⊎ ((d ≤ n) × (tag_below d n s ≡ not (nat_lt s (n - d))))
+unfolding tag_below
+tag_cases d n s h =
+    elim (cases_lt n d) [
+      | inl l ↦ inl (l, rw (slot_low d n l, phase_low d n l) (if_true_false (nat_lt s n)))
+      | inr g ↦
+          inr (g, rw (slot_high d n g h, phase_high d n g h) (if_false_true (nat_lt s (n - d))))
+    ]
+  where
+    if_true_false : (b : Bool) → (if b then true else false) ≡ b
+    if_true_false true = refl
+    if_true_false false = refl
+
+    if_false_true : (b : Bool) → (if b then false else true) ≡ not b
+    if_false_true true = refl
+    if_false_true false = refl
+
+-- the awaited slot has not the tag that is due
+pub tag_below_here : (d n : ℕ) → n < 2 * d → tag_below d n (slot_of d n) ≡ not (phase_of d n)
+tag_below_here d n h = grind (arith, nat_tests, slot_cases d n h, tag_cases d n (slot_of d n) h)
+
+pub tag_below_next_same : (d n : ℕ) → n < 2 * d
+    → tag_below d (next d n) (slot_of d n) ≡ phase_of d n
+tag_below_next_same d n h =
+    grind (
+      arith,
+      nat_tests,
+      slot_cases d n h,
+      next_cases d n h,
+      tag_cases d (next d n) (slot_of d n) (next_below d n h),
+    )
+
+pub tag_below_next_other : (d n s : ℕ) → n < 2 * d → s < d → s ≢ slot_of d n
+    → tag_below d (next d n) s ≡ tag_below d n s
+tag_below_next_other d n s h i o =
+    grind (
+      arith,
+      nat_tests,
+      slot_cases d n h,
+      next_cases d n h,
+      tag_cases d n s h,
+      tag_cases d (next d n) s (next_below d n h),
+    )
+
+-- ---- a completion more
+
+pub tags_after : (old new : List ℕ) (base d n : ℕ) (c : Cqe) → n < 2 * d
+    → WritesCompletion old new base d (slot_of d n) (posted_as d n c)
+    → HoldsTags old base d n → HoldsTags new base d (next d n)
+tags_after old new base d n c h written tags s l =
+    elim (cases_eq s (slot_of d n)) [
+      | inl e ↦
+          ap (λ t. (completion_at new base t).phase) e
+          ∙ (ap (λ x. x.phase) written.here
+          ∙ (sym (tag_below_next_same d n h) ∙ ap (tag_below d (next d n)) (sym e)))
+      | inr o ↦
+          ap (λ x. x.phase) (written.others s l o)
+          ∙ (tags s l ∙ sym (tag_below_next_other d n s h l o))
+    ]
+
+pub keeps_tags : (old new : List ℕ) (ring : PostNumbers) (c : Cqe) → 1 < ring.depth
+    → ring.posted < 2 * ring.depth → new ≡ with_completion old ring c → KeepsTags old new ring c
+keeps_tags old new ring c p h written inside fits tags =
+    rw written (
+    tags_after old (with_completion old ring c) ring.base ring.depth ring.posted c h
+    (put_written old ring c (omega arith) inside fits) tags
+    )
+
+-- ---- the awaited slot
+
+-- the slot of a number that was posted has the tag that is due
+pub tag_there : (d n k : ℕ) → n < 2 * d → k < 2 * d → above d n k < d → n ≢ k
+    → tag_below d n (slot_of d k) ≡ phase_of d k
+tag_there d n k h i f o =
+    grind (arith, nat_tests, slot_cases d k i, above_cases d n k h i, tag_cases d n (slot_of d k) h)
+
+pub finds_by_tags : (bytes : List ℕ) (ring : CollectNumbers) (r : Option Cqe) → IsCollectRing ring
+    → (IsSome r ↔ IsAwaitedThere bytes ring) → FindsByTags bytes ring r
+finds_by_tags bytes ring None is awaited posted h f tags =
+    let d = ring.depth in let k = ring.collected in
+    let low = slot_below d k is.collected in (
+      (λ e. elim (cases_eq posted k) [
+        | inl same ↦ same
+        | inr o ↦
+            let there = tags (slot_of d k) low ∙ tag_there d posted k h is.collected f o in
+            absurd (none_found (awaited.1 there))
+      ]),
+      λ same. refl,
+    )
+  where
+    none_found : IsSome {T = Cqe} None → ⊥
+    none_found e = cc
+finds_by_tags bytes ring (Some c) is awaited posted h f tags =
+    let d = ring.depth in let k = ring.collected in
+    let low = slot_below d k is.collected in
+    let there : IsAwaitedThere bytes ring = awaited.0 refl in
+    let here = tag_below_here d k is.collected in
+    let tag = tags (slot_of d k) low in (
+      (λ e. cc),
+      λ same. absurd (
+          not_own _ _ (tag ∙ (ap (λ n. tag_below d n (slot_of d k)) same ∙ here)) there
+          ),
+    )
+
+-- what holds after a completion is posted, for the attribute of `put`
+pub ruleset posts = (holds_one_more, keeps_tags)

@@ -1,0 +1,95 @@
+-- A completion ring whose slots were zeroed.
+use Rattle.std.proofs.Common.{◌≡◌, ◌∙◌, ℕ, ◌+◌, ◌-◌, ◌*◌, ◌<◌, ◌≤◌, List, ◌++◌, length, take, drop}
+use Rattle.std.proofs.Common.{ap, ap₂, append_assoc, arith, false, length-append, refl, sym}
+use Rattle.std.specs.Prelude.{replicate}
+use Rattle.std.proofs.lemmas.Bool.Decides.{nat_tests}
+use Rattle.std.proofs.lemmas.List.{drop-replicate, length-replicate, replicate-append-replicate}
+use Rattle.std.proofs.lemmas.List.{length-take-le, take-append-drop, take-replicate, take_at}
+use Rattle.std.proofs.lemmas.Slice.{drop-append-drop}
+use Rattle.nv_host.specs.Bytes.{bytes_at, with_bytes}
+use Rattle.nv_host.proofs.BytesLaws.{bytes_at-bytes_at, bytes_at-with_same}
+use Rattle.nv_layout.specs.Cqe.{cqe_of_bytes}
+use Rattle.nv_layout.specs.Parts.{number_at}
+use Rattle.nv_queue.proofs.NumberLaws.{phase_low, slot_low}
+use Rattle.nv_queue.specs.Numbers.{tag_below}
+use Rattle.nv_queue.specs.Slots.{HoldsTags}
+
+-- ---- zeros
+
+zeros_at : (n a k : ℕ) → a + k ≤ n → bytes_at (replicate n 0) a k ≡ replicate k 0
+unfolding bytes_at
+zeros_at n a k h = ap (take k) (drop-replicate a n 0) ∙ take-replicate k (n - a) 0 (omega arith)
+
+-- where n zeros were written, each part of them is zeros
+zeroed_at : (bytes : List ℕ) (base n a k : ℕ) → base + n ≤ length bytes → a + k ≤ n
+    → bytes_at (with_bytes bytes base (replicate n 0)) (base + a) k ≡ replicate k 0
+zeroed_at bytes base n a k inside h =
+    let len = length-replicate {A = ℕ} n 0 in
+    sym (bytes_at-bytes_at (with_bytes bytes base (replicate n 0)) base n a k h)
+    ∙ ap (λ part. bytes_at part a k)
+    (bytes_at-with_same bytes base n (replicate n 0) (omega (arith, len)) (sym len))
+    ∙ zeros_at n a k h
+
+-- ---- tags
+
+zero_phase : (cqe_of_bytes (replicate 16 0)).phase ≡ false
+unfolding cqe_of_bytes number_at
+zero_phase = refl
+
+zero_tag : (d slot : ℕ) → 0 < d → tag_below d 0 slot ≡ false
+unfolding tag_below
+zero_tag d slot h = grind (arith, nat_tests, slot_low d 0 h, phase_low d 0 h)
+
+-- zeroed slots have the tags that are due where none was posted
+pub zeroed_tags : (bytes : List ℕ) (base d : ℕ) → base + 16 * d ≤ length bytes
+    → HoldsTags (with_bytes bytes base (replicate (16 * d) 0)) base d 0
+zeroed_tags bytes base d inside slot below =
+    ap (λ part. (cqe_of_bytes part).phase)
+    (zeroed_at bytes base (16 * d) (16 * slot) 16 inside (omega arith))
+    ∙ (zero_phase ∙ sym (zero_tag d slot (omega arith)))
+
+-- ---- zeros that are written one part after another
+
+-- bytes that are written right behind others are written with them
+written_behind : (bytes : List ℕ) (base at : ℕ) (first second : List ℕ) → at ≡ base + length first
+    → at + length second ≤ length bytes
+    → with_bytes (with_bytes bytes base first) at second ≡ with_bytes bytes base (first ++ second)
+unfolding with_bytes
+written_behind bytes base at first second is inside =
+    let front = take base bytes in
+    let begin = front ++ first in
+    let end = at + length second in
+    let here : length begin ≡ at =
+    length-append front first
+    ∙ omega (arith, length-take-le base bytes (omega arith)) in
+    let old : front ++ (first ++ drop (base + length first) bytes) ≡ begin ++ drop at bytes =
+    sym (append_assoc front first (drop (base + length first) bytes))
+    ∙ ap (λ k. begin ++ drop k bytes) (sym is) in
+    let last : end ≡ base + length (first ++ second) = omega (arith, length-append first second) in
+    ap₂ (λ before after. before ++ (second ++ after))
+    (ap (take at) old ∙ take_at begin (drop at bytes) at here)
+    (ap (drop end) old ∙ drop-append-drop at bytes begin end (omega arith) here)
+    ∙ append_assoc front first (second ++ drop end bytes)
+    ∙ ap (λ rest. front ++ rest) (sym (append_assoc first second (drop end bytes)))
+    ∙ ap (λ k. front ++ ((first ++ second) ++ drop k bytes)) last
+
+pub zeroed_none : (bytes : List ℕ) (base : ℕ) → bytes ≡ with_bytes bytes base (replicate (16 * 0) 0)
+unfolding with_bytes
+zeroed_none bytes base =
+    let same : base ≡ base + 0 = omega arith in
+    sym (take-append-drop base bytes) ∙ ap (λ k. take base bytes ++ drop k bytes) same
+
+-- after n slots, one more
+pub zeroed_more : (old mid new : List ℕ) (base n d at : ℕ) → base + 16 * d ≤ length old → n < d
+    → at ≡ base + 16 * n → mid ≡ with_bytes old base (replicate (16 * n) 0)
+    → new ≡ with_bytes mid at (replicate 16 0)
+    → new ≡ with_bytes old base (replicate (16 * (n + 1)) 0)
+zeroed_more old mid new base n d at inside below place before written =
+    let same : 16 * n + 16 ≡ 16 * (n + 1) = omega arith in
+    let behind : at ≡ base + length (replicate {A = ℕ} (16 * n) 0) =
+    place ∙ ap (λ k. base + k) (sym (length-replicate (16 * n) 0)) in
+    written
+    ∙ ap (λ bytes. with_bytes bytes at (replicate 16 0)) before
+    ∙ written_behind old base at (replicate (16 * n) 0) (replicate 16 0) behind (omega arith)
+    ∙ ap (with_bytes old base)
+    (replicate-append-replicate (16 * n) 16 0 ∙ ap (λ k. replicate k 0) same)
