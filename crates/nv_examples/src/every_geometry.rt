@@ -8,7 +8,8 @@ use nv_script::{Geometry, GeometryField, OverRead, OverWrite, RunEnd, run};
 use nv_subsystem::{DEMO, Subsystem};
 use std::test::Fail;
 
-pub(crate) const ROWS: [Row<'static>; 11] = [
+/// Scripts that aren't lines of text with an end each.
+const ROWS: [Row<'static>; 3] = [
     Row {
         script: b"",
         out: "",
@@ -16,115 +17,8 @@ pub(crate) const ROWS: [Row<'static>; 11] = [
         status: 0,
     },
     Row {
-        script: b"list-ns /dev/nvme0\n",
-        out: "[   0]:0x1\n[   1]:0x3\n",
-        messages: "",
-        status: 0,
-    },
-    Row {
         script: b"list-ns /dev/nvme0",
         out: "[   0]:0x1\n[   1]:0x3\n",
-        messages: "",
-        status: 0,
-    },
-    Row {
-        script: b"# c\n\nbogus\n",
-        out: "",
-        messages: "line 3: usage error\n",
-        status: 1,
-    },
-    Row {
-        script: b"list-ns /dev/nvme0 -n 3\nlist-ns /dev/nvme0 -n 4\nlist-ns /dev/nvme0 -n 4294967295\nlist-ns /dev/nvme0 -n 0\n",
-        out: "[   0]:0x3\n",
-        messages: "line 3: NVMe status: Invalid Namespace or Format (0x600b)\nline 4: bad number for --namespace-id\n",
-        status: 1,
-    },
-    Row {
-        script: b"id-ns /dev/nvme0n3\n",
-        out: "nsze                : 0x9
-ncap                : 0x9
-nuse                : 0x0
-nsfeat              : 0x0
-nlbaf               : 2
-flbas               : 0x0
-mc                  : 0x1
-dpc                 : 0x0
-dps                 : 0x0
-nmic                : 0x0
-nvmcap              : 4608
-lbaf  0             : ms:0 lbads:9 rp:0 (in use)
-lbaf  1             : ms:0 lbads:12 rp:0
-lbaf  2             : ms:8 lbads:9 rp:1
-",
-        messages: "",
-        status: 0,
-    },
-    Row {
-        script: b"id-ns /dev/nvme1 -n 1\n",
-        out: "nsze                : 0x0
-ncap                : 0x0
-nuse                : 0x0
-nsfeat              : 0x0
-nlbaf               : 0
-flbas               : 0x0
-mc                  : 0x0
-dpc                 : 0x0
-dps                 : 0x0
-nmic                : 0x0
-nvmcap              : 0
-lbaf  0             : ms:0 lbads:0 rp:0 (in use)
-",
-        messages: "",
-        status: 0,
-    },
-    Row {
-        script: b"id-ns /dev/nvme1 -n 0\nlist-ns /dev/nvme1\nlist-ns /dev/nvme1 -a\n",
-        out: "[   0]:0x1\n[   1]:0x3\n",
-        messages: "line 1: NVMe status: Invalid Namespace or Format (0x600b)\n",
-        status: 0,
-    },
-    Row {
-        script: b"create-ns /dev/nvme0 -s 1 -c 1
-attach-ns /dev/nvme0 -n 2 -c 0,1
-attach-ns /dev/nvme0 -n 2 -c 0
-list-ns /dev/nvme0
-detach-ns /dev/nvme0 -n 2 -c 0
-delete-ns /dev/nvme0 -n 2
-list-ns /dev/nvme0 -a
-",
-        out: "create-ns: Success, created nsid:2
-attach-ns: Success, nsid:2
-[   0]:0x1
-[   1]:0x2
-[   2]:0x3
-detach-ns: Success, nsid:2
-delete-ns: Success, deleted nsid:2
-[   0]:0x1
-[   1]:0x3
-",
-        messages: "line 2: NVMe status: Namespace Is Private (0x6119)\n",
-        status: 0,
-    },
-    Row {
-        script: b"list-ns /dev/nvme0 -n 2
-set-feature /dev/nvme0 -f 6 -v 0
-reset /dev/nvme0
-get-feature /dev/nvme0 -f 6
-list-ns /dev/nvme0
-reset /dev/nvme0
-reset /dev/nvme0
-list-ns /dev/nvme0 -n 3
-",
-        out: "[   0]:0x3
-set-feature:0x6 (Volatile Write Cache), value:0x0, save:0
-reset: Success
-get-feature:0x6 (Volatile Write Cache), Current value:0x1
-[   0]:0x1
-[   1]:0x3
-reset: Success
-reset: Success
-[   0]:0x3
-",
         messages: "",
         status: 0,
     },

@@ -1,9 +1,7 @@
-//! What is shown of the greatest numbers and the longest texts, and of texts with spaces, quotes
-//! and backslashes.
+//! What is shown of the greatest numbers and the longest texts.
 
 use crate::rows::{Row, leaves};
 use crate::steps::{Step, follow};
-use nv_subsystem::DEMO;
 use std::alloc::{AllocError, Global};
 use std::test::Fail;
 
@@ -250,78 +248,4 @@ fn shows_the_greatest_capacity_that_is_left(rt: HostRuntime) -> Result<(), Fail>
         status: 0,
     };
     leaves(&rt, alloc, file.as_str(), &row)
-}
-
-/// Controllers with texts that JSON escapes, and that begin with spaces or have several of them.
-const TEXTS: [Step<'static>; 4] = [
-    Step::Prints(
-        "id-ctrl /dev/nvme0 -o json",
-        "{\"cctemp\":353,\"cmic\":2,\"cntlid\":0,\"cqes\":68,\"elpe\":3,\"fna\":0,\"fr\":\"\\\\\",\
-\"frmw\":2,\"ieee\":\"00000a\",\"lpa\":4,\"mdts\":5,\"mn\":\"Say \\\"hi\\\" \\\\ </o>~\",\"nn\":4,\
-\"npss\":0,\"oacs\":10,\"oncs\":16,\"rab\":0,\"sn\":\"A  B\",\"sqes\":102,\"ssvid\":0,\
-\"subnqn\":\" \\\"q\\\"\",\"tnvmcap\":\"10485760\",\"unvmcap\":\"9432576\",\"ver\":66560,\"vid\":0,\
-\"vwc\":7,\"wctemp\":343}",
-    ),
-    Step::Prints(
-        "id-ctrl /dev/nvme0",
-        "vid                 : 0x0
-ssvid               : 0x0
-sn                  : A  B
-mn                  : Say \"hi\" \\ </o>~
-fr                  : \\
-rab                 : 0
-ieee                : 00000a
-cmic                : 0x2
-mdts                : 5
-cntlid              : 0x0
-ver                 : 0x10400
-oacs                : 0xa
-frmw                : 0x2
-lpa                 : 0x4
-elpe                : 3
-npss                : 0
-wctemp              : 343
-cctemp              : 353
-tnvmcap             : 10485760
-unvmcap             : 9432576
-sqes                : 0x66
-cqes                : 0x44
-nn                  : 4
-oncs                : 0x10
-fna                 : 0x0
-vwc                 : 0x7
-subnqn              :  \"q\"",
-    ),
-    Step::Prints(
-        "list -o json",
-        "{\"devices\":[{\"block_size\":512,\"bytes\":1048576,\
-\"model\":\"Say \\\"hi\\\" \\\\ </o>~\",\"namespace\":1,\"node\":\"/dev/nvme0n1\",\
-\"serial\":\"A  B\"},{\"block_size\":512,\"bytes\":4608,\
-\"model\":\"Say \\\"hi\\\" \\\\ </o>~\",\"namespace\":3,\"node\":\"/dev/nvme0n3\",\
-\"serial\":\"A  B\"}]}",
-    ),
-    Step::Prints(
-        "list",
-        concat!(
-            "/dev/nvme0n1       A  B                 Say \"hi\" \\ </o>~                        ",
-            "          1              1048576    512\n",
-            "/dev/nvme0n3       A  B                 Say \"hi\" \\ </o>~                        ",
-            "          3                 4608    512"
-        ),
-    ),
-];
-
-#[test]
-fn shows_texts_of_any_printable_bytes(rt: HostRuntime) -> Result<(), Fail> {
-    let alloc = rt.alloc();
-    let serial = DEMO.replace(alloc, "\"S0\"", "\"A  B\"\nieee = 10")?;
-    let model = "'Say \"hi\" \\ </o>~'";
-    let modelled = serial
-        .as_str()
-        .replace(alloc, "\"Demo Controller\"", model)?;
-    let revised = modelled.as_str().replace(alloc, "\"1.0\"", "'\\'")?;
-    let name = "\"nqn.2014-08.org.example:demo\"";
-    let file = revised.as_str().replace(alloc, name, "' \"q\"'")?;
-    follow(&rt, alloc, file.as_str(), &TEXTS)?;
-    Ok(())
 }

@@ -7,19 +7,15 @@ mod harness;
 pub use harness::{Outcome, geometries, run_at, run_script};
 
 #[cfg(test)]
+mod arguments;
+#[cfg(test)]
 mod every_geometry;
 #[cfg(test)]
 mod extremes;
 #[cfg(test)]
-mod feature_rules;
-#[cfg(test)]
-mod features;
-#[cfg(test)]
-mod format;
+mod files;
 #[cfg(test)]
 mod hostile_lines;
-#[cfg(test)]
-mod identify;
 #[cfg(test)]
 mod largest;
 #[cfg(test)]
@@ -41,11 +37,7 @@ mod listed;
 #[cfg(test)]
 mod logs;
 #[cfg(test)]
-mod management;
-#[cfg(test)]
 mod over_streams;
-#[cfg(test)]
-mod reset;
 #[cfg(test)]
 mod resets_over_runs;
 #[cfg(test)]
@@ -53,19 +45,13 @@ mod rows;
 #[cfg(test)]
 mod scripts;
 #[cfg(test)]
-mod second_version;
-#[cfg(test)]
 mod shown;
 #[cfg(test)]
 mod steps;
 #[cfg(test)]
 mod streams;
 #[cfg(test)]
-mod threshold_refusals;
-#[cfg(test)]
 mod threshold_values;
-#[cfg(test)]
-mod thresholds;
 #[cfg(test)]
 mod turn_counts;
 #[cfg(test)]

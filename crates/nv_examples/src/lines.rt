@@ -7,56 +7,18 @@ use nv_script::{
 use nv_subsystem::DEMO;
 use std::test::Fail;
 
-/// Lines with a fault each.
-pub(crate) const FAULTS: Row<'static> = Row {
-    script: b"bogus
-nvme
-help
-list-ns --help
-list-ns
-id-ns /dev/nvme0
-list-ns /dev/nvme0 -n 1 -n 1
-\r
-list-ns /dev/nvme0\r
-list-ns /dev/nvme2
-list-ns /dev/nvme00
-list-ns /dev/nvme0n0
-list-ns /dev/nvme9 -n 0
-list-ns /dev/nvme0 -n 08
-list-ns /dev/nvme0 -n 4294967296
-",
-    out: "",
-    messages: "line 1: usage error
-line 2: usage error
-line 3: usage error
-line 4: usage error
-line 5: usage error
-line 6: usage error
-line 7: usage error
-line 8: usage error
-line 9: no such device
-line 10: no such device
-line 11: no such device
-line 12: no such device
-line 13: no such device
-line 14: bad number for --namespace-id
-line 15: bad number for --namespace-id
-",
-    status: 1,
-};
-
+/// A carriage return is a byte as any other.
 #[test]
-fn says_what_is_wrong_with_a_line(rt: HostRuntime) -> Result<(), Fail> {
-    leaves(&rt, rt.alloc(), DEMO, &FAULTS)
-}
-
-#[test]
-fn reads_octal_and_hexadecimal_numbers(rt: HostRuntime) -> Result<(), Fail> {
+fn takes_no_carriage_return_for_an_end(rt: HostRuntime) -> Result<(), Fail> {
     let row = Row {
-        script: b"list-ns /dev/nvme0 -n 010\nlist-ns /dev/nvme0 -n 0X2\n",
-        out: "[   0]:0x3\n",
-        messages: "",
-        status: 0,
+        script: b"\r
+list-ns /dev/nvme0\r
+",
+        out: "",
+        messages: "line 1: usage error
+line 2: no such device
+",
+        status: 1,
     };
     leaves(&rt, rt.alloc(), DEMO, &row)
 }

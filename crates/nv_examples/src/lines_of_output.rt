@@ -1,14 +1,11 @@
 //! Lines that say how the answer is written, and those of `id-ctrl` and `list`.
 
 use crate::lines::question;
-use crate::rows::{Row, leaves};
 use nv_script::{
     Ask, Line, LineFault, OptionName, OutputFormat, Query, Question, Request, read_line,
 };
-use nv_subsystem::DEMO;
 use std::alloc::Global;
 use std::process::Abort;
-use std::test::Fail;
 
 /// A line that asks all controllers for their namespaces.
 fn listing(format: OutputFormat) -> Line {
@@ -164,19 +161,4 @@ fn tells_the_output_format_before_the_device_and_numbers(rt: HostRuntime) {
     ] {
         assert_eq!(rt; read_line(rt.alloc(), line.as_bytes(), 2), Err(fault));
     }
-}
-
-#[test]
-fn says_what_is_wrong_with_the_output(rt: HostRuntime) -> Result<(), Fail> {
-    let row = Row {
-        script: b"list -o xml\nlist /dev/nvme0\nid-ctrl /dev/nvme9 -o xml\nid-ctrl /dev/nvme9\n",
-        out: "",
-        messages: "line 1: usage error
-line 2: usage error
-line 3: usage error
-line 4: no such device
-",
-        status: 1,
-    };
-    leaves(&rt, rt.alloc(), DEMO, &row)
 }

@@ -1,104 +1,14 @@
 //! `list`: the namespaces of all controllers.
 
+use crate::files::second_version;
 use crate::harness::{run_at, run_script};
 use crate::listed::{Listed, json_of, lines_of};
-use crate::rows::{Row, expect, leaves};
-use crate::second_version::second_version;
-use crate::steps::{Step, follow};
+use crate::rows::{Row, expect};
 use nv_script::{Geometry, RunEnd};
 use nv_subsystem::DEMO;
 use std::alloc::{AllocError, Global};
 use std::process::Abort;
 use std::test::Fail;
-
-const NAMESPACE: &str = "Invalid Namespace or Format (0x600b)";
-
-/// The demonstration subsystem, in two lines of 120 bytes.
-pub(crate) const DEMO_ROWS: [Row<'static>; 2] = [
-    Row {
-        script: b"list\n",
-        out: concat!(
-            "/dev/nvme0n1       S0                   Demo Controller                         ",
-            "          1              1048576    512\n",
-            "/dev/nvme0n3       S0                   Demo Controller                         ",
-            "          3                 4608    512\n"
-        ),
-        messages: "",
-        status: 0,
-    },
-    Row {
-        script: b"nvme list -o json",
-        out: "{\"devices\":[{\"block_size\":512,\"bytes\":1048576,\"model\":\"Demo Controller\",\
-\"namespace\":1,\"node\":\"/dev/nvme0n1\",\"serial\":\"S0\"},{\"block_size\":512,\"bytes\":4608,\
-\"model\":\"Demo Controller\",\"namespace\":3,\"node\":\"/dev/nvme0n3\",\"serial\":\"S0\"}]}\n",
-        messages: "",
-        status: 0,
-    },
-];
-
-/// What is listed follows what is attached, and the formats: the one block of 4,096 bytes that
-/// namespace 3 has room for, then nine of 512 bytes with metadata beside them.
-const CHANGES: [Step<'static>; 11] = [
-    Step::Prints("format /dev/nvme0n3 -l 1", "format: Success, nsid:3"),
-    Step::Prints("attach-ns /dev/nvme0n1 -c 1", "attach-ns: Success, nsid:1"),
-    Step::Prints(
-        "list",
-        concat!(
-            "/dev/nvme0n1       S0                   Demo Controller                         ",
-            "          1              1048576    512\n",
-            "/dev/nvme0n3       S0                   Demo Controller                         ",
-            "          3                 4096   4096\n",
-            "/dev/nvme1n1       S1                   Demo Controller                         ",
-            "          1              1048576    512"
-        ),
-    ),
-    Step::Prints("detach-ns /dev/nvme0n1 -c 0", "detach-ns: Success, nsid:1"),
-    Step::Prints("format /dev/nvme0n3 -l 2 -m 1", "format: Success, nsid:3"),
-    Step::Prints(
-        "create-ns /dev/nvme1 -s 2 -c 2 -f 1",
-        "create-ns: Success, created nsid:2",
-    ),
-    Step::Prints("attach-ns /dev/nvme0n2 -c 0", "attach-ns: Success, nsid:2"),
-    Step::Prints(
-        "list -o json",
-        "{\"devices\":[{\"block_size\":4096,\"bytes\":8192,\"model\":\"Demo Controller\",\
-\"namespace\":2,\"node\":\"/dev/nvme0n2\",\"serial\":\"S0\"},{\"block_size\":512,\"bytes\":4608,\
-\"model\":\"Demo Controller\",\"namespace\":3,\"node\":\"/dev/nvme0n3\",\"serial\":\"S0\"},\
-{\"block_size\":512,\"bytes\":1048576,\"model\":\"Demo Controller\",\"namespace\":1,\
-\"node\":\"/dev/nvme1n1\",\"serial\":\"S1\"}]}",
-    ),
-    Step::Refused("id-ns /dev/nvme1 -n 0", NAMESPACE),
-    // The second controller had the creation, and three commands of each list.
-    Step::Prints(
-        "error-log /dev/nvme1 -o json",
-        "{\"errors\":[{\"cmdid\":7,\"cs\":0,\"error_count\":1,\"lba\":0,\"nsid\":0,\
-\"parm_err_loc\":65535,\"sqid\":0,\"status_field\":24587,\"vs\":0}]}",
-    ),
-    Step::Faulty("list -o xml", "usage error"),
-];
-
-/// Where nothing is attached, nothing is listed.
-const NOTHING: Row<'static> = Row {
-    script: b"delete-ns /dev/nvme0 -n 0xffffffff\nlist\nlist -o json\nlist\n",
-    out: "delete-ns: Success, deleted nsid:4294967295\n{\"devices\":[]}\n",
-    messages: "",
-    status: 0,
-};
-
-#[test]
-fn lists_the_demonstration_subsystem(rt: HostRuntime) -> Result<(), Fail> {
-    for row in &DEMO_ROWS {
-        leaves(&rt, rt.alloc(), DEMO, row)?;
-    }
-    assert!(rt; DEMO_ROWS[0].out.len() == 240);
-    leaves(&rt, rt.alloc(), DEMO, &NOTHING)
-}
-
-#[test]
-fn lists_what_is_attached_now(rt: HostRuntime) -> Result<(), Fail> {
-    follow(&rt, rt.alloc(), DEMO, &CHANGES)?;
-    Ok(())
-}
 
 #[test]
 fn counts_two_commands_and_one_for_each_namespace(rt: HostRuntime) -> Result<(), Fail> {

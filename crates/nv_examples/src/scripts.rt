@@ -1,4 +1,4 @@
-//! What a script leaves in the error logs.
+//! What a script leaves in the error logs, and how many commands it sent.
 
 use crate::harness::run_script;
 use nv_command::ReplyRoom;
@@ -49,6 +49,24 @@ fn keeps_the_phase_tag_of_a_refusal(rt: HostRuntime) -> Result<(), Fail> {
             None => panic!(rt; "an entry is missing"),
             Some(entry) => assert!(rt; entry.cid == cid && entry.phase == phase),
         }
+    }
+    Ok(())
+}
+
+/// How many commands a controller refused, and how many it had, after a script.
+#[test]
+fn counts_the_commands_of_a_controller(rt: HostRuntime) -> Result<(), Fail> {
+    for (script, first, second) in [
+        ("format /dev/nvme1 -n 0xffffffff -l 1\n", (0, 0), (0, 1)),
+        ("reset /dev/nvme0\n", (0, 0), (0, 0)),
+        ("list-ns /dev/nvme0\nreset /dev/nvme0\n", (0, 1), (0, 0)),
+        ("id-ns /dev/nvme0 -n 0\nreset /dev/nvme0\n", (1, 1), (0, 0)),
+    ] {
+        let left = run_script(rt.alloc(), DEMO, script.as_bytes())?;
+        let subsystem = left.machine.subsystem();
+        assert!(rt; subsystem.controllers() == 2);
+        assert_eq!(rt; subsystem.counts(0), first, "{script}");
+        assert_eq!(rt; subsystem.counts(1), second, "{script}");
     }
     Ok(())
 }

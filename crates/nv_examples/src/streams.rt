@@ -3,8 +3,8 @@
 ghost use Rattle.std.specs.Prelude.{◌≡◌, None, false};
 ghost use Rattle.nv_script.specs.Streams.{IsFresh};
 
+use crate::files::second_version;
 use crate::harness::geometries;
-use crate::second_version::second_version;
 use nv_controller::Machine;
 use nv_script::{Geometry, OverRead, OverWrite, RunEnd, Sink, Source, run};
 use nv_subsystem::{DEMO, Subsystem};

@@ -1,7 +1,7 @@
 //! The eighteen temperature thresholds of a controller, each by its selector.
 
+use crate::files::{SAVEABLE, with_thresholds};
 use crate::rows::{Row, leaves};
-use crate::thresholds::{SAVEABLE, with_thresholds};
 use std::alloc::{AllocError, Global};
 use std::process::Abort;
 use std::test::Fail;

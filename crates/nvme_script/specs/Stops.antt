@@ -2,6 +2,8 @@
 use Rattle.std.specs.Prelude.{ℕ, Result, Ok, Err}
 use Rattle.std.specs.declared.io.ErrorKind.{ErrorKind}
 use Rattle.std.specs.declared.io.ErrorKind.TheVariants as kind
+use Rattle.nv_arguments.specs.declared.fault.ArgumentsFault.{ArgumentsFault}
+use Rattle.nv_arguments.specs.declared.fault.ArgumentsFault.TheVariants as arguments
 use Rattle.nv_script.specs.declared.ends.RunEnd.{RunEnd}
 use Rattle.nv_script.specs.declared.ends.RunEnd.TheVariants as end
 use Rattle.nv_file.specs.declared.error.SubsystemError.{SubsystemError}
@@ -23,6 +25,10 @@ exit_status stop.Memory = 6
 abbrev pub unless_memory : ErrorKind → Stop → Stop
 unless_memory kind.OutOfMemory otherwise = stop.Memory
 unless_memory _ otherwise = otherwise
+
+abbrev pub of_arguments : ArgumentsFault → Stop
+of_arguments arguments.Refused = stop.Arguments
+of_arguments arguments.Memory = stop.Memory
 
 -- a subsystem file that was refused
 abbrev pub of_file : SubsystemError → Stop

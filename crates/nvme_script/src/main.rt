@@ -4,10 +4,9 @@
 ghost use Rattle.std.specs.Prelude.{IfOk};
 ghost use Rattle.nv_model.specs.WellFormed.{IsWellFormed};
 
-mod arguments;
 mod stop;
 
-use arguments::Arguments;
+use nv_arguments::Arguments;
 use nv_controller::Machine;
 use nv_script::{Geometry, OverRead, OverWrite, run};
 use nv_subsystem::{DEMO, Subsystem};

@@ -2,9 +2,11 @@
 
 ghost use Rattle.std.specs.Prelude.{◌≡◌};
 ghost use Rattle.std.specs.IoError.{error_kind};
-ghost use Rattle.nvme_script.specs.Stops.{ended, exit_status, of_file, unless_memory};
+ghost use Rattle.nvme_script.specs.Stops.{ended, exit_status, of_arguments, of_file};
+ghost use Rattle.nvme_script.specs.Stops.{unless_memory};
 ghost use Rattle.nvme_script.specs.declared.stop.Stop.TheVariants.{Memory};
 
+use nv_arguments::ArgumentsFault;
 use nv_script::{GeometryField, RunEnd};
 use nv_subsystem::SubsystemError;
 use std::alloc::AllocError;
@@ -57,6 +59,17 @@ impl Stop {
         match error.kind() {
             ErrorKind::OutOfMemory => Stop::Memory,
             _ => otherwise,
+        }
+    }
+}
+
+impl From<ArgumentsFault> for Stop {
+    ghost from_gives = { λ fault stop. stop ≡ of_arguments fault };
+
+    fn from(fault: ArgumentsFault) -> Stop {
+        match fault {
+            ArgumentsFault::Refused => Stop::Arguments,
+            ArgumentsFault::Memory => Stop::Memory,
         }
     }
 }

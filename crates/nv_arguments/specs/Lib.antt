@@ -1,0 +1,4 @@
+pub mod ArgumentOption
+pub mod ArgumentsFault
+pub mod ClapRule
+pub mod Arguments

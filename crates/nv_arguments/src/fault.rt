@@ -1,0 +1,26 @@
+//! What can be wrong with the arguments.
+
+ghost use Rattle.std.specs.Prelude.{◌≡◌};
+ghost use Rattle.nv_arguments.specs.declared.fault.ArgumentsFault.TheVariants.{Memory};
+
+use std::alloc::AllocError;
+use thiserror::Error;
+
+/// Why there are no arguments.
+#[derive(Clone, Copy, Debug, PartialEq, Eq, Error)]
+pub enum ArgumentsFault {
+    /// The program doesn't take them.
+    #[error("arguments")]
+    Refused,
+    /// Memory was refused.
+    #[error("out of memory")]
+    Memory,
+}
+
+impl From<AllocError> for ArgumentsFault {
+    ghost from_gives = { λ _ fault. fault ≡ Memory };
+
+    fn from(_: AllocError) -> ArgumentsFault {
+        ArgumentsFault::Memory
+    }
+}
