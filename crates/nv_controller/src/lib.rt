@@ -22,7 +22,7 @@
 //! let taken = machine.turn(0, &mut mem, 16);
 //! ```
 //!
-//! The tests of `nv_device_examples` have this example at full length, in `src/mistakes.rt`, with a
+//! The tests of `nv_device_tests` have this example at full length, in `src/mistakes.rt`, with a
 //! list that is written over the submission ring itself.
 //!
 //! Sections are named as in the NVM Express Base Specification, revision 1.4.

@@ -1,5 +1,5 @@
-//! Worked examples of the parts that controllers and drivers are made of: records, sets, memory,
-//! data pointers, rings, registers, and commands as entries.
+//! Tests of the parts that controllers and drivers are made of: records, sets, memory, data
+//! pointers, rings, registers, and commands as entries.
 #![tactic(auto)]
 
 #[cfg(test)]

@@ -1,5 +1,5 @@
-//! Worked examples that cross the crates: scripts over the demonstration subsystem, and what they
-//! leave.
+//! Tests that cross the crates: lines, arguments, and scripts over the demonstration subsystem with
+//! what they leave.
 #![tactic(auto)]
 
 mod harness;

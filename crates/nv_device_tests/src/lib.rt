@@ -1,4 +1,4 @@
-//! Worked examples of subsystem files, subsystems, controllers and drivers.
+//! Tests of subsystem files, subsystems, controllers and drivers.
 #![tactic(auto)]
 
 #[cfg(test)]

@@ -1,5 +1,5 @@
 use Rattle.std.proofs.Common.{◌≡◌, ◌≤◌, length}
-use Rattle.nv_part_examples.proofs.queue.exchange_first.Given as goal
+use Rattle.nv_part_tests.proofs.queue.exchange_first.Given as goal
 
 abbrev pub invariant-loop-number : goal.invariant-loop-number
 invariant-loop-number g l =
