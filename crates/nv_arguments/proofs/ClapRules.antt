@@ -21,13 +21,16 @@ taken_rows ws h = rw h refl
 refused_rows : (ws : List Text) → is_taken ws ≡ false → rows_of_words ws ≡ Err fault.Refused
 refused_rows ws h = rw h refl
 
-pub taken : (ws : List Text) (a : App) (rows : List Row) → a ≡ program → fault_of a ws ≡ [] → rows ≡ matches_of a ws → IsUnlessMemory (rows_of_words ws) (Ok rows)
+pub taken : (ws : List Text) (a : App) (rows : List Row) → a ≡ program
+    → fault_of a ws ≡ [] → rows ≡ matches_of a ws → IsUnlessMemory (rows_of_words ws) (Ok rows)
 unfolding is_taken clap_rows
 taken ws a rows e f r =
     let found = without_fault program a ws rows e f r in
     inr (ap Ok found.1 ∙ sym (taken_rows ws found.0))
 
-pub refused : (ws : List Text) (a : App) (k : ErrorKind) → a ≡ program → (k ≡ kind.OutOfMemory) ⊎ IsAmong k (fault_of a ws) → (k ≡ kind.OutOfMemory → ⊥) → IsUnlessMemory {T = List Row} (rows_of_words ws) (Err fault.Refused)
+pub refused : (ws : List Text) (a : App) (k : ErrorKind) → a ≡ program
+    → (k ≡ kind.OutOfMemory) ⊎ IsAmong k (fault_of a ws) → (k ≡ kind.OutOfMemory → ⊥)
+    → IsUnlessMemory {T = List Row} (rows_of_words ws) (Err fault.Refused)
 unfolding is_taken
 refused ws a k e (inl m) n = absurd (n m)
 refused ws a k e (inr among) n = inr (sym (refused_rows ws (with_fault program a ws k e among)))
