@@ -3,6 +3,7 @@
 
 mod ends;
 mod executing;
+mod in_order;
 mod line_buffer;
 mod listing;
 mod order;
@@ -13,6 +14,7 @@ mod shown;
 mod streams;
 
 pub use ends::RunEnd;
+pub use in_order::{Held, OverHeld, SinkAfter, SourceAfter};
 pub use nv_driver::{Geometry, GeometryField};
 pub use nv_line::{
     Ask, ControllerList, LINE_LIMIT, Line, LineFault, OptionName, OutputFormat, Query, Question,

@@ -8,10 +8,10 @@ mod stop;
 
 use nv_arguments::Arguments;
 use nv_controller::Machine;
-use nv_script::{Geometry, OverRead, OverWrite, run};
+use nv_script::{Geometry, Held, OverHeld, OverRead, OverWrite, SinkAfter, SourceAfter, run};
 use nv_subsystem::{DEMO, Subsystem};
 use std::alloc::Global;
-use std::io::{self, BufWriter, Read, Write};
+use std::io::{self, BufWriter, Read};
 use std::process::ExitCode;
 use std::{env, fs};
 use stop::{Stop, status_of};
@@ -65,7 +65,8 @@ fn asked(rt: &HostRuntime) -> Result<(Subsystem, Geometry), Stop>
     Ok((subsystem, arguments.geometry))
 }
 
-/// Runs the script on standard input.
+/// Runs the script on standard input. What lines write is out before more of the script is awaited,
+/// and before a message.
 fn run_script(rt: &HostRuntime, subsystem: Subsystem, geometry: Geometry) -> Result<u8, Stop>
     requires { IsWellFormed subsystem }
 {
@@ -76,9 +77,10 @@ fn run_script(rt: &HostRuntime, subsystem: Subsystem, geometry: Geometry) -> Res
     let Ok(mut machine) = Machine::new(alloc, subsystem) else {
         return Err(Stop::Memory);
     };
-    let mut script = OverRead::new(rt.reader());
-    let mut out = OverWrite::new(buffered);
-    let mut messages = OverWrite::new(rt.stderr());
+    let held = Held::new(buffered);
+    let mut script = SourceAfter::new(OverRead::new(rt.reader()), &held);
+    let mut out = OverHeld::new(&held);
+    let mut messages = SinkAfter::new(OverWrite::new(rt.stderr()), &held);
     let end = run(
         alloc,
         &mut machine,
@@ -87,11 +89,12 @@ fn run_script(rt: &HostRuntime, subsystem: Subsystem, geometry: Geometry) -> Res
         &mut out,
         &mut messages,
     );
-    let flushed = out.into_inner().flush();
+    let is_out = held.flush();
     let status = status_of(end)?;
-    match flushed {
-        Ok(()) => Ok(status),
-        Err(_) => Err(Stop::Write),
+    if is_out {
+        Ok(status)
+    } else {
+        Err(Stop::Write)
     }
 }
 

@@ -1,0 +1,129 @@
+//! Streams in one order: what was written is out before more of a script is awaited, and before a
+//! message is.
+
+ghost use Rattle.std.specs.Prelude.{◌≡◌, ◌≤◌, IfSome, None, false, length};
+
+use crate::streams::{Sink, Source};
+use std::cell::{Cell, RefCell};
+use std::io::Write;
+
+/// A writer that holds bytes back, and whether a write or a flush of it has failed. Several streams
+/// share it.
+#[derive(Drop)]
+pub struct Held<W> {
+    writer: RefCell<W>,
+    failed: Cell<bool>,
+}
+
+impl<W: Write> Held<W> {
+    pub fn new(writer: W) -> Held<W> {
+        Held {
+            writer: RefCell::new(writer),
+            failed: Cell::new(false),
+        }
+    }
+
+    /// Hands bytes to the writer: how many it took, or `None` where it has failed.
+    fn write(&self, bytes: &[u8]) -> Option<usize>
+        ensures { IfSome result (λ n. n ≤ length bytes.now) }
+    {
+        if self.failed.get() {
+            return None;
+        }
+        let Ok(mut writer) = self.writer.try_borrow_mut() else {
+            return None;
+        };
+        writer.write(bytes).ok()
+    }
+
+    /// Puts out what the writer holds. Answers whether all that it took is out.
+    pub fn flush(&self) -> bool {
+        let is_out = match self.writer.try_borrow_mut() {
+            Ok(mut writer) => writer.flush().is_ok(),
+            Err(_) => false,
+        };
+        if !is_out {
+            self.failed.set(true);
+        }
+        !self.failed.get()
+    }
+}
+
+/// A sink over a writer that holds bytes back. What it took is not told.
+#[derive(Drop)]
+pub struct OverHeld<'a, W> {
+    held: &'a Held<W>,
+    failed: bool,
+}
+
+impl<'a, W: Write> OverHeld<'a, W> {
+    pub fn new(held: &'a Held<W>) -> OverHeld<'a, W>
+        ensures taken { (⟦<OverHeld<'a, W> as Sink>⟧.state result).taken ≡ None }
+        ensures fresh { (⟦<OverHeld<'a, W> as Sink>⟧.state result).has_failed ≡ false }
+    {
+        OverHeld {
+            held,
+            failed: false,
+        }
+    }
+}
+
+impl<'a, W: Write> Sink for OverHeld<'a, W> {
+    ghost use Rattle.std.specs.Prelude.{None};
+
+    ghost state = { λ s. record { taken = None; has_failed = s.failed } };
+
+    fn write(&mut self, bytes: &[u8]) -> Option<usize> {
+        let taken = self.held.write(bytes);
+        self.failed = matches!(taken, None | Some(0));
+        taken
+    }
+}
+
+/// A source before whose reads all that a writer holds is put out.
+#[derive(Drop)]
+pub struct SourceAfter<'a, R, W> {
+    source: R,
+    held: &'a Held<W>,
+}
+
+impl<'a, R: Source, W: Write> SourceAfter<'a, R, W> {
+    pub fn new(source: R, held: &'a Held<W>) -> SourceAfter<'a, R, W>
+        ensures { ⟦<SourceAfter<'a, R, W> as Source>⟧.state result ≡ R.state source }
+    {
+        SourceAfter { source, held }
+    }
+}
+
+impl<'a, R: Source, W: Write> Source for SourceAfter<'a, R, W> {
+    ghost state = { λ s. R.state s.source };
+
+    fn read(&mut self, buf: &mut [u8]) -> Option<usize> {
+        let _ = self.held.flush();
+        self.source.read(buf)
+    }
+}
+
+/// A sink before whose writes all that a writer holds is put out.
+#[derive(Drop)]
+pub struct SinkAfter<'a, S, W> {
+    sink: S,
+    held: &'a Held<W>,
+}
+
+impl<'a, S: Sink, W: Write> SinkAfter<'a, S, W> {
+    pub fn new(sink: S, held: &'a Held<W>) -> SinkAfter<'a, S, W>
+        ensures { ⟦<SinkAfter<'a, S, W> as Sink>⟧.state result ≡ S.state sink }
+    {
+        SinkAfter { sink, held }
+    }
+}
+
+impl<'a, S: Sink, W: Write> Sink for SinkAfter<'a, S, W> {
+    ghost state = { λ s. S.state s.sink };
+
+    fn write(&mut self, bytes: &[u8]) -> Option<usize> {
+        let _ = self.held.flush();
+        self.sink.write(bytes)
+    }
+}
