@@ -8,7 +8,6 @@ pub mod GreetingLaws
 pub mod ListedLaws
 pub mod Taking
 pub mod LineLaws
-pub mod PieceSteps
 pub mod PieceLaws
 pub mod LinkLaws
 pub mod RunLaws

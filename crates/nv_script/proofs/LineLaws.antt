@@ -12,8 +12,8 @@ use Rattle.nv_script.specs.Outcomes.{outcome_of}
 use Rattle.nv_line.specs.Line.{reading}
 use Rattle.nv_script.specs.Results.{LineResult, Progress, line_result, request_result, result_at, said_at}
 use Rattle.nv_script.specs.Link.{serials_of}
-use Rattle.nv_script.specs.declared.ends.RunEnd.{RunEnd}
-use Rattle.nv_script.specs.declared.ends.RunEnd.TheVariants.{OutWrite, MessageWrite}
+use Rattle.nv_script.specs.declared.ends.Cut.{Cut}
+use Rattle.nv_script.specs.declared.ends.Cut.TheVariants.{Output, Messages}
 use Rattle.nv_script.specs.declared.session.Session.{Session}
 use Rattle.nv_line.specs.declared.fault.LineFault.{LineFault}
 use Rattle.nv_line.specs.declared.fault.LineFault.TheVariants as fault
@@ -32,7 +32,7 @@ took_same a b c x e h = subst (λ t. Appends a t x) (sym e) h
 module _ {A E Z : Type 0} (p : Progress) (text : List ℕ) (lr : LineResult) (k : ℕ) (old : Left) (new : State) (session : Session)
     (same : result_at p text ≡ lr) (held : Holds old p.output p.messages p.state) (reached : new ≡ lr.state) (next : serials_of session.driver ≡ lr.serials)
     (number : session.number ≡ p.number + 1) (status : session.status ≡ unwrap_or lr.status p.status) (all : lr.state ≡ state_amid p.state p.serials (said_at p text) k) where
-  pub message_leaves : (r : Result A RunEnd) (t : Result (String Z) E) (messages : Option (List ℕ)) (failed : Bool) → lr.output ≡ [] → IfOk t (λ t. string_bytes t ≡ lr.message) → PrintLeaves r MessageWrite t old.messages messages failed
+  pub message_leaves : (r : Result A Cut) (t : Result (String Z) E) (messages : Option (List ℕ)) (failed : Bool) → lr.output ≡ [] → IfOk t (λ t. string_bytes t ≡ lr.message) → PrintLeaves r Messages t old.messages messages failed
       → LineLeaves r p text (left_at old.out_before old.out old.messages_before messages new) session
   message_leaves (Ok done) (Ok t) messages failed none is h = record {
     holds = record {
@@ -45,7 +45,7 @@ module _ {A E Z : Type 0} (p : Progress) (text : List ℕ) (lr : LineResult) (k 
     status = status ∙ ap (λ (x : LineResult). unwrap_or x.status p.status) (sym same);
   }
   message_leaves (Ok done) (Err e) messages failed none is h = absurd h
-  message_leaves (Err end) (Ok t) messages failed none is h =
+  message_leaves (Err cut) (Ok t) messages failed none is h =
       subst (λ x. IsCutIn x p text (left_at old.out_before old.out old.messages_before messages new)) (sym h.0) (
         h.1.0,
         (h.1.1.0, ap (λ (x : LineResult). x.message) same ∙ sym is ∙ h.1.1.1),
@@ -55,13 +55,13 @@ module _ {A E Z : Type 0} (p : Progress) (text : List ℕ) (lr : LineResult) (k 
           reached = reached ∙ sym (ap (λ (x : LineResult). x.state) same);
         },
       )
-  message_leaves (Err end) (Err e) messages failed none is h =
+  message_leaves (Err cut) (Err e) messages failed none is h =
       subst (λ x. IsCutIn x p text (left_at old.out_before old.out old.messages_before messages new)) (sym h.0) (
         k,
         record { took_output = held.took_output; took_messages = took_same old.messages_before old.messages messages p.messages h.1 held.took_messages; reached = reached ∙ all },
       )
 
-  pub output_leaves : (r : Result A RunEnd) (t : Result (String Z) E) (out : Option (List ℕ)) (failed : Bool) → lr.message ≡ [] → IfOk t (λ t. string_bytes t ≡ lr.output) → PrintLeaves r OutWrite t old.out out failed
+  pub output_leaves : (r : Result A Cut) (t : Result (String Z) E) (out : Option (List ℕ)) (failed : Bool) → lr.message ≡ [] → IfOk t (λ t. string_bytes t ≡ lr.output) → PrintLeaves r Output t old.out out failed
       → LineLeaves r p text (left_at old.out_before out old.messages_before old.messages new) session
   output_leaves (Ok done) (Ok t) out failed none is h = record {
     holds = record {
@@ -74,7 +74,7 @@ module _ {A E Z : Type 0} (p : Progress) (text : List ℕ) (lr : LineResult) (k 
     status = status ∙ ap (λ (x : LineResult). unwrap_or x.status p.status) (sym same);
   }
   output_leaves (Ok done) (Err e) out failed none is h = absurd h
-  output_leaves (Err end) (Ok t) out failed none is h =
+  output_leaves (Err cut) (Ok t) out failed none is h =
       subst (λ x. IsCutIn x p text (left_at old.out_before out old.messages_before old.messages new)) (sym h.0) (
         h.1.0,
         (h.1.1.0, ap (λ (x : LineResult). x.output) same ∙ sym is ∙ h.1.1.1),
@@ -84,7 +84,7 @@ module _ {A E Z : Type 0} (p : Progress) (text : List ℕ) (lr : LineResult) (k 
           reached = reached ∙ sym (ap (λ (x : LineResult). x.state) same);
         },
       )
-  output_leaves (Err end) (Err e) out failed none is h =
+  output_leaves (Err cut) (Err e) out failed none is h =
       subst (λ x. IsCutIn x p text (left_at old.out_before out old.messages_before old.messages new)) (sym h.0) (
         k,
         record { took_output = took_same old.out_before old.out out p.output h.1 held.took_output; took_messages = held.took_messages; reached = reached ∙ all },

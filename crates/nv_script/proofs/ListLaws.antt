@@ -33,7 +33,6 @@ module _ (w : Standing) (done all : List Order) where
       → ListLeaves {A = A} (Err e) (asked_all w done) orders s serials devices → ListLeaves {A = B} (Err e) w all s serials now
   stopped_within A B (stop.Refused status) orders rest s serials devices now is h = absurd h
   stopped_within A B stop.Memory orders rest s serials devices now is h = begun_within orders rest s serials is h
-  stopped_within A B stop.NoReady orders rest s serials devices now is h = absurd h
 
   pub listed_after : (orders : List Order) (s : State) (serials : List ℕ) (devices : List Device) → all ≡ done ++ orders → IsListed (asked_all (asked_all w done) orders) s serials devices
       → IsListed (asked_all w all) s serials devices

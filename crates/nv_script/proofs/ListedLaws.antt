@@ -46,4 +46,3 @@ module _ (s now : State) (serials next : List ℕ) (ok : IsWellFormed s) where
       → StopLeaves e query.List s serials now next
   list_stopped A (stop.Refused status) devices h = absurd h
   list_stopped A stop.Memory devices h = begun_left h
-  list_stopped A stop.NoReady devices h = absurd h

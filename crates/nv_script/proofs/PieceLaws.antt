@@ -1,53 +1,71 @@
 -- Bytes cut at their newlines, a byte at a time.
-use Rattle.std.proofs.Common.{◌≡◌, ◌≢◌, ℕ, suc, ◌+◌, ◌<◌, List, [], ◌∷◌, ◌++◌, length, take, drop, get_or, sym, ap, subst, ◌∙◌, refl, Bool, true, false, eqb, cond, append_assoc, append-nil, arith, fold}
+use Rattle.std.proofs.Common.{◌≡◌, ◌≢◌, ℕ, suc, ◌+◌, ◌<◌, List, [], ◌∷◌, ◌++◌, length, take, drop, get_or, sym, ap, ◌∙◌, refl, Bool, true, false, eqb, cond, append_assoc, append-nil, arith, fold}
 use Rattle.std.proofs.lemmas.List.{take_more, take-append-drop, length-append}
-use Rattle.std.proofs.lemmas.Grind.{fold-append}
+use Rattle.std.proofs.lemmas.List.Sums.{fold-append}
 use Rattle.std.proofs.lemmas.Bool.Decides.{nat_tests}
 use Rattle.std.specs.Prelude.{Option, Some, None, nat_le}
 use Rattle.nv_model.specs.State.{State}
 use Rattle.nv_script.specs.Cuts.{joined_lines}
 use Rattle.nv_script.specs.Results.{after, start, whole}
-use Rattle.nv_script.specs.ScriptLines.{Pieces, as_line, buffer_of, buffer_with, pieces, script_lines}
-use Rattle.nv_script.proofs.PieceSteps.{pieces-append, with-newline, with-other, with_byte}
+use Rattle.nv_script.specs.ScriptLines.{Pieces, as_line, buffer_of, buffer_with, pieces, script_lines, with_byte}
 
 -- a piece of which one byte more was read
-pub taken-more : (bytes piece : List ℕ) (i : ℕ) → i < length piece → bytes ++ take (i + 1) piece ≡ (bytes ++ take i piece) ++ get_or piece i 0 ∷ []
-taken-more bytes piece i h = ap (λ t. bytes ++ t) (take_more piece i 0 h) ∙ sym (append_assoc bytes (take i piece) (get_or piece i 0 ∷ []))
+pub taken-more : (bytes piece : List ℕ) (i : ℕ) → i < length piece
+    → bytes ++ take (i + 1) piece ≡ (bytes ++ take i piece) ++ get_or piece i 0 ∷ []
+taken-more bytes piece i h =
+    ap (λ t. bytes ++ t) (take_more piece i 0 h) ∙ sym (append_assoc bytes (take i piece) (get_or piece i 0 ∷ []))
 
--- a newline ends a line; any other byte is of the line
-pub pieces-newline : (xs : List ℕ) (b : ℕ) → b ≡ 10 → pieces (xs ++ b ∷ []) ≡ record { ended = (pieces xs).ended ++ (pieces xs).last ∷ []; last = [] }
-pieces-newline xs b e = pieces-append xs (b ∷ []) ∙ with-newline (pieces xs) b e
+-- ---- one byte more
 
-pub pieces-other : (xs : List ℕ) (b : ℕ) → b ≢ 10 → pieces (xs ++ b ∷ []) ≡ record { ended = (pieces xs).ended; last = (pieces xs).last ++ b ∷ [] }
-pieces-other xs b n = pieces-append xs (b ∷ []) ∙ with-other (pieces xs) b n
+-- a line is ended, or has one byte more
+abbrev pub with_line : Pieces → Pieces
+with_line p = record { ended = p.ended ++ p.last ∷ []; last = [] }
+
+abbrev pub in_line : Pieces → ℕ → Pieces
+in_line p b = record { ended = p.ended; last = p.last ++ b ∷ [] }
+
+pieces-append : (xs ys : List ℕ) → pieces (xs ++ ys) ≡ fold with_byte (pieces xs) ys
+pieces-append xs ys = fold-append with_byte (record { ended = []; last = [] }) xs ys
+
+pub pieces-newline : (xs : List ℕ) (b : ℕ) → b ≡ 10 → pieces (xs ++ b ∷ []) ≡ with_line (pieces xs)
+pieces-newline xs b e = pieces-append xs (b ∷ []) ∙ ap (with_byte (pieces xs)) e
+
+pub pieces-other : (xs : List ℕ) (b : ℕ) → b ≢ 10 → pieces (xs ++ b ∷ []) ≡ in_line (pieces xs) b
+pieces-other xs b n =
+    let other : eqb b 10 ≡ false = grind (arith, nat_tests) in
+    pieces-append xs (b ∷ []) ∙ ap (λ t. cond t (with_line (pieces xs)) (in_line (pieces xs) b)) other
 
 -- one line more
-pub whole-more : (s : State) (lines : List (List ℕ)) (line : List ℕ) → whole s (lines ++ line ∷ []) ≡ after (whole s lines) line
+pub whole-more : (s : State) (lines : List (List ℕ)) (line : List ℕ)
+    → whole s (lines ++ line ∷ []) ≡ after (whole s lines) line
 whole-more s lines line = fold-append after (start s) lines (line ∷ [])
 
--- lines that were ended stay
-ended-stay : (p : Pieces) (bytes : List ℕ) → (later : List (List ℕ)) × ((fold with_byte p bytes).ended ≡ p.ended ++ later)
+-- ---- a line that was ended stays
+
+abbrev More : Pieces → List ℕ → Pieces → Type 0
+More p bytes q = (later : List (List ℕ)) × ((fold with_byte q bytes).ended ≡ p.ended ++ later)
+
+ended-stay : (p : Pieces) (bytes : List ℕ) → More p bytes p
 ended-stay p [] = ([], sym (append-nil p.ended))
-ended-stay p (b ∷ bytes) =
-    at_test (ended-stay (record { ended = p.ended ++ p.last ∷ []; last = [] }) bytes) (ended-stay (record { ended = p.ended; last = p.last ++ b ∷ [] }) bytes) (eqb b 10)
+ended-stay p (b ∷ bytes) = at_test (ended-stay (with_line p) bytes) (ended-stay (in_line p b) bytes) (eqb b 10)
   where
-    at_test : ((later : List (List ℕ)) × ((fold with_byte (record { ended = p.ended ++ p.last ∷ []; last = [] }) bytes).ended ≡ (p.ended ++ p.last ∷ []) ++ later))
-        → ((later : List (List ℕ)) × ((fold with_byte (record { ended = p.ended; last = p.last ++ b ∷ [] }) bytes).ended ≡ p.ended ++ later))
-        → (t : Bool) → (later : List (List ℕ)) × ((fold with_byte (cond t (record { ended = p.ended ++ p.last ∷ []; last = [] }) (record { ended = p.ended; last = p.last ++ b ∷ [] })) bytes).ended ≡ p.ended ++ later)
+    at_test : More (with_line p) bytes (with_line p) → More (in_line p b) bytes (in_line p b) → (t : Bool)
+        → More p bytes (cond t (with_line p) (in_line p b))
     at_test h k true = (p.last ∷ h.0, h.1 ∙ append_assoc p.ended (p.last ∷ []) h.0)
     at_test h k false = k
 
 -- the line that a newline ends is among the lines of all the bytes
-pub line-among : (xs ys : List ℕ) (b : ℕ) → b ≡ 10 → (later : List (List ℕ)) × (script_lines ((xs ++ b ∷ []) ++ ys) ≡ (pieces xs).ended ++ (pieces xs).last ∷ later)
+pub line-among : (xs ys : List ℕ) (b : ℕ) → b ≡ 10
+    → (later : List (List ℕ)) × (script_lines ((xs ++ b ∷ []) ++ ys) ≡ (pieces xs).ended ++ (pieces xs).last ∷ later)
 line-among xs ys b e =
     let p = pieces xs in
-    let s = ended-stay (record { ended = p.ended ++ p.last ∷ []; last = [] }) ys in
-    let q : pieces ((xs ++ b ∷ []) ++ ys) ≡ fold with_byte (record { ended = p.ended ++ p.last ∷ []; last = [] }) ys =
+    let s = ended-stay (with_line p) ys in
+    let q : pieces ((xs ++ b ∷ []) ++ ys) ≡ fold with_byte (with_line p) ys =
     pieces-append (xs ++ b ∷ []) ys ∙ ap (λ x. fold with_byte x ys) (pieces-newline xs b e) in
-    let last = (pieces ((xs ++ b ∷ []) ++ ys)).last in (
-      s.0 ++ as_line last,
-      ap (λ x. x ++ as_line last) (ap (λ (x : Pieces). x.ended) q ∙ s.1 ∙ append_assoc p.ended (p.last ∷ []) s.0)
-          ∙ append_assoc p.ended (p.last ∷ s.0) (as_line last),
+    let last = as_line (pieces ((xs ++ b ∷ []) ++ ys)).last in (
+      s.0 ++ last,
+      ap (λ x. x ++ last) (ap (λ (x : Pieces). x.ended) q ∙ s.1 ∙ append_assoc p.ended (p.last ∷ []) s.0)
+          ∙ append_assoc p.ended (p.last ∷ s.0) last,
     )
 
 -- the same where the newline stands at an index of a further piece
@@ -93,25 +111,34 @@ buffer_of-empty (b ∷ bs) e = at_test (nat_le (length (b ∷ bs)) 4095) e
 
 joined-append : (xs ys : List (List ℕ)) → joined_lines (xs ++ ys) ≡ joined_lines xs ++ joined_lines ys
 joined-append [] ys = refl
-joined-append (x ∷ xs) ys = ap (λ z. (x ++ 10 ∷ []) ++ z) (joined-append xs ys) ∙ sym (append_assoc (x ++ 10 ∷ []) (joined_lines xs) (joined_lines ys))
+joined-append (x ∷ xs) ys =
+    ap (λ z. (x ++ 10 ∷ []) ++ z) (joined-append xs ys)
+    ∙ sym (append_assoc (x ++ 10 ∷ []) (joined_lines xs) (joined_lines ys))
 
-pub length-joined : (lines : List (List ℕ)) (line : List ℕ) → length (joined_lines (lines ++ line ∷ [])) ≡ length (joined_lines lines) + length line + 1
+pub length-joined : (lines : List (List ℕ)) (line : List ℕ)
+    → length (joined_lines (lines ++ line ∷ [])) ≡ length (joined_lines lines) + length line + 1
 length-joined lines line =
-    let e = ap length (joined-append lines (line ∷ [])) ∙ length-append (joined_lines lines) (joined_lines (line ∷ [])) ∙ ap (λ n. length (joined_lines lines) + n) (ap length (append-nil (line ++ 10 ∷ [])) ∙ length-append line (10 ∷ [])) in
-    omega (arith, e)
+    let joined = ap length (joined-append lines (line ∷ [])) in
+    let one = ap length (append-nil (line ++ 10 ∷ [])) ∙ length-append line (10 ∷ []) in
+    omega (arith, joined, length-append (joined_lines lines) (joined_lines (line ∷ [])), one)
 
-length-fed : (p : Pieces) (bytes : List ℕ) → length (joined_lines (fold with_byte p bytes).ended) + length (fold with_byte p bytes).last ≡ length (joined_lines p.ended) + length p.last + length bytes
-length-fed p [] = omega arith
-length-fed p (b ∷ bytes) =
-    at_test (length-fed (record { ended = p.ended ++ p.last ∷ []; last = [] }) bytes) (length-fed (record { ended = p.ended; last = p.last ++ b ∷ [] }) bytes) (eqb b 10)
+size : Pieces → ℕ
+size p = length (joined_lines p.ended) + length p.last
+
+size-byte : (p : Pieces) (b : ℕ) → size (with_byte p b) ≡ size p + 1
+unfolding size
+size-byte p b = at_test (eqb b 10)
   where
-    size : Pieces → ℕ
-    size q = length (joined_lines (fold with_byte q bytes).ended) + length (fold with_byte q bytes).last
+    at_test : (t : Bool) → size (cond t (with_line p) (in_line p b)) ≡ size p + 1
+    at_test true = omega (arith, length-joined p.ended p.last)
+    at_test false = omega (arith, length-append p.last (b ∷ []))
 
-    at_test : size (record { ended = p.ended ++ p.last ∷ []; last = [] }) ≡ length (joined_lines (p.ended ++ p.last ∷ [])) + 0 + length bytes → size (record { ended = p.ended; last = p.last ++ b ∷ [] }) ≡ length (joined_lines p.ended) + length (p.last ++ b ∷ []) + length bytes → (t : Bool) → size (cond t (record { ended = p.ended ++ p.last ∷ []; last = [] }) (record { ended = p.ended; last = p.last ++ b ∷ [] })) ≡ length (joined_lines p.ended) + length p.last + suc (length bytes)
-    at_test h k true = omega (arith, h, length-joined p.ended p.last)
-    at_test h k false = omega (arith, k, length-append p.last (b ∷ []))
+size-fed : (p : Pieces) (bytes : List ℕ) → size (fold with_byte p bytes) ≡ size p + length bytes
+size-fed p [] = omega arith
+size-fed p (b ∷ bytes) = omega (arith, size-fed (with_byte p b) bytes, size-byte p b)
 
 -- the pieces are the bytes
-pub length-pieces : (bytes : List ℕ) → length (joined_lines (pieces bytes).ended) + length (pieces bytes).last ≡ length bytes
-length-pieces bytes = subst (λ p. length (joined_lines p.ended) + length p.last ≡ length bytes) (sym (pieces-append [] bytes)) (omega (arith, length-fed (pieces []) bytes))
+pub length-pieces : (bytes : List ℕ)
+    → length (joined_lines (pieces bytes).ended) + length (pieces bytes).last ≡ length bytes
+unfolding size
+length-pieces bytes = omega (arith, size-fed (record { ended = []; last = [] }) bytes)

@@ -24,7 +24,6 @@ use Rattle.nv_script.specs.Orders.{errors_command, first_act, later_orders, next
 use Rattle.nv_script.specs.Outcomes.{Outcome, outcome_after, outcome_of}
 use Rattle.nv_script.specs.Performing.{IsReached, OrderLeaves, QueryLeaves, StopLeaves}
 use Rattle.nv_script.specs.Shown.{shown_of}
-use Rattle.nv_script.specs.declared.performing.Stop.{Stop}
 use Rattle.nv_script.specs.declared.performing.Stop.TheVariants as stop
 use Rattle.nv_print.specs.declared.shown.Shown.{Shown}
 use Rattle.nv_script.proofs.OutcomeLaws.{accepted_first, accepted_with, refused_at_once, refused_with}
@@ -126,10 +125,10 @@ module _ (s now : State) (serials next : List ℕ) (q : Question) where
         begun reply e (Some k) is
         ∙ ap (outcome_after (Ok reply) now next) (refused_at_once now last next end (order_of q.controller k) [] status e2)
 
-    pub second_stopped : (e : Stop) → OrderLeaves (Err e) (order_of q.controller k) now next last end → StopLeaves e (One q) s serials last end
-    second_stopped (stop.Refused status) h = left_refused s last serials end (One q) (reply ∷ []) status (second_refused status h)
-    second_stopped stop.Memory h = absurd h
-    second_stopped stop.NoReady h = absurd h
+    pub second_stopped : (status : Status) → OrderLeaves (Err status) (order_of q.controller k) now next last end
+        → StopLeaves (stop.Refused status) (One q) s serials last end
+    second_stopped status h =
+        left_refused s last serials end (One q) (reply ∷ []) status (second_refused status h)
 
     pub two_accepted : (second : Reply) → exchange_with (Ok second) last end ≡ exchange_of now next (order_of q.controller k)
         → outcome_of s serials (orders_of s (One q)) ≡ accepted_with (reply ∷ second ∷ []) last end

@@ -1,6 +1,6 @@
 -- How the pieces of a run make the whole run.
 use Rattle.std.proofs.Common.{Bool, false, ◌||◌, ◌==◌, ◌≡◌, ◌∙◌, ℕ, ◌+◌, ◌<◌, ◌≤◌, List, [], ◌∷◌, ◌++◌, length, take, sym, ap, subst, append-nil, arith, inl, inr, ◌≢◌, ◌↔◌, refl, Option, None, Some, Result, Ok, Err}
-use Rattle.std.specs.Prelude.{IfSome, MatchResult, replicate}
+use Rattle.std.specs.Prelude.{IfSome, replicate}
 use Rattle.std.specs.Io.KnownBytes.{Appends, Consumes, IsAtEnd, Keeps}
 use Rattle.std.proofs.lemmas.Bool.Decides.{nat_tests}
 use Rattle.std.proofs.lemmas.List.{length-append, length-take-le}
@@ -11,14 +11,18 @@ use Rattle.nv_driver.specs.declared.error.DriverError.{DriverError}
 use Rattle.nv_driver.specs.declared.error.DriverError.TheVariants as error
 use Rattle.nv_driver.specs.declared.geometry.Geometry.{Geometry as DriverGeometry}
 use Rattle.nv_driver.specs.declared.geometry_field.GeometryField.{GeometryField}
-use Rattle.nv_script.specs.Ends.{AllEnabled, AreFaults, Headline, IsEndOf, IsEndWithout, IsFaultOf, IsRun, Leaves, RunState, Runs, RunsFrom, WasRead, begun, end_without, has_stopped, left_by}
-use Rattle.nv_script.specs.Feeding.{IsFailureOf, LastLeaves, PieceLeaves, Stands}
+use Rattle.nv_script.specs.Ends.{AllEnabled, AreFaults, Headline, IsEndOf, IsRun, Leaves, RunState, Runs, RunsFrom, WasRead, begun, end_with, end_without, has_stopped, left_by}
+use Rattle.nv_script.specs.Feeding.{LastLeaves, PieceLeaves, Stands}
 use Rattle.nv_script.specs.Results.{Progress, whole}
 use Rattle.nv_script.specs.ScriptLines.{as_line, pieces, script_lines}
 use Rattle.nv_script.specs.Link.{serials_of}
 use Rattle.nv_script.specs.Streams.{IsFresh, SourceState}
+use Rattle.nv_script.specs.declared.ends.Cut.{Cut}
+use Rattle.nv_script.specs.declared.ends.Cut.TheVariants as cut
 use Rattle.nv_script.specs.declared.ends.RunEnd.{RunEnd}
-use Rattle.nv_script.specs.declared.ends.RunEnd.TheVariants.{Status, Geometry, NoReady, Read, OutWrite, MessageWrite, Memory}
+use Rattle.nv_script.specs.declared.ends.RunEnd.TheVariants.{Status, Geometry, NoReady, Memory}
+use Rattle.nv_script.specs.declared.ends.SessionEnd.{SessionEnd}
+use Rattle.nv_script.specs.declared.ends.SessionEnd.TheVariants as ended
 use Rattle.nv_script.specs.declared.session.Session.{Session}
 use Rattle.nv_script.specs.declared.streams.TheConstants.{READ_SIZE}
 use Rattle.nv_script.proofs.PieceLaws.{as_line-some, length-joined, length-pieces, piece-among}
@@ -34,7 +38,7 @@ no_last bytes e = ap (λ x. (pieces bytes).ended ++ x) e ∙ append-nil (pieces 
 
 -- a run that stands after all lines
 pub ends_whole : (s : State) (bytes : List ℕ) (q : Progress) (left : Left) (session : Session) → whole s (script_lines bytes) ≡ q → Stands q left session
-    → Leaves (Status session.status) s bytes left
+    → Leaves (ended.Status session.status) s bytes left
 ends_whole s bytes q left session e h =
     (h.status ∙ ap (λ (x : Progress). x.status) (sym e), subst (λ (x : Progress). Holds left x.output x.messages x.state) (sym e) h.holds)
 
@@ -61,34 +65,27 @@ read_whole None new bytes P h k p = tt
 read_whole (Some xs) None bytes P h k p = absurd h
 read_whole (Some xs) (Some ys) bytes P h k p = subst P (sym (h ∙ ap (λ z. bytes ++ z) k ∙ append-nil bytes)) p
 
-pub headline : (reads : ℕ) (end : RunEnd) (old new : RunState) → RunsFrom (begun old) reads end old new → Headline end old new
-headline reads end old new h status e =
-    let left : Leaves (Status status) (begun old) h.bytes (left_by old new) = subst (λ x. Leaves x (begun old) h.bytes (left_by old new)) e h.left in
-    let ended : IsEndOf (Status status) reads new = subst (λ x. IsEndOf x reads new) e h.end_of in
-    read_whole old.script.to_come new.script.to_come h.bytes (λ script. Leaves (Status status) (begun old) script (left_by old new)) h.was_read.first ended.4 left
+-- the end that a status is of
+is_status : (e : SessionEnd) (status : ℕ) → end_with e ≡ Status status → e ≡ ended.Status status
+is_status (ended.Status n) status h = cc
+is_status ended.Read status h = absurd (cc)
+is_status (ended.Cut cut.Output) status h = absurd (cc)
+is_status (ended.Cut cut.Messages) status h = absurd (cc)
+is_status (ended.Cut cut.Memory) status h = absurd (cc)
 
--- cut short: what is left
-pub cut_leaves : (end : RunEnd) (s : State) (bytes : List ℕ) (left : Left) → IsCutShort end s bytes left → Leaves end s bytes left
-cut_leaves (Status status) s bytes left h = absurd h.beginning
-cut_leaves (Geometry field) s bytes left h = absurd h.beginning
-cut_leaves NoReady s bytes left h = absurd h.beginning
-cut_leaves Read s bytes left h = absurd h.beginning
-cut_leaves OutWrite s bytes left h = h
-cut_leaves MessageWrite s bytes left h = h
-cut_leaves Memory s bytes left h = h
-
-pub cut_ends : (end : RunEnd) (reads : ℕ) (now : RunState) → IsFailureOf {A = Unit {0}} (Err end) now.out.has_failed now.messages.has_failed → IsEndOf end reads now
-cut_ends (Status status) reads now h = absurd h
-cut_ends (Geometry field) reads now h = absurd h
-cut_ends NoReady reads now h = absurd h
-cut_ends Read reads now h = absurd h
-cut_ends OutWrite reads now h = h
-cut_ends MessageWrite reads now h = h
-cut_ends Memory reads now h = h
+headline_with : (reads : ℕ) (e : SessionEnd) (old new : RunState) → RunsFrom (begun old) reads e old new
+    → Headline (end_with e) old new
+headline_with reads e old new h status is =
+    let same = is_status e status is in
+    let left = subst (λ x. Leaves x (begun old) h.bytes (left_by old new)) same h.left in
+    let end = subst (λ x. IsEndOf x reads new) same h.end_of in
+    read_whole old.script.to_come new.script.to_come h.bytes
+    (λ script. Leaves (ended.Status status) (begun old) script (left_by old new)) h.was_read.first end.4 left
 
 -- in the last piece
-pub last_cut : (end : RunEnd) (s : State) (bytes : List ℕ) (left : Left) → LastLeaves (Err end) s bytes left → IsCutShort end s bytes left
-last_cut end s bytes left h =
+pub last_cut : (cut : Cut) (s : State) (bytes : List ℕ) (left : Left) → LastLeaves (Err cut) s bytes left
+    → IsCutShort cut s bytes left
+last_cut cut s bytes left h =
     let ended = (pieces bytes).ended in
     let last = (pieces bytes).last in
     record {
@@ -101,9 +98,10 @@ last_cut end s bytes left h =
     }
 
 -- in a line of a further piece
-pub piece_cut : (end : RunEnd) (s : State) (bytes piece : List ℕ) (line : Option (List ℕ)) (left : Left) (session : Session) → length piece ≤ READ_SIZE
-    → PieceLeaves {A = Unit {0}} (Err end) s bytes piece line left session → IsCutShort end s (bytes ++ piece) left
-piece_cut end s bytes piece line left session small h =
+pub piece_cut : (cut : Cut) (s : State) (bytes piece : List ℕ) (line : Option (List ℕ)) (left : Left)
+    (session : Session) → length piece ≤ READ_SIZE
+    → PieceLeaves {A = Unit {0}} (Err cut) s bytes piece line left session → IsCutShort cut s (bytes ++ piece) left
+piece_cut cut s bytes piece line left session small h =
     let i = h.0 in
     let xs = bytes ++ take i piece in
     let among = piece-among bytes piece i h.1 h.2 in
@@ -142,56 +140,89 @@ none_by : {F : Type 0} (o : Option F) → ((f : F) → o ≢ Some f) → o ≡ N
 none_by None h = refl
 none_by (Some f) h = absurd (h f refl)
 
--- why there is none
-pub fault_is : {D : Type 0} (g : DriverGeometry) (r : Result D DriverError) → ((field : GeometryField) → ◌≡◌ {A = Result D DriverError} r (Err (error.Geometry field)) ↔ (fault_of g ≡ Some field))
-    → ◌≢◌ {A = Result D DriverError} r (Err error.NoReady) → MatchResult r (λ _. fault_of g ≡ None) (IsFaultOf g)
-fault_is g (Ok d) h ready = none_by (fault_of g) (λ field k. let never = (h field).1 k in absurd (cc))
-fault_is g (Err (error.Geometry field)) h ready = (h field).0 refl
-fault_is g (Err error.Memory) h ready = none_by (fault_of g) (λ field k. let same = (h field).1 k in absurd (cc))
-fault_is g (Err error.NoReady) h ready = absurd (ready refl)
+-- what the end of a run is by an error of the driver's
+abbrev pub Gives : DriverError → RunEnd → Type 0
+Gives e end = ((field : GeometryField) → e ≡ error.Geometry field → end ≡ Geometry field)
+    × (e ≡ error.Memory → end ≡ Memory) × (e ≡ error.NoReady → end ≡ NoReady)
 
-pub without : (g : DriverGeometry) (e : DriverError) → IsFaultOf g e → IsEndWithout g (end_without e)
-without g (error.Geometry field) h = h
-without g error.Memory h = h
-without g error.NoReady h = absurd h
+-- a driver was brought up, where each field out of its limits would be told
+pub without_fault : {D : Type 0} (g : DriverGeometry) (d : D)
+    → ((field : GeometryField) → ◌≡◌ {A = Result D DriverError} (Ok d) (Err (error.Geometry field)) ↔ (fault_of g ≡ Some field))
+    → fault_of g ≡ None
+without_fault g d h = none_by (fault_of g) (λ field k. let never = (h field).1 k in absurd (cc))
+
+-- or why there is none
+pub without : {D : Type 0} (g : DriverGeometry) (e : DriverError) (end : RunEnd)
+    → ((field : GeometryField) → ◌≡◌ {A = Result D DriverError} (Err e) (Err (error.Geometry field)) ↔ (fault_of g ≡ Some field))
+    → ◌≢◌ {A = Result D DriverError} (Err e) (Err error.NoReady) → Gives e end → end ≡ end_without (fault_of g)
+without g (error.Geometry field) end h ready gives = gives.0 field refl ∙ ap end_without (sym ((h field).0 refl))
+without g error.Memory end h ready gives =
+    let none = none_by (fault_of g) (λ field k. let same = (h field).1 k in absurd (cc)) in
+    gives.1 refl ∙ ap end_without (sym none)
+without g error.NoReady end h ready gives = absurd (ready refl)
 
 -- a driver was brought up before
-pub with_driver : (g : DriverGeometry) (reads : ℕ) (end : RunEnd) (old new : RunState) (s : State) (enabled : List Bool) → fault_of g ≡ None → s ≡ begun old
-    → RunsFrom s reads end (record old { subsystem = s; enabled = enabled }) new → AllEnabled new → Runs g reads end old new
-with_driver g reads end old new s enabled is same runs all =
+pub with_driver : (g : DriverGeometry) (reads : ℕ) (end : RunEnd) (e : SessionEnd) (old new : RunState) (s : State)
+    (enabled : List Bool) → fault_of g ≡ None → s ≡ begun old → end ≡ end_with e
+    → RunsFrom s reads e (record old { subsystem = s; enabled = enabled }) new → AllEnabled new
+    → Runs g reads end old new
+with_driver g reads end e old new s enabled is same ends runs all =
     inr (
       is,
-      record {
-        bytes = runs.bytes;
-        was_read = runs.was_read;
-        left = subst (λ (x : State). Leaves end x runs.bytes (left_by old new)) same runs.left;
-        end_of = runs.end_of;
-        calls = runs.calls;
-      },
       all,
+      (
+        e,
+        ends,
+        record {
+          bytes = runs.bytes;
+          was_read = runs.was_read;
+          left = subst (λ (x : State). Leaves e x runs.bytes (left_by old new)) same runs.left;
+          end_of = runs.end_of;
+          calls = runs.calls;
+        },
+      ),
     )
 
-runs_headline : (g : DriverGeometry) (reads : ℕ) (end : RunEnd) (old new : RunState) → Runs g reads end old new → Headline end old new
-runs_headline g reads end old new (inl h) status e = absurd (subst (IsEndWithout g) e h.0)
-runs_headline g reads end old new (inr h) status e = headline reads end old new h.1 status e
+-- ---- the headline
 
-geometry_without : (g : DriverGeometry) (end : RunEnd) (field : GeometryField) → IsEndWithout g end → (end ≡ Geometry field) ↔ (fault_of g ≡ Some field)
-geometry_without g (Geometry f) field h = (λ e. let same : f ≡ field = cc in h ∙ ap Some same, λ k. let same : f ≡ field = cc in ap Geometry same)
-geometry_without g Memory field h = (λ e. absurd (cc), λ k. absurd (cc))
-geometry_without g (Status s) field h = absurd h
-geometry_without g NoReady field h = absurd h
-geometry_without g Read field h = absurd h
-geometry_without g OutWrite field h = absurd h
-geometry_without g MessageWrite field h = absurd h
+headline_without : (o : Option GeometryField) (old new : RunState) → Headline (end_without o) old new
+headline_without None old new status e = absurd (cc)
+headline_without (Some field) old new status e = absurd (cc)
 
-runs_geometry : (g : DriverGeometry) (reads : ℕ) (end : RunEnd) (old new : RunState) (field : GeometryField) → Runs g reads end old new
-    → (end ≡ Geometry field) ↔ (fault_of g ≡ Some field)
-runs_geometry g reads end old new field (inl h) = geometry_without g end field h.0
-runs_geometry g reads end old new field (inr h) =
-    (λ e. absurd (subst (λ x. IsEndOf x reads new) e h.1.end_of), λ k. let is = h.0 in absurd (cc))
+runs_headline : (g : DriverGeometry) (reads : ℕ) (end : RunEnd) (old new : RunState) → Runs g reads end old new
+    → Headline end old new
+runs_headline g reads end old new (inl h) =
+    subst (λ x. Headline x old new) (sym h.0) (headline_without (fault_of g) old new)
+runs_headline g reads end old new (inr h) =
+    subst (λ x. Headline x old new) (sym h.2.1) (headline_with reads h.2.0 old new h.2.2)
 
-faults_with : (reads : ℕ) (end : RunEnd) (now : RunState) → IsEndOf end reads now → AreFaults reads end now
-faults_with reads (Status status) now h =
+-- ---- the geometry
+
+geometry_without : (o : Option GeometryField) (field : GeometryField)
+    → (end_without o ≡ Geometry field) ↔ (o ≡ Some field)
+geometry_without None field = (λ e. absurd (cc), λ e. absurd (cc))
+geometry_without (Some f) field = (λ e. let same : f ≡ field = cc in ap Some same, λ e. let same : f ≡ field = cc in ap Geometry same)
+
+geometry_with : (e : SessionEnd) (field : GeometryField) → end_with e ≢ Geometry field
+geometry_with (ended.Status status) field h = cc
+geometry_with ended.Read field h = cc
+geometry_with (ended.Cut cut.Output) field h = cc
+geometry_with (ended.Cut cut.Messages) field h = cc
+geometry_with (ended.Cut cut.Memory) field h = cc
+
+runs_geometry : (g : DriverGeometry) (reads : ℕ) (end : RunEnd) (old new : RunState) (field : GeometryField)
+    → Runs g reads end old new → (end ≡ Geometry field) ↔ (fault_of g ≡ Some field)
+runs_geometry g reads end old new field (inl h) =
+    subst (λ x. (x ≡ Geometry field) ↔ (fault_of g ≡ Some field)) (sym h.0) (geometry_without (fault_of g) field)
+runs_geometry g reads end old new field (inr h) = (
+  λ e. absurd (geometry_with h.2.0 field (sym h.2.1 ∙ e)),
+  λ e. let within = h.0 in absurd (cc),
+)
+
+-- ---- the faults
+
+faults_with : (reads : ℕ) (e : SessionEnd) (now : RunState) → IsEndOf e reads now → AreFaults reads (end_with e) now
+faults_with reads (ended.Status status) now h =
     let stopped = h.0 in
     let out = h.1 in
     let messages = h.2 in
@@ -201,7 +232,7 @@ faults_with reads (Status status) now h =
       message_write = (λ e. absurd (cc), λ k. absurd (cc));
       read_fault = (λ e. absurd (cc), λ k. let stops = k.0 in absurd (cc));
     }
-faults_with reads Read now h =
+faults_with reads ended.Read now h =
     let out = h.1 in
     let messages = h.2 in
     record {
@@ -210,7 +241,7 @@ faults_with reads Read now h =
       message_write = (λ e. absurd (cc), λ k. absurd (cc));
       read_fault = (λ e. (h.0, h.1, h.2, λ m. absurd (cc)), λ k. refl);
     }
-faults_with reads OutWrite now h =
+faults_with reads (ended.Cut cut.Output) now h =
     let out = h.0 in
     let messages = h.1 in
     record {
@@ -219,7 +250,7 @@ faults_with reads OutWrite now h =
       message_write = (λ e. absurd (cc), λ k. absurd (cc));
       read_fault = (λ e. absurd (cc), λ k. let well = k.1 in absurd (cc));
     }
-faults_with reads MessageWrite now h =
+faults_with reads (ended.Cut cut.Messages) now h =
     let out = h.0 in
     let messages = h.1 in
     record {
@@ -228,7 +259,7 @@ faults_with reads MessageWrite now h =
       message_write = (λ e. messages, λ k. refl);
       read_fault = (λ e. absurd (cc), λ k. let well = k.2 in absurd (cc));
     }
-faults_with reads Memory now h =
+faults_with reads (ended.Cut cut.Memory) now h =
     let out = h.0 in
     let messages = h.1 in
     record {
@@ -237,8 +268,6 @@ faults_with reads Memory now h =
       message_write = (λ e. absurd (cc), λ k. absurd (cc));
       read_fault = (λ e. absurd (cc), λ k. absurd (k.3 refl));
     }
-faults_with reads (Geometry field) now h = absurd h
-faults_with reads NoReady now h = absurd h
 
 -- a source that has not stopped, and sinks that have not failed
 pub record IsWell (reads : ℕ) (now : RunState) : Type 0 where
@@ -255,9 +284,9 @@ fresh_well reads now fresh some out messages =
     stays : (failed : Bool) (calls : ℕ) → failed ≡ false → calls ≡ 0 → (failed || calls == reads) ≡ false
     stays failed calls well none = grind (arith, nat_tests, well, none, some)
 
-faults_without : (g : DriverGeometry) (reads : ℕ) (end : RunEnd) (now : RunState) → IsEndWithout g end → IsWell reads now
-    → AreFaults reads end now
-faults_without g reads (Geometry field) now h well =
+faults_without : (o : Option GeometryField) (reads : ℕ) (now : RunState) → IsWell reads now
+    → AreFaults reads (end_without o) now
+faults_without (Some field) reads now well =
     let stopped = well.stopped in
     let out = well.out in
     let messages = well.messages in
@@ -267,17 +296,15 @@ faults_without g reads (Geometry field) now h well =
       message_write = (λ e. absurd (cc), λ k. absurd (cc));
       read_fault = (λ e. absurd (cc), λ k. let stops = k.0 in absurd (cc));
     }
-faults_without g reads Memory now h well = faults_with reads Memory now (well.out, well.messages)
-faults_without g reads (Status s) now h well = absurd h
-faults_without g reads NoReady now h well = absurd h
-faults_without g reads Read now h well = absurd h
-faults_without g reads OutWrite now h well = absurd h
-faults_without g reads MessageWrite now h well = absurd h
+faults_without None reads now well = faults_with reads (ended.Cut cut.Memory) now (well.out, well.messages)
 
-faults : (g : DriverGeometry) (reads : ℕ) (end : RunEnd) (old new : RunState) → IsWell reads old → Runs g reads end old new
-    → AreFaults reads end new
-faults g reads end old new well (inl h) = faults_without g reads end new h.0 (subst (IsWell reads) (sym h.1) well)
-faults g reads end old new well (inr h) = faults_with reads end new h.1.end_of
+faults : (g : DriverGeometry) (reads : ℕ) (end : RunEnd) (old new : RunState) → IsWell reads old
+    → Runs g reads end old new → AreFaults reads end new
+faults g reads end old new well (inl h) =
+    subst (λ x. AreFaults reads x new) (sym h.0)
+    (faults_without (fault_of g) reads new (subst (IsWell reads) (sym h.1) well))
+faults g reads end old new well (inr h) =
+    subst (λ x. AreFaults reads x new) (sym h.2.1) (faults_with reads h.2.0 new h.2.2.end_of)
 
 -- all that a run promises follows from how it ends
 pub is_run : (g : DriverGeometry) (reads : ℕ) (end : RunEnd) (old new : RunState) → IsWell reads old → Runs g reads end old new

@@ -1,22 +1,23 @@
 -- What a run promises: how it ends, and what each of its ends leaves.
 use Rattle.std.specs.Prelude.{◌≡◌, ◌≢◌, ◌↔◌, ◌⊎◌, ℕ, ◌≤◌, ◌==◌, ◌||◌, Bool, true, false, List}
-use Rattle.std.specs.Prelude.{length, replicate, IfSome, Some, None}
+use Rattle.std.specs.Prelude.{length, replicate, IfSome, Option, Some, None}
 use Rattle.std.specs.Io.KnownBytes.{Consumes, IsAtEnd}
 use Rattle.nv_model.specs.Reset.{reset_where}
 use Rattle.nv_model.specs.State.{State}
 use Rattle.nv_bus.specs.Bus.{BusValue, enabled_in}
 use Rattle.nv_driver.specs.Geometry.{fault_of}
-use Rattle.nv_driver.specs.declared.error.DriverError.{DriverError}
-use Rattle.nv_driver.specs.declared.error.DriverError.TheVariants as error
 use Rattle.nv_driver.specs.declared.geometry.Geometry.{Geometry as DriverGeometry}
 use Rattle.nv_driver.specs.declared.geometry_field.GeometryField.{GeometryField}
-use Rattle.nv_script.specs.Cuts.{IsCutShort, HoldsWhole, Left, left_at}
+use Rattle.nv_script.specs.Cuts.{AreFailed, IsCutShort, HoldsWhole, Left, left_at}
 use Rattle.nv_script.specs.Results.{whole}
 use Rattle.nv_script.specs.ScriptLines.{pieces, script_lines}
 use Rattle.nv_script.specs.Streams.{SinkState, SourceState}
+use Rattle.nv_script.specs.declared.ends.Cut.TheVariants as cut
 use Rattle.nv_script.specs.declared.ends.RunEnd.{RunEnd}
 use Rattle.nv_script.specs.declared.ends.RunEnd.TheVariants.{Status, Geometry, NoReady, Read}
 use Rattle.nv_script.specs.declared.ends.RunEnd.TheVariants.{OutWrite, MessageWrite, Memory}
+use Rattle.nv_script.specs.declared.ends.SessionEnd.{SessionEnd}
+use Rattle.nv_script.specs.declared.ends.SessionEnd.TheVariants as ended
 
 -- what a run works on: the subsystem, which of its controllers are enabled, and the streams
 pub record RunState : Type 0 where
@@ -57,15 +58,11 @@ pub record WasRead (old new : SourceState) (bytes : List ℕ) : Type 0 where
 -- What each end of a run with a driver leaves, where it began at s and read these bytes. A status:
 -- all lines, and the status is that of the last line that has one. A read fault: the lines whose
 -- newline was read.
-abbrev pub Leaves : RunEnd → State → List ℕ → Left → Type 0
-Leaves (Status status) s bytes left =
+abbrev pub Leaves : SessionEnd → State → List ℕ → Left → Type 0
+Leaves (ended.Status status) s bytes left =
     (status ≡ (whole s (script_lines bytes)).status) × HoldsWhole s (script_lines bytes) left
-Leaves (Geometry field) s bytes left = ⊥
-Leaves NoReady s bytes left = ⊥
-Leaves Read s bytes left = HoldsWhole s (pieces bytes).ended left
-Leaves OutWrite s bytes left = IsCutShort OutWrite s bytes left
-Leaves MessageWrite s bytes left = IsCutShort MessageWrite s bytes left
-Leaves Memory s bytes left = IsCutShort Memory s bytes left
+Leaves ended.Read s bytes left = HoldsWhole s (pieces bytes).ended left
+Leaves (ended.Cut cut) s bytes left = IsCutShort cut s bytes left
 
 -- the source has failed, or was asked as often as it may be
 abbrev pub has_stopped : ℕ → SourceState → Bool
@@ -74,59 +71,50 @@ has_stopped reads script = script.has_failed || script.calls == reads
 -- Which end it is: a write's exactly where that sink has failed; Read exactly where no write
 -- failed, no memory was refused and the source has stopped; a status only where the source has
 -- ended
-abbrev pub IsEndOf : RunEnd → ℕ → RunState → Type 0
-IsEndOf (Status status) reads now = (has_stopped reads now.script ≡ false)
+abbrev pub IsEndOf : SessionEnd → ℕ → RunState → Type 0
+IsEndOf (ended.Status status) reads now = (has_stopped reads now.script ≡ false)
     × (now.out.has_failed ≡ false) × (now.messages.has_failed ≡ false)
     × (now.script.has_ended ≡ true) × IsAtEnd now.script.to_come
-IsEndOf (Geometry field) reads now = ⊥
-IsEndOf NoReady reads now = ⊥
-IsEndOf Read reads now = (has_stopped reads now.script ≡ true)
+IsEndOf ended.Read reads now = (has_stopped reads now.script ≡ true)
     × (now.out.has_failed ≡ false) × (now.messages.has_failed ≡ false)
-IsEndOf OutWrite reads now = (now.out.has_failed ≡ true) × (now.messages.has_failed ≡ false)
-IsEndOf MessageWrite reads now = (now.out.has_failed ≡ false) × (now.messages.has_failed ≡ true)
-IsEndOf Memory reads now = (now.out.has_failed ≡ false) × (now.messages.has_failed ≡ false)
+IsEndOf (ended.Cut cut) reads now = AreFailed cut now.out.has_failed now.messages.has_failed
 
 -- a run of at most so many reads, which began at s
-pub record RunsFrom (s : State) (reads : ℕ) (end : RunEnd) (old new : RunState) : Type 0 where
+pub record RunsFrom (s : State) (reads : ℕ) (end : SessionEnd) (old new : RunState) : Type 0 where
   pub bytes : List ℕ
   pub was_read : WasRead old.script new.script bytes
   pub left : Leaves end s bytes (left_by old new)
   pub end_of : IsEndOf end reads new
   pub calls : new.script.calls ≤ reads
 
--- the end of a run that got no driver or no room for answers
-abbrev pub end_without : DriverError → RunEnd
-end_without (error.Geometry field) = Geometry field
-end_without error.Memory = Memory
-end_without error.NoReady = NoReady
+-- the end of a run with a driver
+abbrev pub end_with : SessionEnd → RunEnd
+end_with (ended.Status status) = Status status
+end_with ended.Read = Read
+end_with (ended.Cut cut.Output) = OutWrite
+end_with (ended.Cut cut.Messages) = MessageWrite
+end_with (ended.Cut cut.Memory) = Memory
 
--- why there is no driver or no room for answers: the first field of the geometry that is out of its
--- limits, or, where no field is, want of memory
-abbrev pub IsFaultOf : DriverGeometry → DriverError → Type 0
-IsFaultOf g (error.Geometry field) = fault_of g ≡ Some field
-IsFaultOf g error.Memory = fault_of g ≡ None
-IsFaultOf g error.NoReady = ⊥
-
--- A run that got no driver or no room for answers ends by the first field of the geometry that is
--- out of its limits, or, where no field is, by want of memory.
-abbrev pub IsEndWithout : DriverGeometry → RunEnd → Type 0
-IsEndWithout g (Geometry field) = fault_of g ≡ Some field
-IsEndWithout g Memory = fault_of g ≡ None
-IsEndWithout g _ = ⊥
+-- the end of a run that got no driver or no room for answers: the first field of the geometry that
+-- is out of its limits, or, where no field is, want of memory
+abbrev pub end_without : Option GeometryField → RunEnd
+end_without (Some field) = Geometry field
+end_without None = Memory
 
 -- A run without a driver changes nothing. One with a driver is in a geometry within its limits,
 -- which occurs nowhere else, and leaves each controller enabled.
 abbrev pub Runs : DriverGeometry → ℕ → RunEnd → RunState → RunState → Type 0
 Runs g reads end old new =
-    (IsEndWithout g end × (new ≡ old))
-    ⊎ ((fault_of g ≡ None) × RunsFrom (begun old) reads end old new × AllEnabled new)
+    ((end ≡ end_without (fault_of g)) × (new ≡ old))
+    ⊎ ((fault_of g ≡ None) × AllEnabled new
+    × ((e : SessionEnd) × (end ≡ end_with e) × RunsFrom (begun old) reads e old new))
 
 -- the headline: a script that is told and was read to its end leaves what the fold over its lines
 -- says
 abbrev pub Headline : RunEnd → RunState → RunState → Type 0
 Headline end old new = (status : ℕ) → end ≡ Status status
     → IfSome old.script.to_come
-    (λ script. Leaves (Status status) (begun old) script (left_by old new))
+    (λ script. Leaves (ended.Status status) (begun old) script (left_by old new))
 
 -- When each fault comes: a write's exactly where that sink has failed; a read's exactly where the
 -- source has stopped, no write failed and no memory was refused; a controller that isn't ready,

@@ -57,7 +57,6 @@ ListLeaves (Ok done) w orders state serials devices =
     IsListed (asked_all w orders) state serials devices
 ListLeaves (Err (stop.Refused status)) w orders state serials devices = ⊥
 ListLeaves (Err stop.Memory) w orders state serials devices = AreBegun w orders state serials
-ListLeaves (Err stop.NoReady) w orders state serials devices = ⊥
 
 -- ---- a batch
 

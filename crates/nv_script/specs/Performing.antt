@@ -2,6 +2,7 @@
 use Rattle.std.specs.Prelude.{◌≡◌, ℕ, List, take, string_bytes, Option, None, Some, Result, Ok, Err}
 use Rattle.std.specs.declared.string.String.{String}
 use Rattle.nv_command.specs.declared.reply.Reply.{Reply}
+use Rattle.nv_layout.specs.declared.status.Status.{Status}
 use Rattle.nv_model.specs.State.{State}
 use Rattle.nv_line.specs.declared.request.Query.{Query}
 use Rattle.nv_line.specs.declared.request.Query.TheVariants as query
@@ -18,13 +19,9 @@ use Rattle.nv_script.specs.declared.performing.Stop.{Stop}
 use Rattle.nv_script.specs.declared.performing.Stop.TheVariants as stop
 
 -- an order was carried out, with this reply or refusal
-abbrev pub OrderLeaves : Result Reply Stop → Order → State → List ℕ → State → List ℕ → Type 0
-OrderLeaves (Ok reply) o s serials state next =
-    exchange_with (Ok reply) state next ≡ exchange_of s serials o
-OrderLeaves (Err (stop.Refused status)) o s serials state next =
-    exchange_with (Err status) state next ≡ exchange_of s serials o
-OrderLeaves (Err stop.Memory) o s serials state next = ⊥
-OrderLeaves (Err stop.NoReady) o s serials state next = ⊥
+abbrev pub OrderLeaves : Result Reply Status → Order → State → List ℕ → State → List ℕ → Type 0
+OrderLeaves answer o s serials state next =
+    exchange_with answer state next ≡ exchange_of s serials o
 
 -- the subsystem and the serials are those that an outcome leads to
 pub record IsReached (o : Outcome) (state : State) (serials : List ℕ) : Type 0 where
@@ -38,7 +35,6 @@ StopLeaves (stop.Refused status) q s serials state next =
     (o.refusal ≡ Some status) × IsReached o state next
 StopLeaves stop.Memory q s serials state next = (k : ℕ)
     × IsReached (outcome_of s serials (take k (orders_of s q))) state next
-StopLeaves stop.NoReady q s serials state next = ⊥
 
 -- what the replies to all orders show, or why there is nothing to show
 abbrev pub QueryLeaves : Result (Option Shown) Stop → Query → State → List ℕ → State

@@ -1,8 +1,7 @@
 -- The lines of a script.
-use Rattle.std.specs.Prelude.{ℕ, List, [], ◌∷◌, ◌++◌, length, nat_le, if◌then◌else◌, Option, None}
-use Rattle.std.specs.Prelude.{Some}
+use Rattle.std.specs.Prelude.{ℕ, List, [], ◌∷◌, ◌++◌, fold, length, nat_le, if◌then◌else◌, Option}
+use Rattle.std.specs.Prelude.{None, Some}
 use Rattle.std.specs.Char.{is_newline}
-use Rattle.std.specs.List.{slice_split}
 use Rattle.nv_line.specs.declared.line.TheConstants.{LINE_LIMIT}
 
 -- bytes cut at their newlines: the lines that a newline ended, and what follows the last newline
@@ -10,16 +9,14 @@ pub record Pieces : Type 0 where
   pub ended : List (List ℕ)
   pub last : List ℕ
 
--- parts, with the last of them set apart
-abbrev pub last_apart : List (List ℕ) → Pieces
-last_apart [] = record { ended = []; last = [] }
-last_apart (part ∷ []) = record { ended = []; last = part }
-last_apart (part ∷ next ∷ parts) =
-    let rest = last_apart (next ∷ parts) in
-    record { ended = part ∷ rest.ended; last = rest.last }
+-- one byte more: a newline ends a line, and any other byte is one of a line
+abbrev pub with_byte : Pieces → ℕ → Pieces
+with_byte p b =
+    if is_newline b then (record { ended = p.ended ++ p.last ∷ []; last = [] })
+    else (record { ended = p.ended; last = p.last ++ b ∷ [] })
 
 abbrev pub pieces : List ℕ → Pieces
-pieces bytes = last_apart (slice_split is_newline bytes)
+pieces bytes = fold with_byte (record { ended = []; last = [] }) bytes
 
 -- a last piece without newline is a line if it isn't empty
 abbrev pub as_line : List ℕ → List (List ℕ)

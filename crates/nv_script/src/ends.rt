@@ -1,7 +1,10 @@
 //! How a run ends.
 
 ghost use Rattle.std.specs.Prelude.{◌≡◌};
-ghost use Rattle.nv_script.specs.Ends.{end_without};
+ghost use Rattle.nv_driver.specs.declared.error.DriverError.TheVariants as error;
+ghost use Rattle.nv_driver.specs.declared.geometry_field.GeometryField.{GeometryField};
+ghost use Rattle.nv_script.specs.Ends.{end_with};
+ghost use Rattle.nv_script.specs.declared.ends.RunEnd.TheVariants as end;
 
 use nv_driver::{DriverError, GeometryField};
 
@@ -26,13 +29,52 @@ pub enum RunEnd {
 }
 
 impl From<DriverError> for RunEnd {
-    ghost from_gives = { λ error end. end ≡ end_without error };
+    ghost from_gives = { λ from to.
+        ((field : GeometryField) → from ≡ error.Geometry field → to ≡ end.Geometry field)
+        × (from ≡ error.Memory → to ≡ end.Memory)
+        × (from ≡ error.NoReady → to ≡ end.NoReady) };
 
     fn from(error: DriverError) -> RunEnd {
         match error {
             DriverError::Geometry(field) => RunEnd::Geometry(field),
             DriverError::Memory => RunEnd::Memory,
             DriverError::NoReady => RunEnd::NoReady,
+        }
+    }
+}
+
+/// What cut a run short in a line.
+#[derive(Clone, Copy)]
+pub enum Cut {
+    /// The output failed.
+    Output,
+    /// The messages failed.
+    Messages,
+    /// Memory was refused.
+    Memory,
+}
+
+/// How a run with a driver ended.
+#[derive(Clone, Copy)]
+pub enum SessionEnd {
+    /// The script's end, with the status of its last line that has one.
+    Status(u8),
+    /// The source failed, or was asked as often as it may be.
+    Read,
+    /// A line was cut short.
+    Cut(Cut),
+}
+
+impl From<SessionEnd> for RunEnd {
+    ghost from_gives = { λ ended end. end ≡ end_with ended };
+
+    fn from(ended: SessionEnd) -> RunEnd {
+        match ended {
+            SessionEnd::Status(status) => RunEnd::Status(status),
+            SessionEnd::Read => RunEnd::Read,
+            SessionEnd::Cut(Cut::Output) => RunEnd::OutWrite,
+            SessionEnd::Cut(Cut::Messages) => RunEnd::MessageWrite,
+            SessionEnd::Cut(Cut::Memory) => RunEnd::Memory,
         }
     }
 }

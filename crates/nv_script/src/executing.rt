@@ -11,7 +11,7 @@ ghost use Rattle.nv_script.specs.ScriptLines.{buffer_of};
 ghost use Rattle.nv_script.specs.Link.{IsLinked};
 ghost use Rattle.nv_script.specs.Streams.{WritesAll};
 
-use crate::ends::RunEnd;
+use crate::ends::Cut;
 use crate::performing::{Stop, perform};
 use crate::session::Session;
 use crate::streams::Sink;
@@ -37,18 +37,14 @@ fn write_all<S: Sink>(sink: &mut S, text: &[u8]) -> bool
     true
 }
 
-/// Writes a line's text, made before its first byte goes out. `fault` is the end if the sink fails.
-fn print<S: Sink>(
-    sink: &mut S,
-    text: Result<String, AllocError>,
-    fault: RunEnd,
-) -> Result<(), RunEnd>
+/// Writes a line's text, made before its first byte goes out. `fault` is the cut if the sink fails.
+fn print<S: Sink>(sink: &mut S, text: Result<String, AllocError>, fault: Cut) -> Result<(), Cut>
     requires { (S.state sink.old).has_failed ≡ false }
     ensures { PrintLeaves result fault text (S.state sink.old).taken (S.state sink.new).taken
         (S.state sink.new).has_failed }
 {
     match text {
-        Err(_) => Err(RunEnd::Memory),
+        Err(_) => Err(Cut::Memory),
         Ok(text) => {
             if write_all(sink, text.as_bytes()) {
                 Ok(())
@@ -79,7 +75,7 @@ pub(crate) fn execute_line<B: Bus, O: Sink, M: Sink>(
     out: &mut O,
     messages: &mut M,
     line: Option<&[u8]>,
-) -> Result<(), RunEnd>
+) -> Result<(), Cut>
     requires out_ready { (O.state out.old).has_failed ≡ false }
     requires messages_ready { (M.state messages.old).has_failed ≡ false }
     requires linked { IsLinked (B.meaning bus.old) session.old.driver }
@@ -102,14 +98,14 @@ pub(crate) fn execute_line<B: Bus, O: Sink, M: Sink>(
     let said = match read_buffer(alloc, line, bus.controllers()) {
         Ok(said) => said,
         Err(fault) => match fault {
-            LineFault::Memory => return Err(RunEnd::Memory),
+            LineFault::Memory => return Err(Cut::Memory),
             fault => {
                 session.status = 1;
                 let fault = Fault {
                     line: session.number,
                     cause: FaultCause::Line(fault),
                 };
-                return print(messages, message(alloc, &fault), RunEnd::MessageWrite);
+                return print(messages, message(alloc, &fault), Cut::Messages);
             }
         },
     };
@@ -124,17 +120,16 @@ pub(crate) fn execute_line<B: Bus, O: Sink, M: Sink>(
         ) {
             Ok(text) => {
                 session.status = 0;
-                print(out, Ok(text), RunEnd::OutWrite)
+                print(out, Ok(text), Cut::Output)
             }
-            Err(Stop::Memory) => Err(RunEnd::Memory),
-            Err(Stop::NoReady) => Err(RunEnd::NoReady),
+            Err(Stop::Memory) => Err(Cut::Memory),
             Err(Stop::Refused(status)) => {
                 session.status = 2;
                 let fault = Fault {
                     line: session.number,
                     cause: FaultCause::Refused(status),
                 };
-                print(messages, message(alloc, &fault), RunEnd::MessageWrite)
+                print(messages, message(alloc, &fault), Cut::Messages)
             }
         },
     }

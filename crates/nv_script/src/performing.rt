@@ -14,7 +14,7 @@ use crate::session::Answers;
 use crate::shown::{shown, write};
 use nv_bus::Bus;
 use nv_command::Reply;
-use nv_driver::{AnswerSlot, Driver};
+use nv_driver::{Answer, AnswerSlot, Driver};
 use nv_layout::Status;
 use nv_line::{Query, Question, Request};
 use nv_print::Shown;
@@ -27,8 +27,6 @@ pub enum Stop {
     Refused(Status),
     /// Memory was refused.
     Memory,
-    /// A controller that was reset isn't ready: a bus that keeps its contract has no such stop.
-    NoReady,
 }
 
 impl From<Status> for Stop {
@@ -54,7 +52,7 @@ fn carry_out<'a, B: Bus>(
     ctrl: u16,
     act: &Act,
     slot: &'a mut AnswerSlot,
-) -> Result<Reply<'a>, Stop>
+) -> Answer<'a>
     requires linked { IsLinked (B.meaning bus.old) driver.old }
     requires controller { ctrl < length driver.old.lanes }
     requires doable { IsDoable act.now }
@@ -67,12 +65,12 @@ fn carry_out<'a, B: Bus>(
     match act {
         Act::Send(command) => {
             command.fits();
-            Ok(driver.admin(bus, ctrl, command, slot)?)
+            driver.admin(bus, ctrl, command, slot)
         }
-        Act::Reset => match driver.reset(bus, ctrl) {
-            Ok(()) => Ok(Reply::Done),
-            Err(_) => Err(Stop::NoReady),
-        },
+        Act::Reset => {
+            driver.reset(bus, ctrl).unwrap();
+            Ok(Reply::Done)
+        }
     }
 }
 

@@ -12,7 +12,7 @@ ghost use Rattle.nv_script.specs.Results.{whole};
 ghost use Rattle.nv_script.specs.ScriptLines.{buffer_of, pieces};
 ghost use Rattle.nv_script.specs.Streams.{IsFresh};
 
-use crate::ends::RunEnd;
+use crate::ends::{Cut, RunEnd, SessionEnd};
 use crate::executing::execute_line;
 use crate::line_buffer::LineBuffer;
 use crate::session::Session;
@@ -30,7 +30,7 @@ fn feed<B: Bus, O: Sink, M: Sink>(
     messages: &mut M,
     line: &mut LineBuffer,
     piece: &[u8],
-) -> Result<(), RunEnd>
+) -> Result<(), Cut>
     requires out_ready { (O.state out.old).has_failed ≡ false }
     requires messages_ready { (M.state messages.old).has_failed ≡ false }
     requires linked { IsLinked (B.meaning bus.old) session.old.driver }
@@ -67,7 +67,7 @@ fn finish<B: Bus, O: Sink, M: Sink>(
     out: &mut O,
     messages: &mut M,
     line: &LineBuffer,
-) -> Result<u8, RunEnd>
+) -> Result<u8, Cut>
     requires out_ready { (O.state out.old).has_failed ≡ false }
     requires messages_ready { (M.state messages.old).has_failed ≡ false }
     requires linked { IsLinked (B.meaning bus.old) session.old.driver }
@@ -99,7 +99,7 @@ fn run_session<B: Bus, R: Source, O: Sink, M: Sink>(
     out: &mut O,
     messages: &mut M,
     reads: u32,
-) -> RunEnd
+) -> SessionEnd
     requires linked { IsLinked (B.meaning bus.old) session.old.driver }
     requires first { IsFirst (B.meaning bus.old).state session.old }
     requires fresh_script { IsFresh (R.state script.old) }
@@ -117,23 +117,23 @@ fn run_session<B: Bus, R: Source, O: Sink, M: Sink>(
     let mut piece = [0u8; READ_SIZE];
     for call in 0..reads {
         let Some(count) = script.read(&mut piece) else {
-            return RunEnd::Read;
+            return SessionEnd::Read;
         };
         if count == 0 {
             if call + 1 == reads {
-                return RunEnd::Read;
+                return SessionEnd::Read;
             }
             return match finish(alloc, bus, session, out, messages, &line) {
-                Ok(status) => RunEnd::Status(status),
-                Err(end) => end,
+                Ok(status) => SessionEnd::Status(status),
+                Err(cut) => SessionEnd::Cut(cut),
             };
         }
         let piece = &piece[..count];
-        if let Err(end) = feed(alloc, bus, session, out, messages, &mut line, piece) {
-            return end;
+        if let Err(cut) = feed(alloc, bus, session, out, messages, &mut line, piece) {
+            return SessionEnd::Cut(cut);
         }
     }
-    RunEnd::Read
+    SessionEnd::Read
 }
 
 /// The most reads of one run.
@@ -165,8 +165,10 @@ pub fn run_within<B: Bus, R: Source, O: Sink, M: Sink>(
     ensures bus { IsBus (B.meaning bus.new) }
 {
     match Session::begin(alloc, bus, geometry) {
-        Ok(mut session) => run_session(alloc, bus, &mut session, script, out, messages, reads),
-        Err(error) => RunEnd::from(error),
+        Ok(mut session) => {
+            RunEnd::from(run_session(alloc, bus, &mut session, script, out, messages, reads))
+        }
+        Err(end) => end,
     }
 }
 

@@ -1,7 +1,8 @@
 //! What a run keeps from line to line.
 
+use crate::ends::RunEnd;
 use nv_bus::Bus;
-use nv_driver::{AnswerSlot, Driver, DriverError, Geometry};
+use nv_driver::{AnswerSlot, Driver, Geometry};
 use std::alloc::{AllocError, Global};
 use std::array;
 
@@ -42,7 +43,7 @@ impl Session {
     ghost use Rattle.nv_bus.specs.Bus.{IsBus, enabled_in};
     ghost use Rattle.nv_driver.specs.Geometry.{fault_of};
     ghost use Rattle.nv_model.specs.Reset.{reset_where};
-    ghost use Rattle.nv_script.specs.Ends.{IsFaultOf};
+    ghost use Rattle.nv_script.specs.Ends.{end_without};
     ghost use Rattle.nv_script.specs.Link.{IsFirst, IsLinked};
 
     /// Before the first line: there is room for answers, and a driver of this geometry is brought
@@ -52,21 +53,22 @@ impl Session {
         alloc: Global,
         bus: &mut B,
         geometry: Geometry,
-    ) -> Result<Session, DriverError>
+    ) -> Result<Session, RunEnd>
         requires bus { IsBus (B.meaning bus.old) }
         ensures state { IfOk result (λ _. (B.meaning bus.new).state
             ≡ reset_where (enabled_in (B.meaning bus.old).ports) (B.meaning bus.old).state) }
         ensures untouched { OnErr result (B.meaning bus.new ≡ B.meaning bus.old) }
         ensures bus { IsBus (B.meaning bus.new) }
-        ensures fault { MatchResult result (λ _. fault_of geometry ≡ None) (IsFaultOf geometry) }
+        ensures fault { MatchResult result (λ _. fault_of geometry ≡ None)
+            (λ end. end ≡ end_without (fault_of geometry)) }
         ensures first { IfOk result (λ s. IsFirst (B.meaning bus.new).state s) }
         ensures linked { IfOk result (λ s. IsLinked (B.meaning bus.new) s.driver) }
     {
         if let Err(field) = geometry.check() {
-            return Err(DriverError::Geometry(field));
+            return Err(RunEnd::Geometry(field));
         }
         let Ok(answers) = Answers::new(alloc) else {
-            return Err(DriverError::Memory);
+            return Err(RunEnd::Memory);
         };
         let driver = Driver::bring_up(alloc, bus, geometry)?;
         Ok(Session {

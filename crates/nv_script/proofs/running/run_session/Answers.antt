@@ -2,7 +2,7 @@ use Rattle.std.proofs.Common.{◌∙◌, ◌≤◌, ◌++◌, [], arith, length,
 use Rattle.std.proofs.lemmas.Bool.Decides.{nat_tests}
 use Rattle.std.proofs.lemmas.List.{length-take-le}
 use Rattle.nv_script.specs.declared.streams.TheConstants.{READ_SIZE}
-use Rattle.nv_script.proofs.RunLaws.{cut_ends, cut_leaves, last_cut, piece_cut, read_first, read_more, read_none, stands_first}
+use Rattle.nv_script.proofs.RunLaws.{last_cut, piece_cut, read_first, read_more, read_none, stands_first}
 use Rattle.nv_script.proofs.running.run_session.Goals as goal
 
 pub returns-in-Ok-clause-runs : goal.returns-in-Ok-clause-runs
@@ -31,8 +31,8 @@ returns-in-Err-clause-runs g c =
     record {
       bytes = run.0;
       was_read = read;
-      left = cut_leaves c.in-Err.end s run.0 _ (last_cut c.in-Err.end s run.0 _ (c.in-Err.ensures.left s run.0 _ _ run.2 run.3));
-      end_of = cut_ends c.in-Err.end c.args.reads _ c.in-Err.ensures.failure;
+      left = last_cut c.in-Err.cut s run.0 _ (c.in-Err.ensures.left s run.0 _ _ run.2 run.3);
+      end_of = c.in-Err.ensures.failure;
       calls = omega (arith, c.in-Some.ensures.call, c.loop-call.invariant.calls, c.loop-call-test.true);
     }
 
@@ -42,12 +42,12 @@ returns-in-Err-feed-clause-runs g c =
     let s = (g.B.Bus.meaning c.args.bus.now).state in
     let piece = take c.in-Some.count c.read.new.buf in
     let small : length piece ≤ READ_SIZE = omega (arith, length-take-le c.in-Some.count c.read.new.buf c.in-Some.ensures.bound, c.in-Some.ensures.bound, c.read.auto.buf, c.loop-call.invariant.room) in
-    let cut = piece_cut c.in-Err-feed.end s run.0 piece c.feed.new.line _ c.feed.new.session small (c.in-Err-feed.ensures.left s run.0 _ _ run.2 run.3) in
+    let cut = piece_cut c.in-Err-feed.cut s run.0 piece c.feed.new.line _ c.feed.new.session small (c.in-Err-feed.ensures.left s run.0 _ _ run.2 run.3) in
     record {
       bytes = run.0 ++ piece;
       was_read = read_more _ _ _ run.0 c.read.new.buf c.in-Some.count run.1 c.in-Some.ensures.bytes.0 c.in-Some.ensures.bound c.in-Some.ensures.count;
-      left = cut_leaves c.in-Err-feed.end s (run.0 ++ piece) _ cut;
-      end_of = cut_ends c.in-Err-feed.end c.args.reads _ c.in-Err-feed.ensures.failure;
+      left = cut;
+      end_of = c.in-Err-feed.ensures.failure;
       calls = omega (arith, c.in-Some.ensures.call, c.loop-call.invariant.calls, c.loop-call-test.true);
     }
 

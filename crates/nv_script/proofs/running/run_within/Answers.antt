@@ -1,8 +1,8 @@
-use Rattle.std.proofs.Common.{ap, inl, subst, sym}
+use Rattle.std.proofs.Common.{ap, inl}
 use Rattle.nv_bus.specs.Bus.{BusValue, enabled_in}
-use Rattle.nv_script.specs.Ends.{IsEndWithout, RunState, run_state}
+use Rattle.nv_script.specs.Ends.{RunState, run_state}
 use Rattle.nv_script.proofs.LinkLaws.{all_enabled}
-use Rattle.nv_script.proofs.RunLaws.{fresh_well, is_run, with_driver, without}
+use Rattle.nv_script.proofs.RunLaws.{fresh_well, is_run, with_driver}
 use Rattle.nv_script.proofs.running.run_within.Goals as goal
 
 pub returns-in-Ok-clause-run : goal.returns-in-Ok-clause-run
@@ -10,18 +10,19 @@ returns-in-Ok-clause-run g c =
     let old : RunState = run_state (g.B.Bus.meaning c.args.bus.now) (g.R.Source.state c.args.script.now)
     (g.O.Sink.state c.args.out.now) (g.M.Sink.state c.args.messages.now) in
     let begun = g.B.Bus.meaning c.begin.new.bus in
-    let well = fresh_well c.args.reads old c.requires.fresh_script c.requires.some_read c.requires.fresh_out c.requires.fresh_messages in
-    is_run c.args.geometry c.args.reads c.run_session.result old _ well
-    (with_driver c.args.geometry c.args.reads c.run_session.result old _ begun.state (enabled_in begun.ports) c.in-Ok.ensures.fault c.in-Ok.ensures.state
-    c.run_session.ensures.runs (all_enabled (g.B.Bus.meaning c.run_session.new.bus) c.run_session.new.session.driver c.run_session.ensures.linked))
+    let well = fresh_well c.args.reads old c.requires.fresh_script c.requires.some_read c.requires.fresh_out
+    c.requires.fresh_messages in
+    is_run c.args.geometry c.args.reads c.from.result old _ well
+    (with_driver c.args.geometry c.args.reads c.from.result c.run_session.result old _ begun.state
+    (enabled_in begun.ports) c.in-Ok.ensures.fault c.in-Ok.ensures.state c.from.ensures c.run_session.ensures.runs
+    (all_enabled (g.B.Bus.meaning c.run_session.new.bus) c.run_session.new.session.driver c.run_session.ensures.linked))
 
 pub returns-in-Err-clause-run : goal.returns-in-Err-clause-run
 returns-in-Err-clause-run g c =
     let old : RunState = run_state (g.B.Bus.meaning c.args.bus.now) (g.R.Source.state c.args.script.now)
     (g.O.Sink.state c.args.out.now) (g.M.Sink.state c.args.messages.now) in
-    let end = without c.args.geometry c.in-Err.error c.in-Err.ensures.fault in
     let same = ap (λ (b : BusValue). run_state b (g.R.Source.state c.args.script.now) (g.O.Sink.state c.args.out.now)
     (g.M.Sink.state c.args.messages.now)) c.in-Err.ensures.untouched in
-    let well = fresh_well c.args.reads old c.requires.fresh_script c.requires.some_read c.requires.fresh_out c.requires.fresh_messages in
-    is_run c.args.geometry c.args.reads c.from.result old _ well
-    (inl (subst (IsEndWithout c.args.geometry) (sym c.from.ensures) end, same))
+    let well = fresh_well c.args.reads old c.requires.fresh_script c.requires.some_read c.requires.fresh_out
+    c.requires.fresh_messages in
+    is_run c.args.geometry c.args.reads c.in-Err.end old _ well (inl (c.in-Err.ensures.fault, same))
