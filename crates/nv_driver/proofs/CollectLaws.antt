@@ -1,5 +1,5 @@
 -- A list of commands on its way: its answers are collected.
-use Rattle.std.specs.Prelude.{IfSome, IsSome, Option, Some, set}
+use Rattle.std.specs.Prelude.{IfSome, IsSome, OnSome, Option, Some, set}
 use Rattle.std.proofs.Common.{◌≡◌, ◌∙◌, ℕ, ◌+◌, ◌-◌, ◌%◌, ◌<◌, ◌≤◌, All, AllPairs, List, [], ◌∷◌, ◌++◌, add-one, ap, arith, drop, false, get_or, inl, length, length-append, not, refl, subst, sym, take, true, ◌==◌, ◌≢◌}
 use Rattle.std.proofs.Math.Seq.{drop-cons}
 use Rattle.std.proofs.Math.ListN.{length-set}
@@ -36,6 +36,9 @@ use Rattle.nv_driver.proofs.SubmittingLaws.{pages_are}
 use Rattle.nv_driver.proofs.TurnLaws.{no_command}
 use Rattle.nv_driver.proofs.UnderWayLaws.{held, pages_left, those}
 use Rattle.nv_driver.proofs.WindowPageLaws.{given_back, gone, taken_first, taken_rest}
+
+pub in_some : {X : Type 0} {P : Type 0} (o : Option X) (x : X) → o ≡ Some x → OnSome o P → P
+in_some {P = P} o x is all = subst (λ q. OnSome q P) is all
 
 -- a command that was sent with these
 pub record IsOne (r : Run) (o : Outstanding) (x : Sent) : Type 0 where

@@ -18,7 +18,7 @@ use Rattle.nv_driver.specs.declared.geometry.Geometry.{Geometry}
 use Rattle.nv_driver.specs.declared.lane.Lane.{Lane as LaneFields}
 use Rattle.nv_driver.proofs.BatchLaws.{length-answers_of}
 use Rattle.nv_driver.proofs.CollectLaws.{no_more}
-use Rattle.nv_driver.proofs.ExchangeLaws.{is_idle, lane_after, others_kept}
+use Rattle.nv_driver.proofs.QuietLaws.{is_idle, lane_after, others_kept}
 use Rattle.nv_driver.proofs.RoundLaws.{has_port, none_untold}
 use Rattle.nv_driver.proofs.UnderWayLaws.{begins, serial_below}
 use Rattle.nv_driver.proofs.WindowPageLaws.{taken_none}

@@ -1,6 +1,6 @@
 -- A list of commands on its way: its beginning, submissions, doorbells and turns.
 use Rattle.std.specs.Prelude.{None, Some, set}
-use Rattle.std.proofs.Common.{◌≡◌, ◌≢◌, ◌∙◌, ℕ, ◌+◌, ◌-◌, ◌*◌, ◌%◌, ◌<◌, ◌≤◌, All, List, [], ◌∷◌, ◌++◌, ap, arith, drop, get_or, length, length-append, length-drop, refl, subst, sym, true}
+use Rattle.std.proofs.Common.{◌≡◌, ◌≢◌, ◌∙◌, ℕ, ◌+◌, ◌-◌, ◌*◌, ◌%◌, ◌<◌, ◌≤◌, All, List, [], ◌∷◌, ◌++◌, ap, arith, drop, get_or, inl, length, length-append, length-drop, refl, subst, sym, true}
 use Rattle.std.proofs.Math.ListN.{length-set}
 use Rattle.std.proofs.Math.Nat.{mod-eq_of_lt, mul-le-mul_right}
 use Rattle.std.proofs.lemmas.List.{drop-append-le, get_or-drop, get_or-set_other, get_or-set_same, get_or_default}
@@ -17,7 +17,7 @@ use Rattle.nv_driver.specs.CommandPages.{AreTaken, all_pages, without}
 use Rattle.nv_driver.specs.Exchange.{IsReady}
 use Rattle.nv_driver.specs.Keeping.{Keeps}
 use Rattle.nv_driver.specs.Layout.{pages_of_command}
-use Rattle.nv_driver.specs.Schedule.{CanBeSent, IsPrepared, MaySubmit, Sent, collect_ring, entry, number, own_pages, slot, submit_ring}
+use Rattle.nv_driver.specs.Schedule.{AreOutside, CanBeSent, IsPrepared, MaySubmit, Sent, collect_ring, entry, number, own_pages, slot, submit_ring}
 use Rattle.nv_driver.specs.Submitting.{IsSubmitted, sent_by}
 use Rattle.nv_driver.specs.UnderWay.{IsCommand, IsKept, IsUnderWay, Run, kept_at, pages_of_all, serial_at, setting_of}
 use Rattle.nv_driver.specs.declared.batch.Batch.{Batch}
@@ -26,10 +26,10 @@ use Rattle.nv_driver.specs.declared.lane.Lane.{Lane as LaneFields}
 use Rattle.nv_driver.specs.declared.submitting.Outstanding.{Outstanding}
 use Rattle.nv_driver.proofs.BatchLaws.{AreThose, serial_next}
 use Rattle.nv_driver.proofs.CountLaws.{number_above, number_next}
-use Rattle.nv_driver.proofs.ExchangeLaws.{before_pages, beginning, collect_ring_is, is_idle, own_of_set, submit_ring_is}
 use Rattle.nv_driver.proofs.KeptLaws.{idle_keeps}
 use Rattle.nv_driver.proofs.PageSetLaws.{full_length, in_of, is_in}
 use Rattle.nv_driver.proofs.PointerLaws.{seven_pages}
+use Rattle.nv_driver.proofs.QuietLaws.{beginning, collect_ring_is, is_idle, submit_ring_is}
 use Rattle.nv_driver.proofs.SubmitLaws.{each_more, submit_keeps}
 use Rattle.nv_driver.proofs.SubmittingLaws.{Has, buffer_of, distinct_of, list_of, pages_are, length-data_pages}
 use Rattle.nv_driver.proofs.WindowPageLaws.{differ, few_pages, fresh, page_of_one, pages-append, taken_also, taken_len, taken_none, without_also}
@@ -158,6 +158,20 @@ tail_after {r} {bells} {turns} {b} u n tail sent is =
     ∙ ap (slot_of (setting_of r).depth) (number_next (setting_of r) b.sent) ∙ ap (λ i. slot (setting_of r) (i + 1)) (sym sent)
 
 -- ---- a submission
+
+-- a part before a set's pages
+before_pages : (s : Pages) (x : Sent) (page_size from n : ℕ)
+    → ((i d : ℕ) → i < length (own_pages x) → IsOf s.first s.count (get_or (own_pages x) i d))
+    → from + n ≤ s.first * page_size → AreOutside page_size x from n
+before_pages s x page_size from n own low i d h =
+    let first : s.first ≤ get_or (own_pages x) i d = (own i d h).0 in
+    let times = mul-le-mul_right page_size first in inl (omega arith)
+
+own_of_set : (s : Pages) (x : Sent) (pages : List ℕ) → pages ≡ own_pages x
+    → ((i d : ℕ) → i < length pages → IsOf s.first s.count (get_or pages i d))
+    → (i d : ℕ) → i < length (own_pages x) → IsOf s.first s.count (get_or (own_pages x) i d)
+own_of_set s x pages same =
+    subst (λ ps. (i d : ℕ) → i < length ps → IsOf s.first s.count (get_or ps i d)) same
 
 -- the pages of the outstanding commands, with one command more
 held_more : (xs : List Sent) (x : Sent) (n : ℕ) → n ≤ length xs → pages_of_all (drop n (xs ++ x ∷ [])) ≡ pages_of_all (drop n xs) ++ own_pages x
