@@ -21,7 +21,6 @@ use Rattle.nv_driver.proofs.BatchLaws.{state_is}
 use Rattle.nv_driver.proofs.CountLaws.{head_told, tail_rung}
 use Rattle.nv_driver.proofs.KeptLaws.{bell_keeps, tell_keeps}
 use Rattle.nv_driver.proofs.TurnLaws.{turn_keeps, turn_takes}
-use Rattle.nv_driver.proofs.UnderWayLaws.{those}
 
 -- ---- ports
 
@@ -176,7 +175,8 @@ module _ {r : Run} {bells turns : ℕ} {b : Batch} {l : LaneFields} {now : ℕ} 
   state_on =
       let k = u.keeps.counts in
       u.keeps.state ∙ ap (λ n. after r.controller r.bus.state (take n u.world.sent)) u.done
-      ∙ state_is r.controller r.bus.state r.lane.serial r.commands u.world.sent turns u.begun.laid.serial (omega (arith, u.sent, u.some)) (omega (arith, k.done, k.rung, u.done)) (those u)
+      ∙ state_is r.lane.serial r.commands u.world.sent b.sent u.commands r.controller r.bus.state turns
+      (omega (arith, k.done, k.rung, u.done, u.sent))
 
 -- what a turn leaves, and how many entries it takes
 pub record HasTurned (r : Run) (bells turns : ℕ) (b : Batch) (l : LaneFields) (now : ℕ) (mem : List ℕ) (bus : BusValue) (most count : ℕ) : Type 0 where
