@@ -1,4 +1,4 @@
--- One command of a driver or one reset, over the lanes of its controllers.
+-- Commands of a driver or a reset, over the lanes of its controllers.
 use Rattle.std.specs.Prelude.{slice_set}
 use Rattle.std.proofs.Common.{◌≡◌, ◌≢◌, ◌∙◌, ◌⊎◌, ℕ, ◌+◌, ◌-◌, ◌*◌, ◌/◌, ◌^◌, ◌<◌, ◌≤◌, List, ap, arith, get_or, inl, inr, length, map, refl, subst, sym}
 use Rattle.std.proofs.Math.ListN.{length-set}
@@ -10,11 +10,12 @@ use Rattle.nv_host.specs.Pages.{PagedBytes}
 use Rattle.nv_layout.specs.Cqe.{cqe_of_bytes}
 use Rattle.nv_layout.specs.declared.cqe.Cqe.{Cqe}
 use Rattle.nv_prp.specs.Buffer.{IsApart}
+use Rattle.nv_queue.specs.Numbers.{kept_number, next}
 use Rattle.nv_queue.specs.Slots.{HoldsTags}
 use Rattle.nv_register.specs.Port.{new_port}
 use Rattle.nv_register.specs.declared.port.Port.{Port}
 use Rattle.nv_bus.specs.Bus.{BusValue, IsBus, port_at}
-use Rattle.nv_driver.specs.Driver.{IsDriver, IsPlaced, driver_value, lane_at, no_lane, page_count}
+use Rattle.nv_driver.specs.Driver.{IsDriver, IsPlaced, after_command, after_commands, driver_value, lane_at, no_lane, page_count}
 use Rattle.nv_driver.specs.Exchange.{IsReady, KeepsOthers}
 use Rattle.nv_driver.specs.Lane.{IsLaid, Lane, idle_port}
 use Rattle.nv_driver.specs.Layout.{pages_of_command, set_pages}
@@ -181,6 +182,11 @@ value_after f g mem new ls c l l' below here next size page =
     let lanes = values_set ls c l' (f (lane_at (map lane_value ls) c)) (next ∙ ap f at) in
     ap (λ n. record { geometry = g; pages = n; lanes = map lane_value (slice_set ls c l') }) pages
     ∙ ap (λ vs. record { geometry = g; pages = page_count mem; lanes = vs }) lanes
+
+-- one command is a list of one
+pub after_first : (d : DriverValue) (c : ℕ) → after_commands d c 1 ≡ after_command d c
+unfolding kept_number next
+after_first d c = refl
 
 -- and the registers
 pub ports_left : (g : Geometry) (ls : List LaneFields) (c : ℕ) (l' : LaneFields) (ports new : List Port) → ports ≡ idle_ports g.page_size (map lane_value ls)

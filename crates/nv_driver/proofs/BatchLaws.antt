@@ -1,14 +1,16 @@
 -- Commands of a schedule that are those of a list, and the distance of their command identifiers.
-use Rattle.std.proofs.Common.{◌≡◌, ◌∙◌, ℕ, zero, suc, ◌+◌, ◌-◌, ◌%◌, ◌<◌, ◌≤◌, List, [], ◌∷◌, ap, arith, get_or, inl, inr, length, refl, sym, take}
+use Rattle.std.proofs.Common.{◌≡◌, ◌∙◌, ℕ, zero, suc, ◌+◌, ◌-◌, ◌%◌, ◌<◌, ◌≤◌, List, [], ◌∷◌, ap, arith, get_or}
+use Rattle.std.proofs.Common.{inl, inr, length, map, refl, sym, take}
 use Rattle.std.proofs.Math.Nat.{add-mod_right, mod-add-mod, mod-eq_of_lt}
 use Rattle.std.proofs.lemmas.Bool.{cases_lt}
+use Rattle.std.proofs.lemmas.List.{take-map, take-take}
 use Rattle.std.proofs.lemmas.Nat.{mod_below}
 use Rattle.nv_command.specs.Logs.{answer_received}
 use Rattle.nv_command.specs.declared.command.Command.{Command}
 use Rattle.nv_model.specs.State.{State}
-use Rattle.nv_model.specs.Step.{Step, next_serial, step}
-use Rattle.nv_driver.specs.Batch.{answers_of, state_after}
-use Rattle.nv_driver.specs.Schedule.{Sent, after, answers_to}
+use Rattle.nv_model.specs.Step.{next_serial, step}
+use Rattle.nv_driver.specs.Batch.{answers_of, from_serial, state_after}
+use Rattle.nv_driver.specs.Schedule.{Numbered, Sent, after, answers_of_all, answers_to, numbered, state_after_all}
 
 -- ---- serials
 
@@ -43,52 +45,47 @@ distance_is serial k m order near =
 
 -- ---- the commands of a schedule
 
--- they are those of a list, under serials from this one on
-pub record AreThose (serial : ℕ) (ks : List Command) (xs : List Sent) : Type 0 where
-  pub command : (n : ℕ) (d : Sent) (e : Command) → n < length xs → (get_or xs n d).command ≡ get_or ks n e
-  pub cid : (n : ℕ) (d : Sent) → n < length xs → (get_or xs n d).cid ≡ (serial + n) % 65535
-
--- without the first of them
-those_after : (serial : ℕ) (k : Command) (ks : List Command) (x : Sent) (xs : List Sent) → AreThose serial (k ∷ ks) (x ∷ xs)
-    → AreThose (next_serial serial) ks xs
-those_after serial k ks x xs are = record {
-  command = λ n d e h. are.command (suc n) d e (omega arith);
-  cid = λ n d h.
-      let sum : serial + suc n ≡ serial + 1 + n = omega arith in
-      are.cid (suc n) d (omega arith) ∙ ap (λ i. i % 65535) sum ∙ sym (mod-add-mod (serial + 1) 65535 n);
-}
-
--- the first step
-same_step : (c : ℕ) (s : State) (serial : ℕ) (k : Command) (ks : List Command) (x : Sent) (xs : List Sent) → serial < 65535
-    → AreThose serial (k ∷ ks) (x ∷ xs) → step s c x.command x.cid ≡ step s c k serial
-same_step c s serial k ks x xs below are =
+-- command n of a list under its command identifier
+pub command_at : (serial n : ℕ) (ks : List Command) (d : Numbered) (e : Command) → serial < 65535 → n < length ks
+    → get_or (from_serial serial ks) n d ≡ record { command = get_or ks n e; cid = (serial + n) % 65535 }
+command_at serial n [] d e below inside = absurd (omega arith)
+command_at serial zero (k ∷ ks) d e below inside =
     let zero_more : serial + 0 ≡ serial = omega arith in
-    ap (λ q. step s c q x.cid) (are.command 0 x k (omega arith))
-    ∙ ap (step s c k) (are.cid 0 x (omega arith) ∙ ap (λ i. i % 65535) zero_more ∙ mod-eq_of_lt below)
+    ap (λ i. record { command = k; cid = i }) (sym (ap (λ i. i % 65535) zero_more ∙ mod-eq_of_lt below))
+command_at serial (suc n) (k ∷ ks) d e below inside =
+    let sum : serial + 1 + n ≡ serial + suc n = omega arith in
+    command_at (next_serial serial) n ks d e (mod_below (serial + 1) 65535 (omega arith)) (omega arith)
+    ∙ ap (λ i. record { command = get_or ks n e; cid = i })
+    (mod-add-mod (serial + 1) 65535 n ∙ ap (λ i. i % 65535) sum)
 
-next_below : (serial : ℕ) → next_serial serial < 65535
-next_below serial = mod_below (serial + 1) 65535 (omega arith)
+pub length-from_serial : (serial : ℕ) (ks : List Command) → length (from_serial serial ks) ≡ length ks
+length-from_serial serial [] = refl
+length-from_serial serial (k ∷ ks) = ap suc (length-from_serial (next_serial serial) ks)
 
-pub state_is : (c : ℕ) (s : State) (serial : ℕ) (ks : List Command) (xs : List Sent) (n : ℕ) → serial < 65535 → length xs ≤ length ks
-    → n ≤ length xs → AreThose serial ks xs → after c s (take n xs) ≡ state_after c s serial (take n ks)
-state_is c s serial ks xs zero below short few are = refl
-state_is c s serial ks [] (suc n) below short few are = absurd (omega arith)
-state_is c s serial [] (x ∷ xs) (suc n) below short few are = absurd (omega arith)
-state_is c s serial (k ∷ ks) (x ∷ xs) (suc n) below short few are =
-    ap (λ (p : Step). after c p.state (take n xs)) (same_step c s serial k ks x xs below are)
-    ∙ state_is c (step s c k serial).state (next_serial serial) ks xs n (next_below serial) (omega arith) (omega arith) (those_after serial k ks x xs are)
+take-from_serial : (n serial : ℕ) (ks : List Command) → take n (from_serial serial ks) ≡ from_serial serial (take n ks)
+take-from_serial zero serial ks = refl
+take-from_serial (suc n) serial [] = refl
+take-from_serial (suc n) serial (k ∷ ks) =
+    ap (λ xs. record { command = k; cid = serial } ∷ xs) (take-from_serial n (next_serial serial) ks)
 
-pub answers_are : (c : ℕ) (s : State) (serial : ℕ) (ks : List Command) (xs : List Sent) (n : ℕ) → serial < 65535 → length xs ≤ length ks
-    → n ≤ length xs → AreThose serial ks xs → take n (answers_to c s xs) ≡ take n (answers_of c s serial ks)
-answers_are c s serial ks xs zero below short few are = refl
-answers_are c s serial ks [] (suc n) below short few are = absurd (omega arith)
-answers_are c s serial [] (x ∷ xs) (suc n) below short few are = absurd (omega arith)
-answers_are c s serial (k ∷ ks) (x ∷ xs) (suc n) below short few are =
-    ap (λ (q : Command). answer_received q (step s c x.command x.cid).answer ∷ take n (answers_to c (step s c x.command x.cid).state xs)) (are.command 0 x k (omega arith))
-    ∙ ap (λ (p : Step). answer_received k p.answer ∷ take n (answers_to c p.state xs)) (same_step c s serial k ks x xs below are)
-    ∙ ap (λ rest. answer_received k (step s c k serial).answer ∷ rest)
-    (answers_are c (step s c k serial).state (next_serial serial) ks xs n (next_below serial) (omega arith) (omega arith) (those_after serial k ks x xs are))
+take-answers : (n c : ℕ) (s : State) (xs : List Numbered) → take n (answers_of_all c s xs) ≡ answers_of_all c s (take n xs)
+take-answers zero c s xs = refl
+take-answers (suc n) c s [] = refl
+take-answers (suc n) c s (x ∷ xs) =
+    ap (λ ys. answer_received x.command (step s c x.command x.cid).answer ∷ ys)
+    (take-answers n c (step s c x.command x.cid).state xs)
 
-pub length-answers_of : (c : ℕ) (s : State) (serial : ℕ) (ks : List Command) → length (answers_of c s serial ks) ≡ length ks
-length-answers_of c s serial [] = refl
-length-answers_of c s serial (k ∷ ks) = ap suc (length-answers_of c (step s c k serial).state (next_serial serial) ks)
+-- where they are the first m of a list
+module _ (serial : ℕ) (ks : List Command) (xs : List Sent) (m : ℕ)
+    (are : map numbered xs ≡ take m (from_serial serial ks)) where
+  first_are : (n : ℕ) → n ≤ m → take n (map numbered xs) ≡ take n (from_serial serial ks)
+  first_are n few = ap (take n) are ∙ take-take n m (from_serial serial ks) few
+
+  pub state_is : (c : ℕ) (s : State) (n : ℕ) → n ≤ m → after c s (take n xs) ≡ state_after c s serial (take n ks)
+  state_is c s n few =
+      ap (state_after_all c s) (sym (take-map numbered n xs) ∙ first_are n few ∙ take-from_serial n serial ks)
+
+  pub answers_are : (c : ℕ) (s : State) (n : ℕ) → n ≤ m → take n (answers_to c s xs) ≡ take n (answers_of c s serial ks)
+  answers_are c s n few =
+      take-answers n c s (map numbered xs) ∙ ap (answers_of_all c s) (first_are n few)
+      ∙ sym (take-answers n c s (from_serial serial ks))

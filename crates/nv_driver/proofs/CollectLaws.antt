@@ -1,5 +1,5 @@
 -- A list of commands on its way: its answers are collected.
-use Rattle.std.specs.Prelude.{IfSome, IsSome, Option, Some, set}
+use Rattle.std.specs.Prelude.{IfSome, IsSome, OnSome, Option, Some, set}
 use Rattle.std.proofs.Common.{◌≡◌, ◌∙◌, ℕ, ◌+◌, ◌-◌, ◌%◌, ◌<◌, ◌≤◌, All, AllPairs, List, [], ◌∷◌, ◌++◌, add-one, ap, arith, drop, false, get_or, inl, length, length-append, not, refl, subst, sym, take, true, ◌==◌, ◌≢◌}
 use Rattle.std.proofs.Math.Seq.{drop-cons}
 use Rattle.std.proofs.Math.ListN.{length-set}
@@ -20,7 +20,7 @@ use Rattle.nv_command.specs.Logs.{IsSendable}
 use Rattle.nv_command.specs.declared.command.Command.{Command}
 use Rattle.nv_bus.specs.Call.{length_of}
 use Rattle.nv_driver.specs.CommandPages.{AreTaken, all_pages, with_pages, without}
-use Rattle.nv_driver.specs.Schedule.{Answer, Sent, StaysNamed, World, answer_from, answer_read, answers_to, awaited, collect_ring, data_length, number, own_pages, places, received_from, slot, submit_ring}
+use Rattle.nv_driver.specs.Schedule.{Answer, Numbered, Sent, StaysNamed, World, answer_from, answer_read, answers_to, awaited, collect_ring, data_length, number, own_pages, places, received_from, slot, submit_ring}
 use Rattle.nv_driver.specs.Layout.{pages_of_command}
 use Rattle.nv_driver.specs.Submitting.{sent_by, transfer_at}
 use Rattle.nv_driver.specs.UnderWay.{HasAnswers, IsKept, IsUnderWay, Run, kept_at, pages_of_all, serial_at, setting_of}
@@ -34,8 +34,11 @@ use Rattle.nv_driver.proofs.PointerLaws.{names_in}
 use Rattle.nv_driver.proofs.SerialLaws.{length-answers}
 use Rattle.nv_driver.proofs.SubmittingLaws.{pages_are}
 use Rattle.nv_driver.proofs.TurnLaws.{no_command}
-use Rattle.nv_driver.proofs.UnderWayLaws.{held, pages_left, those}
+use Rattle.nv_driver.proofs.UnderWayLaws.{command_of, held, pages_left}
 use Rattle.nv_driver.proofs.WindowPageLaws.{given_back, gone, taken_first, taken_rest}
+
+pub in_some : {X : Type 0} {P : Type 0} (o : Option X) (x : X) → o ≡ Some x → OnSome o P → P
+in_some {P = P} o x is all = subst (λ q. OnSome q P) is all
 
 -- a command that was sent with these
 pub record IsOne (r : Run) (o : Outstanding) (x : Sent) : Type 0 where
@@ -109,7 +112,8 @@ module _ {r : Run} {bells turns : ℕ} {b : Batch} {l : LaneFields} {now : ℕ} 
     pub cid_is : q.cid ≡ serial_at r b.collected
     cid_is =
         let held = u.keeps.held b.collected no_command (omega (arith, u.collected)) (omega (arith, more, u.done)) in
-        ap (λ (c : Cqe). c.cid) completion_is ∙ held.cid ∙ (u.commands b.collected no_command (omega (arith, no_more, more))).cid
+        ap (λ (c : Cqe). c.cid) completion_is
+        ∙ held.cid ∙ ap (λ (x : Numbered). x.cid) (command_of u b.collected no_command.command (omega (arith, no_more, more)))
 
     pub head_is : q.sq_head ≡ slot (setting_of r) (b.collected + 1)
     head_is =
@@ -281,24 +285,22 @@ module _ {r : Run} {bells turns : ℕ} {b : Batch} {l : LaneFields} {now : ℕ} 
         answers_more {answers} {a} {n} at has is =
             let c = r.controller in
             let s = r.bus.state in
-            let serial = r.lane.serial in
             let xs = u.world.sent in
-            let below = u.begun.laid.serial in
             let size = length-answers c s xs in
             let few = no_more in
-            let all = answers_are c s serial r.commands xs in
+            let all = answers_are r.lane.serial r.commands xs b.sent u.commands c s in
             record {
               len = length-set answers n a ∙ has.len;
               first = ap (λ i. take (b.collected + 1) (set answers i a)) at
                   ∙ take_more_set answers b.collected a (omega (arith, has.len, few, more, u.some))
-                  ∙ ap (λ ys. ys ++ a ∷ []) (has.first ∙ sym (all b.collected below (omega (arith, u.sent, u.some)) (omega (arith, u.sent, few)) (those u)))
+                  ∙ ap (λ ys. ys ++ a ∷ []) (has.first ∙ sym (all b.collected (omega (arith, few))))
                   ∙ ap (λ y. take b.collected (answers_to c s xs) ++ y ∷ []) (is ∙ answer_is a)
                   ∙ sym (take_more (answers_to c s xs) b.collected a (omega (arith, size, u.sent, few, more)))
-                  ∙ all (b.collected + 1) below (omega (arith, u.sent, u.some)) (omega (arith, u.sent, few, more)) (those u);
+                  ∙ all (b.collected + 1) (omega (arith, few, more));
             }
 
   -- the command by its number
   pub command_at : {k : Command} {ks : List Command} {n : ℕ} (e : Command) → b.collected < b.sent → n ≡ b.collected → ks ≡ r.commands → k ≡ get_or ks n e
       → k ≡ next_one.command
   command_at {k} {ks} {n} e more at same is =
-      is ∙ ap (λ xs. get_or xs n e) same ∙ ap (λ i. get_or r.commands i e) at ∙ sym ((u.commands b.collected no_command more).command e)
+      is ∙ ap (λ xs. get_or xs n e) same ∙ ap (λ i. get_or r.commands i e) at ∙ ap (λ (x : Numbered). x.command) (sym (command_of u b.collected e more))

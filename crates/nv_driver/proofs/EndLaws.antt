@@ -7,7 +7,7 @@ use Rattle.nv_queue.specs.Slots.{HoldsTags}
 use Rattle.nv_command.specs.declared.command.Command.{Command}
 use Rattle.nv_register.specs.Port.{new_port}
 use Rattle.nv_bus.specs.Bus.{BusValue, port_at}
-use Rattle.nv_driver.specs.Batch.{answers_of, state_after}
+use Rattle.nv_driver.specs.Batch.{answers_of, from_serial, state_after}
 use Rattle.nv_driver.specs.CommandPages.{without}
 use Rattle.nv_driver.specs.Exchange.{IsReady, KeepsOthers}
 use Rattle.nv_driver.specs.Quiet.{lane_value}
@@ -16,10 +16,11 @@ use Rattle.nv_driver.specs.UnderWay.{HasAnswers, IsBusOf, IsUnderWay, Run, pages
 use Rattle.nv_driver.specs.declared.batch.Batch.{Batch}
 use Rattle.nv_driver.specs.declared.geometry.Geometry.{Geometry}
 use Rattle.nv_driver.specs.declared.lane.Lane.{Lane as LaneFields}
-use Rattle.nv_driver.proofs.BatchLaws.{length-answers_of}
+use Rattle.nv_driver.proofs.BatchLaws.{length-from_serial}
 use Rattle.nv_driver.proofs.CollectLaws.{no_more}
-use Rattle.nv_driver.proofs.ExchangeLaws.{is_idle, lane_after, others_kept}
+use Rattle.nv_driver.proofs.QuietLaws.{is_idle, lane_after, others_kept}
 use Rattle.nv_driver.proofs.RoundLaws.{has_port, none_untold}
+use Rattle.nv_driver.proofs.SerialLaws.{length-answers_of_all}
 use Rattle.nv_driver.proofs.UnderWayLaws.{begins, serial_below}
 use Rattle.nv_driver.proofs.WindowPageLaws.{taken_none}
 
@@ -97,5 +98,5 @@ pub answers_all : {g : Geometry} {c : ℕ} {old : BusValue} {l : LaneFields} {by
 answers_all {g} {c} {old} {l} {bytes} {commands} {r} {n} {answers} is has all =
     let h = subst (λ x. HasAnswers x n answers) is has in
     let whole = answers_of c old.state l.serial commands in
-    let size = length-answers_of c old.state l.serial commands in
+    let size = length-answers_of_all c old.state (from_serial l.serial commands) ∙ length-from_serial l.serial commands in
     sym (take-length answers) ∙ ap (λ i. take i answers) (h.len ∙ sym all) ∙ h.first ∙ ap (λ i. take i whole) (all ∙ sym size) ∙ take-length whole

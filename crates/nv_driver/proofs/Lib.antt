@@ -2,7 +2,7 @@ pub mod PageSetLaws
 pub mod BatchLaws
 pub mod WindowPageLaws
 pub mod SubmittingLaws
-pub mod ExchangeLaws
+pub mod QuietLaws
 pub mod UnderWayLaws
 pub mod CollectLaws
 pub mod RoundLaws

@@ -1,12 +1,13 @@
 -- A list of commands on its way: doorbells, turns and its end.
 use Rattle.std.specs.Prelude.{slice_set}
 use Rattle.std.proofs.Common.{min, ◌≡◌, ◌∙◌, ℕ, ◌+◌, ◌-◌, ◌<◌, ◌≤◌, ◌==◌, Bool, List, ap, arith, false, inl, inr, length, not, refl, subst, sym, take, true}
+use Rattle.std.proofs.Math.ListN.{length-set}
 use Rattle.std.proofs.lemmas.Bool.{cases_eq}
 use Rattle.std.proofs.lemmas.Bool.Decides.{nat_tests}
-use Rattle.std.proofs.lemmas.List.{set-set}
+use Rattle.std.proofs.lemmas.List.{get_or-set_same, set-set}
 use Rattle.nv_queue.specs.Numbers.{slot_of}
 use Rattle.nv_queue.specs.Rings.{CollectNumbers, told_all}
-use Rattle.nv_register.specs.Port.{with_register_at}
+use Rattle.nv_register.specs.Port.{new_port, with_register_at}
 use Rattle.nv_register.specs.declared.port.Port.{Port}
 use Rattle.nv_bus.specs.Bus.{BusValue, IsBus, port_at}
 use Rattle.nv_bus.specs.Turn as T
@@ -18,12 +19,17 @@ use Rattle.nv_driver.specs.declared.batch.Batch.{Batch}
 use Rattle.nv_driver.specs.declared.lane.Lane.{Lane as LaneFields}
 use Rattle.nv_driver.proofs.BatchLaws.{state_is}
 use Rattle.nv_driver.proofs.CountLaws.{head_told, tail_rung}
-use Rattle.nv_driver.proofs.ExchangeLaws.{port_set, ports_long}
 use Rattle.nv_driver.proofs.KeptLaws.{bell_keeps, tell_keeps}
 use Rattle.nv_driver.proofs.TurnLaws.{turn_keeps, turn_takes}
-use Rattle.nv_driver.proofs.UnderWayLaws.{those}
 
 -- ---- ports
+
+port_set : (ports : List Port) (c : ℕ) (p : Port) → c < length ports → port_at (slice_set ports c p) c ≡ p
+port_set ports c p below = get_or-set_same ports c p new_port below
+
+ports_long : (ports new : List Port) (c : ℕ) (p : Port) → c < length ports → new ≡ slice_set ports c p → c < length new
+ports_long ports new c p below is =
+    let size = ap (λ (x : List Port). length x) is ∙ length-set ports c p in omega arith
 
 -- one controller's port is changed again
 pub set_again : (ports one two : List Port) (c : ℕ) (p q : Port) → c < length ports → one ≡ slice_set ports c p → two ≡ slice_set one c q
@@ -169,7 +175,8 @@ module _ {r : Run} {bells turns : ℕ} {b : Batch} {l : LaneFields} {now : ℕ} 
   state_on =
       let k = u.keeps.counts in
       u.keeps.state ∙ ap (λ n. after r.controller r.bus.state (take n u.world.sent)) u.done
-      ∙ state_is r.controller r.bus.state r.lane.serial r.commands u.world.sent turns u.begun.laid.serial (omega (arith, u.sent, u.some)) (omega (arith, k.done, k.rung, u.done)) (those u)
+      ∙ state_is r.lane.serial r.commands u.world.sent b.sent u.commands r.controller r.bus.state turns
+      (omega (arith, k.done, k.rung, u.done, u.sent))
 
 -- what a turn leaves, and how many entries it takes
 pub record HasTurned (r : Run) (bells turns : ℕ) (b : Batch) (l : LaneFields) (now : ℕ) (mem : List ℕ) (bus : BusValue) (most count : ℕ) : Type 0 where

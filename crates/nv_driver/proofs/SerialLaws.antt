@@ -1,17 +1,21 @@
 -- Commands one at a time: their answers, and the state after them.
-use Rattle.std.proofs.Common.{◌≡◌, ◌∙◌, ℕ, zero, suc, ◌+◌, ◌<◌, List, [], ◌∷◌, ◌++◌, add-one, ap, arith, get_or, length, refl, take}
+use Rattle.std.proofs.Common.{◌≡◌, ◌∙◌, ℕ, zero, suc, ◌+◌, ◌<◌, List, [], ◌∷◌, ◌++◌, add-one, ap, arith, get_or, length, map, refl, take}
+use Rattle.std.proofs.lemmas.List.{length-map}
 use Rattle.nv_command.specs.Logs.{answer_received}
 use Rattle.nv_model.specs.State.{State}
 use Rattle.nv_model.specs.Step.{Step, step}
-use Rattle.nv_driver.specs.Schedule.{Answer, Sent, after, answers_to}
+use Rattle.nv_driver.specs.Schedule.{Answer, Numbered, Sent, after, answers_of_all, answers_to, numbered}
 
 -- what command x does after the first n of some commands
 abbrev pub step_after : ℕ → State → List Sent → ℕ → Sent → Step
 step_after c s xs n x = step (after c s (take n xs)) c x.command x.cid
 
+pub length-answers_of_all : (c : ℕ) (s : State) (xs : List Numbered) → length (answers_of_all c s xs) ≡ length xs
+length-answers_of_all c s [] = refl
+length-answers_of_all c s (x ∷ xs) = ap suc (length-answers_of_all c (step s c x.command x.cid).state xs)
+
 pub length-answers : (c : ℕ) (s : State) (xs : List Sent) → length (answers_to c s xs) ≡ length xs
-length-answers c s [] = refl
-length-answers c s (x ∷ xs) = ap suc (length-answers c (step s c x.command x.cid).state xs)
+length-answers c s xs = length-answers_of_all c s (map numbered xs) ∙ length-map xs numbered
 
 pub answers-append : (c : ℕ) (s : State) (xs ys : List Sent) → answers_to c s (xs ++ ys) ≡ answers_to c s xs ++ answers_to c (after c s xs) ys
 answers-append c s [] ys = refl

@@ -1,9 +1,10 @@
 -- A list of commands on its way: its beginning, submissions, doorbells and turns.
 use Rattle.std.specs.Prelude.{None, Some, set}
-use Rattle.std.proofs.Common.{◌≡◌, ◌≢◌, ◌∙◌, ℕ, ◌+◌, ◌-◌, ◌*◌, ◌%◌, ◌<◌, ◌≤◌, All, List, [], ◌∷◌, ◌++◌, ap, arith, drop, get_or, length, length-append, length-drop, refl, subst, sym, true}
+use Rattle.std.proofs.Common.{◌≡◌, ◌≢◌, ◌∙◌, ℕ, ◌+◌, ◌-◌, ◌*◌, ◌%◌, ◌<◌, ◌≤◌, All, List, [], ◌∷◌, ◌++◌, ap, arith, drop, get_or, inl, length, length-append, length-drop, map, refl, subst, sym, take, true}
 use Rattle.std.proofs.Math.ListN.{length-set}
 use Rattle.std.proofs.Math.Nat.{mod-eq_of_lt, mul-le-mul_right}
-use Rattle.std.proofs.lemmas.List.{drop-append-le, get_or-drop, get_or-set_other, get_or-set_same, get_or_default}
+use Rattle.std.proofs.lemmas.List.{drop-append-le, get_or-drop, get_or-map, get_or-set_other, get_or-set_same}
+use Rattle.std.proofs.lemmas.List.{get_or-take, get_or_default, map_push, take_more}
 use Rattle.std.proofs.lemmas.Nat.{mod_below}
 use Rattle.std.specs.FinSet as set
 use Rattle.nv_host.specs.PageSets.{IsOf, Pages}
@@ -17,21 +18,22 @@ use Rattle.nv_driver.specs.CommandPages.{AreTaken, all_pages, without}
 use Rattle.nv_driver.specs.Exchange.{IsReady}
 use Rattle.nv_driver.specs.Keeping.{Keeps}
 use Rattle.nv_driver.specs.Layout.{pages_of_command}
-use Rattle.nv_driver.specs.Schedule.{CanBeSent, IsPrepared, MaySubmit, Sent, collect_ring, entry, number, own_pages, slot, submit_ring}
+use Rattle.nv_driver.specs.Schedule.{AreOutside, CanBeSent, IsPrepared, MaySubmit, Sent, collect_ring, entry, number, numbered, own_pages, slot, submit_ring}
 use Rattle.nv_driver.specs.Submitting.{IsSubmitted, sent_by}
-use Rattle.nv_driver.specs.UnderWay.{IsCommand, IsKept, IsUnderWay, Run, kept_at, pages_of_all, serial_at, setting_of}
+use Rattle.nv_driver.specs.UnderWay.{IsKept, IsUnderWay, Run, kept_at, numbered_of, pages_of_all, serial_at, setting_of}
 use Rattle.nv_driver.specs.declared.batch.Batch.{Batch}
 use Rattle.nv_driver.specs.declared.geometry.Geometry.{Geometry}
 use Rattle.nv_driver.specs.declared.lane.Lane.{Lane as LaneFields}
 use Rattle.nv_driver.specs.declared.submitting.Outstanding.{Outstanding}
-use Rattle.nv_driver.proofs.BatchLaws.{AreThose, serial_next}
+use Rattle.nv_driver.proofs.BatchLaws.{command_at, length-from_serial, serial_next}
 use Rattle.nv_driver.proofs.CountLaws.{number_above, number_next}
-use Rattle.nv_driver.proofs.ExchangeLaws.{before_pages, beginning, collect_ring_is, is_idle, own_of_set, submit_ring_is}
 use Rattle.nv_driver.proofs.KeptLaws.{idle_keeps}
 use Rattle.nv_driver.proofs.PageSetLaws.{full_length, in_of, is_in}
 use Rattle.nv_driver.proofs.PointerLaws.{seven_pages}
+use Rattle.nv_driver.proofs.QuietLaws.{beginning, collect_ring_is, is_idle, submit_ring_is}
 use Rattle.nv_driver.proofs.SubmitLaws.{each_more, submit_keeps}
 use Rattle.nv_driver.proofs.SubmittingLaws.{Has, buffer_of, distinct_of, list_of, pages_are, length-data_pages}
+use Rattle.nv_driver.proofs.TurnLaws.{no_command}
 use Rattle.nv_driver.proofs.WindowPageLaws.{differ, few_pages, fresh, page_of_one, pages-append, taken_also, taken_len, taken_none, without_also}
 
 -- ---- the beginning
@@ -84,7 +86,7 @@ begins r b now ready can geometry controller page room sent collected told =
       told = sym told;
       sent = sym sent;
       collected = sym collected;
-      commands = λ n d h. absurd (omega arith);
+      commands = rw sent refl;
       kept = λ n d from h. absurd (omega arith);
       lane = rw (sent, collected, told) (lane_first r ready);
       taken = rw collected (taken_none r.lane.pages).0;
@@ -104,11 +106,14 @@ own_length r b n x ready k =
     let same = ap (λ (y : Sent). length (own_pages y)) k.sent in omega (arith, size, same, k.few)
 
 module _ {r : Run} {bells turns : ℕ} {b : Batch} {l : LaneFields} {now : ℕ} {bytes : List ℕ} (u : IsUnderWay r bells turns b l now bytes) where
-  pub those : AreThose r.lane.serial r.commands u.world.sent
-  those = record {
-    command = λ n d e h. (u.commands n d (omega (arith, u.sent))).command e;
-    cid = λ n d h. (u.commands n d (omega (arith, u.sent))).cid;
-  }
+  -- command n under its command identifier
+  pub command_of : (n : ℕ) (e : Command) → n < b.sent
+      → numbered (get_or u.world.sent n no_command) ≡ record { command = get_or r.commands n e; cid = serial_at r n }
+  command_of n e below =
+      sym (get_or-map numbered u.world.sent n no_command (numbered no_command) (omega (arith, u.sent)))
+      ∙ ap (λ xs. get_or xs n (numbered no_command)) u.commands
+      ∙ get_or-take b.sent (numbered_of r) n (numbered no_command) below
+      ∙ command_at r.lane.serial n r.commands (numbered no_command) e u.begun.laid.serial (omega (arith, u.some))
 
   pub pages_left : l.pages ≡ without r.lane.pages (held u)
   pages_left = ap (λ (q : LaneFields). q.pages) u.lane
@@ -158,6 +163,20 @@ tail_after {r} {bells} {turns} {b} u n tail sent is =
     ∙ ap (slot_of (setting_of r).depth) (number_next (setting_of r) b.sent) ∙ ap (λ i. slot (setting_of r) (i + 1)) (sym sent)
 
 -- ---- a submission
+
+-- a part before a set's pages
+before_pages : (s : Pages) (x : Sent) (page_size from n : ℕ)
+    → ((i d : ℕ) → i < length (own_pages x) → IsOf s.first s.count (get_or (own_pages x) i d))
+    → from + n ≤ s.first * page_size → AreOutside page_size x from n
+before_pages s x page_size from n own low i d h =
+    let first : s.first ≤ get_or (own_pages x) i d = (own i d h).0 in
+    let times = mul-le-mul_right page_size first in inl (omega arith)
+
+own_of_set : (s : Pages) (x : Sent) (pages : List ℕ) → pages ≡ own_pages x
+    → ((i d : ℕ) → i < length pages → IsOf s.first s.count (get_or pages i d))
+    → (i d : ℕ) → i < length (own_pages x) → IsOf s.first s.count (get_or (own_pages x) i d)
+own_of_set s x pages same =
+    subst (λ ps. (i d : ℕ) → i < length ps → IsOf s.first s.count (get_or ps i d)) same
 
 -- the pages of the outstanding commands, with one command more
 held_more : (xs : List Sent) (x : Sent) (n : ℕ) → n ≤ length xs → pages_of_all (drop n (xs ++ x ∷ [])) ≡ pages_of_all (drop n xs) ++ own_pages x
@@ -284,6 +303,11 @@ module _ {r : Run} {bells turns : ℕ} {b : Batch} {l l' : LaneFields} {now : �
       let c = u.keeps.counts in
       let can = subst CanBeSent (sym (is k)) (u.can b.sent k below) in
       let serial = ap (λ (q : LaneFields). q.serial) u.lane in
+      let size_of = length-from_serial r.lane.serial r.commands in
+      let at : numbered x ≡ record { command = get_or r.commands b.sent k; cid = serial_at r b.sent } =
+      ap (λ q. record { command = q; cid = l.serial }) (is k)
+      ∙ ap (λ i. record { command = get_or r.commands b.sent k; cid = i }) serial in
+      let next = command_at r.lane.serial b.sent r.commands (numbered x) k u.begun.laid.serial below in
       record {
         begun = u.begun;
         can = u.can;
@@ -302,9 +326,9 @@ module _ {r : Run} {bells turns : ℕ} {b : Batch} {l l' : LaneFields} {now : �
         told = u.told;
         sent = length-append w.sent (x ∷ []) ∙ ap (λ n. n + 1) u.sent;
         collected = u.collected;
-        commands = λ n d h. each_more (λ i y. IsCommand r i y) 0 w.sent x (λ i e from low. u.commands i e (omega (arith, u.sent)))
-            (record { command = λ e. is e ∙ ap (λ i. get_or r.commands i e) (sym u.sent); cid = serial ∙ ap (serial_at r) (sym u.sent) })
-            n d (omega arith) (omega (arith, h, u.sent, length-append w.sent (x ∷ [])));
+        commands = map_push numbered w.sent x ∙ ap (λ ys. ys ++ numbered x ∷ []) u.commands
+            ∙ ap (λ y. take b.sent (numbered_of r) ++ y ∷ []) (at ∙ sym next)
+            ∙ sym (take_more (numbered_of r) b.sent (numbered x) (omega (arith, below, size_of)));
         kept = λ n d from h. each_more
             (λ i y. IsKept r (kept_at (record b { outstanding = set b.outstanding (b.sent % 16) (Some o); sent = b.sent + 1 }) i) y) b.collected w.sent x
             (λ i e above low. kept_on i e above (omega (arith, u.sent))) (kept_new (length w.sent) u.sent)

@@ -1,7 +1,7 @@
 -- Schedules of one controller's commands: submit, ring the doorbell, turn, collect, tell the head,
 -- in any order.
 use Rattle.std.specs.Prelude.{◌≡◌, ◌-◌, ◌≢◌, ◌⊎◌, ℕ, ◌+◌, ◌*◌, ◌<◌, ◌≤◌, ◌^◌, ◌==◌, ◌&&◌, Bool}
-use Rattle.std.specs.Prelude.{false, All, List, [], ◌∷◌, ◌++◌, if◌then◌else◌, length, min, not}
+use Rattle.std.specs.Prelude.{false, All, List, [], ◌∷◌, ◌++◌, if◌then◌else◌, length, map, min, not}
 use Rattle.std.specs.Prelude.{slice_index_or, take, Result, Ok, Err}
 use Rattle.nv_host.specs.Bytes.{bytes_at}
 use Rattle.nv_host.specs.Pages.{IsPageSize}
@@ -52,16 +52,31 @@ pub record Sent : Type 0 where
 abbrev pub Answer : Type 0
 Answer = Result Reply Status
 
+-- a command under a command identifier
+pub record Numbered : Type 0 where
+  pub command : Command
+  pub cid : ℕ
+
 -- the state after commands of controller c, one after the other
-abbrev pub after : ℕ → State → List Sent → State
-after c s [] = s
-after c s (x ∷ xs) = after c (step s c x.command x.cid).state xs
+abbrev pub state_after_all : ℕ → State → List Numbered → State
+state_after_all c s [] = s
+state_after_all c s (x ∷ xs) = state_after_all c (step s c x.command x.cid).state xs
 
 -- and their answers, as they are received
+abbrev pub answers_of_all : ℕ → State → List Numbered → List Answer
+answers_of_all c s [] = []
+answers_of_all c s (x ∷ xs) = answer_received x.command (step s c x.command x.cid).answer
+    ∷ answers_of_all c (step s c x.command x.cid).state xs
+
+-- the same of commands that were sent
+abbrev pub numbered : Sent → Numbered
+numbered x = record { command = x.command; cid = x.cid }
+
+abbrev pub after : ℕ → State → List Sent → State
+after c s xs = state_after_all c s (map numbered xs)
+
 abbrev pub answers_to : ℕ → State → List Sent → List Answer
-answers_to c s [] = []
-answers_to c s (x ∷ xs) = answer_received x.command (step s c x.command x.cid).answer
-    ∷ answers_to c (step s c x.command x.cid).state xs
+answers_to c s xs = answers_of_all c s (map numbered xs)
 
 -- ---- what a schedule runs over
 

@@ -1,12 +1,12 @@
 -- A list of commands of one controller on its way, of which several are outstanding.
 use Rattle.std.specs.Prelude.{◌≡◌, ℕ, ◌+◌, ◌-◌, ◌*◌, ◌%◌, ◌<◌, ◌≤◌, All, List, [], ◌++◌, ◌∷◌}
-use Rattle.std.specs.Prelude.{Option, None, Some, drop, length, min, slice_index_or, slice_set}
-use Rattle.std.specs.Prelude.{take}
+use Rattle.std.specs.Prelude.{Option, None, Some, drop, length, map, min, slice_index_or}
+use Rattle.std.specs.Prelude.{slice_set, take}
 use Rattle.nv_host.specs.PageSets.{IsOf}
 use Rattle.nv_command.specs.declared.command.Command.{Command}
 use Rattle.nv_model.specs.declared.origin.TheConstants.{SERIALS}
 use Rattle.nv_bus.specs.Bus.{BusValue, IsBus, port_at}
-use Rattle.nv_driver.specs.Batch.{answers_of, state_after}
+use Rattle.nv_driver.specs.Batch.{answers_of, from_serial, state_after}
 use Rattle.nv_driver.specs.CommandPages.{AreTaken, without}
 use Rattle.nv_driver.specs.Exchange.{IsReady}
 use Rattle.nv_driver.specs.Keeping.{Keeps}
@@ -14,8 +14,9 @@ use Rattle.nv_driver.specs.Lane.{Lane, idle_port}
 use Rattle.nv_driver.specs.Layout.{pages_of_command}
 use Rattle.nv_driver.specs.Quiet.{lane_value}
 use Rattle.nv_driver.specs.Registers.{mps_of}
-use Rattle.nv_driver.specs.Schedule.{Answer, CanBeSent, Sent, Setting, World, collect_ring}
-use Rattle.nv_driver.specs.Schedule.{device_rings, own_pages, port_with, submit_ring}
+use Rattle.nv_driver.specs.Schedule.{Answer, CanBeSent, Numbered, Sent, Setting, World}
+use Rattle.nv_driver.specs.Schedule.{collect_ring, device_rings, numbered, own_pages, port_with}
+use Rattle.nv_driver.specs.Schedule.{submit_ring}
 use Rattle.nv_driver.specs.Submitting.{sent_by}
 use Rattle.nv_driver.specs.declared.batch.Batch.{Batch}
 use Rattle.nv_driver.specs.declared.geometry.Geometry.{Geometry}
@@ -51,7 +52,10 @@ run_of g c b l bytes commands =
 abbrev pub setting_of : Run → Setting
 setting_of r = setting r.geometry r.controller r.bytes (lane_value r.lane)
 
--- the command identifier of command n
+-- its commands under their command identifiers, and that of command n
+abbrev pub numbered_of : Run → List Numbered
+numbered_of r = from_serial r.lane.serial r.commands
+
 abbrev pub serial_at : Run → ℕ → ℕ
 serial_at r n = (r.lane.serial + n) % SERIALS
 
@@ -67,11 +71,6 @@ pub record IsKept (r : Run) (o : Option Outstanding) (x : Sent) : Type 0 where
   pub sent : x ≡ sent_by r.geometry x.command x.cid one
   pub few : one.pages.data_pages + 2 ≤ pages_of_command r.geometry.page_size
   pub seven : length one.pages.numbers ≡ 7
-
--- command n of the run, under its command identifier
-pub record IsCommand (r : Run) (n : ℕ) (x : Sent) : Type 0 where
-  pub command : (d : Command) → x.command ≡ slice_index_or r.commands n d
-  pub cid : x.cid ≡ serial_at r n
 
 -- the places of the window, by the numbers of the commands modulo 16
 abbrev pub kept_at : Batch → ℕ → Option Outstanding
@@ -97,7 +96,7 @@ pub record IsUnderWay (r : Run) (bells turns : ℕ) (b : Batch) (l : LaneFields)
   pub told : world.told ≡ b.told
   pub sent : length world.sent ≡ b.sent
   pub collected : length world.answers ≡ b.collected
-  pub commands : (n : ℕ) (d : Sent) → n < b.sent → IsCommand r n (slice_index_or world.sent n d)
+  pub commands : map numbered world.sent ≡ take b.sent (numbered_of r)
   pub kept : (n : ℕ) (d : Sent) → b.collected ≤ n → n < b.sent
       → IsKept r (kept_at b n) (slice_index_or world.sent n d)
   pub lane : l ≡ record {

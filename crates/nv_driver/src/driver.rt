@@ -17,7 +17,6 @@ use crate::answer_slot::{Answer, AnswerSlot};
 use crate::batch::exchange_all;
 use crate::enabling::{enable_all, reset};
 use crate::error::DriverError;
-use crate::exchange::exchange;
 use crate::geometry::Geometry;
 use crate::geometry_field::GeometryField;
 use crate::lane::{Lane, new_lanes};
@@ -27,6 +26,7 @@ use nv_command::Command;
 use nv_host::{FlatMemory, HostMemory};
 use std::alloc::Global;
 use std::marker::Model;
+use std::slice::{from_mut, from_ref};
 
 /// The driver of each controller of a bus: the host's memory, and for each controller its rings and
 /// pages in it.
@@ -129,17 +129,7 @@ impl Driver {
         ensures driver { self.new ≡ after_command self.old ctrl }
         ensures left { (B.meaning bus.new).ports ≡ ports_of self.new }
     {
-        let lane = &mut self.lanes[ctrl as usize];
-        exchange(
-            bus,
-            ctrl,
-            &mut self.mem,
-            lane,
-            self.geometry,
-            command,
-            slot,
-            &mut self.scratch,
-        );
+        self.admin_all(bus, ctrl, from_ref(command), from_mut(slot));
         slot.answer()
     }
 

@@ -43,7 +43,6 @@ mod command_pages;
 mod driver;
 mod enabling;
 mod error;
-mod exchange;
 mod geometry;
 mod geometry_field;
 mod lane;

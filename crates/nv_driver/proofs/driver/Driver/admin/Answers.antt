@@ -1,26 +1,9 @@
-use Rattle.std.proofs.Common.{◌∙◌, ap, sym}
-use Rattle.nv_driver.specs.Driver.{after_command}
-use Rattle.nv_driver.specs.Exchange.{after_one}
-use Rattle.nv_driver.specs.Registers.{ports_of}
-use Rattle.nv_driver.specs.Settled.{DriverValue}
-use Rattle.nv_driver.proofs.AdminLaws.{driver_after, inside_of, ports_left, ready_at, value_after}
+use Rattle.std.proofs.Common.{◌∙◌, ap}
+use Rattle.nv_driver.specs.Driver.{after_commands}
+use Rattle.nv_driver.proofs.AdminLaws.{after_first}
 use Rattle.nv_driver.proofs.driver.Driver.admin.Goals as goal
-
-pub exchange-requires-clause-ready : goal.exchange-requires-clause-ready
-exchange-requires-clause-ready g c =
-    ready_at c.self.invariant c.requires.bus (c.requires.left ∙ ap ports_of (sym c.self.view_is)) (inside_of _ _ _ _ _ c.requires.ctrl c.self.view_is) c.index_mut-lane.ensures.value
-
-pub invariant_of-self : goal.invariant_of-self
-invariant_of-self g c =
-    let e = c.exchange.ensures in
-    driver_after c.self.invariant (inside_of _ _ _ _ _ c.requires.ctrl c.self.view_is) c.index_mut-lane.ensures.value e.ready e.lane e.others e.len e.page
 
 pub returns-clause-driver : goal.returns-clause-driver
 returns-clause-driver g c =
-    let e = c.exchange.ensures in
-    value_after after_one _ _ _ _ _ _ _ (inside_of _ _ _ _ _ c.requires.ctrl c.self.view_is) c.index_mut-lane.ensures.value e.lane e.len e.page ∙ ap (λ (d : DriverValue). after_command d c.args.ctrl) c.self.view_is
-
-pub returns-clause-left : goal.returns-clause-left
-returns-clause-left g c =
-    let e = c.exchange.ensures in
-    ports_left c.self.inside.geometry c.self.inside.lanes.items c.args.ctrl c.exchange.new.lane _ _ (c.requires.left ∙ ap ports_of (sym c.self.view_is)) e.ports e.ready.port
+    c.admin_all.ensures.driver ∙ ap (after_commands c.args.self.now c.args.ctrl) c.from_ref.ensures.len
+    ∙ after_first c.args.self.now c.args.ctrl
