@@ -1,5 +1,5 @@
 -- What is known of data by the form of a command.
-use Rattle.std.proofs.Common.{◌≡◌, ◌*◌, ℕ, ◌==◌, Bool, true, arith, refl, subst, sym}
+use Rattle.std.proofs.Common.{◌≡◌, ℕ, ◌==◌, Bool, true, arith, refl, subst, sym}
 use Rattle.std.proofs.lemmas.Bool.Decides.{nat_tests}
 use Rattle.nv_command.specs.Command.{bytes_to_host, transfer_by}
 use Rattle.nv_command.specs.Form.{form_of}
