@@ -9,13 +9,8 @@ use Rattle.nv_command.specs.declared.reply.Reply.TheVariants as reply
 
 -- they have the dword 0 of the reply without them
 pub dword0_tagged : (r : Reply) → dword0_of (without_phases r) ≡ dword0_of r
-dword0_tagged (reply.Controller r) = refl
-dword0_tagged (reply.Namespace r) = refl
-dword0_tagged (reply.List ids) = refl
-dword0_tagged (reply.Number n) = refl
-dword0_tagged reply.Done = refl
 dword0_tagged (reply.Errors es) = refl
-dword0_tagged (reply.Smart r) = refl
+dword0_tagged r = refl
 
 -- and are replies to its commands
 pub tagged : (k : Command) (r reply : Reply) → without_phases r ≡ reply → IsReplyTo k reply

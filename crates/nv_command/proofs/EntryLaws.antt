@@ -1,7 +1,9 @@
 -- An entry fits its bits where its fields do.
-use Rattle.std.proofs.Common.{ℕ, ◌<◌, ◌^◌, lit<}
+use Rattle.std.proofs.Common.{◌≡◌, ℕ, ◌<◌, ◌^◌, lit<}
 use Rattle.nv_layout.specs.Sqe.{SqeFits}
-use Rattle.nv_command.specs.Entry.{entry_with}
+use Rattle.nv_layout.specs.declared.sqe.Sqe.{Sqe}
+use Rattle.nv_command.specs.Entry.{entry_of, entry_with, with_pointer}
+use Rattle.nv_command.specs.declared.command.Command.{Command}
 use Rattle.nv_command.specs.declared.entry.Fields.{Fields}
 
 pub record FieldsFit (f : Fields) : Type 0 where
@@ -29,3 +31,7 @@ entry_with_fits f nsid cid fits n c = record {
   cdw14 = lit< tt;
   cdw15 = lit< tt;
 }
+
+-- wherever its data lies, the entry of a command is decoded to it
+abbrev pub IsDecoded : (Sqe → Command) → Command → Type 0
+IsDecoded decoded k = (cid p q : ℕ) → decoded (with_pointer (entry_of k cid) p q) ≡ k

@@ -2,8 +2,7 @@
 use Rattle.std.proofs.Common.{◌≡◌, ◌∙◌, ℕ, ◌+◌, ◌<◌, ◌^◌, ◌==◌, Bool, ap, lit<, arith}
 use Rattle.nv_layout.specs.Parts.{at_bits, bit, bits}
 use Rattle.nv_layout.proofs.RecordLaws.{bit_below, flag_back}
-use Rattle.nv_command.specs.Entry.{entry_of, with_pointer}
-use Rattle.nv_command.proofs.EntryLaws.{FieldsFit}
+use Rattle.nv_command.proofs.EntryLaws.{FieldsFit, IsDecoded}
 use Rattle.nv_command.specs.Features.{GetFeatureFits, SetFeatureFits, get_feature_command}
 use Rattle.nv_command.specs.Features.{get_feature_fields, set_feature_command, set_feature_fields}
 use Rattle.nv_command.specs.declared.command.Command.TheVariants.{GetFeature, SetFeature}
@@ -32,20 +31,18 @@ get_bits : (a b : ℕ) → a < 2 ^ 8 → b < 2 ^ 3
     → let n = at_bits 0 8 a + at_bits 8 3 b in (bits 0 8 n ≡ a) × (bits 8 3 n ≡ b)
 get_bits a b ha hb = (omega arith, omega arith)
 
-pub get_feature_back : (fid sel n cdw11 cid p q : ℕ) → GetFeatureFits fid sel n cdw11
-    → get_feature_command (with_pointer (entry_of (GetFeature fid sel n cdw11) cid) p q)
-    ≡ GetFeature fid sel n cdw11
-get_feature_back fid sel n cdw11 cid p q fits =
+pub get_feature_back : (fid sel n cdw11 : ℕ) → GetFeatureFits fid sel n cdw11
+    → IsDecoded get_feature_command (GetFeature fid sel n cdw11)
+get_feature_back fid sel n cdw11 fits cid p q =
     let (f, s) = get_bits fid sel fits.fid fits.sel in λ k. GetFeature (f k) (s k) n cdw11
 
 set_bits : (a b : ℕ) → a < 2 ^ 8 → b < 2
     → let n = at_bits 0 8 a + at_bits 31 1 b in (bits 0 8 n ≡ a) × (bits 31 1 n ≡ b)
 set_bits a b ha hb = (omega arith, omega arith)
 
-pub set_feature_back : (fid value : ℕ) (save : Bool) (n cid p q : ℕ) → SetFeatureFits fid value n
-    → set_feature_command (with_pointer (entry_of (SetFeature fid value save n) cid) p q)
-    ≡ SetFeature fid value save n
-set_feature_back fid value save n cid p q fits =
+pub set_feature_back : (fid value : ℕ) (save : Bool) (n : ℕ) → SetFeatureFits fid value n
+    → IsDecoded set_feature_command (SetFeature fid value save n)
+set_feature_back fid value save n fits cid p q =
     let (f, s) = set_bits fid (bit save) fits.fid (bit_below save) in
     let flag = ap (λ x. x == 1) s ∙ flag_back save in
     λ k. SetFeature (f k) value (flag k) n

@@ -2,8 +2,7 @@
 use Rattle.std.proofs.Common.{◌≡◌, ◌∙◌, ℕ, ◌+◌, ◌<◌, ◌^◌, ◌==◌, Bool, ap, lit<, arith}
 use Rattle.nv_layout.specs.Parts.{at_bits, bit, bits}
 use Rattle.nv_layout.proofs.RecordLaws.{bit_below, flag_back}
-use Rattle.nv_command.specs.Entry.{entry_of, with_pointer}
-use Rattle.nv_command.proofs.EntryLaws.{FieldsFit}
+use Rattle.nv_command.proofs.EntryLaws.{FieldsFit, IsDecoded}
 use Rattle.nv_command.specs.Format.{FormatFits, format_command, format_fields}
 use Rattle.nv_command.specs.declared.command.Command.TheVariants.{Format}
 
@@ -23,11 +22,9 @@ format_bits : (a b c d e : ℕ) → a < 2 ^ 4 → b < 2 → c < 2 ^ 3 → d < 2 
 format_bits a b c d e ha hb hc hd he =
     (omega arith, omega arith, omega arith, omega arith, omega arith)
 
-pub format_back : (n lbaf : ℕ) (mset : Bool) (pi : ℕ) (pil : Bool) (ses cid p q : ℕ)
-    → FormatFits n lbaf pi ses
-    → format_command (with_pointer (entry_of (Format n lbaf mset pi pil ses) cid) p q)
-    ≡ Format n lbaf mset pi pil ses
-format_back n lbaf mset pi pil ses cid p q fits =
+pub format_back : (n lbaf : ℕ) (mset : Bool) (pi : ℕ) (pil : Bool) (ses : ℕ)
+    → FormatFits n lbaf pi ses → IsDecoded format_command (Format n lbaf mset pi pil ses)
+format_back n lbaf mset pi pil ses fits cid p q =
     let (l, m, i, o, s) =
     format_bits lbaf (bit mset) pi (bit pil) ses fits.lbaf (bit_below mset) fits.pi (bit_below pil)
     fits.ses in

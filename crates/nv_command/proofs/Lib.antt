@@ -5,6 +5,8 @@ pub mod FeatureLaws
 pub mod FormatLaws
 pub mod IdentifyLaws
 pub mod LogLaws
+pub mod FormLaws
+pub mod ReplyLaws
 pub mod ManagementLaws
 pub mod RefusalLaws
 pub mod TravelLaws

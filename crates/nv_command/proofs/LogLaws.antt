@@ -14,12 +14,12 @@ use Rattle.nv_layout.proofs.PartLaws.{get_or-past, length-part, map_read, part-p
 use Rattle.nv_layout.specs.Parts.{at_bits, bits, part}
 use Rattle.nv_layout.specs.Smart.{bytes_of_smart, smart_of_bytes}
 use Rattle.nv_layout.specs.declared.error_entry.ErrorEntry.{ErrorEntry}
-use Rattle.nv_command.specs.Entry.{entry_of, with_pointer}
-use Rattle.nv_command.proofs.EntryLaws.{FieldsFit}
+use Rattle.nv_command.proofs.EntryLaws.{FieldsFit, IsDecoded}
 use Rattle.nv_command.specs.Logs.{GetLogFits, IsWhole, entries_in, entry_received, first_entries}
-use Rattle.nv_command.specs.Logs.{first_of_log, get_log_command, get_log_fields, is_error_log}
-use Rattle.nv_command.specs.Logs.{log_in, without_phases}
-use Rattle.nv_command.specs.Reply.{FitsRecord, IsLog, IsReplyTo, log_of}
+use Rattle.nv_command.specs.Logs.{first_of_log, get_log_command, get_log_fields, log_kind}
+use Rattle.nv_command.specs.Logs.{without_phases}
+use Rattle.nv_command.specs.Room.{IsSizeOf}
+use Rattle.nv_command.specs.Reply.{FitsRecord, IsReplyTo, dword0_of, kind_of, log_of, reply_by}
 use Rattle.nv_command.specs.declared.command.Command.{Command}
 use Rattle.nv_command.specs.declared.command.Command.TheVariants.{GetLog}
 use Rattle.nv_command.specs.declared.reply.Reply.{Reply}
@@ -43,10 +43,9 @@ pub dwords_back : (lid dwords : ℕ) → 0 < dwords → dwords ≤ 2 ^ 32
     + at_bits 16 16 (bits 16 16 (dwords - 1)) + 1 ≡ dwords
 dwords_back lid dwords some h = omega arith
 
-pub get_log_back : (lid n offset dwords cid p q : ℕ) → GetLogFits lid n offset dwords
-    → get_log_command (with_pointer (entry_of (GetLog lid n offset dwords) cid) p q)
-    ≡ GetLog lid n offset dwords
-get_log_back lid n offset dwords cid p q fits =
+pub get_log_back : (lid n offset dwords : ℕ) → GetLogFits lid n offset dwords
+    → IsDecoded get_log_command (GetLog lid n offset dwords)
+get_log_back lid n offset dwords fits cid p q =
     let whole : offset % 2 ^ 32 + offset / 2 ^ 32 * 2 ^ 32 ≡ offset = omega arith in
     λ k. GetLog (lid_back lid (dwords - 1) fits.lid k) n (whole k)
     (dwords_back lid dwords fits.some fits.dwords k)
@@ -122,10 +121,10 @@ entries_back es count fits =
     (length-first_entries count (map without_phase es) ∙ sym chunks)
     (λ k below. entry_back es count k fits (omega (arith, chunks))))
 
-pub log_arrives : (is_errors : Bool) (r : Reply) (offset dwords : ℕ) → IsLog is_errors r
+pub log_arrives : (is_errors : Bool) (r : Reply) (offset dwords : ℕ) → kind_of r ≡ log_kind is_errors
     → FitsRecord r
     → IsWhole is_errors offset dwords
-    → log_in is_errors (part (log_of r) offset (4 * dwords))
+    → reply_by (log_kind is_errors) (dword0_of r) (part (log_of r) offset (4 * dwords))
     ≡ first_of_log (dwords / 16) (without_phases r)
 log_arrives true (reply.Errors es) offset dwords is fits whole =
     let size : 4 * dwords ≡ 64 * (dwords / 16) = omega (arith, whole.1.whole) in
@@ -136,24 +135,22 @@ log_arrives false (reply.Smart r) offset dwords is fits whole =
     ∙ ap (λ b. reply.Smart (smart_of_bytes b))
     (part_whole (bytes_of_smart r) 512 (length-bytes_of_smart r fits.sensor_count))
     ∙ ap reply.Smart (smart_back r fits)
-log_arrives is_errors r offset dwords is fits whole = absurd is
+log_arrives is_errors r offset dwords is fits whole = absurd (cc)
+
+pub log_size : (is_errors : Bool) (offset dwords : ℕ) → IsWhole is_errors offset dwords
+    → IsSizeOf (log_kind is_errors) (4 * dwords)
+log_size true offset dwords whole = omega (arith, whole.1.few)
+log_size false offset dwords whole = whole.1
 
 -- ---- what is known of a reply without its phase tags
 
-errors_alike : (is_errors : Bool) (es fs : List ErrorEntry) → IsLog is_errors (reply.Errors es)
-    → IsLog is_errors (reply.Errors fs)
-errors_alike true es fs is = tt
-errors_alike false es fs is = is
-
-errors_reply : (k : Command) (es fs : List ErrorEntry) → IsReplyTo k (reply.Errors es)
-    → IsReplyTo k (reply.Errors fs)
-errors_reply (GetLog lid n offset dwords) es fs is = errors_alike (is_error_log lid) es fs is
-errors_reply k es fs is = is
+kind-without_phases : (r : Reply) → kind_of (without_phases r) ≡ kind_of r
+kind-without_phases (reply.Errors es) = refl
+kind-without_phases r = refl
 
 pub is_reply-without_phases : (k : Command) (r : Reply) → IsReplyTo k (without_phases r)
     → IsReplyTo k r
-is_reply-without_phases k (reply.Errors es) is = errors_reply k (map without_phase es) es is
-is_reply-without_phases k r is = is
+is_reply-without_phases k r is = sym (kind-without_phases r) ∙ is
 
 entries_fit : (es : List ErrorEntry) → AllByRecursion ErrorEntryFits (map without_phase es)
     → AllByRecursion ErrorEntryFits es

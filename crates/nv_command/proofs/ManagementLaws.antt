@@ -1,4 +1,4 @@
--- What is asked of Namespace Management and Namespace Attachment arrives, and so do their replies.
+-- What is asked of Namespace Management and Namespace Attachment arrives.
 use Rattle.std.proofs.Common.{◌≡◌, ℕ, ◌<◌, ◌^◌, Bool, true, false, List, Ok, ap, refl, zero, suc}
 use Rattle.std.proofs.Common.{replicate, length, lit<, arith}
 use Rattle.std.specs.List.{AllByRecursion}
@@ -7,14 +7,10 @@ use Rattle.nv_layout.specs.IdNs.{IdNsFits, LbafFits, bytes_of_id_ns}
 use Rattle.nv_layout.proofs.IdentifyLaws.{id_ns_back, length-bytes_of_id_ns}
 use Rattle.nv_layout.proofs.RecordLaws.{ctrl_list_back, length-bytes_of_ctrl_list}
 use Rattle.nv_command.proofs.EntryLaws.{FieldsFit}
-use Rattle.nv_command.specs.Logs.{without_phases}
 use Rattle.nv_command.specs.Management.{AttachmentFits, CreateFits, asked, attachment_fields}
 use Rattle.nv_command.specs.Management.{attachment_in, create_in, creation, management_fields}
 use Rattle.nv_command.specs.Management.{no_format}
-use Rattle.nv_command.specs.Reply.{IsDone, IsNumber, dword0_of, page_of}
 use Rattle.nv_command.specs.declared.command.Command.TheVariants.{Create, Attachment}
-use Rattle.nv_command.specs.declared.reply.Reply.{Reply}
-use Rattle.nv_command.specs.declared.reply.Reply.TheVariants as reply
 
 pub management_fits : (select : ℕ) → select < 2 ^ 4 → FieldsFit (management_fields select)
 management_fits select h = record {
@@ -75,17 +71,3 @@ attachment_back detach n ids fits =
     let size = length-bytes_of_ctrl_list ids fits.list.count in
     let back = ctrl_list_back ids fits.list in
     rw (size, back)
-
--- ---- replies without data
-
-pub record IsBare (r : Reply) (read : Reply) : Type 0 where
-  pub bytes : length (page_of r) ≡ 0
-  pub reply : read ≡ without_phases r
-
-pub number_arrives : (r : Reply) → IsNumber r → IsBare r (reply.Number (dword0_of r))
-number_arrives (reply.Number n) is = record { bytes = refl; reply = refl }
-number_arrives r is = absurd is
-
-pub done_arrives : (r : Reply) → IsDone r → IsBare r reply.Done
-done_arrives reply.Done is = record { bytes = refl; reply = refl }
-done_arrives r is = absurd is

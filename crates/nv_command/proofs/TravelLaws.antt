@@ -1,19 +1,20 @@
 -- The law of what travels, for those who cite it.
-use Rattle.std.proofs.Common.{◌≡◌, ◌*◌, ap, false, lit<, Ok, refl, true}
+use Rattle.std.proofs.Common.{◌≡◌, ◌∙◌, ◌*◌, ap, false, lit<, Ok, refl, true}
 use Rattle.nv_layout.proofs.PartLaws.{length-part}
 use Rattle.nv_layout.proofs.RecordLaws.{length-bytes_of_ctrl_list}
 use Rattle.nv_command.proofs.EntryLaws.{entry_with_fits}
 use Rattle.nv_command.proofs.FeatureLaws.{get_feature_back, get_feature_fits, set_feature_back}
 use Rattle.nv_command.proofs.FeatureLaws.{set_feature_fits}
+use Rattle.nv_command.specs.Form.{form_of}
 use Rattle.nv_command.proofs.FormatLaws.{format_back, format_fits}
-use Rattle.nv_command.proofs.IdentifyLaws.{controller_arrives, identify_fits, list_arrives}
-use Rattle.nv_command.proofs.IdentifyLaws.{namespace_arrives}
+use Rattle.nv_command.proofs.IdentifyLaws.{identify_fits}
 use Rattle.nv_command.proofs.LogLaws.{dwords_back, get_log_back, get_log_fits, log_arrives}
 use Rattle.nv_command.specs.Logs.{IsSendable, is_error_log, log_data, received, without_phases}
 use Rattle.nv_command.proofs.ManagementLaws.{attachment_back, attachment_fits, create_back}
-use Rattle.nv_command.proofs.ManagementLaws.{done_arrives, length_of_creation, management_fits}
-use Rattle.nv_command.proofs.ManagementLaws.{number_arrives}
+use Rattle.nv_command.proofs.ManagementLaws.{length_of_creation, management_fits}
 use Rattle.nv_command.specs.Reply.{FitsRecord, IsReplyTo, data_of, dword0_of, log_of, reply_in}
+use Rattle.nv_command.proofs.ReplyLaws.{length_of_page, page_arrives}
+use Rattle.nv_command.specs.Room.{page_bytes}
 use Rattle.nv_command.specs.Travel.{CommandsTravel, RepliesFit, RepliesTravel}
 use Rattle.nv_command.specs.declared.command.Command.{Command}
 use Rattle.nv_command.specs.declared.command.Command.TheVariants.{IdentifyController}
@@ -82,57 +83,40 @@ commands_travel (Attachment n false ids) cid fits low = record {
 commands_travel (Format n lbaf mset pi pil ses) cid fits low = record {
   fits = entry_with_fits _ n cid (format_fits lbaf mset pi pil ses) fits.nsid low;
   transfer = λ p q. refl;
-  command = λ p q. ap Ok (format_back n lbaf mset pi pil ses cid p q fits);
+  command = λ p q. ap Ok (format_back n lbaf mset pi pil ses fits cid p q);
   sent = refl;
 }
 commands_travel (GetFeature fid sel n cdw11) cid fits low = record {
   fits = entry_with_fits _ n cid (get_feature_fits fid sel cdw11 fits.cdw11) fits.nsid low;
   transfer = λ p q. refl;
-  command = λ p q. ap Ok (get_feature_back fid sel n cdw11 cid p q fits);
+  command = λ p q. ap Ok (get_feature_back fid sel n cdw11 fits cid p q);
   sent = refl;
 }
 commands_travel (SetFeature fid value save n) cid fits low = record {
   fits = entry_with_fits _ n cid (set_feature_fits fid value save fits.value) fits.nsid low;
   transfer = λ p q. refl;
-  command = λ p q. ap Ok (set_feature_back fid value save n cid p q fits);
+  command = λ p q. ap Ok (set_feature_back fid value save n fits cid p q);
   sent = refl;
 }
 commands_travel (GetLog lid n offset dwords) cid fits low = record {
   fits = entry_with_fits _ n cid (get_log_fits lid offset dwords fits.offset) fits.nsid low;
   transfer = λ p q. ap (λ d. Ok (log_data d)) (dwords_back lid dwords fits.some fits.dwords);
-  command = λ p q. ap Ok (get_log_back lid n offset dwords cid p q fits);
+  command = λ p q. ap Ok (get_log_back lid n offset dwords fits cid p q);
   sent = refl;
 }
 
+-- ---- replies
+
+-- of a command that gets no log the form tells how long the page of its reply is
 pub replies_fit : RepliesFit
-replies_fit IdentifyController r is fits = (controller_arrives r is fits).bytes
-replies_fit (IdentifyNamespace n) r is fits = (namespace_arrives r is fits).bytes
-replies_fit (AllocatedNamespace n) r is fits = (namespace_arrives r is fits).bytes
-replies_fit (ActiveList n) r is fits = (list_arrives r is fits).bytes
-replies_fit (AllocatedList n) r is fits = (list_arrives r is fits).bytes
-replies_fit (Create nsze ncap flbas dps nmic) r is fits = (number_arrives r is).bytes
-replies_fit (Delete n) r is fits = (done_arrives r is).bytes
-replies_fit (Attachment n detach ids) r is fits = (done_arrives r is).bytes
-replies_fit (Format n lbaf mset pi pil ses) r is fits = (done_arrives r is).bytes
-replies_fit (GetFeature fid sel n cdw11) r is fits = (number_arrives r is).bytes
-replies_fit (SetFeature fid value save n) r is fits = (done_arrives r is).bytes
 replies_fit (GetLog lid n offset dwords) r is fits = length-part (log_of r) offset (4 * dwords)
+replies_fit k r is fits = length_of_page r fits ∙ ap page_bytes is
 
 replies_arrive : (k : Command) (r : Reply) → IsReplyTo k r → FitsRecord r → IsSendable k
     → reply_in k (dword0_of r) (data_of k r) ≡ received k (without_phases r)
-replies_arrive IdentifyController r is fits sends = (controller_arrives r is fits).reply
-replies_arrive (IdentifyNamespace n) r is fits sends = (namespace_arrives r is fits).reply
-replies_arrive (AllocatedNamespace n) r is fits sends = (namespace_arrives r is fits).reply
-replies_arrive (ActiveList n) r is fits sends = (list_arrives r is fits).reply
-replies_arrive (AllocatedList n) r is fits sends = (list_arrives r is fits).reply
-replies_arrive (Create nsze ncap flbas dps nmic) r is fits sends = (number_arrives r is).reply
-replies_arrive (Delete n) r is fits sends = (done_arrives r is).reply
-replies_arrive (Attachment n detach ids) r is fits sends = (done_arrives r is).reply
-replies_arrive (Format n lbaf mset pi pil ses) r is fits sends = (done_arrives r is).reply
-replies_arrive (GetFeature fid sel n cdw11) r is fits sends = (number_arrives r is).reply
-replies_arrive (SetFeature fid value save n) r is fits sends = (done_arrives r is).reply
 replies_arrive (GetLog lid n offset dwords) r is fits sends =
     log_arrives (is_error_log lid) r offset dwords is fits sends
+replies_arrive k r is fits sends = page_arrives (form_of k).reply r is tt fits
 
 pub replies_travel : RepliesTravel
 replies_travel k r is fits sends =

@@ -3,10 +3,11 @@ use Rattle.std.specs.Prelude.{ℕ, ◌^◌, ◌<◌, List, []}
 use Rattle.nv_layout.specs.CtrlList.{bytes_of_ctrl_list}
 use Rattle.nv_layout.specs.IdNs.{bytes_of_id_ns}
 use Rattle.nv_command.specs.Features.{GetFeatureFits, SetFeatureFits}
+use Rattle.nv_command.specs.Form.{form_of}
 use Rattle.nv_command.specs.Format.{FormatFits}
-use Rattle.nv_command.specs.Identify.{IdentifyFits, identify_data}
-use Rattle.nv_command.specs.Logs.{GetLogFits, log_data}
-use Rattle.nv_command.specs.Management.{AttachmentFits, CreateFits, asked, page_from_host}
+use Rattle.nv_command.specs.Identify.{IdentifyFits}
+use Rattle.nv_command.specs.Logs.{GetLogFits}
+use Rattle.nv_command.specs.Management.{AttachmentFits, CreateFits, asked}
 use Rattle.nv_command.specs.declared.command.Command.{Command}
 use Rattle.nv_command.specs.declared.command.Command.TheVariants.{IdentifyController}
 use Rattle.nv_command.specs.declared.command.Command.TheVariants.{IdentifyNamespace}
@@ -17,51 +18,19 @@ use Rattle.nv_command.specs.declared.command.Command.TheVariants.{SetFeature, Ge
 use Rattle.nv_command.specs.declared.transfer.Transfer.{Transfer}
 use Rattle.nv_command.specs.declared.transfer.Transfer.TheVariants.{NoData, ToHost, FromHost}
 
--- the NSID of the entry, with which a refusal is booked; for a list it is the one before it, and 0
--- for the controller and for a namespace to create
+-- the NSID of the entry, with which a refusal is booked
 abbrev pub namespace_of : Command → ℕ
-namespace_of IdentifyController = 0
-namespace_of (IdentifyNamespace n) = n
-namespace_of (AllocatedNamespace n) = n
-namespace_of (ActiveList after) = after
-namespace_of (AllocatedList after) = after
-namespace_of (Create nsze ncap flbas dps nmic) = 0
-namespace_of (Delete n) = n
-namespace_of (Attachment n detach ids) = n
-namespace_of (Format n lbaf mset pi pil ses) = n
-namespace_of (GetFeature fid sel n cdw11) = n
-namespace_of (SetFeature fid value save n) = n
-namespace_of (GetLog lid n offset dwords) = n
+namespace_of k = (form_of k).nsid
 
 -- which way its data goes, and how many bytes
 abbrev pub transfer_by : Command → Transfer
-transfer_by IdentifyController = identify_data
-transfer_by (IdentifyNamespace n) = identify_data
-transfer_by (AllocatedNamespace n) = identify_data
-transfer_by (ActiveList after) = identify_data
-transfer_by (AllocatedList after) = identify_data
-transfer_by (Create nsze ncap flbas dps nmic) = page_from_host
-transfer_by (Delete n) = NoData
-transfer_by (Attachment n detach ids) = page_from_host
-transfer_by (Format n lbaf mset pi pil ses) = NoData
-transfer_by (GetFeature fid sel n cdw11) = NoData
-transfer_by (SetFeature fid value save n) = NoData
-transfer_by (GetLog lid n offset dwords) = log_data dwords
+transfer_by k = (form_of k).transfer
 
 -- the data that the host sends with it
 abbrev pub host_data_of : Command → List ℕ
-host_data_of IdentifyController = []
-host_data_of (IdentifyNamespace n) = []
-host_data_of (AllocatedNamespace n) = []
-host_data_of (ActiveList after) = []
-host_data_of (AllocatedList after) = []
 host_data_of (Create nsze ncap flbas dps nmic) = bytes_of_id_ns (asked nsze ncap flbas dps nmic)
-host_data_of (Delete n) = []
 host_data_of (Attachment n detach ids) = bytes_of_ctrl_list ids
-host_data_of (Format n lbaf mset pi pil ses) = []
-host_data_of (GetFeature fid sel n cdw11) = []
-host_data_of (SetFeature fid value save n) = []
-host_data_of (GetLog lid n offset dwords) = []
+host_data_of k = []
 
 -- each field fits its bits
 abbrev pub CommandFits : Command → Type 0

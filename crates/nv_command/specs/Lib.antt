@@ -6,6 +6,7 @@ pub mod Management
 pub mod Format
 pub mod Features
 pub mod Logs
+pub mod Form
 pub mod Command
 pub mod Entry
 pub mod Decoding

@@ -13,6 +13,8 @@ use Rattle.nv_layout.specs.declared.status.Status.{Status}
 use Rattle.nv_command.specs.declared.command.Command.{Command}
 use Rattle.nv_command.specs.declared.command.Command.TheVariants.{GetLog}
 use Rattle.nv_command.specs.declared.entry.Fields.{Fields}
+use Rattle.nv_command.specs.declared.form.ReplyKind.{ReplyKind}
+use Rattle.nv_command.specs.declared.form.ReplyKind.TheVariants as kind
 use Rattle.nv_command.specs.declared.reply.Reply.{Reply}
 use Rattle.nv_command.specs.declared.reply.Reply.TheVariants as reply
 use Rattle.nv_command.specs.declared.transfer.Transfer.{Transfer}
@@ -54,6 +56,10 @@ get_log_transfer e = log_data (dwords_asked e)
 abbrev pub is_error_log : ℕ → Bool
 is_error_log lid = lid == 0x01
 
+abbrev pub log_kind : Bool → ReplyKind
+log_kind true = kind.Errors
+log_kind false = kind.Smart
+
 -- an entry, whose phase tag says nothing of the error
 abbrev pub entry_received : List ℕ → ErrorEntry
 entry_received bytes = without_phase (error_entry_of_bytes bytes)
@@ -61,10 +67,13 @@ entry_received bytes = without_phase (error_entry_of_bytes bytes)
 abbrev pub entries_in : List ℕ → List ErrorEntry
 entries_in bytes = map entry_received (first_chunks 64 (length bytes / 64) bytes)
 
--- the log that the bytes hold
-abbrev pub log_in : Bool → List ℕ → Reply
-log_in true bytes = reply.Errors (entries_in bytes)
-log_in false bytes = reply.Smart (smart_of_bytes bytes)
+-- the error log that the bytes hold
+abbrev pub errors_in : List ℕ → Reply
+errors_in bytes = reply.Errors (entries_in bytes)
+
+-- the health log that the bytes hold
+abbrev pub smart_in : List ℕ → Reply
+smart_in bytes = reply.Smart (smart_of_bytes bytes)
 
 -- ---- what the host gets of a log
 

@@ -1,5 +1,5 @@
 -- Replies as dword 0 of a completion and data to the host.
-use Rattle.std.specs.Prelude.{◌≢◌, ℕ, ◌*◌, ◌^◌, ◌<◌, ◌≤◌, Bool, true, false, List, [], ◌++◌, drop}
+use Rattle.std.specs.Prelude.{◌≡◌, ◌≢◌, ℕ, ◌*◌, ◌^◌, ◌<◌, ◌≤◌, List, [], ◌++◌, drop}
 use Rattle.std.specs.Prelude.{length}
 use Rattle.std.specs.List.{AllByRecursion}
 use Rattle.nv_layout.specs.ErrorEntry.{ErrorEntryFits, bytes_of_entries}
@@ -9,15 +9,13 @@ use Rattle.nv_layout.specs.NsList.{bytes_of_ns_list}
 use Rattle.nv_layout.specs.Parts.{part}
 use Rattle.nv_layout.specs.Smart.{SmartFits, bytes_of_smart}
 use Rattle.nv_layout.specs.declared.error_entry.ErrorEntry.{ErrorEntry}
+use Rattle.nv_command.specs.Form.{form_of}
 use Rattle.nv_command.specs.Identify.{controller_in, list_in, namespace_in}
-use Rattle.nv_command.specs.Logs.{is_error_log, log_in}
+use Rattle.nv_command.specs.Logs.{errors_in, smart_in}
 use Rattle.nv_command.specs.declared.command.Command.{Command}
-use Rattle.nv_command.specs.declared.command.Command.TheVariants.{IdentifyController}
-use Rattle.nv_command.specs.declared.command.Command.TheVariants.{IdentifyNamespace}
-use Rattle.nv_command.specs.declared.command.Command.TheVariants.{AllocatedNamespace, ActiveList}
-use Rattle.nv_command.specs.declared.command.Command.TheVariants.{AllocatedList, Create, Delete}
-use Rattle.nv_command.specs.declared.command.Command.TheVariants.{Attachment, Format, GetFeature}
-use Rattle.nv_command.specs.declared.command.Command.TheVariants.{SetFeature, GetLog}
+use Rattle.nv_command.specs.declared.command.Command.TheVariants.{GetLog}
+use Rattle.nv_command.specs.declared.form.ReplyKind.{ReplyKind}
+use Rattle.nv_command.specs.declared.form.ReplyKind.TheVariants as kind
 use Rattle.nv_command.specs.declared.reply.Reply.{Reply}
 use Rattle.nv_command.specs.declared.reply.Reply.TheVariants as reply
 
@@ -47,61 +45,32 @@ data_of k r = page_of r
 abbrev pub with_data : List ℕ → List ℕ → List ℕ
 with_data bytes page = bytes ++ drop (length bytes) page
 
--- the reply to a command that a dword 0 and data carry
+-- the reply of a kind that a dword 0 and data carry
+abbrev pub reply_by : ReplyKind → ℕ → List ℕ → Reply
+reply_by kind.Controller dword0 bytes = controller_in bytes
+reply_by kind.Namespace dword0 bytes = namespace_in bytes
+reply_by kind.List dword0 bytes = list_in bytes
+reply_by kind.Number dword0 bytes = reply.Number dword0
+reply_by kind.Done dword0 bytes = reply.Done
+reply_by kind.Errors dword0 bytes = errors_in bytes
+reply_by kind.Smart dword0 bytes = smart_in bytes
+
+-- the reply to a command that they carry
 abbrev pub reply_in : Command → ℕ → List ℕ → Reply
-reply_in IdentifyController dword0 bytes = controller_in bytes
-reply_in (IdentifyNamespace n) dword0 bytes = namespace_in bytes
-reply_in (AllocatedNamespace n) dword0 bytes = namespace_in bytes
-reply_in (ActiveList after) dword0 bytes = list_in bytes
-reply_in (AllocatedList after) dword0 bytes = list_in bytes
-reply_in (Create nsze ncap flbas dps nmic) dword0 bytes = reply.Number dword0
-reply_in (Delete n) dword0 bytes = reply.Done
-reply_in (Attachment n detach ids) dword0 bytes = reply.Done
-reply_in (Format n lbaf mset pi pil ses) dword0 bytes = reply.Done
-reply_in (GetFeature fid sel n cdw11) dword0 bytes = reply.Number dword0
-reply_in (SetFeature fid value save n) dword0 bytes = reply.Done
-reply_in (GetLog lid n offset dwords) dword0 bytes = log_in (is_error_log lid) bytes
+reply_in k dword0 bytes = reply_by (form_of k).reply dword0 bytes
 
-abbrev pub IsController : Reply → Type 0
-IsController (reply.Controller r) = Unit {0}
-IsController r = ⊥
-
-abbrev pub IsNamespace : Reply → Type 0
-IsNamespace (reply.Namespace r) = Unit {0}
-IsNamespace r = ⊥
-
-abbrev pub IsList : Reply → Type 0
-IsList (reply.List ids) = Unit {0}
-IsList r = ⊥
-
-abbrev pub IsNumber : Reply → Type 0
-IsNumber (reply.Number n) = Unit {0}
-IsNumber r = ⊥
-
-abbrev pub IsDone : Reply → Type 0
-IsDone reply.Done = Unit {0}
-IsDone r = ⊥
-
--- the error log, or the health log
-abbrev pub IsLog : Bool → Reply → Type 0
-IsLog true (reply.Errors es) = Unit {0}
-IsLog false (reply.Smart r) = Unit {0}
-IsLog is_errors r = ⊥
+abbrev pub kind_of : Reply → ReplyKind
+kind_of (reply.Controller r) = kind.Controller
+kind_of (reply.Namespace r) = kind.Namespace
+kind_of (reply.List ids) = kind.List
+kind_of (reply.Number n) = kind.Number
+kind_of reply.Done = kind.Done
+kind_of (reply.Errors es) = kind.Errors
+kind_of (reply.Smart r) = kind.Smart
 
 -- a reply that the command can have
 abbrev pub IsReplyTo : Command → Reply → Type 0
-IsReplyTo IdentifyController r = IsController r
-IsReplyTo (IdentifyNamespace n) r = IsNamespace r
-IsReplyTo (AllocatedNamespace n) r = IsNamespace r
-IsReplyTo (ActiveList after) r = IsList r
-IsReplyTo (AllocatedList after) r = IsList r
-IsReplyTo (Create nsze ncap flbas dps nmic) r = IsNumber r
-IsReplyTo (Delete n) r = IsDone r
-IsReplyTo (Attachment n detach ids) r = IsDone r
-IsReplyTo (Format n lbaf mset pi pil ses) r = IsDone r
-IsReplyTo (GetFeature fid sel n cdw11) r = IsNumber r
-IsReplyTo (SetFeature fid value save n) r = IsDone r
-IsReplyTo (GetLog lid n offset dwords) r = IsLog (is_error_log lid) r
+IsReplyTo k r = kind_of r ≡ (form_of k).reply
 
 -- at most 1,024 NSIDs, none of them 0
 pub record IsNsidList (ids : List ℕ) : Type 0 where

@@ -4,12 +4,14 @@ ghost use Rattle.std.specs.Prelude.{◌≡◌, ◌<◌, ◌^◌};
 ghost use Rattle.nv_layout.specs.Sqe.{SqeFits};
 ghost use Rattle.nv_command.specs.Command.{CommandFits, host_data_of, namespace_of, transfer_by};
 ghost use Rattle.nv_command.specs.Decoding.{command_of};
-ghost use Rattle.nv_command.specs.Entry.{entry_of, fields_of};
+ghost use Rattle.nv_command.specs.Entry.{entry_of};
+ghost use Rattle.nv_command.specs.Form.{form_of};
 ghost use Rattle.nv_command.specs.Reply.{with_data};
 ghost use Rattle.nv_command.specs.Travel.{Arrives};
 
 use crate::dword_count::DwordCount;
-use crate::entry::{Fields, Opcode};
+use crate::entry::Opcode;
+use crate::form::{Form, ReplyKind};
 use crate::status_code::StatusCode;
 use crate::transfer::Transfer;
 use crate::{features, format, identify, logs, management};
@@ -97,82 +99,65 @@ fn nsid_fits(nsid: u32)
 {}
 
 impl<'a> Command<'a> {
+    /// How it travels: what its entry and its data are, and what it is answered.
+    pub(crate) fn form(&self) -> Form
+        ensures { result ≡ form_of self.now }
+    {
+        match self {
+            Command::IdentifyController => identify::form_by(0x01, 0, ReplyKind::Controller),
+            Command::IdentifyNamespace { nsid } => {
+                identify::form_by(0x00, *nsid, ReplyKind::Namespace)
+            }
+            Command::AllocatedNamespace { nsid } => {
+                identify::form_by(0x11, *nsid, ReplyKind::Namespace)
+            }
+            Command::ActiveList { after } => identify::form_by(0x02, *after, ReplyKind::List),
+            Command::AllocatedList { after } => identify::form_by(0x10, *after, ReplyKind::List),
+            Command::Create { .. } => management::create_form(),
+            Command::Delete { nsid } => management::delete_form(*nsid),
+            Command::Attachment { nsid, detach, .. } => management::attachment_form(*nsid, *detach),
+            Command::Format {
+                nsid,
+                lbaf,
+                mset,
+                pi,
+                pil,
+                ses,
+            } => format::form_by(*nsid, *lbaf, *mset, *pi, *pil, *ses),
+            Command::GetFeature {
+                fid,
+                sel,
+                nsid,
+                cdw11,
+            } => features::get_form(*fid, *sel, *nsid, *cdw11),
+            Command::SetFeature {
+                fid,
+                value,
+                save,
+                nsid,
+            } => features::set_form(*fid, *value, *save, *nsid),
+            Command::GetLog {
+                lid,
+                nsid,
+                offset,
+                dwords,
+            } => logs::form_by(*lid, *nsid, *offset, *dwords),
+        }
+    }
+
     /// The NSID of its entry, with which a refusal of it is booked. For a list it is the one that
     /// the list begins after; it is 0 for the controller and for a namespace to create.
     pub fn nsid(&self) -> u32
         ensures { result ≡ namespace_of self.now }
     {
-        match self {
-            Command::IdentifyController => 0,
-            Command::IdentifyNamespace { nsid } | Command::AllocatedNamespace { nsid } => *nsid,
-            Command::ActiveList { after } | Command::AllocatedList { after } => *after,
-            Command::Create { .. } => 0,
-            Command::Delete { nsid } | Command::Attachment { nsid, .. } => *nsid,
-            Command::Format { nsid, .. } => *nsid,
-            Command::GetFeature { nsid, .. } | Command::SetFeature { nsid, .. } => *nsid,
-            Command::GetLog { nsid, .. } => *nsid,
-        }
+        self.form().nsid
     }
 
     /// Its data, beside its entry and its completion.
     pub fn transfer(&self) -> Transfer
         ensures { result ≡ transfer_by self.now }
     {
-        match self {
-            Command::IdentifyController => identify::TRANSFER,
-            Command::IdentifyNamespace { nsid: _ } => identify::TRANSFER,
-            Command::AllocatedNamespace { nsid: _ } => identify::TRANSFER,
-            Command::ActiveList { after: _ } => identify::TRANSFER,
-            Command::AllocatedList { after: _ } => identify::TRANSFER,
-            Command::Create { .. } => management::TRANSFER,
-            Command::Delete { nsid: _ } => Transfer::NoData,
-            Command::Attachment { .. } => management::TRANSFER,
-            Command::Format { .. } => Transfer::NoData,
-            Command::GetFeature { .. } => Transfer::NoData,
-            Command::SetFeature { .. } => Transfer::NoData,
-            Command::GetLog { dwords, .. } => Transfer::ToHost(dwords.bytes()),
-        }
-    }
-
-    fn fields(&self) -> Fields
-        ensures { result ≡ fields_of self.now }
-    {
-        match self {
-            Command::IdentifyNamespace { nsid: _ } => identify::fields(0x00),
-            Command::IdentifyController => identify::fields(0x01),
-            Command::ActiveList { after: _ } => identify::fields(0x02),
-            Command::AllocatedList { after: _ } => identify::fields(0x10),
-            Command::AllocatedNamespace { nsid: _ } => identify::fields(0x11),
-            Command::Create { .. } => management::fields(0x0),
-            Command::Delete { nsid: _ } => management::fields(0x1),
-            Command::Attachment { detach, .. } => management::attachment_fields(*detach),
-            Command::Format {
-                lbaf,
-                mset,
-                pi,
-                pil,
-                ses,
-                ..
-            } => format::fields(*lbaf, *mset, *pi, *pil, *ses),
-            Command::GetFeature {
-                fid,
-                sel,
-                cdw11,
-                ..
-            } => features::get_fields(*fid, *sel, *cdw11),
-            Command::SetFeature {
-                fid,
-                value,
-                save,
-                ..
-            } => features::set_fields(*fid, *value, *save),
-            Command::GetLog {
-                lid,
-                offset,
-                dwords,
-                ..
-            } => logs::fields(*lid, *offset, *dwords),
-        }
+        self.form().transfer
     }
 
     /// Each field fits its bits, as its type says. A law: the call does nothing.
@@ -230,7 +215,8 @@ impl<'a> Command<'a> {
         ensures arrives { Arrives self.now cid }
     {
         self.fits();
-        self.fields().entry(self.nsid(), cid)
+        let form = self.form();
+        form.fields.entry(form.nsid, cid)
     }
 
     /// Writes the data that the host sends with it to the front of a page of 4,096 bytes; nothing

@@ -5,13 +5,16 @@ ghost use Rattle.std.specs.Prelude.{◌≡◌};
 ghost use Rattle.nv_command.specs.Features.{GetFeatureFits, SetFeatureFits, get_feature_command};
 ghost use Rattle.nv_command.specs.Features.{get_feature_fields, set_feature_command};
 ghost use Rattle.nv_command.specs.Features.{set_feature_fields};
+ghost use Rattle.nv_command.specs.Form.{form};
 
 use crate::command::Command;
 use crate::entry::Fields;
+use crate::form::{Form, ReplyKind};
+use crate::transfer::Transfer;
 use nv_layout::{Sqe, ThreeBits, bits_of, to_bits};
 
 /// The fields of a Get Features command.
-pub(crate) fn get_fields(fid: u8, sel: ThreeBits, cdw11: u32) -> Fields
+fn get_fields(fid: u8, sel: ThreeBits, cdw11: u32) -> Fields
     ensures { result ≡ get_feature_fields fid sel cdw11 }
 {
     Fields {
@@ -24,7 +27,7 @@ pub(crate) fn get_fields(fid: u8, sel: ThreeBits, cdw11: u32) -> Fields
 }
 
 /// The fields of a Set Features command.
-pub(crate) fn set_fields(fid: u8, value: u32, save: bool) -> Fields
+fn set_fields(fid: u8, value: u32, save: bool) -> Fields
     ensures { result ≡ set_feature_fields fid value save }
 {
     Fields {
@@ -33,6 +36,32 @@ pub(crate) fn set_fields(fid: u8, value: u32, save: bool) -> Fields
         cdw11: value,
         cdw12: 0,
         cdw13: 0,
+    }
+}
+
+/// How a Get Features command travels. It answers the value.
+pub(crate) fn get_form(fid: u8, sel: ThreeBits, nsid: u32, cdw11: u32) -> Form
+    ensures { result
+        ≡ form (get_feature_fields fid sel cdw11) nsid Transfer.NoData ReplyKind.Number }
+{
+    Form {
+        fields: get_fields(fid, sel, cdw11),
+        nsid,
+        transfer: Transfer::NoData,
+        reply: ReplyKind::Number,
+    }
+}
+
+/// How a Set Features command travels.
+pub(crate) fn set_form(fid: u8, value: u32, save: bool, nsid: u32) -> Form
+    ensures { result
+        ≡ form (set_feature_fields fid value save) nsid Transfer.NoData ReplyKind.Done }
+{
+    Form {
+        fields: set_fields(fid, value, save),
+        nsid,
+        transfer: Transfer::NoData,
+        reply: ReplyKind::Done,
     }
 }
 

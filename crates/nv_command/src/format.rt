@@ -1,14 +1,17 @@
 //! The command that formats a namespace. Section "Format NVM command".
 
 ghost use Rattle.std.specs.Prelude.{◌≡◌};
+ghost use Rattle.nv_command.specs.Form.{form};
 ghost use Rattle.nv_command.specs.Format.{FormatFits, format_command, format_fields};
 
 use crate::command::Command;
 use crate::entry::Fields;
+use crate::form::{Form, ReplyKind};
+use crate::transfer::Transfer;
 use nv_layout::{FourBits, Sqe, ThreeBits, bits_of, to_bits};
 
 /// The fields of a Format NVM command.
-pub(crate) fn fields(lbaf: FourBits, mset: bool, pi: ThreeBits, pil: bool, ses: ThreeBits) -> Fields
+fn fields(lbaf: FourBits, mset: bool, pi: ThreeBits, pil: bool, ses: ThreeBits) -> Fields
     ensures { result ≡ format_fields lbaf mset pi pil ses }
 {
     let cdw10 = to_bits(lbaf.get() as u32, 0, 4)
@@ -22,6 +25,26 @@ pub(crate) fn fields(lbaf: FourBits, mset: bool, pi: ThreeBits, pil: bool, ses: 
         cdw11: 0,
         cdw12: 0,
         cdw13: 0,
+    }
+}
+
+/// How a Format NVM command travels.
+pub(crate) fn form_by(
+    nsid: u32,
+    lbaf: FourBits,
+    mset: bool,
+    pi: ThreeBits,
+    pil: bool,
+    ses: ThreeBits,
+) -> Form
+    ensures { result
+        ≡ form (format_fields lbaf mset pi pil ses) nsid Transfer.NoData ReplyKind.Done }
+{
+    Form {
+        fields: fields(lbaf, mset, pi, pil, ses),
+        nsid,
+        transfer: Transfer::NoData,
+        reply: ReplyKind::Done,
     }
 }
 

@@ -1,10 +1,13 @@
 //! The Identify commands. Section "Identify command".
 
 ghost use Rattle.std.specs.Prelude.{◌≡◌};
-ghost use Rattle.nv_command.specs.Identify.{identify_command, identify_fields, identify_transfer};
+ghost use Rattle.nv_command.specs.Form.{form};
+ghost use Rattle.nv_command.specs.Identify.{identify_command, identify_data, identify_fields};
+ghost use Rattle.nv_command.specs.Identify.{identify_transfer};
 
 use crate::command::Command;
 use crate::entry::Fields;
+use crate::form::{Form, ReplyKind};
 use crate::status_code::StatusCode;
 use crate::transfer::Transfer;
 use nv_layout::Sqe;
@@ -13,7 +16,7 @@ use nv_layout::Sqe;
 pub const TRANSFER: Transfer = Transfer::ToHost(4096);
 
 /// The fields of an Identify command of this Controller or Namespace Structure (CNS).
-pub(crate) fn fields(cns: u8) -> Fields
+fn fields(cns: u8) -> Fields
     ensures { result ≡ identify_fields cns }
 {
     Fields {
@@ -22,6 +25,18 @@ pub(crate) fn fields(cns: u8) -> Fields
         cdw11: 0,
         cdw12: 0,
         cdw13: 0,
+    }
+}
+
+/// How an Identify command of this CNS travels, which is answered so.
+pub(crate) fn form_by(cns: u8, nsid: u32, reply: ReplyKind) -> Form
+    ensures { result ≡ form (identify_fields cns) nsid identify_data reply }
+{
+    Form {
+        fields: fields(cns),
+        nsid,
+        transfer: TRANSFER,
+        reply,
     }
 }
 

@@ -11,6 +11,7 @@ mod command;
 mod dword_count;
 mod entry;
 mod features;
+mod form;
 mod format;
 mod identify;
 mod logs;

@@ -1,12 +1,14 @@
 //! The command that reads logs. Section "Get Log Page command".
 
 ghost use Rattle.std.specs.Prelude.{◌≡◌};
+ghost use Rattle.nv_command.specs.Form.{form};
 ghost use Rattle.nv_command.specs.Logs.{GetLogFits, get_log_command, get_log_fields};
-ghost use Rattle.nv_command.specs.Logs.{get_log_transfer};
+ghost use Rattle.nv_command.specs.Logs.{get_log_transfer, is_error_log, log_data, log_kind};
 
 use crate::command::Command;
 use crate::dword_count::DwordCount;
 use crate::entry::Fields;
+use crate::form::{Form, ReplyKind};
 use crate::transfer::Transfer;
 use nv_layout::{Sqe, bits_of, to_bits};
 
@@ -17,7 +19,7 @@ pub const ERROR_INFORMATION: u8 = 0x01;
 pub const HEALTH: u8 = 0x02;
 
 /// The fields of a Get Log Page command.
-pub(crate) fn fields(lid: u8, offset: u64, dwords: DwordCount) -> Fields
+fn fields(lid: u8, offset: u64, dwords: DwordCount) -> Fields
     ensures { result ≡ get_log_fields lid offset dwords }
 {
     let numd = dwords.zeros_based();
@@ -27,6 +29,30 @@ pub(crate) fn fields(lid: u8, offset: u64, dwords: DwordCount) -> Fields
         cdw11: bits_of(numd, 16, 16),
         cdw12: (offset % 0x1_0000_0000) as u32,
         cdw13: (offset / 0x1_0000_0000) as u32,
+    }
+}
+
+/// What a log is answered as.
+fn kind(lid: u8) -> ReplyKind
+    ensures { result ≡ log_kind (is_error_log lid) }
+{
+    if lid == ERROR_INFORMATION {
+        ReplyKind::Errors
+    } else {
+        ReplyKind::Smart
+    }
+}
+
+/// How a Get Log Page command travels.
+pub(crate) fn form_by(lid: u8, nsid: u32, offset: u64, dwords: DwordCount) -> Form
+    ensures { result ≡ form (get_log_fields lid offset dwords) nsid (log_data dwords)
+        (log_kind (is_error_log lid)) }
+{
+    Form {
+        fields: fields(lid, offset, dwords),
+        nsid,
+        transfer: Transfer::ToHost(dwords.bytes()),
+        reply: kind(lid),
     }
 }
 

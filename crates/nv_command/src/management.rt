@@ -2,14 +2,17 @@
 //! command" and "Namespace Attachment command".
 
 ghost use Rattle.std.specs.Prelude.{◌≡◌, Err, MatchResult, Ok};
+ghost use Rattle.nv_command.specs.Form.{form};
 ghost use Rattle.nv_command.specs.Management.{AttachmentFits, CreateFits, asked};
 ghost use Rattle.nv_command.specs.Management.{attachment_command, attachment_fields};
 ghost use Rattle.nv_command.specs.Management.{attachment_transfer};
 ghost use Rattle.nv_command.specs.Management.{is_detach, management_command, management_fields};
-ghost use Rattle.nv_command.specs.Management.{management_transfer, page_of, select_of};
+ghost use Rattle.nv_command.specs.Management.{management_transfer, page_from_host, page_of};
+ghost use Rattle.nv_command.specs.Management.{select_of};
 
 use crate::command::Command;
 use crate::entry::Fields;
+use crate::form::{Form, ReplyKind};
 use crate::status_code::StatusCode;
 use crate::transfer::Transfer;
 use nv_layout::{ControllerIds, CtrlList, IdNs, Lbaf, Sqe};
@@ -18,7 +21,7 @@ use nv_layout::{ControllerIds, CtrlList, IdNs, Lbaf, Sqe};
 pub const TRANSFER: Transfer = Transfer::FromHost(4096);
 
 /// The fields of a Namespace Management command with this Select.
-pub(crate) fn fields(select: u8) -> Fields
+fn fields(select: u8) -> Fields
     ensures { result ≡ management_fields select }
 {
     Fields {
@@ -31,7 +34,7 @@ pub(crate) fn fields(select: u8) -> Fields
 }
 
 /// The fields of a Namespace Attachment command.
-pub(crate) fn attachment_fields(detach: bool) -> Fields
+fn attachment_fields(detach: bool) -> Fields
     ensures { result ≡ attachment_fields detach }
 {
     Fields {
@@ -40,6 +43,42 @@ pub(crate) fn attachment_fields(detach: bool) -> Fields
         cdw11: 0,
         cdw12: 0,
         cdw13: 0,
+    }
+}
+
+/// How a command travels that creates a namespace. It answers the NSID.
+pub(crate) fn create_form() -> Form
+    ensures { result ≡ form (management_fields 0x0) 0 page_from_host ReplyKind.Number }
+{
+    Form {
+        fields: fields(0x0),
+        nsid: 0,
+        transfer: TRANSFER,
+        reply: ReplyKind::Number,
+    }
+}
+
+/// How a command travels that deletes a namespace.
+pub(crate) fn delete_form(nsid: u32) -> Form
+    ensures { result ≡ form (management_fields 0x1) nsid Transfer.NoData ReplyKind.Done }
+{
+    Form {
+        fields: fields(0x1),
+        nsid,
+        transfer: Transfer::NoData,
+        reply: ReplyKind::Done,
+    }
+}
+
+/// How a command travels that attaches or detaches.
+pub(crate) fn attachment_form(nsid: u32, detach: bool) -> Form
+    ensures { result ≡ form (attachment_fields detach) nsid page_from_host ReplyKind.Done }
+{
+    Form {
+        fields: attachment_fields(detach),
+        nsid,
+        transfer: TRANSFER,
+        reply: ReplyKind::Done,
     }
 }
 

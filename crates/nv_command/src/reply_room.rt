@@ -5,11 +5,12 @@ ghost use Rattle.std.specs.Simd.{first_chunks};
 ghost use Rattle.nv_layout.specs.declared.error_entry.ErrorEntry.{ErrorEntry};
 ghost use Rattle.nv_command.specs.Command.{bytes_to_host, transfer_by};
 ghost use Rattle.nv_command.specs.Logs.{IsSendable, entry_received};
-ghost use Rattle.nv_command.specs.Reply.{reply_in};
+ghost use Rattle.nv_command.specs.Reply.{reply_by, reply_in};
+ghost use Rattle.nv_command.specs.Room.{IsSizeOf};
 ghost use Rattle.nv_command.specs.declared.reply.Reply.TheVariants.{Done};
 
 use crate::command::Command;
-use crate::logs::ERROR_INFORMATION;
+use crate::form::ReplyKind;
 use crate::reply::Reply;
 use nv_layout::{ErrorEntries, ErrorEntry, IdCtrl, IdNs, NsList, Smart};
 use std::marker::Model;
@@ -100,30 +101,35 @@ impl ReplyRoom {
 
     /// Reads the reply to a command in place of what it held, from dword 0 of its completion and
     /// the data to the host. What the command has no use for is ignored.
+    #[tactic(auto, using(crate::proofs::FormLaws::size_of_reply))]
     pub fn read(&mut self, command: &Command, dword0: u32, bytes: &[u8])
         requires sendable { IsSendable command.now }
         requires size { length bytes.now ≡ bytes_to_host (transfer_by command.now) }
         ensures { self.new ≡ reply_in command.now dword0 bytes.now }
     {
-        self.held = match command {
-            Command::IdentifyController => Held::Controller(IdCtrl::get(part_of(bytes))),
-            Command::IdentifyNamespace { nsid: _ } => Held::Namespace(IdNs::get(part_of(bytes))),
-            Command::AllocatedNamespace { nsid: _ } => Held::Namespace(IdNs::get(part_of(bytes))),
-            Command::ActiveList { after: _ } | Command::AllocatedList { after: _ } => {
+        self.read_kind(command.form().reply, dword0, bytes);
+    }
+
+    /// Reads a reply of a kind in place of what it held.
+    fn read_kind(&mut self, kind: ReplyKind, dword0: u32, bytes: &[u8])
+        requires { IsSizeOf kind (length bytes.now) }
+        ensures { self.new ≡ reply_by kind dword0 bytes.now }
+    {
+        self.held = match kind {
+            ReplyKind::Controller => Held::Controller(IdCtrl::get(part_of(bytes))),
+            ReplyKind::Namespace => Held::Namespace(IdNs::get(part_of(bytes))),
+            ReplyKind::List => {
                 self.list.read(part_of(bytes));
                 Held::List
             }
-            Command::Create { .. } | Command::GetFeature { .. } => Held::Number(dword0),
-            Command::Delete { nsid: _ } => Held::Done,
-            Command::Attachment { .. } => Held::Done,
-            Command::Format { .. } => Held::Done,
-            Command::SetFeature { .. } => Held::Done,
-            Command::GetLog { lid, .. } if *lid == ERROR_INFORMATION => {
+            ReplyKind::Number => Held::Number(dword0),
+            ReplyKind::Done => Held::Done,
+            ReplyKind::Errors => {
                 let (chunks, _) = bytes.as_chunks();
                 read_entries(chunks, &mut self.entries);
                 Held::Errors(chunks.len())
             }
-            Command::GetLog { .. } => Held::Smart(Smart::get(part_of(bytes))),
+            ReplyKind::Smart => Held::Smart(Smart::get(part_of(bytes))),
         };
     }
 }

@@ -1,13 +1,13 @@
 -- The data of replies.
-use Rattle.std.proofs.Common.{◌≡◌, ◌∙◌, ℕ, ◌≤◌, arith, refl, subst, List, [], ◌∷◌, length}
+use Rattle.std.proofs.Common.{◌≡◌, ◌∙◌, ℕ, ◌≤◌, ap, arith, refl, sym, true, List, [], ◌∷◌, length}
 use Rattle.nv_layout.proofs.LogLaws.{length-bytes_of_smart, length-entries}
 use Rattle.nv_prp.specs.Place.{written_at}
 use Rattle.nv_command.specs.Command.{bytes_to_host, transfer_by}
 use Rattle.nv_command.specs.Reply.{FitsRecord, IsReplyTo, data_of, log_of, page_of}
+use Rattle.nv_command.proofs.FormLaws.{a_page, at_most_a_page}
 use Rattle.nv_command.proofs.TravelLaws.{replies_fit}
 use Rattle.nv_command.specs.declared.command.Command.{Command}
-use Rattle.nv_command.specs.declared.command.Command.TheVariants.{IdentifyController, IdentifyNamespace, AllocatedNamespace, ActiveList, AllocatedList, Create, Delete}
-use Rattle.nv_command.specs.declared.command.Command.TheVariants.{Attachment, Format, GetFeature, SetFeature, GetLog}
+use Rattle.nv_command.specs.declared.command.Command.TheVariants.{GetLog}
 use Rattle.nv_command.specs.declared.reply.Reply.{Reply}
 use Rattle.nv_command.specs.declared.reply.Reply.TheVariants as reply
 use Rattle.nv_command.specs.declared.transfer.Transfer.{Transfer}
@@ -22,39 +22,20 @@ pub page_data : (k : Command) (r : Reply) → IsNoLog k → data_of k r ≡ page
 page_data (GetLog lid n offset dwords) r other = absurd (other lid n offset dwords refl)
 page_data k r other = refl
 
-abbrev IsPage : Transfer → Type 0
-IsPage NoData = Unit {0}
-IsPage (ToHost n) = n ≡ 4096
-IsPage (FromHost n) = Unit {0}
-
-is_page : (k : Command) → IsNoLog k → IsPage (transfer_by k)
-is_page IdentifyController other = refl
-is_page (IdentifyNamespace n) other = refl
-is_page (AllocatedNamespace n) other = refl
-is_page (ActiveList after) other = refl
-is_page (AllocatedList after) other = refl
-is_page (Create nsze ncap flbas dps nmic) other = tt
-is_page (Delete n) other = tt
-is_page (Attachment n detach ids) other = tt
-is_page (Format n lbaf mset pi pil ses) other = tt
-is_page (GetFeature fid sel n cdw11) other = tt
-is_page (SetFeature fid value save n) other = tt
+is_page : (k : Command) → IsNoLog k → at_most_a_page (transfer_by k) ≡ true
 is_page (GetLog lid n offset dwords) other = absurd (other lid n offset dwords refl)
+is_page k other = refl
 
 -- what goes to the host and is no log is a page
 pub page_size : (k : Command) (len : ℕ) → IsNoLog k → transfer_by k ≡ ToHost len → len ≡ 4096
-page_size k len other is = subst IsPage is (is_page k other)
+page_size k len other is = a_page len (ap at_most_a_page (sym is) ∙ is_page k other)
 
 -- ---- logs
 
 pub log_length : (r : Reply) → FitsRecord r → length (log_of r) ≤ 16384
 log_length (reply.Errors es) fits = omega (arith, length-entries es, fits.count)
 log_length (reply.Smart r) fits = omega (arith, length-bytes_of_smart r fits.sensor_count)
-log_length (reply.Controller r) fits = omega arith
-log_length (reply.Namespace r) fits = omega arith
-log_length (reply.List ids) fits = omega arith
-log_length (reply.Number n) fits = omega arith
-log_length reply.Done fits = omega arith
+log_length r fits = omega arith
 
 -- ---- nothing
 

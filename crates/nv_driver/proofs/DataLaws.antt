@@ -5,10 +5,10 @@ use Rattle.nv_prp.proofs.PlaceLaws.{read_written}
 use Rattle.nv_command.specs.Command.{CommandFits, bytes_from_host, bytes_to_host, host_data_of, transfer_by}
 use Rattle.nv_command.specs.Logs.{IsSendable, IsWhole, is_error_log}
 use Rattle.nv_command.specs.Reply.{with_data}
+use Rattle.nv_command.proofs.FormLaws.{a_page, at_most_a_page}
 use Rattle.nv_command.proofs.TravelLaws.{commands_travel}
 use Rattle.nv_command.specs.declared.command.Command.{Command}
-use Rattle.nv_command.specs.declared.command.Command.TheVariants.{IdentifyController, IdentifyNamespace, AllocatedNamespace, ActiveList, AllocatedList, Create, Delete, Attachment}
-use Rattle.nv_command.specs.declared.command.Command.TheVariants.{Format, GetFeature, SetFeature, GetLog}
+use Rattle.nv_command.specs.declared.command.Command.TheVariants.{GetLog}
 use Rattle.nv_command.specs.declared.transfer.Transfer.{Transfer}
 use Rattle.nv_command.specs.declared.transfer.Transfer.TheVariants.{NoData, ToHost, FromHost}
 use Rattle.nv_bus.specs.Call.{length_of, sent_from}
@@ -25,19 +25,15 @@ log_shape : (errors : Bool) (offset dwords : ℕ) → IsWhole errors offset dwor
 log_shape true offset dwords whole = let e = whole.1 in (omega (arith, e.whole, e.some), omega (arith, e.whole, e.few))
 log_shape false offset dwords whole = (omega (arith, whole.1), omega (arith, whole.1))
 
+by_page : (m : Transfer) → at_most_a_page m ≡ true → HasShape m
+by_page NoData is = tt
+by_page (ToHost n) is = let page = a_page n is in (omega (arith, page), omega (arith, page))
+by_page (FromHost n) is = a_page n is
+
+-- by its form there is at most a page, but for logs
 pub shape : (k : Command) → IsSendable k → HasShape (transfer_by k)
-shape IdentifyController sends = (lit< tt, lit≤ tt)
-shape (IdentifyNamespace n) sends = (lit< tt, lit≤ tt)
-shape (AllocatedNamespace n) sends = (lit< tt, lit≤ tt)
-shape (ActiveList after) sends = (lit< tt, lit≤ tt)
-shape (AllocatedList after) sends = (lit< tt, lit≤ tt)
-shape (Create nsze ncap flbas dps nmic) sends = refl
-shape (Delete n) sends = tt
-shape (Attachment n detach ids) sends = refl
-shape (Format n lbaf mset pi pil ses) sends = tt
-shape (GetFeature fid sel n cdw11) sends = tt
-shape (SetFeature fid value save n) sends = tt
 shape (GetLog lid n offset dwords) sends = log_shape (is_error_log lid) offset dwords sends
+shape k sends = by_page (transfer_by k) refl
 
 -- ---- in general
 

@@ -11,6 +11,7 @@ pub mod ManagementLaws
 pub mod AttachmentLaws
 pub mod FormatLaws
 pub mod LogLaws
+pub mod MeaningLaws
 pub mod StepLaws
 pub mod ResetLaws
 pub mod IdentifyLaws

@@ -15,31 +15,14 @@ use Rattle.nv_model.specs.Row.{first_refusal}
 use Rattle.nv_model.specs.declared.row.Row.{Row}
 use Rattle.nv_command.specs.Command.{namespace_of}
 use Rattle.nv_command.specs.Refusal.{IsRefusal}
-use Rattle.nv_command.proofs.RefusalLaws.{is_refusal-refusal_by}
 use Rattle.nv_model.specs.WellFormed.{IsWellFormed}
 use Rattle.nv_command.specs.declared.command.Command.{Command}
-use Rattle.nv_command.specs.declared.command.Command.TheVariants.{IdentifyController}
-use Rattle.nv_command.specs.declared.command.Command.TheVariants.{IdentifyNamespace}
-use Rattle.nv_command.specs.declared.command.Command.TheVariants.{AllocatedNamespace, ActiveList}
-use Rattle.nv_command.specs.declared.command.Command.TheVariants.{AllocatedList, Create, Delete}
-use Rattle.nv_command.specs.declared.command.Command.TheVariants.{Attachment, Format, GetFeature}
-use Rattle.nv_command.specs.declared.command.Command.TheVariants.{SetFeature, GetLog}
-use Rattle.nv_command.specs.declared.status_code.StatusCode.TheVariants.{InvalidNamespaceOrFormat}
 use Rattle.nv_command.specs.declared.refusal.Refusal.{Refusal}
 use Rattle.nv_layout.specs.ErrorEntry.{ErrorEntryFits}
 use Rattle.nv_layout.specs.declared.error_entry.ErrorEntry.{ErrorEntry}
-use Rattle.nv_model.proofs.AttachmentLaws.{attachment_controllers, attachment_keeps}
-use Rattle.nv_model.proofs.AttachmentLaws.{attachment_rows_fit}
-use Rattle.nv_model.specs.Management.{wanted}
-use Rattle.nv_model.specs.Format.{new_format}
-use Rattle.nv_model.proofs.FormatLaws.{format_keeps, format_rows_fit}
-use Rattle.nv_model.proofs.LogLaws.{log_rows_fit}
-use Rattle.nv_model.proofs.ManagementLaws.{create_keeps, create_rows_fit, created_controllers}
-use Rattle.nv_model.proofs.ManagementLaws.{delete_keeps, delete_rows_fit, deleted_controllers}
 use Rattle.nv_model.proofs.ChangedAtLaws.{length-changed_at}
 use Rattle.nv_model.proofs.KeepingLaws.{Keeps, keeps}
-use Rattle.nv_model.proofs.SetFeatureLaws.{feature_controllers, feature_keeps}
-use Rattle.nv_model.proofs.SetFeatureLaws.{get_feature_rows_fit, set_feature_rows_fit}
+use Rattle.nv_model.proofs.MeaningLaws.{sound}
 
 next_count-le : (n : ℕ) → next_count n ≤ GREATEST_COUNT
 next_count-le n = omega arith
@@ -121,19 +104,7 @@ refused_keeps s c nsid cid r a b fits w = with_command_keeps (refused s c nsid c
 
 pub rows_fit : (s : State) (c : ℕ) (k : Command) → AllByRecursion (λ row. IsRefusal row.refusal)
     (rows_of s c k)
-rows_fit s c IdentifyController = tt
-rows_fit s c (IdentifyNamespace n) = (is_refusal-refusal_by InvalidNamespaceOrFormat, tt)
-rows_fit s c (AllocatedNamespace n) = (is_refusal-refusal_by InvalidNamespaceOrFormat, tt)
-rows_fit s c (ActiveList after) = (is_refusal-refusal_by InvalidNamespaceOrFormat, tt)
-rows_fit s c (AllocatedList after) = (is_refusal-refusal_by InvalidNamespaceOrFormat, tt)
-rows_fit s c (Create nsze ncap flbas dps nmic) = create_rows_fit s (wanted nsze ncap flbas dps nmic)
-rows_fit s c (Delete n) = delete_rows_fit s n
-rows_fit s c (Attachment n detach ids) = attachment_rows_fit s n detach ids
-rows_fit s c (Format n lbaf mset pi pil ses) =
-    format_rows_fit s c n (new_format lbaf mset pi pil ses)
-rows_fit s c (GetFeature fid sel n cdw11) = get_feature_rows_fit s c fid sel n cdw11
-rows_fit s c (SetFeature fid value save n) = set_feature_rows_fit s c fid value save n
-rows_fit s c (GetLog lid n offset dwords) = log_rows_fit s c lid n offset
+rows_fit s c k = (sound k).rows s c
 
 chosen_fits : (b : Bool) (first r : Refusal) (later : Option Refusal) → IsRefusal first
     → (later ≡ Some r → IsRefusal r)
@@ -154,37 +125,11 @@ refusal_fits s c k r e = first_fits (rows_of s c k) r (rows_fit s c k) e
 -- what an accepted command changes keeps well-formedness, and makes and takes no controller
 pub effect_keeps : (s : State) (c : ℕ) (k : Command) → refusal_of s c k ≡ None → IsWellFormed s
     → IsWellFormed (effect_of s c k)
-effect_keeps s c IdentifyController accepted w = w
-effect_keeps s c (IdentifyNamespace n) accepted w = w
-effect_keeps s c (AllocatedNamespace n) accepted w = w
-effect_keeps s c (ActiveList after) accepted w = w
-effect_keeps s c (AllocatedList after) accepted w = w
-effect_keeps s c (Create nsze ncap flbas dps nmic) accepted w =
-    create_keeps s (wanted nsze ncap flbas dps nmic) w accepted
-effect_keeps s c (Delete n) accepted w = delete_keeps s n w
-effect_keeps s c (Attachment n detach ids) accepted w = attachment_keeps s n detach ids w accepted
-effect_keeps s c (Format n lbaf mset pi pil ses) accepted w =
-    format_keeps s c n (new_format lbaf mset pi pil ses) w accepted
-effect_keeps s c (GetFeature fid sel n cdw11) accepted w = w
-effect_keeps s c (SetFeature fid value save n) accepted w =
-    feature_keeps s c fid value save n w accepted
-effect_keeps s c (GetLog lid n offset dwords) accepted w = w
+effect_keeps s c k accepted w = (sound k).keeps s c accepted w
 
 pub effect_controllers : (s : State) (c : ℕ) (k : Command) → length (effect_of s c k).controllers
     ≡ length s.controllers
-effect_controllers s c IdentifyController = refl
-effect_controllers s c (IdentifyNamespace n) = refl
-effect_controllers s c (AllocatedNamespace n) = refl
-effect_controllers s c (ActiveList after) = refl
-effect_controllers s c (AllocatedList after) = refl
-effect_controllers s c (Create nsze ncap flbas dps nmic) =
-    created_controllers s (wanted nsze ncap flbas dps nmic)
-effect_controllers s c (Delete n) = deleted_controllers s n
-effect_controllers s c (Attachment n detach ids) = attachment_controllers s n detach ids
-effect_controllers s c (Format n lbaf mset pi pil ses) = refl
-effect_controllers s c (GetFeature fid sel n cdw11) = refl
-effect_controllers s c (SetFeature fid value save n) = feature_controllers s c fid value save n
-effect_controllers s c (GetLog lid n offset dwords) = refl
+effect_controllers s c k = (sound k).controllers s c
 
 step_by_keeps : (o : Option Refusal) (s : State) (c : ℕ) (k : Command) (cid : ℕ) → refusal_of s c k
     ≡ o → ((r : Refusal) → o ≡ Some r → IsRefusal r) → namespace_of k < 2 ^ 32 → cid < 2 ^ 16

@@ -20,6 +20,7 @@ pub mod Management
 pub mod Format
 pub mod Features
 pub mod Attachment
+pub mod Meaning
 pub mod Refusal
 pub mod Reply
 pub mod Effect

@@ -6,7 +6,7 @@ use Rattle.std.specs.Option.{option_map_or}
 use Rattle.std.proofs.lemmas.Bool.Decides.{nat_tests}
 use Rattle.nv_command.specs.Logs.{answer_received}
 use Rattle.nv_command.specs.declared.command.Command.{Command}
-use Rattle.nv_command.specs.declared.command.Command.TheVariants.{IdentifyController, IdentifyNamespace, AllocatedNamespace, ActiveList, AllocatedList, Create, Delete, Attachment, Format, GetFeature, SetFeature, GetLog}
+use Rattle.nv_command.specs.declared.command.Command.TheVariants.{IdentifyController, IdentifyNamespace, ActiveList}
 use Rattle.nv_command.specs.declared.command.TheConstants.{BROADCAST_NSID}
 use Rattle.nv_command.specs.declared.status_code.StatusCode.TheVariants.{InvalidNamespaceOrFormat}
 use Rattle.nv_model.specs.Identify.{list_rows}
@@ -50,30 +50,14 @@ not_refused s c IdentifyController h = refl
 not_refused s c (ActiveList after) h = ap (λ n. first_refusal (list_rows n)) h
 not_refused s c (IdentifyNamespace n) h =
     ap (λ b. first_refusal (row (not (b || n == BROADCAST_NSID)) InvalidNamespaceOrFormat ∷ [])) (valid n s.nn h.0 h.1)
-not_refused s c (AllocatedNamespace n) h = absurd h
-not_refused s c (AllocatedList after) h = absurd h
-not_refused s c (Create nsze ncap flbas dps nmic) h = absurd h
-not_refused s c (Delete n) h = absurd h
-not_refused s c (Attachment n detach ids) h = absurd h
-not_refused s c (Format n lbaf mset pi pil ses) h = absurd h
-not_refused s c (GetFeature fid sel n cdw11) h = absurd h
-not_refused s c (SetFeature fid value save n) h = absurd h
-not_refused s c (GetLog lid n offset dwords) h = absurd h
+not_refused s c k h = absurd h
 
 -- what it does
 by_none : (s : State) (c : ℕ) (k : Command) (serial : ℕ) → IsLookup s.nn k → step_by None s c k serial ≡ record { answer = Ok (reply_of s c k); state = with_command s c }
 by_none s c IdentifyController serial h = refl
 by_none s c (ActiveList after) serial h = refl
 by_none s c (IdentifyNamespace n) serial h = refl
-by_none s c (AllocatedNamespace n) serial h = absurd h
-by_none s c (AllocatedList after) serial h = absurd h
-by_none s c (Create nsze ncap flbas dps nmic) serial h = absurd h
-by_none s c (Delete n) serial h = absurd h
-by_none s c (Attachment n detach ids) serial h = absurd h
-by_none s c (Format n lbaf mset pi pil ses) serial h = absurd h
-by_none s c (GetFeature fid sel n cdw11) serial h = absurd h
-by_none s c (SetFeature fid value save n) serial h = absurd h
-by_none s c (GetLog lid n offset dwords) serial h = absurd h
+by_none s c k serial h = absurd h
 
 pub looked : (s : State) (c : ℕ) (k : Command) (serial : ℕ) → IsLookup s.nn k → step s c k serial ≡ record { answer = Ok (reply_of s c k); state = with_command s c }
 looked s c k serial h = ap (λ r. step_by r s c k serial) (not_refused s c k h) ∙ by_none s c k serial h
@@ -134,15 +118,7 @@ received_same : (k : Command) (nn : ℕ) (s : State) (c : ℕ) → IsLookup nn k
 received_same IdentifyController nn s c h = refl
 received_same (ActiveList after) nn s c h = refl
 received_same (IdentifyNamespace n) nn s c h = refl
-received_same (AllocatedNamespace n) nn s c h = absurd h
-received_same (AllocatedList after) nn s c h = absurd h
-received_same (Create nsze ncap flbas dps nmic) nn s c h = absurd h
-received_same (Delete n) nn s c h = absurd h
-received_same (Attachment n detach ids) nn s c h = absurd h
-received_same (Format n lbaf mset pi pil ses) nn s c h = absurd h
-received_same (GetFeature fid sel n cdw11) nn s c h = absurd h
-received_same (SetFeature fid value save n) nn s c h = absurd h
-received_same (GetLog lid n offset dwords) nn s c h = absurd h
+received_same k nn s c h = absurd h
 
 -- the reply to an act
 reply_to : State → ℕ → Act → Reply

@@ -1,3 +1,4 @@
+pub mod AnswerLaws
 pub mod Filling
 pub mod WithController
 pub mod Capacities

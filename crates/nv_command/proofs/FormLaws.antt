@@ -1,0 +1,34 @@
+-- What is known of data by the form of a command.
+use Rattle.std.proofs.Common.{◌≡◌, ℕ, ◌==◌, Bool, true, arith, refl, subst, sym}
+use Rattle.std.proofs.lemmas.Bool.Decides.{nat_tests}
+use Rattle.nv_command.specs.Command.{bytes_to_host, transfer_by}
+use Rattle.nv_command.specs.Form.{form_of}
+use Rattle.nv_command.proofs.LogLaws.{log_size}
+use Rattle.nv_command.specs.Logs.{IsSendable, is_error_log}
+use Rattle.nv_command.specs.Room.{IsSizeOf}
+use Rattle.nv_command.specs.declared.command.Command.{Command}
+use Rattle.nv_command.specs.declared.command.Command.TheVariants.{GetLog}
+use Rattle.nv_command.specs.declared.form.Form.{Form}
+use Rattle.nv_command.specs.declared.transfer.Transfer.{Transfer}
+use Rattle.nv_command.specs.declared.transfer.Transfer.TheVariants.{NoData, ToHost, FromHost}
+
+size_by_form : (k : Command) → IsSendable k
+    → IsSizeOf (form_of k).reply (bytes_to_host (transfer_by k))
+size_by_form (GetLog lid n offset dwords) sends = log_size (is_error_log lid) offset dwords sends
+size_by_form k sends = refl
+
+-- from as many bytes as a command says its reply is read
+pub size_of_reply : (k : Command) (f : Form) (size : ℕ) → f ≡ form_of k
+    → size ≡ bytes_to_host (transfer_by k) → IsSendable k → IsSizeOf f.reply size
+size_of_reply k f size is len sends =
+    subst (λ (x : Form). IsSizeOf x.reply size) (sym is)
+    (subst (IsSizeOf (form_of k).reply) (sym len) (size_by_form k sends))
+
+-- there is no data, or a page: so it is, by its form, of each command that gets no log
+abbrev pub at_most_a_page : Transfer → Bool
+at_most_a_page NoData = true
+at_most_a_page (ToHost n) = n == 4096
+at_most_a_page (FromHost n) = n == 4096
+
+pub a_page : (n : ℕ) → (n == 4096) ≡ true → n ≡ 4096
+a_page n is = grind (arith, nat_tests, is)

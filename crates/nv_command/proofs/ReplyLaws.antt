@@ -1,0 +1,41 @@
+-- Pages of replies, by their kinds.
+use Rattle.std.proofs.Common.{◌≡◌, ◌∙◌, ap, length, refl, subst, sym}
+use Rattle.nv_layout.proofs.IdentifyLaws.{id_ctrl_back, id_ns_back, length-bytes_of_id_ctrl}
+use Rattle.nv_layout.proofs.IdentifyLaws.{length-bytes_of_id_ns}
+use Rattle.nv_layout.proofs.RecordLaws.{length-bytes_of_ns_list, ns_list_back}
+use Rattle.nv_command.specs.Logs.{without_phases}
+use Rattle.nv_command.specs.Reply.{FitsRecord, dword0_of, kind_of, page_of, reply_by}
+use Rattle.nv_command.specs.Room.{page_bytes}
+use Rattle.nv_command.specs.declared.form.ReplyKind.{ReplyKind}
+use Rattle.nv_command.specs.declared.form.ReplyKind.TheVariants as kind
+use Rattle.nv_command.specs.declared.reply.Reply.{Reply}
+use Rattle.nv_command.specs.declared.reply.Reply.TheVariants as reply
+
+pub length_of_page : (r : Reply) → FitsRecord r → length (page_of r) ≡ page_bytes (kind_of r)
+length_of_page (reply.Controller r) fits =
+    length-bytes_of_id_ctrl r fits.sn fits.mn fits.fr fits.subnqn
+length_of_page (reply.Namespace r) fits = length-bytes_of_id_ns r fits.formats
+length_of_page (reply.List ids) fits = length-bytes_of_ns_list ids fits.count
+length_of_page r fits = refl
+
+-- all of a reply of this kind stands in dword 0 and a page
+abbrev pub IsNoLog : ReplyKind → Type 0
+IsNoLog kind.Errors = ⊥
+IsNoLog kind.Smart = ⊥
+IsNoLog k = Unit {0}
+
+page_back : (r : Reply) → IsNoLog (kind_of r) → FitsRecord r
+    → reply_by (kind_of r) (dword0_of r) (page_of r) ≡ without_phases r
+page_back (reply.Controller r) no_log fits = ap reply.Controller (id_ctrl_back r fits)
+page_back (reply.Namespace r) no_log fits = ap reply.Namespace (id_ns_back r fits)
+page_back (reply.List ids) no_log fits =
+    ap reply.List (ns_list_back ids fits.count fits.numbers)
+page_back (reply.Errors es) no_log fits = absurd no_log
+page_back (reply.Smart r) no_log fits = absurd no_log
+page_back r no_log fits = refl
+
+pub page_arrives : (k : ReplyKind) (r : Reply) → kind_of r ≡ k → IsNoLog k → FitsRecord r
+    → reply_by k (dword0_of r) (page_of r) ≡ without_phases r
+page_arrives k r is no_log fits =
+    ap (λ x. reply_by x (dword0_of r) (page_of r)) (sym is)
+    ∙ page_back r (subst IsNoLog (sym is) no_log) fits

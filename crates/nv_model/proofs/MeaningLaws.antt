@@ -1,0 +1,198 @@
+-- What each command means is sound: the one table of what is known of refusals, replies and effects.
+use Rattle.std.proofs.Common.{◌≡◌, ℕ, ◌≤◌, ◌==◌, arith, refl, subst, List, [], Bool, true, false}
+use Rattle.std.proofs.Common.{Option, Some, None, is_some, length}
+use Rattle.std.specs.FinMap as map_of
+use Rattle.std.specs.List.{AllByRecursion}
+use Rattle.std.specs.Option.{option_map_or}
+use Rattle.std.proofs.lemmas.Option.{get_or_from_slice_get, slice_get_within}
+use Rattle.std.specs.Prelude.{if◌then◌else◌, slice_get}
+use Rattle.nv_layout.specs.IdNs.{IdNsFits}
+use Rattle.nv_layout.specs.declared.error_entry.ErrorEntry.{ErrorEntry}
+use Rattle.nv_layout.specs.declared.smart.Smart.{Smart}
+use Rattle.nv_command.specs.Form.{form_of}
+use Rattle.nv_command.specs.Logs.{is_error_log, log_kind}
+use Rattle.nv_command.specs.Refusal.{IsRefusal}
+use Rattle.nv_command.proofs.RefusalLaws.{is_refusal-refusal_by}
+use Rattle.nv_command.specs.Reply.{FitsRecord, IsNsidList, kind_of}
+use Rattle.nv_command.specs.declared.command.Command.{Command}
+use Rattle.nv_command.specs.declared.command.Command.TheVariants.{IdentifyController}
+use Rattle.nv_command.specs.declared.command.Command.TheVariants.{IdentifyNamespace}
+use Rattle.nv_command.specs.declared.command.Command.TheVariants.{AllocatedNamespace, ActiveList}
+use Rattle.nv_command.specs.declared.command.Command.TheVariants.{AllocatedList, Create, Delete}
+use Rattle.nv_command.specs.declared.command.Command.TheVariants.{Attachment, Format, GetFeature}
+use Rattle.nv_command.specs.declared.command.Command.TheVariants.{SetFeature, GetLog}
+use Rattle.nv_command.specs.declared.command.TheConstants.{BROADCAST_NSID}
+use Rattle.nv_command.specs.declared.form.ReplyKind.{ReplyKind}
+use Rattle.nv_command.specs.declared.reply.Reply.TheVariants as reply
+use Rattle.nv_command.specs.declared.status_code.StatusCode.TheVariants.{InvalidNamespaceOrFormat}
+use Rattle.nv_bits.specs.Numbers.{above}
+use Rattle.nv_model.proofs.AttachmentLaws.{attachment_controllers, attachment_keeps}
+use Rattle.nv_model.proofs.AttachmentLaws.{attachment_rows_fit}
+use Rattle.nv_model.proofs.ChoiceLaws.{chosen_fits}
+use Rattle.nv_model.specs.Format.{new_format}
+use Rattle.nv_model.proofs.FormatLaws.{format_keeps, format_rows_fit}
+use Rattle.nv_model.specs.Identify.{blank, id_ns_of}
+use Rattle.nv_model.proofs.IdentifyControllerLaws.{id_ctrl_fits}
+use Rattle.nv_model.proofs.IdentifyLaws.{blank_fits, common_fits, id_ns_fits}
+use Rattle.nv_model.proofs.InFormatLaws.{capacity_fits, format_below}
+use Rattle.nv_model.proofs.ListLaws.{keys_fit}
+use Rattle.nv_model.proofs.LogLaws.{errors_fit, log_rows_fit, smart_fits}
+use Rattle.nv_model.specs.Logs.{errors_at, smart_at}
+use Rattle.nv_model.specs.Management.{wanted}
+use Rattle.nv_model.proofs.ManagementLaws.{create_keeps, create_rows_fit, created_controllers}
+use Rattle.nv_model.proofs.ManagementLaws.{created_nsid_fits, delete_keeps, delete_rows_fit}
+use Rattle.nv_model.proofs.ManagementLaws.{deleted_controllers}
+use Rattle.nv_model.specs.Meaning.{Meaning, meaning_of}
+use Rattle.nv_model.specs.Nsid.{is_active}
+use Rattle.nv_model.specs.Row.{first_refusal}
+use Rattle.nv_model.proofs.SetFeatureLaws.{feature_controllers, feature_keeps}
+use Rattle.nv_model.proofs.SetFeatureLaws.{feature_number_fits, get_feature_rows_fit}
+use Rattle.nv_model.proofs.SetFeatureLaws.{set_feature_rows_fit}
+use Rattle.nv_model.specs.State.{Controller, State, ascending, controller_at}
+use Rattle.nv_model.specs.WellFormed.{IsController, IsWellFormed}
+use Rattle.nv_model.specs.declared.namespace.Namespace.{Namespace}
+
+-- ---- replies
+
+-- an allocated NSID is from 1 to NN
+inside : (s : State) → IsWellFormed s → (n : ℕ) (o : Option Namespace) → map_of.get s.namespaces n
+    ≡ o → is_some o ≡ true → (1 ≤ n) × (n ≤ s.nn)
+inside s w n None e t = absurd (cc)
+inside s w n (Some x) e t = (w.namespaces n x e).nsid
+
+allocated_fits : (s : State) → IsWellFormed s → (n : ℕ) (o : Option Namespace)
+    → map_of.get s.namespaces n ≡ o → IdNsFits (option_map_or (id_ns_of s.formats s.mc) o blank)
+allocated_fits s w n None e = blank_fits
+allocated_fits s w n (Some x) e =
+    let is = w.namespaces n x e in
+    id_ns_fits s.formats s.mc x w.keys.mc w.format_count.1 w.formats
+    (omega (arith, format_below s.mc x s.formats is.format, w.format_count.1))
+    (capacity_fits s.mc x (slice_get s.formats x.format) is.format)
+
+list_fits : (s : State) (after : ℕ) → IsWellFormed s → (o : Option Controller)
+    → ((x : Controller) → o ≡ Some x → IsController s.namespaces x)
+    → IsNsidList (above after (option_map_or (λ x. ascending x.attached) o []))
+list_fits s after w None is = record { count = omega arith; numbers = tt }
+list_fits s after w (Some x) is =
+    let c = is x refl in
+    keys_fit after s.nn x.attached w.keys.nn.1 (λ n t. inside s w n (map_of.get s.namespaces n) refl
+    (c.attached n t))
+
+logs_fit : (s : State) (c : ℕ) (is_errors : Bool)
+    → ((x : Controller) → controller_at s c ≡ Some x → IsController s.namespaces x)
+    → FitsRecord (if is_errors then reply.Errors (errors_at s c) else reply.Smart (smart_at s c))
+logs_fit s c true is = errors_fit s.namespaces (controller_at s c) is
+logs_fit s c false is = smart_fits s.namespaces (controller_at s c) is
+
+is_log_reply : (is_errors : Bool) (es : List ErrorEntry) (r : Smart)
+    → kind_of (if is_errors then reply.Errors es else reply.Smart r) ≡ log_kind is_errors
+is_log_reply true es r = refl
+is_log_reply false es r = refl
+
+is_controller : (s : State) (c : ℕ) → IsWellFormed s → (x : Controller) → controller_at s c ≡ Some x
+    → IsController s.namespaces x
+is_controller s c w x e =
+    subst (IsController s.namespaces) (get_or_from_slice_get s.controllers c x x e)
+    (w.controllers c x (slice_get_within s.controllers c x e))
+
+-- ---- meanings
+
+-- its rows refuse; its reply is of this kind, and in a well-formed subsystem fits its record; what it
+-- changes keeps well-formedness, and makes and takes no controller
+pub record IsSound (kind : ReplyKind) (m : Meaning) : Type 0 where
+  pub rows : (s : State) (c : ℕ) → AllByRecursion (λ row. IsRefusal row.refusal) (m.rows s c)
+  pub is_reply : (s : State) (c : ℕ) → kind_of (m.reply s c) ≡ kind
+  pub fits : (s : State) (c : ℕ) → IsWellFormed s → FitsRecord (m.reply s c)
+  pub keeps : (s : State) (c : ℕ) → first_refusal (m.rows s c) ≡ None → IsWellFormed s
+      → IsWellFormed (m.effect s c)
+  pub controllers : (s : State) (c : ℕ) → length (m.effect s c).controllers ≡ length s.controllers
+
+pub sound : (k : Command) → IsSound (form_of k).reply (meaning_of k)
+sound IdentifyController = record {
+  rows = λ s c. tt;
+  is_reply = λ s c. refl;
+  fits = λ s c w. id_ctrl_fits s w (controller_at s c) (is_controller s c w);
+  keeps = λ s c accepted w. w;
+  controllers = λ s c. refl;
+}
+sound (IdentifyNamespace n) = record {
+  rows = λ s c. (is_refusal-refusal_by InvalidNamespaceOrFormat, tt);
+  is_reply = λ s c. refl;
+  fits = λ s c w. chosen_fits IdNsFits (n == BROADCAST_NSID) _ _
+      (common_fits s.formats s.mc w.keys.mc w.format_count.1 w.formats)
+      (chosen_fits IdNsFits (is_active s c n) _ _
+      (allocated_fits s w n (map_of.get s.namespaces n) refl) blank_fits);
+  keeps = λ s c accepted w. w;
+  controllers = λ s c. refl;
+}
+sound (AllocatedNamespace n) = record {
+  rows = λ s c. (is_refusal-refusal_by InvalidNamespaceOrFormat, tt);
+  is_reply = λ s c. refl;
+  fits = λ s c w. allocated_fits s w n (map_of.get s.namespaces n) refl;
+  keeps = λ s c accepted w. w;
+  controllers = λ s c. refl;
+}
+sound (ActiveList after) = record {
+  rows = λ s c. (is_refusal-refusal_by InvalidNamespaceOrFormat, tt);
+  is_reply = λ s c. refl;
+  fits = λ s c w. list_fits s after w (controller_at s c) (is_controller s c w);
+  keeps = λ s c accepted w. w;
+  controllers = λ s c. refl;
+}
+sound (AllocatedList after) = record {
+  rows = λ s c. (is_refusal-refusal_by InvalidNamespaceOrFormat, tt);
+  is_reply = λ s c. refl;
+  fits = λ s c w. keys_fit after s.nn s.namespaces w.keys.nn.1
+      (λ n t. inside s w n (map_of.get s.namespaces n) refl t);
+  keeps = λ s c accepted w. w;
+  controllers = λ s c. refl;
+}
+sound (Create nsze ncap flbas dps nmic) = record {
+  rows = λ s c. create_rows_fit s (wanted nsze ncap flbas dps nmic);
+  is_reply = λ s c. refl;
+  fits = λ s c w. created_nsid_fits s w.keys.nn.1;
+  keeps = λ s c accepted w. create_keeps s (wanted nsze ncap flbas dps nmic) w accepted;
+  controllers = λ s c. created_controllers s (wanted nsze ncap flbas dps nmic);
+}
+sound (Delete n) = record {
+  rows = λ s c. delete_rows_fit s n;
+  is_reply = λ s c. refl;
+  fits = λ s c w. tt;
+  keeps = λ s c accepted w. delete_keeps s n w;
+  controllers = λ s c. deleted_controllers s n;
+}
+sound (Attachment n detach ids) = record {
+  rows = λ s c. attachment_rows_fit s n detach ids;
+  is_reply = λ s c. refl;
+  fits = λ s c w. tt;
+  keeps = λ s c accepted w. attachment_keeps s n detach ids w accepted;
+  controllers = λ s c. attachment_controllers s n detach ids;
+}
+sound (Format n lbaf mset pi pil ses) = record {
+  rows = λ s c. format_rows_fit s c n (new_format lbaf mset pi pil ses);
+  is_reply = λ s c. refl;
+  fits = λ s c w. tt;
+  keeps = λ s c accepted w. format_keeps s c n (new_format lbaf mset pi pil ses) w accepted;
+  controllers = λ s c. refl;
+}
+sound (GetFeature fid sel n cdw11) = record {
+  rows = λ s c. get_feature_rows_fit s c fid sel n cdw11;
+  is_reply = λ s c. refl;
+  fits = λ s c w. feature_number_fits s c fid sel n cdw11 w;
+  keeps = λ s c accepted w. w;
+  controllers = λ s c. refl;
+}
+sound (SetFeature fid value save n) = record {
+  rows = λ s c. set_feature_rows_fit s c fid value save n;
+  is_reply = λ s c. refl;
+  fits = λ s c w. tt;
+  keeps = λ s c accepted w. feature_keeps s c fid value save n w accepted;
+  controllers = λ s c. feature_controllers s c fid value save n;
+}
+sound (GetLog lid n offset dwords) = record {
+  rows = λ s c. log_rows_fit s c lid n offset;
+  is_reply = λ s c. is_log_reply (is_error_log lid) (errors_at s c) (smart_at s c);
+  fits = λ s c w. logs_fit s c (is_error_log lid) (is_controller s c w);
+  keeps = λ s c accepted w. w;
+  controllers = λ s c. refl;
+}
