@@ -5,7 +5,7 @@
 //! them:
 //!
 //! ```
-//! let command = Sqe { opcode: 0x06, cid: 7, nsid: 1, .. };
+//! let command = Sqe { opcode: 0x06, cid: 7, nsid: 1, ..Default::default() };
 //! let mut bytes = [0; 64];
 //! command.put(&mut bytes);
 //! let same = Sqe::get(&bytes);
@@ -21,7 +21,7 @@ ghost use Rattle.nv_layout.specs.Cqe.{CqeReadsBack};
 ghost use Rattle.nv_layout.specs.CtrlList.{CtrlListReadsBack};
 ghost use Rattle.nv_layout.specs.ErrorEntry.{ErrorEntryReadsBack};
 ghost use Rattle.nv_layout.specs.IdCtrl.{IdCtrlReadsBack};
-ghost use Rattle.nv_layout.specs.IdNs.{IdNsReadsBack};
+ghost use Rattle.nv_layout.specs.IdNs.{IdNsReadsBack, LbafReadsBack};
 ghost use Rattle.nv_layout.specs.NsList.{NsListReadsBack};
 ghost use Rattle.nv_layout.specs.Smart.{SmartReadsBack};
 ghost use Rattle.nv_layout.specs.Sqe.{SqeReadsBack};
@@ -67,6 +67,7 @@ pub fn reads_back()
     ensures status { StatusReadsBack }
     ensures id_ctrl { IdCtrlReadsBack }
     ensures id_ns { IdNsReadsBack }
+    ensures lbaf { LbafReadsBack }
     ensures ns_list { NsListReadsBack }
     ensures ctrl_list { CtrlListReadsBack }
     ensures smart { SmartReadsBack }
