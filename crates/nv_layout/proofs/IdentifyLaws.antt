@@ -7,8 +7,8 @@ use Rattle.std.proofs.lemmas.List.{length-map}
 use Rattle.nv_layout.specs.IdCtrl.{IdCtrlReadsBack, bytes_of_id_ctrl, id_ctrl_of_bytes}
 use Rattle.nv_layout.specs.IdCtrl.{id_ctrl_parts}
 use Rattle.nv_layout.specs.IdNs.{IdNsReadsBack, LbafFits, bytes_of_id_ns, id_ns_of_bytes}
-use Rattle.nv_layout.specs.IdNs.{id_ns_parts, lbaf_of_number, number_of_lbaf}
-use Rattle.nv_layout.specs.Parts.{Fits, at_bits, bits, numbers}
+use Rattle.nv_layout.specs.IdNs.{LbafReadsBack, bytes_of_lbaf, id_ns_parts, lbaf_of_bytes, lbaf_of_number, number_of_lbaf}
+use Rattle.nv_layout.specs.Parts.{Fits, at_bits, bits, number, numbers}
 use Rattle.nv_layout.specs.declared.id_ctrl.IdCtrl.{IdCtrl}
 use Rattle.nv_layout.specs.declared.id_ns.IdNs.{IdNs}
 use Rattle.nv_layout.specs.declared.id_ns.Lbaf.{Lbaf}
@@ -33,6 +33,12 @@ lbaf_back : (l : Lbaf) → LbafFits l → lbaf_of_number (number_of_lbaf l) ≡ 
 lbaf_back l fits =
     let (small, ms, lbads, rp) = lbaf_bits l.ms l.lbads l.rp fits.ms fits.lbads fits.rp in
     λ i. record { ms = ms i; lbads = lbads i; rp = rp i }
+
+pub lbaf_read_back : LbafReadsBack
+unfolding bytes_of_lbaf lbaf_of_bytes
+lbaf_read_back l fits =
+    let (whole, end) = table_back 4 (number 0 4 (number_of_lbaf l) ∷ []) refl (lbaf_fits l fits, tt) in
+    ap lbaf_of_number whole ∙ lbaf_back l fits
 
 lbafs_back : (ls : List Lbaf) → AllByRecursion LbafFits ls
     → map lbaf_of_number (map number_of_lbaf ls) ≡ ls

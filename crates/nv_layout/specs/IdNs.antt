@@ -16,6 +16,12 @@ number_of_lbaf l =
 abbrev pub lbaf_of_number : ℕ → Lbaf
 lbaf_of_number x = record { ms = bits 0 16 x; lbads = bits 16 8 x; rp = bits 24 2 x }
 
+unfoldable pub bytes_of_lbaf : Lbaf → List ℕ
+bytes_of_lbaf l = laid_out 4 (number 0 4 (number_of_lbaf l) ∷ [])
+
+unfoldable pub lbaf_of_bytes : List ℕ → Lbaf
+lbaf_of_bytes bytes = lbaf_of_number (number_at 0 4 bytes)
+
 abbrev pub id_ns_parts : IdNs → List Part
 id_ns_parts r =
     number 0 8 r.nsze
@@ -75,3 +81,6 @@ pub record IdNsFits (r : IdNs) : Type 0 where
 
 abbrev pub IdNsReadsBack : Type 0
 IdNsReadsBack = (r : IdNs) → IdNsFits r → id_ns_of_bytes (bytes_of_id_ns r) ≡ r
+
+abbrev pub LbafReadsBack : Type 0
+LbafReadsBack = (l : Lbaf) → LbafFits l → lbaf_of_bytes (bytes_of_lbaf l) ≡ l

@@ -1,13 +1,10 @@
 //! Controller lists.
 
-ghost use Rattle.std.specs.Prelude.{◌≡◌, ◌≤◌, ◌<◌, ◌↔◌, ◌++◌, ◌∷◌, [], ℕ, Err, IsTrue, List};
-ghost use Rattle.std.specs.Prelude.{MatchResult, Ok, length, take};
+ghost use Rattle.std.specs.Prelude.{◌≡◌, Err, MatchResult, Ok};
 ghost use Rattle.nv_layout.specs.CtrlList.{CtrlListFits, bytes_of_ctrl_list, ctrl_list_of_bytes};
 
-use crate::controller_ids::ControllerIds;
-use crate::parts::{each_u16_fits, read_u16s, u16_at};
-use std::fmt;
-use std::marker::Model;
+use crate::few::{Few, Lent};
+use crate::parts::{clear, each_u16_fits, put_u16, put_u16s, read_u16s, u16_at};
 use thiserror::Error;
 
 /// Why bytes aren't those of a record.
@@ -20,100 +17,31 @@ pub enum LayoutError {
 
 /// Up to 2,047 controller identifiers. In the list's bytes their number comes first, and zeros
 /// follow them. Section "Controller List".
-#[derive(Clone, Drop)]
-pub struct CtrlList {
-    ids: [u16; 2047],
-    len: usize,
-}
+pub type CtrlList = Few<u16, 2047>;
 
-impl Model for CtrlList {
-    ghost Value = { List ℕ };
+/// Up to 2,047 controller identifiers that stand elsewhere. Section "Controller List".
+pub type ControllerIds<'a> = Lent<'a, u16, 2047>;
 
-    ghost view = { λ s. take s.len s.ids };
+impl<'a> Lent<'a, u16, 2047> {
+    /// There are at most 2,047, and each fits its two bytes. A law: the call does nothing.
+    pub fn fits(&self)
+        ensures { CtrlListFits self.now }
+    {
+        each_u16_fits(self.as_slice());
+    }
 
-    ghost invariant = { λ s. s.len ≤ 2047 };
-}
-
-/// Lists are equal where their identifiers are, in order.
-impl PartialEq for CtrlList {
-    ghost use Rattle.std.specs.Cmp.Lexicographic.{pointwise};
-    ghost use Rattle.std.specs.Cmp.{partial_equiv_from_equiv};
-    ghost use Rattle.std.specs.Prelude.{nat_eq};
-    ghost use Rattle.std.proofs.lemmas.Cmp.{nat_list_eq_equiv};
-
-    ghost eq = { λ a b. pointwise nat_eq a b };
-
-    ghost laws = { partial_equiv_from_equiv nat_list_eq_equiv };
-
-    fn eq(&self, other: &CtrlList) -> bool {
-        self.as_slice() == other.as_slice()
+    /// Writes the bytes of the list that has them, all 4,096.
+    #[tactic(auto, unfolding(crate::specs::CtrlList::bytes_of_ctrl_list))]
+    pub fn put(&self, out: &mut [u8; 4096])
+        ensures { out.new ≡ bytes_of_ctrl_list self.now }
+    {
+        clear(out);
+        put_u16(out, 0, self.as_slice().len() as u16);
+        put_u16s(out, 2, self.as_slice());
     }
 }
 
-impl Eq for CtrlList {
-    ghost use Rattle.std.proofs.lemmas.Cmp.{nat_list_eq_equiv};
-
-    ghost laws = { nat_list_eq_equiv };
-}
-
-impl fmt::Debug for CtrlList {
-    fn fmt<W: fmt::Write>(&self, f: &mut fmt::Formatter<W>) -> fmt::Result {
-        f.debug_list().entries(self.as_slice().iter()).finish()
-    }
-}
-
-impl CtrlList {
-    /// The list of no identifiers.
-    pub fn new() -> CtrlList
-        ensures { result ≡ [] }
-    {
-        CtrlList {
-            ids: [0; 2047],
-            len: 0,
-        }
-    }
-
-    /// How many identifiers the list has.
-    pub fn len(&self) -> usize
-        ensures count { result ≡ length self.now }
-        ensures within { result ≤ 2047 }
-    {
-        self.as_slice().len()
-    }
-
-    /// Whether the list has no identifiers.
-    pub fn is_empty(&self) -> bool
-        ensures { IsTrue result ↔ (self.now ≡ []) }
-    {
-        self.as_slice().is_empty()
-    }
-
-    /// The identifiers in order.
-    pub fn as_slice(&self) -> &[u16]
-        ensures items { result.now ≡ self.now }
-        ensures fits { CtrlListFits self.now }
-    {
-        let ids = &self.ids[..self.len];
-        each_u16_fits(ids);
-        ids
-    }
-
-    /// Adds an identifier at the end.
-    pub fn push(&mut self, cntlid: u16)
-        requires { length self.old < 2047 }
-        ensures { self.new ≡ self.old ++ cntlid ∷ [] }
-    {
-        self.ids[self.len] = cntlid;
-        self.len += 1;
-    }
-
-    /// The identifiers in order, as they stand in the list.
-    pub fn ids(&self) -> ControllerIds<'_>
-        ensures { result ≡ self.now }
-    {
-        ControllerIds::new(self.as_slice())
-    }
-
+impl Few<u16, 2047> {
     /// Writes the list's bytes, all 4,096 of them.
     pub fn put(&self, out: &mut [u8; 4096])
         ensures { out.new ≡ bytes_of_ctrl_list self.now }
@@ -148,7 +76,7 @@ impl CtrlList {
         if count > 2047 {
             return Err(LayoutError::CountTooLarge);
         }
-        read_u16s(bytes, 2, &mut self.ids[..count]);
+        read_u16s(bytes, 2, &mut self.items[..count]);
         self.len = count;
         Ok(())
     }

@@ -1,7 +1,8 @@
 //! What Identify tells of a namespace.
 
 use crate::parts::{
-    bits_of, clear, put_u8, put_u32s, put_u64, put_u128, to_bits, u8_at, u32s_at, u64_at, u128_at,
+    bits_of, clear, put_u8, put_u32, put_u32s, put_u64, put_u128, to_bits, u8_at, u32_at, u32s_at,
+    u64_at, u128_at,
 };
 
 /// A format of a namespace's logical blocks. Section "Identify Namespace data structure (CNS
@@ -18,7 +19,8 @@ pub struct Lbaf {
 
 impl Lbaf {
     ghost use Rattle.std.specs.Prelude.{◌≡◌, map};
-    ghost use Rattle.nv_layout.specs.IdNs.{lbaf_of_number, number_of_lbaf};
+    ghost use Rattle.nv_layout.specs.IdNs.{bytes_of_lbaf, lbaf_of_bytes, lbaf_of_number};
+    ghost use Rattle.nv_layout.specs.IdNs.{number_of_lbaf};
 
     fn number(&self) -> u32
         ensures { result ≡ number_of_lbaf self.now }
@@ -36,6 +38,23 @@ impl Lbaf {
             lbads: bits_of(number, 16, 8) as u8,
             rp: bits_of(number, 24, 2) as u8,
         }
+    }
+
+    /// Writes the format's bytes. The relative performance is cut to its two bits.
+    #[tactic(auto, unfolding(crate::specs::IdNs::bytes_of_lbaf))]
+    pub fn put(&self, out: &mut [u8; 4])
+        ensures { out.new ≡ bytes_of_lbaf self.now }
+    {
+        clear(out);
+        put_u32(out, 0, self.number());
+    }
+
+    /// Reads a format from its bytes.
+    #[tactic(auto, unfolding(crate::specs::IdNs::lbaf_of_bytes))]
+    pub fn get(bytes: &[u8; 4]) -> Lbaf
+        ensures { result ≡ lbaf_of_bytes bytes.now }
+    {
+        Lbaf::from_number(u32_at(bytes, 0))
     }
 
     fn numbers(lbafs: &[Lbaf; 16]) -> [u32; 16]

@@ -5,7 +5,7 @@
 //! them:
 //!
 //! ```
-//! let command = Sqe { opcode: 0x06, cid: 7, nsid: 1, .. };
+//! let command = Sqe { opcode: 0x06, cid: 7, nsid: 1, ..Default::default() };
 //! let mut bytes = [0; 64];
 //! command.put(&mut bytes);
 //! let same = Sqe::get(&bytes);
@@ -21,21 +21,20 @@ ghost use Rattle.nv_layout.specs.Cqe.{CqeReadsBack};
 ghost use Rattle.nv_layout.specs.CtrlList.{CtrlListReadsBack};
 ghost use Rattle.nv_layout.specs.ErrorEntry.{ErrorEntryReadsBack};
 ghost use Rattle.nv_layout.specs.IdCtrl.{IdCtrlReadsBack};
-ghost use Rattle.nv_layout.specs.IdNs.{IdNsReadsBack};
+ghost use Rattle.nv_layout.specs.IdNs.{IdNsReadsBack, LbafReadsBack};
 ghost use Rattle.nv_layout.specs.NsList.{NsListReadsBack};
 ghost use Rattle.nv_layout.specs.Smart.{SmartReadsBack};
 ghost use Rattle.nv_layout.specs.Sqe.{SqeReadsBack};
 ghost use Rattle.nv_layout.specs.Status.{StatusReadsBack};
 
-mod controller_ids;
 mod cqe;
 mod ctrl_list;
 mod error_entries;
 mod error_entry;
 mod feature;
+mod few;
 mod id_ctrl;
 mod id_ns;
-mod namespace_ids;
 mod narrow;
 mod ns_list;
 mod parts;
@@ -43,17 +42,16 @@ mod smart;
 mod sqe;
 mod status;
 
-pub use controller_ids::ControllerIds;
 pub use cqe::Cqe;
-pub use ctrl_list::{CtrlList, LayoutError};
+pub use ctrl_list::{ControllerIds, CtrlList, LayoutError};
 pub use error_entries::ErrorEntries;
 pub use error_entry::ErrorEntry;
 pub use feature::Feature;
+pub use few::{Few, Lent};
 pub use id_ctrl::IdCtrl;
 pub use id_ns::{IdNs, Lbaf};
-pub use namespace_ids::NamespaceIds;
 pub use narrow::{Below, FourBits, ThreeBits};
-pub use ns_list::NsList;
+pub use ns_list::{NamespaceIds, NsList};
 pub use parts::{bits_of, to_bits};
 pub use smart::Smart;
 pub use sqe::Sqe;
@@ -67,6 +65,7 @@ pub fn reads_back()
     ensures status { StatusReadsBack }
     ensures id_ctrl { IdCtrlReadsBack }
     ensures id_ns { IdNsReadsBack }
+    ensures lbaf { LbafReadsBack }
     ensures ns_list { NsListReadsBack }
     ensures ctrl_list { CtrlListReadsBack }
     ensures smart { SmartReadsBack }

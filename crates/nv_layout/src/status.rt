@@ -1,6 +1,7 @@
 //! The status field of a completion.
 
 use crate::parts::{bits_of, to_bits};
+use std::fmt;
 
 /// The outcome of a command, the 15 bits beside the phase tag in a completion. Section "Status
 /// Field Definition".
@@ -65,5 +66,12 @@ impl Status {
             more: bits_of(number, 13, 1) == 1,
             dnr: bits_of(number, 14, 1) == 1,
         }
+    }
+}
+
+/// The number, as `0x600b`.
+impl fmt::Display for Status {
+    fn fmt<W: fmt::Write>(&self, f: &mut fmt::Formatter<W>) -> fmt::Result {
+        write!(f, "{:#x}", self.number())
     }
 }

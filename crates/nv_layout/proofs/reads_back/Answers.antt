@@ -1,5 +1,5 @@
 use Rattle.nv_layout.proofs.LogLaws.{error_entry_back, smart_back}
-use Rattle.nv_layout.proofs.IdentifyLaws.{id_ctrl_back, id_ns_back}
+use Rattle.nv_layout.proofs.IdentifyLaws.{id_ctrl_back, id_ns_back, lbaf_read_back}
 use Rattle.nv_layout.proofs.RecordLaws.{cqe_back, ctrl_list_back, ns_list_back, sqe_back, status_back}
 use Rattle.nv_layout.proofs.reads_back.Goals as goal
 
@@ -14,6 +14,9 @@ returns-clause-status c = status_back
 
 pub returns-clause-id_ns : goal.returns-clause-id_ns
 returns-clause-id_ns c = id_ns_back
+
+pub returns-clause-lbaf : goal.returns-clause-lbaf
+returns-clause-lbaf c = lbaf_read_back
 
 pub returns-clause-ns_list : goal.returns-clause-ns_list
 returns-clause-ns_list c = ns_list_back

@@ -1,7 +1,7 @@
 use Rattle.std.proofs.Common.{◌∙◌, arith, sym}
 use Rattle.nv_layout.specs.NsList.{ns_list_of_bytes}
 use Rattle.nv_layout.proofs.NsListLaws.{list_read}
-use Rattle.nv_layout.proofs.ns_list.NsList.read.Goals as goal
+use Rattle.nv_layout.proofs.ns_list.Few+u32+1024.read.Goals as goal
 
 pub returns-then-nsid-eq0 : goal.returns-then-nsid-eq0
 unfolding ns_list_of_bytes

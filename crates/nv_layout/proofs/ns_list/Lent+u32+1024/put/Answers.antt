@@ -2,7 +2,7 @@ use Rattle.std.proofs.Common.{◌∙◌, ap, length}
 use Rattle.nv_layout.specs.NsList.{bytes_of_ns_list}
 use Rattle.nv_layout.proofs.NsListLaws.{placed-padded}
 use Rattle.nv_layout.specs.Parts.{numbers, placed, zeros}
-use Rattle.nv_layout.proofs.namespace_ids.NamespaceIds.put.Goals as goal
+use Rattle.nv_layout.proofs.ns_list.Lent+u32+1024.put.Goals as goal
 
 pub returns : goal.returns
 unfolding bytes_of_ns_list
