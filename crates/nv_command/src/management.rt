@@ -116,7 +116,7 @@ pub(crate) fn create_fits(nsze: u64, ncap: u64, flbas: u8, dps: u8, nmic: u8)
 pub(crate) fn attachment_fits(nsid: u32, list: &ControllerIds)
     ensures { AttachmentFits nsid list.now }
 {
-    list.as_slice();
+    list.fits();
 }
 
 /// The field Select of an entry.
