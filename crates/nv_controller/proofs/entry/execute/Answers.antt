@@ -1,6 +1,9 @@
-use Rattle.std.proofs.Common.{◌∙◌, Option, ap}
+use Rattle.std.proofs.Common.{◌∙◌, Option, ap, sym}
 use Rattle.nv_prp.specs.Place.{places}
 use Rattle.nv_command.specs.declared.refusal.Refusal.{Refusal}
+use Rattle.nv_model.specs.Refusal.{refusal_of}
+use Rattle.nv_model.specs.Reply.{reply_of}
+use Rattle.nv_subsystem.proofs.AnswerLaws.{refusal_in, refused_as}
 use Rattle.nv_bus.specs.Entry.{told_by}
 use Rattle.nv_bus.specs.declared.told.Told.{Told}
 use Rattle.nv_controller.proofs.EntryLaws.{answered, moved_none, moved_reply, refused_by}
@@ -14,6 +17,16 @@ deliver-requires-clause-is_reply g c =
 pub deliver-requires-clause-fits : goal.deliver-requires-clause-fits
 deliver-requires-clause-fits g c =
     (answered _ c.args.ctrl c.args.command.now c.args.origin.cid _ c.in-Ok.reply c.requires.well_formed c.in-Ok.is c.answer.ensures).fits
+
+pub settle-requires-clause-answered : goal.settle-requires-clause-answered
+settle-requires-clause-answered g c =
+    let s = c.args.subsystem.now in
+    let k = c.args.command.now in
+    let same = refused_as c.answer.result (refusal_of s c.args.ctrl k) (reply_of s c.args.ctrl k) c.answer.ensures in
+    elim c.match-answer.branch [
+      | in-Ok w ↦ ap (λ (p : Told × Option Refusal). p.1) w.refusal-is ∙ ap refusal_in (sym w.in-Ok.is) ∙ same
+      | in-Err w ↦ ap (λ (p : Told × Option Refusal). p.1) w.refusal-is ∙ ap refusal_in (sym w.in-Err.is) ∙ same
+    ]
 
 pub returns-clause-told : goal.returns-clause-told
 returns-clause-told g c = elim c.match-answer.branch [
