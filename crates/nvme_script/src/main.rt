@@ -91,11 +91,7 @@ fn run_script(rt: &HostRuntime, subsystem: Subsystem, geometry: Geometry) -> Res
     );
     let is_out = held.flush();
     let status = status_of(end)?;
-    if is_out {
-        Ok(status)
-    } else {
-        Err(Stop::Write)
-    }
+    if is_out { Ok(status) } else { Err(Stop::Write) }
 }
 
 fn main(rt: HostRuntime) -> ExitCode {
