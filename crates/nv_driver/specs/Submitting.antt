@@ -6,7 +6,6 @@ use Rattle.nv_queue.specs.Slots.{with_submission}
 use Rattle.nv_command.specs.Command.{transfer_by}
 use Rattle.nv_command.specs.declared.command.Command.{Command}
 use Rattle.nv_bus.specs.Call.{length_of}
-use Rattle.nv_prp.specs.Transfer.{Transfer, transfer}
 use Rattle.nv_model.specs.Step.{next_serial}
 use Rattle.nv_driver.specs.CommandPages.{AreTaken, all_pages, data_pages, without}
 use Rattle.nv_driver.specs.Layout.{pages_of_command}
@@ -28,10 +27,6 @@ sent_by g k cid o = record {
   prp1 = o.prp1;
   prp2 = o.prp2;
 }
-
--- the transfer of the command's data that its data pointer describes
-abbrev pub transfer_at : ℕ → List ℕ → Outstanding → Command → Transfer
-transfer_at page_size bytes o k = transfer page_size bytes o.prp1 o.prp2 (length_of (transfer_by k))
 
 -- it took its pages, they were made ready, and its entry was put in the ring; a command without
 -- data has no data pointer

@@ -217,9 +217,10 @@ impl Batch {
         let number = self.sent - distance(completion.cid, lane.serial);
         let one = self.outstanding[number % MOST].unwrap();
         one.pages.give(&mut lane.pages);
+        let buffer = one.pages.buffer(self.geometry.offset);
         answer(
             mem,
-            &one,
+            &buffer,
             &commands[number],
             &completion,
             &mut answers[number],
