@@ -22,12 +22,11 @@ use Rattle.nv_bus.specs.Call.{length_of}
 use Rattle.nv_driver.specs.CommandPages.{AreTaken, all_pages, data_pages, with_pages, without}
 use Rattle.nv_driver.specs.Schedule.{Answer, Numbered, Sent, World, answer_from, answer_read, answers_to, awaited, collect_ring, data_length, number, own_pages, places, received_from, slot, submit_ring}
 use Rattle.nv_driver.specs.Layout.{pages_of_command}
-use Rattle.nv_driver.specs.Submitting.{sent_by}
 use Rattle.nv_driver.specs.UnderWay.{HasAnswers, IsKept, IsUnderWay, Run, kept_at, pages_of_all, serial_at, setting_of}
 use Rattle.nv_driver.specs.declared.batch.Batch.{Batch}
+use Rattle.nv_driver.specs.declared.command_pages.CommandPages.{CommandPages}
 use Rattle.nv_driver.specs.declared.geometry.Geometry.{Geometry}
 use Rattle.nv_driver.specs.declared.lane.Lane.{Lane as LaneFields}
-use Rattle.nv_driver.specs.declared.submitting.Outstanding.{Outstanding}
 use Rattle.nv_driver.proofs.BatchLaws.{answers_are, distance_is}
 use Rattle.nv_driver.proofs.CountLaws.{number_above, number_below, number_next, numbers_differ, slot_inside}
 use Rattle.nv_driver.proofs.KeptLaws.{collect_keeps}
@@ -40,20 +39,22 @@ use Rattle.nv_driver.proofs.WindowPageLaws.{given_back, gone, taken_first, taken
 pub in_some : {X : Type 0} {P : Type 0} (o : Option X) (x : X) → o ≡ Some x → OnSome o P → P
 in_some {P = P} o x is all = subst (λ q. OnSome q P) is all
 
--- a command that was sent with these
-pub record IsOne (r : Run) (o : Outstanding) (x : Sent) : Type 0 where
-  pub sent : x ≡ sent_by r.geometry x.command x.cid o
-  pub few : o.pages.data_pages + 2 ≤ pages_of_command r.geometry.page_size
-  pub pages : all_pages o.pages ≡ own_pages x
+-- a command that was sent with these pages
+pub record IsOne (r : Run) (o : CommandPages) (x : Sent) : Type 0 where
+  pub of_data : x.pages ≡ data_pages o
+  pub offset : x.offset ≡ r.geometry.offset
+  pub few : o.data_pages + 2 ≤ pages_of_command r.geometry.page_size
+  pub pages : all_pages o ≡ own_pages x
 
-is_one : (r : Run) (found : Option Outstanding) (o : Outstanding) (x : Sent) → IsKept r found x → found ≡ Some o → IsOne r o x
+is_one : (r : Run) (found : Option CommandPages) (o : CommandPages) (x : Sent)
+    → IsKept r found x → found ≡ Some o → IsOne r o x
 is_one r found o x k is =
     let same : k.one ≡ o = let both = sym k.is_one ∙ is in cc in
-    let as_sent = k.sent ∙ ap (sent_by r.geometry x.command x.cid) same in
     record {
-      sent = as_sent;
-      few = omega (arith, k.few, ap (λ (q : Outstanding). q.pages.data_pages) same);
-      pages = ap (λ (q : Outstanding). all_pages q.pages) (sym same) ∙ pages_are k.one.pages k.seven ∙ ap own_pages (sym k.sent);
+      of_data = ap (λ (y : Sent). y.pages) k.sent ∙ ap data_pages same;
+      offset = ap (λ (y : Sent). y.offset) k.sent;
+      few = omega (arith, k.few, ap (λ (q : CommandPages). q.data_pages) same);
+      pages = ap all_pages (sym same) ∙ pages_are k.one k.seven ∙ ap own_pages (sym k.sent);
     }
 
 -- more was collected than was told
@@ -98,7 +99,7 @@ module _ {r : Run} {bells turns : ℕ} {b : Batch} {l : LaneFields} {now : ℕ} 
   is_there more = subst (λ q. IsAwaitedThere bytes q) ring_is (subst (λ m. IsAwaitedThere m (awaited (setting_of r) u.world)) u.mem (there more))
 
   -- it has its place in the window
-  pub is_some : b.collected < turns → {found : Option Outstanding} → kept_at b b.collected ≡ found → IsSome found
+  pub is_some : b.collected < turns → {found : Option CommandPages} → kept_at b b.collected ≡ found → IsSome found
   is_some more same = let k = u.kept b.collected no_command (omega arith) (omega (arith, no_more, more)) in
       subst IsSome (sym k.is_one ∙ same) refl
 
@@ -154,37 +155,37 @@ module _ {r : Run} {bells turns : ℕ} {b : Batch} {l : LaneFields} {now : ℕ} 
     held_is = ap pages_of_all (drop-cons u.world.sent b.collected no_command (omega (arith, no_more, more, u.sent)))
         ∙ ap (λ n. own_pages next_one ++ pages_of_all (drop n u.world.sent)) (sym (add-one b.collected))
 
-    module _ {kept : Option Outstanding} {o : Outstanding} (place : kept_at b b.collected ≡ kept) (here : kept ≡ Some o) where
+    module _ {kept : Option CommandPages} {o : CommandPages} (place : kept_at b b.collected ≡ kept) (here : kept ≡ Some o) where
       pub one_is : IsOne r o next_one
       one_is = is_one r (kept_at b b.collected) o next_one (u.kept b.collected no_command (omega arith) (omega (arith, no_more, more))) (place ∙ here)
 
-      all_is : held u ≡ all_pages o.pages ++ pages_of_all (drop (b.collected + 1) u.world.sent)
+      all_is : held u ≡ all_pages o ++ pages_of_all (drop (b.collected + 1) u.world.sent)
       all_is = held_is ∙ ap (λ ps. ps ++ pages_of_all (drop (b.collected + 1) u.world.sent)) (sym one_is.pages)
 
-      pub give_own : All (λ p. IsOf l.pages.first l.pages.count p) (all_pages o.pages)
+      pub give_own : All (λ p. IsOf l.pages.first l.pages.count p) (all_pages o)
       give_own =
-          subst (λ (s : Pages). All (λ p. IsOf s.first s.count p) (all_pages o.pages)) (sym (pages_left u))
-          (taken_first r.lane.pages (all_pages o.pages) _ (subst (AreTaken r.lane.pages) all_is u.taken)).own
+          subst (λ (s : Pages). All (λ p. IsOf s.first s.count p) (all_pages o)) (sym (pages_left u))
+          (taken_first r.lane.pages (all_pages o) _ (subst (AreTaken r.lane.pages) all_is u.taken)).own
 
-      pub give_none : All (λ p. set.contains l.pages.members p ≡ false) (all_pages o.pages)
+      pub give_none : All (λ p. set.contains l.pages.members p ≡ false) (all_pages o)
       give_none =
-          subst (λ (s : Pages). All (λ p. set.contains s.members p ≡ false) (all_pages o.pages))
+          subst (λ (s : Pages). All (λ p. set.contains s.members p ≡ false) (all_pages o))
           (sym (pages_left u ∙ ap (without r.lane.pages) all_is))
-          (λ i d h. gone r.lane.pages (all_pages o.pages) (pages_of_all (drop (b.collected + 1) u.world.sent)) i d h)
+          (λ i d h. gone r.lane.pages (all_pages o) (pages_of_all (drop (b.collected + 1) u.world.sent)) i d h)
 
-      pub give_distinct : AllPairs (λ p q. p ≢ q) (all_pages o.pages)
-      give_distinct = (taken_first r.lane.pages (all_pages o.pages) _ (subst (AreTaken r.lane.pages) all_is u.taken)).distinct
+      pub give_distinct : AllPairs (λ p q. p ≢ q) (all_pages o)
+      give_distinct = (taken_first r.lane.pages (all_pages o) _ (subst (AreTaken r.lane.pages) all_is u.taken)).distinct
 
       taken_left : AreTaken r.lane.pages (pages_of_all (drop (b.collected + 1) u.world.sent))
-      taken_left = taken_rest r.lane.pages (all_pages o.pages) _ (subst (AreTaken r.lane.pages) all_is u.taken)
+      taken_left = taken_rest r.lane.pages (all_pages o) _ (subst (AreTaken r.lane.pages) all_is u.taken)
 
-      pages_back : with_pages l.pages (all_pages o.pages) ≡ without r.lane.pages (pages_of_all (drop (b.collected + 1) u.world.sent))
-      pages_back = ap (λ s. with_pages s (all_pages o.pages)) (pages_left u ∙ ap (without r.lane.pages) all_is)
-          ∙ given_back r.lane.pages (all_pages o.pages) (pages_of_all (drop (b.collected + 1) u.world.sent)) (subst (AreTaken r.lane.pages) all_is u.taken)
+      pages_back : with_pages l.pages (all_pages o) ≡ without r.lane.pages (pages_of_all (drop (b.collected + 1) u.world.sent))
+      pages_back = ap (λ s. with_pages s (all_pages o)) (pages_left u ∙ ap (without r.lane.pages) all_is)
+          ∙ given_back r.lane.pages (all_pages o) (pages_of_all (drop (b.collected + 1) u.world.sent)) (subst (AreTaken r.lane.pages) all_is u.taken)
 
       -- ---- what is left
 
-      lane_left : lane_by (known_to l.submission q.sq_head) (collected_one l.completion) l.serial (with_pages l.pages (all_pages o.pages))
+      lane_left : lane_by (known_to l.submission q.sq_head) (collected_one l.completion) l.serial (with_pages l.pages (all_pages o))
           ≡ lane_by (submit_ring (setting_of r) b.sent (b.collected + 1)) (collect_ring (setting_of r) (b.collected + 1) b.told)
           (serial_at r b.sent) (without r.lane.pages (pages_of_all (drop (b.collected + 1) u.world.sent)))
       lane_left =
@@ -202,7 +203,7 @@ module _ {r : Run} {bells turns : ℕ} {b : Batch} {l : LaneFields} {now : ℕ} 
           lanes_same submission completion serial pages_back
 
       pub collects : {a : SubmitNumbers} {p : CollectNumbers} {s : Pages} → a ≡ known_to l.submission q.sq_head → p ≡ collected_one l.completion
-          → s ≡ with_pages l.pages (all_pages o.pages) → IsUnderWay r bells turns (record b { collected = b.collected + 1 }) (lane_by a p l.serial s) now bytes
+          → s ≡ with_pages l.pages (all_pages o) → IsUnderWay r bells turns (record b { collected = b.collected + 1 }) (lane_by a p l.serial s) now bytes
       collects submission completion pages =
           let t = setting_of r in
           let w = u.world in
@@ -241,18 +242,18 @@ module _ {r : Run} {bells turns : ℕ} {b : Batch} {l : LaneFields} {now : ℕ} 
       -- ---- the answer
 
       -- its data lies in pages of its own, which lie in the memory
-      own_buffer : IsBuffer bytes r.geometry.page_size (data_pages o.pages) r.geometry.offset (data_length next_one)
+      own_buffer : IsBuffer bytes r.geometry.page_size (data_pages o) r.geometry.offset (data_length next_one)
       own_buffer =
           let x = next_one in
+          let size = r.geometry.page_size in
           let own = u.keeps.own b.collected no_command (omega (arith, u.collected))
           (omega (arith, no_more, more, u.sent)) in
-          let offset = ap (λ (y : Sent). y.offset) one_is.sent in
-          subst (λ (y : Sent). IsBuffer bytes r.geometry.page_size y.pages r.geometry.offset (data_length x))
-          one_is.sent (record {
+          subst (λ ps. IsBuffer bytes size ps r.geometry.offset (data_length x)) one_is.of_data
+          (record {
             below = u.begun.geometry.offset.1;
             aligned = u.begun.geometry.offset.0;
-            enough = subst (λ from. from + data_length x ≤ length x.pages * r.geometry.page_size) offset own.enough;
-            inside = λ i d h. of_set r.lane.pages bytes r.geometry.page_size (get_or x.pages i d)
+            enough = subst (λ from. from + data_length x ≤ length x.pages * size) one_is.offset own.enough;
+            inside = λ i d h. of_set r.lane.pages bytes size (get_or x.pages i d)
                 (omega (arith, u.begun.laid.inside, u.size))
                 (u.own b.collected no_command (omega (arith, no_more, more)) (suc (suc i)) d (omega arith));
           })
@@ -262,7 +263,7 @@ module _ {r : Run} {bells turns : ℕ} {b : Batch} {l : LaneFields} {now : ℕ} 
         answer_sends =
             subst IsSendable (sym same) (u.keeps.own b.collected no_command (omega (arith, u.collected)) (omega (arith, no_more, more, u.sent))).can.sends
 
-        module _ {pages : List ℕ} {from : ℕ} (of_data : pages ≡ data_pages o.pages)
+        module _ {pages : List ℕ} {from : ℕ} (of_data : pages ≡ data_pages o)
             (begins : from ≡ b.geometry.offset) where
           offset_is : from ≡ r.geometry.offset
           offset_is = begins ∙ ap (λ (g : Geometry). g.offset) u.geometry
@@ -272,10 +273,8 @@ module _ {r : Run} {bells turns : ℕ} {b : Batch} {l : LaneFields} {now : ℕ} 
               (ap (λ c. length_of (transfer_by c)) (sym same)) own_buffer
 
           places_are : buffer_places now pages from (length_of (transfer_by k)) ≡ places r.geometry.page_size next_one
-          places_are =
-              let sent = sym one_is.sent in
-              places_as u.page_size (of_data ∙ ap (λ (y : Sent). y.pages) sent)
-              (offset_is ∙ ap (λ (y : Sent). y.offset) sent) (ap (λ c. length_of (transfer_by c)) same)
+          places_are = places_as u.page_size (of_data ∙ sym one_is.of_data) (offset_is ∙ sym one_is.offset)
+              (ap (λ c. length_of (transfer_by c)) same)
 
           answer_is : (d : Answer)
               → answer_from k q

@@ -27,15 +27,6 @@ use nv_host::HostMemory;
 use nv_model::SERIALS;
 use nv_prp::{Buffer, build, copy_out};
 
-/// What an outstanding command has: its pages, and its data pointer. Section "Submission Queue
-/// Entry".
-#[derive(Clone, Copy)]
-pub struct Outstanding {
-    pub pages: CommandPages,
-    pub prp1: u64,
-    pub prp2: u64,
-}
-
 /// How many bytes of data a command has.
 #[tactic(auto, using(crate::proofs::DataLaws::shape_as, crate::proofs::DataLaws::most))]
 fn data_length(command: &Command) -> u32
@@ -134,7 +125,7 @@ fn write_data<M: HostMemory>(mem: &mut M, buffer: &Buffer, command: &Command, sc
 }
 
 /// Submits a command: takes its pages, writes its list and what the host sends with it where it has
-/// any, and puts its entry in the ring. Answers what it has, and the new tail. Section "Submission
+/// any, and puts its entry in the ring. Answers its pages, and the new tail. Section "Submission
 /// Queue Entry".
 pub(crate) fn submit<M: HostMemory>(
     mem: &mut M,
@@ -142,7 +133,7 @@ pub(crate) fn submit<M: HostMemory>(
     geometry: Geometry,
     command: &Command,
     scratch: &mut Scratch,
-) -> (Outstanding, u16)
+) -> (CommandPages, u16)
     requires geometry { IsGeometry geometry }
     requires page { M.page_len mem.old ≡ geometry.page_size }
     requires can { CanBeSent command.now }
@@ -169,5 +160,5 @@ pub(crate) fn submit<M: HostMemory>(
     entry.prp2 = prp2;
     let tail = lane.submission.push(mem, &entry).unwrap();
     lane.serial = (lane.serial + 1) % SERIALS;
-    (Outstanding { pages, prp1, prp2 }, tail)
+    (pages, tail)
 }

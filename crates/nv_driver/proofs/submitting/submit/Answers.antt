@@ -9,7 +9,6 @@ use Rattle.nv_command.specs.Command.{host_data_of}
 use Rattle.nv_command.specs.Entry.{with_pointer}
 use Rattle.nv_driver.specs.Layout.{pages_of_command}
 use Rattle.nv_driver.specs.Submitting.{sent_by}
-use Rattle.nv_driver.specs.declared.submitting.Outstanding.{Outstanding}
 use Rattle.nv_driver.proofs.SubmittingLaws.{buffer_as, buffer_of, built_by, distinct_of, list_of}
 use Rattle.nv_driver.proofs.SubmittingLaws.{on_ok, places_as, prepared_by}
 use Rattle.nv_driver.proofs.submitting.submit.Goals as goal
@@ -79,12 +78,11 @@ returns-clause-submitted g c =
     let b = c.build_pointer-prp1.ensures in
     let pages = c.take-pages.result in
     let pointer = c.build_pointer-prp1.result in
-    let o : Outstanding = record { pages = pages; prp1 = pointer.0; prp2 = pointer.1 } in
     let ok = c.unwrap-tail.ensures in
     let lane = c.args.lane.now in
     let geometry = c.args.geometry in
     let k = c.args.command.now in
-    let x = sent_by geometry k lane.serial o in
+    let x = sent_by geometry k lane.serial pages pointer.0 pointer.1 in
     let before = g.M.HostMemory.bytes c.args.mem.now in
     let built = g.M.HostMemory.bytes c.build_pointer-prp1.new.mem in
     let ready = g.M.HostMemory.bytes c.write_data.new.mem in
@@ -105,6 +103,8 @@ returns-clause-submitted g c =
     let is_built = built_by geometry x before built _ _ _ c.requires.page b.page len
     (search rules) (search rules) b.stays b.others b.len in
     record {
+      prp1 = pointer.0;
+      prp2 = pointer.1;
       few = few;
       seven = t.seven;
       taken = t.taken;
@@ -117,7 +117,7 @@ returns-clause-submitted g c =
           (places_as (b.page ∙ c.requires.page) c.buffer.ensures.pages c.buffer.ensures.offset refl));
       pointer = λ none. b.none (len ∙ none);
       mem = on_ok c.push.result c.unwrap-tail.result ok c.push.ensures.bytes
-          ∙ ap (λ (e : Sqe). with_submission ready lane.submission (with_pointer e o.prp1 o.prp2))
+          ∙ ap (λ (e : Sqe). with_submission ready lane.submission (with_pointer e pointer.0 pointer.1))
           c.entry-entry.ensures.entry;
       lane = ap (λ (r : SubmitNumbers). record lane {
         submission = r;
