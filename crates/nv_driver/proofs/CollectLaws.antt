@@ -1,6 +1,6 @@
 -- A list of commands on its way: its answers are collected.
 use Rattle.std.specs.Prelude.{IfSome, IsSome, OnSome, Option, Some, set}
-use Rattle.std.proofs.Common.{◌≡◌, ◌∙◌, ℕ, ◌+◌, ◌-◌, ◌%◌, ◌<◌, ◌≤◌, All, AllPairs, List, [], ◌∷◌, ◌++◌, add-one, ap, arith, drop, false, get_or, inl, length, length-append, not, refl, subst, sym, take, true, ◌==◌, ◌≢◌}
+use Rattle.std.proofs.Common.{◌≡◌, ◌∙◌, ℕ, ◌+◌, ◌-◌, ◌*◌, ◌%◌, ◌<◌, ◌≤◌, All, AllPairs, List, [], ◌∷◌, ◌++◌, add-one, ap, arith, drop, false, get_or, inl, length, length-append, not, refl, subst, suc, sym, take, true, ◌==◌, ◌≢◌}
 use Rattle.std.proofs.Math.Seq.{drop-cons}
 use Rattle.std.proofs.Math.ListN.{length-set}
 use Rattle.std.proofs.lemmas.List.{take_more, take_more_set}
@@ -9,7 +9,7 @@ use Rattle.std.proofs.lemmas.Nat.{mod_below}
 use Rattle.std.specs.FinSet as set
 use Rattle.nv_host.specs.PageSets.{IsOf, Pages}
 use Rattle.nv_layout.specs.declared.cqe.Cqe.{Cqe}
-use Rattle.nv_prp.specs.Transfer.{IsLegal, transfer, transfer_places}
+use Rattle.nv_prp.specs.Buffer.{IsBuffer, buffer_places}
 use Rattle.nv_queue.proofs.KeptLaws.{between_kept, first_kept}
 use Rattle.nv_queue.specs.Numbers.{IsSlotBetween, first_in_slot}
 use Rattle.nv_queue.specs.Rings.{CollectNumbers, SubmitNumbers, collected_one, known_to}
@@ -19,20 +19,19 @@ use Rattle.nv_command.specs.Command.{transfer_by}
 use Rattle.nv_command.specs.Logs.{IsSendable}
 use Rattle.nv_command.specs.declared.command.Command.{Command}
 use Rattle.nv_bus.specs.Call.{length_of}
-use Rattle.nv_driver.specs.CommandPages.{AreTaken, all_pages, with_pages, without}
-use Rattle.nv_driver.specs.Schedule.{Answer, Numbered, Sent, StaysNamed, World, answer_from, answer_read, answers_to, awaited, collect_ring, data_length, number, own_pages, places, received_from, slot, submit_ring}
+use Rattle.nv_driver.specs.CommandPages.{AreTaken, all_pages, data_pages, with_pages, without}
+use Rattle.nv_driver.specs.Schedule.{Answer, Numbered, Sent, World, answer_from, answer_read, answers_to, awaited, collect_ring, data_length, number, own_pages, places, received_from, slot, submit_ring}
 use Rattle.nv_driver.specs.Layout.{pages_of_command}
-use Rattle.nv_driver.specs.Submitting.{sent_by, transfer_at}
 use Rattle.nv_driver.specs.UnderWay.{HasAnswers, IsKept, IsUnderWay, Run, kept_at, pages_of_all, serial_at, setting_of}
 use Rattle.nv_driver.specs.declared.batch.Batch.{Batch}
+use Rattle.nv_driver.specs.declared.command_pages.CommandPages.{CommandPages}
+use Rattle.nv_driver.specs.declared.geometry.Geometry.{Geometry}
 use Rattle.nv_driver.specs.declared.lane.Lane.{Lane as LaneFields}
-use Rattle.nv_driver.specs.declared.submitting.Outstanding.{Outstanding}
 use Rattle.nv_driver.proofs.BatchLaws.{answers_are, distance_is}
 use Rattle.nv_driver.proofs.CountLaws.{number_above, number_below, number_next, numbers_differ, slot_inside}
 use Rattle.nv_driver.proofs.KeptLaws.{collect_keeps}
-use Rattle.nv_driver.proofs.PointerLaws.{names_in}
 use Rattle.nv_driver.proofs.SerialLaws.{length-answers}
-use Rattle.nv_driver.proofs.SubmittingLaws.{pages_are}
+use Rattle.nv_driver.proofs.SubmittingLaws.{buffer_as, of_set, pages_are, places_as}
 use Rattle.nv_driver.proofs.TurnLaws.{no_command}
 use Rattle.nv_driver.proofs.UnderWayLaws.{command_of, held, pages_left}
 use Rattle.nv_driver.proofs.WindowPageLaws.{given_back, gone, taken_first, taken_rest}
@@ -40,20 +39,22 @@ use Rattle.nv_driver.proofs.WindowPageLaws.{given_back, gone, taken_first, taken
 pub in_some : {X : Type 0} {P : Type 0} (o : Option X) (x : X) → o ≡ Some x → OnSome o P → P
 in_some {P = P} o x is all = subst (λ q. OnSome q P) is all
 
--- a command that was sent with these
-pub record IsOne (r : Run) (o : Outstanding) (x : Sent) : Type 0 where
-  pub sent : x ≡ sent_by r.geometry x.command x.cid o
-  pub few : o.pages.data_pages + 2 ≤ pages_of_command r.geometry.page_size
-  pub pages : all_pages o.pages ≡ own_pages x
+-- a command that was sent with these pages
+pub record IsOne (r : Run) (o : CommandPages) (x : Sent) : Type 0 where
+  pub of_data : x.pages ≡ data_pages o
+  pub offset : x.offset ≡ r.geometry.offset
+  pub few : o.data_pages + 2 ≤ pages_of_command r.geometry.page_size
+  pub pages : all_pages o ≡ own_pages x
 
-is_one : (r : Run) (found : Option Outstanding) (o : Outstanding) (x : Sent) → IsKept r found x → found ≡ Some o → IsOne r o x
+is_one : (r : Run) (found : Option CommandPages) (o : CommandPages) (x : Sent)
+    → IsKept r found x → found ≡ Some o → IsOne r o x
 is_one r found o x k is =
     let same : k.one ≡ o = let both = sym k.is_one ∙ is in cc in
-    let as_sent = k.sent ∙ ap (sent_by r.geometry x.command x.cid) same in
     record {
-      sent = as_sent;
-      few = omega (arith, k.few, ap (λ (q : Outstanding). q.pages.data_pages) same);
-      pages = ap (λ (q : Outstanding). all_pages q.pages) (sym same) ∙ pages_are k.one.pages k.seven ∙ ap own_pages (sym k.sent);
+      of_data = ap (λ (y : Sent). y.pages) k.sent ∙ ap data_pages same;
+      offset = ap (λ (y : Sent). y.offset) k.sent;
+      few = omega (arith, k.few, ap (λ (q : CommandPages). q.data_pages) same);
+      pages = ap all_pages (sym same) ∙ pages_are k.one k.seven ∙ ap own_pages (sym k.sent);
     }
 
 -- more was collected than was told
@@ -98,7 +99,7 @@ module _ {r : Run} {bells turns : ℕ} {b : Batch} {l : LaneFields} {now : ℕ} 
   is_there more = subst (λ q. IsAwaitedThere bytes q) ring_is (subst (λ m. IsAwaitedThere m (awaited (setting_of r) u.world)) u.mem (there more))
 
   -- it has its place in the window
-  pub is_some : b.collected < turns → {found : Option Outstanding} → kept_at b b.collected ≡ found → IsSome found
+  pub is_some : b.collected < turns → {found : Option CommandPages} → kept_at b b.collected ≡ found → IsSome found
   is_some more same = let k = u.kept b.collected no_command (omega arith) (omega (arith, no_more, more)) in
       subst IsSome (sym k.is_one ∙ same) refl
 
@@ -154,37 +155,37 @@ module _ {r : Run} {bells turns : ℕ} {b : Batch} {l : LaneFields} {now : ℕ} 
     held_is = ap pages_of_all (drop-cons u.world.sent b.collected no_command (omega (arith, no_more, more, u.sent)))
         ∙ ap (λ n. own_pages next_one ++ pages_of_all (drop n u.world.sent)) (sym (add-one b.collected))
 
-    module _ {kept : Option Outstanding} {o : Outstanding} (place : kept_at b b.collected ≡ kept) (here : kept ≡ Some o) where
+    module _ {kept : Option CommandPages} {o : CommandPages} (place : kept_at b b.collected ≡ kept) (here : kept ≡ Some o) where
       pub one_is : IsOne r o next_one
       one_is = is_one r (kept_at b b.collected) o next_one (u.kept b.collected no_command (omega arith) (omega (arith, no_more, more))) (place ∙ here)
 
-      all_is : held u ≡ all_pages o.pages ++ pages_of_all (drop (b.collected + 1) u.world.sent)
+      all_is : held u ≡ all_pages o ++ pages_of_all (drop (b.collected + 1) u.world.sent)
       all_is = held_is ∙ ap (λ ps. ps ++ pages_of_all (drop (b.collected + 1) u.world.sent)) (sym one_is.pages)
 
-      pub give_own : All (λ p. IsOf l.pages.first l.pages.count p) (all_pages o.pages)
+      pub give_own : All (λ p. IsOf l.pages.first l.pages.count p) (all_pages o)
       give_own =
-          subst (λ (s : Pages). All (λ p. IsOf s.first s.count p) (all_pages o.pages)) (sym (pages_left u))
-          (taken_first r.lane.pages (all_pages o.pages) _ (subst (AreTaken r.lane.pages) all_is u.taken)).own
+          subst (λ (s : Pages). All (λ p. IsOf s.first s.count p) (all_pages o)) (sym (pages_left u))
+          (taken_first r.lane.pages (all_pages o) _ (subst (AreTaken r.lane.pages) all_is u.taken)).own
 
-      pub give_none : All (λ p. set.contains l.pages.members p ≡ false) (all_pages o.pages)
+      pub give_none : All (λ p. set.contains l.pages.members p ≡ false) (all_pages o)
       give_none =
-          subst (λ (s : Pages). All (λ p. set.contains s.members p ≡ false) (all_pages o.pages))
+          subst (λ (s : Pages). All (λ p. set.contains s.members p ≡ false) (all_pages o))
           (sym (pages_left u ∙ ap (without r.lane.pages) all_is))
-          (λ i d h. gone r.lane.pages (all_pages o.pages) (pages_of_all (drop (b.collected + 1) u.world.sent)) i d h)
+          (λ i d h. gone r.lane.pages (all_pages o) (pages_of_all (drop (b.collected + 1) u.world.sent)) i d h)
 
-      pub give_distinct : AllPairs (λ p q. p ≢ q) (all_pages o.pages)
-      give_distinct = (taken_first r.lane.pages (all_pages o.pages) _ (subst (AreTaken r.lane.pages) all_is u.taken)).distinct
+      pub give_distinct : AllPairs (λ p q. p ≢ q) (all_pages o)
+      give_distinct = (taken_first r.lane.pages (all_pages o) _ (subst (AreTaken r.lane.pages) all_is u.taken)).distinct
 
       taken_left : AreTaken r.lane.pages (pages_of_all (drop (b.collected + 1) u.world.sent))
-      taken_left = taken_rest r.lane.pages (all_pages o.pages) _ (subst (AreTaken r.lane.pages) all_is u.taken)
+      taken_left = taken_rest r.lane.pages (all_pages o) _ (subst (AreTaken r.lane.pages) all_is u.taken)
 
-      pages_back : with_pages l.pages (all_pages o.pages) ≡ without r.lane.pages (pages_of_all (drop (b.collected + 1) u.world.sent))
-      pages_back = ap (λ s. with_pages s (all_pages o.pages)) (pages_left u ∙ ap (without r.lane.pages) all_is)
-          ∙ given_back r.lane.pages (all_pages o.pages) (pages_of_all (drop (b.collected + 1) u.world.sent)) (subst (AreTaken r.lane.pages) all_is u.taken)
+      pages_back : with_pages l.pages (all_pages o) ≡ without r.lane.pages (pages_of_all (drop (b.collected + 1) u.world.sent))
+      pages_back = ap (λ s. with_pages s (all_pages o)) (pages_left u ∙ ap (without r.lane.pages) all_is)
+          ∙ given_back r.lane.pages (all_pages o) (pages_of_all (drop (b.collected + 1) u.world.sent)) (subst (AreTaken r.lane.pages) all_is u.taken)
 
       -- ---- what is left
 
-      lane_left : lane_by (known_to l.submission q.sq_head) (collected_one l.completion) l.serial (with_pages l.pages (all_pages o.pages))
+      lane_left : lane_by (known_to l.submission q.sq_head) (collected_one l.completion) l.serial (with_pages l.pages (all_pages o))
           ≡ lane_by (submit_ring (setting_of r) b.sent (b.collected + 1)) (collect_ring (setting_of r) (b.collected + 1) b.told)
           (serial_at r b.sent) (without r.lane.pages (pages_of_all (drop (b.collected + 1) u.world.sent)))
       lane_left =
@@ -202,7 +203,7 @@ module _ {r : Run} {bells turns : ℕ} {b : Batch} {l : LaneFields} {now : ℕ} 
           lanes_same submission completion serial pages_back
 
       pub collects : {a : SubmitNumbers} {p : CollectNumbers} {s : Pages} → a ≡ known_to l.submission q.sq_head → p ≡ collected_one l.completion
-          → s ≡ with_pages l.pages (all_pages o.pages) → IsUnderWay r bells turns (record b { collected = b.collected + 1 }) (lane_by a p l.serial s) now bytes
+          → s ≡ with_pages l.pages (all_pages o) → IsUnderWay r bells turns (record b { collected = b.collected + 1 }) (lane_by a p l.serial s) now bytes
       collects submission completion pages =
           let t = setting_of r in
           let w = u.world in
@@ -240,64 +241,76 @@ module _ {r : Run} {bells turns : ℕ} {b : Batch} {l : LaneFields} {now : ℕ} 
 
       -- ---- the answer
 
-      -- its data pointer names its data
-      names : (0 < data_length next_one → IsLegal (transfer_at r.geometry.page_size bytes o next_one.command))
-          × (transfer_places (transfer_at r.geometry.page_size bytes o next_one.command) ≡ places r.geometry.page_size next_one)
-      names =
-          let page_size = r.geometry.page_size in
+      -- its data lies in pages of its own, which lie in the memory
+      own_buffer : IsBuffer bytes r.geometry.page_size (data_pages o) r.geometry.offset (data_length next_one)
+      own_buffer =
           let x = next_one in
-          subst (λ (y : Sent). (0 < data_length x → IsLegal (transfer page_size bytes y.prp1 y.prp2 (data_length x)))
-          × (transfer_places (transfer page_size bytes y.prp1 y.prp2 (data_length x)) ≡ places page_size x)) one_is.sent
-          (names_in page_size x bytes (subst (StaysNamed page_size x) u.mem
-          (u.keeps.named b.collected no_command (omega (arith, u.collected)) (omega (arith, no_more, more, u.sent)))))
+          let size = r.geometry.page_size in
+          let own = u.keeps.own b.collected no_command (omega (arith, u.collected))
+          (omega (arith, no_more, more, u.sent)) in
+          subst (λ ps. IsBuffer bytes size ps r.geometry.offset (data_length x)) one_is.of_data
+          (record {
+            below = u.begun.geometry.offset.1;
+            aligned = u.begun.geometry.offset.0;
+            enough = subst (λ from. from + data_length x ≤ length x.pages * size) one_is.offset own.enough;
+            inside = λ i d h. of_set r.lane.pages bytes size (get_or x.pages i d)
+                (omega (arith, u.begun.laid.inside, u.size))
+                (u.own b.collected no_command (omega (arith, no_more, more)) (suc (suc i)) d (omega arith));
+          })
 
       module _ {k : Command} (same : k ≡ next_one.command) where
         pub answer_sends : IsSendable k
         answer_sends =
             subst IsSendable (sym same) (u.keeps.own b.collected no_command (omega (arith, u.collected)) (omega (arith, no_more, more, u.sent))).can.sends
 
-        pub answer_legal : 0 < length_of (transfer_by k) → IsLegal (transfer_at now bytes o k)
-        answer_legal =
-            subst (λ c. 0 < length_of (transfer_by c) → IsLegal (transfer_at now bytes o c)) (sym same)
-            (subst (λ p. 0 < data_length next_one → IsLegal (transfer_at p bytes o next_one.command))
-            (sym u.page_size) names.0)
+        module _ {pages : List ℕ} {from : ℕ} (of_data : pages ≡ data_pages o)
+            (begins : from ≡ b.geometry.offset) where
+          offset_is : from ≡ r.geometry.offset
+          offset_is = begins ∙ ap (λ (g : Geometry). g.offset) u.geometry
 
-        answer_is : (d : Answer)
-            → answer_from k q (received_from (transfer_by k) bytes (transfer_places (transfer_at now bytes o k)))
-            ≡ get_or (answers_to r.controller r.bus.state u.world.sent) b.collected d
-        answer_is d =
-            let t = setting_of r in
-            let held = u.keeps.held b.collected no_command (omega (arith, u.collected)) (omega (arith, more, u.done)) in
-            let k' = next_one.command in
-            let read = λ (c : Command) (ps : List ℕ).
-            answer_from c q (received_from (transfer_by c) bytes ps) in
-            ap (λ c. read c (transfer_places (transfer_at now bytes o c))) same
-            ∙ ap (λ p. read k' (transfer_places (transfer_at p bytes o k'))) u.page_size
-            ∙ ap (read k') names.1
-            ∙ ap (λ m. answer_read t.page_size next_one m q) (sym u.mem)
-            ∙ ap (answer_read t.page_size next_one u.world.mem) completion_is
-            ∙ held.answer d
+          pub answer_buffer : IsBuffer bytes now pages from (length_of (transfer_by k))
+          answer_buffer = buffer_as (sym u.page_size) (sym of_data) (sym offset_is)
+              (ap (λ c. length_of (transfer_by c)) (sym same)) own_buffer
 
-        pub answers_more : {answers : List Answer} {a : Answer} {n : ℕ} → n ≡ b.collected → HasAnswers r b.collected answers
-            → a ≡ answer_from k q
-            (received_from (transfer_by k) bytes (transfer_places (transfer_at now bytes o k)))
-            → HasAnswers r (b.collected + 1) (set answers n a)
-        answers_more {answers} {a} {n} at has is =
-            let c = r.controller in
-            let s = r.bus.state in
-            let xs = u.world.sent in
-            let size = length-answers c s xs in
-            let few = no_more in
-            let all = answers_are r.lane.serial r.commands xs b.sent u.commands c s in
-            record {
-              len = length-set answers n a ∙ has.len;
-              first = ap (λ i. take (b.collected + 1) (set answers i a)) at
-                  ∙ take_more_set answers b.collected a (omega (arith, has.len, few, more, u.some))
-                  ∙ ap (λ ys. ys ++ a ∷ []) (has.first ∙ sym (all b.collected (omega (arith, few))))
-                  ∙ ap (λ y. take b.collected (answers_to c s xs) ++ y ∷ []) (is ∙ answer_is a)
-                  ∙ sym (take_more (answers_to c s xs) b.collected a (omega (arith, size, u.sent, few, more)))
-                  ∙ all (b.collected + 1) (omega (arith, few, more));
-            }
+          places_are : buffer_places now pages from (length_of (transfer_by k)) ≡ places r.geometry.page_size next_one
+          places_are = places_as u.page_size (of_data ∙ sym one_is.of_data) (offset_is ∙ sym one_is.offset)
+              (ap (λ c. length_of (transfer_by c)) same)
+
+          answer_is : (d : Answer)
+              → answer_from k q
+              (received_from (transfer_by k) bytes (buffer_places now pages from (length_of (transfer_by k))))
+              ≡ get_or (answers_to r.controller r.bus.state u.world.sent) b.collected d
+          answer_is d =
+              let t = setting_of r in
+              let held = u.keeps.held b.collected no_command (omega (arith, u.collected))
+              (omega (arith, more, u.done)) in
+              ap (λ at. answer_from k q (received_from (transfer_by k) bytes at)) places_are
+              ∙ ap (λ c. answer_from c q (received_from (transfer_by c) bytes (places t.page_size next_one))) same
+              ∙ ap (λ m. answer_read t.page_size next_one m q) (sym u.mem)
+              ∙ ap (answer_read t.page_size next_one u.world.mem) completion_is
+              ∙ held.answer d
+
+          pub answers_more : {answers : List Answer} {a : Answer} {n : ℕ}
+              → n ≡ b.collected → HasAnswers r b.collected answers
+              → a ≡ answer_from k q
+              (received_from (transfer_by k) bytes (buffer_places now pages from (length_of (transfer_by k))))
+              → HasAnswers r (b.collected + 1) (set answers n a)
+          answers_more {answers} {a} {n} at has is =
+              let c = r.controller in
+              let s = r.bus.state in
+              let xs = u.world.sent in
+              let size = length-answers c s xs in
+              let few = no_more in
+              let all = answers_are r.lane.serial r.commands xs b.sent u.commands c s in
+              record {
+                len = length-set answers n a ∙ has.len;
+                first = ap (λ i. take (b.collected + 1) (set answers i a)) at
+                    ∙ take_more_set answers b.collected a (omega (arith, has.len, few, more, u.some))
+                    ∙ ap (λ ys. ys ++ a ∷ []) (has.first ∙ sym (all b.collected (omega (arith, few))))
+                    ∙ ap (λ y. take b.collected (answers_to c s xs) ++ y ∷ []) (is ∙ answer_is a)
+                    ∙ sym (take_more (answers_to c s xs) b.collected a (omega (arith, size, u.sent, few, more)))
+                    ∙ all (b.collected + 1) (omega (arith, few, more));
+              }
 
   -- the command by its number
   pub command_at : {k : Command} {ks : List Command} {n : ℕ} (e : Command) → b.collected < b.sent → n ≡ b.collected → ks ≡ r.commands → k ≡ get_or ks n e

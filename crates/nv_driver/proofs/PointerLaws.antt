@@ -65,12 +65,12 @@ named t pages from is =
     (λ i below. (is (omega arith)).places i below)
 
 -- the data pointer names the places of the data, and is legal where there is data
-abbrev pub Names : ℕ → Sent → List ℕ → Type 0
+abbrev Names : ℕ → Sent → List ℕ → Type 0
 Names page_size x mem =
     (0 < data_length x → IsLegal (pointed page_size x mem))
     × (transfer_places (pointed page_size x mem) ≡ places page_size x)
 
-pub names_in : (page_size : ℕ) (x : Sent) (mem : List ℕ) → StaysNamed page_size x mem → Names page_size x mem
+names_in : (page_size : ℕ) (x : Sent) (mem : List ℕ) → StaysNamed page_size x mem → Names page_size x mem
 names_in page_size x mem stays =
     let is = λ (some : 0 < data_length x).
     stays some mem (record { len = refl; in_first = λ many. refl; in_second = λ many. refl }) in

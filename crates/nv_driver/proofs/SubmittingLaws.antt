@@ -6,10 +6,10 @@ use Rattle.nv_host.specs.Pages.{HasPage, IsPageSize}
 use Rattle.nv_host.specs.Bytes.{bytes_at}
 use Rattle.nv_host.proofs.PageLaws.{page_size_bounds}
 use Rattle.nv_prp.proofs.PlaceLaws.{length-written_at}
-use Rattle.nv_prp.specs.Buffer.{IsBuffer, IsListPlace, IsOutside, KeepsList, KeepsOutside, StaysFor}
+use Rattle.nv_prp.specs.Buffer.{IsBuffer, IsListPlace, IsOutside, KeepsList, KeepsOutside, StaysFor, buffer_places}
 use Rattle.nv_prp.proofs.BufferLaws.{rest_distinct}
 use Rattle.nv_prp.specs.Place.{AreDistinct, written_at}
-use Rattle.nv_prp.specs.Transfer.{transfer, transfer_places}
+use Rattle.nv_prp.specs.Transfer.{transfer}
 use Rattle.nv_command.specs.Command.{CommandFits, host_data_of, transfer_by}
 use Rattle.nv_driver.specs.CommandPages.{AreTaken, all_pages, data_pages}
 use Rattle.nv_driver.specs.Geometry.{IsGeometry}
@@ -19,7 +19,7 @@ use Rattle.nv_driver.specs.declared.command_pages.CommandPages.{CommandPages}
 use Rattle.nv_driver.specs.declared.geometry.Geometry.{Geometry}
 use Rattle.nv_driver.proofs.DataLaws.{ArePlaces, length-host_data, sent_back}
 use Rattle.nv_driver.proofs.ListPageLaws.{written_list}
-use Rattle.nv_driver.proofs.PointerLaws.{names_in, stays_in}
+use Rattle.nv_driver.proofs.PointerLaws.{stays_in}
 use Rattle.nv_driver.proofs.RegionLaws.{buffer_data, data_keeps}
 
 -- two, and the rest
@@ -37,7 +37,7 @@ pub length-data_pages : (p : CommandPages) → length p.numbers ≡ 7 → p.data
 length-data_pages p seven few = let one = length-take p.data_pages (drop 2 p.numbers) in let rest = length-drop 2 p.numbers in omega arith
 
 -- a page of a set lies in a memory that has all pages of the set
-of_set : (s : Pages) (bytes : List ℕ) (page_size page : ℕ) → (s.first + s.count) * page_size ≤ length bytes → IsOf s.first s.count page
+pub of_set : (s : Pages) (bytes : List ℕ) (page_size page : ℕ) → (s.first + s.count) * page_size ≤ length bytes → IsOf s.first s.count page
     → HasPage bytes page_size page
 of_set s bytes page_size page inside own =
     let most : page + 1 ≤ s.first + s.count = omega (arith, own.1) in
@@ -67,6 +67,21 @@ buffer_of g s p bytes page_size len is page h enough =
           (sym (length-data_pages p h.seven h.few)) enough;
       inside = λ i d below. each_inside s p g.page_size bytes h (suc (suc i)) d (omega arith);
     })
+
+-- the same buffer, and its places, by other names
+pub buffer_as : {bytes pages pages' : List ℕ} {size size' from from' len len' : ℕ}
+    → size ≡ size' → pages ≡ pages' → from ≡ from' → len ≡ len'
+    → IsBuffer bytes size pages from len → IsBuffer bytes size' pages' from' len'
+buffer_as {bytes} {pages} {pages'} {size} {size'} {from} {from'} {len} {len'} e f g h is =
+    subst (IsBuffer bytes size' pages' from') h
+    (subst (λ n. IsBuffer bytes size' pages' n len) g
+    (subst (λ ps. IsBuffer bytes size' ps from len) f
+    (subst (λ n. IsBuffer bytes n pages from len) e is)))
+
+pub places_as : {pages pages' : List ℕ} {size size' from from' len len' : ℕ}
+    → size ≡ size' → pages ≡ pages' → from ≡ from' → len ≡ len'
+    → buffer_places size pages from len ≡ buffer_places size' pages' from' len'
+places_as e f g h = cc
 
 pub list_of : (g : Geometry) (s : Pages) (p : CommandPages) (bytes : List ℕ) (page_size : ℕ)
     → IsGeometry g → page_size ≡ g.page_size → Has s p g.page_size (length bytes)
@@ -118,15 +133,13 @@ built_by g x old built page_size now len page after is_len first second stays ot
 pub prepared_by : (page_size : ℕ) (x : Sent) (old built new : List ℕ) → IsPageSize page_size
     → CommandFits x.command → IsBuffer old page_size x.pages x.offset (data_length x)
     → AreDistinct (own_pages x) → IsBuilt page_size x old built
-    → new ≡ written_at built (transfer_places (pointed page_size x built)) (host_data_of x.command)
+    → new ≡ written_at built (places page_size x) (host_data_of x.command)
     → IsPrepared page_size x old new
-prepared_by page_size x old built new is fits buffer distinct b written =
+prepared_by page_size x old built new is fits buffer distinct b put =
     let some : 0 < page_size = omega (arith, page_size_bounds page_size is) in
     let m = transfer_by x.command in
     let at = places page_size x in
     let xs = host_data_of x.command in
-    let named = (names_in page_size x built b.stays).1 in
-    let put : new ≡ written_at built at xs = written ∙ ap (λ ps. written_at built ps xs) named in
     let size : length new ≡ length built =
     ap (λ (q : List ℕ). length q) put ∙ length-written_at built at xs in
     let theirs = subst (λ n. ArePlaces m n at) (sym b.len) (buffer_data page_size x old some buffer (rest_distinct x.first x.second x.pages distinct)) in

@@ -1,6 +1,6 @@
 -- A list of commands on its way: its beginning, submissions, doorbells and turns.
 use Rattle.std.specs.Prelude.{None, Some, set}
-use Rattle.std.proofs.Common.{◌≡◌, ◌≢◌, ◌∙◌, ℕ, ◌+◌, ◌-◌, ◌*◌, ◌%◌, ◌<◌, ◌≤◌, All, List, [], ◌∷◌, ◌++◌, ap, arith, drop, get_or, inl, length, length-append, length-drop, map, refl, subst, sym, take, true}
+use Rattle.std.proofs.Common.{◌≡◌, ◌≢◌, ◌∙◌, ℕ, ◌+◌, ◌-◌, ◌*◌, ◌%◌, ◌<◌, ◌≤◌, All, List, [], ◌∷◌, ◌++◌, ap, arith, drop, get_or, inl, length, length-append, length-drop, refl, subst, sym, take, true}
 use Rattle.std.proofs.Math.ListN.{length-set}
 use Rattle.std.proofs.Math.Nat.{mod-eq_of_lt, mul-le-mul_right}
 use Rattle.std.proofs.lemmas.List.{drop-append-le, get_or-drop, get_or-map, get_or-set_other, get_or-set_same}
@@ -22,9 +22,9 @@ use Rattle.nv_driver.specs.Schedule.{AreOutside, CanBeSent, IsPrepared, MaySubmi
 use Rattle.nv_driver.specs.Submitting.{IsSubmitted, sent_by}
 use Rattle.nv_driver.specs.UnderWay.{IsKept, IsUnderWay, Run, kept_at, numbered_of, pages_of_all, serial_at, setting_of}
 use Rattle.nv_driver.specs.declared.batch.Batch.{Batch}
+use Rattle.nv_driver.specs.declared.command_pages.CommandPages.{CommandPages}
 use Rattle.nv_driver.specs.declared.geometry.Geometry.{Geometry}
 use Rattle.nv_driver.specs.declared.lane.Lane.{Lane as LaneFields}
-use Rattle.nv_driver.specs.declared.submitting.Outstanding.{Outstanding}
 use Rattle.nv_driver.proofs.BatchLaws.{command_at, length-from_serial, serial_next}
 use Rattle.nv_driver.proofs.CountLaws.{number_above, number_next}
 use Rattle.nv_driver.proofs.KeptLaws.{idle_keeps}
@@ -102,7 +102,7 @@ held {r} {bells} {turns} {b} u = pages_of_all (drop b.collected u.world.sent)
 pub own_length : (r : Run) (b : Batch) (n : ℕ) (x : Sent) → IsReady r.geometry r.bus r.controller r.lane r.geometry.page_size r.bytes
     → IsKept r (kept_at b n) x → length (own_pages x) ≤ pages_of_command r.geometry.page_size
 own_length r b n x ready k =
-    let size = length-data_pages k.one.pages k.seven (omega (arith, k.few, seven_pages r.geometry.page_size ready.geometry.page_size)) in
+    let size = length-data_pages k.one k.seven (omega (arith, k.few, seven_pages r.geometry.page_size ready.geometry.page_size)) in
     let same = ap (λ (y : Sent). length (own_pages y)) k.sent in omega (arith, size, same, k.few)
 
 module _ {r : Run} {bells turns : ℕ} {b : Batch} {l : LaneFields} {now : ℕ} {bytes : List ℕ} (u : IsUnderWay r bells turns b l now bytes) where
@@ -188,34 +188,34 @@ unfolding slot_of
 two_places n m l h = λ same. slots_apart 16 m n l h (sym same)
 
 -- a command that is submitted while others are outstanding
-module _ {r : Run} {bells turns : ℕ} {b : Batch} {l l' : LaneFields} {now : ℕ} {bytes mem : List ℕ} {k : Command} {o : Outstanding}
+module _ {r : Run} {bells turns : ℕ} {b : Batch} {l l' : LaneFields} {now : ℕ} {bytes mem : List ℕ} {k : Command} {o : CommandPages}
     (u : IsUnderWay r bells turns b l now bytes) (more : b.sent < b.collected + r.geometry.window) (sub : IsSubmitted r.geometry k o l l' bytes mem) where
-  own_new : (i d : ℕ) → i < length (own_pages (sent_by r.geometry k l.serial o))
-      → IsOf r.lane.pages.first r.lane.pages.count (get_or (own_pages (sent_by r.geometry k l.serial o)) i d)
+  own_new : (i d : ℕ) → i < length (own_pages (sent_by r.geometry k l.serial o sub.prp1 sub.prp2))
+      → IsOf r.lane.pages.first r.lane.pages.count (get_or (own_pages (sent_by r.geometry k l.serial o sub.prp1 sub.prp2)) i d)
   own_new i d h =
-      subst (λ (s : Pages). IsOf s.first s.count (get_or (own_pages (sent_by r.geometry k l.serial o)) i d)) (pages_left u)
-      (own_of_set l.pages (sent_by r.geometry k l.serial o) (all_pages o.pages) (pages_are o.pages sub.seven) sub.taken.own i d h)
+      subst (λ (s : Pages). IsOf s.first s.count (get_or (own_pages (sent_by r.geometry k l.serial o sub.prp1 sub.prp2)) i d)) (pages_left u)
+      (own_of_set l.pages (sent_by r.geometry k l.serial o sub.prp1 sub.prp2) (all_pages o) (pages_are o sub.seven) sub.taken.own i d h)
 
-  taken_new : AreTaken (without r.lane.pages (held u)) (own_pages (sent_by r.geometry k l.serial o))
-  taken_new = subst (λ s. AreTaken s (own_pages (sent_by r.geometry k l.serial o))) (pages_left u)
-      (subst (AreTaken l.pages) (pages_are o.pages sub.seven) sub.taken)
+  taken_new : AreTaken (without r.lane.pages (held u)) (own_pages (sent_by r.geometry k l.serial o sub.prp1 sub.prp2))
+  taken_new = subst (λ s. AreTaken s (own_pages (sent_by r.geometry k l.serial o sub.prp1 sub.prp2))) (pages_left u)
+      (subst (AreTaken l.pages) (pages_are o sub.seven) sub.taken)
 
-  may : (can : CanBeSent k) → MaySubmit (setting_of r) u.world (sent_by r.geometry k l.serial o)
+  may : (can : CanBeSent k) → MaySubmit (setting_of r) u.world (sent_by r.geometry k l.serial o sub.prp1 sub.prp2)
   may can =
-      let x = sent_by r.geometry k l.serial o in
+      let x = sent_by r.geometry k l.serial o sub.prp1 sub.prp2 in
       let g = r.geometry in
       let laid = u.begun.laid in
       let mem_is = u.mem in
       let inside = subst (λ m. (l.pages.first + l.pages.count) * g.page_size ≤ length m) (sym mem_is) (still_inside u) in
-      let has : Has l.pages o.pages g.page_size (length u.world.mem) =
+      let has : Has l.pages o g.page_size (length u.world.mem) =
       record { seven = sub.seven; few = omega (arith, sub.few, seven_pages g.page_size u.begun.geometry.page_size); taken = sub.taken; inside = inside } in
       record {
         free = omega (arith, more, u.sent, u.collected, u.begun.geometry.window.2, u.begun.depth);
         can = can;
         cid = omega (arith, serial_below u);
-        buffer = buffer_of g l.pages o.pages u.world.mem g.page_size _ u.begun.geometry refl has sub.enough;
-        list = list_of g l.pages o.pages u.world.mem g.page_size u.begun.geometry refl has;
-        distinct = distinct_of l.pages o.pages sub.seven sub.taken;
+        buffer = buffer_of g l.pages o u.world.mem g.page_size _ u.begun.geometry refl has sub.enough;
+        list = list_of g l.pages o u.world.mem g.page_size u.begun.geometry refl has;
+        distinct = distinct_of l.pages o sub.seven sub.taken;
         submissions = before_pages r.lane.pages x g.page_size r.lane.submission.base (64 * r.lane.submission.depth) own_new (omega (arith, laid.rings, laid.pages));
         completions = before_pages r.lane.pages x g.page_size r.lane.completion.base (16 * r.lane.submission.depth) own_new laid.pages;
         apart = λ n d from below i e h j f low same.
@@ -230,10 +230,10 @@ module _ {r : Run} {bells turns : ℕ} {b : Batch} {l l' : LaneFields} {now : �
       }
 
   submitted_keeps : CanBeSent k
-      → Keeps (setting_of r) r.bus.state (record u.world { mem = mem; sent = u.world.sent ++ sent_by r.geometry k l.serial o ∷ [] })
+      → Keeps (setting_of r) r.bus.state (record u.world { mem = mem; sent = u.world.sent ++ sent_by r.geometry k l.serial o sub.prp1 sub.prp2 ∷ [] })
   submitted_keeps can =
       let t = setting_of r in
-      let x = sent_by r.geometry k l.serial o in
+      let x = sent_by r.geometry k l.serial o sub.prp1 sub.prp2 in
       let w = u.world in
       let ring : l.submission ≡ submit_ring t (length w.sent) (length w.answers) =
       ap (λ (q : LaneFields). q.submission) u.lane ∙ ap (λ n. submit_ring t n b.collected) (sym u.sent) ∙ ap (submit_ring t (length w.sent)) (sym u.collected) in
@@ -250,7 +250,7 @@ module _ {r : Run} {bells turns : ℕ} {b : Batch} {l l' : LaneFields} {now : �
       (u.kept n d from below)
 
   kept_new : (n : ℕ) → n ≡ b.sent
-      → IsKept r (kept_at (record b { outstanding = set b.outstanding (b.sent % 16) (Some o); sent = b.sent + 1 }) n) (sent_by r.geometry k l.serial o)
+      → IsKept r (kept_at (record b { outstanding = set b.outstanding (b.sent % 16) (Some o); sent = b.sent + 1 }) n) (sent_by r.geometry k l.serial o sub.prp1 sub.prp2)
   kept_new n is = record {
     one = o;
     is_one = ap (λ i. get_or (set b.outstanding (b.sent % 16) (Some o)) (i % 16) None) is
@@ -264,29 +264,29 @@ module _ {r : Run} {bells turns : ℕ} {b : Batch} {l l' : LaneFields} {now : �
     submission = submit_ring (setting_of r) (b.sent + 1) b.collected;
     completion = collect_ring (setting_of r) b.collected b.told;
     serial = serial_at r (b.sent + 1);
-    pages = without r.lane.pages (pages_of_all (drop b.collected (u.world.sent ++ sent_by r.geometry k l.serial o ∷ [])));
+    pages = without r.lane.pages (pages_of_all (drop b.collected (u.world.sent ++ sent_by r.geometry k l.serial o sub.prp1 sub.prp2 ∷ [])));
   }
   lane_new =
       let t = setting_of r in
-      let x = sent_by r.geometry k l.serial o in
+      let x = sent_by r.geometry k l.serial o sub.prp1 sub.prp2 in
       let xs = u.world.sent in
       let c = u.keeps.counts in
-      let pages : without (without r.lane.pages (held u)) (all_pages o.pages) ≡ without r.lane.pages (pages_of_all (drop b.collected (xs ++ x ∷ []))) =
-      without_also r.lane.pages (held u) (all_pages o.pages) ∙ ap (λ ps. without r.lane.pages (held u ++ ps)) (pages_are o.pages sub.seven)
+      let pages : without (without r.lane.pages (held u)) (all_pages o) ≡ without r.lane.pages (pages_of_all (drop b.collected (xs ++ x ∷ []))) =
+      without_also r.lane.pages (held u) (all_pages o) ∙ ap (λ ps. without r.lane.pages (held u ++ ps)) (pages_are o sub.seven)
       ∙ ap (without r.lane.pages) (sym (held_more xs x b.collected (omega (arith, c.collected, c.done, c.rung, u.sent, u.collected)))) in
       sub.lane
-      ∙ ap (λ (q : LaneFields). record q { submission = submitted_one q.submission; serial = next_serial q.serial; pages = without q.pages (all_pages o.pages) }) u.lane
+      ∙ ap (λ (q : LaneFields). record q { submission = submitted_one q.submission; serial = next_serial q.serial; pages = without q.pages (all_pages o) }) u.lane
       ∙ ap (λ n. record {
         submission = record { base = t.sq; depth = t.depth; submitted = n; known = number t b.collected };
         completion = collect_ring t b.collected b.told;
         serial = next_serial (serial_at r b.sent);
-        pages = without (without r.lane.pages (held u)) (all_pages o.pages);
+        pages = without (without r.lane.pages (held u)) (all_pages o);
       }) (number_next t b.sent)
       ∙ ap (λ n. record {
         submission = submit_ring t (b.sent + 1) b.collected;
         completion = collect_ring t b.collected b.told;
         serial = n;
-        pages = without (without r.lane.pages (held u)) (all_pages o.pages);
+        pages = without (without r.lane.pages (held u)) (all_pages o);
       }) (serial_next r.lane.serial b.sent)
       ∙ ap (λ (p : Pages). record {
         submission = submit_ring t (b.sent + 1) b.collected;
@@ -298,7 +298,7 @@ module _ {r : Run} {bells turns : ℕ} {b : Batch} {l l' : LaneFields} {now : �
   pub submits : (now' : ℕ) → b.sent < length r.commands → ((d : Command) → k ≡ get_or r.commands b.sent d) → length mem ≡ length bytes → now' ≡ now
       → IsUnderWay r bells turns (record b { outstanding = set b.outstanding (b.sent % 16) (Some o); sent = b.sent + 1 }) l' now' mem
   submits now' below is size page =
-      let x = sent_by r.geometry k l.serial o in
+      let x = sent_by r.geometry k l.serial o sub.prp1 sub.prp2 in
       let w = u.world in
       let c = u.keeps.counts in
       let can = subst CanBeSent (sym (is k)) (u.can b.sent k below) in
@@ -342,7 +342,7 @@ module _ {r : Run} {bells turns : ℕ} {b : Batch} {l l' : LaneFields} {now : �
 
 -- the same by the number that a loop has come to
 pub submits_at : {r : Run} {bells turns : ℕ} {b : Batch} {l l' : LaneFields} {now now' n : ℕ} {bytes mem : List ℕ} {g : Geometry} {k : Command} {ks : List Command}
-    {o : Outstanding} (u : IsUnderWay r bells turns b l now bytes) (e : Command) → b.sent ≡ n → b.sent < b.collected + r.geometry.window → g ≡ r.geometry
+    {o : CommandPages} (u : IsUnderWay r bells turns b l now bytes) (e : Command) → b.sent ≡ n → b.sent < b.collected + r.geometry.window → g ≡ r.geometry
     → IsSubmitted g k o l l' bytes mem → ks ≡ r.commands → k ≡ get_or ks n e → n < length ks → length mem ≡ length bytes → now' ≡ now
     → IsUnderWay r bells turns (record b { outstanding = set b.outstanding (n % 16) (Some o); sent = b.sent + 1 }) l' now' mem
 submits_at {r} {bells} {turns} {b} {l} {l'} {now} {now'} {n} {bytes} {mem} {g} {k} {ks} {o} u e at more is sub same one below size page =

@@ -6,48 +6,47 @@ use Rattle.nv_queue.specs.Slots.{with_submission}
 use Rattle.nv_command.specs.Command.{transfer_by}
 use Rattle.nv_command.specs.declared.command.Command.{Command}
 use Rattle.nv_bus.specs.Call.{length_of}
-use Rattle.nv_prp.specs.Transfer.{Transfer, transfer}
 use Rattle.nv_model.specs.Step.{next_serial}
 use Rattle.nv_driver.specs.CommandPages.{AreTaken, all_pages, data_pages, without}
 use Rattle.nv_driver.specs.Layout.{pages_of_command}
 use Rattle.nv_driver.specs.Schedule.{IsPrepared, Sent, data_length, entry}
+use Rattle.nv_driver.specs.declared.command_pages.CommandPages.{CommandPages}
 use Rattle.nv_driver.specs.declared.geometry.Geometry.{Geometry}
 use Rattle.nv_driver.specs.declared.lane.Lane.{Lane as LaneFields}
-use Rattle.nv_driver.specs.declared.submitting.Outstanding.{Outstanding}
 
 -- the command with its pages and its data pointer
-abbrev pub sent_by : Geometry → Command → ℕ → Outstanding → Sent
-sent_by g k cid o = record {
+abbrev pub sent_by : Geometry → Command → ℕ → CommandPages → ℕ → ℕ → Sent
+sent_by g k cid own prp1 prp2 = record {
   command = k;
   cid = cid;
-  pages = data_pages o.pages;
+  pages = data_pages own;
   offset = g.offset;
-  first = slice_index o.pages.numbers 0;
-  second = slice_index o.pages.numbers 1;
+  first = slice_index own.numbers 0;
+  second = slice_index own.numbers 1;
   list_offset = g.list_offset;
-  prp1 = o.prp1;
-  prp2 = o.prp2;
+  prp1 = prp1;
+  prp2 = prp2;
 }
-
--- the transfer of the command's data that its data pointer describes
-abbrev pub transfer_at : ℕ → List ℕ → Outstanding → Command → Transfer
-transfer_at page_size bytes o k = transfer page_size bytes o.prp1 o.prp2 (length_of (transfer_by k))
 
 -- it took its pages, they were made ready, and its entry was put in the ring; a command without
 -- data has no data pointer
-pub record IsSubmitted (g : Geometry) (k : Command) (o : Outstanding) (old new : LaneFields)
+pub record IsSubmitted (g : Geometry) (k : Command) (own : CommandPages) (old new : LaneFields)
     (before after : List ℕ) : Type 0 where
-  pub few : o.pages.data_pages + 2 ≤ pages_of_command g.page_size
-  pub seven : length o.pages.numbers ≡ 7
-  pub taken : AreTaken old.pages (all_pages o.pages)
-  pub enough : g.offset + data_length (sent_by g k old.serial o) ≤ o.pages.data_pages * g.page_size
+  pub prp1 : ℕ
+  pub prp2 : ℕ
+  pub few : own.data_pages + 2 ≤ pages_of_command g.page_size
+  pub seven : length own.numbers ≡ 7
+  pub taken : AreTaken old.pages (all_pages own)
+  pub enough : g.offset + data_length (sent_by g k old.serial own prp1 prp2)
+      ≤ own.data_pages * g.page_size
   pub ready : List ℕ
-  pub prepared : IsPrepared g.page_size (sent_by g k old.serial o) before ready
-  pub pointer : length_of (transfer_by k) ≡ 0 → (o.prp1 ≡ 0) × (o.prp2 ≡ 0)
-  pub mem : after ≡ with_submission ready old.submission (entry (sent_by g k old.serial o))
+  pub prepared : IsPrepared g.page_size (sent_by g k old.serial own prp1 prp2) before ready
+  pub pointer : length_of (transfer_by k) ≡ 0 → (prp1 ≡ 0) × (prp2 ≡ 0)
+  pub mem : after
+      ≡ with_submission ready old.submission (entry (sent_by g k old.serial own prp1 prp2))
   pub lane : new ≡ record old {
     submission = submitted_one old.submission;
     serial = next_serial old.serial;
-    pages = without old.pages (all_pages o.pages);
+    pages = without old.pages (all_pages own);
   }
-  pub free : set.len new.pages.members + (o.pages.data_pages + 2) ≡ set.len old.pages.members
+  pub free : set.len new.pages.members + (own.data_pages + 2) ≡ set.len old.pages.members

@@ -19,9 +19,9 @@ use Rattle.nv_driver.specs.Schedule.{collect_ring, device_rings, numbered, own_p
 use Rattle.nv_driver.specs.Schedule.{submit_ring}
 use Rattle.nv_driver.specs.Submitting.{sent_by}
 use Rattle.nv_driver.specs.declared.batch.Batch.{Batch}
+use Rattle.nv_driver.specs.declared.command_pages.CommandPages.{CommandPages}
 use Rattle.nv_driver.specs.declared.geometry.Geometry.{Geometry}
 use Rattle.nv_driver.specs.declared.lane.Lane.{Lane as LaneFields}
-use Rattle.nv_driver.specs.declared.submitting.Outstanding.{Outstanding}
 
 -- the schedule of a lane's controller from its next command on
 abbrev pub setting : Geometry → ℕ → List ℕ → Lane → Setting
@@ -65,15 +65,15 @@ pages_of_all [] = []
 pages_of_all (x ∷ xs) = own_pages x ++ pages_of_all xs
 
 -- an outstanding command in its place of the window
-pub record IsKept (r : Run) (o : Option Outstanding) (x : Sent) : Type 0 where
-  pub one : Outstanding
+pub record IsKept (r : Run) (o : Option CommandPages) (x : Sent) : Type 0 where
+  pub one : CommandPages
   pub is_one : o ≡ Some one
-  pub sent : x ≡ sent_by r.geometry x.command x.cid one
-  pub few : one.pages.data_pages + 2 ≤ pages_of_command r.geometry.page_size
-  pub seven : length one.pages.numbers ≡ 7
+  pub sent : x ≡ sent_by r.geometry x.command x.cid one x.prp1 x.prp2
+  pub few : one.data_pages + 2 ≤ pages_of_command r.geometry.page_size
+  pub seven : length one.numbers ≡ 7
 
 -- the places of the window, by the numbers of the commands modulo 16
-abbrev pub kept_at : Batch → ℕ → Option Outstanding
+abbrev pub kept_at : Batch → ℕ → Option CommandPages
 kept_at b n = slice_index_or b.outstanding (n % 16) None
 
 -- of its commands so many were told by the tail doorbell, and so many were done by turns

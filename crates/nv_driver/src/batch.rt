@@ -17,10 +17,11 @@ ghost use Rattle.nv_driver.specs.Pace.{IsToldByPace, IsToldInTime, taken_by_turn
 
 use crate::answer_slot::AnswerSlot;
 use crate::answering::answer;
+use crate::command_pages::CommandPages;
 use crate::geometry::Geometry;
 use crate::lane::Lane;
 use crate::scratch::Scratch;
-use crate::submitting::{Outstanding, submit};
+use crate::submitting::submit;
 use nv_bus::Bus;
 use nv_command::Command;
 use nv_host::HostMemory;
@@ -31,13 +32,13 @@ use nv_register::offset;
 const MOST: usize = 16;
 
 /// How far a list of commands of one controller has come: how many were sent, how many answers were
-/// collected, and of how many the controller was told. The outstanding commands stand at their
-/// numbers modulo 16.
+/// collected, and of how many the controller was told. The pages of the outstanding commands stand
+/// at the commands' numbers modulo 16.
 #[derive(Drop)]
 pub struct Batch {
     ctrl: u16,
     geometry: Geometry,
-    outstanding: [Option<Outstanding>; MOST],
+    outstanding: [Option<CommandPages>; MOST],
     sent: usize,
     collected: usize,
     told: usize,
@@ -100,8 +101,8 @@ impl Batch {
         let end = self.sent + room.min(commands.len() - self.sent);
         let mut tail = None;
         for number in self.sent..end {
-            let (one, next) = submit(mem, lane, self.geometry, &commands[number], scratch);
-            self.outstanding[number % MOST] = Some(one);
+            let (pages, next) = submit(mem, lane, self.geometry, &commands[number], scratch);
+            self.outstanding[number % MOST] = Some(pages);
             self.sent += 1;
             tail = Some(next);
         }
@@ -215,11 +216,12 @@ impl Batch {
         let completion = lane.completion.poll(mem).unwrap();
         lane.submission.freed(completion.sq_head);
         let number = self.sent - distance(completion.cid, lane.serial);
-        let one = self.outstanding[number % MOST].unwrap();
-        one.pages.give(&mut lane.pages);
+        let pages = self.outstanding[number % MOST].unwrap();
+        pages.give(&mut lane.pages);
+        let buffer = pages.buffer(self.geometry.offset);
         answer(
             mem,
-            &one,
+            &buffer,
             &commands[number],
             &completion,
             &mut answers[number],

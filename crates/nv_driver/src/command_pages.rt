@@ -7,7 +7,7 @@ ghost use Rattle.nv_driver.specs.CommandPages.{AreTaken, all_pages, data_pages};
 ghost use Rattle.nv_driver.specs.CommandPages.{with_pages, without};
 
 use nv_host::{PageNo, PageSet};
-use nv_prp::ListPlace;
+use nv_prp::{Buffer, ListPlace};
 
 /// The most pages of one command: five for 16,384 bytes that begin inside a page of 4,096, and two
 /// for a list.
@@ -56,12 +56,16 @@ impl CommandPages {
         }
     }
 
-    /// The pages of the data.
-    pub(crate) fn data(&self) -> &[PageNo]
+    /// The pages of the data, which begins at an offset in bytes.
+    pub(crate) fn buffer(&self, offset: u32) -> Buffer<'_>
         requires few { self.now.data_pages ≤ 5 }
-        ensures { result.now ≡ data_pages self.now }
+        ensures pages { result.pages.now ≡ data_pages self.now }
+        ensures offset { result.offset ≡ offset }
     {
-        &self.numbers[2..2 + self.data_pages]
+        Buffer {
+            pages: &self.numbers[2..2 + self.data_pages],
+            offset,
+        }
     }
 
     /// Where a list may lie, from an offset in bytes on.

@@ -3,9 +3,9 @@
 ghost use Rattle.std.specs.Prelude.{◌≡◌, ◌+◌, ◌*◌, ◌-◌, ◌/◌, ◌<◌, ◌≤◌, ◌∷◌, length, slice_index};
 ghost use Rattle.std.specs.FinSet as set;
 ghost use Rattle.nv_prp.specs.Buffer.{IsBuffer, IsListPlace, KeepsOutside, StaysFor};
+ghost use Rattle.nv_prp.specs.Buffer.{buffer_places};
 ghost use Rattle.nv_prp.specs.Place.{AreDistinct, written_at};
-ghost use Rattle.nv_prp.specs.Transfer.{IsLegal, data_pages as pages_of};
-ghost use Rattle.nv_prp.specs.Transfer.{transfer, transfer_places};
+ghost use Rattle.nv_prp.specs.Transfer.{data_pages as pages_of, transfer};
 ghost use Rattle.nv_command.specs.Command.{bytes_from_host, host_data_of, transfer_by};
 ghost use Rattle.nv_command.specs.Logs.{IsSendable};
 ghost use Rattle.nv_bus.specs.Call.{length_of};
@@ -16,7 +16,7 @@ ghost use Rattle.nv_driver.specs.CommandPages.{data_pages};
 ghost use Rattle.nv_driver.specs.Geometry.{IsGeometry};
 ghost use Rattle.nv_driver.specs.Layout.{pages_of_command};
 ghost use Rattle.nv_driver.specs.Schedule.{CanBeSent};
-ghost use Rattle.nv_driver.specs.Submitting.{IsSubmitted, transfer_at};
+ghost use Rattle.nv_driver.specs.Submitting.{IsSubmitted};
 
 use crate::command_pages::CommandPages;
 use crate::geometry::Geometry;
@@ -25,16 +25,7 @@ use crate::scratch::Scratch;
 use nv_command::{Command, Transfer};
 use nv_host::HostMemory;
 use nv_model::SERIALS;
-use nv_prp::{Buffer, build, copy_out, walk};
-
-/// What an outstanding command has: its pages, and its data pointer. Section "Submission Queue
-/// Entry".
-#[derive(Clone, Copy)]
-pub struct Outstanding {
-    pub pages: CommandPages,
-    pub prp1: u64,
-    pub prp2: u64,
-}
+use nv_prp::{Buffer, build, copy_out};
 
 /// How many bytes of data a command has.
 #[tactic(auto, using(crate::proofs::DataLaws::shape_as, crate::proofs::DataLaws::most))]
@@ -80,8 +71,6 @@ fn build_pointer<M: HostMemory>(
     ensures stays { 0 < len → StaysFor (transfer (M.page_len mem.new)
         (M.bytes mem.new) result.0 result.1 len) (data_pages pages.now) geometry.offset
         (slice_index pages.now.numbers 0) (slice_index pages.now.numbers 1) }
-    ensures legal { 0 < len → IsLegal (transfer (M.page_len mem.new)
-        (M.bytes mem.new) result.0 result.1 len) }
     ensures none { len ≡ 0 → (result.0 ≡ 0) × (result.1 ≡ 0) }
     ensures list { 0 < len → 2 < pages_of (transfer (M.page_len mem.new)
         (M.bytes mem.new) result.0 result.1 len) → result.1
@@ -94,70 +83,49 @@ fn build_pointer<M: HostMemory>(
     if len == 0 {
         return (0, 0);
     }
-    let buffer = Buffer {
-        pages: pages.data(),
-        offset: geometry.offset,
-    };
+    let buffer = pages.buffer(geometry.offset);
     build(mem, &buffer, &pages.list(geometry.list_offset), len)
 }
 
-/// Writes the page that the host sends with a command to its pages.
+/// Writes the page that the host sends with a command to the buffer of its data.
 #[tactic(auto, using(crate::proofs::DataLaws::page_sent))]
-fn write_page<M: HostMemory>(
-    mem: &mut M,
-    outstanding: &Outstanding,
-    command: &Command,
-    scratch: &mut Scratch,
-)
+fn write_page<M: HostMemory>(mem: &mut M, buffer: &Buffer, command: &Command, scratch: &mut Scratch)
     requires can { CanBeSent command.now }
     requires some { 0 < bytes_from_host (transfer_by command.now) }
-    requires legal { IsLegal (transfer_at (M.page_len mem.old) (M.bytes mem.old)
-        outstanding.now command.now) }
-    ensures bytes { M.bytes mem.new ≡ written_at (M.bytes mem.old) (transfer_places
-        (transfer_at (M.page_len mem.old) (M.bytes mem.old) outstanding.now command.now))
-        (host_data_of command.now) }
+    requires buffer { IsBuffer (M.bytes mem.old) (M.page_len mem.old)
+        buffer.now.pages.now buffer.now.offset (length_of (transfer_by command.now)) }
+    ensures bytes { M.bytes mem.new ≡ written_at (M.bytes mem.old) (buffer_places
+        (M.page_len mem.old) buffer.now.pages.now buffer.now.offset
+        (length_of (transfer_by command.now))) (host_data_of command.now) }
     ensures len { length (M.bytes mem.new) ≡ length (M.bytes mem.old) }
     ensures page { M.page_len mem.new ≡ M.page_len mem.old }
 {
     command.put(&mut scratch.page);
-    let len = data_length(command);
-    walk(
-        mem,
-        outstanding.prp1,
-        outstanding.prp2,
-        len,
-        &mut scratch.spans,
-    )
-    .unwrap();
+    buffer.spans(mem, data_length(command), &mut scratch.spans);
     copy_out(mem, &scratch.spans, &scratch.page);
 }
 
-/// Writes what the host sends with a command to its pages.
+/// Writes what the host sends with a command to the buffer of its data.
 #[tactic(auto, using(crate::proofs::DataLaws::none_sent))]
-fn write_data<M: HostMemory>(
-    mem: &mut M,
-    outstanding: &Outstanding,
-    command: &Command,
-    scratch: &mut Scratch,
-)
+fn write_data<M: HostMemory>(mem: &mut M, buffer: &Buffer, command: &Command, scratch: &mut Scratch)
     requires can { CanBeSent command.now }
-    requires legal { 0 < length_of (transfer_by command.now) → IsLegal (transfer_at
-        (M.page_len mem.old) (M.bytes mem.old) outstanding.now command.now) }
-    ensures bytes { M.bytes mem.new ≡ written_at (M.bytes mem.old) (transfer_places
-        (transfer_at (M.page_len mem.old) (M.bytes mem.old) outstanding.now command.now))
-        (host_data_of command.now) }
+    requires buffer { IsBuffer (M.bytes mem.old) (M.page_len mem.old)
+        buffer.now.pages.now buffer.now.offset (length_of (transfer_by command.now)) }
+    ensures bytes { M.bytes mem.new ≡ written_at (M.bytes mem.old) (buffer_places
+        (M.page_len mem.old) buffer.now.pages.now buffer.now.offset
+        (length_of (transfer_by command.now))) (host_data_of command.now) }
     ensures len { length (M.bytes mem.new) ≡ length (M.bytes mem.old) }
     ensures page { M.page_len mem.new ≡ M.page_len mem.old }
 {
     match command.transfer() {
         Transfer::NoData => {}
         Transfer::ToHost(_) => {}
-        Transfer::FromHost(_) => write_page(mem, outstanding, command, scratch),
+        Transfer::FromHost(_) => write_page(mem, buffer, command, scratch),
     }
 }
 
 /// Submits a command: takes its pages, writes its list and what the host sends with it where it has
-/// any, and puts its entry in the ring. Answers what it has, and the new tail. Section "Submission
+/// any, and puts its entry in the ring. Answers its pages, and the new tail. Section "Submission
 /// Queue Entry".
 pub(crate) fn submit<M: HostMemory>(
     mem: &mut M,
@@ -165,7 +133,7 @@ pub(crate) fn submit<M: HostMemory>(
     geometry: Geometry,
     command: &Command,
     scratch: &mut Scratch,
-) -> (Outstanding, u16)
+) -> (CommandPages, u16)
     requires geometry { IsGeometry geometry }
     requires page { M.page_len mem.old ≡ geometry.page_size }
     requires can { CanBeSent command.now }
@@ -186,12 +154,11 @@ pub(crate) fn submit<M: HostMemory>(
     let len = data_length(command);
     let pages = CommandPages::take(&mut lane.pages, page_count(geometry, len));
     let (prp1, prp2) = build_pointer(mem, geometry, &pages, len);
-    let outstanding = Outstanding { pages, prp1, prp2 };
-    write_data(mem, &outstanding, command, scratch);
+    write_data(mem, &pages.buffer(geometry.offset), command, scratch);
     let mut entry = command.entry(lane.serial);
     entry.prp1 = prp1;
     entry.prp2 = prp2;
     let tail = lane.submission.push(mem, &entry).unwrap();
     lane.serial = (lane.serial + 1) % SERIALS;
-    (outstanding, tail)
+    (pages, tail)
 }

@@ -6,4 +6,5 @@ pub mod WriteLaws
 pub mod SpanLaws
 pub mod BuiltLaws
 pub mod BufferLaws
+pub mod BufferSpanLaws
 pub mod PlaceLaws

@@ -6,19 +6,11 @@ ghost use Rattle.nv_prp.specs.Buffer.{buffer_place};
 ghost use Rattle.nv_prp.specs.Place.{AreDistinct};
 ghost use Rattle.nv_prp.specs.Transfer.{IsLegal, data_pages as pages_of, place_of, transfer};
 
+use crate::buffer::Buffer;
 use crate::entry::store_qword;
 use crate::list_shape::ListShape;
 use crate::pointer::{DataPointer, page_address, qwords_in_page};
 use nv_host::{HostMemory, PageNo};
-
-/// A buffer in pages of the memory.
-#[derive(Clone, Copy, Debug)]
-pub struct Buffer<'a> {
-    /// The numbers of its pages, in the order of its bytes.
-    pub pages: &'a [PageNo],
-    /// Where the buffer begins in the first page, in bytes: a multiple of 4 below the page size.
-    pub offset: u32,
-}
 
 /// Where a list may lie: in two pages of the memory.
 #[derive(Clone, Copy, Debug, PartialEq, Eq)]

@@ -5,6 +5,7 @@
 //! a command. The controller calls [`walk`] with these entries and finds the spans of memory that
 //! they describe; with [`copy_out`] it writes data to the host's memory, and with [`copy_in`] it
 //! reads data from there. [`write_out`] writes a [`Payload`], whose bytes needn't stand anywhere.
+//! The host finds the spans of its own pages by [`Buffer::spans`].
 //!
 //! ```text
 //! let buffer = Buffer { pages: &[5, 9, 3], offset: 4 };
@@ -22,6 +23,7 @@
 //! Sections are named as in the NVM Express Base Specification, revision 1.4.
 #![tactic(auto)]
 
+mod buffer;
 mod builder;
 mod copy;
 mod entry;
@@ -34,7 +36,8 @@ mod range;
 mod spans;
 mod walker;
 
-pub use builder::{Buffer, ListPlace, build};
+pub use buffer::Buffer;
+pub use builder::{ListPlace, build};
 pub use copy::{copy_in, copy_out, write_out};
 pub use error::PrpError;
 pub use law::{build_then_walk, copy_out_then_in, written_one_by_one};

@@ -3,15 +3,14 @@ use Rattle.std.specs.FinSet as set
 use Rattle.nv_layout.specs.declared.sqe.Sqe.{Sqe}
 use Rattle.nv_host.specs.PageSets.{Pages}
 use Rattle.nv_prp.specs.Place.{written_at}
-use Rattle.nv_prp.specs.Transfer.{transfer_places}
 use Rattle.nv_queue.specs.Rings.{SubmitNumbers, submitted_one}
 use Rattle.nv_queue.specs.Slots.{with_submission}
 use Rattle.nv_command.specs.Command.{host_data_of}
 use Rattle.nv_command.specs.Entry.{with_pointer}
 use Rattle.nv_driver.specs.Layout.{pages_of_command}
-use Rattle.nv_driver.specs.Submitting.{sent_by, transfer_at}
-use Rattle.nv_driver.specs.declared.submitting.Outstanding.{Outstanding}
-use Rattle.nv_driver.proofs.SubmittingLaws.{buffer_of, built_by, distinct_of, list_of, on_ok, prepared_by}
+use Rattle.nv_driver.specs.Submitting.{sent_by}
+use Rattle.nv_driver.proofs.SubmittingLaws.{buffer_as, buffer_of, built_by, distinct_of, list_of}
+use Rattle.nv_driver.proofs.SubmittingLaws.{on_ok, places_as, prepared_by}
 use Rattle.nv_driver.proofs.submitting.submit.Goals as goal
 
 pub build_pointer-prp1-requires-clause-buffer : goal.build_pointer-prp1-requires-clause-buffer
@@ -50,18 +49,40 @@ build_pointer-prp1-requires-clause-distinct g c =
     let t = c.take-pages.ensures in
     distinct_of c.args.lane.now.pages c.take-pages.result t.seven t.taken
 
+pub write_data-requires-clause-buffer : goal.write_data-requires-clause-buffer
+write_data-requires-clause-buffer g c =
+    let t = c.take-pages.ensures in
+    let b = c.build_pointer-prp1.ensures in
+    let geometry = c.args.geometry in
+    let len = c.data_length-len.result in
+    let lane = c.args.lane.now in
+    let pages = c.take-pages.result in
+    let built = g.M.HostMemory.bytes c.build_pointer-prp1.new.mem in
+    let enough = subst (λ n. geometry.offset + len ≤ n * geometry.page_size)
+    (sym t.count) c.page_count.ensures.enough in
+    buffer_as (sym (b.page ∙ c.requires.page)) (sym c.buffer.ensures.pages) (sym c.buffer.ensures.offset)
+    c.data_length-len.ensures.length
+    (buffer_of geometry lane.pages pages built geometry.page_size len c.requires.geometry refl
+    (record {
+      seven = t.seven;
+      few = omega (arith, t.count, c.page_count.ensures.five);
+      taken = t.taken;
+      inside = subst (λ n. (lane.pages.first + lane.pages.count) * geometry.page_size ≤ n)
+          (sym b.len) c.requires.inside;
+    })
+    enough)
+
 pub returns-clause-submitted : goal.returns-clause-submitted
 returns-clause-submitted g c =
     let t = c.take-pages.ensures in
     let b = c.build_pointer-prp1.ensures in
     let pages = c.take-pages.result in
     let pointer = c.build_pointer-prp1.result in
-    let o : Outstanding = record { pages = pages; prp1 = pointer.0; prp2 = pointer.1 } in
     let ok = c.unwrap-tail.ensures in
     let lane = c.args.lane.now in
     let geometry = c.args.geometry in
     let k = c.args.command.now in
-    let x = sent_by geometry k lane.serial o in
+    let x = sent_by geometry k lane.serial pages pointer.0 pointer.1 in
     let before = g.M.HostMemory.bytes c.args.mem.now in
     let built = g.M.HostMemory.bytes c.build_pointer-prp1.new.mem in
     let ready = g.M.HostMemory.bytes c.write_data.new.mem in
@@ -82,6 +103,8 @@ returns-clause-submitted g c =
     let is_built = built_by geometry x before built _ _ _ c.requires.page b.page len
     (search rules) (search rules) b.stays b.others b.len in
     record {
+      prp1 = pointer.0;
+      prp2 = pointer.1;
       few = few;
       seven = t.seven;
       taken = t.taken;
@@ -90,11 +113,11 @@ returns-clause-submitted g c =
       prepared = prepared_by geometry.page_size x before built ready c.requires.geometry.page_size
           c.requires.can.fits buffer distinct is_built
           (c.write_data.ensures.bytes
-          ∙ ap (λ n. written_at built (transfer_places (transfer_at n built o k)) (host_data_of k))
-          (b.page ∙ c.requires.page));
+          ∙ ap (λ at. written_at built at (host_data_of k))
+          (places_as (b.page ∙ c.requires.page) c.buffer.ensures.pages c.buffer.ensures.offset refl));
       pointer = λ none. b.none (len ∙ none);
       mem = on_ok c.push.result c.unwrap-tail.result ok c.push.ensures.bytes
-          ∙ ap (λ (e : Sqe). with_submission ready lane.submission (with_pointer e o.prp1 o.prp2))
+          ∙ ap (λ (e : Sqe). with_submission ready lane.submission (with_pointer e pointer.0 pointer.1))
           c.entry-entry.ensures.entry;
       lane = ap (λ (r : SubmitNumbers). record lane {
         submission = r;

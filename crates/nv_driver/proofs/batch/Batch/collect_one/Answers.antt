@@ -1,6 +1,6 @@
 use Rattle.std.proofs.Common.{◌%◌, List, None, ap, arith, length, slice_index_or, sym}
 use Rattle.nv_command.specs.declared.command.Command.{Command}
-use Rattle.nv_driver.proofs.CollectLaws.{answer_legal, answer_sends, answers_more, cid_below, collects, command_at, distance_to, freed_between, give_distinct, give_none, give_own, in_some, is_some, is_there, no_more, number_is, one_is}
+use Rattle.nv_driver.proofs.CollectLaws.{answer_buffer, answer_sends, answers_more, cid_below, collects, command_at, distance_to, freed_between, give_distinct, give_none, give_own, in_some, is_some, is_there, no_more, number_is, one_is}
 use Rattle.nv_driver.proofs.PointerLaws.{seven_pages}
 use Rattle.nv_driver.proofs.batch.Batch.collect_one.Goals as goal
 
@@ -36,8 +36,8 @@ overflow_sub-number g c =
     let value = c.poll.ensures.value in
     omega (arith, distance_to u more some value c.distance.result c.distance.ensures)
 
-pub unwrap-one-requires : goal.unwrap-one-requires
-unwrap-one-requires g c =
+pub unwrap-pages-requires : goal.unwrap-pages-requires
+unwrap-pages-requires g c =
     let asked = c.requires.1.1 in
     let u = asked.0 in
     let more = asked.1.1 in
@@ -56,7 +56,19 @@ give-requires-clause-few g c =
     let value = c.poll.ensures.value in
     let at = number_is u more some value c.distance.ensures in
     let place = ap (λ n. slice_index_or c.args.self.now.outstanding (n % 16) None) (sym at) in
-    omega (arith, (one_is u more some value place c.unwrap-one.ensures).few, seven_pages _ u.begun.geometry.page_size)
+    omega (arith, (one_is u more some value place c.unwrap-pages.ensures).few, seven_pages _ u.begun.geometry.page_size)
+
+pub buffer-buffer-requires : goal.buffer-buffer-requires
+buffer-buffer-requires g c =
+    let asked = c.requires.1.1 in
+    let u = asked.0 in
+    let more = asked.1.1 in
+    let some = c.unwrap-completion.ensures in
+    let value = c.poll.ensures.value in
+    let at = number_is u more some value c.distance.ensures in
+    let place = ap (λ n. slice_index_or c.args.self.now.outstanding (n % 16) None) (sym at) in
+    let few = (one_is u more some value place c.unwrap-pages.ensures).few in
+    record { few = omega (arith, few, seven_pages _ u.begun.geometry.page_size) }
 
 pub give-requires-clause-own : goal.give-requires-clause-own
 give-requires-clause-own g c =
@@ -67,7 +79,7 @@ give-requires-clause-own g c =
     let value = c.poll.ensures.value in
     let at = number_is u more some value c.distance.ensures in
     let place = ap (λ n. slice_index_or c.args.self.now.outstanding (n % 16) None) (sym at) in
-    give_own u more some value place c.unwrap-one.ensures
+    give_own u more some value place c.unwrap-pages.ensures
 
 pub give-requires-clause-none : goal.give-requires-clause-none
 give-requires-clause-none g c =
@@ -78,7 +90,7 @@ give-requires-clause-none g c =
     let value = c.poll.ensures.value in
     let at = number_is u more some value c.distance.ensures in
     let place = ap (λ n. slice_index_or c.args.self.now.outstanding (n % 16) None) (sym at) in
-    give_none u more some value place c.unwrap-one.ensures
+    give_none u more some value place c.unwrap-pages.ensures
 
 pub give-requires-clause-distinct : goal.give-requires-clause-distinct
 give-requires-clause-distinct g c =
@@ -89,7 +101,7 @@ give-requires-clause-distinct g c =
     let value = c.poll.ensures.value in
     let at = number_is u more some value c.distance.ensures in
     let place = ap (λ n. slice_index_or c.args.self.now.outstanding (n % 16) None) (sym at) in
-    give_distinct u more some value place c.unwrap-one.ensures
+    give_distinct u more some value place c.unwrap-pages.ensures
 
 pub bounds-commands-number : goal.bounds-commands-number
 bounds-commands-number g c =
@@ -111,10 +123,10 @@ answer-requires-clause-sends g c =
     let at = number_is u more some value c.distance.ensures in
     let place = ap (λ n. slice_index_or c.args.self.now.outstanding (n % 16) None) (sym at) in
     let same = command_at u _ (omega (arith, more, no_more u)) at c.requires.1.0 c.index-commands-number.is in
-    answer_sends u more some value place c.unwrap-one.ensures same
+    answer_sends u more some value place c.unwrap-pages.ensures same
 
-pub answer-requires-clause-legal : goal.answer-requires-clause-legal
-answer-requires-clause-legal g c =
+pub answer-requires-clause-buffer : goal.answer-requires-clause-buffer
+answer-requires-clause-buffer g c =
     let asked = c.requires.1.1 in
     let u = asked.0 in
     let more = asked.1.1 in
@@ -123,7 +135,8 @@ answer-requires-clause-legal g c =
     let at = number_is u more some value c.distance.ensures in
     let place = ap (λ n. slice_index_or c.args.self.now.outstanding (n % 16) None) (sym at) in
     let same = command_at u _ (omega (arith, more, no_more u)) at c.requires.1.0 c.index-commands-number.is in
-    answer_legal u more some value place c.unwrap-one.ensures same
+    let buffer = c.buffer-buffer.ensures in
+    answer_buffer u more some value place c.unwrap-pages.ensures same buffer.pages buffer.offset
 
 pub bounds-answers-number : goal.bounds-answers-number
 bounds-answers-number g c =
@@ -144,7 +157,7 @@ returns-clause-under_way g c =
     let value = c.poll.ensures.value in
     let at = number_is u more some value c.distance.ensures in
     let place = ap (λ n. slice_index_or c.args.self.now.outstanding (n % 16) None) (sym at) in
-    collects u more some value place c.unwrap-one.ensures c.freed.ensures (in_some _ _ some c.poll.ensures.collected) c.give.ensures
+    collects u more some value place c.unwrap-pages.ensures c.freed.ensures (in_some _ _ some c.poll.ensures.collected) c.give.ensures
 
 pub returns-clause-answers : goal.returns-clause-answers
 returns-clause-answers g c =
@@ -156,4 +169,6 @@ returns-clause-answers g c =
     let at = number_is u more some value c.distance.ensures in
     let place = ap (λ n. slice_index_or c.args.self.now.outstanding (n % 16) None) (sym at) in
     let same = command_at u _ (omega (arith, more, no_more u)) at c.requires.1.0 c.index-commands-number.is in
-    answers_more u more some value place c.unwrap-one.ensures same at asked.1.0 c.answer.ensures
+    let buffer = c.buffer-buffer.ensures in
+    answers_more u more some value place c.unwrap-pages.ensures same buffer.pages buffer.offset
+    at asked.1.0 c.answer.ensures

@@ -1,0 +1,118 @@
+-- The spans of a buffer, one for each of its pages.
+use Rattle.std.proofs.Common.{◌≡◌, ◌∙◌, ℕ, ◌+◌, ◌-◌, ◌*◌, ◌/◌, ◌%◌, ◌<◌, ◌≤◌, List, [], ◌∷◌, ◌++◌, append-nil}
+use Rattle.std.proofs.Common.{ap, arith, get_or, length, refl, sym}
+use Rattle.std.proofs.lemmas.Grind.{flat_map-append}
+use Rattle.std.proofs.lemmas.List.Elements.{All-push}
+use Rattle.std.proofs.lemmas.Nat.{div-add-mod', div-mul-add, div_below, mod-mul-add, mod_below}
+use Rattle.nv_host.specs.Pages.{HasPage, IsPageSize}
+use Rattle.nv_host.proofs.PageLaws.{page_size_bounds}
+use Rattle.nv_prp.specs.Buffer.{IsBuffer, buffer_place, buffer_places}
+use Rattle.nv_prp.specs.Place.{LieIn, places, span_places, table}
+use Rattle.nv_prp.proofs.PageLaws.{page_times}
+use Rattle.nv_prp.proofs.PlaceLaws.{length-table, table-append, table-same}
+use Rattle.nv_prp.specs.declared.spans.Span.{Span}
+
+-- the page of a byte of the buffer is one of its pages
+pub page_there : (bytes pages : List ℕ) (page_size start from most : ℕ) → 0 < most
+    → IsBuffer bytes page_size pages start (from + most) → (start + from) / page_size < length pages
+page_there bytes pages page_size start from most some buffer =
+    div_below (start + from) page_size (length pages) (omega (arith, buffer.below)) (omega (arith, buffer.enough))
+
+-- its address, and the bytes behind it in its page
+pub address_of : (page_size : ℕ) (pages : List ℕ) (start from : ℕ)
+    → buffer_place page_size pages start from
+    ≡ get_or pages ((start + from) / page_size) 0 * page_size + (start + from) % page_size
+unfolding buffer_place
+address_of page_size pages start from = refl
+
+pub rest_inside : (bytes pages : List ℕ) (page_size start from most : ℕ) → 0 < most
+    → IsBuffer bytes page_size pages start (from + most)
+    → buffer_place page_size pages start from + (page_size - (start + from) % page_size) ≤ length bytes
+unfolding buffer_place
+rest_inside bytes pages page_size start from most some buffer =
+    let page = get_or pages ((start + from) / page_size) 0 in
+    let has : HasPage bytes page_size page =
+    buffer.inside ((start + from) / page_size) 0 (page_there bytes pages page_size start from most some buffer) in
+    let low = mod_below (start + from) page_size (omega (arith, buffer.below)) in
+    omega (arith, has, low)
+
+pub ruleset one_span = (page_there, address_of, rest_inside, page_times, page_size_bounds, mod_below)
+
+-- ---- one span after another
+
+-- bytes of one page follow one another
+in_one_page : (page_size : ℕ) (pages : List ℕ) (start from n k : ℕ)
+    → n ≤ page_size - (start + from) % page_size → k < n
+    → buffer_place page_size pages start (from + k) ≡ buffer_place page_size pages start from + k
+unfolding buffer_place
+in_one_page page_size pages start from n k fits h =
+    let at = start + from in
+    let q = at / page_size in
+    let r = at % page_size in
+    let split : q * page_size + r ≡ at = div-add-mod' at page_size in
+    let is : start + (from + k) ≡ q * page_size + (r + k) = omega (arith, split) in
+    let below : r + k < page_size = omega arith in
+    ap (λ n. get_or pages (n / page_size) 0 * page_size + n % page_size) is
+    ∙ ap (λ j. get_or pages j 0 * page_size + (q * page_size + (r + k)) % page_size)
+    (div-mul-add q page_size (r + k) below)
+    ∙ ap (λ m. get_or pages q 0 * page_size + m) (mod-mul-add q page_size (r + k) below)
+    ∙ omega arith
+
+pub places_more : (page_size : ℕ) (pages : List ℕ) (start from : ℕ) (spans : List Span) (s : Span)
+    → places spans ≡ buffer_places page_size pages start from
+    → s.address ≡ buffer_place page_size pages start from
+    → s.len ≤ page_size - (start + from) % page_size
+    → places (spans ++ s ∷ []) ≡ buffer_places page_size pages start (from + s.len)
+unfolding places span_places buffer_places
+places_more page_size pages start from spans s so_far at fits =
+    let f = buffer_place page_size pages start in
+    let own : table s.len (λ k. s.address + k) ≡ table s.len (λ k. f (from + k)) =
+    table-same s.len _ _ (λ k h. ap (λ a. a + k) at
+    ∙ sym (in_one_page page_size pages start from s.len k fits h)) in
+    flat_map-append span_places spans (s ∷ [])
+    ∙ ap (λ l. places spans ++ l) (append-nil (span_places s))
+    ∙ ap (λ l. l ++ span_places s) so_far
+    ∙ ap (λ l. table from f ++ l) own
+    ∙ sym (table-append from s.len f)
+
+pub inside_more : (size : ℕ) (spans : List Span) (s : Span) → LieIn size spans → s.address + s.len ≤ size
+    → LieIn size (spans ++ s ∷ [])
+unfolding LieIn
+inside_more size spans s inside fits = All-push (λ x. x.address + x.len ≤ size) spans s inside fits
+
+-- where more bytes are left, the next one begins a page
+pub next_page_begins : (page_size start from n len : ℕ) → 0 < page_size
+    → len ≡ page_size - (start + from) % page_size → n ≤ (start + from) / page_size
+    → n + 1 ≤ (start + (from + len)) / page_size
+next_page_begins page_size start from n len some whole few =
+    let at = start + from in
+    let q = at / page_size in
+    let split : q * page_size + at % page_size ≡ at = div-add-mod' at page_size in
+    let low = mod_below at page_size some in
+    let is : start + (from + len) ≡ (q + 1) * page_size + 0 = omega (arith, split, low, whole) in
+    let next = ap (λ m. m / page_size) is ∙ div-mul-add (q + 1) page_size 0 some in
+    omega (arith, next, few)
+
+-- so there are no more spans than pages
+pub few_spans : (page_size start from n : ℕ) → IsPageSize page_size → start < page_size → from < 1048576
+    → n ≤ (start + from) / page_size → n < 257
+few_spans page_size start from n is low below few =
+    let bounds = page_size_bounds page_size is in
+    let most = div_below (start + from) page_size 257 (omega (arith, bounds)) (omega (arith, bounds)) in
+    omega (arith, most, few)
+
+pub no_places : (page_size : ℕ) (pages : List ℕ) (start : ℕ) → places [] ≡ buffer_places page_size pages start 0
+unfolding places buffer_places
+no_places page_size pages start = refl
+
+pub none_outside : (size : ℕ) → LieIn size []
+unfolding LieIn
+none_outside size k d below = absurd (omega arith)
+
+pub length-buffer_places : (page_size : ℕ) (pages : List ℕ) (start len : ℕ)
+    → length (buffer_places page_size pages start len) ≡ len
+unfolding buffer_places
+length-buffer_places page_size pages start len = length-table len (buffer_place page_size pages start)
+
+pub ruleset spans =
+    (places_more, inside_more, next_page_begins, few_spans, no_places, none_outside, length-buffer_places)
