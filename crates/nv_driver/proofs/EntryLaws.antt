@@ -30,7 +30,7 @@ use Rattle.nv_driver.proofs.HeldLaws.{holds_on}
 use Rattle.nv_driver.specs.Keeping.{IsOwn, Keeps}
 use Rattle.nv_driver.proofs.ListPageLaws.{list_beside, list_stays}
 use Rattle.nv_driver.proofs.PointerLaws.{stays_in}
-use Rattle.nv_driver.proofs.RegionLaws.{ChangesOnlyAt, apart-sym, completion_keeps, data_beside, data_stays, holds_sent_on, outside_part}
+use Rattle.nv_driver.proofs.RegionLaws.{ChangesOnlyAt, apart-sym, completion_keeps, data_beside, data_stays, holds_sent_on, outside_part, submission_aside}
 use Rattle.nv_driver.proofs.SerialLaws.{after_more, answer_at}
 use Rattle.nv_driver.proofs.TakenLaws.{IsDone, can_go, delivered, is_done, moved_keeps, moved_list, moved_slot, now}
 
@@ -69,7 +69,7 @@ one_more t s w y d k waits free one =
     let head = slot_inside t (n + 1) (omega (arith, deep.0)) in
     let fits : CqeFits posted = completion_fits x.command x.cid (slot t (n + 1)) a own.cid (omega (arith, deep.1)) sound in
     let size : length one.moved ≡ length w.mem = length_moved x.command (places t.page_size x) a w.mem one.moved one.moves in
-    let inside : t.cq + 16 * t.depth ≤ length one.moved = omega (arith, p.inside) in
+    let inside : t.cq + 16 * t.depth ≤ length one.moved = omega (arith, p.completions) in
     let len : length y.bytes ≡ length w.mem =
     ap (λ (m : List ℕ). length m) one.bytes ∙ length-with_completion one.moved ring posted (omega (arith, deep.0)) inside ∙ size in
     let written : WritesCompletion one.moved y.bytes t.cq t.depth (slot t n) (posted_as t.depth (number t n) posted) =
@@ -102,7 +102,13 @@ one_more t s w y d k waits free one =
       head = ap (λ (q : Cqe). q.sq_head) there;
     } in
     record {
-      placed = record { page_size = p.page_size; deep = p.deep; rings = p.rings; inside = omega (arith, p.inside) };
+      placed = record {
+        page_size = p.page_size;
+        deep = p.deep;
+        rings = p.rings;
+        submissions = omega (arith, p.submissions);
+        completions = omega (arith, p.completions);
+      };
       counts = record { told = c.told; collected = omega (arith, c.collected); done = omega arith; rung = c.rung; few = c.few; free = free };
       port = refl;
       state = one.state ∙ ap (λ (q : State). (step q t.controller x.command x.cid).state) k.state ∙ sym (after_more t.controller s w.sent n d below);
@@ -129,7 +135,7 @@ one_more t s w y d k waits free one =
           let room = slot_room 64 (slot t i) t.depth low in
           ap sqe_of_bytes (only (t.sq + 64 * slot t i) 64
           (outside_part t x t.sq (64 * t.depth) (t.sq + 64 * slot t i) 64 own.submissions (omega arith) (omega arith))
-          (inl (omega (arith, p.rings)))) ∙ k.waiting i e (omega arith) high;
+          (submission_aside t (slot t i) p.rings low)) ∙ k.waiting i e (omega arith) high;
       to_send = λ i e from high.
           let z = get_or w.sent i e in
           let other = k.own i e (omega (arith, c.collected)) high in

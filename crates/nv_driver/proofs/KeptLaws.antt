@@ -29,7 +29,13 @@ idle_keeps t w i =
     let no_answers = ap (λ xs. length xs) i.answers in
     let deep = i.deep in
     record {
-      placed = record { page_size = i.page_size; deep = i.deep; rings = i.rings; inside = i.inside };
+      placed = record {
+        page_size = i.page_size;
+        deep = i.deep;
+        rings = i.rings;
+        submissions = i.submissions;
+        completions = i.completions;
+      };
       counts = record {
         told = omega (arith, i.told);
         collected = omega (arith, no_answers);

@@ -75,8 +75,8 @@ rings_lie t s w k =
     let held = number_above t w.told w.done some (omega (arith, c.told, c.collected)) (omega (arith, c.free)) in
     record {
       page = refl;
-      submission = omega (arith, p.rings, p.inside);
-      completion = p.inside;
+      submission = p.submissions;
+      completion = p.completions;
       fetch = record { deep = deep; from = number_below t w.done some; to = number_below t w.rung some; few = omega (arith, wait, c.rung, c.few, c.collected) };
       post = record { deep = deep; from = number_below t w.told some; to = number_below t w.done some; few = omega (arith, held, c.free) };
     }

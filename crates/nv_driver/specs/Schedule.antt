@@ -284,14 +284,15 @@ Runs t (e ∷ es) w w' = (mid : World) × Happens t e w mid × Runs t es mid w'
 -- ---- the law
 
 -- no command is outstanding: a ready controller of a well-formed subsystem, whose rings lie in the
--- memory, the submission ring first, and hold the tags that are due
+-- memory, apart from each other, and hold the tags that are due
 pub record IsIdle (t : Setting) (w : World) : Type 0 where
   pub before : w.mem ≡ t.before
   pub page_size : IsPageSize t.page_size
   pub deep : IsDepth t.depth
   pub start : t.start < 2 * t.depth
-  pub rings : t.sq + 64 * t.depth ≤ t.cq
-  pub inside : t.cq + 16 * t.depth ≤ length w.mem
+  pub rings : IsApart t.sq (64 * t.depth) t.cq (16 * t.depth)
+  pub submissions : t.sq + 64 * t.depth ≤ length w.mem
+  pub completions : t.cq + 16 * t.depth ≤ length w.mem
   pub tags : HoldsTags w.mem t.cq t.depth t.start
   pub port : w.port ≡ port_with t (device_rings t 0 0 0)
   pub state : IsWellFormed w.state
