@@ -14,7 +14,6 @@ use Rattle.nv_queue.proofs.KeptLaws.{between_kept, first_kept}
 use Rattle.nv_queue.specs.Numbers.{IsSlotBetween, first_in_slot}
 use Rattle.nv_queue.specs.Rings.{CollectNumbers, SubmitNumbers, collected_one, known_to}
 use Rattle.nv_queue.specs.Slots.{IsAwaitedThere, awaited_completion, completion_at}
-use Rattle.nv_queue.proofs.TagLaws.{tag_there}
 use Rattle.nv_command.specs.Command.{transfer_by}
 use Rattle.nv_command.specs.Logs.{IsSendable}
 use Rattle.nv_command.specs.declared.command.Command.{Command}
@@ -28,8 +27,8 @@ use Rattle.nv_driver.specs.declared.batch.Batch.{Batch}
 use Rattle.nv_driver.specs.declared.lane.Lane.{Lane as LaneFields}
 use Rattle.nv_driver.specs.declared.submitting.Outstanding.{Outstanding}
 use Rattle.nv_driver.proofs.BatchLaws.{answers_are, distance_is}
-use Rattle.nv_driver.proofs.CountLaws.{number_above, number_below, number_next, numbers_differ, slot_inside}
-use Rattle.nv_driver.proofs.KeptLaws.{collect_keeps}
+use Rattle.nv_driver.proofs.CountLaws.{number_next}
+use Rattle.nv_driver.proofs.KeptLaws.{collect_keeps, is_found}
 use Rattle.nv_driver.proofs.PointerLaws.{names_in}
 use Rattle.nv_driver.proofs.SerialLaws.{length-answers}
 use Rattle.nv_driver.proofs.SubmittingLaws.{pages_are}
@@ -77,17 +76,7 @@ module _ {r : Run} {bells turns : ℕ} {b : Batch} {l : LaneFields} {now : ℕ} 
   next_one = get_or u.world.sent b.collected no_command
 
   there : b.collected < turns → IsAwaitedThere u.world.mem (awaited (setting_of r) u.world)
-  there more =
-      let t = setting_of r in
-      let w = u.world in
-      let c = u.keeps.counts in
-      let deep = u.keeps.placed.deep in
-      let n = length w.answers in
-      let far = number_above t n w.done (omega (arith, deep.0)) c.collected (omega (arith, c.done, c.rung, c.few)) in
-      u.keeps.tags (slot t n) (slot_inside t n (omega (arith, deep.0)))
-      ∙ tag_there t.depth (number t w.done) (number t n) (number_below t w.done (omega (arith, deep.0))) (number_below t n (omega (arith, deep.0)))
-      (omega (arith, far, c.done, c.rung, c.few))
-      (λ same. numbers_differ t n w.done (omega (arith, more, u.collected, u.done)) (omega (arith, c.done, c.rung, c.few)) (sym same))
+  there more = (is_found (setting_of r) r.bus.state u.world u.keeps).1 (omega (arith, more, u.collected, u.done))
 
   ring_is : awaited (setting_of r) u.world ≡ l.completion
   ring_is =

@@ -3,7 +3,7 @@ use Rattle.std.proofs.Common.{List, [], ◌∷◌, arith, subst, sym}
 use Rattle.nv_model.specs.State.{State}
 use Rattle.nv_driver.specs.Schedule.{Event, Submit, Bell, Turn, Collect, Tell, EveryScheduleIsSerial, Happens, IsSerial, Runs, Setting, World}
 use Rattle.nv_driver.specs.Keeping.{Keeps}
-use Rattle.nv_driver.proofs.KeptLaws.{bell_keeps, collect_keeps, idle_keeps, tell_keeps}
+use Rattle.nv_driver.proofs.KeptLaws.{bell_keeps, collect_keeps, idle_keeps, is_found, tell_keeps}
 use Rattle.nv_driver.proofs.SubmitLaws.{submit_keeps}
 use Rattle.nv_driver.proofs.TurnLaws.{turn_keeps, turn_takes}
 
@@ -25,6 +25,7 @@ serial t s w keeps = record {
   collected = keeps.counts.collected;
   done = omega (arith, keeps.counts.done, keeps.counts.rung);
   held = keeps.held;
+  found = is_found t s w keeps;
   turns = λ most next happens. turn_takes t s most w next keeps happens;
   others = keeps.others;
 }

@@ -1,6 +1,6 @@
 -- Schedules of one controller's commands: submit, ring the doorbell, turn, collect, tell the head,
 -- in any order.
-use Rattle.std.specs.Prelude.{◌≡◌, ◌-◌, ◌≢◌, ◌⊎◌, ℕ, ◌+◌, ◌*◌, ◌<◌, ◌≤◌, ◌^◌, ◌==◌, ◌&&◌, Bool}
+use Rattle.std.specs.Prelude.{◌≡◌, ◌-◌, ◌≢◌, ◌⊎◌, ◌↔◌, ℕ, ◌+◌, ◌*◌, ◌<◌, ◌≤◌, ◌^◌, ◌==◌, ◌&&◌, Bool}
 use Rattle.std.specs.Prelude.{false, All, List, [], ◌∷◌, ◌++◌, if◌then◌else◌, length, map, min, not}
 use Rattle.std.specs.Prelude.{slice_index_or, take, Result, Ok, Err}
 use Rattle.nv_host.specs.Bytes.{bytes_at}
@@ -325,7 +325,8 @@ least t w most = min most (min (w.rung - w.done) (t.depth - 1 - (w.done - w.told
 
 -- The collected answers are the first of those that the commands have one at a time, and the
 -- subsystem is that after the commands that were done. An answer is held from its command's turn on
--- until it is collected. A turn takes as many entries as it can. Bytes that lie in no ring and in
+-- until it is collected. The awaited completion is found exactly where a command was done whose
+-- answer wasn't collected. A turn takes as many entries as it can. Bytes that lie in no ring and in
 -- no page of a command stay.
 pub record IsSerial (t : Setting) (s : State) (w : World) : Type 0 where
   pub answers : w.answers ≡ take (length w.answers) (answers_to t.controller s w.sent)
@@ -334,6 +335,7 @@ pub record IsSerial (t : Setting) (s : State) (w : World) : Type 0 where
   pub done : w.done ≤ length w.sent
   pub held : (n : ℕ) (d : Sent) → length w.answers ≤ n → n < w.done
       → Holds t s w n (slice_index_or w.sent n d)
+  pub found : IsAwaitedThere w.mem (awaited t w) ↔ (length w.answers < w.done)
   pub turns : (most : ℕ) (next : World) → Happens t (Turn most) w next → next.done ≡ w.done
       + least t w most
   pub others : (from n : ℕ) → AreOthers t w.sent from n → bytes_at w.mem from n
