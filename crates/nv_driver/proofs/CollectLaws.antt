@@ -19,7 +19,7 @@ use Rattle.nv_command.specs.Logs.{IsSendable}
 use Rattle.nv_command.specs.declared.command.Command.{Command}
 use Rattle.nv_bus.specs.Call.{length_of}
 use Rattle.nv_driver.specs.CommandPages.{AreTaken, all_pages, with_pages, without}
-use Rattle.nv_driver.specs.Schedule.{Answer, Numbered, Sent, StaysNamed, World, answer_from, answer_read, answers_to, awaited, collect_ring, data_length, number, own_pages, places, received_from, slot, submit_ring}
+use Rattle.nv_driver.specs.Schedule.{Answer, Collect, Happens, Numbered, Sent, StaysNamed, World, answer_from, answer_read, answers_to, awaited, collect_ring, data_length, number, own_pages, places, received_from, slot, submit_ring}
 use Rattle.nv_driver.specs.Layout.{pages_of_command}
 use Rattle.nv_driver.specs.Submitting.{sent_by, transfer_at}
 use Rattle.nv_driver.specs.UnderWay.{HasAnswers, IsKept, IsUnderWay, Run, kept_at, pages_of_all, serial_at, setting_of}
@@ -29,6 +29,7 @@ use Rattle.nv_driver.specs.declared.submitting.Outstanding.{Outstanding}
 use Rattle.nv_driver.proofs.BatchLaws.{answers_are, distance_is}
 use Rattle.nv_driver.proofs.CountLaws.{number_next}
 use Rattle.nv_driver.proofs.KeptLaws.{collect_keeps, is_found}
+use Rattle.nv_driver.proofs.OthersLaws.{collect_others}
 use Rattle.nv_driver.proofs.PointerLaws.{names_in}
 use Rattle.nv_driver.proofs.SerialLaws.{length-answers}
 use Rattle.nv_driver.proofs.SubmittingLaws.{pages_are}
@@ -198,6 +199,11 @@ module _ {r : Run} {bells turns : ℕ} {b : Batch} {l : LaneFields} {now : ℕ} 
           let a = answer_read t.page_size next_one w.mem (awaited_completion w.mem (awaited t w)) in
           let at : get_or w.sent (length w.answers) no_command ≡ next_one = ap (λ n. get_or w.sent n no_command) u.collected in
           let w' : World = record w { answers = w.answers ++ a ∷ [] } in
+          let happens : Happens t Collect w w' = inl (
+            there more,
+            no_command,
+            ap (λ y. record w { answers = w.answers ++ answer_read t.page_size y w.mem (awaited_completion w.mem (awaited t w)) ∷ [] }) (sym at),
+          ) in
           record {
             begun = u.begun;
             can = u.can;
@@ -209,11 +215,8 @@ module _ {r : Run} {bells turns : ℕ} {b : Batch} {l : LaneFields} {now : ℕ} 
             some = u.some;
             room = u.room;
             world = w';
-            keeps = collect_keeps t r.bus.state w w' u.keeps (inl (
-              there more,
-              no_command,
-              ap (λ y. record w { answers = w.answers ++ answer_read t.page_size y w.mem (awaited_completion w.mem (awaited t w)) ∷ [] }) (sym at),
-            ));
+            keeps = collect_keeps t r.bus.state w w' u.keeps happens;
+            others = collect_others t 0 r.bytes w w' u.others happens;
             mem = u.mem;
             rung = u.rung;
             done = u.done;

@@ -3,7 +3,6 @@ use Rattle.std.proofs.Common.{◌≡◌, ◌↔◌, ◌∙◌, ℕ, ◌+◌, ◌
 use Rattle.std.proofs.Math.Nat.{mod-eq_of_lt}
 use Rattle.std.proofs.lemmas.Bool.{cases_lt}
 use Rattle.std.proofs.lemmas.List.{take_more}
-use Rattle.nv_host.specs.Bytes.{bytes_at}
 use Rattle.nv_queue.specs.Numbers.{kept_number, phase_of}
 use Rattle.nv_queue.proofs.SlotLaws.{not_own}
 use Rattle.nv_queue.specs.Slots.{HoldsTags, IsAwaitedThere, completion_at}
@@ -56,7 +55,6 @@ idle_keeps t w i =
       held = λ n d from below. absurd (omega (arith, i.done));
       tags = subst (HoldsTags w.mem t.cq t.depth) (number_zero t i.start ∙ ap (number t) (sym i.done)) i.tags;
       answers = rw (i.answers) refl;
-      others = λ from n apart. ap (λ m. bytes_at m from n) i.before;
     }
 
 -- ---- doorbells change a count and the registers
@@ -79,7 +77,6 @@ told_otherwise t s w rung told port k counts is = record {
   held = λ n d from below. let h = k.held n d from below in record { answer = h.answer; cid = h.cid; head = h.head };
   tags = k.tags;
   answers = k.answers;
-  others = k.others;
 }
 
 pub bell_keeps : (t : Setting) (s : State) (w w' : World) → Keeps t s w → Happens t Bell w w' → Keeps t s w'
@@ -168,7 +165,6 @@ collected_one t s w d k below =
       answers = ap (λ xs. xs ++ a ∷ []) k.answers ∙ ap (λ x. take n all ++ x ∷ []) is
           ∙ sym (take_more all n a (omega (arith, c.done, c.rung)))
           ∙ ap (λ i. take i all) (sym more);
-      others = k.others;
     }
 
 pub collect_keeps : (t : Setting) (s : State) (w w' : World) → Keeps t s w → Happens t Collect w w' → Keeps t s w'

@@ -1,5 +1,5 @@
 -- What a submission keeps.
-use Rattle.std.proofs.Common.{◌≡◌, ◌∙◌, ℕ, ◌+◌, ◌*◌, ◌<◌, ◌≤◌, List, [], ◌∷◌, ◌++◌, ap, arith, get_or, inl, inr, length, length-append, refl, subst, sym, take}
+use Rattle.std.proofs.Common.{◌≡◌, ◌∙◌, ℕ, ◌+◌, ◌*◌, ◌<◌, ◌≤◌, List, [], ◌∷◌, ◌++◌, ap, arith, get_or, inl, inr, length, length-append, subst, sym, take}
 use Rattle.std.proofs.Math.Nat.{mul-le-mul_left}
 use Rattle.std.proofs.lemmas.Bool.{cases_lt}
 use Rattle.std.proofs.lemmas.List.{get_or_append_left, get_or_push, take-append-le}
@@ -22,14 +22,14 @@ use Rattle.nv_driver.proofs.RegionLaws.{ChangesOnlyAt, buffer_data, completion_a
 use Rattle.nv_driver.proofs.SerialLaws.{answers-append, length-answers}
 
 -- the memory after a submission
-abbrev mem_after : Setting → World → Sent → List ℕ → List ℕ
+abbrev pub mem_after : Setting → World → Sent → List ℕ → List ℕ
 mem_after t w x ready = with_submission ready (submit_ring t (length w.sent) (length w.answers)) (entry x)
 
 length-after : (t : Setting) (w : World) (x : Sent) (ready : List ℕ) → 0 < t.depth → t.sq + 64 * t.depth ≤ length ready
     → length (mem_after t w x ready) ≡ length ready
 length-after t w x ready some inside = length-with_submission ready (submit_ring t (length w.sent) (length w.answers)) (entry x) some inside
 
-changes_only : (t : Setting) (w : World) (x : Sent) (ready : List ℕ) → 0 < t.depth → t.sq + 64 * t.depth ≤ length ready → IsPrepared t.page_size x w.mem ready
+pub changes_only : (t : Setting) (w : World) (x : Sent) (ready : List ℕ) → 0 < t.depth → t.sq + 64 * t.depth ≤ length ready → IsPrepared t.page_size x w.mem ready
     → ChangesOnlyAt t x t.sq (64 * t.depth) w.mem (mem_after t w x ready)
 changes_only t w x ready some inside prepared from n outside apart =
     submission_keeps ready (submit_ring t (length w.sent) (length w.answers)) (entry x) from n some inside apart ∙ prepared.others from n outside
@@ -191,13 +191,6 @@ submitted t s x w ready k may prepared =
           (k.held n d from below));
       tags = λ slot below. ap (λ e. e.phase) (completion_stays t x w.mem new slot only may.completions p.rings below) ∙ k.tags slot below;
       answers = k.answers ∙ sym (ap (take (length w.answers)) further ∙ take-append-le (length w.answers) all rest (omega (arith, c.collected, c.done, c.rung)));
-      others = λ from i apart.
-          only from i (subst (λ y. AreOutside t.page_size y from i) (get_or_push w.sent x x m refl) (apart.pages m x (omega arith))) apart.submissions
-          ∙ k.others from i (record {
-            submissions = apart.submissions;
-            completions = apart.completions;
-            pages = λ j d low. subst (λ y. AreOutside t.page_size y from i) (get_or_append_left w.sent (x ∷ []) d j low) (apart.pages j d (omega arith));
-          });
     }
 
 pub submit_keeps : (t : Setting) (s : State) (x : Sent) (w w' : World) → Keeps t s w → Happens t (Submit x) w w' → Keeps t s w'

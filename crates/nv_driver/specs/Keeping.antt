@@ -1,5 +1,5 @@
 -- What holds along a schedule, after each of its events.
-use Rattle.std.proofs.Common.{◌≡◌, ℕ, ◌+◌, ◌*◌, ◌^◌, ◌<◌, ◌≤◌, get_or, length, take}
+use Rattle.std.proofs.Common.{◌≡◌, ℕ, ◌+◌, ◌*◌, ◌^◌, ◌<◌, ◌≤◌, List, get_or, length, take}
 use Rattle.nv_host.specs.Bytes.{bytes_at}
 use Rattle.nv_host.specs.Pages.{IsPageSize}
 use Rattle.nv_prp.specs.Buffer.{IsApart}
@@ -63,5 +63,10 @@ pub record Keeps (t : Setting) (s : State) (w : World) : Type 0 where
       → Holds t s w n (get_or w.sent n d)
   pub tags : HoldsTags w.mem t.cq t.depth (number t w.done)
   pub answers : w.answers ≡ take (length w.answers) (answers_to t.controller s w.sent)
-  pub others : (from n : ℕ) → AreOthers t w.sent from n → bytes_at w.mem from n
-      ≡ bytes_at t.before from n
+
+-- since the memory was the old one, bytes stayed that lie in no ring, and in no page of a command
+-- from the first of these on
+pub record OthersStay (t : Setting) (first : ℕ) (old : List ℕ) (w : World) : Type 0 where
+  pub since : first ≤ length w.answers
+  pub same : (from n : ℕ) → AreOthers t first w.sent from n → bytes_at w.mem from n
+      ≡ bytes_at old from n
