@@ -14,13 +14,12 @@ use Rattle.nv_queue.proofs.KeptLaws.{between_kept, first_kept}
 use Rattle.nv_queue.specs.Numbers.{IsSlotBetween, first_in_slot}
 use Rattle.nv_queue.specs.Rings.{CollectNumbers, SubmitNumbers, collected_one, known_to}
 use Rattle.nv_queue.specs.Slots.{IsAwaitedThere, awaited_completion, completion_at}
-use Rattle.nv_queue.proofs.TagLaws.{tag_there}
 use Rattle.nv_command.specs.Command.{transfer_by}
 use Rattle.nv_command.specs.Logs.{IsSendable}
 use Rattle.nv_command.specs.declared.command.Command.{Command}
 use Rattle.nv_bus.specs.Call.{length_of}
 use Rattle.nv_driver.specs.CommandPages.{AreTaken, all_pages, data_pages, with_pages, without}
-use Rattle.nv_driver.specs.Schedule.{Answer, Numbered, Sent, World, answer_from, answer_read, answers_to, awaited, collect_ring, data_length, number, own_pages, places, received_from, slot, submit_ring}
+use Rattle.nv_driver.specs.Schedule.{Answer, Collect, Happens, Numbered, Sent, World, answer_from, answer_read, answers_to, awaited, collect_ring, data_length, number, own_pages, places, received_from, slot, submit_ring}
 use Rattle.nv_driver.specs.Layout.{pages_of_command}
 use Rattle.nv_driver.specs.UnderWay.{HasAnswers, IsKept, IsUnderWay, Run, kept_at, pages_of_all, serial_at, setting_of}
 use Rattle.nv_driver.specs.declared.batch.Batch.{Batch}
@@ -28,8 +27,9 @@ use Rattle.nv_driver.specs.declared.command_pages.CommandPages.{CommandPages}
 use Rattle.nv_driver.specs.declared.geometry.Geometry.{Geometry}
 use Rattle.nv_driver.specs.declared.lane.Lane.{Lane as LaneFields}
 use Rattle.nv_driver.proofs.BatchLaws.{answers_are, distance_is}
-use Rattle.nv_driver.proofs.CountLaws.{number_above, number_below, number_next, numbers_differ, slot_inside}
-use Rattle.nv_driver.proofs.KeptLaws.{collect_keeps}
+use Rattle.nv_driver.proofs.CountLaws.{number_next}
+use Rattle.nv_driver.proofs.KeptLaws.{collect_keeps, is_found}
+use Rattle.nv_driver.proofs.OthersLaws.{collect_others}
 use Rattle.nv_driver.proofs.SerialLaws.{length-answers}
 use Rattle.nv_driver.proofs.SubmittingLaws.{buffer_as, of_set, pages_are, places_as}
 use Rattle.nv_driver.proofs.TurnLaws.{no_command}
@@ -78,17 +78,7 @@ module _ {r : Run} {bells turns : ℕ} {b : Batch} {l : LaneFields} {now : ℕ} 
   next_one = get_or u.world.sent b.collected no_command
 
   there : b.collected < turns → IsAwaitedThere u.world.mem (awaited (setting_of r) u.world)
-  there more =
-      let t = setting_of r in
-      let w = u.world in
-      let c = u.keeps.counts in
-      let deep = u.keeps.placed.deep in
-      let n = length w.answers in
-      let far = number_above t n w.done (omega (arith, deep.0)) c.collected (omega (arith, c.done, c.rung, c.few)) in
-      u.keeps.tags (slot t n) (slot_inside t n (omega (arith, deep.0)))
-      ∙ tag_there t.depth (number t w.done) (number t n) (number_below t w.done (omega (arith, deep.0))) (number_below t n (omega (arith, deep.0)))
-      (omega (arith, far, c.done, c.rung, c.few))
-      (λ same. numbers_differ t n w.done (omega (arith, more, u.collected, u.done)) (omega (arith, c.done, c.rung, c.few)) (sym same))
+  there more = (is_found (setting_of r) r.bus.state u.world u.keeps).1 (omega (arith, more, u.collected, u.done))
 
   ring_is : awaited (setting_of r) u.world ≡ l.completion
   ring_is =
@@ -210,6 +200,11 @@ module _ {r : Run} {bells turns : ℕ} {b : Batch} {l : LaneFields} {now : ℕ} 
           let a = answer_read t.page_size next_one w.mem (awaited_completion w.mem (awaited t w)) in
           let at : get_or w.sent (length w.answers) no_command ≡ next_one = ap (λ n. get_or w.sent n no_command) u.collected in
           let w' : World = record w { answers = w.answers ++ a ∷ [] } in
+          let happens : Happens t Collect w w' = inl (
+            there more,
+            no_command,
+            ap (λ y. record w { answers = w.answers ++ answer_read t.page_size y w.mem (awaited_completion w.mem (awaited t w)) ∷ [] }) (sym at),
+          ) in
           record {
             begun = u.begun;
             can = u.can;
@@ -221,11 +216,8 @@ module _ {r : Run} {bells turns : ℕ} {b : Batch} {l : LaneFields} {now : ℕ} 
             some = u.some;
             room = u.room;
             world = w';
-            keeps = collect_keeps t r.bus.state w w' u.keeps (inl (
-              there more,
-              no_command,
-              ap (λ y. record w { answers = w.answers ++ answer_read t.page_size y w.mem (awaited_completion w.mem (awaited t w)) ∷ [] }) (sym at),
-            ));
+            keeps = collect_keeps t r.bus.state w w' u.keeps happens;
+            others = collect_others t 0 r.bytes w w' u.others happens;
             mem = u.mem;
             rung = u.rung;
             done = u.done;

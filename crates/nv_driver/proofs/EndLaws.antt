@@ -68,7 +68,7 @@ ends_all {g} {c} {old} {bus} {l} {l'} {now} {bytes} {mem} {commands} {r} {b} is 
     at_end : (u : IsUnderWay (run_of g c old l bytes commands) b.sent b.collected b l' now mem) → IsBusOf (run_of g c old l bytes commands) b.sent b.collected b.told bus
         → HasEnded g c old l bytes bus l' now mem
     at_end u of =
-        let t = setting g c bytes (lane_value l) in
+        let t = setting g c (lane_value l) in
         let n = b.collected in
         let none : drop n u.world.sent ≡ [] = ap (λ i. drop i u.world.sent) (sym (u.sent ∙ sent)) ∙ drop-length u.world.sent in
         let pages = ap (λ (x : LaneFields). x.pages) u.lane ∙ ap (λ xs. without l.pages (pages_of_all xs)) none ∙ (taken_none l.pages).1 in
@@ -82,7 +82,7 @@ ends_all {g} {c} {old} {bus} {l} {l'} {now} {bytes} {mem} {commands} {r} {b} is 
               (has_port u of) of.bus port;
           ports = of.ports;
           others = subst (KeepsOthers g.page_size (lane_value l) bytes) u.mem
-              (others_kept u.begun u.keeps (λ i d h. u.own i d (omega (arith, u.sent))));
+              (others_kept u.begun u.others (λ i d h. u.own i d (omega (arith, u.sent))));
         }
 
 -- all were collected

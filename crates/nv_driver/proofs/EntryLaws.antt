@@ -23,14 +23,14 @@ use Rattle.nv_model.proofs.StepLaws.{step_controllers, step_keeps}
 use Rattle.nv_bus.specs.Entry.{Scene, completion_with, scene}
 use Rattle.nv_bus.specs.Turn.{Takes}
 use Rattle.nv_bus.proofs.TurnLaws.{length_moved}
-use Rattle.nv_driver.specs.Schedule.{Answer, AreApart, Holds, Sent, Setting, World, answer_read, device_rings, number, places, pointed, port_with, slot}
+use Rattle.nv_driver.specs.Schedule.{Answer, AreApart, AreOthers, Holds, Sent, Setting, World, answer_read, device_rings, number, places, pointed, port_with, slot}
 use Rattle.nv_driver.proofs.AnswerLaws.{IsAnswerTo, answer_back, answer_sound, completion_fits}
 use Rattle.nv_driver.proofs.CountLaws.{number_below, number_next, slot_inside, slots_differ}
 use Rattle.nv_driver.proofs.HeldLaws.{holds_on}
 use Rattle.nv_driver.specs.Keeping.{IsOwn, Keeps}
 use Rattle.nv_driver.proofs.ListPageLaws.{list_beside, list_stays}
 use Rattle.nv_driver.proofs.PointerLaws.{stays_in}
-use Rattle.nv_driver.proofs.RegionLaws.{ChangesOnlyAt, apart-sym, completion_keeps, data_beside, data_stays, holds_sent_on, outside_part}
+use Rattle.nv_driver.proofs.RegionLaws.{ChangesOnlyAt, apart-sym, completion_keeps, data_beside, data_stays, holds_sent_on, outside_part, submission_aside}
 use Rattle.nv_driver.proofs.SerialLaws.{after_more, answer_at}
 use Rattle.nv_driver.proofs.TakenLaws.{IsDone, can_go, delivered, is_done, moved_keeps, moved_list, moved_slot, now}
 
@@ -51,6 +51,20 @@ world_after t w y = record w {
   done = w.done + 1;
 }
 
+-- it changes the pages of its command and the completion ring
+entry_only : (t : Setting) (s : State) (w : World) (x : Sent) (y : Scene) → Keeps t s w → IsOwn t (length w.mem) x → IsDone t w x y
+    → ChangesOnlyAt t x t.cq (16 * t.depth) w.mem y.bytes
+entry_only t s w x y k own one from i outside apart =
+    let p = k.placed in
+    let deep = p.deep in
+    let some : 0 < t.page_size = omega (arith, page_size_bounds t.page_size p.page_size) in
+    let a = (step w.state t.controller x.command x.cid).answer in
+    let posted = completion_with x.cid (slot t (w.done + 1)) a in
+    let size : length one.moved ≡ length w.mem = length_moved x.command (places t.page_size x) a w.mem one.moved one.moves in
+    let inside : t.cq + 16 * t.depth ≤ length one.moved = omega (arith, p.completions) in
+    ap (λ m. bytes_at m from i) one.bytes ∙ completion_keeps one.moved (now t w).completion posted from i (omega (arith, deep.0)) inside apart
+    ∙ moved_keeps t x a w.mem one.moved from i some own.enough one.moves outside
+
 one_more : (t : Setting) (s : State) (w : World) (y : Scene) (d : Sent) → Keeps t s w → w.done < w.rung → w.done + 1 < w.told + t.depth
     → IsDone t w (get_or w.sent w.done d) y → Keeps t s (world_after t w y)
 one_more t s w y d k waits free one =
@@ -69,15 +83,13 @@ one_more t s w y d k waits free one =
     let head = slot_inside t (n + 1) (omega (arith, deep.0)) in
     let fits : CqeFits posted = completion_fits x.command x.cid (slot t (n + 1)) a own.cid (omega (arith, deep.1)) sound in
     let size : length one.moved ≡ length w.mem = length_moved x.command (places t.page_size x) a w.mem one.moved one.moves in
-    let inside : t.cq + 16 * t.depth ≤ length one.moved = omega (arith, p.inside) in
+    let inside : t.cq + 16 * t.depth ≤ length one.moved = omega (arith, p.completions) in
     let len : length y.bytes ≡ length w.mem =
     ap (λ (m : List ℕ). length m) one.bytes ∙ length-with_completion one.moved ring posted (omega (arith, deep.0)) inside ∙ size in
     let written : WritesCompletion one.moved y.bytes t.cq t.depth (slot t n) (posted_as t.depth (number t n) posted) =
     subst (λ m. WritesCompletion one.moved m t.cq t.depth (slot t n) (posted_as t.depth (number t n) posted)) (sym one.bytes)
     (put_written one.moved ring posted (omega (arith, deep.0)) inside fits) in
-    let only : ChangesOnlyAt t x t.cq (16 * t.depth) w.mem y.bytes = λ from i outside apart.
-    ap (λ m. bytes_at m from i) one.bytes ∙ completion_keeps one.moved ring posted from i (omega (arith, deep.0)) inside apart
-    ∙ moved_keeps t x a w.mem one.moved from i some own.enough one.moves outside in
+    let only : ChangesOnlyAt t x t.cq (16 * t.depth) w.mem y.bytes = entry_only t s w x y k own one in
     let there : completion_at y.bytes t.cq (slot t n) ≡ posted_as t.depth (number t n) posted = written.here in
     let same_slot = λ (j : ℕ) (low : j < t.depth). moved_slot t x a w.mem one.moved j some own.enough one.moves own.completions low in
     let beside : ChangesOnly t.cq (16 * t.depth) one.moved y.bytes = λ from i apart. ap (λ m. bytes_at m from i) one.bytes
@@ -102,7 +114,13 @@ one_more t s w y d k waits free one =
       head = ap (λ (q : Cqe). q.sq_head) there;
     } in
     record {
-      placed = record { page_size = p.page_size; deep = p.deep; rings = p.rings; inside = omega (arith, p.inside) };
+      placed = record {
+        page_size = p.page_size;
+        deep = p.deep;
+        rings = p.rings;
+        submissions = omega (arith, p.submissions);
+        completions = omega (arith, p.completions);
+      };
       counts = record { told = c.told; collected = omega (arith, c.collected); done = omega arith; rung = c.rung; few = c.few; free = free };
       port = refl;
       state = one.state ∙ ap (λ (q : State). (step q t.controller x.command x.cid).state) k.state ∙ sym (after_more t.controller s w.sent n d below);
@@ -129,7 +147,7 @@ one_more t s w y d k waits free one =
           let room = slot_room 64 (slot t i) t.depth low in
           ap sqe_of_bytes (only (t.sq + 64 * slot t i) 64
           (outside_part t x t.sq (64 * t.depth) (t.sq + 64 * slot t i) 64 own.submissions (omega arith) (omega arith))
-          (inl (omega (arith, p.rings)))) ∙ k.waiting i e (omega arith) high;
+          (submission_aside t (slot t i) p.rings low)) ∙ k.waiting i e (omega arith) high;
       to_send = λ i e from high.
           let z = get_or w.sent i e in
           let other = k.own i e (omega (arith, c.collected)) high in
@@ -158,7 +176,6 @@ one_more t s w y d k waits free one =
           (tags_after one.moved y.bytes t.cq t.depth (number t n) posted (number_below t n (omega (arith, deep.0))) written
           (λ j low. ap (λ (q : Cqe). q.phase) (same_slot j low) ∙ k.tags j low));
       answers = k.answers;
-      others = λ from i apart. only from i (apart.pages n d below) apart.completions ∙ k.others from i apart;
     }
 
 pub entry_keeps : (t : Setting) (s : State) (w : World) (y : Scene) (d : Sent) → Keeps t s w
@@ -166,3 +183,14 @@ pub entry_keeps : (t : Setting) (s : State) (w : World) (y : Scene) (d : Sent) �
 entry_keeps t s w y d k takes =
     let go = can_go t s w k takes.can in
     one_more t s w y d k go.0 go.1 (is_done t s w y d k (let c = k.counts in omega (arith, go.0, c.rung)) takes.one)
+
+-- bytes in no ring and in no page of an outstanding command stay
+pub entry_others : (t : Setting) (s : State) (w : World) (y : Scene) (d : Sent) → Keeps t s w
+    → Takes t.page_size t.controller (scene w.state (now t w) w.mem) y
+    → (from n : ℕ) → AreOthers t (length w.answers) w.sent from n → bytes_at y.bytes from n ≡ bytes_at w.mem from n
+entry_others t s w y d k takes from n apart =
+    let c = k.counts in
+    let go = can_go t s w k takes.can in
+    let below : w.done < length w.sent = omega (arith, go.0, c.rung) in
+    entry_only t s w (get_or w.sent w.done d) y k (k.own w.done d c.collected below) (is_done t s w y d k below takes.one)
+    from n (apart.pages w.done d c.collected below) apart.completions

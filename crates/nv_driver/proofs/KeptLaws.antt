@@ -1,19 +1,18 @@
 -- What a schedule keeps from its beginning on, where a doorbell is rung or an answer is collected.
-use Rattle.std.proofs.Common.{◌≡◌, ◌∙◌, ℕ, ◌+◌, ◌*◌, ◌%◌, ◌<◌, ◌≤◌, length-append, [], ◌∷◌, ◌++◌, ap, arith, get_or, inl, inr, length, refl, subst, sym, take}
+use Rattle.std.proofs.Common.{◌≡◌, ◌↔◌, ◌∙◌, ℕ, ◌+◌, ◌*◌, ◌%◌, ◌<◌, ◌≤◌, length-append, [], ◌∷◌, ◌++◌, ap, arith, get_or, inl, inr, length, refl, subst, sym, take}
 use Rattle.std.proofs.Math.Nat.{mod-eq_of_lt}
 use Rattle.std.proofs.lemmas.Bool.{cases_lt}
 use Rattle.std.proofs.lemmas.List.{take_more}
-use Rattle.nv_host.specs.Bytes.{bytes_at}
 use Rattle.nv_queue.specs.Numbers.{kept_number, phase_of}
 use Rattle.nv_queue.proofs.SlotLaws.{not_own}
-use Rattle.nv_queue.specs.Slots.{HoldsTags, completion_at}
-use Rattle.nv_queue.proofs.TagLaws.{tag_below_here}
+use Rattle.nv_queue.specs.Slots.{HoldsTags, IsAwaitedThere, completion_at}
+use Rattle.nv_queue.proofs.TagLaws.{tag_below_here, tag_there}
 use Rattle.nv_model.specs.State.{State}
 use Rattle.nv_register.specs.Port.{with_register_at}
 use Rattle.nv_register.specs.declared.port.Port.{Port}
-use Rattle.nv_driver.specs.Schedule.{Happens, IsIdle, Sent, Setting, World, answer_awaited, answers_to, device_rings, number, port_with, slot}
+use Rattle.nv_driver.specs.Schedule.{Happens, IsIdle, Sent, Setting, World, answer_awaited, answers_to, awaited, device_rings, number, port_with, slot}
 use Rattle.nv_driver.specs.Schedule.{Bell, Collect, Tell}
-use Rattle.nv_driver.proofs.CountLaws.{head_told, number_below, slot_inside, tail_rung}
+use Rattle.nv_driver.proofs.CountLaws.{head_told, number_above, number_below, numbers_differ, slot_inside, tail_rung}
 use Rattle.nv_driver.specs.Keeping.{AreInOrder, Keeps}
 use Rattle.nv_driver.proofs.SerialLaws.{length-answers}
 
@@ -29,7 +28,13 @@ idle_keeps t w i =
     let no_answers = ap (λ xs. length xs) i.answers in
     let deep = i.deep in
     record {
-      placed = record { page_size = i.page_size; deep = i.deep; rings = i.rings; inside = i.inside };
+      placed = record {
+        page_size = i.page_size;
+        deep = i.deep;
+        rings = i.rings;
+        submissions = i.submissions;
+        completions = i.completions;
+      };
       counts = record {
         told = omega (arith, i.told);
         collected = omega (arith, no_answers);
@@ -50,7 +55,6 @@ idle_keeps t w i =
       held = λ n d from below. absurd (omega (arith, i.done));
       tags = subst (HoldsTags w.mem t.cq t.depth) (number_zero t i.start ∙ ap (number t) (sym i.done)) i.tags;
       answers = rw (i.answers) refl;
-      others = λ from n apart. ap (λ m. bytes_at m from n) i.before;
     }
 
 -- ---- doorbells change a count and the registers
@@ -73,7 +77,6 @@ told_otherwise t s w rung told port k counts is = record {
   held = λ n d from below. let h = k.held n d from below in record { answer = h.answer; cid = h.cid; head = h.head };
   tags = k.tags;
   answers = k.answers;
-  others = k.others;
 }
 
 pub bell_keeps : (t : Setting) (s : State) (w w' : World) → Keeps t s w → Happens t Bell w w' → Keeps t s w'
@@ -109,6 +112,25 @@ posted t w d k some low tags there =
           absurd (not_own _ _ here (subst (λ n. (completion_at w.mem t.cq (slot t n)).phase ≡ phase_of t.depth (number t n)) same there))
     ]
 
+-- and there it is
+awaited_there : (t : Setting) (s : State) (w : World) → Keeps t s w → length w.answers < w.done → IsAwaitedThere w.mem (awaited t w)
+awaited_there t s w k more =
+    let c = k.counts in
+    let deep = k.placed.deep in
+    let some : 0 < t.depth = omega (arith, deep.0) in
+    let n = length w.answers in
+    let far = number_above t n w.done some c.collected (omega (arith, c.done, c.rung, c.few)) in
+    k.tags (slot t n) (slot_inside t n some)
+    ∙ tag_there t.depth (number t w.done) (number t n) (number_below t w.done some) (number_below t n some)
+    (omega (arith, far, c.done, c.rung, c.few))
+    (λ same. numbers_differ t n w.done more (omega (arith, c.done, c.rung, c.few)) (sym same))
+
+pub is_found : (t : Setting) (s : State) (w : World) → Keeps t s w → IsAwaitedThere w.mem (awaited t w) ↔ (length w.answers < w.done)
+is_found t s w k = (
+  posted t w w.done (length w.answers) (let deep = k.placed.deep in omega (arith, deep.0)) k.counts.collected k.tags,
+  awaited_there t s w k,
+)
+
 collected_one : (t : Setting) (s : State) (w : World) (d : Sent) → Keeps t s w → length w.answers < w.done
     → Keeps t s (record w { answers = w.answers ++ answer_awaited t w (get_or w.sent (length w.answers) d) ∷ [] })
 collected_one t s w d k below =
@@ -143,11 +165,9 @@ collected_one t s w d k below =
       answers = ap (λ xs. xs ++ a ∷ []) k.answers ∙ ap (λ x. take n all ++ x ∷ []) is
           ∙ sym (take_more all n a (omega (arith, c.done, c.rung)))
           ∙ ap (λ i. take i all) (sym more);
-      others = k.others;
     }
 
 pub collect_keeps : (t : Setting) (s : State) (w w' : World) → Keeps t s w → Happens t Collect w w' → Keeps t s w'
 collect_keeps t s w w' k (inl there) =
-    let below = posted t w w.done (length w.answers) (let deep = k.placed.deep in omega arith) k.counts.collected k.tags there.0 in
-    subst (Keeps t s) (sym there.2) (collected_one t s w there.1 k below)
+    subst (Keeps t s) (sym there.2) (collected_one t s w there.1 k ((is_found t s w k).0 there.0))
 collect_keeps t s w w' k (inr none) = subst (Keeps t s) (sym none.1) k

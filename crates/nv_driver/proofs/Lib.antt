@@ -21,6 +21,8 @@ pub mod SubmitLaws
 pub mod TakenLaws
 pub mod EntryLaws
 pub mod TurnLaws
+pub mod OthersLaws
+pub mod ElsewhereLaws
 pub mod ScheduleLaws
 pub mod LaneLaws
 pub mod LayoutLaws

@@ -9,7 +9,7 @@ use Rattle.nv_queue.specs.Slots.{HoldsTags}
 use Rattle.nv_model.specs.State.{State}
 use Rattle.nv_bus.specs.Bus.{BusValue, IsBus, port_at}
 use Rattle.nv_driver.specs.Exchange.{IsReady, KeepsOthers}
-use Rattle.nv_driver.specs.Keeping.{Keeps}
+use Rattle.nv_driver.specs.Keeping.{OthersStay}
 use Rattle.nv_driver.specs.Lane.{IsLaid}
 use Rattle.nv_driver.specs.Quiet.{IsQuiet, lane_value}
 use Rattle.nv_driver.specs.Schedule.{AreOutside, IsIdle, Sent, Setting, World, collect_ring, device_rings}
@@ -22,9 +22,9 @@ use Rattle.nv_driver.proofs.KeptLaws.{number_zero}
 
 -- ---- the beginning
 
-abbrev pub beginning : Setting → State → World
-beginning t s = record {
-  mem = t.before;
+abbrev pub beginning : Setting → List ℕ → State → World
+beginning t bytes s = record {
+  mem = bytes;
   state = s;
   port = t.port;
   sent = [];
@@ -36,18 +36,18 @@ beginning t s = record {
 
 pub is_idle : (g : Geometry) (b : BusValue) (c : ℕ) (l : LaneFields) (now : ℕ) (bytes : List ℕ)
     → IsReady g b c l now bytes
-    → IsIdle (setting g c bytes (lane_value l)) (beginning (setting g c bytes (lane_value l)) b.state)
+    → IsIdle (setting g c (lane_value l)) (beginning (setting g c (lane_value l)) bytes b.state)
 is_idle g b c l now bytes r =
     let laid = r.laid in
-    let t = setting g c bytes (lane_value l) in
+    let t = setting g c (lane_value l) in
     let first : t.start ≡ number t 0 = number_zero t laid.number in
     record {
-      before = refl;
       page_size = r.geometry.page_size;
       deep = laid.deep;
       start = laid.number;
-      rings = laid.rings;
-      inside = omega (arith, page_room g laid, laid.pages, laid.inside);
+      rings = inr laid.rings;
+      submissions = omega (arith, laid.rings, page_room g laid, laid.pages, laid.inside);
+      completions = omega (arith, page_room g laid, laid.pages, laid.inside);
       tags = r.tags;
       port = ap (λ n. port_with t (record {
         page_size = g.page_size;
@@ -72,17 +72,17 @@ is_idle g b c l now bytes r =
 -- the host's rings of a quiet lane are those of a schedule that begins
 pub submit_ring_is : (g : Geometry) (c : ℕ) (bytes : List ℕ) (l : LaneFields) → IsQuiet l
     → l.submission.submitted < 2 * l.submission.depth
-    → l.submission ≡ submit_ring (setting g c bytes (lane_value l)) 0 0
+    → l.submission ≡ submit_ring (setting g c (lane_value l)) 0 0
 submit_ring_is g c bytes l quiet below =
-    let t = setting g c bytes (lane_value l) in
+    let t = setting g c (lane_value l) in
     ap (λ n. record l.submission { known = n }) quiet.known
     ∙ ap (λ n. record { base = t.sq; depth = t.depth; submitted = n; known = n }) (number_zero t below)
 
 pub collect_ring_is : (g : Geometry) (c : ℕ) (bytes : List ℕ) (l : LaneFields) → IsQuiet l
     → l.submission.submitted < 2 * l.submission.depth
-    → l.completion ≡ collect_ring (setting g c bytes (lane_value l)) 0 0
+    → l.completion ≡ collect_ring (setting g c (lane_value l)) 0 0
 collect_ring_is g c bytes l quiet below =
-    let t = setting g c bytes (lane_value l) in
+    let t = setting g c (lane_value l) in
     let ring : ℕ → ℕ → Bool → CollectNumbers = λ n told untold.
     record { base = t.cq; depth = t.depth; collected = n; told = told; untold = untold } in
     ap (λ d. record l.completion { depth = d }) quiet.depth
@@ -96,23 +96,23 @@ collect_ring_is g c bytes l quiet below =
 -- the lane after so many commands
 pub lane_after : {g : Geometry} {b b4 : BusValue} {c : ℕ} {l l4 : LaneFields} {now page : ℕ} {bytes mem : List ℕ}
     (n : ℕ) → IsReady g b c l now bytes → page ≡ g.page_size → length mem ≡ length bytes
-    → l4.submission ≡ submit_ring (setting g c bytes (lane_value l)) n n
+    → l4.submission ≡ submit_ring (setting g c (lane_value l)) n n
     → l4.completion ≡ record {
       base = l.completion.base;
       depth = l.submission.depth;
-      collected = number (setting g c bytes (lane_value l)) n;
-      told = number (setting g c bytes (lane_value l)) n;
+      collected = number (setting g c (lane_value l)) n;
+      told = number (setting g c (lane_value l)) n;
       untold = false;
     }
     → l4.serial < 65535 → l4.pages ≡ l.pages
-    → HoldsTags mem l.completion.base l.submission.depth (number (setting g c bytes (lane_value l)) n)
+    → HoldsTags mem l.completion.base l.submission.depth (number (setting g c (lane_value l)) n)
     → c < length b4.ports → IsBus b4
-    → port_at b4.ports c ≡ port_with (setting g c bytes (lane_value l))
-    (device_rings (setting g c bytes (lane_value l)) n n n)
+    → port_at b4.ports c ≡ port_with (setting g c (lane_value l))
+    (device_rings (setting g c (lane_value l)) n n n)
     → IsReady g b4 c l4 page mem
 lane_after {g} {b} {b4} {c} {l} {l4} {now} {page} {bytes} {mem} n r size len submission completion serial pages tags
     below bus port =
-    let t = setting g c bytes (lane_value l) in
+    let t = setting g c (lane_value l) in
     let laid = r.laid in
     let k = number t n in
     let l1 : LaneFields = record {
@@ -170,21 +170,21 @@ outside_lane s x page_size sq from n own low high (inr behind) i d h =
     let times = mul-le-mul_right page_size last in inr (omega arith)
 
 -- where each command's pages were of the lane's set
-pub others_kept : {g : Geometry} {b : BusValue} {c : ℕ} {l : LaneFields} {now : ℕ} {bytes : List ℕ} {s : State}
-    {w : World} → IsReady g b c l now bytes → Keeps (setting g c bytes (lane_value l)) s w
+pub others_kept : {g : Geometry} {b : BusValue} {c : ℕ} {l : LaneFields} {now : ℕ} {bytes : List ℕ}
+    {w : World} → IsReady g b c l now bytes → OthersStay (setting g c (lane_value l)) 0 bytes w
     → ((i : ℕ) (d : Sent) → i < length w.sent
     → All (λ p. IsOf l.pages.first l.pages.count p) (own_pages (get_or w.sent i d)))
     → KeepsOthers g.page_size (lane_value l) bytes w.mem
-others_kept {g} {b} {c} {l} {now} {bytes} {s} {w} r keeps own from n apart =
+others_kept {g} {b} {c} {l} {now} {bytes} {w} r others own from n apart =
     let laid = r.laid in
     let least : l.pages.first ≤ l.pages.first + l.pages.count = omega arith in
     let room = mul-le-mul_right g.page_size least in
-    keeps.others from n (record {
+    others.same from n (record {
       submissions = aside l.submission.base (64 * l.submission.depth)
           (omega (arith, laid.rings, laid.pages, room)) (omega arith);
       completions = aside l.completion.base (16 * l.submission.depth)
           (omega (arith, laid.pages, room)) (omega (arith, laid.rings));
-      pages = λ i d h.
+      pages = λ i d low h.
           outside_lane l.pages (get_or w.sent i d) g.page_size l.submission.base from n (own i d h)
           (omega (arith, laid.rings, laid.pages)) (omega (arith, laid.rings, laid.pages, room)) apart;
     })

@@ -1,6 +1,6 @@
 -- Parts of the memory that a command's pages, or a slot of a ring, do not reach.
 use Rattle.std.proofs.Common.{◌≡◌, ◌≢◌, ◌∙◌, ◌⊎◌, ℕ, suc, ◌+◌, ◌*◌, ◌/◌, ◌<◌, ◌≤◌, List, ap, arith, get_or, inl, inr, length, sym}
-use Rattle.std.proofs.Math.Nat.{mul-le-mul_right}
+use Rattle.std.proofs.Math.Nat.{mul-le-mul_left, mul-le-mul_right}
 use Rattle.std.proofs.lemmas.Bool.{cases_lt}
 use Rattle.std.proofs.lemmas.Grind.{same_number_lists}
 use Rattle.std.proofs.lemmas.List.{get_or-map}
@@ -195,6 +195,27 @@ outside_part t x from n a k outside low high i d h =
     elim (outside i d h) [
       | inl before ↦ inl (omega arith)
       | inr behind ↦ inr (omega arith)
+    ]
+
+-- a slot of the completion ring shares no byte with the submission ring, and the other way round
+pub completion_aside : (t : Setting) (s : ℕ) → IsApart t.sq (64 * t.depth) t.cq (16 * t.depth) → s < t.depth
+    → IsApart t.sq (64 * t.depth) (t.cq + 16 * s) 16
+completion_aside t s rings below =
+    let top : s + 1 ≤ t.depth = omega arith in
+    let room = mul-le-mul_left 16 top in
+    elim rings [
+      | inl before ↦ inl (omega arith)
+      | inr behind ↦ inr (omega arith)
+    ]
+
+pub submission_aside : (t : Setting) (s : ℕ) → IsApart t.sq (64 * t.depth) t.cq (16 * t.depth) → s < t.depth
+    → IsApart t.cq (16 * t.depth) (t.sq + 64 * s) 64
+submission_aside t s rings below =
+    let top : s + 1 ≤ t.depth = omega arith in
+    let room = mul-le-mul_left 64 top in
+    elim rings [
+      | inl before ↦ inr (omega arith)
+      | inr behind ↦ inl (omega arith)
     ]
 
 -- only the pages of x and the n bytes from `base` on are other ones

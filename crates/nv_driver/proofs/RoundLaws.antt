@@ -20,6 +20,7 @@ use Rattle.nv_driver.specs.declared.lane.Lane.{Lane as LaneFields}
 use Rattle.nv_driver.proofs.BatchLaws.{state_is}
 use Rattle.nv_driver.proofs.CountLaws.{head_told, tail_rung}
 use Rattle.nv_driver.proofs.KeptLaws.{bell_keeps, tell_keeps}
+use Rattle.nv_driver.proofs.OthersLaws.{bell_others, tell_others, turn_others}
 use Rattle.nv_driver.proofs.TurnLaws.{turn_keeps, turn_takes}
 
 -- ---- ports
@@ -64,6 +65,7 @@ module _ {r : Run} {bells turns : ℕ} {b : Batch} {l : LaneFields} {now : ℕ} 
         room = u.room;
         world = w';
         keeps = bell_keeps (setting_of r) r.bus.state w w' u.keeps refl;
+        others = bell_others (setting_of r) 0 r.bytes w w' u.others refl;
         mem = u.mem;
         rung = u.sent;
         done = u.done;
@@ -117,6 +119,7 @@ module _ {r : Run} {bells turns : ℕ} {b : Batch} {l : LaneFields} {now : ℕ} 
         room = u.room;
         world = w';
         keeps = tell_keeps t r.bus.state w w' u.keeps refl;
+        others = tell_others t 0 r.bytes w w' u.others refl;
         mem = u.mem;
         rung = u.rung;
         done = u.done;
@@ -214,6 +217,7 @@ turns_on {r} {bells} {turns} {b} {l} {now} {now'} {bytes} {mem} {bus} {bus'} {c}
       room = u.room;
       world = w';
       keeps = turn_keeps t r.bus.state most w w' u.keeps (count, there, refl);
+      others = turn_others t r.bus.state 0 r.bytes most w w' u.keeps u.others (count, there, refl);
       mem = refl;
       rung = u.rung;
       done = done_is;

@@ -1,12 +1,12 @@
 -- What a submission keeps.
-use Rattle.std.proofs.Common.{◌≡◌, ◌∙◌, ℕ, ◌+◌, ◌*◌, ◌<◌, ◌≤◌, List, [], ◌∷◌, ◌++◌, ap, arith, get_or, inl, inr, length, length-append, refl, subst, sym, take}
+use Rattle.std.proofs.Common.{◌≡◌, ◌∙◌, ℕ, ◌+◌, ◌*◌, ◌<◌, ◌≤◌, List, [], ◌∷◌, ◌++◌, ap, arith, get_or, inl, inr, length, length-append, subst, sym, take}
 use Rattle.std.proofs.Math.Nat.{mul-le-mul_left}
 use Rattle.std.proofs.lemmas.Bool.{cases_lt}
 use Rattle.std.proofs.lemmas.List.{get_or_append_left, get_or_push, take-append-le}
 use Rattle.nv_host.proofs.PageLaws.{page_size_bounds}
 use Rattle.nv_layout.specs.Cqe.{cqe_of_bytes}
 use Rattle.nv_layout.specs.Sqe.{SqeFits, sqe_of_bytes}
-use Rattle.nv_prp.specs.Buffer.{ChangesOnly}
+use Rattle.nv_prp.specs.Buffer.{ChangesOnly, IsApart}
 use Rattle.nv_prp.proofs.BufferLaws.{rest_distinct}
 use Rattle.nv_queue.proofs.SlotLaws.{length-with_submission, push_written}
 use Rattle.nv_queue.specs.Slots.{completion_at, submission_at, with_submission}
@@ -18,29 +18,29 @@ use Rattle.nv_driver.proofs.HeldLaws.{holds_on}
 use Rattle.nv_driver.specs.Keeping.{IsOwn, Keeps}
 use Rattle.nv_driver.proofs.ListPageLaws.{list_beside, list_stays}
 use Rattle.nv_driver.proofs.PointerLaws.{stays_in}
-use Rattle.nv_driver.proofs.RegionLaws.{ChangesOnlyAt, buffer_data, data_beside, data_stays, holds_sent_on, outside_part, submission_keeps}
+use Rattle.nv_driver.proofs.RegionLaws.{ChangesOnlyAt, buffer_data, completion_aside, data_beside, data_stays, holds_sent_on, outside_part, submission_keeps}
 use Rattle.nv_driver.proofs.SerialLaws.{answers-append, length-answers}
 
 -- the memory after a submission
-abbrev mem_after : Setting → World → Sent → List ℕ → List ℕ
+abbrev pub mem_after : Setting → World → Sent → List ℕ → List ℕ
 mem_after t w x ready = with_submission ready (submit_ring t (length w.sent) (length w.answers)) (entry x)
 
 length-after : (t : Setting) (w : World) (x : Sent) (ready : List ℕ) → 0 < t.depth → t.sq + 64 * t.depth ≤ length ready
     → length (mem_after t w x ready) ≡ length ready
 length-after t w x ready some inside = length-with_submission ready (submit_ring t (length w.sent) (length w.answers)) (entry x) some inside
 
-changes_only : (t : Setting) (w : World) (x : Sent) (ready : List ℕ) → 0 < t.depth → t.sq + 64 * t.depth ≤ length ready → IsPrepared t.page_size x w.mem ready
+pub changes_only : (t : Setting) (w : World) (x : Sent) (ready : List ℕ) → 0 < t.depth → t.sq + 64 * t.depth ≤ length ready → IsPrepared t.page_size x w.mem ready
     → ChangesOnlyAt t x t.sq (64 * t.depth) w.mem (mem_after t w x ready)
 changes_only t w x ready some inside prepared from n outside apart =
     submission_keeps ready (submit_ring t (length w.sent) (length w.answers)) (entry x) from n some inside apart ∙ prepared.others from n outside
 
 -- a completion slot stays
 completion_stays : (t : Setting) (x : Sent) (old new : List ℕ) (s : ℕ) → ChangesOnlyAt t x t.sq (64 * t.depth) old new → AreOutside t.page_size x t.cq (16 * t.depth)
-    → t.sq + 64 * t.depth ≤ t.cq → s < t.depth → completion_at new t.cq s ≡ completion_at old t.cq s
-completion_stays t x old new s only outside order below =
+    → IsApart t.sq (64 * t.depth) t.cq (16 * t.depth) → s < t.depth → completion_at new t.cq s ≡ completion_at old t.cq s
+completion_stays t x old new s only outside rings below =
     let top : s + 1 ≤ t.depth = omega arith in
     let room = mul-le-mul_left 16 top in
-    ap cqe_of_bytes (only (t.cq + 16 * s) 16 (outside_part t x t.cq (16 * t.depth) (t.cq + 16 * s) 16 outside (omega arith) (omega arith)) (inr (omega arith)))
+    ap cqe_of_bytes (only (t.cq + 16 * s) 16 (outside_part t x t.cq (16 * t.depth) (t.cq + 16 * s) 16 outside (omega arith) (omega arith)) (completion_aside t s rings below))
 
 -- a submission slot stays while the pages of a command are made ready
 slot_stays : (t : Setting) (x : Sent) (old ready : List ℕ) (s : ℕ) → IsPrepared t.page_size x old ready → AreOutside t.page_size x t.sq (64 * t.depth) → s < t.depth
@@ -127,7 +127,7 @@ submitted t s x w ready k may prepared =
     let new = mem_after t w x ready in
     let m = length w.sent in
     let some : 0 < t.page_size = omega (arith, page_size_bounds t.page_size p.page_size) in
-    let inside : t.sq + 64 * t.depth ≤ length ready = omega (arith, p.rings, p.inside, prepared.len) in
+    let inside : t.sq + 64 * t.depth ≤ length ready = omega (arith, p.submissions, prepared.len) in
     let len : length new ≡ length w.mem = length-after t w x ready (omega arith) inside ∙ prepared.len in
     let more : length (w.sent ++ x ∷ []) ≡ m + 1 = length-append w.sent (x ∷ []) in
     let only = changes_only t w x ready (omega arith) inside prepared in
@@ -140,7 +140,13 @@ submitted t s x w ready k may prepared =
     let rest = answers_to t.controller (after t.controller s w.sent) (x ∷ []) in
     let next = record w { mem = new; sent = w.sent ++ x ∷ [] } in
     record {
-      placed = record { page_size = p.page_size; deep = p.deep; rings = p.rings; inside = omega (arith, p.inside, len) };
+      placed = record {
+        page_size = p.page_size;
+        deep = p.deep;
+        rings = p.rings;
+        submissions = omega (arith, p.submissions, len);
+        completions = omega (arith, p.completions, len);
+      };
       counts = record { told = c.told; collected = c.collected; done = c.done; rung = omega (arith, c.rung, more); few = omega (arith, may.free, more); free = c.free };
       port = k.port;
       state = k.state ∙ ap (after t.controller s) (sym (take-append-le w.done w.sent (x ∷ []) (omega (arith, c.done, c.rung))));
@@ -185,13 +191,6 @@ submitted t s x w ready k may prepared =
           (k.held n d from below));
       tags = λ slot below. ap (λ e. e.phase) (completion_stays t x w.mem new slot only may.completions p.rings below) ∙ k.tags slot below;
       answers = k.answers ∙ sym (ap (take (length w.answers)) further ∙ take-append-le (length w.answers) all rest (omega (arith, c.collected, c.done, c.rung)));
-      others = λ from i apart.
-          only from i (subst (λ y. AreOutside t.page_size y from i) (get_or_push w.sent x x m refl) (apart.pages m x (omega arith))) apart.submissions
-          ∙ k.others from i (record {
-            submissions = apart.submissions;
-            completions = apart.completions;
-            pages = λ j d low. subst (λ y. AreOutside t.page_size y from i) (get_or_append_left w.sent (x ∷ []) d j low) (apart.pages j d (omega arith));
-          });
     }
 
 pub submit_keeps : (t : Setting) (s : State) (x : Sent) (w w' : World) → Keeps t s w → Happens t (Submit x) w w' → Keeps t s w'

@@ -1,14 +1,15 @@
 -- What a turn keeps.
 use Rattle.std.proofs.Common.{◌≡◌, ◌∙◌, ℕ, zero, suc, ◌+◌, ◌-◌, ◌<◌, [], ap, arith, length, min, refl, subst, sym}
+use Rattle.nv_host.specs.Bytes.{bytes_at}
 use Rattle.nv_queue.specs.Numbers.{above}
 use Rattle.nv_command.specs.declared.command.Command.TheVariants.{ActiveList}
 use Rattle.nv_model.specs.State.{State}
 use Rattle.nv_bus.specs.Entry.{Scene, scene}
 use Rattle.nv_bus.proofs.TurnLaws.{turn_count_is}
-use Rattle.nv_bus.specs.Turn.{PortTurn, RingsLie, Site, Taken, ready_port, turn_count, site}
-use Rattle.nv_driver.specs.Schedule.{Happens, Sent, Setting, Turn, World, device_rings, least, number, port_with}
+use Rattle.nv_bus.specs.Turn.{PortTurn, RingsLie, Site, Taken, Takes, ready_port, turn_count, site}
+use Rattle.nv_driver.specs.Schedule.{AreOthers, Happens, Sent, Setting, Turn, World, device_rings, least, number, port_with}
 use Rattle.nv_driver.proofs.CountLaws.{number_above, number_below}
-use Rattle.nv_driver.proofs.EntryLaws.{entry_keeps, world_after}
+use Rattle.nv_driver.proofs.EntryLaws.{entry_keeps, entry_others, world_after}
 use Rattle.nv_driver.specs.Keeping.{Keeps}
 use Rattle.nv_driver.proofs.TakenLaws.{is_done, can_go, now}
 
@@ -25,10 +26,11 @@ world_with t w count y = record w {
   done = w.done + count;
 }
 
--- the schedule holds, and the scene has its rings
+-- the schedule holds, the scene has its rings, and other bytes stay
 pub record Reaches (t : Setting) (s : State) (w : World) (count : ℕ) (y : Scene) : Type 0 where
   pub keeps : Keeps t s (world_with t w count y)
   pub rings : y.rings ≡ device_rings t w.rung (w.done + count) w.told
+  pub others : (from n : ℕ) → AreOthers t (length w.answers) w.sent from n → bytes_at y.bytes from n ≡ bytes_at w.mem from n
 
 -- the same where the done entries are counted otherwise
 counted : (t : Setting) (s : State) (w : World) (y : Scene) (n m : ℕ) → n ≡ m
@@ -43,14 +45,19 @@ none_taken t s w k =
     record {
       keeps = counted t s w (scene w.state (now t w) w.mem) w.done (w.done + 0) zero_more (subst (λ p. Keeps t s (record w { port = p })) k.port k);
       rings = ap (λ n. device_rings t w.rung n w.told) zero_more;
+      others = λ from n apart. refl;
     }
 
-one_further : (t : Setting) (s : State) (w : World) (mid y : Scene) (count : ℕ) → Reaches t s (world_after t w mid) count y → Reaches t s w (suc count) y
-one_further t s w mid y count r =
+one_further : (t : Setting) (s : State) (w : World) (mid y : Scene) (count : ℕ) → Keeps t s w
+    → Takes t.page_size t.controller (scene w.state (now t w) w.mem) mid
+    → Reaches t s (world_after t w mid) count y → Reaches t s w (suc count) y
+one_further t s w mid y count k takes r =
     let sum : w.done + 1 + count ≡ w.done + suc count = omega arith in
     record {
       keeps = counted t s w y (w.done + 1 + count) (w.done + suc count) sum r.keeps;
       rings = r.rings ∙ ap (λ n. device_rings t w.rung n w.told) sum;
+      others = λ from n apart. r.others from n (record { submissions = apart.submissions; completions = apart.completions; pages = apart.pages })
+          ∙ entry_others t s w mid no_command k takes from n apart;
     }
 
 pub taken_keep : (t : Setting) (s : State) (count : ℕ) (w : World) (y : Scene) → Keeps t s w
@@ -61,7 +68,7 @@ taken_keep t s (suc count) w y k taken =
     let c = k.counts in
     let go = can_go t s w k taken.1.can in
     let first = is_done t s w mid no_command k (omega (arith, go.0, c.rung)) taken.1.one in
-    one_further t s w mid y count (taken_keep t s count (world_after t w mid) y (entry_keeps t s w mid no_command k taken.1)
+    one_further t s w mid y count k taken.1 (taken_keep t s count (world_after t w mid) y (entry_keeps t s w mid no_command k taken.1)
     (subst (λ r. Taken count t.page_size t.controller (scene mid.state r mid.bytes) y) first.rings taken.2))
 
 -- the rings lie in the memory
@@ -75,8 +82,8 @@ rings_lie t s w k =
     let held = number_above t w.told w.done some (omega (arith, c.told, c.collected)) (omega (arith, c.free)) in
     record {
       page = refl;
-      submission = omega (arith, p.rings, p.inside);
-      completion = p.inside;
+      submission = p.submissions;
+      completion = p.completions;
       fetch = record { deep = deep; from = number_below t w.done some; to = number_below t w.rung some; few = omega (arith, wait, c.rung, c.few, c.collected) };
       post = record { deep = deep; from = number_below t w.told some; to = number_below t w.done some; few = omega (arith, held, c.free) };
     }
@@ -114,6 +121,13 @@ turn_keeps t s most w w' k happens =
     (sym (happens.2 ∙ ap (λ (z : Site). record w { mem = z.bytes; state = z.state; port = z.port; done = w.done + count }) r.left
     ∙ ap (λ rings. record w { mem = last.bytes; state = last.state; port = port_with t rings; done = w.done + count }) r.reached.rings))
     r.reached.keeps
+
+-- other bytes stay
+pub turn_leaves : (t : Setting) (s : State) (most : ℕ) (w w' : World) → Keeps t s w → Happens t (Turn most) w w'
+    → (from n : ℕ) → AreOthers t (length w.answers) w.sent from n → bytes_at w'.mem from n ≡ bytes_at w.mem from n
+turn_leaves t s most w w' k happens from n apart =
+    let r = is_turn t s w most happens.0 (site w'.state w'.port w'.mem) k happens.1 in
+    ap (λ (z : Site). bytes_at z.bytes from n) r.left ∙ r.reached.others from n apart
 
 -- the turn takes as many entries as the counts say
 pub turn_takes : (t : Setting) (s : State) (most : ℕ) (w w' : World) → Keeps t s w → Happens t (Turn most) w w' → w'.done ≡ w.done + least t w most

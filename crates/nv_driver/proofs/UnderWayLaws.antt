@@ -16,9 +16,8 @@ use Rattle.nv_command.specs.declared.command.Command.{Command}
 use Rattle.nv_model.specs.Step.{next_serial}
 use Rattle.nv_driver.specs.CommandPages.{AreTaken, all_pages, without}
 use Rattle.nv_driver.specs.Exchange.{IsReady}
-use Rattle.nv_driver.specs.Keeping.{Keeps}
 use Rattle.nv_driver.specs.Layout.{pages_of_command}
-use Rattle.nv_driver.specs.Schedule.{AreOutside, CanBeSent, IsPrepared, MaySubmit, Sent, collect_ring, entry, number, numbered, own_pages, slot, submit_ring}
+use Rattle.nv_driver.specs.Schedule.{AreOutside, CanBeSent, Happens, IsPrepared, MaySubmit, Sent, Submit, collect_ring, entry, number, numbered, own_pages, slot, submit_ring}
 use Rattle.nv_driver.specs.Submitting.{IsSubmitted, sent_by}
 use Rattle.nv_driver.specs.UnderWay.{IsKept, IsUnderWay, Run, kept_at, numbered_of, pages_of_all, serial_at, setting_of}
 use Rattle.nv_driver.specs.declared.batch.Batch.{Batch}
@@ -31,6 +30,7 @@ use Rattle.nv_driver.proofs.KeptLaws.{idle_keeps}
 use Rattle.nv_driver.proofs.PageSetLaws.{full_length, in_of, is_in}
 use Rattle.nv_driver.proofs.PointerLaws.{seven_pages}
 use Rattle.nv_driver.proofs.QuietLaws.{beginning, collect_ring_is, is_idle, submit_ring_is}
+use Rattle.nv_driver.proofs.OthersLaws.{others_now, submit_others}
 use Rattle.nv_driver.proofs.SubmitLaws.{each_more, submit_keeps}
 use Rattle.nv_driver.proofs.SubmittingLaws.{Has, buffer_of, distinct_of, list_of, pages_are, length-data_pages}
 use Rattle.nv_driver.proofs.TurnLaws.{no_command}
@@ -67,7 +67,7 @@ pub begins : (r : Run) (b : Batch) (now : ℕ) → IsReady r.geometry r.bus r.co
     → b.sent ≡ 0 → b.collected ≡ 0 → b.told ≡ 0 → IsUnderWay r b.sent b.collected b r.lane now r.bytes
 begins r b now ready can geometry controller page room sent collected told =
     let t = setting_of r in
-    let w = beginning t r.bus.state in
+    let w = beginning t r.bytes r.bus.state in
     record {
       begun = ready;
       can = can;
@@ -80,6 +80,7 @@ begins r b now ready can geometry controller page room sent collected told =
       room = room;
       world = w;
       keeps = idle_keeps t w (is_idle r.geometry r.bus r.controller r.lane r.geometry.page_size r.bytes ready);
+      others = others_now t w;
       mem = refl;
       rung = sym sent;
       done = sym collected;
@@ -229,16 +230,16 @@ module _ {r : Run} {bells turns : ℕ} {b : Batch} {l l' : LaneFields} {now : �
             differ (is_in (held u) p) there (ap (is_in (held u)) same ∙ fresh r.lane.pages (held u) (own_pages x) taken_new j f low);
       }
 
-  submitted_keeps : CanBeSent k
-      → Keeps (setting_of r) r.bus.state (record u.world { mem = mem; sent = u.world.sent ++ sent_by r.geometry k l.serial o sub.prp1 sub.prp2 ∷ [] })
-  submitted_keeps can =
+  submitted : CanBeSent k
+      → Happens (setting_of r) (Submit (sent_by r.geometry k l.serial o sub.prp1 sub.prp2)) u.world
+      (record u.world { mem = mem; sent = u.world.sent ++ sent_by r.geometry k l.serial o sub.prp1 sub.prp2 ∷ [] })
+  submitted can =
       let t = setting_of r in
       let x = sent_by r.geometry k l.serial o sub.prp1 sub.prp2 in
       let w = u.world in
       let ring : l.submission ≡ submit_ring t (length w.sent) (length w.answers) =
       ap (λ (q : LaneFields). q.submission) u.lane ∙ ap (λ n. submit_ring t n b.collected) (sym u.sent) ∙ ap (submit_ring t (length w.sent)) (sym u.collected) in
       let put = sub.mem ∙ ap (λ q. with_submission sub.ready q (entry x)) ring in
-      submit_keeps t r.bus.state x w _ u.keeps
       (may can, sub.ready, subst (λ m. IsPrepared r.geometry.page_size x m sub.ready) (sym u.mem) sub.prepared, ap (λ m. record w { mem = m; sent = w.sent ++ x ∷ [] }) put)
 
   -- the window keeps the places of the others
@@ -319,7 +320,8 @@ module _ {r : Run} {bells turns : ℕ} {b : Batch} {l l' : LaneFields} {now : �
         some = omega (arith, below);
         room = length-set b.outstanding (b.sent % 16) (Some o) ∙ u.room;
         world = record w { mem = mem; sent = w.sent ++ x ∷ [] };
-        keeps = submitted_keeps can;
+        keeps = submit_keeps (setting_of r) r.bus.state x w _ u.keeps (submitted can);
+        others = submit_others (setting_of r) r.bus.state 0 r.bytes x w _ u.keeps u.others (submitted can);
         mem = refl;
         rung = u.rung;
         done = u.done;

@@ -1,7 +1,8 @@
 -- What holds along a schedule, after each of its events.
-use Rattle.std.proofs.Common.{◌≡◌, ℕ, ◌+◌, ◌*◌, ◌^◌, ◌<◌, ◌≤◌, get_or, length, take}
+use Rattle.std.proofs.Common.{◌≡◌, ℕ, ◌+◌, ◌*◌, ◌^◌, ◌<◌, ◌≤◌, List, get_or, length, take}
 use Rattle.nv_host.specs.Bytes.{bytes_at}
 use Rattle.nv_host.specs.Pages.{IsPageSize}
+use Rattle.nv_prp.specs.Buffer.{IsApart}
 use Rattle.nv_prp.specs.Place.{AreDistinct}
 use Rattle.nv_queue.specs.Numbers.{IsDepth}
 use Rattle.nv_queue.specs.Slots.{HoldsTags, submission_at}
@@ -12,12 +13,13 @@ use Rattle.nv_driver.specs.Schedule.{Sent, Setting, StaysNamed, World, after, an
 use Rattle.nv_driver.specs.Schedule.{data_length, device_rings, entry, number, own_pages, places}
 use Rattle.nv_driver.specs.Schedule.{port_with, slot}
 
--- the rings lie in a memory of this size, the submission ring first
+-- the rings lie in a memory of this size, apart from each other
 pub record HasRings (t : Setting) (size : ℕ) : Type 0 where
   pub page_size : IsPageSize t.page_size
   pub deep : IsDepth t.depth
-  pub rings : t.sq + 64 * t.depth ≤ t.cq
-  pub inside : t.cq + 16 * t.depth ≤ size
+  pub rings : IsApart t.sq (64 * t.depth) t.cq (16 * t.depth)
+  pub submissions : t.sq + 64 * t.depth ≤ size
+  pub completions : t.cq + 16 * t.depth ≤ size
 
 -- a command in the memory, whose data and list lie in pages of its own
 pub record IsOwn (t : Setting) (size : ℕ) (x : Sent) : Type 0 where
@@ -61,5 +63,10 @@ pub record Keeps (t : Setting) (s : State) (w : World) : Type 0 where
       → Holds t s w n (get_or w.sent n d)
   pub tags : HoldsTags w.mem t.cq t.depth (number t w.done)
   pub answers : w.answers ≡ take (length w.answers) (answers_to t.controller s w.sent)
-  pub others : (from n : ℕ) → AreOthers t w.sent from n → bytes_at w.mem from n
-      ≡ bytes_at t.before from n
+
+-- since the memory was the old one, bytes stayed that lie in no ring, and in no page of a command
+-- from the first of these on
+pub record OthersStay (t : Setting) (first : ℕ) (old : List ℕ) (w : World) : Type 0 where
+  pub since : first ≤ length w.answers
+  pub same : (from n : ℕ) → AreOthers t first w.sent from n → bytes_at w.mem from n
+      ≡ bytes_at old from n

@@ -1,6 +1,6 @@
 -- Schedules of one controller's commands: submit, ring the doorbell, turn, collect, tell the head,
 -- in any order.
-use Rattle.std.specs.Prelude.{◌≡◌, ◌-◌, ◌≢◌, ◌⊎◌, ℕ, ◌+◌, ◌*◌, ◌<◌, ◌≤◌, ◌^◌, ◌==◌, ◌&&◌, Bool}
+use Rattle.std.specs.Prelude.{◌≡◌, ◌-◌, ◌≢◌, ◌⊎◌, ◌↔◌, ℕ, ◌+◌, ◌*◌, ◌<◌, ◌≤◌, ◌^◌, ◌==◌, ◌&&◌, Bool}
 use Rattle.std.specs.Prelude.{false, All, List, [], ◌∷◌, ◌++◌, if◌then◌else◌, length, map, min, not}
 use Rattle.std.specs.Prelude.{slice_index_or, take, Result, Ok, Err}
 use Rattle.nv_host.specs.Bytes.{bytes_at}
@@ -80,12 +80,10 @@ answers_to c s xs = answers_of_all c s (map numbered xs)
 
 -- ---- what a schedule runs over
 
--- a controller, the memory at the beginning and its page size, where the rings lie and how deep
--- they are, the number of the first command as the rings keep it, and the controller's other
--- registers
+-- a controller, the memory's page size, where the rings lie and how deep they are, the number of
+-- the first command as the rings keep it, and the controller's other registers
 pub record Setting : Type 0 where
   pub controller : ℕ
-  pub before : List ℕ
   pub page_size : ℕ
   pub sq : ℕ
   pub cq : ℕ
@@ -154,6 +152,12 @@ own_pages x = x.first ∷ x.second ∷ x.pages
 -- no page of the one is a page of the other
 abbrev pub AreApart : Sent → Sent → Type 0
 AreApart x y = All (λ p. All (λ q. p ≢ q) (own_pages y)) (own_pages x)
+
+-- the bytes of the pages stay
+abbrev pub PagesStay : ℕ → Sent → List ℕ → List ℕ → Type 0
+PagesStay page_size x old new =
+    All (λ p. bytes_at new (p * page_size) page_size ≡ bytes_at old (p * page_size) page_size)
+    (own_pages x)
 
 -- n bytes share none with the pages
 abbrev pub AreOutside : ℕ → Sent → ℕ → ℕ → Type 0
@@ -245,6 +249,16 @@ pub data Event : Type 0 where
   Turn : (most : ℕ) → Event
   Collect : Event
   Tell : Event
+  Elsewhere : Event
+
+-- The host wrote elsewhere: the bytes of the rings, and those of the pages of each command that was
+-- sent and whose answer wasn't collected, are as before.
+pub record LeavesOutstanding (t : Setting) (w : World) (new : List ℕ) : Type 0 where
+  pub len : length new ≡ length w.mem
+  pub submissions : bytes_at new t.sq (64 * t.depth) ≡ bytes_at w.mem t.sq (64 * t.depth)
+  pub completions : bytes_at new t.cq (16 * t.depth) ≡ bytes_at w.mem t.cq (16 * t.depth)
+  pub pages : (n : ℕ) (d : Sent) → length w.answers ≤ n → n < length w.sent
+      → PagesStay t.page_size (slice_index_or w.sent n d) w.mem new
 
 -- what each does, by what `build`, `push`, `write32`, `turn`, `poll` and `head_to_tell` ensure
 abbrev pub Happens : Setting → Event → World → World → Type 0
@@ -276,6 +290,8 @@ Happens t Tell w w' =
       port = with_register_at w.port 0x1004 (slot t (length w.answers));
       told = length w.answers;
     }
+Happens t Elsewhere w w' =
+    LeavesOutstanding t w w'.mem × (w' ≡ record w { mem = w'.mem })
 
 abbrev pub Runs : Setting → List Event → World → World → Type 0
 Runs t [] w w' = w' ≡ w
@@ -284,14 +300,14 @@ Runs t (e ∷ es) w w' = (mid : World) × Happens t e w mid × Runs t es mid w'
 -- ---- the law
 
 -- no command is outstanding: a ready controller of a well-formed subsystem, whose rings lie in the
--- memory, the submission ring first, and hold the tags that are due
+-- memory, apart from each other, and hold the tags that are due
 pub record IsIdle (t : Setting) (w : World) : Type 0 where
-  pub before : w.mem ≡ t.before
   pub page_size : IsPageSize t.page_size
   pub deep : IsDepth t.depth
   pub start : t.start < 2 * t.depth
-  pub rings : t.sq + 64 * t.depth ≤ t.cq
-  pub inside : t.cq + 16 * t.depth ≤ length w.mem
+  pub rings : IsApart t.sq (64 * t.depth) t.cq (16 * t.depth)
+  pub submissions : t.sq + 64 * t.depth ≤ length w.mem
+  pub completions : t.cq + 16 * t.depth ≤ length w.mem
   pub tags : HoldsTags w.mem t.cq t.depth t.start
   pub port : w.port ≡ port_with t (device_rings t 0 0 0)
   pub state : IsWellFormed w.state
@@ -310,11 +326,11 @@ pub record Holds (t : Setting) (s : State) (w : World) (n : ℕ) (x : Sent) : Ty
   pub cid : (completion_at w.mem t.cq (slot t n)).cid ≡ x.cid
   pub head : (completion_at w.mem t.cq (slot t n)).sq_head ≡ slot t (n + 1)
 
--- n bytes that lie in no ring, and in no page of a command that was sent
-pub record AreOthers (t : Setting) (sent : List Sent) (from n : ℕ) : Type 0 where
+-- n bytes that lie in no ring, and in no page of a command that was sent, from this first one on
+pub record AreOthers (t : Setting) (first : ℕ) (sent : List Sent) (from n : ℕ) : Type 0 where
   pub submissions : IsApart t.sq (64 * t.depth) from n
   pub completions : IsApart t.cq (16 * t.depth) from n
-  pub pages : (i : ℕ) (d : Sent) → i < length sent
+  pub pages : (i : ℕ) (d : Sent) → first ≤ i → i < length sent
       → AreOutside t.page_size (slice_index_or sent i d) from n
 
 -- how many entries a turn takes: the least of the most, those that wait, and the free slots for
@@ -324,8 +340,10 @@ least t w most = min most (min (w.rung - w.done) (t.depth - 1 - (w.done - w.told
 
 -- The collected answers are the first of those that the commands have one at a time, and the
 -- subsystem is that after the commands that were done. An answer is held from its command's turn on
--- until it is collected. A turn takes as many entries as it can. Bytes that lie in no ring and in
--- no page of a command stay.
+-- until it is collected. The awaited completion is found exactly where a command was done whose
+-- answer wasn't collected. A turn takes as many entries as it can. As long as the host doesn't
+-- write elsewhere, bytes stay that lie in no ring, and in no page of a command that is outstanding
+-- now or is sent then.
 pub record IsSerial (t : Setting) (s : State) (w : World) : Type 0 where
   pub answers : w.answers ≡ take (length w.answers) (answers_to t.controller s w.sent)
   pub state : w.state ≡ after t.controller s (take w.done w.sent)
@@ -333,10 +351,12 @@ pub record IsSerial (t : Setting) (s : State) (w : World) : Type 0 where
   pub done : w.done ≤ length w.sent
   pub held : (n : ℕ) (d : Sent) → length w.answers ≤ n → n < w.done
       → Holds t s w n (slice_index_or w.sent n d)
+  pub found : IsAwaitedThere w.mem (awaited t w) ↔ (length w.answers < w.done)
   pub turns : (most : ℕ) (next : World) → Happens t (Turn most) w next → next.done ≡ w.done
       + least t w most
-  pub others : (from n : ℕ) → AreOthers t w.sent from n → bytes_at w.mem from n
-      ≡ bytes_at t.before from n
+  pub others : (events : List Event) (next : World) (from n : ℕ) → All (λ e. e ≢ Elsewhere) events
+      → Runs t events w next → AreOthers t (length w.answers) next.sent from n
+      → bytes_at next.mem from n ≡ bytes_at w.mem from n
 
 abbrev pub EveryScheduleIsSerial : Type 0
 EveryScheduleIsSerial = (t : Setting) (events : List Event) (old new : World) → IsIdle t old

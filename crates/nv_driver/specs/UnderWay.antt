@@ -9,7 +9,7 @@ use Rattle.nv_bus.specs.Bus.{BusValue, IsBus, port_at}
 use Rattle.nv_driver.specs.Batch.{answers_of, from_serial, state_after}
 use Rattle.nv_driver.specs.CommandPages.{AreTaken, without}
 use Rattle.nv_driver.specs.Exchange.{IsReady}
-use Rattle.nv_driver.specs.Keeping.{Keeps}
+use Rattle.nv_driver.specs.Keeping.{Keeps, OthersStay}
 use Rattle.nv_driver.specs.Lane.{Lane, idle_port}
 use Rattle.nv_driver.specs.Layout.{pages_of_command}
 use Rattle.nv_driver.specs.Quiet.{lane_value}
@@ -24,10 +24,9 @@ use Rattle.nv_driver.specs.declared.geometry.Geometry.{Geometry}
 use Rattle.nv_driver.specs.declared.lane.Lane.{Lane as LaneFields}
 
 -- the schedule of a lane's controller from its next command on
-abbrev pub setting : Geometry → ℕ → List ℕ → Lane → Setting
-setting g c bytes l = record {
+abbrev pub setting : Geometry → ℕ → Lane → Setting
+setting g c l = record {
   controller = c;
-  before = bytes;
   page_size = g.page_size;
   sq = l.sq;
   cq = l.cq;
@@ -50,7 +49,7 @@ run_of g c b l bytes commands =
     record { geometry = g; controller = c; bus = b; lane = l; bytes = bytes; commands = commands }
 
 abbrev pub setting_of : Run → Setting
-setting_of r = setting r.geometry r.controller r.bytes (lane_value r.lane)
+setting_of r = setting r.geometry r.controller (lane_value r.lane)
 
 -- its commands under their command identifiers, and that of command n
 abbrev pub numbered_of : Run → List Numbered
@@ -90,6 +89,7 @@ pub record IsUnderWay (r : Run) (bells turns : ℕ) (b : Batch) (l : LaneFields)
   pub room : length b.outstanding ≡ 16
   pub world : World
   pub keeps : Keeps (setting_of r) r.bus.state world
+  pub others : OthersStay (setting_of r) 0 r.bytes world
   pub mem : world.mem ≡ bytes
   pub rung : world.rung ≡ bells
   pub done : world.done ≡ turns
