@@ -1,4 +1,4 @@
--- Why the program stops, and the exit status that it stops with.
+-- Why a program stops, and the exit status that it stops with.
 use Rattle.std.specs.Prelude.{ℕ, Result, Ok, Err}
 use Rattle.std.specs.declared.io.ErrorKind.{ErrorKind}
 use Rattle.std.specs.declared.io.ErrorKind.TheVariants as kind
@@ -8,8 +8,8 @@ use Rattle.nv_script.specs.declared.ends.RunEnd.{RunEnd}
 use Rattle.nv_script.specs.declared.ends.RunEnd.TheVariants as end
 use Rattle.nv_file.specs.declared.error.SubsystemError.{SubsystemError}
 use Rattle.nv_file.specs.declared.error.SubsystemError.TheVariants as error
-use Rattle.nvme_script.specs.declared.stop.Stop.{Stop}
-use Rattle.nvme_script.specs.declared.stop.Stop.TheVariants as stop
+use Rattle.nv_program.specs.declared.stop.Stop.{Stop}
+use Rattle.nv_program.specs.declared.stop.Stop.TheVariants as stop
 
 abbrev pub exit_status : Stop → ℕ
 exit_status stop.Arguments = 3

@@ -1,10 +1,10 @@
-//! Why the program stops, and the exit status that it stops with.
+//! Why a program stops, and the exit status that it stops with.
 
 ghost use Rattle.std.specs.Prelude.{◌≡◌};
 ghost use Rattle.std.specs.IoError.{error_kind};
-ghost use Rattle.nvme_script.specs.Stops.{ended, exit_status, of_arguments, of_file};
-ghost use Rattle.nvme_script.specs.Stops.{unless_memory};
-ghost use Rattle.nvme_script.specs.declared.stop.Stop.TheVariants.{Memory};
+ghost use Rattle.nv_program.specs.Stops.{ended, exit_status, of_arguments, of_file};
+ghost use Rattle.nv_program.specs.Stops.{unless_memory};
+ghost use Rattle.nv_program.specs.declared.stop.Stop.TheVariants.{Memory};
 
 use nv_arguments::ArgumentsFault;
 use nv_script::{GeometryField, RunEnd};

@@ -1,0 +1,10 @@
+//! What the programs share: what their arguments ask for, and how they end.
+#![tactic(auto)]
+
+mod asking;
+mod ending;
+mod stop;
+
+pub use asking::asked;
+pub use ending::exit_code;
+pub use stop::{Stop, status_of};

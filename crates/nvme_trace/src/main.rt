@@ -1,0 +1,56 @@
+//! Runs a script of `nvme` commands on a model of an NVM subsystem, and writes what goes over the bus
+//! to its controllers: each register write, each entry that was taken and each completion that was
+//! posted. What the script's lines print stands among it, each line after `| `.
+#![tactic(auto)]
+
+ghost use Rattle.nv_model.specs.WellFormed.{IsWellFormed};
+
+use nv_controller::Machine;
+use nv_program::{Stop, asked, exit_code, status_of};
+use nv_script::{Geometry, Held, OverHeld, OverRead, SourceAfter, run};
+use nv_subsystem::Subsystem;
+use nv_trace::{Marked, Traced};
+use std::io::{self, BufWriter};
+use std::process::ExitCode;
+
+/// Runs the script on standard input. What is traced and what lines write goes to standard output
+/// and is out before more of the script is awaited.
+fn run_script(rt: &HostRuntime, subsystem: Subsystem, geometry: Geometry) -> Result<u8, Stop>
+    requires { IsWellFormed subsystem }
+{
+    let alloc = rt.alloc();
+    let Ok(buffered) = BufWriter::new(alloc, io::writer(rt)) else {
+        return Err(Stop::Memory);
+    };
+    let Ok(machine) = Machine::new(alloc, subsystem) else {
+        return Err(Stop::Memory);
+    };
+    let held = Held::new(buffered);
+    let mut script = SourceAfter::new(OverRead::new(rt.reader()), &held);
+    let mut bus = Traced::new(machine, OverHeld::new(&held));
+    let mut out = Marked::new(OverHeld::new(&held));
+    let mut messages = Marked::new(OverHeld::new(&held));
+    let end = run(
+        alloc,
+        &mut bus,
+        geometry,
+        &mut script,
+        &mut out,
+        &mut messages,
+    );
+    let is_out = held.flush();
+    let status = status_of(end)?;
+    if is_out && !bus.is_silent() {
+        Ok(status)
+    } else {
+        Err(Stop::Write)
+    }
+}
+
+fn main(rt: HostRuntime) -> ExitCode {
+    let done = match asked(&rt) {
+        Ok((subsystem, geometry)) => run_script(&rt, subsystem, geometry),
+        Err(stop) => Err(stop),
+    };
+    exit_code(&rt, "nvme-trace", done)
+}
