@@ -16,17 +16,22 @@ fn qword(mem: &FlatMemory, addr: u64) -> u64 {
     u64::from_le_bytes(bytes)
 }
 
-/// The walk finds these addresses and lengths.
-fn walks(rt: &impl Abort, mem: &FlatMemory, prp1: u64, prp2: u64, len: u32, want: &[(u64, u32)]) {
-    assert!(rt; len > 0 && len <= 1_048_576);
-    let mut spans = Spans::new();
-    assert_eq!(rt; walk(mem, prp1, prp2, len, &mut spans), Ok(()));
+/// The spans have these addresses and lengths.
+fn are(rt: &impl Abort, spans: &Spans, want: &[(u64, u32)]) {
     let found = spans.as_slice();
     assert_eq!(rt; found.len(), want.len());
     for (span, (address, len)) in found.iter().zip(want) {
         assert_eq!(rt; span.address, *address);
         assert_eq!(rt; span.len, *len);
     }
+}
+
+/// The walk finds these addresses and lengths.
+fn walks(rt: &impl Abort, mem: &FlatMemory, prp1: u64, prp2: u64, len: u32, want: &[(u64, u32)]) {
+    assert!(rt; len > 0 && len <= 1_048_576);
+    let mut spans = Spans::new();
+    assert_eq!(rt; walk(mem, prp1, prp2, len, &mut spans), Ok(()));
+    are(rt, &spans, want);
 }
 
 /// The walk ends with this fault, and leaves no spans.
@@ -276,6 +281,28 @@ fn buffer_with_a_list_to_the_end_of_its_page(rt: HostRuntime) {
     assert_eq!(rt; build(&mut mem, &buffer, &list, 12284), (0x5004, 0x7ff0));
     assert_eq!(rt; qword(&mem, 0x7ff0), 0x9000);
     assert_eq!(rt; qword(&mem, 0x7ff8), 0x3000);
+}
+
+#[test]
+#[tactic(auto, unfolding(nv_host::specs::Pages::IsPageSize))]
+fn spans_of_a_buffer(rt: HostRuntime) {
+    let Ok(mem) = FlatMemory::new(rt.alloc(), 4096, 16) else {
+        assert!(rt; false, "out of memory");
+        return;
+    };
+    let buffer = Buffer {
+        pages: &[5, 9, 3],
+        offset: 4,
+    };
+    let mut spans = Spans::new();
+    buffer.spans(&mem, 10_000, &mut spans);
+    are(
+        &rt,
+        &spans,
+        &[(0x5004, 4092), (0x9000, 4096), (0x3000, 1812)],
+    );
+    buffer.spans(&mem, 0, &mut spans);
+    are(&rt, &spans, &[]);
 }
 
 #[test]
