@@ -32,8 +32,8 @@ fn write_some<W: fmt::Write>(f: &mut fmt::Formatter<W>, name: &str, value: u64) 
     write!(f, " {name}={value:#x}")
 }
 
-/// As `nvme0 taken Identify (0x06) cid=0x0 nsid=0x0 prp1=0x3000 prp2=0x0 cdw10=0x2`. Other fields are
-/// left out where they are 0.
+/// As `nvme0 taken Identify (0x06) cid=0x0 nsid=0x0 prp1=0x4000 prp2=0x0 cdw10=0x2`. Other fields
+/// are left out where they are 0.
 impl fmt::Display for Taken {
     fn fmt<W: fmt::Write>(&self, f: &mut fmt::Formatter<W>) -> fmt::Result {
         let entry = &self.entry;

@@ -1,6 +1,6 @@
-//! Runs a script of `nvme` commands on a model of an NVM subsystem, and writes what goes over the bus
-//! to its controllers: each register write, each entry that was taken and each completion that was
-//! posted. What the script's lines print stands among it, each line after `| `.
+//! Runs a script of `nvme` commands on a model of an NVM subsystem, and writes what goes over the
+//! bus to its controllers: each register write, each entry that was taken and each completion that
+//! was posted. What the script's lines print stands among it, each line after `| `.
 #![tactic(auto)]
 
 ghost use Rattle.nv_model.specs.WellFormed.{IsWellFormed};
