@@ -5,7 +5,7 @@ use Rattle.clap.specs.Words.{Row, Text, first_of}
 use Rattle.nv_line.specs.Number.{number_in}
 use Rattle.nv_driver.specs.declared.geometry.Geometry.{Geometry}
 use Rattle.nv_arguments.specs.ArgumentOption.{name_of}
-use Rattle.nv_arguments.specs.ArgumentsFault.{◌>>=◌}
+use Rattle.nv_layout.specs.Steps.{◌>>=◌}
 use Rattle.nv_arguments.specs.ClapRule.{rows_of_words}
 use Rattle.nv_arguments.specs.declared.arguments.Arguments.{Arguments}
 use Rattle.nv_arguments.specs.declared.fault.ArgumentsFault.{ArgumentsFault}

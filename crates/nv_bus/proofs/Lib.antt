@@ -1,4 +1,3 @@
-pub mod LimitLaws
 pub mod CallLaws
 pub mod TagLaws
 pub mod TurnLaws

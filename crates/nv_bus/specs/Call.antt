@@ -8,7 +8,7 @@ use Rattle.nv_prp.specs.Transfer as prp
 use Rattle.nv_prp.specs.declared.error.PrpError.{PrpError}
 use Rattle.nv_prp.specs.declared.error.PrpError.TheVariants.{Offset, Outside}
 use Rattle.nv_command.specs.Decoding.{command_of, transfer_of}
-use Rattle.nv_command.specs.Steps.{◌>>=◌}
+use Rattle.nv_layout.specs.Steps.{◌>>=◌}
 use Rattle.nv_command.specs.declared.command.Command.{Command}
 use Rattle.nv_command.specs.declared.status_code.StatusCode.{StatusCode}
 use Rattle.nv_command.specs.declared.status_code.StatusCode.TheVariants.{DataTransferError}

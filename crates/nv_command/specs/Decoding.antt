@@ -7,7 +7,7 @@ use Rattle.nv_command.specs.Identify.{identify_command, identify_transfer}
 use Rattle.nv_command.specs.Logs.{get_log_command, get_log_transfer}
 use Rattle.nv_command.specs.Management.{attachment_command, attachment_transfer, management_command}
 use Rattle.nv_command.specs.Management.{management_transfer}
-use Rattle.nv_command.specs.Steps.{◌>>=◌}
+use Rattle.nv_layout.specs.Steps.{◌>>=◌}
 use Rattle.nv_command.specs.declared.command.Command.{Command}
 use Rattle.nv_command.specs.declared.entry.Opcode.{Opcode}
 use Rattle.nv_command.specs.declared.entry.Opcode.TheVariants.{Identify, NamespaceManagement}

@@ -4,7 +4,7 @@ use Rattle.nv_layout.specs.IdCtrl.{id_ctrl_of_bytes}
 use Rattle.nv_layout.specs.IdNs.{id_ns_of_bytes}
 use Rattle.nv_layout.specs.NsList.{ns_list_of_bytes}
 use Rattle.nv_layout.specs.declared.sqe.Sqe.{Sqe}
-use Rattle.nv_command.specs.Steps.{◌>>=◌}
+use Rattle.nv_layout.specs.Steps.{◌>>=◌}
 use Rattle.nv_command.specs.declared.command.Command.{Command}
 use Rattle.nv_command.specs.declared.command.Command.TheVariants.{IdentifyController}
 use Rattle.nv_command.specs.declared.command.Command.TheVariants.{IdentifyNamespace}

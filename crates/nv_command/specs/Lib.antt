@@ -1,4 +1,4 @@
-pub mod Steps
+pub mod Nsid
 pub mod StatusCode
 pub mod Refusal
 pub mod Identify

@@ -10,7 +10,7 @@ use Rattle.nv_layout.specs.declared.id_ns.IdNs.{IdNs}
 use Rattle.nv_layout.specs.declared.id_ns.Lbaf.{Lbaf}
 use Rattle.nv_layout.specs.declared.sqe.Sqe.{Sqe}
 use Rattle.nv_command.specs.StatusCode.{code_of_layout}
-use Rattle.nv_command.specs.Steps.{◌>>=◌}
+use Rattle.nv_layout.specs.Steps.{◌>>=◌}
 use Rattle.nv_command.specs.declared.command.Command.{Command}
 use Rattle.nv_command.specs.declared.command.Command.TheVariants.{Create, Delete, Attachment}
 use Rattle.nv_command.specs.declared.entry.Fields.{Fields}

@@ -51,6 +51,7 @@ none_to_host (ToHost n) other = absurd (other n refl)
 none_to_host (FromHost n) other = refl
 
 -- where nothing goes to the host
-pub nothing_sent : (k : Command) (r : Reply) (bytes at : List ℕ) → IsReplyTo k r → FitsRecord r → bytes_to_host (transfer_by k) ≡ 0
+pub nothing_sent : (k : Command) (r : Reply) (bytes at : List ℕ) → IsReplyTo k r → FitsRecord r
+    → bytes_to_host (transfer_by k) ≡ 0
     → bytes ≡ written_at bytes at (data_of k r)
 nothing_sent k r bytes at is fits none = nothing_written bytes at (data_of k r) (replies_fit k r is fits ∙ none)

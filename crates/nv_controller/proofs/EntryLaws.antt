@@ -19,18 +19,20 @@ use Rattle.nv_model.specs.State.{State}
 use Rattle.nv_model.specs.Step.{Step, answer_by, answer_to, answer_without_phases, step, step_by}
 use Rattle.nv_model.specs.WellFormed.{IsWellFormed}
 use Rattle.nv_bus.specs.Call.{call_of}
-use Rattle.nv_bus.specs.Limit.{limit_of}
+use Rattle.nv_model.specs.Limit.{limit_of}
 use Rattle.nv_bus.proofs.TagLaws.{dword0_tagged, tagged}
 use Rattle.nv_bus.specs.Entry.{Moves, MovesBy, One, Scene, call_in, completion_with, entry_in, entry_step, step_unless, success, told_by}
 
 -- ---- answers
 
 -- an answer is that of the step, but for phase tags
-answered_reply : (o : Option Refusal) (r reply : Reply) → Ok (without_phases r) ≡ answer_by o reply → (o ≡ None) × (without_phases r ≡ reply)
+answered_reply : (o : Option Refusal) (r reply : Reply) → Ok (without_phases r) ≡ answer_by o reply
+    → (o ≡ None) × (without_phases r ≡ reply)
 answered_reply None r reply e = (refl, cc)
 answered_reply (Some refusal) r reply e = absurd (cc)
 
-answered_refusal : (o : Option Refusal) (refusal : Refusal) (reply : Reply) → Err refusal ≡ answer_by o reply → o ≡ Some refusal
+answered_refusal : (o : Option Refusal) (refusal : Refusal) (reply : Reply)
+    → Err refusal ≡ answer_by o reply → o ≡ Some refusal
 answered_refusal None refusal reply e = absurd (cc)
 answered_refusal (Some other) refusal reply e = cc
 
@@ -42,7 +44,8 @@ pub record IsAnswered (s : State) (c : ℕ) (k : Command) (cid : ℕ) (r : Reply
   pub answer : Ok (without_phases r) ≡ (step s c k cid).answer
   pub told : told_by (Ok r) ≡ told_by (step s c k cid).answer
 
-pub answered : (s : State) (c : ℕ) (k : Command) (cid : ℕ) (found : Result Reply Refusal) (r : Reply) → IsWellFormed s → found ≡ Ok r
+pub answered : (s : State) (c : ℕ) (k : Command) (cid : ℕ) (found : Result Reply Refusal)
+    (r : Reply) → IsWellFormed s → found ≡ Ok r
     → answer_without_phases found ≡ answer_to s c k → IsAnswered s c k cid r
 answered s c k cid found r w is e =
     let both = answered_reply (refusal_of s c k) r (reply_of s c k) (ap answer_without_phases (sym is) ∙ e) in
@@ -63,18 +66,22 @@ pub record IsRefused (s : State) (c : ℕ) (k : Command) (cid : ℕ) (refusal : 
   pub some : Some refusal ≡ refusal_of s c k
   pub answer : Err refusal.status ≡ (step s c k cid).answer
 
-pub refused_by : (s : State) (c : ℕ) (k : Command) (cid : ℕ) (found : Result Reply Refusal) (refusal : Refusal) → found ≡ Err refusal
+pub refused_by : (s : State) (c : ℕ) (k : Command) (cid : ℕ) (found : Result Reply Refusal)
+    (refusal : Refusal) → found ≡ Err refusal
     → answer_without_phases found ≡ answer_to s c k → IsRefused s c k cid refusal
 refused_by s c k cid found refusal is e =
     let some = answered_refusal (refusal_of s c k) refusal (reply_of s c k) (ap answer_without_phases (sym is) ∙ e) in
     record { some = sym some; answer = ap (λ (o : Option Refusal). (step_by o s c k cid).answer) (sym some) }
 
 -- what was moved
-pub moved_reply : (k : Command) (at old new : List ℕ) (r : Reply) (answer : Result Reply Status) → Ok (without_phases r) ≡ answer
+pub moved_reply : (k : Command) (at old new : List ℕ) (r : Reply) (answer : Result Reply Status)
+    → Ok (without_phases r) ≡ answer
     → new ≡ written_at old at (data_of k r) → Moves k at answer old new
-moved_reply k at old new r answer is written = subst (λ (a : Result Reply Status). Moves k at a old new) is (r, refl, written)
+moved_reply k at old new r answer is written =
+    subst (λ (a : Result Reply Status). Moves k at a old new) is (r, refl, written)
 
-pub moved_none : (k : Command) (at old new : List ℕ) (status : Status) (answer : Result Reply Status) → Err status ≡ answer → new ≡ old
+pub moved_none : (k : Command) (at old new : List ℕ) (status : Status)
+    (answer : Result Reply Status) → Err status ≡ answer → new ≡ old
     → Moves k at answer old new
 moved_none k at old new status answer is same = subst (λ (a : Result Reply Status). Moves k at a old new) is same
 
@@ -110,7 +117,8 @@ taken_one c old new entry size head posted moved same page state moves rings slo
         bytes
             ∙ ap (with_completion moved old.rings.completion) made
             ∙ ap (with_completion moved old.rings.completion)
-            (ap (λ (e : Sqe). completion_with e.cid head (step_unless (call_of size limit old.bytes entry) old.state c entry).answer) same
+            (ap (λ (e : Sqe). completion_with e.cid head
+            (step_unless (call_of size limit old.bytes entry) old.state c entry).answer) same
             ∙ ap₂ (completion_with (entry_in old).cid) slot (ap (λ (s : Step). s.answer) step)),
       );
     }

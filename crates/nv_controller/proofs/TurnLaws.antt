@@ -16,16 +16,22 @@ pub record Goes (count page_size now c : ℕ) (old new : Scene) : Type 0 where
   pub len : length new.bytes ≡ length old.bytes
   pub page : now ≡ page_size
 
-taken-suc : (k page_size c : ℕ) (old mid new : Scene) → Taken k page_size c old mid → Takes page_size c mid new → Taken (suc k) page_size c old new
+taken-suc : (k page_size c : ℕ) (old mid new : Scene) → Taken k page_size c old mid
+    → Takes page_size c mid new → Taken (suc k) page_size c old new
 taken-suc zero page_size c old mid new same t = (new, subst (λ (x : Scene). Takes page_size c x new) same t, refl)
-taken-suc (suc k) page_size c old mid new before t = (before.0, before.1, taken-suc k page_size c before.0 mid new before.2 t)
+taken-suc (suc k) page_size c old mid new before t =
+    (before.0, before.1, taken-suc k page_size c before.0 mid new before.2 t)
 
 -- one entry more
-pub taken_more : (k page_size c : ℕ) (old mid new : Scene) → Taken k page_size c old mid → Takes page_size c mid new → Taken (k + 1) page_size c old new
-taken_more k page_size c old mid new before t = subst (λ n. Taken n page_size c old new) (sym (add-one k)) (taken-suc k page_size c old mid new before t)
+pub taken_more : (k page_size c : ℕ) (old mid new : Scene) → Taken k page_size c old mid
+    → Takes page_size c mid new → Taken (k + 1) page_size c old new
+taken_more k page_size c old mid new before t =
+    subst (λ n. Taken n page_size c old new) (sym (add-one k))
+    (taken-suc k page_size c old mid new before t)
 
 -- the turn of a ready controller without a fatal status is that of its rings
-pub turn_of_rings : (page_size c most count : ℕ) (old : Site) (rings : Rings) (last : Scene) (fatal : Bool) → old.port.readiness ≡ Ready rings false
+pub turn_of_rings : (page_size c most count : ℕ) (old : Site) (rings : Rings) (last : Scene)
+    (fatal : Bool) → old.port.readiness ≡ Ready rings false
     → RingsTurn page_size c most count (scene old.state rings old.bytes) last fatal
     → PortTurn page_size c most count old (site last.state (ready_port old.port last.rings fatal) last.bytes)
 turn_of_rings page_size c most count old rings last fatal ready turn =
@@ -33,7 +39,8 @@ turn_of_rings page_size c most count old rings last fatal ready turn =
     subst (λ (r : Readiness). TurnBy r page_size c most count old new) (sym ready) (last, fatal, turn, refl)
 
 -- and so is the number of entries that it takes
-pub count_of_rings : (page_size c most count : ℕ) (old : Site) (rings : Rings) (last : Scene) (fatal : Bool) → old.port.readiness ≡ Ready rings false
+pub count_of_rings : (page_size c most count : ℕ) (old : Site) (rings : Rings) (last : Scene)
+    (fatal : Bool) → old.port.readiness ≡ Ready rings false
     → RingsTurn page_size c most count (scene old.state rings old.bytes) last fatal
     → TakesCount page_size (length old.bytes) most old.port count (ready_port old.port last.rings fatal)
 count_of_rings page_size c most count old rings last fatal ready turn =

@@ -10,7 +10,7 @@ ghost use Rattle.nv_model.specs.WellFormed.{IsWellFormed};
 ghost use Rattle.nv_bus.specs.Call.{call_of, length_of};
 ghost use Rattle.nv_bus.specs.Entry.{Moves, MovesBy, One, completion_of, scene};
 ghost use Rattle.nv_bus.specs.Entry.{step_unless, told_by};
-ghost use Rattle.nv_bus.specs.Limit.{limit_of};
+ghost use Rattle.nv_model.specs.Limit.{limit_of};
 ghost use Rattle.nv_bus.specs.Turn.{can_take, reaches};
 
 use crate::call::read_call;
@@ -141,18 +141,6 @@ fn deliver<M: HostMemory>(
     }
 }
 
-/// How many bytes of data a command of a controller has at most. Section "Identify Controller data
-/// structure", Maximum Data Transfer Size.
-#[tactic(auto, using(nv_bus::proofs::LimitLaws::limit_bounds))]
-fn limit(subsystem: &Subsystem, ctrl: u16) -> u64
-    requires ctrl { ctrl < length subsystem.now.controllers }
-    requires well_formed { IsWellFormed subsystem.now }
-    ensures limit { result ≡ limit_of subsystem.now ctrl }
-    ensures most { result ≤ 1048576 }
-{
-    4096 * (1 << subsystem.mdts(ctrl))
-}
-
 /// Answers a command and writes the data of its reply, and then does what the command changes.
 fn execute<M: HostMemory>(
     subsystem: &mut Subsystem,
@@ -226,7 +214,7 @@ fn answer_entry<M: HostMemory>(
         listed,
         ids,
     } = scratch;
-    let limit = limit(subsystem, ctrl);
+    let limit = subsystem.limit(ctrl);
     match read_call(mem, entry, limit, spans, page, listed) {
         Err(code) => {
             let refusal = Refusal::from(code);

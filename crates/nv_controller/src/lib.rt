@@ -25,6 +25,22 @@
 //! The tests of `nv_device_tests` have this example at full length, in `src/mistakes.rt`, with a
 //! list that is written over the submission ring itself.
 //!
+//! The registers by their offsets in bytes, each of which is read and written as one dword:
+//!
+//! | Offset | Register |
+//! | --- | --- |
+//! | 00h, 04h | CAP, Controller Capabilities, bits 31:0 and 63:32 |
+//! | 08h | VS, Version |
+//! | 14h | CC, Controller Configuration |
+//! | 1Ch | CSTS, Controller Status |
+//! | 24h | AQA, Admin Queue Attributes |
+//! | 28h, 2Ch | ASQ, the submission ring's address, bits 31:0 and 63:32 |
+//! | 30h, 34h | ACQ, the completion ring's address, bits 31:0 and 63:32 |
+//! | 1000h | The doorbell of the submission ring's tail |
+//! | 1004h | The doorbell of the completion ring's head |
+//!
+//! At any other offset a read gives 0, and a write changes nothing.
+//!
 //! Sections are named as in the NVM Express Base Specification, revision 1.4.
 #![tactic(auto)]
 

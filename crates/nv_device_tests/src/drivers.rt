@@ -215,12 +215,25 @@ fn answers_in_the_largest_pages(rt: HostRuntime) -> Result<(), Fail> {
     expect_answers(&rt, rt.alloc(), geometry)
 }
 
-/// A machine that keeps how many entries its first turns took.
+/// A machine that keeps how many entries its first turns were to take at most, and took.
 #[derive(Drop)]
 struct Counted {
     machine: Machine,
+    most: [u16; 8],
     taken: [u16; 8],
     turns: usize,
+}
+
+/// The machine of the demonstration subsystem, which had no turn yet.
+fn without_turns(alloc: Global) -> Result<Counted, Fail>
+    ensures { IfOk result (λ c. IsBus c.machine) }
+{
+    Ok(Counted {
+        machine: machine(alloc)?,
+        most: [0; 8],
+        taken: [0; 8],
+        turns: 0,
+    })
 }
 
 impl Bus for Counted {
@@ -241,6 +254,7 @@ impl Bus for Counted {
     fn turn<M: HostMemory>(&mut self, ctrl: u16, mem: &mut M, most: u16) -> u16 {
         let count = self.machine.turn(ctrl, mem, most);
         if self.turns < 8 {
+            self.most[self.turns] = most;
             self.taken[self.turns] = count;
             self.turns += 1;
         }
@@ -258,11 +272,7 @@ fn expect_ids(rt: &impl Abort, slot: &AnswerSlot, want: &[u32]) {
 
 /// Sends five commands, of which the second is refused. Answers how many entries the turns took.
 fn expect_five(rt: &impl Abort, alloc: Global, geometry: Geometry) -> Result<[u16; 8], Fail> {
-    let mut bus = Counted {
-        machine: machine(alloc)?,
-        taken: [0; 8],
-        turns: 0,
-    };
+    let mut bus = without_turns(alloc)?;
     let Ok(mut driver) = Driver::bring_up(alloc, &mut bus, geometry) else {
         assert!(rt; false);
         return Ok([0; 8]);
@@ -324,5 +334,36 @@ fn tells_the_head_where_a_turn_took_nothing(rt: HostRuntime) -> Result<(), Fail>
     };
     let taken = expect_five(&rt, rt.alloc(), geometry)?;
     assert_eq!(rt; taken, [3, 0, 2, 0, 0, 0, 0, 0]);
+    Ok(())
+}
+
+/// Two commands, one after the other, of which the second is refused: how many entries each turn was
+/// to take at most.
+fn most_of_two(rt: &impl Abort, alloc: Global, geometry: Geometry) -> Result<[u16; 8], Fail> {
+    let mut bus = without_turns(alloc)?;
+    let Ok(mut driver) = Driver::bring_up(alloc, &mut bus, geometry) else {
+        assert!(rt; false);
+        return Ok([0; 8]);
+    };
+    assert!(rt; driver.controllers() == 2);
+    let mut slot = AnswerSlot::new();
+    let command = Command::IdentifyNamespace { nsid: 1 };
+    assert!(rt; driver.admin(&mut bus, 0, &command, &mut slot).is_ok());
+    let command = Command::IdentifyNamespace { nsid: 0 };
+    assert!(rt; driver.admin(&mut bus, 0, &command, &mut slot).is_err());
+    assert_eq!(rt; bus.taken, [1, 1, 0, 0, 0, 0, 0, 0]);
+    Ok(bus.most)
+}
+
+#[test]
+fn asks_each_turn_for_the_pace(rt: HostRuntime) -> Result<(), Fail> {
+    for (pace, most) in [(1, 1), (3, 3), (4096, 4096)] {
+        let geometry = Geometry {
+            pace,
+            ..Geometry::default()
+        };
+        let asked = most_of_two(&rt, rt.alloc(), geometry)?;
+        assert_eq!(rt; asked, [most, most, 0, 0, 0, 0, 0, 0]);
+    }
     Ok(())
 }

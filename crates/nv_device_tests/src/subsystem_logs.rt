@@ -22,11 +22,22 @@ fn after_300_refusals(rt: &impl Abort, alloc: Global, elpe: u8) -> Result<Subsys
     Ok(subsystem)
 }
 
-/// Asks for a log from its start on.
+/// Asks for 512 bytes of a log from its start on.
 fn log<'a>(
     rt: &impl Abort,
     subsystem: &mut Subsystem,
     lid: u8,
+    room: &'a mut ReplyRoom,
+) -> Result<Reply<'a>, Refusal> {
+    dwords_of_log(rt, subsystem, lid, DwordCount::from_zeros_based(127), room)
+}
+
+/// Asks for so many dwords of a log from its start on.
+fn dwords_of_log<'a>(
+    rt: &impl Abort,
+    subsystem: &mut Subsystem,
+    lid: u8,
+    dwords: DwordCount,
     room: &'a mut ReplyRoom,
 ) -> Result<Reply<'a>, Refusal> {
     assert!(rt; subsystem.controllers() == 2);
@@ -34,7 +45,7 @@ fn log<'a>(
         lid,
         nsid: 0,
         offset: 0,
-        dwords: DwordCount::from_zeros_based(127),
+        dwords,
     };
     let origin = Origin {
         cid: 300,
@@ -106,11 +117,32 @@ fn counts_the_errors_in_the_health(rt: HostRuntime) -> Result<(), Fail> {
     Ok(())
 }
 
+/// MDTS is 5: a command has at most 131,072 bytes, or 32,768 dwords.
+#[test]
+fn refuses_more_of_a_log_than_a_command_moves(rt: HostRuntime) -> Result<(), Fail> {
+    let mut subsystem = Subsystem::from_toml(rt.alloc(), DEMO.as_bytes())?;
+    let mut room = ReplyRoom::new();
+    for lid in [ERROR_INFORMATION, HEALTH, 0x03] {
+        for numd in [32_768, u32::MAX] {
+            let dwords = DwordCount::from_zeros_based(numd);
+            match dwords_of_log(&rt, &mut subsystem, lid, dwords, &mut room) {
+                Err(refusal) => assert_eq!(rt; refusal.status.number(), 0x6002),
+                Ok(_) => panic!(rt; "a log"),
+            }
+        }
+    }
+    for lid in [ERROR_INFORMATION, HEALTH] {
+        let dwords = DwordCount::from_zeros_based(32_767);
+        assert!(rt; dwords_of_log(&rt, &mut subsystem, lid, dwords, &mut room).is_ok());
+    }
+    Ok(())
+}
+
 #[test]
 fn identifies_a_controller(rt: HostRuntime) -> Result<(), Fail> {
     let mut subsystem = Subsystem::from_toml(rt.alloc(), DEMO.as_bytes())?;
     assert!(rt; subsystem.controllers() == 2);
-    assert_eq!(rt; subsystem.mdts(0), 5);
+    assert_eq!(rt; subsystem.limit(0), 131072);
     let mut room = ReplyRoom::new();
     let origin = Origin {
         cid: 1,

@@ -32,25 +32,34 @@ set_room : (g : Geometry) → g.window * pages_of_command g.page_size ≤ set_pa
 unfolding set_pages
 set_room g = omega arith
 
-value_at : (ls : List LaneFields) (c : ℕ) (d : LaneFields) (e : Lane) → c < length ls → get_or (map lane_value ls) c e ≡ lane_value (get_or ls c d)
+value_at : (ls : List LaneFields) (c : ℕ) (d : LaneFields) (e : Lane) → c < length ls
+    → get_or (map lane_value ls) c e ≡ lane_value (get_or ls c d)
 value_at ls c d e below = get_or-map lane_value ls c d e below
 
-pub ready_at : {g : Geometry} {mem : PagedBytes} {ls : List LaneFields} {b : BusValue} {c : ℕ} {l : LaneFields} → IsDriver g mem ls → IsBus b
-    → b.ports ≡ idle_ports g.page_size (map lane_value ls) → c < length ls → l ≡ get_or ls c l → IsReady g b c l mem.page_size mem.bytes
+pub ready_at : {g : Geometry} {mem : PagedBytes} {ls : List LaneFields} {b : BusValue} {c : ℕ}
+    {l : LaneFields} → IsDriver g mem ls → IsBus b
+    → b.ports ≡ idle_ports g.page_size (map lane_value ls) → c < length ls → l ≡ get_or ls c l
+    → IsReady g b c l mem.page_size mem.bytes
 ready_at {g} {mem} {ls} {b} {c} {l} is bus ports below here =
     let many = length-map ls lane_value in
-    let at : get_or (map lane_value ls) c no_lane ≡ lane_value l = value_at ls c l no_lane below ∙ ap lane_value (sym here) in
+    let at : get_or (map lane_value ls) c no_lane ≡ lane_value l =
+    value_at ls c l no_lane below ∙ ap lane_value (sym here) in
     let settled = is.settled in
     record {
       geometry = is.geometry;
       page_size = is.page_size;
       depth = ap (λ (v : Lane). v.depth) (sym at ∙ is.placed c no_lane below);
-      room = subst (λ n. g.window * pages_of_command g.page_size ≤ n) (sym (ap (λ (v : Lane). v.page_count) (sym at ∙ is.placed c no_lane below))) (set_room g);
+      room = subst (λ n. g.window * pages_of_command g.page_size ≤ n)
+          (sym (ap (λ (v : Lane). v.page_count) (sym at ∙ is.placed c no_lane below))) (set_room g);
       quiet = subst IsQuiet (sym here) (is.quiet c l below);
       laid = subst (λ p. IsLaid p (length mem.bytes) (lane_value l)) is.page_size
           (subst (IsLaid mem.page_size (length mem.bytes)) at (settled.laid c no_lane (omega arith)));
       tags = subst (λ (v : Lane). HoldsTags mem.bytes v.cq v.depth v.number) at (settled.tags c no_lane (omega arith));
-      controller = omega (arith, ap (λ (p : List Port). length p) ports, length-map (map lane_value ls) (idle_port (mps_of g.page_size) g.page_size));
+      controller = omega (
+        arith,
+        ap (λ (p : List Port). length p) ports,
+        length-map (map lane_value ls) (idle_port (mps_of g.page_size) g.page_size),
+      );
       bus = bus;
       port = ap (λ p. port_at p c) ports
           ∙ get_or-map (idle_port (mps_of g.page_size) g.page_size) (map lane_value ls) c no_lane new_port (omega arith)
@@ -58,7 +67,8 @@ ready_at {g} {mem} {ls} {b} {c} {l} is bus ports below here =
     }
 
 -- its lane lies where it was laid
-pub placed_at : {g : Geometry} {mem : PagedBytes} {ls : List LaneFields} {c : ℕ} {l : LaneFields} → IsDriver g mem ls → c < length ls → l ≡ get_or ls c l
+pub placed_at : {g : Geometry} {mem : PagedBytes} {ls : List LaneFields} {c : ℕ} {l : LaneFields}
+    → IsDriver g mem ls → c < length ls → l ≡ get_or ls c l
     → IsPlaced g c (lane_value l)
 placed_at {g} {mem} {ls} {c} {l} is below here =
     subst (IsPlaced g c) (value_at ls c l no_lane below ∙ ap lane_value (sym here)) (is.placed c no_lane below)
@@ -66,7 +76,8 @@ placed_at {g} {mem} {ls} {c} {l} is below here =
 -- ---- after the command
 
 -- what holds of the other lanes, and of this one, holds of each
-set_each : (P : ℕ → Lane → Type 0) (vs : List Lane) (c : ℕ) (v : Lane) → ((i : ℕ) (d : Lane) → i < length vs → i ≢ c → P i (get_or vs i d)) → P c v
+set_each : (P : ℕ → Lane → Type 0) (vs : List Lane) (c : ℕ) (v : Lane)
+    → ((i : ℕ) (d : Lane) → i < length vs → i ≢ c → P i (get_or vs i d)) → P c v
     → (i : ℕ) (d : Lane) → i < length (slice_set vs c v) → P i (get_or (slice_set vs c v) i d)
 set_each P vs c v others own i d below =
     let many = length-set vs c v in
@@ -78,8 +89,10 @@ set_each P vs c v others own i d below =
     ]
 
 -- the completion slots of another lane stay
-pub slots_stay : (page_size : ℕ) (old new : List ℕ) (v u : Lane) → KeepsOthers page_size v old new → IsLaid page_size (length old) u → IsLaid page_size (length old) v
-    → (end_of page_size u ≤ v.sq) ⊎ (end_of page_size v ≤ u.sq) → HoldsTags old u.cq u.depth u.number → HoldsTags new u.cq u.depth u.number
+pub slots_stay : (page_size : ℕ) (old new : List ℕ) (v u : Lane) → KeepsOthers page_size v old new
+    → IsLaid page_size (length old) u → IsLaid page_size (length old) v
+    → (end_of page_size u ≤ v.sq) ⊎ (end_of page_size v ≤ u.sq)
+    → HoldsTags old u.cq u.depth u.number → HoldsTags new u.cq u.depth u.number
 slots_stay page_size old new v u keeps laid own apart tags s below =
     let top : s + 1 ≤ u.depth = omega arith in
     let room = mul-le-mul_left 16 top in
@@ -94,7 +107,8 @@ slots_stay page_size old new v u keeps laid own apart tags s below =
     ] in
     ap (λ (q : Cqe). q.phase) (ap cqe_of_bytes (keeps slot 16 aside)) ∙ tags s below
 
-pub settled_after : (page_size : ℕ) (old new : List ℕ) (vs : List Lane) (c : ℕ) (v u : Lane) → IsSettled page_size old vs → c < length vs
+pub settled_after : (page_size : ℕ) (old new : List ℕ) (vs : List Lane) (c : ℕ) (v u : Lane)
+    → IsSettled page_size old vs → c < length vs
     → v ≡ get_or vs c v → length new ≡ length old → KeepsOthers page_size v old new → IsLaid page_size (length new) u
     → HoldsTags new u.cq u.depth u.number → u.sq ≡ v.sq → u.first_page ≡ v.first_page → u.page_count ≡ v.page_count
     → IsSettled page_size new (slice_set vs c u)
@@ -104,28 +118,36 @@ settled_after page_size old new vs c v u s below here size keeps laid tags sq fi
       laid = set_each (λ _ q. IsLaid page_size (length new) q) vs c u
           (λ i d h differ. subst (λ n. IsLaid page_size n (get_or vs i d)) (sym size) (s.laid i d h)) laid;
       tags = set_each (λ _ q. HoldsTags new q.cq q.depth q.number) vs c u
-          (λ i d h differ. slots_stay page_size old new v (get_or vs i d) keeps (s.laid i d h) own (beside i d h differ) (s.tags i d h)) tags;
+          (λ i d h differ. slots_stay page_size old new v (get_or vs i d) keeps (s.laid i d h) own
+          (beside i d h differ) (s.tags i d h)) tags;
       apart = λ i j d before inside.
           let many = length-set vs c u in
           subst (λ n. n ≤ (get_or (slice_set vs c u) j d).sq) (sym (end_at i d (omega arith)))
-          (subst (λ n. end_of page_size (get_or vs i d) ≤ n) (sym (sq_at j d (omega arith))) (s.apart i j d before (omega arith)));
+          (subst (λ n. end_of page_size (get_or vs i d) ≤ n) (sym (sq_at j d (omega arith)))
+          (s.apart i j d before (omega arith)));
     }
   where
     same_one : (d : Lane) → get_or vs c d ≡ v
     same_one d = get_or_default vs c d v below ∙ sym here
 
-    beside : (i : ℕ) (d : Lane) → i < length vs → i ≢ c → (end_of page_size (get_or vs i d) ≤ v.sq) ⊎ (end_of page_size v ≤ (get_or vs i d).sq)
+    beside : (i : ℕ) (d : Lane) → i < length vs → i ≢ c → (end_of page_size (get_or vs i d) ≤ v.sq)
+        ⊎ (end_of page_size v ≤ (get_or vs i d).sq)
     beside i d h differ =
         elim (cases_lt i c) [
-          | inl l ↦ inl (subst (λ (q : Lane). end_of page_size (get_or vs i d) ≤ q.sq) (same_one d) (s.apart i c d l below))
-          | inr g ↦ inr (subst (λ (q : Lane). end_of page_size q ≤ (get_or vs i d).sq) (same_one d) (s.apart c i d (omega (arith, differ)) h))
+          | inl l ↦ inl (subst (λ (q : Lane). end_of page_size (get_or vs i d) ≤ q.sq) (same_one d)
+              (s.apart i c d l below))
+          | inr g ↦ inr (subst (λ (q : Lane). end_of page_size q ≤ (get_or vs i d).sq) (same_one d)
+              (s.apart c i d (omega (arith, differ)) h))
         ]
 
-    end_at : (i : ℕ) (d : Lane) → i < length (slice_set vs c u) → end_of page_size (get_or (slice_set vs c u) i d) ≡ end_of page_size (get_or vs i d)
+    end_at : (i : ℕ) (d : Lane) → i < length (slice_set vs c u)
+        → end_of page_size (get_or (slice_set vs c u) i d) ≡ end_of page_size (get_or vs i d)
     end_at i d h =
         set_each (λ j q. end_of page_size q ≡ end_of page_size (get_or vs j d)) vs c u
         (λ j e low differ. ap (end_of page_size) (get_or_default vs j e d low))
-        (ap (λ n. (n + u.page_count) * page_size) first ∙ ap (λ n. (v.first_page + n) * page_size) count ∙ sym (ap (end_of page_size) (same_one d))) i d h
+        (ap (λ n. (n + u.page_count) * page_size) first
+        ∙ ap (λ n. (v.first_page + n) * page_size) count
+        ∙ sym (ap (end_of page_size) (same_one d))) i d h
 
     sq_at : (i : ℕ) (d : Lane) → i < length (slice_set vs c u) → (get_or (slice_set vs c u) i d).sq ≡ (get_or vs i d).sq
     sq_at i d h =
@@ -134,20 +156,25 @@ settled_after page_size old new vs c v u s below here size keeps laid tags sq fi
         (sq ∙ sym (ap (λ (q : Lane). q.sq) (same_one d))) i d h
 
 -- the values of the lanes
-values_set : (ls : List LaneFields) (c : ℕ) (l : LaneFields) (v : Lane) → lane_value l ≡ v → map lane_value (slice_set ls c l) ≡ slice_set (map lane_value ls) c v
+values_set : (ls : List LaneFields) (c : ℕ) (l : LaneFields) (v : Lane) → lane_value l ≡ v
+    → map lane_value (slice_set ls c l) ≡ slice_set (map lane_value ls) c v
 values_set ls c l v is = map-set lane_value ls c l ∙ ap (slice_set (map lane_value ls) c) is
 
 -- where the number and the serial of a lane change
-pub driver_after : {g : Geometry} {mem new : PagedBytes} {ls : List LaneFields} {b : BusValue} {c : ℕ} {l l' : LaneFields} {n serial : ℕ} → IsDriver g mem ls
+pub driver_after : {g : Geometry} {mem new : PagedBytes} {ls : List LaneFields} {b : BusValue}
+    {c : ℕ} {l l' : LaneFields} {n serial : ℕ} → IsDriver g mem ls
     → c < length ls → l ≡ get_or ls c l → IsReady g b c l' new.page_size new.bytes
     → lane_value l' ≡ record (lane_value l) { number = n; serial = serial }
-    → KeepsOthers g.page_size (lane_value l) mem.bytes new.bytes → length new.bytes ≡ length mem.bytes → new.page_size ≡ mem.page_size
+    → KeepsOthers g.page_size (lane_value l) mem.bytes new.bytes
+    → length new.bytes ≡ length mem.bytes → new.page_size ≡ mem.page_size
     → IsDriver g new (slice_set ls c l')
 driver_after {g} {mem} {new} {ls} {b} {c} {l} {l'} {n} {serial} is below here ready next keeps size page =
     let many = length-map ls lane_value in
     let vs = map lane_value ls in
-    let at : lane_value l ≡ get_or vs c (lane_value l) = sym (value_at ls c l (lane_value l) below ∙ ap lane_value (sym here)) in
-    let pages : page_count new ≡ page_count mem = ap (λ n. n / new.page_size) size ∙ ap (λ p. length mem.bytes / p) page in
+    let at : lane_value l ≡ get_or vs c (lane_value l) =
+    sym (value_at ls c l (lane_value l) below ∙ ap lane_value (sym here)) in
+    let pages : page_count new ≡ page_count mem =
+    ap (λ n. n / new.page_size) size ∙ ap (λ p. length mem.bytes / p) page in
     let change = values_set ls c l' (lane_value l') refl in
     record {
       geometry = is.geometry;
@@ -158,7 +185,8 @@ driver_after {g} {mem} {new} {ls} {b} {c} {l} {l'} {n} {serial} is below here re
       placed = λ i d inside.
           subst (λ xs. IsPlaced g i (get_or xs i d)) (sym change)
           (set_each (λ j v. IsPlaced g j v) vs c (lane_value l') (λ j e low differ. is.placed j e (omega arith))
-          (stays_placed g c (lane_value l) (lane_value l') (subst (IsPlaced g c) (sym at) (is.placed c (lane_value l) below)) next) i d
+          (stays_placed g c (lane_value l) (lane_value l')
+          (subst (IsPlaced g c) (sym at) (is.placed c (lane_value l) below)) next) i d
           (let longer = length-set ls c l' in let values = length-set vs c (lane_value l') in omega arith));
       settled = subst (IsSettled new.page_size new.bytes) (sym change)
           (settled_after new.page_size mem.bytes new.bytes vs c (lane_value l) (lane_value l')
@@ -169,16 +197,22 @@ driver_after {g} {mem} {new} {ls} {b} {c} {l} {l'} {n} {serial} is below here re
           (ap (λ (v : Lane). v.sq) next) (ap (λ (v : Lane). v.first_page) next) (ap (λ (v : Lane). v.page_count) next));
     }
   where
-    stays_placed : (g : Geometry) (i : ℕ) (v u : Lane) → IsPlaced g i v → u ≡ record v { number = n; serial = serial } → IsPlaced g i u
-    stays_placed g i v u placed is = subst (IsPlaced g i) (sym is) (ap (λ (q : Lane). record q { number = n; serial = serial }) placed)
+    stays_placed : (g : Geometry) (i : ℕ) (v u : Lane) → IsPlaced g i v
+        → u ≡ record v { number = n; serial = serial } → IsPlaced g i u
+    stays_placed g i v u placed is = subst (IsPlaced g i) (sym is)
+        (ap (λ (q : Lane). record q { number = n; serial = serial }) placed)
 
 -- what the driver stands for
-pub value_after : (f : Lane → Lane) (g : Geometry) (mem new : PagedBytes) (ls : List LaneFields) (c : ℕ) (l l' : LaneFields) → c < length ls → l ≡ get_or ls c l
+pub value_after : (f : Lane → Lane) (g : Geometry) (mem new : PagedBytes) (ls : List LaneFields)
+    (c : ℕ) (l l' : LaneFields) → c < length ls → l ≡ get_or ls c l
     → lane_value l' ≡ f (lane_value l) → length new.bytes ≡ length mem.bytes → new.page_size ≡ mem.page_size
-    → driver_value g new (slice_set ls c l') ≡ record (driver_value g mem ls) { lanes = slice_set (map lane_value ls) c (f (lane_at (map lane_value ls) c)) }
+    → driver_value g new (slice_set ls c l') ≡ record (driver_value g mem ls)
+    { lanes = slice_set (map lane_value ls) c (f (lane_at (map lane_value ls) c)) }
 value_after f g mem new ls c l l' below here next size page =
-    let pages : page_count new ≡ page_count mem = ap (λ n. n / new.page_size) size ∙ ap (λ p. length mem.bytes / p) page in
-    let at : lane_value l ≡ lane_at (map lane_value ls) c = sym (value_at ls c l no_lane below ∙ ap lane_value (sym here)) in
+    let pages : page_count new ≡ page_count mem =
+    ap (λ n. n / new.page_size) size ∙ ap (λ p. length mem.bytes / p) page in
+    let at : lane_value l ≡ lane_at (map lane_value ls) c =
+    sym (value_at ls c l no_lane below ∙ ap lane_value (sym here)) in
     let lanes = values_set ls c l' (f (lane_at (map lane_value ls) c)) (next ∙ ap f at) in
     ap (λ n. record { geometry = g; pages = n; lanes = map lane_value (slice_set ls c l') }) pages
     ∙ ap (λ vs. record { geometry = g; pages = page_count mem; lanes = vs }) lanes
@@ -189,8 +223,10 @@ unfolding kept_number next
 after_first d c = refl
 
 -- and the registers
-pub ports_left : (g : Geometry) (ls : List LaneFields) (c : ℕ) (l' : LaneFields) (ports new : List Port) → ports ≡ idle_ports g.page_size (map lane_value ls)
-    → new ≡ slice_set ports c (port_at new c) → port_at new c ≡ idle_port (mps_of g.page_size) g.page_size (lane_value l')
+pub ports_left : (g : Geometry) (ls : List LaneFields) (c : ℕ) (l' : LaneFields)
+    (ports new : List Port) → ports ≡ idle_ports g.page_size (map lane_value ls)
+    → new ≡ slice_set ports c (port_at new c) → port_at new c ≡ idle_port (mps_of g.page_size)
+    g.page_size (lane_value l')
     → new ≡ idle_ports g.page_size (map lane_value (slice_set ls c l'))
 ports_left g ls c l' ports new is change port =
     let f = idle_port (mps_of g.page_size) g.page_size in
@@ -198,7 +234,8 @@ ports_left g ls c l' ports new is change port =
     ∙ sym (map-set f (map lane_value ls) c (lane_value l')) ∙ ap (map f) (sym (values_set ls c l' (lane_value l') refl))
 
 -- each controller has a lane
-pub inside_of : (g : Geometry) (mem : PagedBytes) (ls : List LaneFields) (d : DriverValue) (c : ℕ) → c < length d.lanes → driver_value g mem ls ≡ d
+pub inside_of : (g : Geometry) (mem : PagedBytes) (ls : List LaneFields) (d : DriverValue) (c : ℕ)
+    → c < length d.lanes → driver_value g mem ls ≡ d
     → c < length ls
 inside_of g mem ls d c below is =
     let many = ap (λ (v : DriverValue). length v.lanes) is ∙ refl in

@@ -35,7 +35,8 @@ no_success status fails = no_zeros status.sct status.sc fails
     no_zeros : (a b : ℕ) → ((a ≡ 0) × (b ≡ 0) → ⊥) → (a == 0 && b == 0) ≡ false
     no_zeros a b fails = grind (arith, nat_tests, fails)
 
-answer_by : (o : Option Refusal) (s : State) (c : ℕ) (k : Command) (cid : ℕ) → IsWellFormed s → ((r : Refusal) → o ≡ Some r → IsRefusal r)
+answer_by : (o : Option Refusal) (s : State) (c : ℕ) (k : Command) (cid : ℕ) → IsWellFormed s
+    → ((r : Refusal) → o ≡ Some r → IsRefusal r)
     → IsAnswerTo k (step_by o s c k cid).answer
 answer_by None s c k cid w fits = let f = reply_fits s c k w in (f.is_reply, f.fits)
 answer_by (Some r) s c k cid w fits = let f = fits r refl in (f.status, no_success r.status f.fails)
@@ -54,7 +55,8 @@ dword0_fits reply.Done fits = lit< tt
 dword0_fits (reply.Errors es) fits = lit< tt
 dword0_fits (reply.Smart r) fits = lit< tt
 
-pub completion_fits : (k : Command) (cid head : ℕ) (a : Answer) → cid < 2 ^ 16 → head < 2 ^ 16 → IsAnswerTo k a → CqeFits (completion_with cid head a)
+pub completion_fits : (k : Command) (cid head : ℕ) (a : Answer) → cid < 2 ^ 16 → head < 2 ^ 16
+    → IsAnswerTo k a → CqeFits (completion_with cid head a)
 completion_fits k cid head (Ok r) low below is = record {
   command_specific = dword0_fits r is.1;
   sq_head = below;
@@ -77,8 +79,10 @@ Delivers t x mem (Ok reply) =
     × (received_from (transfer_by x.command) mem (places t.page_size x) ≡ data_of x.command r)
 Delivers t x mem (Err status) = Unit {0}
 
-pub answer_back : (t : Setting) (x : Sent) (mem : List ℕ) (depth n cid head : ℕ) (a : Answer) → IsSendable x.command → IsAnswerTo x.command a
-    → Delivers t x mem a → answer_read t.page_size x mem (posted_as depth n (completion_with cid head a)) ≡ answer_received x.command a
+pub answer_back : (t : Setting) (x : Sent) (mem : List ℕ) (depth n cid head : ℕ) (a : Answer)
+    → IsSendable x.command → IsAnswerTo x.command a
+    → Delivers t x mem a → answer_read t.page_size x mem
+    (posted_as depth n (completion_with cid head a)) ≡ answer_received x.command a
 answer_back t x mem depth n cid head (Ok reply) sends is delivered =
     let k = x.command in
     let r = delivered.0 in

@@ -26,7 +26,8 @@ distance_is serial k m order near =
     let a = (serial + k) % 65535 in
     let below : a < 65535 = mod_below (serial + k) 65535 (omega arith) in
     let sum : serial + m ≡ serial + k + (m - k) = omega arith in
-    let is : (serial + m) % 65535 ≡ (a + (m - k)) % 65535 = ap (λ i. i % 65535) sum ∙ sym (mod-add-mod (serial + k) 65535 (m - k)) in
+    let is : (serial + m) % 65535 ≡ (a + (m - k)) % 65535 =
+    ap (λ i. i % 65535) sum ∙ sym (mod-add-mod (serial + k) 65535 (m - k)) in
     ap (λ i. (i + 65535 - a) % 65535) is ∙ from a (m - k) below (omega arith)
   where
     from : (a j : ℕ) → a < 65535 → j < 65535 → ((a + j) % 65535 + 65535 - a) % 65535 ≡ j
@@ -38,7 +39,9 @@ distance_is serial k m order near =
           | inr g ↦
               let rest : a + j - 65535 < 65535 = omega arith in
               let over : a + j ≡ a + j - 65535 + 65535 = omega arith in
-              let less : (a + j) % 65535 ≡ a + j - 65535 = ap (λ i. i % 65535) over ∙ add-mod_right (a + j - 65535) 65535 ∙ mod-eq_of_lt rest in
+              let less : (a + j) % 65535 ≡ a + j - 65535 =
+              ap (λ i. i % 65535) over ∙ add-mod_right (a + j - 65535) 65535
+              ∙ mod-eq_of_lt rest in
               let whole : (a + j) % 65535 + 65535 - a ≡ j = omega (arith, less) in
               ap (λ i. i % 65535) whole ∙ mod-eq_of_lt few
         ]
@@ -68,7 +71,8 @@ take-from_serial (suc n) serial [] = refl
 take-from_serial (suc n) serial (k ∷ ks) =
     ap (λ xs. record { command = k; cid = serial } ∷ xs) (take-from_serial n (next_serial serial) ks)
 
-take-answers : (n c : ℕ) (s : State) (xs : List Numbered) → take n (answers_of_all c s xs) ≡ answers_of_all c s (take n xs)
+take-answers : (n c : ℕ) (s : State) (xs : List Numbered)
+    → take n (answers_of_all c s xs) ≡ answers_of_all c s (take n xs)
 take-answers zero c s xs = refl
 take-answers (suc n) c s [] = refl
 take-answers (suc n) c s (x ∷ xs) =

@@ -64,10 +64,12 @@ above_told h k low = grind (arith, nat_tests)
 abbrev lane_by : SubmitNumbers → CollectNumbers → ℕ → Pages → LaneFields
 lane_by a c n p = record { submission = a; completion = c; serial = n; pages = p }
 
-lanes_same : {a a' : SubmitNumbers} {c c' : CollectNumbers} {n n' : ℕ} {p p' : Pages} → a ≡ a' → c ≡ c' → n ≡ n' → p ≡ p' → lane_by a c n p ≡ lane_by a' c' n' p'
+lanes_same : {a a' : SubmitNumbers} {c c' : CollectNumbers} {n n' : ℕ} {p p' : Pages} → a ≡ a'
+    → c ≡ c' → n ≡ n' → p ≡ p' → lane_by a c n p ≡ lane_by a' c' n' p'
 lanes_same e f g h = cc
 
-module _ {r : Run} {bells turns : ℕ} {b : Batch} {l : LaneFields} {now : ℕ} {bytes : List ℕ} (u : IsUnderWay r bells turns b l now bytes) where
+module _ {r : Run} {bells turns : ℕ} {b : Batch} {l : LaneFields} {now : ℕ} {bytes : List ℕ}
+    (u : IsUnderWay r bells turns b l now bytes) where
   pub no_more : (b.collected ≤ b.sent) × (turns ≤ b.sent)
   no_more =
       let c = u.keeps.counts in
@@ -82,18 +84,21 @@ module _ {r : Run} {bells turns : ℕ} {b : Batch} {l : LaneFields} {now : ℕ} 
 
   ring_is : awaited (setting_of r) u.world ≡ l.completion
   ring_is =
-      ap (λ n. collect_ring (setting_of r) n u.world.told) u.collected ∙ ap (collect_ring (setting_of r) b.collected) u.told
+      ap (λ n. collect_ring (setting_of r) n u.world.told) u.collected
+      ∙ ap (collect_ring (setting_of r) b.collected) u.told
       ∙ ap (λ (q : LaneFields). q.completion) (sym u.lane)
 
   pub is_there : b.collected < turns → IsAwaitedThere bytes l.completion
-  is_there more = subst (λ q. IsAwaitedThere bytes q) ring_is (subst (λ m. IsAwaitedThere m (awaited (setting_of r) u.world)) u.mem (there more))
+  is_there more = subst (λ q. IsAwaitedThere bytes q) ring_is
+      (subst (λ m. IsAwaitedThere m (awaited (setting_of r) u.world)) u.mem (there more))
 
   -- it has its place in the window
   pub is_some : b.collected < turns → {found : Option CommandPages} → kept_at b b.collected ≡ found → IsSome found
   is_some more same = let k = u.kept b.collected no_command (omega arith) (omega (arith, no_more, more)) in
       subst IsSome (sym k.is_one ∙ same) refl
 
-  module _ (more : b.collected < turns) {found : Option Cqe} {q : Cqe} (some : found ≡ Some q) (value : IfSome found (λ c. c ≡ awaited_completion bytes l.completion)) where
+  module _ (more : b.collected < turns) {found : Option Cqe} {q : Cqe} (some : found ≡ Some q)
+      (value : IfSome found (λ c. c ≡ awaited_completion bytes l.completion)) where
     pub completion_is : q ≡ completion_at u.world.mem (setting_of r).cq (slot (setting_of r) b.collected)
     completion_is =
         subst (λ (o : Option Cqe). IfSome o (λ c. c ≡ awaited_completion bytes l.completion)) some value
@@ -104,7 +109,8 @@ module _ {r : Run} {bells turns : ℕ} {b : Batch} {l : LaneFields} {now : ℕ} 
     cid_is =
         let held = u.keeps.held b.collected no_command (omega (arith, u.collected)) (omega (arith, more, u.done)) in
         ap (λ (c : Cqe). c.cid) completion_is
-        ∙ held.cid ∙ ap (λ (x : Numbered). x.cid) (command_of u b.collected no_command.command (omega (arith, no_more, more)))
+        ∙ held.cid ∙ ap (λ (x : Numbered). x.cid) (command_of u b.collected no_command.command
+        (omega (arith, no_more, more)))
 
     pub head_is : q.sq_head ≡ slot (setting_of r) (b.collected + 1)
     head_is =
@@ -117,7 +123,8 @@ module _ {r : Run} {bells turns : ℕ} {b : Batch} {l : LaneFields} {now : ℕ} 
     -- by its command identifier it is the awaited one
     pub distance_to : (n : ℕ) → n ≡ (l.serial + 65535 - q.cid) % 65535 → n ≡ b.sent - b.collected
     distance_to n is =
-        is ∙ ap (λ c. (l.serial + 65535 - c) % 65535) cid_is ∙ ap (λ (o : LaneFields). (o.serial + 65535 - serial_at r b.collected) % 65535) u.lane
+        is ∙ ap (λ c. (l.serial + 65535 - c) % 65535) cid_is
+        ∙ ap (λ (o : LaneFields). (o.serial + 65535 - serial_at r b.collected) % 65535) u.lane
         ∙ distance_is r.lane.serial b.collected b.sent (no_more.0) (omega (arith, u.window, u.begun.geometry.window.1))
 
     pub number_is : {n : ℕ} → n ≡ (l.serial + 65535 - q.cid) % 65535 → b.sent - n ≡ b.collected
@@ -127,17 +134,22 @@ module _ {r : Run} {bells turns : ℕ} {b : Batch} {l : LaneFields} {now : ℕ} 
     freed_between =
         let t = setting_of r in
         let window = u.begun.geometry.window in
-        subst (λ (o : LaneFields). IsSlotBetween o.submission.depth o.submission.known o.submission.submitted q.sq_head) (sym u.lane)
+        subst (λ (o : LaneFields). IsSlotBetween o.submission.depth o.submission.known
+        o.submission.submitted q.sq_head) (sym u.lane)
         (subst (IsSlotBetween t.depth (number t b.collected) (number t b.sent)) (sym head_is)
-        (between_kept t.depth (t.start + b.collected) 1 (b.sent - b.collected) (t.start + (b.collected + 1)) (t.start + b.sent)
-        (omega (arith, no_more, more)) (omega (arith, u.window, window.2, u.begun.depth)) (omega arith) (omega (arith, no_more))))
+        (between_kept t.depth (t.start + b.collected) 1 (b.sent - b.collected)
+        (t.start + (b.collected + 1)) (t.start + b.sent)
+        (omega (arith, no_more, more)) (omega (arith, u.window, window.2, u.begun.depth))
+        (omega arith) (omega (arith, no_more))))
 
-    freed_to : first_in_slot (setting_of r).depth (number (setting_of r) b.collected) q.sq_head ≡ number (setting_of r) (b.collected + 1)
+    freed_to : first_in_slot (setting_of r).depth (number (setting_of r) b.collected) q.sq_head ≡
+        number (setting_of r) (b.collected + 1)
     freed_to =
         let t = setting_of r in
         let deep = u.keeps.placed.deep in
         ap (first_in_slot t.depth (number t b.collected)) head_is
-        ∙ first_kept t.depth (t.start + (b.collected + 1)) (t.start + b.collected) 1 (omega arith) (omega (arith, deep.0))
+        ∙ first_kept t.depth (t.start + (b.collected + 1)) (t.start + b.collected) 1 (omega arith)
+        (omega (arith, deep.0))
 
     -- ---- its pages
 
@@ -145,9 +157,11 @@ module _ {r : Run} {bells turns : ℕ} {b : Batch} {l : LaneFields} {now : ℕ} 
     held_is = ap pages_of_all (drop-cons u.world.sent b.collected no_command (omega (arith, no_more, more, u.sent)))
         ∙ ap (λ n. own_pages next_one ++ pages_of_all (drop n u.world.sent)) (sym (add-one b.collected))
 
-    module _ {kept : Option CommandPages} {o : CommandPages} (place : kept_at b b.collected ≡ kept) (here : kept ≡ Some o) where
+    module _ {kept : Option CommandPages} {o : CommandPages} (place : kept_at b b.collected ≡ kept)
+        (here : kept ≡ Some o) where
       pub one_is : IsOne r o next_one
-      one_is = is_one r (kept_at b b.collected) o next_one (u.kept b.collected no_command (omega arith) (omega (arith, no_more, more))) (place ∙ here)
+      one_is = is_one r (kept_at b b.collected) o next_one
+          (u.kept b.collected no_command (omega arith) (omega (arith, no_more, more))) (place ∙ here)
 
       all_is : held u ≡ all_pages o ++ pages_of_all (drop (b.collected + 1) u.world.sent)
       all_is = held_is ∙ ap (λ ps. ps ++ pages_of_all (drop (b.collected + 1) u.world.sent)) (sym one_is.pages)
@@ -169,41 +183,64 @@ module _ {r : Run} {bells turns : ℕ} {b : Batch} {l : LaneFields} {now : ℕ} 
       taken_left : AreTaken r.lane.pages (pages_of_all (drop (b.collected + 1) u.world.sent))
       taken_left = taken_rest r.lane.pages (all_pages o) _ (subst (AreTaken r.lane.pages) all_is u.taken)
 
-      pages_back : with_pages l.pages (all_pages o) ≡ without r.lane.pages (pages_of_all (drop (b.collected + 1) u.world.sent))
+      pages_back : with_pages l.pages (all_pages o) ≡ without r.lane.pages
+          (pages_of_all (drop (b.collected + 1) u.world.sent))
       pages_back = ap (λ s. with_pages s (all_pages o)) (pages_left u ∙ ap (without r.lane.pages) all_is)
-          ∙ given_back r.lane.pages (all_pages o) (pages_of_all (drop (b.collected + 1) u.world.sent)) (subst (AreTaken r.lane.pages) all_is u.taken)
+          ∙ given_back r.lane.pages (all_pages o) (pages_of_all
+          (drop (b.collected + 1) u.world.sent)) (subst (AreTaken r.lane.pages) all_is u.taken)
 
       -- ---- what is left
 
-      lane_left : lane_by (known_to l.submission q.sq_head) (collected_one l.completion) l.serial (with_pages l.pages (all_pages o))
-          ≡ lane_by (submit_ring (setting_of r) b.sent (b.collected + 1)) (collect_ring (setting_of r) (b.collected + 1) b.told)
+      lane_left : lane_by (known_to l.submission q.sq_head) (collected_one l.completion) l.serial
+          (with_pages l.pages (all_pages o))
+          ≡ lane_by (submit_ring (setting_of r) b.sent (b.collected + 1))
+          (collect_ring (setting_of r) (b.collected + 1) b.told)
           (serial_at r b.sent) (without r.lane.pages (pages_of_all (drop (b.collected + 1) u.world.sent)))
       lane_left =
           let t = setting_of r in
           let c = u.keeps.counts in
           let serial = ap (λ (x : LaneFields). x.serial) u.lane in
-          let untold : true ≡ not (b.told == b.collected + 1) = above_told b.told b.collected (omega (arith, c.told, u.told, u.collected)) in
+          let untold : true ≡ not (b.told == b.collected + 1) =
+          above_told b.told b.collected (omega (arith, c.told, u.told, u.collected)) in
           let submission : known_to l.submission q.sq_head ≡ submit_ring t b.sent (b.collected + 1) =
           ap (λ (x : LaneFields). known_to x.submission q.sq_head) u.lane
           ∙ ap (λ n. record { base = t.sq; depth = t.depth; submitted = number t b.sent; known = n }) freed_to in
           let completion : collected_one l.completion ≡ collect_ring t (b.collected + 1) b.told =
           ap (λ (x : LaneFields). collected_one x.completion) u.lane
-          ∙ ap (λ n. record { base = t.cq; depth = t.depth; collected = n; told = number t b.told; untold = true }) (number_next t b.collected)
-          ∙ ap (λ a. record { base = t.cq; depth = t.depth; collected = number t (b.collected + 1); told = number t b.told; untold = a }) untold in
+          ∙ ap (λ n. record {
+            base = t.cq;
+            depth = t.depth;
+            collected = n;
+            told = number t b.told;
+            untold = true;
+          }) (number_next t b.collected)
+          ∙ ap (λ a. record {
+            base = t.cq;
+            depth = t.depth;
+            collected = number t (b.collected + 1);
+            told = number t b.told;
+            untold = a;
+          }) untold in
           lanes_same submission completion serial pages_back
 
-      pub collects : {a : SubmitNumbers} {p : CollectNumbers} {s : Pages} → a ≡ known_to l.submission q.sq_head → p ≡ collected_one l.completion
-          → s ≡ with_pages l.pages (all_pages o) → IsUnderWay r bells turns (record b { collected = b.collected + 1 }) (lane_by a p l.serial s) now bytes
+      pub collects : {a : SubmitNumbers} {p : CollectNumbers} {s : Pages}
+          → a ≡ known_to l.submission q.sq_head → p ≡ collected_one l.completion
+          → s ≡ with_pages l.pages (all_pages o) → IsUnderWay r bells turns
+          (record b { collected = b.collected + 1 }) (lane_by a p l.serial s) now bytes
       collects submission completion pages =
           let t = setting_of r in
           let w = u.world in
           let a = answer_read t.page_size next_one w.mem (awaited_completion w.mem (awaited t w)) in
-          let at : get_or w.sent (length w.answers) no_command ≡ next_one = ap (λ n. get_or w.sent n no_command) u.collected in
+          let at : get_or w.sent (length w.answers) no_command ≡ next_one =
+          ap (λ n. get_or w.sent n no_command) u.collected in
           let w' : World = record w { answers = w.answers ++ a ∷ [] } in
           let happens : Happens t Collect w w' = inl (
             there more,
             no_command,
-            ap (λ y. record w { answers = w.answers ++ answer_read t.page_size y w.mem (awaited_completion w.mem (awaited t w)) ∷ [] }) (sym at),
+            ap (λ y. record w {
+              answers = w.answers ++ answer_read t.page_size y w.mem
+                  (awaited_completion w.mem (awaited t w)) ∷ [];
+            }) (sym at),
           ) in
           record {
             begun = u.begun;
@@ -253,7 +290,8 @@ module _ {r : Run} {bells turns : ℕ} {b : Batch} {l : LaneFields} {now : ℕ} 
       module _ {k : Command} (same : k ≡ next_one.command) where
         pub answer_sends : IsSendable k
         answer_sends =
-            subst IsSendable (sym same) (u.keeps.own b.collected no_command (omega (arith, u.collected)) (omega (arith, no_more, more, u.sent))).can.sends
+            subst IsSendable (sym same) (u.keeps.own b.collected no_command
+            (omega (arith, u.collected)) (omega (arith, no_more, more, u.sent))).can.sends
 
         module _ {pages : List ℕ} {from : ℕ} (of_data : pages ≡ data_pages o)
             (begins : from ≡ b.geometry.offset) where
@@ -305,7 +343,9 @@ module _ {r : Run} {bells turns : ℕ} {b : Batch} {l : LaneFields} {now : ℕ} 
               }
 
   -- the command by its number
-  pub command_at : {k : Command} {ks : List Command} {n : ℕ} (e : Command) → b.collected < b.sent → n ≡ b.collected → ks ≡ r.commands → k ≡ get_or ks n e
+  pub command_at : {k : Command} {ks : List Command} {n : ℕ} (e : Command) → b.collected < b.sent
+      → n ≡ b.collected → ks ≡ r.commands → k ≡ get_or ks n e
       → k ≡ next_one.command
   command_at {k} {ks} {n} e more at same is =
-      is ∙ ap (λ xs. get_or xs n e) same ∙ ap (λ i. get_or r.commands i e) at ∙ ap (λ (x : Numbered). x.command) (sym (command_of u b.collected e more))
+      is ∙ ap (λ xs. get_or xs n e) same ∙ ap (λ i. get_or r.commands i e) at ∙ ap
+      (λ (x : Numbered). x.command) (sym (command_of u b.collected e more))

@@ -50,23 +50,30 @@ rung_is t rung done m l h =
 
 -- the tail of the commands that were sent is taken
 pub tail_rung : (t : Setting) (rung done told m : ℕ) → done ≤ m → m < done + t.depth
-    → with_register_at (port_with t (device_rings t rung done told)) 0x1000 (slot t m) ≡ port_with t (device_rings t m done told)
+    → with_register_at (port_with t (device_rings t rung done told)) 0x1000 (slot t m) ≡ port_with t
+    (device_rings t m done told)
 tail_rung t rung done told m l h =
-    ap (λ (r : FetchNumbers). port_with t (record (device_rings t rung done told) { submission = r })) (rung_is t rung done m l h)
+    ap (λ (r : FetchNumbers). port_with t (record (device_rings t rung done told)
+    { submission = r })) (rung_is t rung done m l h)
 
 told_is : (t : Setting) (done told k : ℕ) → told ≤ k → k ≤ done → done < told + t.depth
     → told_by (record { base = t.cq; depth = t.depth; posted = number t done; told = number t told }) (slot t k)
     ≡ record { base = t.cq; depth = t.depth; posted = number t done; told = number t k }
 told_is t done told k l m h =
     let between : IsSlotBetween t.depth (number t told) (number t done) (slot t k) =
-    between_kept t.depth (t.start + told) (k - told) (done - told) (t.start + k) (t.start + done) (omega arith) (omega arith) (omega arith) (omega arith) in
+    between_kept t.depth (t.start + told) (k - told) (done - told) (t.start + k) (t.start + done)
+    (omega arith) (omega arith) (omega arith) (omega arith) in
     let first = first_kept t.depth (t.start + k) (t.start + told) (k - told) (omega arith) (omega arith) in
     let is_slot : nat_lt (slot t k) t.depth ≡ true = grind (arith, nat_tests, between.0) in
-    let is_near : nat_le (ahead t.depth (number t told) (slot t k)) (above t.depth (number t done) (number t told)) ≡ true = grind (arith, nat_tests, between.1) in
+    let is_near : nat_le (ahead t.depth (number t told) (slot t k))
+    (above t.depth (number t done) (number t told)) ≡ true =
+    grind (arith, nat_tests, between.1) in
     rw (is_slot, is_near, first) refl
 
 -- the head of the answers that were collected is taken
 pub head_told : (t : Setting) (rung done told k : ℕ) → told ≤ k → k ≤ done → done < told + t.depth
-    → with_register_at (port_with t (device_rings t rung done told)) 0x1004 (slot t k) ≡ port_with t (device_rings t rung done k)
+    → with_register_at (port_with t (device_rings t rung done told)) 0x1004 (slot t k) ≡ port_with t
+    (device_rings t rung done k)
 head_told t rung done told k l m h =
-    ap (λ (r : PostNumbers). port_with t (record (device_rings t rung done told) { completion = r })) (told_is t done told k l m h)
+    ap (λ (r : PostNumbers). port_with t (record (device_rings t rung done told)
+    { completion = r })) (told_is t done told k l m h)

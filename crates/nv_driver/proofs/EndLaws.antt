@@ -27,15 +27,20 @@ use Rattle.nv_driver.proofs.WindowPageLaws.{taken_none}
 -- ---- the beginning
 
 -- what holds of a list of which nothing was sent
-pub record HasBegun (r : Run) (b : Batch) (l : LaneFields) (now : ℕ) (bytes : List ℕ) (bus : BusValue) (answers : List Answer) : Type 0 where
+pub record HasBegun (r : Run) (b : Batch) (l : LaneFields) (now : ℕ) (bytes : List ℕ)
+    (bus : BusValue) (answers : List Answer) : Type 0 where
   pub under_way : IsUnderWay r b.sent b.collected b l now bytes
   pub bus_is : IsBusOf r b.sent b.collected b.told bus
   pub answers_are : HasAnswers r b.collected answers
 
-pub begins_all : {g : Geometry} {c : ℕ} {bus : BusValue} {l : LaneFields} {now : ℕ} {bytes : List ℕ} {commands : List Command} {answers : List Answer} {r : Run} {b : Batch}
-    → r ≡ run_of g c bus l bytes commands → IsReady g bus c l now bytes → All CanBeSent commands → length answers ≡ length commands
-    → b.ctrl ≡ c → b.geometry ≡ g → length b.outstanding ≡ 16 → b.sent ≡ 0 → b.collected ≡ 0 → b.told ≡ 0 → HasBegun r b l now bytes bus answers
-begins_all {g} {c} {bus} {l} {now} {bytes} {commands} {answers} {r} {b} is ready can size ctrl geometry room sent collected told =
+pub begins_all : {g : Geometry} {c : ℕ} {bus : BusValue} {l : LaneFields} {now : ℕ} {bytes : List ℕ}
+    {commands : List Command} {answers : List Answer} {r : Run} {b : Batch}
+    → r ≡ run_of g c bus l bytes commands → IsReady g bus c l now bytes → All CanBeSent commands
+    → length answers ≡ length commands
+    → b.ctrl ≡ c → b.geometry ≡ g → length b.outstanding ≡ 16 → b.sent ≡ 0 → b.collected ≡ 0
+    → b.told ≡ 0 → HasBegun r b l now bytes bus answers
+begins_all {g} {c} {bus} {l} {now} {bytes} {commands} {answers} {r} {b} is ready can size ctrl
+    geometry room sent collected told =
     let q = run_of g c bus l bytes commands in
     let t = setting_of q in
     let ready_at = subst (λ n. IsReady g bus c l n bytes) ready.page_size ready in
@@ -44,8 +49,10 @@ begins_all {g} {c} {bus} {l} {now} {bytes} {commands} {answers} {r} {b} is ready
       bus_is = record {
         bus = ready.bus;
         state = ap (λ n. state_after c bus.state l.serial (take n commands)) (sym collected);
-        port = ready.port ∙ (is_idle g bus c l now bytes ready).port ∙ ap (λ n. port_with t (device_rings t n 0 0)) (sym sent)
-            ∙ ap (λ n. port_with t (device_rings t b.sent n 0)) (sym collected) ∙ ap (λ n. port_with t (device_rings t b.sent b.collected n)) (sym told);
+        port = ready.port ∙ (is_idle g bus c l now bytes ready).port
+            ∙ ap (λ n. port_with t (device_rings t n 0 0)) (sym sent)
+            ∙ ap (λ n. port_with t (device_rings t b.sent n 0)) (sym collected)
+            ∙ ap (λ n. port_with t (device_rings t b.sent b.collected n)) (sym told);
         ports = sym (set-get_or bus.ports c new_port);
       };
       answers_are = record { len = size; first = rw collected refl };
@@ -54,31 +61,46 @@ begins_all {g} {c} {bus} {l} {now} {bytes} {commands} {answers} {r} {b} is ready
 -- ---- the end
 
 -- what holds where all were sent, collected and told
-pub record HasEnded (g : Geometry) (c : ℕ) (old : BusValue) (l : LaneFields) (bytes : List ℕ) (bus : BusValue) (l' : LaneFields) (now : ℕ) (mem : List ℕ) : Type 0 where
+pub record HasEnded (g : Geometry) (c : ℕ) (old : BusValue) (l : LaneFields) (bytes : List ℕ)
+    (bus : BusValue) (l' : LaneFields) (now : ℕ) (mem : List ℕ) : Type 0 where
   pub ready : IsReady g bus c l' now mem
   pub ports : bus.ports ≡ slice_set old.ports c (port_at bus.ports c)
   pub others : KeepsOthers g.page_size (lane_value l) bytes mem
 
-pub ends_all : {g : Geometry} {c : ℕ} {old bus : BusValue} {l l' : LaneFields} {now : ℕ} {bytes mem : List ℕ} {commands : List Command} {r : Run} {b : Batch}
-    → r ≡ run_of g c old l bytes commands → (u : IsUnderWay r b.sent b.collected b l' now mem) → IsBusOf r b.sent b.collected b.told bus
+pub ends_all : {g : Geometry} {c : ℕ} {old bus : BusValue} {l l' : LaneFields} {now : ℕ}
+    {bytes mem : List ℕ} {commands : List Command} {r : Run} {b : Batch}
+    → r ≡ run_of g c old l bytes commands → (u : IsUnderWay r b.sent b.collected b l' now mem)
+    → IsBusOf r b.sent b.collected b.told bus
     → b.sent ≡ b.collected → b.told ≡ b.collected → HasEnded g c old l bytes bus l' now mem
 ends_all {g} {c} {old} {bus} {l} {l'} {now} {bytes} {mem} {commands} {r} {b} is under_way bus_is sent told =
-    at_end (subst (λ x. IsUnderWay x b.sent b.collected b l' now mem) is under_way) (subst (λ x. IsBusOf x b.sent b.collected b.told bus) is bus_is)
+    at_end (subst (λ x. IsUnderWay x b.sent b.collected b l' now mem) is under_way)
+    (subst (λ x. IsBusOf x b.sent b.collected b.told bus) is bus_is)
   where
-    at_end : (u : IsUnderWay (run_of g c old l bytes commands) b.sent b.collected b l' now mem) → IsBusOf (run_of g c old l bytes commands) b.sent b.collected b.told bus
+    at_end : (u : IsUnderWay (run_of g c old l bytes commands) b.sent b.collected b l' now mem)
+        → IsBusOf (run_of g c old l bytes commands) b.sent b.collected b.told bus
         → HasEnded g c old l bytes bus l' now mem
     at_end u of =
         let t = setting g c (lane_value l) in
         let n = b.collected in
-        let none : drop n u.world.sent ≡ [] = ap (λ i. drop i u.world.sent) (sym (u.sent ∙ sent)) ∙ drop-length u.world.sent in
-        let pages = ap (λ (x : LaneFields). x.pages) u.lane ∙ ap (λ xs. without l.pages (pages_of_all xs)) none ∙ (taken_none l.pages).1 in
+        let none : drop n u.world.sent ≡ [] = ap (λ i. drop i u.world.sent) (sym (u.sent ∙ sent))
+        ∙ drop-length u.world.sent in
+        let pages = ap (λ (x : LaneFields). x.pages) u.lane
+        ∙ ap (λ xs. without l.pages (pages_of_all xs)) none ∙ (taken_none l.pages).1 in
         let submission = ap (λ (x : LaneFields). x.submission) u.lane ∙ ap (λ i. submit_ring t i n) sent in
         let completion = ap (λ (x : LaneFields). x.completion) u.lane ∙ ap (λ i. collect_ring t n i) told
-        ∙ ap (λ e. record { base = t.cq; depth = t.depth; collected = number t n; told = number t n; untold = e }) (sym (none_untold n)) in
-        let port = of.port ∙ ap (λ i. port_with t (device_rings t i n b.told)) sent ∙ ap (λ i. port_with t (device_rings t n n i)) told in
+        ∙ ap (λ e. record {
+          base = t.cq;
+          depth = t.depth;
+          collected = number t n;
+          told = number t n;
+          untold = e;
+        }) (sym (none_untold n)) in
+        let port = of.port ∙ ap (λ i. port_with t (device_rings t i n b.told)) sent
+        ∙ ap (λ i. port_with t (device_rings t n n i)) told in
         record {
           ready = lane_after n u.begun u.page_size u.size submission completion (serial_below u) pages
-              (subst (λ m. HoldsTags m t.cq t.depth (number t n)) u.mem (subst (λ i. HoldsTags u.world.mem t.cq t.depth (number t i)) u.done u.keeps.tags))
+              (subst (λ m. HoldsTags m t.cq t.depth (number t n)) u.mem
+              (subst (λ i. HoldsTags u.world.mem t.cq t.depth (number t i)) u.done u.keeps.tags))
               (has_port u of) of.bus port;
           ports = of.ports;
           others = subst (KeepsOthers g.page_size (lane_value l) bytes) u.mem
@@ -86,17 +108,24 @@ ends_all {g} {c} {old} {bus} {l} {l'} {now} {bytes} {mem} {commands} {r} {b} is 
         }
 
 -- all were collected
-pub all_collected : {g : Geometry} {c : ℕ} {old : BusValue} {l l' : LaneFields} {now : ℕ} {bytes mem : List ℕ} {commands : List Command} {r : Run} {b : Batch}
-    → r ≡ run_of g c old l bytes commands → (u : IsUnderWay r b.sent b.collected b l' now mem) → length commands ≤ b.collected
+pub all_collected : {g : Geometry} {c : ℕ} {old : BusValue} {l l' : LaneFields} {now : ℕ}
+    {bytes mem : List ℕ} {commands : List Command} {r : Run} {b : Batch}
+    → r ≡ run_of g c old l bytes commands → (u : IsUnderWay r b.sent b.collected b l' now mem)
+    → length commands ≤ b.collected
     → (b.sent ≡ b.collected) × (b.collected ≡ length commands)
 all_collected is u enough =
     let order = no_more u in
-    let same = ap (λ (x : Run). length x.commands) is in (omega (arith, order, u.some, same), omega (arith, order, u.some, same))
+    let same = ap (λ (x : Run). length x.commands) is
+    in (omega (arith, order, u.some, same), omega (arith, order, u.some, same))
 
-pub answers_all : {g : Geometry} {c : ℕ} {old : BusValue} {l : LaneFields} {bytes : List ℕ} {commands : List Command} {r : Run} {n : ℕ} {answers : List Answer}
-    → r ≡ run_of g c old l bytes commands → HasAnswers r n answers → n ≡ length commands → answers ≡ answers_of c old.state l.serial commands
+pub answers_all : {g : Geometry} {c : ℕ} {old : BusValue} {l : LaneFields} {bytes : List ℕ}
+    {commands : List Command} {r : Run} {n : ℕ} {answers : List Answer}
+    → r ≡ run_of g c old l bytes commands → HasAnswers r n answers → n ≡ length commands
+    → answers ≡ answers_of c old.state l.serial commands
 answers_all {g} {c} {old} {l} {bytes} {commands} {r} {n} {answers} is has all =
     let h = subst (λ x. HasAnswers x n answers) is has in
     let whole = answers_of c old.state l.serial commands in
-    let size = length-answers_of_all c old.state (from_serial l.serial commands) ∙ length-from_serial l.serial commands in
-    sym (take-length answers) ∙ ap (λ i. take i answers) (h.len ∙ sym all) ∙ h.first ∙ ap (λ i. take i whole) (all ∙ sym size) ∙ take-length whole
+    let size = length-answers_of_all c old.state (from_serial l.serial commands)
+    ∙ length-from_serial l.serial commands in
+    sym (take-length answers) ∙ ap (λ i. take i answers) (h.len ∙ sym all) ∙ h.first
+    ∙ ap (λ i. take i whole) (all ∙ sym size) ∙ take-length whole

@@ -52,7 +52,8 @@ world_after t w y = record w {
 }
 
 -- it changes the pages of its command and the completion ring
-entry_only : (t : Setting) (s : State) (w : World) (x : Sent) (y : Scene) → Keeps t s w → IsOwn t (length w.mem) x → IsDone t w x y
+entry_only : (t : Setting) (s : State) (w : World) (x : Sent) (y : Scene) → Keeps t s w
+    → IsOwn t (length w.mem) x → IsDone t w x y
     → ChangesOnlyAt t x t.cq (16 * t.depth) w.mem y.bytes
 entry_only t s w x y k own one from i outside apart =
     let p = k.placed in
@@ -60,12 +61,15 @@ entry_only t s w x y k own one from i outside apart =
     let some : 0 < t.page_size = omega (arith, page_size_bounds t.page_size p.page_size) in
     let a = (step w.state t.controller x.command x.cid).answer in
     let posted = completion_with x.cid (slot t (w.done + 1)) a in
-    let size : length one.moved ≡ length w.mem = length_moved x.command (places t.page_size x) a w.mem one.moved one.moves in
+    let size : length one.moved ≡ length w.mem =
+    length_moved x.command (places t.page_size x) a w.mem one.moved one.moves in
     let inside : t.cq + 16 * t.depth ≤ length one.moved = omega (arith, p.completions) in
-    ap (λ m. bytes_at m from i) one.bytes ∙ completion_keeps one.moved (now t w).completion posted from i (omega (arith, deep.0)) inside apart
+    ap (λ m. bytes_at m from i) one.bytes ∙ completion_keeps one.moved (now t w).completion posted
+    from i (omega (arith, deep.0)) inside apart
     ∙ moved_keeps t x a w.mem one.moved from i some own.enough one.moves outside
 
-one_more : (t : Setting) (s : State) (w : World) (y : Scene) (d : Sent) → Keeps t s w → w.done < w.rung → w.done + 1 < w.told + t.depth
+one_more : (t : Setting) (s : State) (w : World) (y : Scene) (d : Sent) → Keeps t s w
+    → w.done < w.rung → w.done + 1 < w.told + t.depth
     → IsDone t w (get_or w.sent w.done d) y → Keeps t s (world_after t w y)
 one_more t s w y d k waits free one =
     let c = k.counts in
@@ -81,18 +85,24 @@ one_more t s w y d k waits free one =
     let ring = (now t w).completion in
     let posted = completion_with x.cid (slot t (n + 1)) a in
     let head = slot_inside t (n + 1) (omega (arith, deep.0)) in
-    let fits : CqeFits posted = completion_fits x.command x.cid (slot t (n + 1)) a own.cid (omega (arith, deep.1)) sound in
-    let size : length one.moved ≡ length w.mem = length_moved x.command (places t.page_size x) a w.mem one.moved one.moves in
+    let fits : CqeFits posted = completion_fits x.command x.cid (slot t (n + 1)) a own.cid
+    (omega (arith, deep.1)) sound in
+    let size : length one.moved ≡ length w.mem =
+    length_moved x.command (places t.page_size x) a w.mem one.moved one.moves in
     let inside : t.cq + 16 * t.depth ≤ length one.moved = omega (arith, p.completions) in
     let len : length y.bytes ≡ length w.mem =
-    ap (λ (m : List ℕ). length m) one.bytes ∙ length-with_completion one.moved ring posted (omega (arith, deep.0)) inside ∙ size in
+    ap (λ (m : List ℕ). length m) one.bytes ∙ length-with_completion one.moved ring posted
+    (omega (arith, deep.0)) inside ∙ size in
     let written : WritesCompletion one.moved y.bytes t.cq t.depth (slot t n) (posted_as t.depth (number t n) posted) =
-    subst (λ m. WritesCompletion one.moved m t.cq t.depth (slot t n) (posted_as t.depth (number t n) posted)) (sym one.bytes)
+    subst (λ m. WritesCompletion one.moved m t.cq t.depth (slot t n)
+    (posted_as t.depth (number t n) posted)) (sym one.bytes)
     (put_written one.moved ring posted (omega (arith, deep.0)) inside fits) in
     let only : ChangesOnlyAt t x t.cq (16 * t.depth) w.mem y.bytes = entry_only t s w x y k own one in
     let there : completion_at y.bytes t.cq (slot t n) ≡ posted_as t.depth (number t n) posted = written.here in
-    let same_slot = λ (j : ℕ) (low : j < t.depth). moved_slot t x a w.mem one.moved j some own.enough one.moves own.completions low in
-    let beside : ChangesOnly t.cq (16 * t.depth) one.moved y.bytes = λ from i apart. ap (λ m. bytes_at m from i) one.bytes
+    let same_slot = λ (j : ℕ) (low : j < t.depth).
+    moved_slot t x a w.mem one.moved j some own.enough one.moves own.completions low in
+    let beside : ChangesOnly t.cq (16 * t.depth) one.moved y.bytes =
+    λ from i apart. ap (λ m. bytes_at m from i) one.bytes
     ∙ completion_keeps one.moved ring posted from i (omega (arith, deep.0)) inside apart in
     let same_data = data_beside t x t.cq (16 * t.depth) one.moved y.bytes some own.enough own.completions beside in
     let moved_own = moved_list t x a w.mem one.moved some own.enough own.pages one.moves in
@@ -104,7 +114,9 @@ one_more t s w y d k waits free one =
       in_second = λ many. rest.in_second many ∙ moved_own.in_second many;
     } in
     let is_answer = λ (b : Answer).
-    answer_at t.controller s w.sent n d b below ∙ ap (λ (q : State). answer_received x.command (step q t.controller x.command x.cid).answer) (sym k.state) in
+    answer_at t.controller s w.sent n d b below ∙ ap
+    (λ (q : State). answer_received x.command (step q t.controller x.command x.cid).answer)
+    (sym k.state) in
     let held_now : Holds t s (world_after t w y) n x = record {
       answer = λ b. ap (answer_read t.page_size x y.bytes) there
           ∙ answer_back t x y.bytes t.depth (number t n) x.cid (slot t (n + 1)) a own.can.sends sound
@@ -121,12 +133,25 @@ one_more t s w y d k waits free one =
         submissions = omega (arith, p.submissions);
         completions = omega (arith, p.completions);
       };
-      counts = record { told = c.told; collected = omega (arith, c.collected); done = omega arith; rung = c.rung; few = c.few; free = free };
+      counts = record {
+        told = c.told;
+        collected = omega (arith, c.collected);
+        done = omega arith;
+        rung = c.rung;
+        few = c.few;
+        free = free;
+      };
       port = refl;
-      state = one.state ∙ ap (λ (q : State). (step q t.controller x.command x.cid).state) k.state ∙ sym (after_more t.controller s w.sent n d below);
+      state = one.state ∙ ap (λ (q : State). (step q t.controller x.command x.cid).state) k.state
+          ∙ sym (after_more t.controller s w.sent n d below);
       well_formed = subst IsWellFormed (sym one.state)
           (step_keeps w.state t.controller x.command x.cid (nsid_fits x.command own.can.fits) own.cid k.well_formed);
-      controller = omega (arith, k.controller, ap (λ (q : State). length q.controllers) one.state, step_controllers w.state t.controller x.command x.cid);
+      controller = omega (
+        arith,
+        k.controller,
+        ap (λ (q : State). length q.controllers) one.state,
+        step_controllers w.state t.controller x.command x.cid,
+      );
       own = λ i e from high. subst (λ j. IsOwn t j (get_or w.sent i e)) (sym len) (k.own i e from high);
       apart = k.apart;
       named = λ i e from high.
@@ -137,9 +162,11 @@ one_more t s w y d k waits free one =
             | inl same ↦ subst (λ q. KeepsList (pointed t.page_size q w.mem) q.first q.second y.bytes)
                 (sym (ap (λ j. get_or w.sent j e) same ∙ get_or_default w.sent n e d below)) own_list
             | inr (inl before) ↦ list_stays t x z t.cq (16 * t.depth) w.mem y.bytes len only
-                (subst (AreApart z) (get_or_default w.sent n e d below) (k.apart i n e from before below)) other.completions
+                (subst (AreApart z) (get_or_default w.sent n e d below)
+                (k.apart i n e from before below)) other.completions
             | inr (inr behind) ↦ list_stays t x z t.cq (16 * t.depth) w.mem y.bytes len only
-                (apart-sym x z (subst (λ q. AreApart q z) (get_or_default w.sent n e d below) (k.apart n i e c.collected behind high))) other.completions
+                (apart-sym x z (subst (λ q. AreApart q z) (get_or_default w.sent n e d below)
+                (k.apart n i e c.collected behind high))) other.completions
           ])
           (k.named i e from high);
       waiting = λ i e from high.
@@ -164,16 +191,21 @@ one_more t s w y d k waits free one =
             let other = k.own i e from early in
             let low = slot_inside t i (omega (arith, deep.0)) in
             holds_on t s w (world_after t w y) i z
-            (written.others (slot t i) low (λ same. slots_differ t i n earlier (omega (arith, c.few, c.rung)) (sym same)) ∙ same_slot (slot t i) low)
-            (data_stays t x z t.cq (16 * t.depth) w.mem y.bytes some other.enough only (subst (λ q. AreApart z q) (get_or_default w.sent n e d below) (k.apart i n e from earlier below)) other.completions)
+            (written.others (slot t i) low (λ same. slots_differ t i n earlier
+            (omega (arith, c.few, c.rung)) (sym same)) ∙ same_slot (slot t i) low)
+            (data_stays t x z t.cq (16 * t.depth) w.mem y.bytes some other.enough only
+            (subst (λ q. AreApart z q) (get_or_default w.sent n e d below)
+            (k.apart i n e from earlier below)) other.completions)
             (λ b. refl) (k.held i e from earlier)
         | inr later ↦
             let is : i ≡ n = omega arith in
             let same = ap (λ j. get_or w.sent j e) is ∙ get_or_default w.sent n e d below in
-            subst (Holds t s (world_after t w y) i) (sym same) (subst (λ j. Holds t s (world_after t w y) j x) (sym is) held_now)
+            subst (Holds t s (world_after t w y) i) (sym same)
+            (subst (λ j. Holds t s (world_after t w y) j x) (sym is) held_now)
       ];
       tags = subst (HoldsTags y.bytes t.cq t.depth) (number_next t n)
-          (tags_after one.moved y.bytes t.cq t.depth (number t n) posted (number_below t n (omega (arith, deep.0))) written
+          (tags_after one.moved y.bytes t.cq t.depth (number t n) posted
+          (number_below t n (omega (arith, deep.0))) written
           (λ j low. ap (λ (q : Cqe). q.phase) (same_slot j low) ∙ k.tags j low));
       answers = k.answers;
     }
@@ -192,5 +224,6 @@ entry_others t s w y d k takes from n apart =
     let c = k.counts in
     let go = can_go t s w k takes.can in
     let below : w.done < length w.sent = omega (arith, go.0, c.rung) in
-    entry_only t s w (get_or w.sent w.done d) y k (k.own w.done d c.collected below) (is_done t s w y d k below takes.one)
+    entry_only t s w (get_or w.sent w.done d) y k (k.own w.done d c.collected below)
+    (is_done t s w y d k below takes.one)
     from n (apart.pages w.done d c.collected below) apart.completions

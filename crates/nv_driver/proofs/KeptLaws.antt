@@ -20,7 +20,8 @@ use Rattle.nv_driver.proofs.SerialLaws.{length-answers}
 
 pub number_zero : (t : Setting) → t.start < 2 * t.depth → t.start ≡ number t 0
 unfolding kept_number
-number_zero t h = let sum : t.start + 0 ≡ t.start = omega arith in sym (ap (λ n. n % (2 * t.depth)) sum ∙ mod-eq_of_lt h)
+number_zero t h = let sum : t.start + 0 ≡ t.start =
+    omega arith in sym (ap (λ n. n % (2 * t.depth)) sum ∙ mod-eq_of_lt h)
 
 pub idle_keeps : (t : Setting) (w : World) → IsIdle t w → Keeps t w.state w
 idle_keeps t w i =
@@ -60,7 +61,8 @@ idle_keeps t w i =
 -- ---- doorbells change a count and the registers
 
 told_otherwise : (t : Setting) (s : State) (w : World) (rung told : ℕ) (port : Port) → Keeps t s w
-    → AreInOrder t.depth (length w.answers) w.done rung (length w.sent) told → port ≡ port_with t (device_rings t rung w.done told)
+    → AreInOrder t.depth (length w.answers) w.done rung (length w.sent) told
+    → port ≡ port_with t (device_rings t rung w.done told)
     → Keeps t s (record w { port = port; rung = rung; told = told })
 told_otherwise t s w rung told port k counts is = record {
   placed = k.placed;
@@ -85,7 +87,14 @@ bell_keeps t s w w' k happens =
     let m = length w.sent in
     subst (Keeps t s) (sym happens)
     (told_otherwise t s w m w.told _ k
-    (record { told = c.told; collected = c.collected; done = omega (arith, c.done, c.rung); rung = omega arith; few = c.few; free = c.free })
+    (record {
+      told = c.told;
+      collected = c.collected;
+      done = omega (arith, c.done, c.rung);
+      rung = omega arith;
+      few = c.few;
+      free = c.free;
+    })
     (ap (λ p. with_register_at p 0x1000 (slot t m)) k.port
     ∙ tail_rung t w.rung w.done w.told m (omega (arith, c.done, c.rung)) (omega (arith, c.few, c.collected))))
 
@@ -95,8 +104,16 @@ tell_keeps t s w w' k happens =
     let n = length w.answers in
     subst (Keeps t s) (sym happens)
     (told_otherwise t s w w.rung n _ k
-    (record { told = omega arith; collected = c.collected; done = c.done; rung = c.rung; few = c.few; free = omega (arith, c.few, c.done, c.rung) })
-    (ap (λ p. with_register_at p 0x1004 (slot t n)) k.port ∙ head_told t w.rung w.done w.told n c.told c.collected c.free))
+    (record {
+      told = omega arith;
+      collected = c.collected;
+      done = c.done;
+      rung = c.rung;
+      few = c.few;
+      free = omega (arith, c.few, c.done, c.rung);
+    })
+    (ap (λ p. with_register_at p 0x1004 (slot t n)) k.port
+    ∙ head_told t w.rung w.done w.told n c.told c.collected c.free))
 
 -- ---- an answer is collected
 
@@ -108,12 +125,15 @@ posted t w d k some low tags there =
       | inl l ↦ l
       | inr g ↦
           let same : k ≡ d = omega arith in
-          let here = tags (slot t d) (slot_inside t d some) ∙ tag_below_here t.depth (number t d) (number_below t d some) in
-          absurd (not_own _ _ here (subst (λ n. (completion_at w.mem t.cq (slot t n)).phase ≡ phase_of t.depth (number t n)) same there))
+          let here = tags (slot t d) (slot_inside t d some)
+          ∙ tag_below_here t.depth (number t d) (number_below t d some) in
+          absurd (not_own _ _ here (subst (λ n. (completion_at w.mem t.cq (slot t n)).phase ≡
+          phase_of t.depth (number t n)) same there))
     ]
 
 -- and there it is
-awaited_there : (t : Setting) (s : State) (w : World) → Keeps t s w → length w.answers < w.done → IsAwaitedThere w.mem (awaited t w)
+awaited_there : (t : Setting) (s : State) (w : World) → Keeps t s w → length w.answers < w.done
+    → IsAwaitedThere w.mem (awaited t w)
 awaited_there t s w k more =
     let c = k.counts in
     let deep = k.placed.deep in
@@ -125,7 +145,8 @@ awaited_there t s w k more =
     (omega (arith, far, c.done, c.rung, c.few))
     (λ same. numbers_differ t n w.done more (omega (arith, c.done, c.rung, c.few)) (sym same))
 
-pub is_found : (t : Setting) (s : State) (w : World) → Keeps t s w → IsAwaitedThere w.mem (awaited t w) ↔ (length w.answers < w.done)
+pub is_found : (t : Setting) (s : State) (w : World) → Keeps t s w
+    → IsAwaitedThere w.mem (awaited t w) ↔ (length w.answers < w.done)
 is_found t s w k = (
   posted t w w.done (length w.answers) (let deep = k.placed.deep in omega (arith, deep.0)) k.counts.collected k.tags,
   awaited_there t s w k,
@@ -160,7 +181,8 @@ collected_one t s w d k below =
       named = λ i e from high. k.named i e (omega arith) high;
       waiting = k.waiting;
       to_send = k.to_send;
-      held = λ i e from high. let h = k.held i e (omega arith) high in record { answer = h.answer; cid = h.cid; head = h.head };
+      held = λ i e from high. let h = k.held i e (omega arith) high
+          in record { answer = h.answer; cid = h.cid; head = h.head };
       tags = k.tags;
       answers = ap (λ xs. xs ++ a ∷ []) k.answers ∙ ap (λ x. take n all ++ x ∷ []) is
           ∙ sym (take_more all n a (omega (arith, c.done, c.rung)))

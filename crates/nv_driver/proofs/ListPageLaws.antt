@@ -12,9 +12,11 @@ use Rattle.nv_driver.proofs.RegionLaws.{ChangesOnlyAt, length-places, other_page
 -- a page of the list stays
 abbrev Stays : ℕ → Sent → List ℕ → List ℕ → ℕ → Type 0
 Stays page_size x old new i =
-    bytes_at new (get_or (own_pages x) i 0 * page_size) page_size ≡ bytes_at old (get_or (own_pages x) i 0 * page_size) page_size
+    bytes_at new (get_or (own_pages x) i 0 * page_size) page_size ≡ bytes_at old
+    (get_or (own_pages x) i 0 * page_size) page_size
 
-both_stay : (page_size : ℕ) (x : Sent) (old new : List ℕ) → length new ≡ length old → ((i : ℕ) → i < 2 → Stays page_size x old new i)
+both_stay : (page_size : ℕ) (x : Sent) (old new : List ℕ) → length new ≡ length old
+    → ((i : ℕ) → i < 2 → Stays page_size x old new i)
     → KeepsList (pointed page_size x old) x.first x.second new
 both_stay page_size x old new len same = record {
   len = len;
@@ -26,8 +28,10 @@ both_stay page_size x old new len same = record {
 whole_page : (page_size p q : ℕ) → p ≢ q → IsOutside page_size q (p * page_size) page_size
 whole_page page_size p q differ =
     elim (cases_lt p q) [
-      | inl l ↦ let before : p + 1 ≤ q = omega arith in let near = mul-le-mul_right page_size before in inl (omega arith)
-      | inr g ↦ let after : q + 1 ≤ p = omega (arith, differ) in let near = mul-le-mul_right page_size after in inr (omega arith)
+      | inl l ↦ let before : p + 1 ≤ q = omega arith in let near =
+          mul-le-mul_right page_size before in inl (omega arith)
+      | inr g ↦ let after : q + 1 ≤ p = omega (arith, differ) in let near =
+          mul-le-mul_right page_size after in inr (omega arith)
     ]
 
 -- where the command's own data is written
@@ -54,7 +58,8 @@ beside page_size page base n (inr behind) = inl behind
 
 -- where only bytes that its pages are outside of are other ones
 pub list_beside : (t : Setting) (x : Sent) (base n : ℕ) (old new : List ℕ) → length new ≡ length old
-    → AreOutside t.page_size x base n → ChangesOnly base n old new → KeepsList (pointed t.page_size x old) x.first x.second new
+    → AreOutside t.page_size x base n → ChangesOnly base n old new
+    → KeepsList (pointed t.page_size x old) x.first x.second new
 list_beside t x base n old new len outside only =
     both_stay t.page_size x old new len
     (λ i low. let page = get_or (own_pages x) i 0 in

@@ -58,7 +58,8 @@ lane_at : (g : Geometry) (n i : ℕ) (d : Lane) → i < n → slice_index_or (la
 lane_at g n i d h = get_or-map-range_with_len (lane_of g) 0 n i i d h (zero-add i)
 
 -- the lane of controller i
-pub lane_is : (g : Geometry) (n i : ℕ) (ls : List LaneFields) (l : LaneFields) → map lane_value ls ≡ lanes_of g n → i < n → i < length ls
+pub lane_is : (g : Geometry) (n i : ℕ) (ls : List LaneFields) (l : LaneFields)
+    → map lane_value ls ≡ lanes_of g n → i < n → i < length ls
     → l ≡ slice_index_or ls i l → lane_value l ≡ lane_of g i
 lane_is g n i ls l are h below here =
     ap lane_value here ∙ sym (get_or-map lane_value ls i l (lane_value l) below)
@@ -71,17 +72,20 @@ lane_count g n ls are =
 -- ---- zeroed completion rings
 
 -- those of the lanes below stay so where that of lane c is zeroed too
-pub tags_more : (g : Geometry) (n c : ℕ) (old new : List ℕ) → IsGeometry g → c < n → length old ≡ pages_of g n * g.page_size
+pub tags_more : (g : Geometry) (n c : ℕ) (old new : List ℕ) → IsGeometry g → c < n
+    → length old ≡ pages_of g n * g.page_size
     → KeepsOthers g.page_size (lane_of g c) old new → HoldsTags new (lane_of g c).cq g.depth 0
     → ((k : ℕ) → k < c → HoldsTags old (lane_of g k).cq g.depth 0)
     → (k : ℕ) → k < c + 1 → HoldsTags new (lane_of g k).cq g.depth 0
 tags_more g n c old new is h size keeps own tags =
     below_more (λ k. HoldsTags new (lane_of g k).cq g.depth 0) c
     (λ k l. slots_stay g.page_size old new (lane_of g c) (lane_of g k) keeps
-    (lane_laid g n k (length old) is (omega arith) size) (lane_laid g n c (length old) is h size) (inl (lane_ends g k c l)) (tags k l))
+    (lane_laid g n k (length old) is (omega arith) size) (lane_laid g n c (length old) is h size)
+    (inl (lane_ends g k c l)) (tags k l))
     own
 
-pub settled_at_first : (g : Geometry) (n : ℕ) (bytes : List ℕ) → IsGeometry g → length bytes ≡ pages_of g n * g.page_size
+pub settled_at_first : (g : Geometry) (n : ℕ) (bytes : List ℕ) → IsGeometry g
+    → length bytes ≡ pages_of g n * g.page_size
     → ((k : ℕ) → k < n → HoldsTags bytes (lane_of g k).cq g.depth 0) → IsSettled g.page_size bytes (lanes_of g n)
 settled_at_first g n bytes is size tags =
     let many : length (lanes_of g n) ≡ n = length-map-range_with_len (lane_of g) 0 n in
@@ -95,7 +99,8 @@ settled_at_first g n bytes is size tags =
 
 -- a new memory of so many pages
 pub memory_size : (g : Geometry) (n m pages : ℕ) (mem : PagedBytes) → pages ≡ pages_of g m → m ≡ n
-    → mem ≡ record { page_size = g.page_size; bytes = replicate (pages * g.page_size) 0 } → length mem.bytes ≡ pages_of g n * g.page_size
+    → mem ≡ record { page_size = g.page_size; bytes = replicate (pages * g.page_size) 0 }
+    → length mem.bytes ≡ pages_of g n * g.page_size
 memory_size g n m pages mem are same made =
     ap (λ (x : PagedBytes). length x.bytes) made ∙ length-replicate (pages * g.page_size) 0
     ∙ ap (λ x. x * g.page_size) (are ∙ ap (pages_of g) same)
@@ -104,16 +109,20 @@ page_count_is : (g : Geometry) (n : ℕ) (mem : PagedBytes) → IsGeometry g →
     → length mem.bytes ≡ pages_of g n * g.page_size → page_count mem ≡ pages_of g n
 page_count_is g n mem is page size =
     let bounds = page_size_bounds g.page_size is.page_size in
-    ap (λ x. x / mem.page_size) size ∙ ap (λ x. pages_of g n * g.page_size / x) page ∙ mul-div_cancel (pages_of g n) (omega arith)
+    ap (λ x. x / mem.page_size) size ∙ ap (λ x. pages_of g n * g.page_size / x) page
+    ∙ mul-div_cancel (pages_of g n) (omega arith)
 
 -- a driver of n controllers
 pub record IsFirst (g : Geometry) (n : ℕ) (mem : PagedBytes) (lanes : List LaneFields) : Type 0 where
   pub driver : IsDriver g mem lanes
   pub value : driver_value g mem lanes ≡ new_driver g n
 
-pub driver_at_first : (g : Geometry) (n m pages : ℕ) (made mem : PagedBytes) (lanes : List LaneFields) → IsGeometry g → m ≡ n → pages ≡ pages_of g m → pages < 2 ^ 32
-    → made ≡ record { page_size = g.page_size; bytes = replicate (pages * g.page_size) 0 } → mem.page_size ≡ made.page_size
-    → length mem.bytes ≡ length made.bytes → All IsQuiet lanes → map lane_value lanes ≡ lanes_of g m → IsSettled g.page_size mem.bytes (lanes_of g n)
+pub driver_at_first : (g : Geometry) (n m pages : ℕ) (made mem : PagedBytes)
+    (lanes : List LaneFields) → IsGeometry g → m ≡ n → pages ≡ pages_of g m → pages < 2 ^ 32
+    → made ≡ record { page_size = g.page_size; bytes = replicate (pages * g.page_size) 0 }
+    → mem.page_size ≡ made.page_size
+    → length mem.bytes ≡ length made.bytes → All IsQuiet lanes → map lane_value lanes ≡ lanes_of g m
+    → IsSettled g.page_size mem.bytes (lanes_of g n)
     → IsFirst g n mem lanes
 driver_at_first g n m pages made mem lanes is same are few zeros keeps_page keeps_size quiet lanes_are settled =
     let page = keeps_page ∙ ap (λ (x : PagedBytes). x.page_size) zeros in

@@ -42,11 +42,15 @@ in_of (x ∷ ps) (suc i) d q h e = ap (λ b. nat_eq x q || b) (in_of ps i d q (o
 pub not_in : (ps : List ℕ) (q : ℕ) → ((i d : ℕ) → i < length ps → get_or ps i d ≢ q) → is_in ps q ≡ false
 not_in ps q each = list_any_none (λ y. nat_eq y q) ps (λ i d h. grind (arith, nat_tests, each i d h))
 
-pub difference_in : (s : Numbers) (ps : List ℕ) (q : ℕ) → set.contains (set.difference s (set.from_list ps)) q ≡ (set.contains s q && not (is_in ps q))
-difference_in s ps q = set.contains-difference nat_cmp_total s (set.from_list ps) q ∙ ap (λ b. set.contains s q && not b) (set.contains-from_list_nat ps q)
+pub difference_in : (s : Numbers) (ps : List ℕ) (q : ℕ)
+    → set.contains (set.difference s (set.from_list ps)) q ≡ (set.contains s q && not (is_in ps q))
+difference_in s ps q = set.contains-difference nat_cmp_total s (set.from_list ps) q
+    ∙ ap (λ b. set.contains s q && not b) (set.contains-from_list_nat ps q)
 
-pub union_in : (s : Numbers) (ps : List ℕ) (q : ℕ) → set.contains (set.union s (set.from_list ps)) q ≡ (set.contains s q || is_in ps q)
-union_in s ps q = set.contains-union nat_cmp_total s (set.from_list ps) q ∙ ap (λ b. set.contains s q || b) (set.contains-from_list_nat ps q)
+pub union_in : (s : Numbers) (ps : List ℕ) (q : ℕ)
+    → set.contains (set.union s (set.from_list ps)) q ≡ (set.contains s q || is_in ps q)
+union_in s ps q = set.contains-union nat_cmp_total s (set.from_list ps) q
+    ∙ ap (λ b. set.contains s q || b) (set.contains-from_list_nat ps q)
 
 pub same_numbers : (a b : Numbers) → ((q : ℕ) → set.contains a q ≡ set.contains b q) → a ≡ b
 same_numbers a b each = set.same_set nat_cmp_total nat_cmp-IsAntisymmetric a b each
@@ -66,7 +70,9 @@ taking_none s = record {
     had = λ i d h. absurd (omega arith);
     distinct = λ i k d h j. absurd (omega arith);
   };
-  left = ap (λ m. record s { members = m }) (same_numbers s.members (set.difference s.members (set.from_list [])) (λ q. sym (difference_in s.members [] q ∙ and_true (set.contains s.members q))));
+  left = ap (λ m. record s { members = m }) (same_numbers s.members
+      (set.difference s.members (set.from_list []))
+      (λ q. sym (difference_in s.members [] q ∙ and_true (set.contains s.members q))));
   len = omega arith;
 }
   where
@@ -79,7 +85,8 @@ both true true e = absurd (cc)
 both true false e = (refl, refl)
 both false b e = absurd (cc)
 
-pub taking_more : (s now next : Pages) (ps : List ℕ) (p : ℕ) → Taking s now ps → set.contains now.members p ≡ true → IsOf s.first s.count p
+pub taking_more : (s now next : Pages) (ps : List ℕ) (p : ℕ) → Taking s now ps
+    → set.contains now.members p ≡ true → IsOf s.first s.count p
     → next ≡ record now { members = set.remove now.members p } → Taking s next (ps ++ p ∷ [])
 taking_more s now next ps p t there own is =
     let members = ap (λ (x : Pages). x.members) t.left in
@@ -99,8 +106,11 @@ taking_more s now next ps p t there own is =
           contains_of_remove (set.difference s.members (set.from_list ps)) p q
           ∙ ap (λ b. not (q == p) && b) (difference_in s.members ps q)
           ∙ moved (set.contains s.members q) (is_in ps q) (q == p)
-          ∙ sym (difference_in s.members (ps ++ p ∷ []) q ∙ ap (λ b. set.contains s.members q && not b) (in_push ps p q))));
-      len = fewer_one (set.contains now.members p) (set.len now.members) (length ps) (set.len s.members) _ _ there fewer (length-append ps (p ∷ [])) t.len (some now.members p there);
+          ∙ sym (difference_in s.members (ps ++ p ∷ []) q
+          ∙ ap (λ b. set.contains s.members q && not b) (in_push ps p q))));
+      len = fewer_one (set.contains now.members p) (set.len now.members) (length ps)
+          (set.len s.members) _ _ there fewer (length-append ps (p ∷ [])) t.len
+          (some now.members p there);
     }
   where
     differ : (b : Bool) → b ≡ true → b ≡ false → ⊥
@@ -121,15 +131,18 @@ taking_more s now next ps p t there own is =
           | inl l ↦ l
           | inr g ↦
               let none = set.empty_of_len m (omega arith) in
-              absurd (differ (set.contains m q) e (ap (λ (x : Numbers). set.contains x q) none ∙ set.contains-empty nat_cmp q))
+              absurd (differ (set.contains m q) e (ap (λ (x : Numbers). set.contains x q) none
+              ∙ set.contains-empty nat_cmp q))
         ]
 
-    fewer_one : (b : Bool) (n k all fewer more : ℕ) → b ≡ true → fewer ≡ cond b (n - 1) n → more ≡ k + 1 → n + k ≡ all → 0 < n → fewer + more ≡ all
+    fewer_one : (b : Bool) (n k all fewer more : ℕ) → b ≡ true → fewer ≡ cond b (n - 1) n
+        → more ≡ k + 1 → n + k ≡ all → 0 < n → fewer + more ≡ all
     fewer_one true n k all fewer more there e f sum pos = omega arith
     fewer_one false n k all fewer more there e f sum pos = absurd (cc)
 
 -- a set with as many members left has one
-pub has_one : (s now : Pages) (ps : List ℕ) (all : ℕ) → Taking s now ps → length ps < all → all ≤ set.len s.members → now.members ≢ set.empty
+pub has_one : (s now : Pages) (ps : List ℕ) (all : ℕ) → Taking s now ps → length ps < all
+    → all ≤ set.len s.members → now.members ≢ set.empty
 has_one s now ps all t below enough = λ none.
     let no = ap (λ (m : Numbers). set.len m) none ∙ set.len-empty nat_cmp in omega (arith, t.len)
 
@@ -147,7 +160,8 @@ pub taking_next : (s now new : Pages) (ps : List ℕ) (r : Option ℕ) (p : ℕ)
 taking_next s now new ps r p t is found own =
     let one = subst (λ (o : Option ℕ). MatchOption o ((now.members ≡ set.empty) × (new ≡ now))
     (λ q. (set.contains now.members q ≡ true) × (new ≡ record now { members = set.remove now.members q }))) is found in
-    let of_now : IsOf now.first now.count p = subst (λ (o : Option ℕ). IfSome o (λ q. IsOf now.first now.count q)) is own in
+    let of_now : IsOf now.first now.count p = subst
+    (λ (o : Option ℕ). IfSome o (λ q. IsOf now.first now.count q)) is own in
     let of_all : IsOf s.first s.count p = subst (λ (x : Pages). IsOf x.first x.count p) t.left of_now in
     taking_more s now new ps p t one.0 of_all one.1
 
@@ -155,13 +169,15 @@ taking_next s now new ps r p t is found own =
 
 pub giving_none : (s : Pages) → s ≡ with_pages s []
 giving_none s = ap (λ m. record s { members = m })
-    (same_numbers s.members (set.union s.members (set.from_list [])) (λ q. sym (union_in s.members [] q ∙ or_false (set.contains s.members q))))
+    (same_numbers s.members (set.union s.members (set.from_list []))
+    (λ q. sym (union_in s.members [] q ∙ or_false (set.contains s.members q))))
   where
     or_false : (a : Bool) → (a || false) ≡ a
     or_false true = refl
     or_false false = refl
 
-pub giving_more : (s now next : Pages) (ps : List ℕ) (p : ℕ) → now ≡ with_pages s ps → next ≡ record now { members = set.insert now.members p }
+pub giving_more : (s now next : Pages) (ps : List ℕ) (p : ℕ) → now ≡ with_pages s ps
+    → next ≡ record now { members = set.insert now.members p }
     → next ≡ with_pages s (ps ++ p ∷ [])
 giving_more s now next ps p is more =
     more ∙ ap (λ (x : Pages). record x { members = set.insert x.members p }) is
@@ -203,32 +219,43 @@ not_given s now pages at is below none distinct =
 -- the numbers before a set's end
 in_consecutive : (first count q : ℕ) → is_in (consecutive first count) q ≡ true → (first ≤ q) × (q < first + count)
 in_consecutive first zero q e = absurd (cc)
-in_consecutive first (suc count) q e = next_or (λ f. in_consecutive first count q f) (is_in (consecutive first count) q) (q == first + count) refl refl (sym (in_push (consecutive first count) (first + count) q) ∙ e)
+in_consecutive first (suc count) q e = next_or (λ f. in_consecutive first count q f)
+    (is_in (consecutive first count) q) (q == first + count) refl refl
+    (sym (in_push (consecutive first count) (first + count) q) ∙ e)
   where
-    next_or : (is_in (consecutive first count) q ≡ true → (first ≤ q) × (q < first + count)) → (a b : Bool) → is_in (consecutive first count) q ≡ a → (q == first + count) ≡ b → (a || b) ≡ true → (first ≤ q) × (q < first + suc count)
+    next_or : (is_in (consecutive first count) q ≡ true → (first ≤ q) × (q < first + count))
+        → (a b : Bool) → is_in (consecutive first count) q ≡ a → (q == first + count) ≡ b
+        → (a || b) ≡ true → (first ≤ q) × (q < first + suc count)
     next_or before true b e f t = let h = before e in (h.0, omega (arith, h.1))
-    next_or before false true e f t = let same : q ≡ first + count = grind (arith, nat_tests, f) in (omega arith, omega arith)
+    next_or before false true e f t = let same : q ≡ first + count =
+        grind (arith, nat_tests, f) in (omega arith, omega arith)
     next_or before false false e f t = absurd (cc)
 
 pub full_length : (first count : ℕ) → set.len (set.from_list {R = nat_cmp} (consecutive first count)) ≡ count
 full_length first zero = set.len-empty nat_cmp
 full_length first (suc count) =
-    ap (λ (m : Numbers). set.len m) (set.from_list_push nat_cmp_total nat_cmp-IsAntisymmetric (consecutive first count) (first + count))
+    ap (λ (m : Numbers). set.len m) (set.from_list_push nat_cmp_total nat_cmp-IsAntisymmetric
+    (consecutive first count) (first + count))
     ∙ set.len-insert nat_cmp_total (set.from_list (consecutive first count)) (first + count)
-    ∙ one_more (set.contains (set.from_list {R = nat_cmp} (consecutive first count)) (first + count)) (set.len (set.from_list {R = nat_cmp} (consecutive first count)))
+    ∙ one_more (set.contains (set.from_list {R = nat_cmp} (consecutive first count))
+    (first + count)) (set.len (set.from_list {R = nat_cmp} (consecutive first count)))
     (set.contains-from_list_nat (consecutive first count) (first + count)) (full_length first count)
   where
-    one_more : (b : Bool) (n : ℕ) → b ≡ is_in (consecutive first count) (first + count) → n ≡ count → cond b n (n + 1) ≡ suc count
+    one_more : (b : Bool) (n : ℕ) → b ≡ is_in (consecutive first count) (first + count) → n ≡ count
+        → cond b n (n + 1) ≡ suc count
     one_more true n e l = absurd (let h = in_consecutive first count (first + count) (sym e) in omega arith)
     one_more false n e l = omega arith
 
 -- what holds of each element holds of one that is in the list
 pub in_all : (P : ℕ → Type 0) (pages : List ℕ) (q : ℕ) → All P pages → is_in pages q ≡ true → P q
 in_all P [] q each e = absurd (cc)
-in_all P (x ∷ pages) q each e = first_or (λ f. in_all P pages q (λ i d h. each (suc i) d (omega arith)) f) (nat_eq x q) (is_in pages q) refl refl e
+in_all P (x ∷ pages) q each e = first_or (λ f.
+    in_all P pages q (λ i d h. each (suc i) d (omega arith)) f) (nat_eq x q) (is_in pages q) refl refl
+    e
   where
     first_or : (is_in pages q ≡ true → P q) → (a b : Bool) → nat_eq x q ≡ a → is_in pages q ≡ b → (a || b) ≡ true → P q
-    first_or later true b same f t = let is : x ≡ q = grind (arith, nat_tests, same) in subst P is (each 0 0 (omega arith))
+    first_or later true b same f t = let is : x ≡ q =
+        grind (arith, nat_tests, same) in subst P is (each 0 0 (omega arith))
     first_or later false true same f t = later f
     first_or later false false same f t = absurd (cc)
 
@@ -250,9 +277,11 @@ taken_back s pages t =
     again q false true e f = absurd (let h = had q f in cc)
 
 -- a set has no page that was taken of it
-pub without_none : (s : Pages) (ps : List ℕ) (i d : ℕ) → i < length ps → set.contains (without s ps).members (get_or ps i d) ≡ false
+pub without_none : (s : Pages) (ps : List ℕ) (i d : ℕ) → i < length ps
+    → set.contains (without s ps).members (get_or ps i d) ≡ false
 without_none s ps i d h =
-    difference_in s.members ps (get_or ps i d) ∙ gone (set.contains s.members (get_or ps i d)) (is_in ps (get_or ps i d)) (in_of ps i d (get_or ps i d) h refl)
+    difference_in s.members ps (get_or ps i d) ∙ gone (set.contains s.members (get_or ps i d))
+    (is_in ps (get_or ps i d)) (in_of ps i d (get_or ps i d) h refl)
   where
     gone : (a b : Bool) → b ≡ true → (a && not b) ≡ false
     gone true true e = refl

@@ -26,7 +26,8 @@ use Rattle.nv_driver.proofs.RegionLaws.{length-places}
 -- ---- how many pages a command has
 
 -- in how many pages so many bytes lie
-pub enough_pages : (from len size pages : ℕ) → IsPageSize size → from < size → len ≤ 16384 → pages ≡ div_ceil (from + len) size
+pub enough_pages : (from len size pages : ℕ) → IsPageSize size → from < size → len ≤ 16384
+    → pages ≡ div_ceil (from + len) size
     → (from + len ≤ pages * size) × (pages + 2 ≤ pages_of_command size)
 enough_pages from len size pages is low most same =
     let some : 0 < size = omega (arith, page_size_bounds size is) in
@@ -77,7 +78,8 @@ names_in page_size x mem stays =
     (λ some. (is some).legal, named (pointed page_size x mem) x.pages x.offset is)
 
 -- in a later memory that keeps the list
-pub stays_in : (page_size : ℕ) (x : Sent) (mem later : List ℕ) → KeepsList (pointed page_size x mem) x.first x.second later
+pub stays_in : (page_size : ℕ) (x : Sent) (mem later : List ℕ)
+    → KeepsList (pointed page_size x mem) x.first x.second later
     → StaysNamed page_size x mem → StaysNamed page_size x later
 stays_in page_size x mem later keep stays some last next =
     stays some last (record {
@@ -104,7 +106,8 @@ call_by : (e : Sqe) (at : List ℕ) (k : Command) (page_size limit : ℕ) (mem :
 call_by e at k page_size limit mem m moves few page command = rw (moves, few, page, command) refl
 
 -- The entry decodes to its command, whose data lies in its pages.
-pub entry_call : (t : Setting) (x : Sent) (limit : ℕ) (mem : List ℕ) → 16384 ≤ limit → CanBeSent x.command → x.cid < 2 ^ 16
+pub entry_call : (t : Setting) (x : Sent) (limit : ℕ) (mem : List ℕ) → 16384 ≤ limit
+    → CanBeSent x.command → x.cid < 2 ^ 16
     → StaysNamed t.page_size x mem → HoldsSent t.page_size x mem
     → call_of t.page_size limit mem (entry x)
     ≡ Ok (record { command = x.command; places = places t.page_size x })
@@ -117,5 +120,6 @@ entry_call t x limit mem enough can cid stays holds =
     let found = places_by (transfer_by k) t.page_size mem (entry x) at (shape k can.sends)
     (length-places t.page_size x)
     (λ some. legal_places (pointed t.page_size x mem) at (names.0 some) (sym names.1)) in
-    call_by (entry x) at k t.page_size limit mem (transfer_by k) (arrives.transfer x.prp1 x.prp2) (within_few limit (transfer_by k) (omega arith)) found
+    call_by (entry x) at k t.page_size limit mem (transfer_by k) (arrives.transfer x.prp1 x.prp2)
+    (within_few limit (transfer_by k) (omega arith)) found
     (ap (command_of (entry x)) holds ∙ arrives.command x.prp1 x.prp2)

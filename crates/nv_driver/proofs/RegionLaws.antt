@@ -32,7 +32,8 @@ pub record InPage (page_size : ℕ) (pages : List ℕ) (place : ℕ) : Type 0 wh
   pub from : get_or pages index 0 * page_size ≤ place
   pub to : place < get_or pages index 0 * page_size + page_size
 
-pub place_page : (page_size : ℕ) (pages : List ℕ) (offset len k : ℕ) → 0 < page_size → offset + len ≤ length pages * page_size → k < len
+pub place_page : (page_size : ℕ) (pages : List ℕ) (offset len k : ℕ) → 0 < page_size
+    → offset + len ≤ length pages * page_size → k < len
     → InPage page_size pages (get_or (buffer_places page_size pages offset len) k 0)
 unfolding buffer_places buffer_place
 place_page page_size pages offset len k some enough below =
@@ -69,7 +70,8 @@ place_beside page_size x from n k some enough outside below =
     (outside (suc (suc page.index)) 0 (let h = page.is_one in omega arith))
 
 -- two pages that aren't one share no byte
-pub other_page : (page_size p q place : ℕ) → p ≢ q → p * page_size ≤ place → place < p * page_size + page_size → IsOutside page_size q place 1
+pub other_page : (page_size p q place : ℕ) → p ≢ q → p * page_size ≤ place
+    → place < p * page_size + page_size → IsOutside page_size q place 1
 other_page page_size p q place differ low high =
     elim (cases_lt p q) [
       | inl l ↦
@@ -81,7 +83,8 @@ other_page page_size p q place differ low high =
     ]
 
 -- where two commands have no page in common, the pages of the one are outside of each byte of the other's data
-pub place_outside : (t : Setting) (x y : Sent) (k : ℕ) → 0 < t.page_size → x.offset + data_length x ≤ length x.pages * t.page_size
+pub place_outside : (t : Setting) (x y : Sent) (k : ℕ) → 0 < t.page_size
+    → x.offset + data_length x ≤ length x.pages * t.page_size
     → AreApart x y → k < data_length x → AreOutside t.page_size y (get_or (places t.page_size x) k 0) 1
 place_outside t x y k some enough apart below i d inside =
     let page = place_page t.page_size x.pages x.offset (data_length x) k some enough below in
@@ -156,11 +159,13 @@ submission_keeps bytes ring c from n some inside apart =
 -- ---- what is read
 
 byte_at : (bytes : List ℕ) (from : ℕ) → get_or (bytes_at bytes from 1) 0 0 ≡ get_or bytes from 0
-byte_at bytes from = get_or-bytes_at bytes from 1 0 (omega arith) ∙ ap (λ k. get_or bytes k 0) (let e : from + 0 ≡ from = omega arith in e)
+byte_at bytes from = get_or-bytes_at bytes from 1 0 (omega arith)
+    ∙ ap (λ k. get_or bytes k 0) (let e : from + 0 ≡ from = omega arith in e)
 
 -- bytes that stay are read as before
 pub read_keeps : (old new at : List ℕ)
-    → ((k : ℕ) → k < length at → bytes_at new (get_or at k 0) 1 ≡ bytes_at old (get_or at k 0) 1) → read_at new at ≡ read_at old at
+    → ((k : ℕ) → k < length at → bytes_at new (get_or at k 0) 1 ≡ bytes_at old (get_or at k 0) 1)
+    → read_at new at ≡ read_at old at
 unfolding read_at
 read_keeps old new at same =
     let size = length-read_at new at in
@@ -190,7 +195,8 @@ data_beside t x base n old new some enough outside only =
 -- ---- what a command's pages and one ring change
 
 -- a part of what the pages are outside of
-pub outside_part : (t : Setting) (x : Sent) (from n a k : ℕ) → AreOutside t.page_size x from n → from ≤ a → a + k ≤ from + n → AreOutside t.page_size x a k
+pub outside_part : (t : Setting) (x : Sent) (from n a k : ℕ) → AreOutside t.page_size x from n
+    → from ≤ a → a + k ≤ from + n → AreOutside t.page_size x a k
 outside_part t x from n a k outside low high i d h =
     elim (outside i d h) [
       | inl before ↦ inl (omega arith)
@@ -225,7 +231,8 @@ ChangesOnlyAt t x base n old new =
 
 -- the data of another command stays
 pub data_stays : (t : Setting) (x y : Sent) (base n : ℕ) (old new : List ℕ) → 0 < t.page_size
-    → y.offset + data_length y ≤ length y.pages * t.page_size → ChangesOnlyAt t x base n old new → AreApart y x → AreOutside t.page_size y base n
+    → y.offset + data_length y ≤ length y.pages * t.page_size → ChangesOnlyAt t x base n old new
+    → AreApart y x → AreOutside t.page_size y base n
     → read_at new (places t.page_size y) ≡ read_at old (places t.page_size y)
 data_stays t x y base n old new some enough only apart outside =
     let size = length-places t.page_size y in

@@ -27,7 +27,8 @@ use Rattle.nv_driver.specs.declared.geometry.Geometry.{Geometry}
 -- ---- writes of one controller, one after another
 
 -- a controller's registers change twice
-pub set_twice : (a b e : List Port) (c : ℕ) (p q : Port) → b ≡ slice_set a c p → e ≡ slice_set b c q → e ≡ slice_set a c q
+pub set_twice : (a b e : List Port) (c : ℕ) (p q : Port) → b ≡ slice_set a c p → e ≡ slice_set b c q
+    → e ≡ slice_set a c q
 set_twice a b e c p q is more = more ∙ ap (λ x. slice_set x c q) is ∙ set-set a c p q
 
 -- to p and then to f p
@@ -75,7 +76,8 @@ queues_read : (m : ℕ) → m ≤ 4095 → aqa_of_dword (m * 65536 + m) ≡ reco
 queues_read m h =
     let first : bits 0 12 (m * 65536 + m) ≡ m = omega arith in
     let second : bits 16 12 (m * 65536 + m) ≡ m = omega arith in
-    ap (λ n. record { asqs = n; acqs = bits 16 12 (m * 65536 + m) }) first ∙ ap (λ n. record { asqs = m; acqs = n }) second
+    ap (λ n. record { asqs = n; acqs = bits 16 12 (m * 65536 + m) }) first
+    ∙ ap (λ n. record { asqs = m; acqs = n }) second
 
 -- an address by its two dwords
 address_read : (old address : ℕ) → with_high (with_low old (address % 2 ^ 32)) (address / 2 ^ 32) ≡ address
@@ -92,17 +94,22 @@ queues_by p m sq cq off deep =
     let attributes : AdminQueueAttributes = record { asqs = m; acqs = m } in
     let high = with_high (with_low p.asq (sq % 2 ^ 32)) (sq / 2 ^ 32) in
     let behind = with_high (with_low p.acq (cq % 2 ^ 32)) (cq / 2 ^ 32) in
-    ap (λ (r : Readiness). with_register_at (with_register_at (with_register_at (with_register_at (with_register_at (record p { readiness = r }) 0x24 (m * 65536 + m))
+    ap (λ (r : Readiness). with_register_at (with_register_at
+    (with_register_at (with_register_at (with_register_at (record p { readiness = r }) 0x24
+    (m * 65536 + m))
     0x28 (sq % 2 ^ 32)) 0x2c (sq / 2 ^ 32)) 0x30 (cq % 2 ^ 32)) 0x34 (cq / 2 ^ 32)) off
     ∙ ap (λ a. set a high behind) (queues_read m deep)
     ∙ ap (λ n. set attributes n behind) (address_read p.asq sq)
     ∙ ap (λ n. set attributes sq n) (address_read p.acq cq)
     ∙ ap (λ (r : Readiness). record (with_queues p m sq cq) { readiness = r }) (sym off)
 
-pub queues_written : (a b d e f k : List Port) (c m sq cq x s1 s2 q1 q2 : ℕ) → c < length a → (port_at a c).readiness ≡ Off → m ≤ 4095
+pub queues_written : (a b d e f k : List Port) (c m sq cq x s1 s2 q1 q2 : ℕ) → c < length a
+    → (port_at a c).readiness ≡ Off → m ≤ 4095
     → x ≡ m * 65536 + m → s1 ≡ sq % 2 ^ 32 → s2 ≡ sq / 2 ^ 32 → q1 ≡ cq % 2 ^ 32 → q2 ≡ cq / 2 ^ 32
-    → b ≡ slice_set a c (with_register_at (port_at a c) 0x24 x) → d ≡ slice_set b c (with_register_at (port_at b c) 0x28 s1)
-    → e ≡ slice_set d c (with_register_at (port_at d c) 0x2c s2) → f ≡ slice_set e c (with_register_at (port_at e c) 0x30 q1)
+    → b ≡ slice_set a c (with_register_at (port_at a c) 0x24 x)
+    → d ≡ slice_set b c (with_register_at (port_at b c) 0x28 s1)
+    → e ≡ slice_set d c (with_register_at (port_at d c) 0x2c s2)
+    → f ≡ slice_set e c (with_register_at (port_at e c) 0x30 q1)
     → k ≡ slice_set f c (with_register_at (port_at f c) 0x34 q2) → k ≡ slice_set a c (with_queues (port_at a c) m sq cq)
 queues_written a b d e f k c m sq cq x s1 s2 q1 q2 h off deep is low high behind above first second third fourth fifth =
     let w = λ (p : Port) (o v : ℕ). with_register_at p o v in
@@ -114,7 +121,8 @@ queues_written a b d e f k c m sq cq x s1 s2 q1 q2 h off deep is low high behind
     let to_two = then_own a b d c one (λ q. w q 0x28 s1) h first second in
     let to_three = then_own a d e c two (λ q. w q 0x2c s2) h to_two third in
     let to_four = then_own a e f c three (λ q. w q 0x30 q1) h to_three fourth in
-    let all : w four 0x34 q2 ≡ with_queues p m sq cq = rw (is, low, high, behind, above) (queues_by p m sq cq off deep) in
+    let all : w four 0x34 q2 ≡ with_queues p m sq cq =
+    rw (is, low, high, behind, above) (queues_by p m sq cq off deep) in
     then_own a f k c four (λ q. w q 0x34 q2) h to_four fifth ∙ ap (slice_set a c) all
 
 -- ---- EN is set
@@ -141,7 +149,12 @@ is_off_port p l has =
     ap (λ r. record p { readiness = r }) has.off
     ∙ ap (λ q. record p { readiness = Off; aqa = q }) has.aqa
     ∙ ap (λ n. record p { readiness = Off; aqa = record { asqs = l.depth - 1; acqs = l.depth - 1 }; asq = n }) has.asq
-    ∙ ap (λ n. record p { readiness = Off; aqa = record { asqs = l.depth - 1; acqs = l.depth - 1 }; asq = l.sq; acq = n }) has.acq
+    ∙ ap (λ n. record p {
+      readiness = Off;
+      aqa = record { asqs = l.depth - 1; acqs = l.depth - 1 };
+      asq = l.sq;
+      acq = n;
+    }) has.acq
 
 started_port : (p : Port) (g : Geometry) (i x : ℕ) → HasQueues (lane_of g i) p → IsGeometry g
     → x ≡ 0x00460001 + mps_of g.page_size * 128
@@ -154,7 +167,8 @@ started_port p g i x has is e =
     let behind = in_pages (i * lane_pages g + submission_pages g) g.page_size m size.0 in
     let back : g.depth - 1 + 1 ≡ g.depth = omega arith in
     let q = off_port (record { mps = m; iosqes = 6; iocqes = 4 }) (lane_of g i) in
-    let can : can_start q ≡ true = starts q m (g.depth - 1) refl size.1 refl refl (omega arith) (omega arith) at behind in
+    let can : can_start q ≡ true = starts q m (g.depth - 1) refl size.1 refl refl (omega arith)
+    (omega arith) at behind in
     ap (λ v. with_register_at v 0x14 x) (is_off_port p (lane_of g i) has)
     ∙ ap (with_cc (off_port p.sizes (lane_of g i))) (ap cc_of_dword e ∙ cc_written m size.1)
     ∙ ap (λ b. record q { readiness = if b then Ready (new_rings q) false else Failed }) can
@@ -168,7 +182,8 @@ started a b c g x has is value written = written ∙ ap (slice_set a c) (started
 -- and then it is ready
 pub is_started : (a e : List Port) (c : ℕ) (g : Geometry) (r : Result (Unit {0}) DriverError) → c < length a
     → e ≡ slice_set a c (idle_port (mps_of g.page_size) g.page_size (lane_of g c))
-    → MatchResult r (λ _. is_ready (port_at e c).readiness ≡ true) (λ _. is_ready (port_at e c).readiness ≢ true) → IsOk r
+    → MatchResult r (λ _. is_ready (port_at e c).readiness ≡ true)
+    (λ _. is_ready (port_at e c).readiness ≢ true) → IsOk r
 is_started a e c g (Ok x) h is found = refl
 is_started a e c g (Err x) h is found =
     let idle = idle_port (mps_of g.page_size) g.page_size (lane_of g c) in

@@ -22,30 +22,37 @@ use Rattle.nv_driver.specs.declared.geometry.Geometry.{Geometry}
 use Rattle.nv_driver.specs.declared.lane.Lane.{Lane as LaneFields}
 use Rattle.nv_driver.proofs.ZeroLaws.{zeroed_length, zeros}
 
-enabled_at : (ports : List Port) (c : ℕ) → c < length ports → slice_index_or (enabled_in ports) c false ≡ is_enabled (port_at ports c).readiness
+enabled_at : (ports : List Port) (c : ℕ) → c < length ports
+    → slice_index_or (enabled_in ports) c false ≡ is_enabled (port_at ports c).readiness
 enabled_at ports c h = get_or-map (λ (p : Port). is_enabled p.readiness) ports c new_port false h
 
 -- ---- each enabled one
 
 -- a controller more
-pub states_more : (a o : List Port) (s mid new : State) (c : ℕ) → c < length a → c < length o → port_at a c ≡ port_at o c
-    → mid ≡ reset_first (enabled_in o) c s → new ≡ reset_if (enabled_in a) mid c → new ≡ reset_first (enabled_in o) (c + 1) s
+pub states_more : (a o : List Port) (s mid new : State) (c : ℕ) → c < length a → c < length o
+    → port_at a c ≡ port_at o c
+    → mid ≡ reset_first (enabled_in o) c s → new ≡ reset_if (enabled_in a) mid c
+    → new ≡ reset_first (enabled_in o) (c + 1) s
 states_more a o s mid new c h k same before is =
     let enabled = enabled_at a c h ∙ ap (λ (p : Port). is_enabled p.readiness) same ∙ sym (enabled_at o c k) in
     is ∙ ap (λ (on : Bool). if on then reset mid c else mid) enabled ∙ ap (λ t. reset_if (enabled_in o) t c) before
     ∙ sym (reset_first_more (enabled_in o) c s)
 
-pub states_all : (o : List Port) (s new : State) (c : ℕ) → c ≡ length o → new ≡ reset_first (enabled_in o) c s → new ≡ reset_where (enabled_in o) s
+pub states_all : (o : List Port) (s new : State) (c : ℕ) → c ≡ length o
+    → new ≡ reset_first (enabled_in o) c s → new ≡ reset_where (enabled_in o) s
 states_all o s new c all is =
     is ∙ ap (λ n. reset_first (enabled_in o) n s) (all ∙ sym (length-map o (λ (p : Port). is_enabled p.readiness)))
 
 -- ---- a reset
 
 -- what a reset leaves of a quiet lane
-pub ready_again : {g : Geometry} {b b' : BusValue} {c : ℕ} {l l' : LaneFields} {now page : ℕ} {bytes mem : List ℕ} → IsReady g b c l now bytes
+pub ready_again : {g : Geometry} {b b' : BusValue} {c : ℕ} {l l' : LaneFields} {now page : ℕ}
+    {bytes mem : List ℕ} → IsReady g b c l now bytes
     → IsPlaced g c (lane_value l) → page ≡ now → IsQuiet l' → lane_value l' ≡ renewed_lane (lane_value l)
-    → mem ≡ with_bytes bytes l.completion.base (zeros l) → HoldsTags mem l.completion.base l.completion.depth 0 → IsBus b'
-    → b'.ports ≡ slice_set b.ports c (idle_port (mps_of g.page_size) g.page_size (lane_of g c)) → IsReady g b' c l' page mem
+    → mem ≡ with_bytes bytes l.completion.base (zeros l)
+    → HoldsTags mem l.completion.base l.completion.depth 0 → IsBus b'
+    → b'.ports ≡ slice_set b.ports c (idle_port (mps_of g.page_size) g.page_size (lane_of g c))
+    → IsReady g b' c l' page mem
 ready_again {g} {b} {b'} {c} {l} {l'} {now} {page} {bytes} {mem} r placed same quiet is zeroed tags bus ports =
     let laid = r.laid in
     let deep = laid.deep in
@@ -65,8 +72,14 @@ ready_again {g} {b} {b'} {c} {l} {l'} {now} {page} {bytes} {mem} r placed same q
         pages = laid.pages;
         inside = omega (arith, laid.inside, size);
       });
-      tags = subst (λ (v : Lane). HoldsTags mem v.cq v.depth v.number) (sym is) (subst (λ d. HoldsTags mem l.completion.base d 0) r.quiet.depth tags);
-      controller = omega (arith, r.controller, ap (λ (x : List Port). length x) ports, length-set b.ports c (idle (lane_of g c)));
+      tags = subst (λ (v : Lane). HoldsTags mem v.cq v.depth v.number) (sym is)
+          (subst (λ d. HoldsTags mem l.completion.base d 0) r.quiet.depth tags);
+      controller = omega (
+        arith,
+        r.controller,
+        ap (λ (x : List Port). length x) ports,
+        length-set b.ports c (idle (lane_of g c)),
+      );
       bus = bus;
       port = ap (λ x. port_at x c) ports ∙ get_or-set_same b.ports c (idle (lane_of g c)) new_port r.controller
           ∙ sym (ap idle (is ∙ ap renewed_lane placed));

@@ -33,7 +33,8 @@ ports_long ports new c p below is =
     let size = ap (λ (x : List Port). length x) is ∙ length-set ports c p in omega arith
 
 -- one controller's port is changed again
-pub set_again : (ports one two : List Port) (c : ℕ) (p q : Port) → c < length ports → one ≡ slice_set ports c p → two ≡ slice_set one c q
+pub set_again : (ports one two : List Port) (c : ℕ) (p q : Port) → c < length ports
+    → one ≡ slice_set ports c p → two ≡ slice_set one c q
     → two ≡ slice_set ports c (port_at two c)
 set_again ports one two c p q below first second =
     let all : two ≡ slice_set ports c q = second ∙ ap (λ x. slice_set x c q) first ∙ set-set ports c p q in
@@ -43,7 +44,8 @@ set_again ports one two c p q below first second =
 pub none_untold : (n : ℕ) → false ≡ not (n == n)
 none_untold n = grind (arith, nat_tests)
 
-module _ {r : Run} {bells turns : ℕ} {b : Batch} {l : LaneFields} {now : ℕ} {bytes : List ℕ} (u : IsUnderWay r bells turns b l now bytes) where
+module _ {r : Run} {bells turns : ℕ} {b : Batch} {l : LaneFields} {now : ℕ} {bytes : List ℕ}
+    (u : IsUnderWay r bells turns b l now bytes) where
   pub has_port : {told : ℕ} {bus : BusValue} → IsBusOf r bells turns told bus → r.controller < length bus.ports
   has_port {told} {bus} is = ports_long r.bus.ports bus.ports r.controller _ u.begun.controller is.ports
 
@@ -52,7 +54,11 @@ module _ {r : Run} {bells turns : ℕ} {b : Batch} {l : LaneFields} {now : ℕ} 
   pub rings : IsUnderWay r b.sent turns b l now bytes
   rings =
       let w = u.world in
-      let w' : World = record w { port = with_register_at w.port 0x1000 (slot (setting_of r) (length w.sent)); rung = length w.sent } in
+      let w' : World = record w {
+        port = with_register_at w.port 0x1000
+            (slot (setting_of r) (length w.sent));
+        rung = length w.sent;
+      } in
       record {
         begun = u.begun;
         can = u.can;
@@ -79,34 +85,49 @@ module _ {r : Run} {bells turns : ℕ} {b : Batch} {l : LaneFields} {now : ℕ} 
         own = u.own;
       }
 
-  pub bus_rings : {bus bus' : BusValue} {told c value tail : ℕ} → IsBusOf r bells turns told bus → c ≡ r.controller → value ≡ tail
-      → tail ≡ slot (setting_of r) b.sent → bus'.state ≡ bus.state → bus'.ports ≡ slice_set bus.ports c (with_register_at (port_at bus.ports c) 0x1000 value)
+  pub bus_rings : {bus bus' : BusValue} {told c value tail : ℕ} → IsBusOf r bells turns told bus
+      → c ≡ r.controller → value ≡ tail
+      → tail ≡ slot (setting_of r) b.sent → bus'.state ≡ bus.state
+      → bus'.ports ≡ slice_set bus.ports c (with_register_at (port_at bus.ports c) 0x1000 value)
       → (IsBus bus → IsBus bus') → IsBusOf r b.sent turns told bus'
   bus_rings {bus} {bus'} {told} {c} {value} {tail} is same sent at state ports lawful =
       let t = setting_of r in
       let k = u.keeps.counts in
-      let own : bus'.ports ≡ slice_set bus.ports r.controller (with_register_at (port_at bus.ports r.controller) 0x1000 (slot t b.sent)) =
+      let own : bus'.ports ≡ slice_set bus.ports r.controller
+      (with_register_at (port_at bus.ports r.controller) 0x1000 (slot t b.sent)) =
       ports ∙ ap (λ i. slice_set bus.ports i (with_register_at (port_at bus.ports i) 0x1000 value)) same
-      ∙ ap (λ v. slice_set bus.ports r.controller (with_register_at (port_at bus.ports r.controller) 0x1000 v)) (sent ∙ at) in
+      ∙ ap (λ v. slice_set bus.ports r.controller
+      (with_register_at (port_at bus.ports r.controller) 0x1000 v)) (sent ∙ at) in
       record {
         bus = lawful is.bus;
         state = state ∙ is.state;
         port = ap (λ ps. port_at ps r.controller) own ∙ port_set bus.ports r.controller _ (has_port is)
             ∙ ap (λ p. with_register_at p 0x1000 (slot t b.sent)) is.port
-            ∙ tail_rung t bells turns told b.sent (omega (arith, k.done, k.rung, u.sent, u.done)) (omega (arith, k.few, k.collected, u.sent, u.done));
+            ∙ tail_rung t bells turns told b.sent (omega (arith, k.done, k.rung, u.sent, u.done))
+            (omega (arith, k.few, k.collected, u.sent, u.done));
         ports = set_again r.bus.ports bus.ports bus'.ports r.controller _ _ u.begun.controller is.ports own;
       }
 
   -- ---- the head doorbell
 
-  pub tells : IsUnderWay r bells turns (record b { told = b.collected }) (record l { completion = told_all l.completion }) now bytes
+  pub tells : IsUnderWay r bells turns (record b { told = b.collected })
+      (record l { completion = told_all l.completion }) now bytes
   tells =
       let t = setting_of r in
       let w = u.world in
-      let w' : World = record w { port = with_register_at w.port 0x1004 (slot t (length w.answers)); told = length w.answers } in
+      let w' : World = record w {
+        port = with_register_at w.port 0x1004 (slot t (length w.answers));
+        told = length w.answers;
+      } in
       let ring : told_all l.completion ≡ collect_ring t b.collected b.collected =
       ap (λ (o : LaneFields). told_all o.completion) u.lane
-      ∙ ap (λ e. record { base = t.cq; depth = t.depth; collected = number t b.collected; told = number t b.collected; untold = e }) (none_untold b.collected) in
+      ∙ ap (λ e. record {
+        base = t.cq;
+        depth = t.depth;
+        collected = number t b.collected;
+        told = number t b.collected;
+        untold = e;
+      }) (none_untold b.collected) in
       record {
         begun = u.begun;
         can = u.can;
@@ -137,9 +158,11 @@ module _ {r : Run} {bells turns : ℕ} {b : Batch} {l : LaneFields} {now : ℕ} 
   untold_is : (e : Bool) → l.completion.untold ≡ e → e ≡ not (b.told == b.collected)
   untold_is e is = sym is ∙ ap (λ (o : LaneFields). o.completion.untold) u.lane
 
-  pub bus_tells : {bus bus' : BusValue} {c : ℕ} → IsBusOf r bells turns b.told bus → c ≡ r.controller → bus'.state ≡ bus.state → (IsBus bus → IsBus bus')
+  pub bus_tells : {bus bus' : BusValue} {c : ℕ} → IsBusOf r bells turns b.told bus
+      → c ≡ r.controller → bus'.state ≡ bus.state → (IsBus bus → IsBus bus')
       → (l.completion.untold ≡ true
-      → bus'.ports ≡ slice_set bus.ports c (with_register_at (port_at bus.ports c) 0x1004 (slot_of l.completion.depth l.completion.collected)))
+      → bus'.ports ≡ slice_set bus.ports c (with_register_at (port_at bus.ports c) 0x1004
+      (slot_of l.completion.depth l.completion.collected)))
       → (l.completion.untold ≡ false → bus'.ports ≡ bus.ports) → IsBusOf r bells turns b.collected bus'
   bus_tells {bus} {bus'} {c} is same state lawful told silent = by_untold l.completion.untold refl
     where
@@ -153,21 +176,28 @@ module _ {r : Run} {bells turns : ℕ} {b : Batch} {l : LaneFields} {now : ℕ} 
           record {
             bus = lawful is.bus;
             state = state ∙ is.state;
-            port = ap (λ ps. port_at ps r.controller) ports ∙ is.port ∙ ap (λ n. port_with t (device_rings t bells turns n)) all;
-            ports = ports ∙ is.ports ∙ ap (λ ps. slice_set r.bus.ports r.controller (port_at ps r.controller)) (sym ports);
+            port = ap (λ ps. port_at ps r.controller) ports ∙ is.port
+                ∙ ap (λ n. port_with t (device_rings t bells turns n)) all;
+            ports = ports ∙ is.ports ∙ ap (λ ps. slice_set r.bus.ports r.controller
+                (port_at ps r.controller)) (sym ports);
           }
       by_untold true e =
           let k = u.keeps.counts in
           let slot_is = ap (λ (o : LaneFields). slot_of o.completion.depth o.completion.collected) u.lane in
-          let own : bus'.ports ≡ slice_set bus.ports r.controller (with_register_at (port_at bus.ports r.controller) 0x1004 (slot t b.collected)) =
-          told e ∙ ap (λ i. slice_set bus.ports i (with_register_at (port_at bus.ports i) 0x1004 (slot_of l.completion.depth l.completion.collected))) same
-          ∙ ap (λ v. slice_set bus.ports r.controller (with_register_at (port_at bus.ports r.controller) 0x1004 v)) slot_is in
+          let own : bus'.ports ≡ slice_set bus.ports r.controller
+          (with_register_at (port_at bus.ports r.controller) 0x1004 (slot t b.collected)) =
+          told e ∙ ap (λ i. slice_set bus.ports i (with_register_at (port_at bus.ports i) 0x1004
+          (slot_of l.completion.depth l.completion.collected))) same
+          ∙ ap (λ v. slice_set bus.ports r.controller
+          (with_register_at (port_at bus.ports r.controller) 0x1004 v)) slot_is in
           record {
             bus = lawful is.bus;
             state = state ∙ is.state;
             port = ap (λ ps. port_at ps r.controller) own ∙ port_set bus.ports r.controller _ (has_port is)
                 ∙ ap (λ p. with_register_at p 0x1004 (slot t b.collected)) is.port
-                ∙ head_told t bells turns b.told b.collected (omega (arith, k.told, u.told, u.collected)) (omega (arith, k.collected, u.collected, u.done))
+                ∙ head_told t bells turns b.told b.collected
+                (omega (arith, k.told, u.told, u.collected))
+                (omega (arith, k.collected, u.collected, u.done))
                 (omega (arith, k.free, u.told, u.done));
             ports = set_again r.bus.ports bus.ports bus'.ports r.controller _ _ u.begun.controller is.ports own;
           }
@@ -182,27 +212,45 @@ module _ {r : Run} {bells turns : ℕ} {b : Batch} {l : LaneFields} {now : ℕ} 
       (omega (arith, k.done, k.rung, u.done, u.sent))
 
 -- what a turn leaves, and how many entries it takes
-pub record HasTurned (r : Run) (bells turns : ℕ) (b : Batch) (l : LaneFields) (now : ℕ) (mem : List ℕ) (bus : BusValue) (most count : ℕ) : Type 0 where
+pub record HasTurned (r : Run) (bells turns : ℕ) (b : Batch) (l : LaneFields) (now : ℕ)
+    (mem : List ℕ) (bus : BusValue) (most count : ℕ) : Type 0 where
   pub under_way : IsUnderWay r bells (turns + count) b l now mem
   pub bus_is : IsBusOf r bells (turns + count) b.told bus
   pub number_is : count ≡ min most (min (bells - turns) (r.lane.submission.depth - 1 - (turns - b.told)))
 
-pub turns_on : {r : Run} {bells turns : ℕ} {b : Batch} {l : LaneFields} {now now' : ℕ} {bytes mem : List ℕ} {bus bus' : BusValue} {c most count : ℕ}
-    (u : IsUnderWay r bells turns b l now bytes) → IsBusOf r bells turns b.told bus → c ≡ r.controller → T.Turn now c most count bus bytes bus' mem
+pub turns_on : {r : Run} {bells turns : ℕ} {b : Batch} {l : LaneFields} {now now' : ℕ}
+    {bytes mem : List ℕ} {bus bus' : BusValue} {c most count : ℕ}
+    (u : IsUnderWay r bells turns b l now bytes) → IsBusOf r bells turns b.told bus
+    → c ≡ r.controller → T.Turn now c most count bus bytes bus' mem
     → IsBus bus' → length mem ≡ length bytes → now' ≡ now → HasTurned r bells turns b l now' mem bus' most count
-turns_on {r} {bells} {turns} {b} {l} {now} {now'} {bytes} {mem} {bus} {bus'} {c} {most} {count} u is same turn lawful size page =
+turns_on {r} {bells} {turns} {b} {l} {now} {now'} {bytes} {mem} {bus} {bus'} {c} {most} {count} u is
+    same turn lawful size page =
     let t = setting_of r in
     let w = u.world in
-    let w' : World = record w { mem = mem; state = bus'.state; port = port_at bus'.ports r.controller; done = w.done + count } in
+    let w' : World = record w {
+      mem = mem;
+      state = bus'.state;
+      port = port_at bus'.ports r.controller;
+      done = w.done + count;
+    } in
     let port_is : w.port ≡ port_at bus.ports r.controller =
-    u.keeps.port ∙ ap (λ n. port_with t (device_rings t n w.done w.told)) u.rung ∙ ap (λ n. port_with t (device_rings t bells n w.told)) u.done
+    u.keeps.port ∙ ap (λ n. port_with t (device_rings t n w.done w.told)) u.rung
+    ∙ ap (λ n. port_with t (device_rings t bells n w.told)) u.done
     ∙ ap (λ n. port_with t (device_rings t bells turns n)) u.told ∙ sym is.port in
-    let own = subst (λ p. PortTurn p r.controller most count (site bus.state (port_at bus.ports r.controller) bytes) (site bus'.state (port_at bus'.ports r.controller) mem)) u.page_size
-    (subst (λ i. PortTurn now i most count (site bus.state (port_at bus.ports i) bytes) (site bus'.state (port_at bus'.ports i) mem)) same turn.own) in
-    let there : PortTurn t.page_size t.controller most count (site w.state w.port w.mem) (site w'.state w'.port w'.mem) =
-    subst (λ s. PortTurn t.page_size t.controller most count (site s w.port w.mem) (site w'.state w'.port w'.mem)) (is.state ∙ sym (state_on u))
-    (subst (λ p. PortTurn t.page_size t.controller most count (site bus.state p w.mem) (site w'.state w'.port w'.mem)) (sym port_is)
-    (subst (λ m. PortTurn t.page_size t.controller most count (site bus.state (port_at bus.ports r.controller) m) (site w'.state w'.port w'.mem)) (sym u.mem) own)) in
+    let own = subst (λ p. PortTurn p r.controller most count
+    (site bus.state (port_at bus.ports r.controller) bytes)
+    (site bus'.state (port_at bus'.ports r.controller) mem)) u.page_size
+    (subst (λ i. PortTurn now i most count (site bus.state (port_at bus.ports i) bytes)
+    (site bus'.state (port_at bus'.ports i) mem)) same turn.own) in
+    let there : PortTurn t.page_size t.controller most count (site w.state w.port w.mem)
+    (site w'.state w'.port w'.mem) =
+    subst (λ s. PortTurn t.page_size t.controller most count (site s w.port w.mem)
+    (site w'.state w'.port w'.mem)) (is.state ∙ sym (state_on u))
+    (subst (λ p. PortTurn t.page_size t.controller most count (site bus.state p w.mem)
+    (site w'.state w'.port w'.mem)) (sym port_is)
+    (subst (λ m. PortTurn t.page_size t.controller most count
+    (site bus.state (port_at bus.ports r.controller) m) (site w'.state w'.port w'.mem))
+    (sym u.mem) own)) in
     let takes = turn_takes t r.bus.state most w w' u.keeps (count, there, refl) in
     let done_is : w'.done ≡ turns + count = ap (λ n. n + count) u.done in
     let next : IsUnderWay r bells (turns + count) b l now' mem = record {
@@ -235,7 +283,8 @@ turns_on {r} {bells} {turns} {b} {l} {now} {now'} {bytes} {mem} {bus} {bus'} {c}
       bus_is = record {
         bus = lawful;
         state = state_on next;
-        port = next.keeps.port ∙ ap (λ n. port_with t (device_rings t n w'.done w'.told)) u.rung ∙ ap (λ n. port_with t (device_rings t bells n w'.told)) done_is
+        port = next.keeps.port ∙ ap (λ n. port_with t (device_rings t n w'.done w'.told)) u.rung
+            ∙ ap (λ n. port_with t (device_rings t bells n w'.told)) done_is
             ∙ ap (λ n. port_with t (device_rings t bells (turns + count) n)) u.told;
         ports = set_again r.bus.ports bus.ports bus'.ports r.controller _ _ u.begun.controller is.ports
             (subst (λ i. bus'.ports ≡ slice_set bus.ports i (port_at bus'.ports i)) same turn.others);
@@ -243,7 +292,8 @@ turns_on {r} {bells} {turns} {b} {l} {now} {now'} {bytes} {mem} {bus} {bus'} {c}
       number_is = taken w.rung w.done w.told takes u.rung u.done u.told;
     }
   where
-    taken : (m d h : ℕ) → d + count ≡ d + min most (min (m - d) (r.lane.submission.depth - 1 - (d - h))) → m ≡ bells → d ≡ turns → h ≡ b.told
+    taken : (m d h : ℕ) → d + count ≡ d + min most
+        (min (m - d) (r.lane.submission.depth - 1 - (d - h))) → m ≡ bells → d ≡ turns → h ≡ b.told
         → count ≡ min most (min (bells - turns) (r.lane.submission.depth - 1 - (turns - b.told)))
     taken m d h sum rung done told =
         let alone : count ≡ min most (min (m - d) (r.lane.submission.depth - 1 - (d - h))) = omega (arith, sum) in
@@ -254,25 +304,30 @@ turns_on {r} {bells} {turns} {b} {l} {now} {now'} {bytes} {mem} {bus} {bus'} {c}
 -- ---- the head was told
 
 pub tells_on : {r : Run} {turns : ℕ} {b b' : Batch} {l l' : LaneFields} {now : ℕ} {bytes : List ℕ} {bus bus' : BusValue}
-    (u : IsUnderWay r b.sent turns b l now bytes) → IsBusOf r b.sent turns b.told bus → b' ≡ record b { told = b.collected }
+    (u : IsUnderWay r b.sent turns b l now bytes) → IsBusOf r b.sent turns b.told bus
+    → b' ≡ record b { told = b.collected }
     → l' ≡ record l { completion = told_all l.completion } → bus'.state ≡ bus.state → (IsBus bus → IsBus bus')
     → (l.completion.untold ≡ true
-    → bus'.ports ≡ slice_set bus.ports b.ctrl (with_register_at (port_at bus.ports b.ctrl) 0x1004 (slot_of l.completion.depth l.completion.collected)))
+    → bus'.ports ≡ slice_set bus.ports b.ctrl (with_register_at (port_at bus.ports b.ctrl) 0x1004
+    (slot_of l.completion.depth l.completion.collected)))
     → (l.completion.untold ≡ false → bus'.ports ≡ bus.ports)
     → IsUnderWay r b'.sent turns b' l' now bytes × IsBusOf r b'.sent turns b'.told bus'
 tells_on {r} {turns} {b} {b'} {l} {l'} {now} {bytes} {bus} {bus'} u is batch lane state lawful told silent = (
   subst (λ (x : Batch). IsUnderWay r x.sent turns x l' now bytes) (sym batch)
       (subst (λ x. IsUnderWay r b.sent turns (record b { told = b.collected }) x now bytes) (sym lane) (tells u)),
-  subst (λ (x : Batch). IsBusOf r x.sent turns x.told bus') (sym batch) (bus_tells u is u.controller state lawful told silent),
+  subst (λ (x : Batch). IsBusOf r x.sent turns x.told bus') (sym batch)
+      (bus_tells u is u.controller state lawful told silent),
 )
 
 -- a turn that takes none while a command waits finds no free slot
-pub none_free : {r : Run} {bells turns : ℕ} {b : Batch} {l : LaneFields} {now : ℕ} {mem : List ℕ} {bus : BusValue} {most count : ℕ}
+pub none_free : {r : Run} {bells turns : ℕ} {b : Batch} {l : LaneFields} {now : ℕ} {mem : List ℕ}
+    {bus : BusValue} {most count : ℕ}
     (h : HasTurned r bells turns b l now mem bus most count) → count ≡ 0 → 1 ≤ most → turns < bells → b.told < turns
 none_free {r} {bells} {turns} {b} {l} {now} {mem} {bus} {most} {count} h none some waits =
     let laid = h.under_way.begun.laid in
     let deep = laid.deep in
-    let full = no_slot (bells - turns) (r.lane.submission.depth - 1 - (turns - b.told)) (omega arith) (sym none ∙ h.number_is) in
+    let full = no_slot (bells - turns) (r.lane.submission.depth - 1 - (turns - b.told))
+    (omega arith) (sym none ∙ h.number_is) in
     omega (arith, full, deep.0)
   where
     no_slot : (waiting free : ℕ) → 1 ≤ waiting → 0 ≡ min most (min waiting free) → free ≡ 0

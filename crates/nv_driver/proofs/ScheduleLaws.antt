@@ -17,23 +17,28 @@ event_keeps t s Collect w w' keeps happens = collect_keeps t s w w' keeps happen
 event_keeps t s Tell w w' keeps happens = tell_keeps t s w w' keeps happens
 event_keeps t s Elsewhere w w' keeps happens = elsewhere_keeps t s w w' keeps happens
 
-runs_keep : (t : Setting) (s : State) (events : List Event) (w w' : World) → Keeps t s w → Runs t events w w' → Keeps t s w'
+runs_keep : (t : Setting) (s : State) (events : List Event) (w w' : World) → Keeps t s w
+    → Runs t events w w' → Keeps t s w'
 runs_keep t s [] w w' keeps runs = subst (Keeps t s) (sym runs) keeps
-runs_keep t s (e ∷ events) w w' keeps runs = runs_keep t s events runs.0 w' (event_keeps t s e w runs.0 keeps runs.1) runs.2
+runs_keep t s (e ∷ events) w w' keeps runs = runs_keep t s events runs.0 w'
+    (event_keeps t s e w runs.0 keeps runs.1) runs.2
 
 -- ---- bytes that stay
 
 event_others : (t : Setting) (s : State) (first : ℕ) (old : List ℕ) (e : Event) (w w' : World) → e ≢ Elsewhere
     → Keeps t s w → OthersStay t first old w → Happens t e w w' → OthersStay t first old w'
-event_others t s first old (Submit x) w w' other keeps stay happens = submit_others t s first old x w w' keeps stay happens
+event_others t s first old (Submit x) w w' other keeps stay happens =
+    submit_others t s first old x w w' keeps stay happens
 event_others t s first old Bell w w' other keeps stay happens = bell_others t first old w w' stay happens
-event_others t s first old (Turn most) w w' other keeps stay happens = turn_others t s first old most w w' keeps stay happens
+event_others t s first old (Turn most) w w' other keeps stay happens =
+    turn_others t s first old most w w' keeps stay happens
 event_others t s first old Collect w w' other keeps stay happens = collect_others t first old w w' stay happens
 event_others t s first old Tell w w' other keeps stay happens = tell_others t first old w w' stay happens
 event_others t s first old Elsewhere w w' other keeps stay happens = absurd (other refl)
 
 runs_others : (t : Setting) (s : State) (first : ℕ) (old : List ℕ) (events : List Event) (w w' : World)
-    → All (λ e. e ≢ Elsewhere) events → Keeps t s w → OthersStay t first old w → Runs t events w w' → OthersStay t first old w'
+    → All (λ e. e ≢ Elsewhere) events → Keeps t s w → OthersStay t first old w → Runs t events w w'
+    → OthersStay t first old w'
 runs_others t s first old [] w w' other keeps stay runs = subst (OthersStay t first old) (sym runs) stay
 runs_others t s first old (e ∷ events) w w' other keeps stay runs =
     runs_others t s first old events runs.0 w' (λ i d below. other (suc i) d (omega arith))
@@ -54,4 +59,5 @@ serial t s w keeps = record {
 }
 
 pub every_schedule : EveryScheduleIsSerial
-every_schedule t events old new idle runs = serial t old.state new (runs_keep t old.state events old new (idle_keeps t old idle) runs)
+every_schedule t events old new idle runs = serial t old.state new
+    (runs_keep t old.state events old new (idle_keeps t old idle) runs)

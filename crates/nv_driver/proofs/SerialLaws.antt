@@ -17,9 +17,12 @@ length-answers_of_all c s (x ∷ xs) = ap suc (length-answers_of_all c (step s c
 pub length-answers : (c : ℕ) (s : State) (xs : List Sent) → length (answers_to c s xs) ≡ length xs
 length-answers c s xs = length-answers_of_all c s (map numbered xs) ∙ length-map xs numbered
 
-pub answers-append : (c : ℕ) (s : State) (xs ys : List Sent) → answers_to c s (xs ++ ys) ≡ answers_to c s xs ++ answers_to c (after c s xs) ys
+pub answers-append : (c : ℕ) (s : State) (xs ys : List Sent)
+    → answers_to c s (xs ++ ys) ≡ answers_to c s xs ++ answers_to c (after c s xs) ys
 answers-append c s [] ys = refl
-answers-append c s (x ∷ xs) ys = ap (λ rest. answer_received x.command (step s c x.command x.cid).answer ∷ rest) (answers-append c (step s c x.command x.cid).state xs ys)
+answers-append c s (x ∷ xs) ys = ap (λ rest. answer_received x.command
+    (step s c x.command x.cid).answer ∷ rest) (answers-append c (step s c x.command x.cid).state xs
+    ys)
 
 -- the state after one more
 after-suc : (c : ℕ) (s : State) (xs : List Sent) (n : ℕ) (d : Sent) → n < length xs
@@ -35,7 +38,8 @@ after_more c s xs n d h = ap (λ k. after c s (take k xs)) (add-one n) ∙ after
 
 -- the answer to command n
 pub answer_at : (c : ℕ) (s : State) (xs : List Sent) (n : ℕ) (d : Sent) (e : Answer) → n < length xs
-    → get_or (answers_to c s xs) n e ≡ answer_received (get_or xs n d).command (step_after c s xs n (get_or xs n d)).answer
+    → get_or (answers_to c s xs) n e ≡ answer_received (get_or xs n d).command
+    (step_after c s xs n (get_or xs n d)).answer
 answer_at c s [] n d e h = absurd (omega arith)
 answer_at c s (x ∷ xs) zero d e h = refl
 answer_at c s (x ∷ xs) (suc n) d e h = answer_at c (step s c x.command x.cid).state xs n d e (omega arith)

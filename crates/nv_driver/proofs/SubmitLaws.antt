@@ -27,32 +27,41 @@ mem_after t w x ready = with_submission ready (submit_ring t (length w.sent) (le
 
 length-after : (t : Setting) (w : World) (x : Sent) (ready : List ℕ) → 0 < t.depth → t.sq + 64 * t.depth ≤ length ready
     → length (mem_after t w x ready) ≡ length ready
-length-after t w x ready some inside = length-with_submission ready (submit_ring t (length w.sent) (length w.answers)) (entry x) some inside
+length-after t w x ready some inside = length-with_submission ready
+    (submit_ring t (length w.sent) (length w.answers)) (entry x) some inside
 
-pub changes_only : (t : Setting) (w : World) (x : Sent) (ready : List ℕ) → 0 < t.depth → t.sq + 64 * t.depth ≤ length ready → IsPrepared t.page_size x w.mem ready
+pub changes_only : (t : Setting) (w : World) (x : Sent) (ready : List ℕ) → 0 < t.depth
+    → t.sq + 64 * t.depth ≤ length ready → IsPrepared t.page_size x w.mem ready
     → ChangesOnlyAt t x t.sq (64 * t.depth) w.mem (mem_after t w x ready)
 changes_only t w x ready some inside prepared from n outside apart =
-    submission_keeps ready (submit_ring t (length w.sent) (length w.answers)) (entry x) from n some inside apart ∙ prepared.others from n outside
+    submission_keeps ready (submit_ring t (length w.sent) (length w.answers)) (entry x) from n some
+    inside apart ∙ prepared.others from n outside
 
 -- a completion slot stays
-completion_stays : (t : Setting) (x : Sent) (old new : List ℕ) (s : ℕ) → ChangesOnlyAt t x t.sq (64 * t.depth) old new → AreOutside t.page_size x t.cq (16 * t.depth)
-    → IsApart t.sq (64 * t.depth) t.cq (16 * t.depth) → s < t.depth → completion_at new t.cq s ≡ completion_at old t.cq s
+completion_stays : (t : Setting) (x : Sent) (old new : List ℕ) (s : ℕ)
+    → ChangesOnlyAt t x t.sq (64 * t.depth) old new → AreOutside t.page_size x t.cq (16 * t.depth)
+    → IsApart t.sq (64 * t.depth) t.cq (16 * t.depth) → s < t.depth
+    → completion_at new t.cq s ≡ completion_at old t.cq s
 completion_stays t x old new s only outside rings below =
     let top : s + 1 ≤ t.depth = omega arith in
     let room = mul-le-mul_left 16 top in
-    ap cqe_of_bytes (only (t.cq + 16 * s) 16 (outside_part t x t.cq (16 * t.depth) (t.cq + 16 * s) 16 outside (omega arith) (omega arith)) (completion_aside t s rings below))
+    ap cqe_of_bytes (only (t.cq + 16 * s) 16 (outside_part t x t.cq (16 * t.depth) (t.cq + 16 * s)
+    16 outside (omega arith) (omega arith)) (completion_aside t s rings below))
 
 -- a submission slot stays while the pages of a command are made ready
-slot_stays : (t : Setting) (x : Sent) (old ready : List ℕ) (s : ℕ) → IsPrepared t.page_size x old ready → AreOutside t.page_size x t.sq (64 * t.depth) → s < t.depth
+slot_stays : (t : Setting) (x : Sent) (old ready : List ℕ) (s : ℕ)
+    → IsPrepared t.page_size x old ready → AreOutside t.page_size x t.sq (64 * t.depth) → s < t.depth
     → submission_at ready t.sq s ≡ submission_at old t.sq s
 slot_stays t x old ready s prepared outside below =
     let top : s + 1 ≤ t.depth = omega arith in
     let room = mul-le-mul_left 64 top in
-    ap sqe_of_bytes (prepared.others (t.sq + 64 * s) 64 (outside_part t x t.sq (64 * t.depth) (t.sq + 64 * s) 64 outside (omega arith) (omega arith)))
+    ap sqe_of_bytes (prepared.others (t.sq + 64 * s) 64
+    (outside_part t x t.sq (64 * t.depth) (t.sq + 64 * s) 64 outside (omega arith) (omega arith)))
 
 -- ---- the command that is submitted
 
-entry_fits : (t : Setting) (w : World) (x : Sent) (ready : List ℕ) → MaySubmit t w x → IsPrepared t.page_size x w.mem ready → SqeFits (entry x)
+entry_fits : (t : Setting) (w : World) (x : Sent) (ready : List ℕ) → MaySubmit t w x
+    → IsPrepared t.page_size x w.mem ready → SqeFits (entry x)
 entry_fits t w x ready may prepared =
     let f = (commands_travel x.command x.cid may.can.fits may.cid).fits in
     record {
@@ -90,7 +99,8 @@ own_of t s w x k may =
 
 -- ---- the schedule goes on
 
-pub each_more : (P : ℕ → Sent → Type 0) (low : ℕ) (xs : List Sent) (x : Sent) → ((n : ℕ) (d : Sent) → low ≤ n → n < length xs → P n (get_or xs n d))
+pub each_more : (P : ℕ → Sent → Type 0) (low : ℕ) (xs : List Sent) (x : Sent)
+    → ((n : ℕ) (d : Sent) → low ≤ n → n < length xs → P n (get_or xs n d))
     → P (length xs) x → (n : ℕ) (d : Sent) → low ≤ n → n < length (xs ++ x ∷ []) → P n (get_or (xs ++ x ∷ []) n d)
 each_more P low xs x each last n d from below =
     let more : length (xs ++ x ∷ []) ≡ length xs + 1 = length-append xs (x ∷ []) in
@@ -104,7 +114,8 @@ each_more P low xs x each last n d from below =
 apart_more : (t : Setting) (low : ℕ) (xs : List Sent) (x : Sent)
     → ((n m : ℕ) (d : Sent) → low ≤ n → n < m → m < length xs → AreApart (get_or xs n d) (get_or xs m d))
     → ((n : ℕ) (d : Sent) → low ≤ n → n < length xs → AreApart (get_or xs n d) x)
-    → (n m : ℕ) (d : Sent) → low ≤ n → n < m → m < length (xs ++ x ∷ []) → AreApart (get_or (xs ++ x ∷ []) n d) (get_or (xs ++ x ∷ []) m d)
+    → (n m : ℕ) (d : Sent) → low ≤ n → n < m → m < length (xs ++ x ∷ [])
+    → AreApart (get_or (xs ++ x ∷ []) n d) (get_or (xs ++ x ∷ []) m d)
 apart_more t low xs x each last n m d from later below =
     let more : length (xs ++ x ∷ []) ≡ length xs + 1 = length-append xs (x ∷ []) in
     let early : n < length xs = omega arith in
@@ -118,7 +129,8 @@ apart_more t low xs x each last n m d from later below =
           (subst (AreApart (get_or xs n d)) (sym (get_or_push xs x d m (omega arith))) (last n d from early))
     ]
 
-submitted : (t : Setting) (s : State) (x : Sent) (w : World) (ready : List ℕ) → Keeps t s w → MaySubmit t w x → IsPrepared t.page_size x w.mem ready
+submitted : (t : Setting) (s : State) (x : Sent) (w : World) (ready : List ℕ) → Keeps t s w
+    → MaySubmit t w x → IsPrepared t.page_size x w.mem ready
     → Keeps t s (record w { mem = mem_after t w x ready; sent = w.sent ++ x ∷ [] })
 submitted t s x w ready k may prepared =
     let c = k.counts in
@@ -133,7 +145,8 @@ submitted t s x w ready k may prepared =
     let only = changes_only t w x ready (omega arith) inside prepared in
     let beside : ChangesOnly t.sq (64 * t.depth) ready new = λ from i apart.
     submission_keeps ready (submit_ring t m (length w.answers)) (entry x) from i (omega arith) inside apart in
-    let written = push_written ready (submit_ring t m (length w.answers)) (entry x) (omega arith) inside (entry_fits t w x ready may prepared) in
+    let written = push_written ready (submit_ring t m (length w.answers)) (entry x) (omega arith)
+    inside (entry_fits t w x ready may prepared) in
     let all = answers_to t.controller s w.sent in
     let many : length all ≡ m = length-answers t.controller s w.sent in
     let further = answers-append t.controller s w.sent (x ∷ []) in
@@ -147,21 +160,33 @@ submitted t s x w ready k may prepared =
         submissions = omega (arith, p.submissions, len);
         completions = omega (arith, p.completions, len);
       };
-      counts = record { told = c.told; collected = c.collected; done = c.done; rung = omega (arith, c.rung, more); few = omega (arith, may.free, more); free = c.free };
+      counts = record {
+        told = c.told;
+        collected = c.collected;
+        done = c.done;
+        rung = omega (arith, c.rung, more);
+        few = omega (arith, may.free, more);
+        free = c.free;
+      };
       port = k.port;
-      state = k.state ∙ ap (after t.controller s) (sym (take-append-le w.done w.sent (x ∷ []) (omega (arith, c.done, c.rung))));
+      state = k.state ∙ ap (after t.controller s)
+          (sym (take-append-le w.done w.sent (x ∷ []) (omega (arith, c.done, c.rung))));
       well_formed = k.well_formed;
       controller = k.controller;
       own = λ n d from below. subst (λ size. IsOwn t size (get_or (w.sent ++ x ∷ []) n d)) (sym len)
-          (each_more (λ _ y. IsOwn t (length w.mem) y) (length w.answers) w.sent x k.own (own_of t s w x k may) n d from below);
-      apart = λ n j d from later below. apart_more t (length w.answers) w.sent x k.apart may.apart n j d from later below;
+          (each_more (λ _ y. IsOwn t (length w.mem) y) (length w.answers) w.sent x k.own
+          (own_of t s w x k may) n d from below);
+      apart = λ n j d from later below. apart_more t (length w.answers) w.sent x k.apart may.apart n
+          j d from later below;
       named = each_more (λ n y. StaysNamed t.page_size y new) (length w.answers) w.sent x
           (λ n d from below. let y = get_or w.sent n d in
           stays_in t.page_size y w.mem new
-          (list_stays t x y t.sq (64 * t.depth) w.mem new len only (may.apart n d from below) (k.own n d from below).submissions)
+          (list_stays t x y t.sq (64 * t.depth) w.mem new len only (may.apart n d from below)
+          (k.own n d from below).submissions)
           (k.named n d from below))
           (stays_in t.page_size x ready new
-          (list_beside t x t.sq (64 * t.depth) ready new (length-after t w x ready (omega arith) inside) may.submissions beside)
+          (list_beside t x t.sq (64 * t.depth) ready new
+          (length-after t w x ready (omega arith) inside) may.submissions beside)
           prepared.stays);
       waiting = each_more (λ n y. submission_at new t.sq (slot t n) ≡ entry y) w.done w.sent x
           (λ n d from below.
@@ -185,13 +210,19 @@ submitted t s x w ready k may prepared =
           let early : n < m = omega (arith, c.done, c.rung) in
           let own = k.own n d from early in
           subst (Holds t s next n) (sym (get_or_append_left w.sent (x ∷ []) d n early))
-          (holds_on t s w next n y (completion_stays t x w.mem new (slot t n) only may.completions p.rings (slot_inside t n (omega arith)))
-          (data_stays t x y t.sq (64 * t.depth) w.mem new some own.enough only (may.apart n d from early) own.submissions)
+          (holds_on t s w next n y (completion_stays t x w.mem new (slot t n) only may.completions
+          p.rings (slot_inside t n (omega arith)))
+          (data_stays t x y t.sq (64 * t.depth) w.mem new some own.enough only
+          (may.apart n d from early) own.submissions)
           (λ e. ap (λ as_one. get_or as_one n e) further ∙ get_or_append_left all rest e n (omega arith))
           (k.held n d from below));
-      tags = λ slot below. ap (λ e. e.phase) (completion_stays t x w.mem new slot only may.completions p.rings below) ∙ k.tags slot below;
-      answers = k.answers ∙ sym (ap (take (length w.answers)) further ∙ take-append-le (length w.answers) all rest (omega (arith, c.collected, c.done, c.rung)));
+      tags = λ slot below. ap (λ e. e.phase) (completion_stays t x w.mem new slot only
+          may.completions p.rings below) ∙ k.tags slot below;
+      answers = k.answers ∙ sym (ap (take (length w.answers)) further
+          ∙ take-append-le (length w.answers) all rest (omega (arith, c.collected, c.done, c.rung)));
     }
 
-pub submit_keeps : (t : Setting) (s : State) (x : Sent) (w w' : World) → Keeps t s w → Happens t (Submit x) w w' → Keeps t s w'
-submit_keeps t s x w w' k happens = subst (Keeps t s) (sym happens.3) (submitted t s x w happens.1 k happens.0 happens.2)
+pub submit_keeps : (t : Setting) (s : State) (x : Sent) (w w' : World) → Keeps t s w
+    → Happens t (Submit x) w w' → Keeps t s w'
+submit_keeps t s x w w' k happens = subst (Keeps t s) (sym happens.3)
+    (submitted t s x w happens.1 k happens.0 happens.2)

@@ -33,11 +33,14 @@ pub pages_are : (p : CommandPages) → length p.numbers ≡ 7
     → all_pages p ≡ slice_index p.numbers 0 ∷ slice_index p.numbers 1 ∷ data_pages p
 pages_are p seven = first_two p.numbers p.data_pages (omega arith)
 
-pub length-data_pages : (p : CommandPages) → length p.numbers ≡ 7 → p.data_pages ≤ 5 → length (data_pages p) ≡ p.data_pages
-length-data_pages p seven few = let one = length-take p.data_pages (drop 2 p.numbers) in let rest = length-drop 2 p.numbers in omega arith
+pub length-data_pages : (p : CommandPages) → length p.numbers ≡ 7 → p.data_pages ≤ 5
+    → length (data_pages p) ≡ p.data_pages
+length-data_pages p seven few = let one = length-take p.data_pages (drop 2 p.numbers) in let rest =
+    length-drop 2 p.numbers in omega arith
 
 -- a page of a set lies in a memory that has all pages of the set
-pub of_set : (s : Pages) (bytes : List ℕ) (page_size page : ℕ) → (s.first + s.count) * page_size ≤ length bytes → IsOf s.first s.count page
+pub of_set : (s : Pages) (bytes : List ℕ) (page_size page : ℕ)
+    → (s.first + s.count) * page_size ≤ length bytes → IsOf s.first s.count page
     → HasPage bytes page_size page
 of_set s bytes page_size page inside own =
     let most : page + 1 ≤ s.first + s.count = omega (arith, own.1) in
@@ -142,7 +145,8 @@ prepared_by page_size x old built new is fits buffer distinct b put =
     let xs = host_data_of x.command in
     let size : length new ≡ length built =
     ap (λ (q : List ℕ). length q) put ∙ length-written_at built at xs in
-    let theirs = subst (λ n. ArePlaces m n at) (sym b.len) (buffer_data page_size x old some buffer (rest_distinct x.first x.second x.pages distinct)) in
+    let theirs = subst (λ n. ArePlaces m n at) (sym b.len)
+    (buffer_data page_size x old some buffer (rest_distinct x.first x.second x.pages distinct)) in
     record {
       others = λ from n outside.
           ap (λ q. bytes_at q from n) put
@@ -154,7 +158,8 @@ prepared_by page_size x old built new is fits buffer distinct b put =
       sent = ap (λ q. sent_from m q at) put
           ∙ sent_back m built at xs theirs (length-host_data x.command fits);
       stays = stays_in page_size x built new
-          (subst (KeepsList (pointed page_size x built) x.first x.second) (sym put) (written_list page_size x built xs some buffer.enough distinct)) b.stays;
+          (subst (KeepsList (pointed page_size x built) x.first x.second) (sym put)
+          (written_list page_size x built xs some buffer.enough distinct)) b.stays;
     }
 
 pub on_ok : {X E : Type 0} {P : Type 0} (r : Result X E) (x : X) → r ≡ Ok x → OnOk r P → P

@@ -20,8 +20,8 @@ use Rattle.nv_bus.specs.Call.{Call, call_of}
 use Rattle.nv_bus.specs.Entry.{Moves, MovesBy, One, Scene, completion_with, entry_in, entry_step, scene, step_unless}
 use Rattle.nv_bus.proofs.TagLaws.{tagged}
 use Rattle.nv_bus.proofs.TurnLaws.{can_means}
-use Rattle.nv_bus.specs.Limit.{limit_of}
-use Rattle.nv_bus.proofs.LimitLaws.{limit_bounds}
+use Rattle.nv_model.specs.Limit.{limit_of}
+use Rattle.nv_model.proofs.LimitLaws.{limit_bounds}
 use Rattle.nv_bus.specs.Turn.{can_take}
 use Rattle.nv_driver.specs.Schedule.{Answer, AreOutside, Sent, Setting, World, data_length, device_rings, entry, number, own_pages, places, pointed, received_from, slot}
 use Rattle.nv_driver.proofs.AnswerLaws.{Delivers, IsAnswerTo}
@@ -37,12 +37,15 @@ use Rattle.nv_driver.proofs.RegionLaws.{data_keeps, length-places, outside_part}
 abbrev pub now : Setting → World → Rings
 now t w = device_rings t w.rung w.done w.told
 
-pub can_go : (t : Setting) (s : State) (w : World) → Keeps t s w → can_take (now t w) ≡ true → (w.done < w.rung) × (w.done + 1 < w.told + t.depth)
+pub can_go : (t : Setting) (s : State) (w : World) → Keeps t s w → can_take (now t w) ≡ true
+    → (w.done < w.rung) × (w.done + 1 < w.told + t.depth)
 can_go t s w k can =
     let c = k.counts in
     let deep = k.placed.deep in
-    let far = can_means (number t w.done) (number t w.rung) (above t.depth (number t w.done) (number t w.told)) (t.depth - 1) can in
-    let distance = number_above t w.told w.done (omega (arith, deep.0)) (omega (arith, c.told, c.collected)) (omega (arith, c.free)) in (
+    let far = can_means (number t w.done) (number t w.rung)
+    (above t.depth (number t w.done) (number t w.told)) (t.depth - 1) can in
+    let distance = number_above t w.told w.done (omega (arith, deep.0))
+    (omega (arith, c.told, c.collected)) (omega (arith, c.free)) in (
       elim (cases_lt w.done w.rung) [
         | inl l ↦ l
         | inr g ↦ let same : w.done ≡ w.rung = omega (arith, c.done) in absurd (far.0 (ap (number t) same))
@@ -66,18 +69,23 @@ done_by : (t : Setting) (w : World) (x : Sent) (y : Scene) (e : Sqe) (found : Re
     → y.state ≡ (step_unless found w.state t.controller e).state
     → y.rings ≡ device_rings t w.rung (w.done + 1) w.told
     → (moved : List ℕ) → MovesBy found (step_unless found w.state t.controller e).answer w.mem moved
-    → y.bytes ≡ with_completion moved (now t w).completion (completion_with e.cid (slot t (w.done + 1)) (step_unless found w.state t.controller e).answer)
+    → y.bytes ≡ with_completion moved (now t w).completion
+    (completion_with e.cid (slot t (w.done + 1))
+    (step_unless found w.state t.controller e).answer)
     → IsDone t w x y
 done_by t w x y e found is call state rings moved moves bytes =
     let both : step_unless found w.state t.controller e ≡ step w.state t.controller x.command x.cid =
-    ap (λ (f : Result Call StatusCode). step_unless f w.state t.controller e) call ∙ ap (λ (q : Sqe). step w.state t.controller x.command q.cid) is in
+    ap (λ (f : Result Call StatusCode). step_unless f w.state t.controller e) call
+    ∙ ap (λ (q : Sqe). step w.state t.controller x.command q.cid) is in
     record {
       state = state ∙ ap (λ (p : Step). p.state) both;
       rings = rings;
       moved = moved;
       moves = subst (λ (p : Step). Moves x.command (places t.page_size x) p.answer w.mem moved) both
-          (subst (λ (f : Result Call StatusCode). MovesBy f (step_unless found w.state t.controller e).answer w.mem moved) call moves);
-      bytes = bytes ∙ ap (λ (p : Step). with_completion moved (now t w).completion (completion_with e.cid (slot t (w.done + 1)) p.answer)) both
+          (subst (λ (f : Result Call StatusCode). MovesBy f
+          (step_unless found w.state t.controller e).answer w.mem moved) call moves);
+      bytes = bytes ∙ ap (λ (p : Step). with_completion moved (now t w).completion
+          (completion_with e.cid (slot t (w.done + 1)) p.answer)) both
           ∙ ap (λ (q : Sqe). with_completion moved (now t w).completion
           (completion_with q.cid (slot t (w.done + 1)) (step w.state t.controller x.command x.cid).answer)) is;
     }
@@ -89,29 +97,38 @@ is_done t s w y d k below one =
     let is = k.waiting w.done d (omega arith) below in
     let next_one = number_next t w.done in
     let limit = limit_of w.state t.controller in
-    done_by t w (get_or w.sent w.done d) y (entry_in (scene w.state (now t w) w.mem)) (call_of t.page_size limit w.mem (entry_in (scene w.state (now t w) w.mem))) is
+    done_by t w (get_or w.sent w.done d) y (entry_in (scene w.state (now t w) w.mem))
+    (call_of t.page_size limit w.mem (entry_in (scene w.state (now t w) w.mem))) is
     (ap (call_of t.page_size limit w.mem) is
-    ∙ entry_call t (get_or w.sent w.done d) limit w.mem (limit_bounds w.state t.controller k.well_formed k.controller).0 own.can own.cid (k.named w.done d k.counts.collected below) (k.to_send w.done d (omega arith) below)) one.state
+    ∙ entry_call t (get_or w.sent w.done d) limit w.mem
+    (limit_bounds w.state t.controller k.well_formed k.controller).0 own.can own.cid
+    (k.named w.done d k.counts.collected below) (k.to_send w.done d (omega arith) below))
+    one.state
     (one.rings ∙ ap (λ n. record (now t w) {
       submission = record (now t w).submission { fetched = n };
       completion = record (now t w).completion { posted = n };
     }) next_one)
     one.bytes.0 one.bytes.1
     (one.bytes.2 ∙ ap (λ n. with_completion one.bytes.0 (now t w).completion
-    (completion_with (entry_in (scene w.state (now t w) w.mem)).cid (slot_of t.depth n) (entry_step t.controller (scene w.state (now t w) w.mem)).answer)) next_one)
+    (completion_with (entry_in (scene w.state (now t w) w.mem)).cid (slot_of t.depth n)
+    (entry_step t.controller (scene w.state (now t w) w.mem)).answer)) next_one)
 
 -- ---- the memory
 
 -- the places of a command's data, and what is moved there
 pub moved_keeps : (t : Setting) (x : Sent) (a : Answer) (old moved : List ℕ) (from n : ℕ) → 0 < t.page_size
-    → x.offset + data_length x ≤ length x.pages * t.page_size → Moves x.command (places t.page_size x) a old moved → AreOutside t.page_size x from n
+    → x.offset + data_length x ≤ length x.pages * t.page_size
+    → Moves x.command (places t.page_size x) a old moved → AreOutside t.page_size x from n
     → bytes_at moved from n ≡ bytes_at old from n
 moved_keeps t x (Ok reply) old moved from n some enough moves outside =
-    ap (λ m. bytes_at m from n) moves.2 ∙ data_keeps t.page_size x old (data_of x.command moves.0) from n some enough outside
+    ap (λ m. bytes_at m from n) moves.2 ∙ data_keeps t.page_size x old (data_of x.command moves.0)
+    from n some enough outside
 moved_keeps t x (Err status) old moved from n some enough moves outside = ap (λ m. bytes_at m from n) moves
 
 pub moved_slot : (t : Setting) (x : Sent) (a : Answer) (old moved : List ℕ) (s : ℕ) → 0 < t.page_size
-    → x.offset + data_length x ≤ length x.pages * t.page_size → Moves x.command (places t.page_size x) a old moved → AreOutside t.page_size x t.cq (16 * t.depth) → s < t.depth
+    → x.offset + data_length x ≤ length x.pages * t.page_size
+    → Moves x.command (places t.page_size x) a old moved
+    → AreOutside t.page_size x t.cq (16 * t.depth) → s < t.depth
     → completion_at moved t.cq s ≡ completion_at old t.cq s
 moved_slot t x a old moved s some enough moves outside below =
     let top : s + 1 ≤ t.depth = omega arith in
@@ -120,12 +137,15 @@ moved_slot t x a old moved s some enough moves outside below =
     (outside_part t x t.cq (16 * t.depth) (t.cq + 16 * s) 16 outside (omega arith) (omega arith)))
 
 pub moved_list : (t : Setting) (x : Sent) (a : Answer) (old moved : List ℕ) → 0 < t.page_size
-    → x.offset + data_length x ≤ length x.pages * t.page_size → AreDistinct (own_pages x) → Moves x.command (places t.page_size x) a old moved
+    → x.offset + data_length x ≤ length x.pages * t.page_size → AreDistinct (own_pages x)
+    → Moves x.command (places t.page_size x) a old moved
     → KeepsList (pointed t.page_size x old) x.first x.second moved
 moved_list t x (Ok reply) old moved some enough distinct moves =
-    subst (KeepsList (pointed t.page_size x old) x.first x.second) (sym moves.2) (written_list t.page_size x old (data_of x.command moves.0) some enough distinct)
+    subst (KeepsList (pointed t.page_size x old) x.first x.second) (sym moves.2)
+    (written_list t.page_size x old (data_of x.command moves.0) some enough distinct)
 moved_list t x (Err status) old moved some enough distinct moves =
-    subst (KeepsList (pointed t.page_size x old) x.first x.second) (sym moves) (record { len = refl; in_first = λ many. refl; in_second = λ many. refl })
+    subst (KeepsList (pointed t.page_size x old) x.first x.second) (sym moves)
+    (record { len = refl; in_first = λ many. refl; in_second = λ many. refl })
 
 -- a command's places are for its data
 are_places : (t : Setting) (x : Sent) (old : List ℕ) → IsOwn t (length old) x
@@ -135,8 +155,10 @@ are_places t x old own =
     record { size = size; inside = λ i below. own.inside i (omega arith); distinct = own.distinct }
 
 -- the data of a command's reply is received, also after its completion was put
-pub delivered : (t : Setting) (x : Sent) (a : Answer) (old moved new : List ℕ) → IsAnswerTo x.command a → Moves x.command (places t.page_size x) a old moved
-    → IsOwn t (length old) x → read_at new (places t.page_size x) ≡ read_at moved (places t.page_size x) → Delivers t x new a
+pub delivered : (t : Setting) (x : Sent) (a : Answer) (old moved new : List ℕ)
+    → IsAnswerTo x.command a → Moves x.command (places t.page_size x) a old moved
+    → IsOwn t (length old) x → read_at new (places t.page_size x) ≡ read_at moved
+    (places t.page_size x) → Delivers t x new a
 delivered t x (Ok reply) old moved new is moves own same =
     let k = x.command in
     let m = transfer_by k in

@@ -15,7 +15,17 @@ use Rattle.nv_driver.proofs.TakenLaws.{is_done, can_go, now}
 
 -- a command that stands for none
 abbrev pub no_command : Sent
-no_command = record { command = ActiveList 0; cid = 0; pages = []; offset = 0; first = 0; second = 0; list_offset = 0; prp1 = 0; prp2 = 0 }
+no_command = record {
+  command = ActiveList 0;
+  cid = 0;
+  pages = [];
+  offset = 0;
+  first = 0;
+  second = 0;
+  list_offset = 0;
+  prp1 = 0;
+  prp2 = 0;
+}
 
 -- the schedule after so many entries
 abbrev pub world_with : Setting → World → ℕ → Scene → World
@@ -30,20 +40,37 @@ world_with t w count y = record w {
 pub record Reaches (t : Setting) (s : State) (w : World) (count : ℕ) (y : Scene) : Type 0 where
   pub keeps : Keeps t s (world_with t w count y)
   pub rings : y.rings ≡ device_rings t w.rung (w.done + count) w.told
-  pub others : (from n : ℕ) → AreOthers t (length w.answers) w.sent from n → bytes_at y.bytes from n ≡ bytes_at w.mem from n
+  pub others : (from n : ℕ) → AreOthers t (length w.answers) w.sent from n
+      → bytes_at y.bytes from n ≡ bytes_at w.mem from n
 
 -- the same where the done entries are counted otherwise
 counted : (t : Setting) (s : State) (w : World) (y : Scene) (n m : ℕ) → n ≡ m
-    → Keeps t s (record w { mem = y.bytes; state = y.state; port = port_with t (device_rings t w.rung n w.told); done = n })
-    → Keeps t s (record w { mem = y.bytes; state = y.state; port = port_with t (device_rings t w.rung m w.told); done = m })
+    → Keeps t s (record w {
+      mem = y.bytes;
+      state = y.state;
+      port = port_with t (device_rings t w.rung n w.told);
+      done = n;
+    })
+    → Keeps t s (record w {
+      mem = y.bytes;
+      state = y.state;
+      port = port_with t (device_rings t w.rung m w.told);
+      done = m;
+    })
 counted t s w y n m same =
-    subst (λ i. Keeps t s (record w { mem = y.bytes; state = y.state; port = port_with t (device_rings t w.rung i w.told); done = i })) same
+    subst (λ i. Keeps t s (record w {
+      mem = y.bytes;
+      state = y.state;
+      port = port_with t (device_rings t w.rung i w.told);
+      done = i;
+    })) same
 
 none_taken : (t : Setting) (s : State) (w : World) → Keeps t s w → Reaches t s w 0 (scene w.state (now t w) w.mem)
 none_taken t s w k =
     let zero_more : w.done ≡ w.done + 0 = omega arith in
     record {
-      keeps = counted t s w (scene w.state (now t w) w.mem) w.done (w.done + 0) zero_more (subst (λ p. Keeps t s (record w { port = p })) k.port k);
+      keeps = counted t s w (scene w.state (now t w) w.mem) w.done (w.done + 0) zero_more
+          (subst (λ p. Keeps t s (record w { port = p })) k.port k);
       rings = ap (λ n. device_rings t w.rung n w.told) zero_more;
       others = λ from n apart. refl;
     }
@@ -56,7 +83,11 @@ one_further t s w mid y count k takes r =
     record {
       keeps = counted t s w y (w.done + 1 + count) (w.done + suc count) sum r.keeps;
       rings = r.rings ∙ ap (λ n. device_rings t w.rung n w.told) sum;
-      others = λ from n apart. r.others from n (record { submissions = apart.submissions; completions = apart.completions; pages = apart.pages })
+      others = λ from n apart. r.others from n (record {
+        submissions = apart.submissions;
+        completions = apart.completions;
+        pages = apart.pages;
+      })
           ∙ entry_others t s w mid no_command k takes from n apart;
     }
 
@@ -68,7 +99,8 @@ taken_keep t s (suc count) w y k taken =
     let c = k.counts in
     let go = can_go t s w k taken.1.can in
     let first = is_done t s w mid no_command k (omega (arith, go.0, c.rung)) taken.1.one in
-    one_further t s w mid y count k taken.1 (taken_keep t s count (world_after t w mid) y (entry_keeps t s w mid no_command k taken.1)
+    one_further t s w mid y count k taken.1 (taken_keep t s count (world_after t w mid) y
+    (entry_keeps t s w mid no_command k taken.1)
     (subst (λ r. Taken count t.page_size t.controller (scene mid.state r mid.bytes) y) first.rings taken.2))
 
 -- the rings lie in the memory
@@ -84,8 +116,18 @@ rings_lie t s w k =
       page = refl;
       submission = p.submissions;
       completion = p.completions;
-      fetch = record { deep = deep; from = number_below t w.done some; to = number_below t w.rung some; few = omega (arith, wait, c.rung, c.few, c.collected) };
-      post = record { deep = deep; from = number_below t w.told some; to = number_below t w.done some; few = omega (arith, held, c.free) };
+      fetch = record {
+        deep = deep;
+        from = number_below t w.done some;
+        to = number_below t w.rung some;
+        few = omega (arith, wait, c.rung, c.few, c.collected);
+      };
+      post = record {
+        deep = deep;
+        from = number_below t w.told some;
+        to = number_below t w.done some;
+        few = omega (arith, held, c.free);
+      };
     }
 
 -- a turn of a schedule, and how many entries it takes
@@ -96,10 +138,12 @@ pub record IsTurn (t : Setting) (s : State) (w : World) (most count : ℕ) (z : 
   pub number : count ≡ turn_count most (now t w)
 
 by_rings : (t : Setting) (s : State) (w : World) (most count : ℕ) (z : Site) → Keeps t s w
-    → PortTurn t.page_size t.controller most count (site w.state (port_with t (now t w)) w.mem) z → IsTurn t s w most count z
+    → PortTurn t.page_size t.controller most count (site w.state (port_with t (now t w)) w.mem) z
+    → IsTurn t s w most count z
 by_rings t s w most count z k turn =
     let last = turn.0 in
-    let counted = turn_count_is t.page_size t.controller most count (scene w.state (now t w) w.mem) last turn.1 (rings_lie t s w k) turn.2 in
+    let counted = turn_count_is t.page_size t.controller most count (scene w.state (now t w) w.mem)
+    last turn.1 (rings_lie t s w k) turn.2 in
     record {
       last = last;
       reached = taken_keep t s count w last k turn.2.entries;
@@ -110,16 +154,24 @@ by_rings t s w most count z k turn =
 pub is_turn : (t : Setting) (s : State) (w : World) (most count : ℕ) (z : Site) → Keeps t s w
     → PortTurn t.page_size t.controller most count (site w.state w.port w.mem) z → IsTurn t s w most count z
 is_turn t s w most count z k turn =
-    by_rings t s w most count z k (subst (λ p. PortTurn t.page_size t.controller most count (site w.state p w.mem) z) k.port turn)
+    by_rings t s w most count z k (subst (λ p. PortTurn t.page_size t.controller most count
+    (site w.state p w.mem) z) k.port turn)
 
-pub turn_keeps : (t : Setting) (s : State) (most : ℕ) (w w' : World) → Keeps t s w → Happens t (Turn most) w w' → Keeps t s w'
+pub turn_keeps : (t : Setting) (s : State) (most : ℕ) (w w' : World) → Keeps t s w
+    → Happens t (Turn most) w w' → Keeps t s w'
 turn_keeps t s most w w' k happens =
     let count = happens.0 in
     let r = is_turn t s w most count (site w'.state w'.port w'.mem) k happens.1 in
     let last = r.last in
     subst (Keeps t s)
-    (sym (happens.2 ∙ ap (λ (z : Site). record w { mem = z.bytes; state = z.state; port = z.port; done = w.done + count }) r.left
-    ∙ ap (λ rings. record w { mem = last.bytes; state = last.state; port = port_with t rings; done = w.done + count }) r.reached.rings))
+    (sym (happens.2 ∙ ap (λ (z : Site). record w
+    { mem = z.bytes; state = z.state; port = z.port; done = w.done + count }) r.left
+    ∙ ap (λ rings. record w {
+      mem = last.bytes;
+      state = last.state;
+      port = port_with t rings;
+      done = w.done + count;
+    }) r.reached.rings))
     r.reached.keeps
 
 -- other bytes stay
@@ -130,7 +182,8 @@ turn_leaves t s most w w' k happens from n apart =
     ap (λ (z : Site). bytes_at z.bytes from n) r.left ∙ r.reached.others from n apart
 
 -- the turn takes as many entries as the counts say
-pub turn_takes : (t : Setting) (s : State) (most : ℕ) (w w' : World) → Keeps t s w → Happens t (Turn most) w w' → w'.done ≡ w.done + least t w most
+pub turn_takes : (t : Setting) (s : State) (most : ℕ) (w w' : World) → Keeps t s w
+    → Happens t (Turn most) w w' → w'.done ≡ w.done + least t w most
 turn_takes t s most w w' k happens =
     let r = is_turn t s w most happens.0 (site w'.state w'.port w'.mem) k happens.1 in
     let c = k.counts in

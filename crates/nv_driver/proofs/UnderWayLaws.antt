@@ -39,7 +39,8 @@ use Rattle.nv_driver.proofs.WindowPageLaws.{differ, few_pages, fresh, page_of_on
 -- ---- the beginning
 
 serial_first : (r : Run) → r.lane.serial < 65535 → r.lane.serial ≡ serial_at r 0
-serial_first r below = let sum : r.lane.serial + 0 ≡ r.lane.serial = omega arith in sym (ap (λ n. n % 65535) sum ∙ mod-eq_of_lt below)
+serial_first r below = let sum : r.lane.serial + 0 ≡ r.lane.serial =
+    omega arith in sym (ap (λ n. n % 65535) sum ∙ mod-eq_of_lt below)
 
 lane_first : (r : Run) → IsReady r.geometry r.bus r.controller r.lane r.geometry.page_size r.bytes
     → r.lane ≡ record {
@@ -51,10 +52,15 @@ lane_first : (r : Run) → IsReady r.geometry r.bus r.controller r.lane r.geomet
 lane_first r ready =
     let l = r.lane in
     let laid = ready.laid in
-    ap (λ (q : SubmitNumbers). record l { submission = q }) (submit_ring_is r.geometry r.controller r.bytes l ready.quiet laid.number)
+    ap (λ (q : SubmitNumbers). record l { submission = q })
+    (submit_ring_is r.geometry r.controller r.bytes l ready.quiet laid.number)
     ∙ ap (λ (q : CollectNumbers). record l { submission = submit_ring (setting_of r) 0 0; completion = q })
     (collect_ring_is r.geometry r.controller r.bytes l ready.quiet laid.number)
-    ∙ ap (λ n. record l { submission = submit_ring (setting_of r) 0 0; completion = collect_ring (setting_of r) 0 0; serial = n }) (serial_first r laid.serial)
+    ∙ ap (λ n. record l {
+      submission = submit_ring (setting_of r) 0 0;
+      completion = collect_ring (setting_of r) 0 0;
+      serial = n;
+    }) (serial_first r laid.serial)
     ∙ ap (λ (p : Pages). record l {
       submission = submit_ring (setting_of r) 0 0;
       completion = collect_ring (setting_of r) 0 0;
@@ -63,7 +69,8 @@ lane_first r ready =
     }) (sym (taken_none l.pages).1)
 
 pub begins : (r : Run) (b : Batch) (now : ℕ) → IsReady r.geometry r.bus r.controller r.lane r.geometry.page_size r.bytes
-    → All CanBeSent r.commands → b.geometry ≡ r.geometry → b.ctrl ≡ r.controller → now ≡ r.geometry.page_size → length b.outstanding ≡ 16
+    → All CanBeSent r.commands → b.geometry ≡ r.geometry → b.ctrl ≡ r.controller
+    → now ≡ r.geometry.page_size → length b.outstanding ≡ 16
     → b.sent ≡ 0 → b.collected ≡ 0 → b.told ≡ 0 → IsUnderWay r b.sent b.collected b r.lane now r.bytes
 begins r b now ready can geometry controller page room sent collected told =
     let t = setting_of r in
@@ -97,16 +104,23 @@ begins r b now ready can geometry controller page room sent collected told =
 -- ---- what is known on the way
 
 -- the pages that the outstanding commands have
-abbrev pub held : {r : Run} {bells turns : ℕ} {b : Batch} {l : LaneFields} {now : ℕ} {bytes : List ℕ} → IsUnderWay r bells turns b l now bytes → List ℕ
+abbrev pub held : {r : Run} {bells turns : ℕ} {b : Batch} {l : LaneFields} {now : ℕ}
+    {bytes : List ℕ} → IsUnderWay r bells turns b l now bytes → List ℕ
 held {r} {bells} {turns} {b} u = pages_of_all (drop b.collected u.world.sent)
 
-pub own_length : (r : Run) (b : Batch) (n : ℕ) (x : Sent) → IsReady r.geometry r.bus r.controller r.lane r.geometry.page_size r.bytes
+pub own_length : (r : Run) (b : Batch) (n : ℕ) (x : Sent)
+    → IsReady r.geometry r.bus r.controller r.lane r.geometry.page_size r.bytes
     → IsKept r (kept_at b n) x → length (own_pages x) ≤ pages_of_command r.geometry.page_size
 own_length r b n x ready k =
-    let size = length-data_pages k.one k.seven (omega (arith, k.few, seven_pages r.geometry.page_size ready.geometry.page_size)) in
+    let size = length-data_pages k.one k.seven (omega (
+      arith,
+      k.few,
+      seven_pages r.geometry.page_size ready.geometry.page_size,
+    )) in
     let same = ap (λ (y : Sent). length (own_pages y)) k.sent in omega (arith, size, same, k.few)
 
-module _ {r : Run} {bells turns : ℕ} {b : Batch} {l : LaneFields} {now : ℕ} {bytes : List ℕ} (u : IsUnderWay r bells turns b l now bytes) where
+module _ {r : Run} {bells turns : ℕ} {b : Batch} {l : LaneFields} {now : ℕ} {bytes : List ℕ}
+    (u : IsUnderWay r bells turns b l now bytes) where
   -- command n under its command identifier
   pub command_of : (n : ℕ) (e : Command) → n < b.sent
       → numbered (get_or u.world.sent n no_command) ≡ record { command = get_or r.commands n e; cid = serial_at r n }
@@ -124,20 +138,24 @@ module _ {r : Run} {bells turns : ℕ} {b : Batch} {l : LaneFields} {now : ℕ} 
       let same = ap (λ (p : Pages). (p.first + p.count) * r.geometry.page_size) pages_left in
       let laid = u.begun.laid in omega (arith, same, laid.inside, u.size)
 
-  pub set_has : b.sent < b.collected + r.geometry.window → pages_of_command r.geometry.page_size ≤ set.len l.pages.members
+  pub set_has : b.sent < b.collected + r.geometry.window
+      → pages_of_command r.geometry.page_size ≤ set.len l.pages.members
   set_has more =
       let each = pages_of_command r.geometry.page_size in
       let pages = r.lane.pages in
       let quiet = u.begun.quiet in
-      let all = ap (λ (m : Pages). set.len m.members) (ap (λ m. record pages { members = m }) quiet.free) ∙ full_length pages.first pages.count in
+      let all = ap (λ (m : Pages). set.len m.members)
+      (ap (λ m. record pages { members = m }) quiet.free) ∙ full_length pages.first pages.count in
       let rest = taken_len pages (held u) u.taken in
       let now_has = ap (λ (p : Pages). set.len p.members) pages_left in
       let many = length-drop b.collected u.world.sent in
       let few = few_pages each (drop b.collected u.world.sent) (λ n d h.
       subst (λ (x : Sent). length (own_pages x) ≤ each) (sym (get_or-drop b.collected u.world.sent n d))
-      (own_length r b (b.collected + n) _ u.begun (u.kept (b.collected + n) d (omega arith) (omega (arith, u.sent))))) in
+      (own_length r b (b.collected + n) _ u.begun
+      (u.kept (b.collected + n) d (omega arith) (omega (arith, u.sent))))) in
       let c = u.keeps.counts in
-      let one_more : length (drop b.collected u.world.sent) + 1 ≤ r.geometry.window = omega (arith, many, u.sent, more, c.collected, c.done, c.rung, u.collected) in
+      let one_more : length (drop b.collected u.world.sent) + 1 ≤ r.geometry.window =
+      omega (arith, many, u.sent, more, c.collected, c.done, c.rung, u.collected) in
       let times = mul-le-mul_right each one_more in
       omega (arith, all, rest, now_has, few, times, u.begun.room)
 
@@ -152,16 +170,20 @@ module _ {r : Run} {bells turns : ℕ} {b : Batch} {l : LaneFields} {now : ℕ} 
       let window = u.begun.geometry.window in
       let c = u.keeps.counts in
       let order : b.collected ≤ b.sent = omega (arith, c.collected, c.done, c.rung, u.sent, u.collected) in
-      let far = number_above t b.collected b.sent (omega (arith, window.2, u.begun.depth)) order (omega (arith, window.2, u.begun.depth)) in
+      let far = number_above t b.collected b.sent (omega (arith, window.2, u.begun.depth)) order
+      (omega (arith, window.2, u.begun.depth)) in
       let is = subst IsSubmitFull (ap (λ (q : LaneFields). q.submission) u.lane) full in
       omega (arith, far, is, order, window.2, u.begun.depth)
 
 -- the tail after one command more
-pub tail_after : {r : Run} {bells turns : ℕ} {b : Batch} {l : LaneFields} {now : ℕ} {bytes : List ℕ} (u : IsUnderWay r bells turns b l now bytes) (n tail : ℕ)
-    → n ≡ b.sent → tail ≡ slot_of l.submission.depth (next l.submission.depth l.submission.submitted) → tail ≡ slot (setting_of r) (n + 1)
+pub tail_after : {r : Run} {bells turns : ℕ} {b : Batch} {l : LaneFields} {now : ℕ} {bytes : List ℕ}
+    (u : IsUnderWay r bells turns b l now bytes) (n tail : ℕ)
+    → n ≡ b.sent → tail ≡ slot_of l.submission.depth
+    (next l.submission.depth l.submission.submitted) → tail ≡ slot (setting_of r) (n + 1)
 tail_after {r} {bells} {turns} {b} u n tail sent is =
     is ∙ ap (λ (q : LaneFields). slot_of q.submission.depth (next q.submission.depth q.submission.submitted)) u.lane
-    ∙ ap (slot_of (setting_of r).depth) (number_next (setting_of r) b.sent) ∙ ap (λ i. slot (setting_of r) (i + 1)) (sym sent)
+    ∙ ap (slot_of (setting_of r).depth) (number_next (setting_of r) b.sent)
+    ∙ ap (λ i. slot (setting_of r) (i + 1)) (sym sent)
 
 -- ---- a submission
 
@@ -180,7 +202,8 @@ own_of_set s x pages same =
     subst (λ ps. (i d : ℕ) → i < length ps → IsOf s.first s.count (get_or ps i d)) same
 
 -- the pages of the outstanding commands, with one command more
-held_more : (xs : List Sent) (x : Sent) (n : ℕ) → n ≤ length xs → pages_of_all (drop n (xs ++ x ∷ [])) ≡ pages_of_all (drop n xs) ++ own_pages x
+held_more : (xs : List Sent) (x : Sent) (n : ℕ) → n ≤ length xs
+    → pages_of_all (drop n (xs ++ x ∷ [])) ≡ pages_of_all (drop n xs) ++ own_pages x
 held_more xs x n low = ap pages_of_all (drop-append-le n xs (x ∷ []) low) ∙ pages-append (drop n xs) x
 
 -- commands fewer than sixteen apart have two places in the window
@@ -189,13 +212,18 @@ unfolding slot_of
 two_places n m l h = λ same. slots_apart 16 m n l h (sym same)
 
 -- a command that is submitted while others are outstanding
-module _ {r : Run} {bells turns : ℕ} {b : Batch} {l l' : LaneFields} {now : ℕ} {bytes mem : List ℕ} {k : Command} {o : CommandPages}
-    (u : IsUnderWay r bells turns b l now bytes) (more : b.sent < b.collected + r.geometry.window) (sub : IsSubmitted r.geometry k o l l' bytes mem) where
+module _ {r : Run} {bells turns : ℕ} {b : Batch} {l l' : LaneFields} {now : ℕ} {bytes mem : List ℕ}
+    {k : Command} {o : CommandPages}
+    (u : IsUnderWay r bells turns b l now bytes) (more : b.sent < b.collected + r.geometry.window)
+    (sub : IsSubmitted r.geometry k o l l' bytes mem) where
   own_new : (i d : ℕ) → i < length (own_pages (sent_by r.geometry k l.serial o sub.prp1 sub.prp2))
-      → IsOf r.lane.pages.first r.lane.pages.count (get_or (own_pages (sent_by r.geometry k l.serial o sub.prp1 sub.prp2)) i d)
+      → IsOf r.lane.pages.first r.lane.pages.count
+      (get_or (own_pages (sent_by r.geometry k l.serial o sub.prp1 sub.prp2)) i d)
   own_new i d h =
-      subst (λ (s : Pages). IsOf s.first s.count (get_or (own_pages (sent_by r.geometry k l.serial o sub.prp1 sub.prp2)) i d)) (pages_left u)
-      (own_of_set l.pages (sent_by r.geometry k l.serial o sub.prp1 sub.prp2) (all_pages o) (pages_are o sub.seven) sub.taken.own i d h)
+      subst (λ (s : Pages). IsOf s.first s.count (get_or
+      (own_pages (sent_by r.geometry k l.serial o sub.prp1 sub.prp2)) i d)) (pages_left u)
+      (own_of_set l.pages (sent_by r.geometry k l.serial o sub.prp1 sub.prp2) (all_pages o)
+      (pages_are o sub.seven) sub.taken.own i d h)
 
   taken_new : AreTaken (without r.lane.pages (held u)) (own_pages (sent_by r.geometry k l.serial o sub.prp1 sub.prp2))
   taken_new = subst (λ s. AreTaken s (own_pages (sent_by r.geometry k l.serial o sub.prp1 sub.prp2))) (pages_left u)
@@ -207,9 +235,19 @@ module _ {r : Run} {bells turns : ℕ} {b : Batch} {l l' : LaneFields} {now : �
       let g = r.geometry in
       let laid = u.begun.laid in
       let mem_is = u.mem in
-      let inside = subst (λ m. (l.pages.first + l.pages.count) * g.page_size ≤ length m) (sym mem_is) (still_inside u) in
+      let inside = subst (λ m. (l.pages.first + l.pages.count) * g.page_size ≤ length m)
+      (sym mem_is) (still_inside u) in
       let has : Has l.pages o g.page_size (length u.world.mem) =
-      record { seven = sub.seven; few = omega (arith, sub.few, seven_pages g.page_size u.begun.geometry.page_size); taken = sub.taken; inside = inside } in
+      record {
+        seven = sub.seven;
+        few = omega (
+          arith,
+          sub.few,
+          seven_pages g.page_size u.begun.geometry.page_size,
+        );
+        taken = sub.taken;
+        inside = inside;
+      } in
       record {
         free = omega (arith, more, u.sent, u.collected, u.begun.geometry.window.2, u.begun.depth);
         can = can;
@@ -217,17 +255,23 @@ module _ {r : Run} {bells turns : ℕ} {b : Batch} {l l' : LaneFields} {now : �
         buffer = buffer_of g l.pages o u.world.mem g.page_size _ u.begun.geometry refl has sub.enough;
         list = list_of g l.pages o u.world.mem g.page_size u.begun.geometry refl has;
         distinct = distinct_of l.pages o sub.seven sub.taken;
-        submissions = before_pages r.lane.pages x g.page_size r.lane.submission.base (64 * r.lane.submission.depth) own_new (omega (arith, laid.rings, laid.pages));
-        completions = before_pages r.lane.pages x g.page_size r.lane.completion.base (16 * r.lane.submission.depth) own_new laid.pages;
+        submissions = before_pages r.lane.pages x g.page_size r.lane.submission.base
+            (64 * r.lane.submission.depth) own_new (omega (arith, laid.rings, laid.pages));
+        completions = before_pages r.lane.pages x g.page_size r.lane.completion.base
+            (16 * r.lane.submission.depth) own_new laid.pages;
         apart = λ n d from below i e h j f low same.
             let xs = u.world.sent in
             let p = get_or (own_pages (get_or xs n d)) i e in
             let at : b.collected + (n - b.collected) ≡ n = omega (arith, from, u.collected) in
-            let one = subst (λ (y : Sent). is_in (own_pages y) p ≡ true) (ap (λ m. get_or xs m d) (sym at) ∙ sym (get_or-drop b.collected xs (n - b.collected) d))
+            let one = subst (λ (y : Sent). is_in (own_pages y) p ≡ true)
+            (ap (λ m. get_or xs m d) (sym at) ∙ sym
+            (get_or-drop b.collected xs (n - b.collected) d))
             (in_of (own_pages (get_or xs n d)) i e p h refl) in
             let size = length-drop b.collected xs in
-            let there = page_of_one (drop b.collected xs) (n - b.collected) d p (omega (arith, size, from, below, u.collected)) one in
-            differ (is_in (held u) p) there (ap (is_in (held u)) same ∙ fresh r.lane.pages (held u) (own_pages x) taken_new j f low);
+            let there = page_of_one (drop b.collected xs) (n - b.collected) d p
+            (omega (arith, size, from, below, u.collected)) one in
+            differ (is_in (held u) p) there (ap (is_in (held u)) same
+            ∙ fresh r.lane.pages (held u) (own_pages x) taken_new j f low);
       }
 
   submitted : CanBeSent k
@@ -238,24 +282,39 @@ module _ {r : Run} {bells turns : ℕ} {b : Batch} {l l' : LaneFields} {now : �
       let x = sent_by r.geometry k l.serial o sub.prp1 sub.prp2 in
       let w = u.world in
       let ring : l.submission ≡ submit_ring t (length w.sent) (length w.answers) =
-      ap (λ (q : LaneFields). q.submission) u.lane ∙ ap (λ n. submit_ring t n b.collected) (sym u.sent) ∙ ap (submit_ring t (length w.sent)) (sym u.collected) in
-      let put = sub.mem ∙ ap (λ q. with_submission sub.ready q (entry x)) ring in
-      (may can, sub.ready, subst (λ m. IsPrepared r.geometry.page_size x m sub.ready) (sym u.mem) sub.prepared, ap (λ m. record w { mem = m; sent = w.sent ++ x ∷ [] }) put)
+      ap (λ (q : LaneFields). q.submission) u.lane
+      ∙ ap (λ n. submit_ring t n b.collected) (sym u.sent)
+      ∙ ap (submit_ring t (length w.sent)) (sym u.collected) in
+      let put = sub.mem ∙ ap (λ q. with_submission sub.ready q (entry x)) ring in (
+        may can,
+        sub.ready,
+        subst (λ m. IsPrepared r.geometry.page_size x m sub.ready) (sym u.mem)
+            sub.prepared,
+        ap (λ m. record w { mem = m; sent = w.sent ++ x ∷ [] }) put,
+      )
 
   -- the window keeps the places of the others
   kept_on : (n : ℕ) (d : Sent) → b.collected ≤ n → n < b.sent
-      → IsKept r (kept_at (record b { outstanding = set b.outstanding (b.sent % 16) (Some o); sent = b.sent + 1 }) n) (get_or u.world.sent n d)
+      → IsKept r (kept_at (record b {
+        outstanding = set b.outstanding (b.sent % 16) (Some o);
+        sent = b.sent + 1;
+      }) n) (get_or u.world.sent n d)
   kept_on n d from below =
       subst (λ q. IsKept r q (get_or u.world.sent n d))
-      (sym (get_or-set_other b.outstanding (b.sent % 16) (n % 16) (Some o) None (two_places n b.sent below (omega (arith, from, more, u.begun.geometry.window.1)))))
+      (sym (get_or-set_other b.outstanding (b.sent % 16) (n % 16) (Some o) None
+      (two_places n b.sent below (omega (arith, from, more, u.begun.geometry.window.1)))))
       (u.kept n d from below)
 
   kept_new : (n : ℕ) → n ≡ b.sent
-      → IsKept r (kept_at (record b { outstanding = set b.outstanding (b.sent % 16) (Some o); sent = b.sent + 1 }) n) (sent_by r.geometry k l.serial o sub.prp1 sub.prp2)
+      → IsKept r (kept_at (record b {
+        outstanding = set b.outstanding (b.sent % 16) (Some o);
+        sent = b.sent + 1;
+      }) n) (sent_by r.geometry k l.serial o sub.prp1 sub.prp2)
   kept_new n is = record {
     one = o;
     is_one = ap (λ i. get_or (set b.outstanding (b.sent % 16) (Some o)) (i % 16) None) is
-        ∙ get_or-set_same b.outstanding (b.sent % 16) (Some o) None (omega (arith, u.room, mod_below b.sent 16 (omega arith)));
+        ∙ get_or-set_same b.outstanding (b.sent % 16) (Some o) None
+        (omega (arith, u.room, mod_below b.sent 16 (omega arith)));
     sent = refl;
     few = sub.few;
     seven = sub.seven;
@@ -265,18 +324,26 @@ module _ {r : Run} {bells turns : ℕ} {b : Batch} {l l' : LaneFields} {now : �
     submission = submit_ring (setting_of r) (b.sent + 1) b.collected;
     completion = collect_ring (setting_of r) b.collected b.told;
     serial = serial_at r (b.sent + 1);
-    pages = without r.lane.pages (pages_of_all (drop b.collected (u.world.sent ++ sent_by r.geometry k l.serial o sub.prp1 sub.prp2 ∷ [])));
+    pages = without r.lane.pages (pages_of_all (drop b.collected
+        (u.world.sent ++ sent_by r.geometry k l.serial o sub.prp1 sub.prp2 ∷ [])));
   }
   lane_new =
       let t = setting_of r in
       let x = sent_by r.geometry k l.serial o sub.prp1 sub.prp2 in
       let xs = u.world.sent in
       let c = u.keeps.counts in
-      let pages : without (without r.lane.pages (held u)) (all_pages o) ≡ without r.lane.pages (pages_of_all (drop b.collected (xs ++ x ∷ []))) =
-      without_also r.lane.pages (held u) (all_pages o) ∙ ap (λ ps. without r.lane.pages (held u ++ ps)) (pages_are o sub.seven)
-      ∙ ap (without r.lane.pages) (sym (held_more xs x b.collected (omega (arith, c.collected, c.done, c.rung, u.sent, u.collected)))) in
+      let pages : without (without r.lane.pages (held u)) (all_pages o) ≡ without r.lane.pages
+      (pages_of_all (drop b.collected (xs ++ x ∷ []))) =
+      without_also r.lane.pages (held u) (all_pages o)
+      ∙ ap (λ ps. without r.lane.pages (held u ++ ps)) (pages_are o sub.seven)
+      ∙ ap (without r.lane.pages) (sym (held_more xs x b.collected
+      (omega (arith, c.collected, c.done, c.rung, u.sent, u.collected)))) in
       sub.lane
-      ∙ ap (λ (q : LaneFields). record q { submission = submitted_one q.submission; serial = next_serial q.serial; pages = without q.pages (all_pages o) }) u.lane
+      ∙ ap (λ (q : LaneFields). record q {
+        submission = submitted_one q.submission;
+        serial = next_serial q.serial;
+        pages = without q.pages (all_pages o);
+      }) u.lane
       ∙ ap (λ n. record {
         submission = record { base = t.sq; depth = t.depth; submitted = n; known = number t b.collected };
         completion = collect_ring t b.collected b.told;
@@ -296,8 +363,12 @@ module _ {r : Run} {bells turns : ℕ} {b : Batch} {l l' : LaneFields} {now : �
         pages = p;
       }) pages
 
-  pub submits : (now' : ℕ) → b.sent < length r.commands → ((d : Command) → k ≡ get_or r.commands b.sent d) → length mem ≡ length bytes → now' ≡ now
-      → IsUnderWay r bells turns (record b { outstanding = set b.outstanding (b.sent % 16) (Some o); sent = b.sent + 1 }) l' now' mem
+  pub submits : (now' : ℕ) → b.sent < length r.commands
+      → ((d : Command) → k ≡ get_or r.commands b.sent d) → length mem ≡ length bytes → now' ≡ now
+      → IsUnderWay r bells turns (record b {
+        outstanding = set b.outstanding (b.sent % 16) (Some o);
+        sent = b.sent + 1;
+      }) l' now' mem
   submits now' below is size page =
       let x = sent_by r.geometry k l.serial o sub.prp1 sub.prp2 in
       let w = u.world in
@@ -332,23 +403,47 @@ module _ {r : Run} {bells turns : ℕ} {b : Batch} {l l' : LaneFields} {now : �
             ∙ ap (λ y. take b.sent (numbered_of r) ++ y ∷ []) (at ∙ sym next)
             ∙ sym (take_more (numbered_of r) b.sent (numbered x) (omega (arith, below, size_of)));
         kept = λ n d from h. each_more
-            (λ i y. IsKept r (kept_at (record b { outstanding = set b.outstanding (b.sent % 16) (Some o); sent = b.sent + 1 }) i) y) b.collected w.sent x
+            (λ i y. IsKept r (kept_at (record b {
+              outstanding =
+                  set b.outstanding (b.sent % 16) (Some o);
+              sent = b.sent + 1;
+            }) i) y) b.collected
+            w.sent x
             (λ i e above low. kept_on i e above (omega (arith, u.sent))) (kept_new (length w.sent) u.sent)
             n d from (omega (arith, h, u.sent, length-append w.sent (x ∷ [])));
         lane = lane_new;
-        taken = subst (AreTaken r.lane.pages) (sym (held_more w.sent x b.collected (omega (arith, c.collected, c.done, c.rung, u.sent, u.collected))))
+        taken = subst (AreTaken r.lane.pages) (sym
+            (held_more w.sent x b.collected (omega (
+              arith,
+              c.collected,
+              c.done,
+              c.rung,
+              u.sent,
+              u.collected,
+            ))))
             (taken_also r.lane.pages (held u) (own_pages x) u.taken taken_new);
-        own = λ n d h. each_more (λ i y. All (λ p. IsOf r.lane.pages.first r.lane.pages.count p) (own_pages y)) 0 w.sent x
-            (λ i e from low. u.own i e (omega (arith, u.sent))) own_new n d (omega arith) (omega (arith, h, u.sent, length-append w.sent (x ∷ [])));
+        own = λ n d h. each_more (λ i y. All (λ p. IsOf r.lane.pages.first r.lane.pages.count p)
+            (own_pages y)) 0 w.sent x
+            (λ i e from low. u.own i e (omega (arith, u.sent))) own_new n d (omega arith)
+            (omega (arith, h, u.sent, length-append w.sent (x ∷ [])));
       }
 
 -- the same by the number that a loop has come to
-pub submits_at : {r : Run} {bells turns : ℕ} {b : Batch} {l l' : LaneFields} {now now' n : ℕ} {bytes mem : List ℕ} {g : Geometry} {k : Command} {ks : List Command}
-    {o : CommandPages} (u : IsUnderWay r bells turns b l now bytes) (e : Command) → b.sent ≡ n → b.sent < b.collected + r.geometry.window → g ≡ r.geometry
-    → IsSubmitted g k o l l' bytes mem → ks ≡ r.commands → k ≡ get_or ks n e → n < length ks → length mem ≡ length bytes → now' ≡ now
-    → IsUnderWay r bells turns (record b { outstanding = set b.outstanding (n % 16) (Some o); sent = b.sent + 1 }) l' now' mem
-submits_at {r} {bells} {turns} {b} {l} {l'} {now} {now'} {n} {bytes} {mem} {g} {k} {ks} {o} u e at more is sub same one below size page =
+pub submits_at : {r : Run} {bells turns : ℕ} {b : Batch} {l l' : LaneFields} {now now' n : ℕ}
+    {bytes mem : List ℕ} {g : Geometry} {k : Command} {ks : List Command}
+    {o : CommandPages} (u : IsUnderWay r bells turns b l now bytes) (e : Command) → b.sent ≡ n
+    → b.sent < b.collected + r.geometry.window → g ≡ r.geometry
+    → IsSubmitted g k o l l' bytes mem → ks ≡ r.commands → k ≡ get_or ks n e → n < length ks
+    → length mem ≡ length bytes → now' ≡ now
+    → IsUnderWay r bells turns (record b {
+      outstanding = set b.outstanding (n % 16) (Some o);
+      sent = b.sent + 1;
+    }) l' now' mem
+submits_at {r} {bells} {turns} {b} {l} {l'} {now} {now'} {n} {bytes} {mem} {g} {k} {ks} {o} u e
+    at more is sub same one below size page =
     let many = ap (λ (xs : List Command). length xs) same in
-    subst (λ i. IsUnderWay r bells turns (record b { outstanding = set b.outstanding (i % 16) (Some o); sent = b.sent + 1 }) l' now' mem) at
+    subst (λ i. IsUnderWay r bells turns (record b
+    { outstanding = set b.outstanding (i % 16) (Some o); sent = b.sent + 1 }) l' now' mem) at
     (submits u more (subst (λ q. IsSubmitted q k o l l' bytes mem) is sub) now' (omega (arith, many))
-    (λ d. one ∙ get_or_default ks n e d below ∙ ap (λ xs. get_or xs n d) same ∙ ap (λ i. get_or r.commands i d) (sym at)) size page)
+    (λ d. one ∙ get_or_default ks n e d below ∙ ap (λ xs. get_or xs n d) same
+    ∙ ap (λ i. get_or r.commands i d) (sym at)) size page)

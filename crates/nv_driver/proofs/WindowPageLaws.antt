@@ -54,7 +54,8 @@ right_at ps qs i d =
 pairs_right : (ps qs : List ℕ) → AllPairs (λ p q. p ≢ q) (ps ++ qs) → AllPairs (λ p q. p ≢ q) qs
 pairs_right ps qs each i j d before h = λ same.
     let more = length-append ps qs in
-    each (length ps + i) (length ps + j) d (omega arith) (omega arith) (right_at ps qs i d ∙ same ∙ sym (right_at ps qs j d))
+    each (length ps + i) (length ps + j) d (omega arith) (omega arith)
+    (right_at ps qs i d ∙ same ∙ sym (right_at ps qs j d))
 
 -- a page of the first part is none of the second
 apart_in : (ps qs : List ℕ) → AllPairs (λ p q. p ≢ q) (ps ++ qs) → (q : ℕ) → is_in ps q ≡ true → is_in qs q ≡ false
@@ -66,7 +67,8 @@ apart_in ps qs each q there =
     (get_or_append_left ps qs d i h ∙ sym same ∙ get_or_default qs j e d k ∙ sym (right_at ps qs j d)))) there
 
 -- pairs of two parts that have no page in common
-pairs_append : (ps qs : List ℕ) → AllPairs (λ p q. p ≢ q) ps → AllPairs (λ p q. p ≢ q) qs → All (λ q. is_in ps q ≡ false) qs
+pairs_append : (ps qs : List ℕ) → AllPairs (λ p q. p ≢ q) ps → AllPairs (λ p q. p ≢ q) qs
+    → All (λ q. is_in ps q ≡ false) qs
     → AllPairs (λ p q. p ≢ q) (ps ++ qs)
 pairs_append ps qs first second none i j d before h =
     let more = length-append ps qs in
@@ -80,7 +82,8 @@ pairs_append ps qs first second none i j d before h =
           ap (λ n. get_or (ps ++ qs) n d) (sym at) ∙ right_at ps qs (j - length ps) d in
           elim (cases_lt i (length ps)) [
             | inl low ↦ (λ same.
-                let one = in_of ps i d (get_or qs (j - length ps) d) low (sym (get_or_append_left ps qs d i low) ∙ same ∙ is) in
+                let one = in_of ps i d (get_or qs (j - length ps) d) low
+                (sym (get_or_append_left ps qs d i low) ∙ same ∙ is) in
                 differ (is_in ps (get_or qs (j - length ps) d)) one (none (j - length ps) d (omega arith)))
             | inr above ↦ (λ same.
                 let from : length ps + (i - length ps) ≡ i = omega arith in
@@ -92,7 +95,8 @@ pairs_append ps qs first second none i j d before h =
 -- ---- pages taken out of a set
 
 -- how many pages are left
-pub taken_len : (s : Pages) (ps : List ℕ) → AreTaken s ps → set.len (without s ps).members + length ps ≡ set.len s.members
+pub taken_len : (s : Pages) (ps : List ℕ) → AreTaken s ps
+    → set.len (without s ps).members + length ps ≡ set.len s.members
 taken_len s ps t =
     let all = (so_far (length ps) (omega arith)).len in
     subst (λ qs. set.len (without s qs).members + length qs ≡ set.len s.members) (take-length ps) all
@@ -112,10 +116,12 @@ taken_len s ps t =
         let fresh : is_in qs p ≡ false = not_in qs p (λ i d k same.
         let low : i < n = omega arith in
         t.distinct i n d low below (sym (get_or-take n ps i d low) ∙ same ∙ get_or_default ps n 0 d below)) in
-        let there = difference_in s.members qs p ∙ present (set.contains s.members p) (is_in qs p) (t.had n 0 below) fresh in
+        let there = difference_in s.members qs p ∙ present (set.contains s.members p) (is_in qs p)
+        (t.had n 0 below) fresh in
         let more = taking_more s (without s qs) _ qs p (so_far n (omega arith)) there (t.own n 0 below) refl in
         subst (λ k. Taking s (without s (take k ps)) (take k ps)) (add-one n)
-        (subst (λ xs. Taking s (without s xs) xs) (sym (take_more ps n 0 below)) (subst (λ x. Taking s x (qs ++ p ∷ [])) more.left more))
+        (subst (λ xs. Taking s (without s xs) xs) (sym (take_more ps n 0 below))
+        (subst (λ x. Taking s x (qs ++ p ∷ [])) more.left more))
 
 -- more pages are taken
 pub taken_also : (s : Pages) (ps qs : List ℕ) → AreTaken s ps → AreTaken (without s ps) qs → AreTaken s (ps ++ qs)
@@ -125,7 +131,8 @@ taken_also s ps qs first second = record {
   distinct = pairs_append ps qs first.distinct second.distinct (λ i d h. (parts i d h).1);
 }
   where
-    parts : (i d : ℕ) → i < length qs → (set.contains s.members (get_or qs i d) ≡ true) × (is_in ps (get_or qs i d) ≡ false)
+    parts : (i d : ℕ) → i < length qs → (set.contains s.members (get_or qs i d) ≡ true)
+        × (is_in ps (get_or qs i d) ≡ false)
     parts i d h =
         let q = get_or qs i d in
         both (set.contains s.members q) (is_in ps q) (sym (difference_in s.members ps q) ∙ second.had i d h)
@@ -144,7 +151,8 @@ without_also s ps qs =
     moved false b c = refl
 
 -- a page that is taken is none of those that were taken before
-pub fresh : (s : Pages) (ps qs : List ℕ) → AreTaken (without s ps) qs → (i d : ℕ) → i < length qs → is_in ps (get_or qs i d) ≡ false
+pub fresh : (s : Pages) (ps qs : List ℕ) → AreTaken (without s ps) qs → (i d : ℕ) → i < length qs
+    → is_in ps (get_or qs i d) ≡ false
 fresh s ps qs second i d h =
     let q = get_or qs i d in
     (both (set.contains s.members q) (is_in ps q) (sym (difference_in s.members ps q) ∙ second.had i d h)).1
@@ -163,17 +171,21 @@ taken_rest s qs ps t = record {
   distinct = pairs_right qs ps t.distinct;
 }
 
-pub gone : (s : Pages) (qs ps : List ℕ) (i d : ℕ) → i < length qs → set.contains (without s (qs ++ ps)).members (get_or qs i d) ≡ false
+pub gone : (s : Pages) (qs ps : List ℕ) (i d : ℕ) → i < length qs
+    → set.contains (without s (qs ++ ps)).members (get_or qs i d) ≡ false
 gone s qs ps i d h =
     let more = length-append qs ps in
-    subst (λ q. set.contains (without s (qs ++ ps)).members q ≡ false) (get_or_append_left qs ps d i h) (without_none s (qs ++ ps) i d (omega arith))
+    subst (λ q. set.contains (without s (qs ++ ps)).members q ≡ false)
+    (get_or_append_left qs ps d i h) (without_none s (qs ++ ps) i d (omega arith))
 
 -- the first pages are given back
-pub given_back : (s : Pages) (qs ps : List ℕ) → AreTaken s (qs ++ ps) → with_pages (without s (qs ++ ps)) qs ≡ without s ps
+pub given_back : (s : Pages) (qs ps : List ℕ) → AreTaken s (qs ++ ps)
+    → with_pages (without s (qs ++ ps)) qs ≡ without s ps
 given_back s qs ps t =
     ap (λ m. record s { members = m }) (same_numbers _ _ (λ q.
     union_in (set.difference s.members (set.from_list (qs ++ ps))) qs q
-    ∙ ap (λ b. b || is_in qs q) (difference_in s.members (qs ++ ps) q ∙ ap (λ b. set.contains s.members q && not b) (is_in-append qs ps q))
+    ∙ ap (λ b. b || is_in qs q) (difference_in s.members (qs ++ ps) q
+    ∙ ap (λ b. set.contains s.members q && not b) (is_in-append qs ps q))
     ∙ again q (set.contains s.members q) (is_in qs q) (is_in ps q) refl refl refl
     ∙ sym (difference_in s.members ps q)))
   where
@@ -201,16 +213,19 @@ pages-append [] x = last (own_pages x)
     last : (ps : List ℕ) → ps ++ [] ≡ ps
     last [] = refl
     last (p ∷ ps) = ap (λ rest. p ∷ rest) (last ps)
-pages-append (y ∷ xs) x = ap (λ rest. own_pages y ++ rest) (pages-append xs x) ∙ sym (assoc (own_pages y) (pages_of_all xs) (own_pages x))
+pages-append (y ∷ xs) x = ap (λ rest. own_pages y ++ rest) (pages-append xs x)
+    ∙ sym (assoc (own_pages y) (pages_of_all xs) (own_pages x))
   where
     assoc : (a b c : List ℕ) → (a ++ b) ++ c ≡ a ++ (b ++ c)
     assoc [] b c = refl
     assoc (p ∷ a) b c = ap (λ rest. p ∷ rest) (assoc a b c)
 
 -- a page of one of them is one of all
-pub page_of_one : (xs : List Sent) (n : ℕ) (d : Sent) (q : ℕ) → n < length xs → is_in (own_pages (get_or xs n d)) q ≡ true → is_in (pages_of_all xs) q ≡ true
+pub page_of_one : (xs : List Sent) (n : ℕ) (d : Sent) (q : ℕ) → n < length xs
+    → is_in (own_pages (get_or xs n d)) q ≡ true → is_in (pages_of_all xs) q ≡ true
 page_of_one [] n d q h e = absurd (omega arith)
-page_of_one (x ∷ xs) zero d q h e = is_in-append (own_pages x) (pages_of_all xs) q ∙ ap (λ b. b || is_in (pages_of_all xs) q) e
+page_of_one (x ∷ xs) zero d q h e = is_in-append (own_pages x) (pages_of_all xs) q
+    ∙ ap (λ b. b || is_in (pages_of_all xs) q) e
 page_of_one (x ∷ xs) (suc n) d q h e =
     is_in-append (own_pages x) (pages_of_all xs) q
     ∙ ap (λ b. is_in (own_pages x) q || b) (page_of_one xs n d q (omega arith) e) ∙ or_true (is_in (own_pages x) q)
@@ -220,7 +235,8 @@ page_of_one (x ∷ xs) (suc n) d q h e =
     or_true false = refl
 
 -- commands of so many pages or fewer
-pub few_pages : (m : ℕ) (xs : List Sent) → ((n : ℕ) (d : Sent) → n < length xs → length (own_pages (get_or xs n d)) ≤ m) → length (pages_of_all xs) ≤ length xs * m
+pub few_pages : (m : ℕ) (xs : List Sent) → ((n : ℕ) (d : Sent) → n < length xs
+    → length (own_pages (get_or xs n d)) ≤ m) → length (pages_of_all xs) ≤ length xs * m
 few_pages m [] few = omega arith
 few_pages m (x ∷ xs) few =
     let more = length-append (own_pages x) (pages_of_all xs) in

@@ -20,7 +20,8 @@ pub record RingLies (page_size size : ℕ) (l : LaneFields) (v : Lane) : Type 0 
   pub high : l.completion.base + length (zeros l) ≤ (v.first_page + v.page_count) * page_size
   pub inside : l.completion.base + length (zeros l) ≤ size
 
-ring_lies : {page_size size : ℕ} {l : LaneFields} {v : Lane} → IsQuiet l → lane_value l ≡ v → IsLaid page_size size v → RingLies page_size size l v
+ring_lies : {page_size size : ℕ} {l : LaneFields} {v : Lane} → IsQuiet l → lane_value l ≡ v
+    → IsLaid page_size size v → RingLies page_size size l v
 ring_lies {page_size} {size} {l} {v} quiet is laid =
     let cq = ap (λ (u : Lane). u.cq) is in
     let depth = quiet.depth ∙ ap (λ (u : Lane). u.depth) is in
@@ -33,17 +34,21 @@ ring_lies {page_size} {size} {l} {v} quiet is laid =
       inside = omega (arith, laid.pages, laid.inside, cq, depth, many, pages);
     }
 
-pub zeroed_length : {page_size : ℕ} {l : LaneFields} {v : Lane} (old new : List ℕ) → IsQuiet l → lane_value l ≡ v → IsLaid page_size (length old) v
+pub zeroed_length : {page_size : ℕ} {l : LaneFields} {v : Lane} (old new : List ℕ) → IsQuiet l
+    → lane_value l ≡ v → IsLaid page_size (length old) v
     → new ≡ with_bytes old l.completion.base (zeros l) → length new ≡ length old
 zeroed_length {page_size} {l} {v} old new quiet is laid zeroed =
-    ap (λ (bs : List ℕ). length bs) zeroed ∙ length-with_bytes old l.completion.base (zeros l) (ring_lies quiet is laid).inside
+    ap (λ (bs : List ℕ). length bs) zeroed ∙ length-with_bytes old l.completion.base (zeros l)
+    (ring_lies quiet is laid).inside
 
-pub zeroed_others : {page_size : ℕ} {l : LaneFields} {v : Lane} (old new : List ℕ) → IsQuiet l → lane_value l ≡ v → IsLaid page_size (length old) v
+pub zeroed_others : {page_size : ℕ} {l : LaneFields} {v : Lane} (old new : List ℕ) → IsQuiet l
+    → lane_value l ≡ v → IsLaid page_size (length old) v
     → new ≡ with_bytes old l.completion.base (zeros l) → KeepsOthers page_size v old new
 zeroed_others {page_size} {l} {v} old new quiet is laid zeroed from n apart =
     let lies = ring_lies quiet is laid in
     ap (λ bs. bytes_at bs from n) zeroed
     ∙ elim apart [
       | inl before ↦ bytes_at-with_before old l.completion.base (zeros l) from n (omega (arith, lies.low)) lies.inside
-      | inr behind ↦ bytes_at-with_after old l.completion.base (zeros l) from n (omega (arith, lies.low, lies.high)) lies.inside
+      | inr behind ↦ bytes_at-with_after old l.completion.base (zeros l) from n
+          (omega (arith, lies.low, lies.high)) lies.inside
     ]

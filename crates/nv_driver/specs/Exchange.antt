@@ -5,7 +5,7 @@ use Rattle.nv_prp.specs.Buffer.{IsApart}
 use Rattle.nv_queue.specs.Numbers.{kept_number, next}
 use Rattle.nv_queue.specs.Slots.{HoldsTags}
 use Rattle.nv_model.specs.Step.{next_serial}
-use Rattle.nv_model.specs.declared.origin.TheConstants.{SERIALS}
+use Rattle.nv_model.specs.Numbers.{serial_count}
 use Rattle.nv_bus.specs.Bus.{BusValue, IsBus, port_at}
 use Rattle.nv_driver.specs.Geometry.{IsGeometry}
 use Rattle.nv_driver.specs.Lane.{IsLaid, Lane, idle_port}
@@ -38,7 +38,7 @@ after_one l = record l { number = next l.depth l.number; serial = next_serial l.
 -- and after so many
 abbrev pub after_some : ℕ → Lane → Lane
 after_some n l =
-    record l { number = kept_number l.depth (l.number + n); serial = (l.serial + n) % SERIALS }
+    record l { number = kept_number l.depth (l.number + n); serial = (l.serial + n) % serial_count }
 
 -- bytes outside the lane stay
 abbrev pub KeepsOthers : ℕ → Lane → List ℕ → List ℕ → Type 0

@@ -4,7 +4,7 @@ use Rattle.nv_queue.specs.Numbers.{IsDepth}
 use Rattle.nv_register.specs.declared.port.Port.{Port}
 use Rattle.nv_register.specs.declared.readiness.Readiness.TheVariants.{Ready}
 use Rattle.nv_register.specs.declared.rings.Rings.{Rings}
-use Rattle.nv_model.specs.declared.origin.TheConstants.{SERIALS}
+use Rattle.nv_model.specs.Numbers.{serial_count}
 
 -- where its rings and its pages lie, and of its next command the number, as the rings keep it, and
 -- the command identifier
@@ -44,7 +44,7 @@ idle_port mps page_size l = record {
 pub record IsLaid (page_size size : ℕ) (l : Lane) : Type 0 where
   pub deep : IsDepth l.depth
   pub number : l.number < 2 * l.depth
-  pub serial : l.serial < SERIALS
+  pub serial : l.serial < serial_count
   pub rings : l.sq + 64 * l.depth ≤ l.cq
   pub pages : l.cq + 16 * l.depth ≤ l.first_page * page_size
   pub inside : (l.first_page + l.page_count) * page_size ≤ size

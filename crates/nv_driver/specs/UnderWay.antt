@@ -4,7 +4,7 @@ use Rattle.std.specs.Prelude.{Option, None, Some, drop, length, map, min, slice_
 use Rattle.std.specs.Prelude.{slice_set, take}
 use Rattle.nv_host.specs.PageSets.{IsOf}
 use Rattle.nv_command.specs.declared.command.Command.{Command}
-use Rattle.nv_model.specs.declared.origin.TheConstants.{SERIALS}
+use Rattle.nv_model.specs.Numbers.{serial_count}
 use Rattle.nv_bus.specs.Bus.{BusValue, IsBus, port_at}
 use Rattle.nv_driver.specs.Batch.{answers_of, from_serial, state_after}
 use Rattle.nv_driver.specs.CommandPages.{AreTaken, without}
@@ -56,7 +56,7 @@ abbrev pub numbered_of : Run → List Numbered
 numbered_of r = from_serial r.lane.serial r.commands
 
 abbrev pub serial_at : Run → ℕ → ℕ
-serial_at r n = (r.lane.serial + n) % SERIALS
+serial_at r n = (r.lane.serial + n) % serial_count
 
 -- the pages of commands, one after the other
 abbrev pub pages_of_all : List Sent → List ℕ

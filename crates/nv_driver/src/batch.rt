@@ -6,7 +6,7 @@ ghost use Rattle.nv_bus.specs.Bus.{IsBus, port_at};
 ghost use Rattle.nv_queue.specs.Numbers.{slot_of};
 ghost use Rattle.nv_queue.specs.Rings.{told_all};
 ghost use Rattle.nv_register.specs.Port.{with_register_at};
-ghost use Rattle.nv_model.specs.declared.origin.TheConstants.{SERIALS};
+ghost use Rattle.nv_model.specs.Numbers.{serial_count};
 ghost use Rattle.nv_driver.specs.Batch.{answers_of, state_after};
 ghost use Rattle.nv_driver.specs.Exchange.{IsReady, KeepsOthers, after_some};
 ghost use Rattle.nv_driver.specs.Quiet.{lane_value};
@@ -47,8 +47,8 @@ pub struct Batch {
 /// How many commands after the one with identifier `cid` the one with `next` comes. Section
 /// "Submission Queue Entry", Command Identifier.
 fn distance(cid: u16, next: u16) -> usize
-    requires cid { cid < SERIALS }
-    ensures { result ≡ (next + SERIALS - cid) % SERIALS }
+    requires cid { cid < serial_count }
+    ensures { result ≡ (next + serial_count - cid) % serial_count }
 {
     ((u32::from(next) + u32::from(SERIALS) - u32::from(cid)) % u32::from(SERIALS)) as usize
 }

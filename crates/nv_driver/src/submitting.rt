@@ -11,7 +11,7 @@ ghost use Rattle.nv_command.specs.Logs.{IsSendable};
 ghost use Rattle.nv_bus.specs.Call.{length_of};
 ghost use Rattle.nv_queue.specs.Numbers.{next, slot_of};
 ghost use Rattle.nv_queue.specs.Rings.{IsSubmitFull};
-ghost use Rattle.nv_model.specs.declared.origin.TheConstants.{SERIALS};
+ghost use Rattle.nv_model.specs.Numbers.{serial_count};
 ghost use Rattle.nv_driver.specs.CommandPages.{data_pages};
 ghost use Rattle.nv_driver.specs.Geometry.{IsGeometry};
 ghost use Rattle.nv_driver.specs.Layout.{pages_of_command};
@@ -137,7 +137,7 @@ pub(crate) fn submit<M: HostMemory>(
     requires geometry { IsGeometry geometry }
     requires page { M.page_len mem.old ≡ geometry.page_size }
     requires can { CanBeSent command.now }
-    requires serial { lane.old.serial < SERIALS }
+    requires serial { lane.old.serial < serial_count }
     requires pages { pages_of_command geometry.page_size ≤ set.len lane.old.pages.members }
     requires inside { (lane.old.pages.first + lane.old.pages.count) * geometry.page_size
         ≤ length (M.bytes mem.old) }

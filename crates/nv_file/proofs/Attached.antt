@@ -30,7 +30,8 @@ distinct : (zs : List ℤ) → differ zs ≡ true → AllPairs (λ y z. y ≢ z)
 distinct [] h = λ i j d before below. absurd (omega arith)
 distinct (z ∷ zs) h =
     let parts = and_parts (not (list_any (λ y. int_eq y z) zs)) (differ zs) h in
-    AllPairs-cons (λ y z. y ≢ z) z zs (none_is z zs (not_true (list_any (λ y. int_eq y z) zs) parts.0)) (distinct zs parts.1)
+    AllPairs-cons (λ y z. y ≢ z) z zs (none_is z zs
+    (not_true (list_any (λ y. int_eq y z) zs) parts.0)) (distinct zs parts.1)
 
 one_where_private : (shared : Bool) (n : ℕ) → (shared || nat_le n 1) ≡ true → shared ≡ false → n ≤ 1
 one_where_private true n h private = absurd (cc private)
@@ -38,14 +39,17 @@ one_where_private false n h private = leb-true n 1 h
 
 is_attached : (cs : List ControllerValue) (n : NamespaceValue) → may_attach cs n ≡ true → IsAttached cs n
 is_attached cs n h =
-    let parts = and_parts (list_all (is_cntlid cs) n.controllers) (differ n.controllers && (n.namespace.shared || nat_le (length n.controllers) 1)) h in
+    let parts = and_parts (list_all (is_cntlid cs) n.controllers)
+    (differ n.controllers && (n.namespace.shared || nat_le (length n.controllers) 1)) h in
     let more = and_parts (differ n.controllers) (n.namespace.shared || nat_le (length n.controllers) 1) parts.1 in
     record {
-      known = All-weaker (λ z. is_cntlid cs z ≡ true) (λ z. Any (λ c. pos c.identity.cntlid ≡ z) cs) (named_one cs) n.controllers (AllPass-from_list_all (is_cntlid cs) n.controllers parts.0);
+      known = All-weaker (λ z. is_cntlid cs z ≡ true) (λ z. Any (λ c. pos c.identity.cntlid ≡ z) cs)
+          (named_one cs) n.controllers (AllPass-from_list_all (is_cntlid cs) n.controllers parts.0);
       distinct = distinct n.controllers more.0;
       private = one_where_private n.namespace.shared (length n.controllers) more.1;
     }
 
 pub attached : (cs : List ControllerValue) (ns : List NamespaceValue) → attaches cs ns ≡ true → All (IsAttached cs) ns
 unfolding attaches
-attached cs ns h = All-weaker (λ n. may_attach cs n ≡ true) (IsAttached cs) (is_attached cs) ns (AllPass-from_list_all (may_attach cs) ns h)
+attached cs ns h = All-weaker (λ n. may_attach cs n ≡ true) (IsAttached cs) (is_attached cs) ns
+    (AllPass-from_list_all (may_attach cs) ns h)

@@ -14,7 +14,8 @@ or_false : (a b : Bool) → (a || b) ≡ false → (a ≡ false) × (b ≡ false
 or_false true b h = absurd (cc h)
 or_false false b h = (refl, h)
 
-none_is : {A : Type 0} (key : A → ℕ) (xs : List A) (n : ℕ) → list_any (λ y. key y == n) xs ≡ false → (k : ℕ) (d : A) → k < length xs → key (get_or xs k d) ≢ n
+none_is : {A : Type 0} (key : A → ℕ) (xs : List A) (n : ℕ) → list_any (λ y. key y == n) xs ≡ false
+    → (k : ℕ) (d : A) → k < length xs → key (get_or xs k d) ≢ n
 none_is key [] n h k d lt e = absurd (omega arith)
 none_is key (y ∷ xs) n h zero d lt e =
     let parts = or_false (key y == n) (list_any (λ x. key x == n) xs) h in
@@ -23,14 +24,28 @@ none_is key (y ∷ xs) n h zero d lt e =
 none_is key (y ∷ xs) n h (suc k) d lt e =
     none_is key xs n (or_false (key y == n) (list_any (λ x. key x == n) xs) h).1 k d (omega arith) e
 
-fresh_last : {A : Type 0} (key : A → ℕ) (xs : List A) (x : A) → AllPairs (λ a b. key a ≢ key b) xs → list_any (λ y. key y == key x) xs ≡ false → AllPairs (λ a b. key a ≢ key b) (xs ++ x ∷ [])
-fresh_last key xs x pairs new = all_pairs_push (λ a b. key a ≢ key b) xs x pairs (λ k d lt. none_is key xs (key x) new k d lt)
+fresh_last : {A : Type 0} (key : A → ℕ) (xs : List A) (x : A) → AllPairs (λ a b. key a ≢ key b) xs
+    → list_any (λ y. key y == key x) xs ≡ false → AllPairs (λ a b. key a ≢ key b) (xs ++ x ∷ [])
+fresh_last key xs x pairs new = all_pairs_push (λ a b. key a ≢ key b) xs x pairs
+    (λ k d lt. none_is key xs (key x) new k d lt)
 
-pub fresh_rule : (xs : List FeatureRule) (x : FeatureRule) → AllPairs (λ a b. a.fid ≢ b.fid) xs → list_any (λ y. y.fid == x.fid) xs ≡ false → AllPairs (λ a b. a.fid ≢ b.fid) (xs ++ x ∷ [])
+pub fresh_rule : (xs : List FeatureRule) (x : FeatureRule) → AllPairs (λ a b. a.fid ≢ b.fid) xs
+    → list_any (λ y. y.fid == x.fid) xs ≡ false → AllPairs (λ a b. a.fid ≢ b.fid) (xs ++ x ∷ [])
 fresh_rule = fresh_last (λ r. r.fid)
 
-pub fresh_controller : (xs : List ControllerEntry) (x : ControllerEntry) → AllPairs (λ a b. a.identity.cntlid ≢ b.identity.cntlid) (map controller_entry_view xs) → list_any (λ y. y.identity.cntlid == x.identity.cntlid) xs ≡ false → AllPairs (λ a b. a.identity.cntlid ≢ b.identity.cntlid) (map controller_entry_view (xs ++ x ∷ []))
-fresh_controller xs x pairs new = rw (map_push controller_entry_view xs x) (fresh_last (λ c. c.identity.cntlid) (map controller_entry_view xs) (controller_entry_view x) pairs (cntlids xs x.identity.cntlid ∙ new))
+pub fresh_controller : (xs : List ControllerEntry) (x : ControllerEntry)
+    → AllPairs (λ a b. a.identity.cntlid ≢ b.identity.cntlid) (map controller_entry_view xs)
+    → list_any (λ y. y.identity.cntlid == x.identity.cntlid) xs ≡ false
+    → AllPairs (λ a b. a.identity.cntlid ≢ b.identity.cntlid)
+    (map controller_entry_view (xs ++ x ∷ []))
+fresh_controller xs x pairs new = rw (map_push controller_entry_view xs x)
+    (fresh_last (λ c. c.identity.cntlid) (map controller_entry_view xs) (controller_entry_view x)
+    pairs (cntlids xs x.identity.cntlid ∙ new))
 
-pub fresh_namespace : (xs : List NamespaceEntry) (x : NamespaceEntry) → AllPairs (λ a b. a.nsid ≢ b.nsid) (map namespace_entry_view xs) → list_any (λ y. y.nsid == x.nsid) xs ≡ false → AllPairs (λ a b. a.nsid ≢ b.nsid) (map namespace_entry_view (xs ++ x ∷ []))
-fresh_namespace xs x pairs new = rw (map_push namespace_entry_view xs x) (fresh_last (λ n. n.nsid) (map namespace_entry_view xs) (namespace_entry_view x) pairs (nsids xs x.nsid ∙ new))
+pub fresh_namespace : (xs : List NamespaceEntry) (x : NamespaceEntry)
+    → AllPairs (λ a b. a.nsid ≢ b.nsid) (map namespace_entry_view xs)
+    → list_any (λ y. y.nsid == x.nsid) xs ≡ false
+    → AllPairs (λ a b. a.nsid ≢ b.nsid) (map namespace_entry_view (xs ++ x ∷ []))
+fresh_namespace xs x pairs new = rw (map_push namespace_entry_view xs x)
+    (fresh_last (λ n. n.nsid) (map namespace_entry_view xs) (namespace_entry_view x) pairs
+    (nsids xs x.nsid ∙ new))

@@ -7,32 +7,45 @@ use Rattle.nv_file.specs.declared.namespace.NamespaceEntry.{NamespaceEntry}
 use Rattle.nv_file.specs.File.{may_attach, is_cntlid, differ}
 use Rattle.nv_file.specs.FileValue.{ControllerValue, controller_entry_view, namespace_entry_view}
 
-pub cntlids : (cs : List ControllerEntry) (n : ℕ) → list_any (λ c. c.identity.cntlid == n) (map controller_entry_view cs) ≡ list_any (λ c. c.identity.cntlid == n) cs
+pub cntlids : (cs : List ControllerEntry) (n : ℕ)
+    → list_any (λ c. c.identity.cntlid == n) (map controller_entry_view cs) ≡ list_any
+    (λ c. c.identity.cntlid == n) cs
 cntlids [] n = refl
 cntlids (c ∷ cs) n = rw (cntlids cs n)
 
-pub nsids : (ns : List NamespaceEntry) (n : ℕ) → list_any (λ m. m.nsid == n) (map namespace_entry_view ns) ≡ list_any (λ m. m.nsid == n) ns
+pub nsids : (ns : List NamespaceEntry) (n : ℕ)
+    → list_any (λ m. m.nsid == n) (map namespace_entry_view ns) ≡ list_any (λ m. m.nsid == n) ns
 nsids [] n = refl
 nsids (m ∷ ns) n = rw (nsids ns n)
 
-capacities_onto : (n : ℕ) (ns : List NamespaceEntry) → fold (λ a m. a + m.namespace.capacity) n (map namespace_entry_view ns) ≡ fold (λ a m. a + m.namespace.capacity) n ns
+capacities_onto : (n : ℕ) (ns : List NamespaceEntry)
+    → fold (λ a m. a + m.namespace.capacity) n (map namespace_entry_view ns) ≡ fold
+    (λ a m. a + m.namespace.capacity) n ns
 capacities_onto n [] = refl
 capacities_onto n (m ∷ ns) = capacities_onto (n + m.namespace.capacity) ns
 
-pub capacities : (ns : List NamespaceEntry) → sum_by (λ m. m.namespace.capacity) (map namespace_entry_view ns) ≡ sum_by (λ m. m.namespace.capacity) ns
+pub capacities : (ns : List NamespaceEntry) → sum_by (λ m. m.namespace.capacity)
+    (map namespace_entry_view ns) ≡ sum_by (λ m. m.namespace.capacity) ns
 capacities ns = capacities_onto 0 ns
 
-one_cntlid : (cs : List ControllerEntry) (z : ℤ) → is_cntlid (map controller_entry_view cs) z ≡ list_any (λ c. int_eq (pos c.identity.cntlid) z) cs
+one_cntlid : (cs : List ControllerEntry) (z : ℤ)
+    → is_cntlid (map controller_entry_view cs) z ≡ list_any (λ c. int_eq (pos c.identity.cntlid) z) cs
 one_cntlid [] z = refl
 one_cntlid (c ∷ cs) z = rw (one_cntlid cs z)
 
-pub all_cntlids : (cs : List ControllerEntry) (zs : List ℤ) → list_all (is_cntlid (map controller_entry_view cs)) zs ≡ list_all (λ z. list_any (λ c. int_eq (pos c.identity.cntlid) z) cs) zs
+pub all_cntlids : (cs : List ControllerEntry) (zs : List ℤ)
+    → list_all (is_cntlid (map controller_entry_view cs)) zs ≡ list_all
+    (λ z. list_any (λ c. int_eq (pos c.identity.cntlid) z) cs) zs
 all_cntlids cs [] = refl
 all_cntlids cs (z ∷ zs) = rw (one_cntlid cs z, all_cntlids cs zs)
 
-pub differ_at : (zs : List ℤ) (i : ℕ) (d : ℤ) → i < length zs → differ (drop i zs) ≡ (not (list_any (λ y. int_eq y (get_or zs i d)) (drop (i + 1) zs)) && differ (drop (i + 1) zs))
+pub differ_at : (zs : List ℤ) (i : ℕ) (d : ℤ) → i < length zs
+    → differ (drop i zs) ≡ (not (list_any (λ y. int_eq y (get_or zs i d)) (drop (i + 1) zs)) && differ
+    (drop (i + 1) zs))
 differ_at zs i d h = rw (drop_more zs i d h)
 
-pub all_attach : (cs : List ControllerValue) (ns : List NamespaceEntry) → list_all (may_attach cs) (map namespace_entry_view ns) ≡ list_all (λ n. may_attach cs (namespace_entry_view n)) ns
+pub all_attach : (cs : List ControllerValue) (ns : List NamespaceEntry)
+    → list_all (may_attach cs) (map namespace_entry_view ns) ≡ list_all
+    (λ n. may_attach cs (namespace_entry_view n)) ns
 all_attach cs [] = refl
 all_attach cs (n ∷ ns) = rw (all_attach cs ns)

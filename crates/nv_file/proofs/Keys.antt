@@ -7,11 +7,15 @@ use Rattle.toml.specs.declared.value.Value.{Value}
 use Rattle.toml.specs.View.{table_view, members_view}
 use Rattle.nv_file.specs.declared.key.Key.{Key}
 use Rattle.nv_file.specs.Names.{key_text}
-use Rattle.nv_file.specs.Section.{has_only}
+use Rattle.nv_file.specs.KeyChecks.{has_only}
 
-known_entries : (known : List Key) (es : List (String Global × Value)) → list_all (λ k. list_any (λ x. bytes_eq (key_text x) (string_bytes k)) known) (map (λ e. e.0) es) ≡ has_only known (members_view es)
+known_entries : (known : List Key) (es : List (String Global × Value))
+    → list_all (λ k. list_any (λ x. bytes_eq (key_text x) (string_bytes k)) known) (map (λ e. e.0) es)
+    ≡ has_only known (members_view es)
 known_entries known [] = refl
 known_entries known (e ∷ es) = rw (known_entries known es)
 
-pub known_keys : (known : List Key) (m : BTreeMap (String Global) Value) → list_all (λ k. list_any (λ x. bytes_eq (key_text x) (string_bytes k)) known) (keys m) ≡ has_only known (table_view m)
+pub known_keys : (known : List Key) (m : BTreeMap (String Global) Value)
+    → list_all (λ k. list_any (λ x. bytes_eq (key_text x) (string_bytes k)) known) (keys m) ≡ has_only
+    known (table_view m)
 known_keys known m = known_entries known m.entries

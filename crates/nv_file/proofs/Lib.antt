@@ -1,5 +1,9 @@
 pub mod Attached
+pub mod CheckLaws
 pub mod Distinct
+pub mod FileLaws
 pub mod Fused
+pub mod KeyLaws
 pub mod Keys
 pub mod Readings
+pub mod TableLaws

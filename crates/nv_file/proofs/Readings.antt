@@ -3,11 +3,14 @@ use Rattle.std.proofs.Common.{◌≡◌, ℕ, ◌+◌, ◌<◌, List, [], ◌∷
 use Rattle.std.proofs.lemmas.List.{drop_more}
 use Rattle.nv_file.specs.declared.error.SubsystemError.{SubsystemError}
 use Rattle.nv_file.specs.declared.error.SubsystemError.TheVariants.{NotToml, Missing, Kind, Range, Repeated, Unknown, Capacity, Attachment, Memory}
-use Rattle.nv_file.specs.Fault.{◌>>=◌, IsUnlessMemory}
-use Rattle.nv_file.specs.Section.{readings}
+use Rattle.nv_layout.specs.Steps.{◌>>=◌}
+use Rattle.nv_file.specs.Fault.{IsUnlessMemory}
+use Rattle.nv_file.specs.KeyReading.{readings}
 
 -- what fails at its first step fails
-fails_first : {X Z A B : Type 0} (f : X → A) (g : Z → B) (e : SubsystemError) (first : Result A SubsystemError) (next : A → Result B SubsystemError) → IsUnlessMemory f (Err e) first → IsUnlessMemory g (Err e) (first >>= next)
+fails_first : {X Z A B : Type 0} (f : X → A) (g : Z → B) (e : SubsystemError)
+    (first : Result A SubsystemError) (next : A → Result B SubsystemError)
+    → IsUnlessMemory f (Err e) first → IsUnlessMemory g (Err e) (first >>= next)
 fails_first f g NotToml first next h = rw h
 fails_first f g (Missing t k) first next h = rw h
 fails_first f g (Kind t k) first next h = rw h
@@ -18,8 +21,14 @@ fails_first f g Capacity first next h = rw h
 fails_first f g Attachment first next h = rw h
 fails_first f g Memory first next h = tt
 
-pub readings_at : {A B : Type 0} (read : List A → B → Result A SubsystemError) (before : List A) (xs : List B) (i : ℕ) (d : B) → i < length xs → readings read before (drop i xs) ≡ (read before (get_or xs i d) >>= (λ y. readings read (before ++ y ∷ []) (drop (i + 1) xs)))
+pub readings_at : {A B : Type 0} (read : List A → B → Result A SubsystemError) (before : List A)
+    (xs : List B) (i : ℕ) (d : B) → i < length xs
+    → readings read before (drop i xs) ≡ (read before (get_or xs i d) >>=
+    (λ y. readings read (before ++ y ∷ []) (drop (i + 1) xs)))
 readings_at read before xs i d h = rw (drop_more xs i d h)
 
-pub readings_fail : {X Z A B : Type 0} (f : X → A) (g : Z → List A) (read : List A → B → Result A SubsystemError) (before : List A) (xs : List B) (i : ℕ) (d : B) (e : SubsystemError) → i < length xs → IsUnlessMemory f (Err e) (read before (get_or xs i d)) → IsUnlessMemory g (Err e) (readings read before (drop i xs))
+pub readings_fail : {X Z A B : Type 0} (f : X → A) (g : Z → List A)
+    (read : List A → B → Result A SubsystemError) (before : List A) (xs : List B) (i : ℕ) (d : B)
+    (e : SubsystemError) → i < length xs → IsUnlessMemory f (Err e) (read before (get_or xs i d))
+    → IsUnlessMemory g (Err e) (readings read before (drop i xs))
 readings_fail f g read before xs i d e h fails = rw (readings_at read before xs i d h) (fails_first f g e _ _ fails)

@@ -3,13 +3,6 @@ use Rattle.std.specs.Prelude.{◌≡◌, Bool, Result, Ok, Err, if◌then◌else
 use Rattle.nv_file.specs.declared.error.SubsystemError.{SubsystemError}
 use Rattle.nv_file.specs.declared.error.SubsystemError.TheVariants.{Memory}
 
--- reading goes on with what was read, or ends at the first fault
-infixl 10 ◌>>=◌
-abbrev pub ◌>>=◌ : {A B : Type 0} → Result A SubsystemError → (A → Result B SubsystemError)
-    → Result B SubsystemError
-(Ok x) >>= f = f x
-(Err e) >>= f = Err e
-
 -- the fault, unless the rule holds
 unfoldable pub ensure : Bool → SubsystemError → Result (Unit {0}) SubsystemError
 ensure holds e = if holds then Ok tt else Err e

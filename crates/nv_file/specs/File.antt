@@ -1,57 +1,62 @@
--- A whole file: its tables, and what must hold between them.
-use Rattle.std.specs.Prelude.{ℕ, ℤ, pos, Bool, true, not, ◌&&◌, ◌||◌, List, [], ◌∷◌, length, Result}
-use Rattle.std.specs.Prelude.{Ok, Err, nat_le, sum_by, if◌then◌else◌}
+-- A whole file: the checks of its tables, in the order of the file, and those between them; and
+-- what it holds where none of them fails. `m` are the members of the top table.
+use Rattle.std.specs.Prelude.{ℕ, ℤ, pos, Bool, true, not, ◌&&◌, ◌||◌, List, [], ◌∷◌, ◌++◌, length}
+use Rattle.std.specs.Prelude.{map, Result, Err, nat_le, sum_by, if◌then◌else◌}
 use Rattle.std.specs.List.{list_all, list_any}
 use Rattle.std.specs.Option.{ok_or}
 use Rattle.std.specs.Ordering.{int_eq}
 use Rattle.std.specs.Str.{is_utf8}
 use Rattle.toml.specs.Data.{Members}
 use Rattle.toml.specs.Parse.{parse_document}
+use Rattle.nv_layout.specs.Steps.{◌>>=◌}
+use Rattle.nv_model.specs.Numbers.{greatest_integer}
+use Rattle.nv_model.specs.declared.format.Format.{Format}
 use Rattle.nv_file.specs.declared.error.SubsystemError.{SubsystemError}
-use Rattle.nv_file.specs.declared.error.SubsystemError.TheVariants.{NotToml, Range, Capacity}
-use Rattle.nv_file.specs.declared.error.SubsystemError.TheVariants.{Attachment}
+use Rattle.nv_file.specs.declared.error.SubsystemError.TheVariants.{NotToml, Capacity, Attachment}
 use Rattle.nv_file.specs.declared.table_name.TableName.TheVariants as table
 use Rattle.nv_file.specs.declared.key.Key.TheVariants as key
-use Rattle.nv_model.specs.declared.integer.TheConstants.{GREATEST_INTEGER}
-use Rattle.nv_file.specs.Fault.{◌>>=◌, ensure}
+use Rattle.nv_file.specs.Check.{Check, check, checked}
 use Rattle.nv_file.specs.FileValue.{ControllerValue, NamespaceValue, FileValue}
-use Rattle.nv_file.specs.Section.{integer, integer_or, text, tables, tables_or_none, only_known}
-use Rattle.nv_file.specs.Section.{readings}
-use Rattle.nv_file.specs.Tables.{format_of, controller_entry_of, namespace_entry_of}
+use Rattle.nv_file.specs.KeyChecks.{needed, integer, text, tables, of_kind, in_limits, as_tables}
+use Rattle.nv_file.specs.KeyChecks.{no_other, each, number_at, text_at, tables_at}
+use Rattle.nv_file.specs.Names.{keys_of}
+use Rattle.nv_file.specs.TableChecks.{format_checks, format_value, controller_checks}
+use Rattle.nv_file.specs.TableChecks.{controller_value, namespace_checks, namespace_value}
 
--- what the top table holds, before the tables in it are read
-pub record Top : Type 0 where
-  pub version : ℕ
-  pub nn : ℕ
-  pub tnvmcap : ℕ
-  pub mc : ℕ
-  pub subnqn : List ℕ
-  pub formats : List Members
-  pub controllers : List Members
-  pub namespaces : List Members
+-- ---- the top table
 
-unfoldable pub top_of : Members → Result Top SubsystemError
-top_of members = do
-  version ← integer table.Top key.Version 1 2 members
-  nn ← integer table.Top key.Nn 1 1024 members
-  tnvmcap ← integer table.Top key.Tnvmcap 0 GREATEST_INTEGER members
-  mc ← integer_or table.Top key.Mc 0 0 3 members
-  subnqn ← text table.Top key.Subnqn 223 members
-  formats ← tables table.Top key.Format 16 members
-  controllers ← tables table.Top key.Controller 16 members
-  namespaces ← tables_or_none table.Top key.Namespace members
-  few ← ensure (nat_le (length namespaces) nn) (Range table.Top key.Namespace)
-  known ← only_known table.Top members
-  Ok (record {
-    version = version;
-    nn = nn;
-    tnvmcap = tnvmcap;
-    mc = mc;
-    subnqn = subnqn;
-    formats = formats;
-    controllers = controllers;
-    namespaces = namespaces;
-  })
+abbrev pub nn_of : Members → ℕ
+nn_of m = number_at key.Nn 0 m
+
+unfoldable pub top_checks : Members → List Check
+top_checks m =
+    needed table.Top key.Version m
+    ++ integer table.Top key.Version 1 2 m
+    ++ needed table.Top key.Nn m
+    ++ integer table.Top key.Nn 1 1024 m
+    ++ needed table.Top key.Tnvmcap m
+    ++ integer table.Top key.Tnvmcap 0 greatest_integer m
+    ++ integer table.Top key.Mc 0 3 m
+    ++ needed table.Top key.Subnqn m
+    ++ text table.Top key.Subnqn 223 m
+    ++ needed table.Top key.Format m
+    ++ tables table.Top key.Format 16 m
+    ++ needed table.Top key.Controller m
+    ++ tables table.Top key.Controller 16 m
+    ++ of_kind table.Top key.Namespace as_tables m
+    ++ in_limits table.Top key.Namespace (nat_le (length (tables_at key.Namespace m)) (nn_of m))
+    ++ no_other table.Top (keys_of table.Top) m
+
+abbrev pub formats_of : Members → List Format
+formats_of m = map format_value (tables_at key.Format m)
+
+abbrev pub controllers_of : Members → List ControllerValue
+controllers_of m = map controller_value (tables_at key.Controller m)
+
+abbrev pub namespaces_of : Members → List NamespaceValue
+namespaces_of m = map namespace_value (tables_at key.Namespace m)
+
+-- ---- between the tables
 
 -- the capacities add up to no more than there is
 abbrev pub fits : ℕ → List NamespaceValue → Bool
@@ -75,24 +80,28 @@ may_attach controllers n =
 unfoldable pub attaches : List ControllerValue → List NamespaceValue → Bool
 attaches controllers namespaces = list_all (may_attach controllers) namespaces
 
--- the tables within the top table, in the order of the file, and then what must hold between them
-unfoldable pub file_of : Members → Result FileValue SubsystemError
-file_of members = do
-  top ← top_of members
-  formats ← readings (λ _. format_of) [] top.formats
-  controllers ← readings (controller_entry_of top.version) [] top.controllers
-  namespaces ← readings (namespace_entry_of top.nn top.mc formats) [] top.namespaces
-  room ← ensure (fits top.tnvmcap namespaces) Capacity
-  attached ← ensure (attaches controllers namespaces) Attachment
-  Ok (record {
-    nn = top.nn;
-    tnvmcap = top.tnvmcap;
-    mc = top.mc;
-    subnqn = top.subnqn;
-    formats = formats;
-    controllers = controllers;
-    namespaces = namespaces;
-  })
+-- ---- the whole
+
+unfoldable pub file_checks : Members → List Check
+file_checks m =
+    top_checks m
+    ++ each (λ _. format_checks) [] (tables_at key.Format m)
+    ++ each (controller_checks (number_at key.Version 0 m)) [] (tables_at key.Controller m)
+    ++ each (namespace_checks (nn_of m) (number_at key.Mc 0 m) (formats_of m)) []
+    (tables_at key.Namespace m)
+    ++ check (fits (number_at key.Tnvmcap 0 m) (namespaces_of m)) Capacity
+    ++ check (attaches (controllers_of m) (namespaces_of m)) Attachment
+
+unfoldable pub file_value : Members → FileValue
+file_value m = record {
+  nn = nn_of m;
+  tnvmcap = number_at key.Tnvmcap 0 m;
+  mc = number_at key.Mc 0 m;
+  subnqn = text_at key.Subnqn m;
+  formats = formats_of m;
+  controllers = controllers_of m;
+  namespaces = namespaces_of m;
+}
 
 -- the top table of a document
 unfoldable pub document : List ℕ → Result Members SubsystemError
@@ -101,5 +110,5 @@ document bytes = if is_utf8 bytes then ok_or (parse_document bytes) NotToml else
 -- what a file holds, or its first fault
 unfoldable pub file : List ℕ → Result FileValue SubsystemError
 file bytes = do
-  members ← document bytes
-  file_of members
+  m ← document bytes
+  checked (file_checks m) (file_value m)

@@ -3,7 +3,7 @@ use Rattle.std.specs.Prelude.{◌≡◌, ◌≢◌, ℕ, pos, ◌≤◌, false, 
 use Rattle.std.specs.Prelude.{Any, AllPairs, slice_get}
 use Rattle.nv_model.specs.declared.format.Format.{Format}
 use Rattle.nv_file.specs.FileValue.{ControllerValue, NamespaceValue, FileValue}
-use Rattle.nv_file.specs.File.{Top}
+use Rattle.nv_file.specs.FileReading.{Top}
 use Rattle.nv_model.specs.Ranges.{AreTopKeys, IsFormat, IsFeatureRule, IsSmart, IsIdentity}
 use Rattle.nv_model.specs.Ranges.{IsInFormat}
 

@@ -1,10 +1,14 @@
+pub mod Check
 pub mod Fault
 pub mod FaultText
 pub mod File
+pub mod FileReading
 pub mod FileValue
 pub mod IsFile
+pub mod KeyChecks
+pub mod KeyReading
 pub mod Names
-pub mod Section
 pub mod SectionView
-pub mod Tables
+pub mod TableChecks
+pub mod TableReading
 pub mod TopView

@@ -2,7 +2,7 @@
 use Rattle.std.specs.Prelude.{string_bytes}
 use Rattle.nv_file.specs.declared.top.Top.{Top as CodeTop}
 use Rattle.nv_file.specs.SectionView.{tables_view}
-use Rattle.nv_file.specs.File.{Top}
+use Rattle.nv_file.specs.FileReading.{Top}
 
 abbrev pub top_view : CodeTop → Top
 top_view t = record {

@@ -4,7 +4,8 @@ ghost use Rattle.toml.specs.View.{table_view};
 ghost use Rattle.nv_layout.specs.Feature.{feature_of, is_value};
 ghost use Rattle.nv_model.specs.Defaults.{AreDefaults, AreThresholds, default_at};
 ghost use Rattle.nv_file.specs.Fault.{IsUnlessMemory};
-ghost use Rattle.nv_file.specs.Tables.{default_over, defaults_of, nine, thresholds_or};
+ghost use Rattle.nv_file.specs.TableChecks.{default_over, nine};
+ghost use Rattle.nv_file.specs.TableReading.{defaults_of, thresholds_or};
 
 use crate::error::{SubsystemError, ensure};
 use crate::key::Key;
@@ -33,7 +34,7 @@ fn nine(numbers: &[u16]) -> [u16; 9]
 }
 
 /// What a key of Temperature Threshold holds, or what stands for it where it is missing.
-#[tactic(auto, unfolding(crate::specs::Tables::thresholds_or))]
+#[tactic(auto, unfolding(crate::specs::TableReading::thresholds_or))]
 fn thresholds_or(
     alloc: Global,
     default: [u16; 9],
@@ -68,7 +69,7 @@ fn default_over(wctemp: u16) -> [u16; 9]
 }
 
 /// The defaults of a feature, of which `value` is what stands at `default`.
-#[tactic(auto, unfolding(crate::specs::Tables::defaults_of))]
+#[tactic(auto, unfolding(crate::specs::TableReading::defaults_of))]
 pub(crate) fn defaults_of(
     alloc: Global,
     version: u8,

@@ -3,9 +3,9 @@ ghost use Rattle.std.specs.Prelude.{◌≡◌, ◌≢◌, ◌==◌, [], All, All
 ghost use Rattle.std.specs.List.{list_any};
 ghost use Rattle.toml.specs.View.{table_view};
 ghost use Rattle.nv_file.specs.Fault.{IsUnlessMemory};
-ghost use Rattle.nv_file.specs.Section.{readings};
+ghost use Rattle.nv_file.specs.KeyReading.{readings};
 ghost use Rattle.nv_file.specs.SectionView.{tables_view};
-ghost use Rattle.nv_file.specs.Tables.{feature_of};
+ghost use Rattle.nv_file.specs.TableReading.{feature_of};
 ghost use Rattle.nv_model.specs.Ranges.{IsFeatureRule};
 
 use crate::defaults::defaults_of;
@@ -24,7 +24,7 @@ fn has_fid(rules: &[FeatureRule], fid: u8) -> bool
     rules.iter().any(|rule| rule.fid == fid)
 }
 
-#[tactic(auto, unfolding(crate::specs::Tables::feature_of))]
+#[tactic(auto, unfolding(crate::specs::TableReading::feature_of))]
 fn feature_of(
     alloc: Global,
     version: u8,

@@ -8,11 +8,11 @@ ghost use Rattle.toml.specs.Data.{get_member, as_table, as_integer};
 ghost use Rattle.toml.specs.View.{view, items_view, table_view};
 ghost use Rattle.nv_file.specs.Names.{key_text};
 ghost use Rattle.nv_file.specs.Fault.{IsUnlessMemory};
-ghost use Rattle.nv_file.specs.Section.{in_range, integer_in_range, integer, integer_or, flag_or};
-ghost use Rattle.nv_file.specs.Section.{text, items_as, tables_in, tables, tables_or_none};
-ghost use Rattle.nv_file.specs.Section.{table_or_none, integers_in, integers_or_none, readings};
-ghost use Rattle.nv_file.specs.Section.{element, has_key, integers_in_range_or_none, only};
-ghost use Rattle.nv_file.specs.Section.{only_known};
+ghost use Rattle.nv_file.specs.KeyChecks.{has_key, items_as};
+ghost use Rattle.nv_file.specs.KeyReading.{in_range, integer_in_range, integer, integer_or};
+ghost use Rattle.nv_file.specs.KeyReading.{flag_or, text, tables_in, tables, tables_or_none};
+ghost use Rattle.nv_file.specs.KeyReading.{table_or_none, integers_in, integers_or_none, readings};
+ghost use Rattle.nv_file.specs.KeyReading.{element, integers_in_range_or_none, only, only_known};
 ghost use Rattle.nv_model.specs.Ranges.{is_text};
 ghost use Rattle.nv_file.specs.SectionView.{tables_view};
 
@@ -76,7 +76,7 @@ impl<'a> Section<'a> {
         }
     }
 
-    #[tactic(auto, unfolding(crate::specs::Section::in_range))]
+    #[tactic(auto, unfolding(crate::specs::KeyReading::in_range))]
     fn in_range(&self, key: Key, low: u64, high: u64, integer: i64) -> Result<u64, SubsystemError>
         ensures exact { IsUnlessMemory (λ n. n) result
             (in_range self.now.name key low high integer) }
@@ -93,7 +93,7 @@ impl<'a> Section<'a> {
         }
     }
 
-    #[tactic(auto, unfolding(crate::specs::Section::integer_in_range))]
+    #[tactic(auto, unfolding(crate::specs::KeyReading::integer_in_range))]
     fn integer_in_range(
         &self,
         key: Key,
@@ -110,7 +110,7 @@ impl<'a> Section<'a> {
     }
 
     /// A required integer from `low` to `high`.
-    #[tactic(auto, unfolding(crate::specs::Section::integer))]
+    #[tactic(auto, unfolding(crate::specs::KeyReading::integer))]
     pub(crate) fn integer(&self, key: Key, low: u64, high: u64) -> Result<u64, SubsystemError>
         ensures exact { IsUnlessMemory (λ n. n) result
             (integer self.now.name key low high (table_view self.now.table.now)) }
@@ -121,7 +121,7 @@ impl<'a> Section<'a> {
     }
 
     /// An optional integer from `low` to `high`.
-    #[tactic(auto, unfolding(crate::specs::Section::integer_or))]
+    #[tactic(auto, unfolding(crate::specs::KeyReading::integer_or))]
     pub(crate) fn integer_or(
         &self,
         key: Key,
@@ -149,7 +149,7 @@ impl<'a> Section<'a> {
     }
 
     /// An optional true or false.
-    #[tactic(auto, unfolding(crate::specs::Section::flag_or))]
+    #[tactic(auto, unfolding(crate::specs::KeyReading::flag_or))]
     pub(crate) fn flag_or(&self, key: Key, default: bool) -> Result<bool, SubsystemError>
         ensures { IsUnlessMemory (λ b. b) result
             (flag_or self.now.name key default (table_view self.now.table.now)) }
@@ -161,7 +161,7 @@ impl<'a> Section<'a> {
     }
 
     /// A required text of 1 to `most` bytes.
-    #[tactic(auto, unfolding(crate::specs::Section::text))]
+    #[tactic(auto, unfolding(crate::specs::KeyReading::text))]
     pub(crate) fn text(
         &self,
         alloc: Global,
@@ -181,7 +181,7 @@ impl<'a> Section<'a> {
         }
     }
 
-    #[tactic(auto, unfolding(crate::specs::Section::tables_in))]
+    #[tactic(auto, unfolding(crate::specs::KeyReading::tables_in))]
     fn tables_in(
         &self,
         alloc: Global,
@@ -200,7 +200,7 @@ impl<'a> Section<'a> {
     }
 
     /// A required list of 1 to `most` tables.
-    #[tactic(auto, unfolding(crate::specs::Section::tables))]
+    #[tactic(auto, unfolding(crate::specs::KeyReading::tables))]
     pub(crate) fn tables(
         &self,
         alloc: Global,
@@ -221,7 +221,7 @@ impl<'a> Section<'a> {
     }
 
     /// An optional list of tables, of any length.
-    #[tactic(auto, unfolding(crate::specs::Section::tables_or_none))]
+    #[tactic(auto, unfolding(crate::specs::KeyReading::tables_or_none))]
     pub(crate) fn tables_or_none(
         &self,
         alloc: Global,
@@ -237,7 +237,7 @@ impl<'a> Section<'a> {
     }
 
     /// An optional table.
-    #[tactic(auto, unfolding(crate::specs::Section::table_or_none))]
+    #[tactic(auto, unfolding(crate::specs::KeyReading::table_or_none))]
     pub(crate) fn table_or_none(&self, key: Key) -> Result<Option<&'a Table>, SubsystemError>
         ensures { IsUnlessMemory (λ o. option_map (λ t. table_view t.now) o) result
             (table_or_none self.now.name key (table_view self.now.table.now)) }
@@ -251,7 +251,7 @@ impl<'a> Section<'a> {
         }
     }
 
-    #[tactic(auto, unfolding(crate::specs::Section::integers_in))]
+    #[tactic(auto, unfolding(crate::specs::KeyReading::integers_in))]
     fn integers_in(
         &self,
         alloc: Global,
@@ -270,7 +270,7 @@ impl<'a> Section<'a> {
     }
 
     /// An optional list of integers, of any size.
-    #[tactic(auto, unfolding(crate::specs::Section::integers_or_none))]
+    #[tactic(auto, unfolding(crate::specs::KeyReading::integers_or_none))]
     pub(crate) fn integers_or_none(
         &self,
         alloc: Global,
@@ -286,7 +286,7 @@ impl<'a> Section<'a> {
     }
 
     /// The integers of a list, each from 0 to `high`.
-    #[tactic(auto, unfolding(crate::specs::Section::element))]
+    #[tactic(auto, unfolding(crate::specs::KeyReading::element))]
     pub(crate) fn each_in_range(
         &self,
         alloc: Global,
@@ -306,7 +306,7 @@ impl<'a> Section<'a> {
     }
 
     /// An optional list of at most `most` integers from 0 to `high`.
-    #[tactic(auto, unfolding(crate::specs::Section::integers_in_range_or_none))]
+    #[tactic(auto, unfolding(crate::specs::KeyReading::integers_in_range_or_none))]
     pub(crate) fn integers_in_range_or_none(
         &self,
         alloc: Global,

@@ -9,3 +9,4 @@ pub mod IdCtrl
 pub mod Smart
 pub mod ErrorEntry
 pub mod Feature
+pub mod Steps

@@ -44,11 +44,16 @@ among_taken k [] h = absurd h
 among_taken k (x ∷ xs) h = search rules
 
 -- words in which an application finds no fault, and what it then finds
-pub without_fault : (p a : App) (ws : List Text) (rows : List Row) → a ≡ p → fault_of a ws ≡ [] → rows ≡ matches_of a ws → (is_empty (fault_of p ws) ≡ true) × (rows ≡ matches_of p ws)
-without_fault p a ws rows e f r = (none_taken _ (ap (λ (x : App). fault_of x ws) (sym e) ∙ f), r ∙ ap (λ (x : App). matches_of x ws) e)
+pub without_fault : (p a : App) (ws : List Text) (rows : List Row) → a ≡ p → fault_of a ws ≡ []
+    → rows ≡ matches_of a ws → (is_empty (fault_of p ws) ≡ true) × (rows ≡ matches_of p ws)
+without_fault p a ws rows e f r = (
+  none_taken _ (ap (λ (x : App). fault_of x ws) (sym e) ∙ f),
+  r ∙ ap (λ (x : App). matches_of x ws) e,
+)
 
 -- words in which it finds one
-pub with_fault : (p a : App) (ws : List Text) (k : ErrorKind) → a ≡ p → IsAmong k (fault_of a ws) → is_empty (fault_of p ws) ≡ false
+pub with_fault : (p a : App) (ws : List Text) (k : ErrorKind) → a ≡ p → IsAmong k (fault_of a ws)
+    → is_empty (fault_of p ws) ≡ false
 with_fault p a ws k e among = ap (λ (x : App). is_empty (fault_of x ws)) (sym e) ∙ among_taken k _ among
 
 taken_rows : (v : Verb) (ws : List Text) → is_taken v ws ≡ true → rows_of_words v ws ≡ Ok (clap_rows v ws)
@@ -57,13 +62,16 @@ taken_rows v ws h = rw h refl
 refused_rows : (v : Verb) (ws : List Text) → is_taken v ws ≡ false → rows_of_words v ws ≡ Err fault.Usage
 refused_rows v ws h = rw h refl
 
-pub taken : (v : Verb) (ws : List Text) (a : App) (rows : List Row) → a ≡ app_for v → fault_of a ws ≡ [] → rows ≡ matches_of a ws → IsUnlessMemory (rows_of_words v ws) (Ok rows)
+pub taken : (v : Verb) (ws : List Text) (a : App) (rows : List Row) → a ≡ app_for v
+    → fault_of a ws ≡ [] → rows ≡ matches_of a ws → IsUnlessMemory (rows_of_words v ws) (Ok rows)
 unfolding is_taken clap_rows
 taken v ws a rows e f r =
     let found = without_fault (app_for v) a ws rows e f r in
     inr (ap Ok found.1 ∙ sym (taken_rows v ws found.0))
 
-pub refused : (v : Verb) (ws : List Text) (a : App) (k : ErrorKind) → a ≡ app_for v → (k ≡ kind.OutOfMemory) ⊎ IsAmong k (fault_of a ws) → (k ≡ kind.OutOfMemory → ⊥) → IsUnlessMemory {T = List Row} (rows_of_words v ws) (Err fault.Usage)
+pub refused : (v : Verb) (ws : List Text) (a : App) (k : ErrorKind) → a ≡ app_for v
+    → (k ≡ kind.OutOfMemory) ⊎ IsAmong k (fault_of a ws) → (k ≡ kind.OutOfMemory → ⊥)
+    → IsUnlessMemory {T = List Row} (rows_of_words v ws) (Err fault.Usage)
 unfolding is_taken
 refused v ws a k e (inl m) n = absurd (n m)
 refused v ws a k e (inr among) n = inr (sym (refused_rows v ws (with_fault (app_for v) a ws k e among)))

@@ -41,17 +41,22 @@ within_yes least most n a b = grind arith
 within_no : (least most n : ℕ) → most < n → within least most n ≡ None
 within_no least most n a = grind arith
 
-when_numeral : (b : Bool) (v : ℕ) → b ≡ true → v ≤ most_of_64 → Some v ≡ option_and_then (within 0 most_of_64) (if b then Some v else None)
+when_numeral : (b : Bool) (v : ℕ) → b ≡ true → v ≤ most_of_64
+    → Some v ≡ option_and_then (within 0 most_of_64) (if b then Some v else None)
 when_numeral b v e h = rw e (sym (within_yes 0 most_of_64 v (omega arith) h))
 
-no_numeral : (b : Bool) (v : ℕ) → (b ≡ true → most_of_64 < v) → None ≡ option_and_then (within 0 most_of_64) (if b then Some v else None)
+no_numeral : (b : Bool) (v : ℕ) → (b ≡ true → most_of_64 < v)
+    → None ≡ option_and_then (within 0 most_of_64) (if b then Some v else None)
 no_numeral true v h = sym (within_no 0 most_of_64 v (h refl))
 no_numeral false v h = refl
 
-too_large : (base : ℕ) (bs : List ℕ) → (IsNumeral base bs → digits_value base bs < 2 ^ 64 → ⊥) → is_numeral base bs ≡ true → most_of_64 < digits_value base bs
-too_large base bs k b = elim (cases_lt most_of_64 (digits_value base bs)) [ inl more ↦ more | inr less ↦ absurd (k (numeral_out base bs b) (omega arith)) ]
+too_large : (base : ℕ) (bs : List ℕ) → (IsNumeral base bs → digits_value base bs < 2 ^ 64 → ⊥)
+    → is_numeral base bs ≡ true → most_of_64 < digits_value base bs
+too_large base bs k b = elim (cases_lt most_of_64 (digits_value base bs))
+    [ inl more ↦ more | inr less ↦ absurd (k (numeral_out base bs b) (omega arith)) ]
 
-pub digits_at : {E : Type 0} (base : ℕ) (bs : List ℕ) (r : Result ℕ E) → ParsesUnsigned 64 base bs r → get_or bs 0 0 ≢ 43 → result_ok r ≡ option_and_then (within 0 most_of_64) (digits_of base bs)
+pub digits_at : {E : Type 0} (base : ℕ) (bs : List ℕ) (r : Result ℕ E) → ParsesUnsigned 64 base bs r
+    → get_or bs 0 0 ≢ 43 → result_ok r ≡ option_and_then (within 0 most_of_64) (digits_of base bs)
 unfolding digits_of
 digits_at base bs (Ok x) h n =
     let k = rw (without_leading_plus_none bs n) at h in
@@ -60,7 +65,8 @@ digits_at base bs (Err e) h n =
     let k = rw (without_leading_plus_none bs n) at h in
     no_numeral (is_numeral base bs) (digits_value base bs) (λ b. too_large base bs (λ a v. k (a, v)) b)
 
-pub plus_is_none : (base : ℕ) (bs : List ℕ) → base ≤ 16 → get_or bs 0 0 ≡ 43 → None ≡ option_and_then (within 0 most_of_64) (digits_of base bs)
+pub plus_is_none : (base : ℕ) (bs : List ℕ) → base ≤ 16 → get_or bs 0 0 ≡ 43
+    → None ≡ option_and_then (within 0 most_of_64) (digits_of base bs)
 unfolding digits_of
 plus_is_none base [] h e = refl
 plus_is_none base (d ∷ ds) h e = no_numeral (is_numeral base (d ∷ ds)) (digits_value base (d ∷ ds)) (λ b.

@@ -6,12 +6,14 @@ use Rattle.std.specs.List.{flat_map, onto_first, slice_split}
 has_first : (p : ℕ → Bool) (xs : List ℕ) → (h : List ℕ) × (t : List (List ℕ)) × (slice_split p xs ≡ h ∷ t)
 has_first p [] = ([], [], refl)
 has_first p (x ∷ xs) = go (p x) (slice_split p xs) where
-  go : (b : Bool) (parts : List (List ℕ)) → (h : List ℕ) × (t : List (List ℕ)) × (cond b ([] ∷ parts) (onto_first x parts) ≡ h ∷ t)
+  go : (b : Bool) (parts : List (List ℕ)) → (h : List ℕ) × (t : List (List ℕ))
+      × (cond b ([] ∷ parts) (onto_first x parts) ≡ h ∷ t)
   go true parts = ([], parts, refl)
   go false [] = (x ∷ [], [], refl)
   go false (part ∷ parts) = (x ∷ part, parts, refl)
 
-step : (S : List ℕ → List (List ℕ)) (x : ℕ) (b c : Bool) (P W : List (List ℕ)) (h : List ℕ) (t : List (List ℕ)) (a : List ℕ) (r : List (List ℕ))
+step : (S : List ℕ → List (List ℕ)) (x : ℕ) (b c : Bool) (P W : List (List ℕ)) (h : List ℕ)
+    (t : List (List ℕ)) (a : List ℕ) (r : List (List ℕ))
     → P ≡ h ∷ t → S [] ≡ [] ∷ [] → S h ≡ a ∷ r → S (x ∷ h) ≡ cond c ([] ∷ S h) (onto_first x (S h)) → flat_map S P ≡ W
     → flat_map S (cond b ([] ∷ P) (onto_first x P)) ≡ cond (b || c) ([] ∷ W) (onto_first x W)
 step S x true c P W h t a r eP e0 eh ec ih = ap (λ l. l ++ flat_map S P) e0 ∙ ap (λ w. [] ∷ w) ih
@@ -24,9 +26,11 @@ step S x false false P W h t a r eP e0 eh ec ih =
     let put : S (x ∷ h) ≡ (x ∷ a) ∷ r = ec ∙ ap (onto_first x) eh in
     rw eP (ap (λ l. l ++ flat_map S t) put ∙ ap (onto_first x) ih3)
 
-pub split_twice : (p q : ℕ → Bool) (xs : List ℕ) → flat_map (slice_split q) (slice_split p xs) ≡ slice_split (λ b. p b || q b) xs
+pub split_twice : (p q : ℕ → Bool) (xs : List ℕ)
+    → flat_map (slice_split q) (slice_split p xs) ≡ slice_split (λ b. p b || q b) xs
 split_twice p q [] = refl
 split_twice p q (x ∷ xs) =
     let first = has_first p xs in
     let again = has_first q first.0 in
-    step (slice_split q) x (p x) (q x) (slice_split p xs) _ first.0 first.1 again.0 again.1 first.2 refl again.2 refl (split_twice p q xs)
+    step (slice_split q) x (p x) (q x) (slice_split p xs) _ first.0 first.1 again.0 again.1 first.2
+    refl again.2 refl (split_twice p q xs)

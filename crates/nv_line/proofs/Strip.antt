@@ -22,10 +22,15 @@ chosen b x e = rw e refl
 refused : (b : Bool) (x : List ℕ) → b ≡ false → None ≡ (if b then Some x else None)
 refused b x e = rw e refl
 
-pub strip_is : (p s : List ℕ) (r : Option (Bor (List ℕ))) → MatchOption r (FindsTextPrefix p s None) (λ x. StripsPrefix (FindsTextPrefix p) s x.now) → option_map (λ x. x.now) r ≡ strip p s
+pub strip_is : (p s : List ℕ) (r : Option (Bor (List ℕ)))
+    → MatchOption r (FindsTextPrefix p s None) (λ x. StripsPrefix (FindsTextPrefix p) s x.now)
+    → option_map (λ x. x.now) r ≡ strip p s
 unfolding strip
 strip_is p s None h = refused (bytes_eq (take (length p) s) p) (drop (length p) s)
-    (decided_no _ (bytes_eq-Decides (take (length p) s) p) (λ e. h (drop (length p) s) (sym (take-append-drop (length p) s) ∙ ap (λ t. t ++ drop (length p) s) e)))
+    (decided_no _ (bytes_eq-Decides (take (length p) s) p)
+    (λ e. h (drop (length p) s) (sym (take-append-drop (length p) s)
+    ∙ ap (λ t. t ++ drop (length p) s) e)))
 strip_is p s (Some x) (k, found, is, len) =
     let front : take (length p) s ≡ p = ap (take (length p)) found.1 ∙ take-append_seam p (drop k s) in
-    ap Some (is ∙ ap (λ n. drop n s) found.0) ∙ chosen (bytes_eq (take (length p) s) p) (drop (length p) s) (decided_yes _ (bytes_eq-Decides (take (length p) s) p) front)
+    ap Some (is ∙ ap (λ n. drop n s) found.0) ∙ chosen (bytes_eq (take (length p) s) p)
+    (drop (length p) s) (decided_yes _ (bytes_eq-Decides (take (length p) s) p) front)

@@ -6,7 +6,7 @@ use Rattle.std.specs.Str.{bytes_eq}
 use Rattle.clap.specs.Words.{Text}
 use Rattle.nv_line.specs.Number.{plain_number, within}
 use Rattle.nv_line.specs.declared.device.Device.{Device}
-use Rattle.nv_line.specs.declared.device.TheConstants.{NSID_LIMIT}
+use Rattle.nv_line.specs.Limits.{nsid_limit}
 
 -- X, the place of a controller in the subsystem's file
 abbrev pub controller_index : ℕ → Text → Option ℕ
@@ -15,7 +15,7 @@ controller_index controllers text =
 
 -- Y, an NSID
 abbrev pub nsid_of : Text → Option ℕ
-nsid_of text = option_and_then (within 1 NSID_LIMIT) (plain_number text)
+nsid_of text = option_and_then (within 1 nsid_limit) (plain_number text)
 
 -- the letter n
 abbrev pub is_n : ℕ → Bool

@@ -1,12 +1,14 @@
 -- What the commands of features ask for.
 use Rattle.std.specs.Prelude.{List, Result, Ok}
 use Rattle.clap.specs.Words.{Row}
-use Rattle.nv_line.specs.LineFault.{◌>>=◌}
+use Rattle.nv_command.specs.declared.command.Command.TheVariants.{GetFeature, SetFeature}
+use Rattle.nv_layout.specs.Steps.{◌>>=◌}
 use Rattle.nv_line.specs.OptionValue.{flag_in, number_option_in}
 use Rattle.nv_line.specs.declared.device.Device.{Device}
 use Rattle.nv_line.specs.declared.fault.LineFault.{LineFault}
+use Rattle.nv_line.specs.declared.request.Act.TheVariants.{Send}
 use Rattle.nv_line.specs.declared.request.Ask.{Ask}
-use Rattle.nv_line.specs.declared.request.Ask.TheVariants as ask
+use Rattle.nv_line.specs.declared.request.Ask.TheVariants.{Do}
 use Rattle.nv_line.specs.declared.verb.TheConstants.{CDW11, FEATURE_ID, FEATURE_NSID, SAVE, SEL}
 use Rattle.nv_line.specs.declared.verb.TheConstants.{VALUE}
 
@@ -16,11 +18,11 @@ get_feature_of rows device = do
   fid ← number_option_in rows FEATURE_ID device
   sel ← number_option_in rows SEL device
   cdw11 ← number_option_in rows CDW11 device
-  Ok (ask.GetFeature fid sel nsid cdw11)
+  Ok (Do (Send (GetFeature fid sel nsid cdw11)))
 
 abbrev pub set_feature_of : List Row → Device → Result Ask LineFault
 set_feature_of rows device = do
   nsid ← number_option_in rows FEATURE_NSID device
   fid ← number_option_in rows FEATURE_ID device
   value ← number_option_in rows VALUE device
-  Ok (ask.SetFeature fid value (flag_in rows SAVE) nsid)
+  Ok (Do (Send (SetFeature fid value (flag_in rows SAVE) nsid)))

@@ -1,3 +1,4 @@
+pub mod Limits
 pub mod Word
 pub mod Number
 pub mod ControllerList
@@ -9,6 +10,7 @@ pub mod OutputFormat
 pub mod Verb
 pub mod ClapRule
 pub mod OptionValue
+pub mod Ask
 pub mod Identify
 pub mod Management
 pub mod Format

@@ -16,13 +16,6 @@ fault_text fault.TooLong = codes "line too long"
 abbrev pub IsUnlessMemory : {T : Type 0} → Result T LineFault → Result T LineFault → Type 0
 IsUnlessMemory answer r = (r ≡ Err fault.Memory) ⊎ (r ≡ answer)
 
--- reading goes on with what was read, or ends at the first fault
-infixl 10 ◌>>=◌
-abbrev pub ◌>>=◌ : {A B : Type 0}
-    → Result A LineFault → (A → Result B LineFault) → Result B LineFault
-(Ok x) >>= f = f x
-(Err e) >>= f = Err e
-
 abbrev pub ok_map : {T U E : Type 0} → (T → U) → Result T E → Result U E
 ok_map f (Ok x) = Ok (f x)
 ok_map f (Err e) = Err e

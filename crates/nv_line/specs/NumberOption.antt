@@ -3,7 +3,7 @@ use Rattle.std.specs.Prelude.{◌≡◌, ℕ, ◌≤◌, Bool, true, not, ◌&&�
 use Rattle.std.specs.Prelude.{IfSome}
 use Rattle.std.specs.Option.{option_or}
 use Rattle.nv_line.specs.declared.device.Device.{Device}
-use Rattle.nv_line.specs.declared.device.TheConstants.{NSID_LIMIT}
+use Rattle.nv_line.specs.Limits.{nsid_limit}
 use Rattle.nv_line.specs.declared.option.NumberOption.{NumberOption}
 
 -- nothing can stand in where it isn't written
@@ -17,4 +17,4 @@ fallback_of o device = if o.takes_path then option_or device.nsid o.default else
 -- what stands in is a number of its range
 pub record IsSound (o : NumberOption) : Type 0 where
   pub default : IfSome o.default (λ n. (o.least ≤ n) × (n ≤ o.most))
-  pub path : o.takes_path ≡ true → (o.least ≡ 0) × (NSID_LIMIT ≤ o.most)
+  pub path : o.takes_path ≡ true → (o.least ≡ 0) × (nsid_limit ≤ o.most)

@@ -3,12 +3,14 @@ use Rattle.std.specs.Prelude.{ℕ, ◌<◌, List as ListOf, [], ◌∷◌, codes
 use Rattle.std.specs.Prelude.{Result, Ok, Err, unwrap_or}
 use Rattle.std.specs.Option.{ok_or}
 use Rattle.clap.specs.Words.{Row, Text, first_of}
+use Rattle.nv_command.specs.declared.command.Command.TheVariants.{IdentifyController}
+use Rattle.nv_line.specs.Ask.{IsAskable}
 use Rattle.nv_line.specs.ClapRule.{rows_of_words}
 use Rattle.nv_line.specs.Device.{device_of}
 use Rattle.nv_line.specs.Features.{get_feature_of, set_feature_of}
 use Rattle.nv_line.specs.Format.{format_of}
 use Rattle.nv_line.specs.Identify.{id_ns_of, list_ns_of}
-use Rattle.nv_line.specs.LineFault.{◌>>=◌}
+use Rattle.nv_layout.specs.Steps.{◌>>=◌}
 use Rattle.nv_line.specs.Logs.{error_log_of, smart_log_of}
 use Rattle.nv_line.specs.Management.{attachment_of, create_ns_of, delete_ns_of}
 use Rattle.nv_line.specs.OptionValue.{format_in}
@@ -16,10 +18,12 @@ use Rattle.nv_line.specs.Verb.{verb_of}
 use Rattle.nv_line.specs.declared.device.Device.{Device}
 use Rattle.nv_line.specs.declared.fault.LineFault.{LineFault}
 use Rattle.nv_line.specs.declared.fault.LineFault.TheVariants as fault
+use Rattle.nv_line.specs.declared.request.Act.TheVariants as act
 use Rattle.nv_line.specs.declared.request.Ask.{Ask}
-use Rattle.nv_line.specs.declared.request.Ask.TheVariants as ask
+use Rattle.nv_line.specs.declared.request.Ask.TheVariants.{Do}
 use Rattle.nv_line.specs.declared.request.Query.{Query}
 use Rattle.nv_line.specs.declared.request.Query.TheVariants as query
+use Rattle.nv_line.specs.declared.request.Question.{Question}
 use Rattle.nv_line.specs.declared.request.Request.{Request}
 use Rattle.nv_line.specs.declared.verb.DeviceVerb.{DeviceVerb}
 use Rattle.nv_line.specs.declared.verb.DeviceVerb.TheVariants.{IdCtrl, IdNs, ListNs, CreateNs}
@@ -32,7 +36,7 @@ use Rattle.nv_line.specs.declared.verb.Verb.TheVariants.{Of, List}
 
 -- what a command word asks for, in one line each
 abbrev pub ask_of : DeviceVerb → ListOf Row → Device → Result Ask LineFault
-ask_of IdCtrl = λ rows device. Ok ask.IdCtrl
+ask_of IdCtrl = λ rows device. Ok (Do (act.Send IdentifyController))
 ask_of IdNs = id_ns_of
 ask_of ListNs = list_ns_of
 ask_of CreateNs = create_ns_of
@@ -44,7 +48,7 @@ ask_of GetFeature = get_feature_of
 ask_of SetFeature = set_feature_of
 ask_of SmartLog = smart_log_of
 ask_of ErrorLog = error_log_of
-ask_of Reset = λ rows device. Ok ask.Reset
+ask_of Reset = λ rows device. Ok (Do act.Reset)
 
 abbrev pub device_in : ℕ → ListOf Row → Result Device LineFault
 device_in controllers rows =
@@ -69,7 +73,11 @@ request_of controllers (word ∷ rest) = do
   asked ← query_of controllers verb rows
   Ok (record { query = asked; format = format })
 
--- who is asked is one of the subsystem's controllers
+-- who is asked is one of the subsystem's controllers, and a driver may ask it
+pub record IsQuestionKnown (controllers : ℕ) (question : Question) : Type 0 where
+  pub controller : question.controller < controllers
+  pub askable : IsAskable question.ask
+
 abbrev pub IsQueryKnown : ℕ → Query → Type 0
-IsQueryKnown controllers (query.One question) = question.controller < controllers
+IsQueryKnown controllers (query.One question) = IsQuestionKnown controllers question
 IsQueryKnown controllers query.List = Unit {0}

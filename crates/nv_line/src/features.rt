@@ -1,45 +1,55 @@
 //! What the commands of features ask for: `get-feature` and `set-feature`.
 
-ghost use Rattle.std.specs.Prelude.{◌≡◌};
+ghost use Rattle.std.specs.Prelude.{◌≡◌, IfOk};
 ghost use Rattle.clap.specs.Words.{found_of, rows_of};
+ghost use Rattle.nv_line.specs.Ask.{IsAskable};
 ghost use Rattle.nv_line.specs.Features.{get_feature_of, set_feature_of};
 
 use crate::device::Device;
 use crate::fault::LineFault;
 use crate::option_value::{is_set, read_number};
-use crate::request::Ask;
+use crate::request::{Act, Ask};
 use crate::verb::{CDW11, FEATURE_ID, FEATURE_NSID, SAVE, SEL, VALUE};
 use clap::ArgMatches;
+use nv_command::Command;
 use nv_layout::ThreeBits;
 
 /// A value of a feature.
-pub(crate) fn get_feature(matches: &ArgMatches<'_>, device: Device) -> Result<Ask, LineFault>
-    ensures { result ≡ get_feature_of (rows_of (found_of matches.now)) device }
+pub(crate) fn get_feature<'a>(
+    matches: &ArgMatches<'_>,
+    device: Device,
+) -> Result<Ask<'a>, LineFault>
+    ensures value { result ≡ get_feature_of (rows_of (found_of matches.now)) device }
+    ensures askable { IfOk result IsAskable }
 {
     let nsid = read_number(matches, FEATURE_NSID, device)? as u32;
     let fid = read_number(matches, FEATURE_ID, device)? as u8;
     let sel = ThreeBits::low(read_number(matches, SEL, device)? as u8);
     let cdw11 = read_number(matches, CDW11, device)? as u32;
-    Ok(Ask::GetFeature {
+    Ok(Ask::Do(Act::Send(Command::GetFeature {
         fid,
         sel,
         nsid,
         cdw11,
-    })
+    })))
 }
 
 /// A value for a feature.
-pub(crate) fn set_feature(matches: &ArgMatches<'_>, device: Device) -> Result<Ask, LineFault>
-    ensures { result ≡ set_feature_of (rows_of (found_of matches.now)) device }
+pub(crate) fn set_feature<'a>(
+    matches: &ArgMatches<'_>,
+    device: Device,
+) -> Result<Ask<'a>, LineFault>
+    ensures value { result ≡ set_feature_of (rows_of (found_of matches.now)) device }
+    ensures askable { IfOk result IsAskable }
 {
     let nsid = read_number(matches, FEATURE_NSID, device)? as u32;
     let fid = read_number(matches, FEATURE_ID, device)? as u8;
     let value = read_number(matches, VALUE, device)? as u32;
     let save = is_set(matches, SAVE);
-    Ok(Ask::SetFeature {
+    Ok(Ask::Do(Act::Send(Command::SetFeature {
         fid,
         value,
         save,
         nsid,
-    })
+    })))
 }

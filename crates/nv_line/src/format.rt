@@ -1,20 +1,23 @@
 //! What `format` asks for.
 
-ghost use Rattle.std.specs.Prelude.{◌≡◌};
+ghost use Rattle.std.specs.Prelude.{◌≡◌, IfOk};
 ghost use Rattle.clap.specs.Words.{found_of, rows_of};
+ghost use Rattle.nv_line.specs.Ask.{IsAskable};
 ghost use Rattle.nv_line.specs.Format.{format_of};
 
 use crate::device::Device;
 use crate::fault::LineFault;
 use crate::option_value::read_number;
-use crate::request::Ask;
+use crate::request::{Act, Ask};
 use crate::verb::{LBAF, MS, NSID, PI, PIL, SES};
 use clap::ArgMatches;
+use nv_command::Command;
 use nv_layout::{FourBits, ThreeBits};
 
 /// A namespace to format.
-pub(crate) fn format(matches: &ArgMatches<'_>, device: Device) -> Result<Ask, LineFault>
-    ensures { result ≡ format_of (rows_of (found_of matches.now)) device }
+pub(crate) fn format<'a>(matches: &ArgMatches<'_>, device: Device) -> Result<Ask<'a>, LineFault>
+    ensures value { result ≡ format_of (rows_of (found_of matches.now)) device }
+    ensures askable { IfOk result IsAskable }
 {
     let nsid = read_number(matches, NSID, device)? as u32;
     let lbaf = FourBits::low(read_number(matches, LBAF, device)? as u8);
@@ -22,12 +25,12 @@ pub(crate) fn format(matches: &ArgMatches<'_>, device: Device) -> Result<Ask, Li
     let pi = ThreeBits::low(read_number(matches, PI, device)? as u8);
     let pil = read_number(matches, PIL, device)? == 1;
     let mset = read_number(matches, MS, device)? == 1;
-    Ok(Ask::Format {
+    Ok(Ask::Do(Act::Send(Command::Format {
         nsid,
         lbaf,
         mset,
         pi,
         pil,
         ses,
-    })
+    })))
 }

@@ -3,10 +3,10 @@
 //! The command words and their options are one table, in `verb`. What `clap` is told of a command,
 //! and how its options are read, follow from its rows.
 //!
-//! `read_line(alloc, b"list-ns /dev/nvme0 -n 2", 1)` is `Ok(Line::Request(Request { query, format
-//! }))` where `query` is `Query::One(Question { controller: 0, ask: Ask::ListNs { first: 2, all:
-//! false } })` and `format` is `OutputFormat::Normal`; with no controller it is
-//! `Err(LineFault::Device)`.
+//! `read_line(alloc, b"list-ns /dev/nvme0 -n 2", 1, place)` is `Ok(Line::Request(Request { query,
+//! format }))` where `query` is `Query::One(Question { controller: 0, ask: Ask::Do(Act::Send(
+//! Command::ActiveList { after: 1 })) })` and `format` is `OutputFormat::Normal`; with no controller
+//! it is `Err(LineFault::Device)`.
 #![tactic(auto)]
 
 mod clap_rule;
@@ -27,10 +27,10 @@ mod request;
 mod verb;
 mod word;
 
-pub use controller_list::ControllerList;
 pub use fault::LineFault;
 pub use line::{LINE_LIMIT, Line, read_line};
 pub use number::parse_number;
+pub use nv_layout::CtrlList;
 pub use option::OptionName;
 pub use output_format::OutputFormat;
-pub use request::{Ask, Query, Question, Request};
+pub use request::{Act, Ask, Query, Question, Request};

@@ -7,6 +7,7 @@ ghost use Rattle.nv_line.specs.LineFault.{IsUnlessMemory};
 use crate::fault::LineFault;
 use crate::request::{Request, read_request};
 use crate::word::{is_skipped_line, split_words, without_program};
+use nv_layout::CtrlList;
 use std::alloc::Global;
 
 /// The most bytes of a line, without its newline.
@@ -14,17 +15,23 @@ pub const LINE_LIMIT: usize = 4095;
 
 /// What a line says: nothing, or a request.
 #[derive(Debug, Drop, PartialEq, Eq)]
-pub enum Line {
+pub enum Line<'a> {
     /// It is blank, or a comment.
     Skipped,
     /// It asks for something.
-    Request(Request),
+    Request(Request<'a>),
 }
 
 /// Reads a line of a script for a subsystem with this many controllers. A fault is the first of:
 /// too long, not text, usage (also of an output format), device, and then, option by option, a
-/// missing NSID or a bad number.
-pub fn read_line(alloc: Global, line: &[u8], controllers: u16) -> Result<Line, LineFault>
+/// missing NSID or a bad number. Listed controllers are put in the place, which is of no account
+/// before.
+pub fn read_line<'a>(
+    alloc: Global,
+    line: &[u8],
+    controllers: u16,
+    place: &'a mut CtrlList,
+) -> Result<Line<'a>, LineFault>
     ensures exact { IsUnlessMemory (reading line.now controllers) result }
     ensures known { IfOk result (IsKnown controllers) }
 {
@@ -38,6 +45,6 @@ pub fn read_line(alloc: Global, line: &[u8], controllers: u16) -> Result<Line, L
         return Err(LineFault::NotText);
     };
     let words = split_words(alloc, text)?;
-    let request = read_request(alloc, without_program(words.as_slice()), controllers)?;
+    let request = read_request(alloc, without_program(words.as_slice()), controllers, place)?;
     Ok(Line::Request(request))
 }

@@ -2,19 +2,18 @@
 
 ghost use Rattle.std.specs.Prelude.{◌≡◌, ◌≤◌, IfOk};
 ghost use Rattle.clap.specs.Words.{found_of, rows_of};
-ghost use Rattle.nv_line.specs.LineFault.{IsUnlessMemory};
 ghost use Rattle.nv_line.specs.NumberOption.{IsSound};
 ghost use Rattle.nv_line.specs.OptionValue.{flag_in, format_in, list_option_in, number_option_in};
 
 use crate::clap_rule::text_of;
-use crate::controller_list::{ControllerList, parse_list};
+use crate::controller_list::parse_list;
 use crate::device::Device;
 use crate::fault::LineFault;
 use crate::number::parse_number;
 use crate::option::{FlagOption, FormatOption, ListOption, NumberOption};
 use crate::output_format::OutputFormat;
 use clap::ArgMatches;
-use std::alloc::Global;
+use nv_layout::{ControllerIds, CtrlList};
 
 /// The number of an option, or what stands in where it isn't written.
 pub(crate) fn read_number(
@@ -34,16 +33,17 @@ pub(crate) fn read_number(
     }
 }
 
-/// The controller identifiers of an option.
-pub(crate) fn read_list(
-    alloc: Global,
+/// The controller identifiers of an option. They are put in the place, which is of no account
+/// before.
+pub(crate) fn read_list<'a>(
     matches: &ArgMatches<'_>,
     option: ListOption,
-) -> Result<ControllerList, LineFault>
-    ensures { IsUnlessMemory (list_option_in (rows_of (found_of matches.now)) option) result }
+    place: &'a mut CtrlList,
+) -> Result<ControllerIds<'a>, LineFault>
+    ensures { result ≡ list_option_in (rows_of (found_of matches.now)) option }
 {
     match text_of(matches, option.name.text()) {
-        Some(text) => parse_list(alloc, text)?.ok_or(LineFault::Number(option.name)),
+        Some(text) => parse_list(text, place).ok_or(LineFault::Number(option.name)),
         None => Err(LineFault::Usage),
     }
 }

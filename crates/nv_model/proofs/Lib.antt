@@ -19,3 +19,5 @@ pub mod IdentifyControllerLaws
 pub mod ListLaws
 pub mod InFormatLaws
 pub mod ReplyLaws
+pub mod LimitLaws
+pub mod LookupLaws

@@ -17,8 +17,9 @@ use Rattle.nv_model.proofs.ManagementLaws.{AllRefuse}
 use Rattle.nv_model.specs.State.{Controller, Namespaces, State}
 use Rattle.nv_model.specs.WellFormed.{IsController}
 
-pub log_rows_fit : (s : State) (c lid n offset : ℕ) → AllRefuse (log_rows s c lid n offset)
-log_rows_fit s c lid n offset = search (rules, is_refusal-refusal_by)
+pub log_rows_fit : (s : State) (c lid n offset dwords : ℕ)
+    → AllRefuse (log_rows s c lid n offset dwords)
+log_rows_fit s c lid n offset dwords = search (rules, is_refusal-refusal_by)
 
 entries_fit : (es : List ErrorEntry) (n : ℕ) → All ErrorEntryFits es
     → AllByRecursion ErrorEntryFits (es ++ replicate n no_entry)

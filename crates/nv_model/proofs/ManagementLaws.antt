@@ -21,7 +21,7 @@ use Rattle.nv_model.specs.declared.format.Format.{Format}
 use Rattle.nv_model.specs.declared.namespace.Namespace.{Namespace}
 use Rattle.nv_command.specs.Refusal.{IsRefusal}
 use Rattle.nv_command.proofs.RefusalLaws.{is_refusal-refusal_by}
-use Rattle.nv_command.specs.declared.command.TheConstants.{BROADCAST_NSID}
+use Rattle.nv_command.specs.Nsid.{broadcast_nsid}
 use Rattle.nv_command.specs.declared.status_code.StatusCode.TheVariants.{NamespaceInsufficientCapacity}
 use Rattle.nv_model.specs.Capacity.{unallocated, used}
 use Rattle.nv_model.proofs.ChoiceLaws.{not_false}
@@ -325,7 +325,7 @@ all_keep s w = attached_keep s without_any map_of.empty w (record {
     no_first x is false e = refl
 
 pub delete_keeps : (s : State) (n : ℕ) → IsWellFormed s → IsWellFormed (deleted s n)
-delete_keeps s n w = elim (n == BROADCAST_NSID) as (λ b. IsWellFormed
+delete_keeps s n w = elim (n == broadcast_nsid) as (λ b. IsWellFormed
     (if b then without_all s else without_one s n))
     [ true ↦ all_keep s w | false ↦ one_keeps s n w ]
 
@@ -342,7 +342,7 @@ created_controllers s w = by (free_nsid s)
 
 pub deleted_controllers : (s : State) (n : ℕ) → length (deleted s n).controllers
     ≡ length s.controllers
-deleted_controllers s n = elim (n == BROADCAST_NSID) as
+deleted_controllers s n = elim (n == broadcast_nsid) as
     (λ b. length (if b then without_all s else without_one s n).controllers
     ≡ length s.controllers) [
       | true ↦ length-map s.controllers (with_nsids without_any)

@@ -21,7 +21,7 @@ use Rattle.nv_command.specs.declared.command.Command.TheVariants.{AllocatedNames
 use Rattle.nv_command.specs.declared.command.Command.TheVariants.{AllocatedList, Create, Delete}
 use Rattle.nv_command.specs.declared.command.Command.TheVariants.{Attachment, Format, GetFeature}
 use Rattle.nv_command.specs.declared.command.Command.TheVariants.{SetFeature, GetLog}
-use Rattle.nv_command.specs.declared.command.TheConstants.{BROADCAST_NSID}
+use Rattle.nv_command.specs.Nsid.{broadcast_nsid}
 use Rattle.nv_command.specs.declared.form.ReplyKind.{ReplyKind}
 use Rattle.nv_command.specs.declared.reply.Reply.TheVariants as reply
 use Rattle.nv_command.specs.declared.status_code.StatusCode.TheVariants.{InvalidNamespaceOrFormat}
@@ -118,7 +118,7 @@ sound IdentifyController = record {
 sound (IdentifyNamespace n) = record {
   rows = λ s c. (is_refusal-refusal_by InvalidNamespaceOrFormat, tt);
   is_reply = λ s c. refl;
-  fits = λ s c w. chosen_fits IdNsFits (n == BROADCAST_NSID) _ _
+  fits = λ s c w. chosen_fits IdNsFits (n == broadcast_nsid) _ _
       (common_fits s.formats s.mc w.keys.mc w.format_count.1 w.formats)
       (chosen_fits IdNsFits (is_active s c n) _ _
       (allocated_fits s w n (map_of.get s.namespaces n) refl) blank_fits);
@@ -190,7 +190,7 @@ sound (SetFeature fid value save n) = record {
   controllers = λ s c. feature_controllers s c fid value save n;
 }
 sound (GetLog lid n offset dwords) = record {
-  rows = λ s c. log_rows_fit s c lid n offset;
+  rows = λ s c. log_rows_fit s c lid n offset dwords;
   is_reply = λ s c. is_log_reply (is_error_log lid) (errors_at s c) (smart_at s c);
   fits = λ s c w. logs_fit s c (is_error_log lid) (is_controller s c w);
   keeps = λ s c accepted w. w;

@@ -6,7 +6,7 @@ use Rattle.std.proofs.lemmas.List.Elements.{All-cons, All-take}
 use Rattle.std.specs.Prelude.{All, if◌then◌else◌}
 use Rattle.std.specs.List.{AllByRecursion}
 use Rattle.nv_model.specs.State.{State}
-use Rattle.nv_model.specs.declared.count.TheConstants.{GREATEST_COUNT}
+use Rattle.nv_model.specs.Numbers.{greatest_count}
 use Rattle.nv_model.specs.Step.{next_count, refused, step, step_by, with_command, with_refusal}
 use Rattle.nv_model.specs.Effect.{effect_of}
 use Rattle.nv_model.specs.ErrorLog.{log_entry}
@@ -24,7 +24,7 @@ use Rattle.nv_model.proofs.ChangedAtLaws.{length-changed_at}
 use Rattle.nv_model.proofs.KeepingLaws.{Keeps, keeps}
 use Rattle.nv_model.proofs.MeaningLaws.{sound}
 
-next_count-le : (n : ℕ) → next_count n ≤ GREATEST_COUNT
+next_count-le : (n : ℕ) → next_count n ≤ greatest_count
 next_count-le n = omega arith
 
 pub counting_keeps : Keeps (λ x. record x { commands = next_count x.commands })
@@ -45,7 +45,7 @@ counting_keeps = record {
 }
 
 length-with_refusal : (most refusals : ℕ) (e : ErrorEntry) (log : List ErrorEntry) → 0 < most → most
-    ≤ 256 → refusals ≤ GREATEST_COUNT → length log ≡ min refusals most
+    ≤ 256 → refusals ≤ greatest_count → length log ≡ min refusals most
     → length (take most (e ∷ log)) ≡ min (next_count refusals) most
 length-with_refusal most refusals e log some few low len =
     length-take most (e ∷ log) ∙ (let up : length (e ∷ log) ≡ suc (length log) = refl in
@@ -56,7 +56,7 @@ all_entries : (most : ℕ) (e : ErrorEntry) (log : List ErrorEntry) → ErrorEnt
 all_entries most e log h all =
     All-take ErrorEntryFits most (e ∷ log) (All-cons ErrorEntryFits e log h all)
 
-entry_fits : (count cid nsid : ℕ) (r : Refusal) → count ≤ GREATEST_COUNT → nsid < 2 ^ 32
+entry_fits : (count cid nsid : ℕ) (r : Refusal) → count ≤ greatest_count → nsid < 2 ^ 32
     → cid < 2 ^ 16
     → IsRefusal r → ErrorEntryFits (log_entry count cid nsid r)
 entry_fits count cid nsid r low a b fits = record {

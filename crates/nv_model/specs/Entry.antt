@@ -1,4 +1,4 @@
--- The error log of a controller, its counts, and how much it moves at a time, as they are told.
+-- The error log of a controller and its counts, as they are told.
 use Rattle.std.specs.Prelude.{ℕ, Option, None, slice_get}
 use Rattle.std.specs.Option.{option_map_or}
 use Rattle.nv_layout.specs.declared.error_entry.ErrorEntry.{ErrorEntry}
@@ -11,7 +11,3 @@ log_entry_of s c index = option_map_or (λ x. slice_get x.log index) (controller
 -- how many commands a controller refused, and how many it took
 abbrev pub counts_of : State → ℕ → ℕ × ℕ
 counts_of s c = option_map_or (λ x. (x.refusals, x.commands)) (controller_at s c) (0, 0)
-
--- MDTS: the most pages that a command moves, as a power of two
-abbrev pub mdts_of : State → ℕ → ℕ
-mdts_of s c = option_map_or (λ x. x.identity.numbers.mdts) (controller_at s c) 0

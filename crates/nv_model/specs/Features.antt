@@ -8,7 +8,7 @@ use Rattle.nv_layout.specs.Feature.{feature_of, is_accepted, is_get_selector, ro
 use Rattle.nv_layout.specs.Feature.{selector_in, selectors_set, stored}
 use Rattle.nv_layout.specs.declared.feature.Feature.{Feature}
 use Rattle.nv_model.specs.declared.feature_rule.FeatureRule.{FeatureRule}
-use Rattle.nv_command.specs.declared.command.TheConstants.{BROADCAST_NSID}
+use Rattle.nv_command.specs.Nsid.{broadcast_nsid}
 use Rattle.nv_command.specs.declared.status_code.StatusCode.TheVariants.{FeatureNotChangeable}
 use Rattle.nv_command.specs.declared.status_code.StatusCode.TheVariants.{FeatureNotNamespaceSpecific}
 use Rattle.nv_command.specs.declared.status_code.StatusCode.TheVariants.{FeatureIdentifierNotSaveable}
@@ -58,7 +58,7 @@ get_feature_rows s c fid sel n cdw11 = supported_rows s c fid (get_rows s c sel 
 abbrev pub set_rows : State → ℕ → ℕ → Bool → ℕ → Feature → List Row
 set_rows s c value save n f =
     let each = (row_of f).per_namespace in
-    let all = n == BROADCAST_NSID in
+    let all = n == broadcast_nsid in
     row (not (is_accepted f value)) InvalidFieldInCommand
     ∷ row (each && not (is_valid s n || all)) InvalidNamespaceOrFormat
     ∷ row (each && not (is_active s c n || all)) InvalidFieldInCommand

@@ -3,7 +3,7 @@ use Rattle.std.specs.Prelude.{ℕ, ◌^◌, ◌==◌, ◌&&◌, ◌||◌, not, n
 use Rattle.std.specs.List.{list_any}
 use Rattle.std.specs.Option.{option_map_or}
 use Rattle.std.specs.FinMap as map_of
-use Rattle.nv_command.specs.declared.command.TheConstants.{BROADCAST_NSID}
+use Rattle.nv_command.specs.Nsid.{broadcast_nsid}
 use Rattle.nv_command.specs.declared.status_code.StatusCode.TheVariants.{InvalidFieldInCommand}
 use Rattle.nv_command.specs.declared.status_code.StatusCode.TheVariants.{InvalidFormat}
 use Rattle.nv_command.specs.declared.status_code.StatusCode.TheVariants.{InvalidNamespaceOrFormat}
@@ -41,8 +41,8 @@ can_erase_by_key s c = option_map_or (λ x. x.identity.crypto_erase) (controller
 
 abbrev pub format_rows : State → ℕ → ℕ → NewFormat → List Row
 format_rows s c n f =
-    row (not (is_valid s n || n == BROADCAST_NSID)) InvalidNamespaceOrFormat
-    ∷ row (not (is_active s c n || n == BROADCAST_NSID)) InvalidFieldInCommand
+    row (not (is_valid s n || n == broadcast_nsid)) InvalidNamespaceOrFormat
+    ∷ row (not (is_active s c n || n == broadcast_nsid)) InvalidFieldInCommand
     ∷ row (not (can_have s f.lbaf f.mset)) InvalidFormat
     ∷ row (not (f.pi == 0) || f.pil) InvalidFormat
     ∷ row (has_one_below s f.lbaf (concerned s c n)) InvalidFormat

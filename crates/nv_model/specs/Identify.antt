@@ -6,7 +6,7 @@ use Rattle.std.specs.FinMap as map_of
 use Rattle.nv_bits.specs.Numbers.{above}
 use Rattle.nv_layout.specs.declared.id_ns.IdNs.{IdNs}
 use Rattle.nv_layout.specs.declared.id_ns.Lbaf.{Lbaf}
-use Rattle.nv_command.specs.declared.command.TheConstants.{BROADCAST_NSID}
+use Rattle.nv_command.specs.Nsid.{broadcast_nsid}
 use Rattle.nv_command.specs.declared.reply.Reply.{Reply}
 use Rattle.nv_command.specs.declared.reply.Reply.TheVariants as reply
 use Rattle.nv_command.specs.declared.status_code.StatusCode.TheVariants.{InvalidNamespaceOrFormat}
@@ -22,7 +22,7 @@ use Rattle.nv_model.specs.declared.namespace.Namespace.{Namespace}
 
 -- an active namespace: an NSID that is not valid, other than the broadcast one
 abbrev pub active_rows : State → ℕ → List Row
-active_rows s n = row (not (is_valid s n || n == BROADCAST_NSID)) InvalidNamespaceOrFormat ∷ []
+active_rows s n = row (not (is_valid s n || n == broadcast_nsid)) InvalidNamespaceOrFormat ∷ []
 
 -- an allocated namespace: an NSID that is not valid
 abbrev pub allocated_rows : State → ℕ → List Row
@@ -92,7 +92,7 @@ active_namespace s c n = if is_active s c n then allocated_namespace s n else bl
 
 abbrev pub active_reply : State → ℕ → ℕ → Reply
 active_reply s c n =
-    reply.Namespace (if n == BROADCAST_NSID
+    reply.Namespace (if n == broadcast_nsid
     then common_of s.formats s.mc
     else active_namespace s c n)
 

@@ -1,3 +1,4 @@
+pub mod Numbers
 pub mod Defaults
 pub mod Identity
 pub mod Ranges
@@ -15,6 +16,7 @@ pub mod Capacity
 pub mod Nsid
 pub mod Identify
 pub mod IdentifyController
+pub mod Limit
 pub mod Logs
 pub mod Management
 pub mod Format

@@ -6,11 +6,12 @@ use Rattle.nv_layout.specs.ErrorEntry.{no_entry}
 use Rattle.nv_layout.specs.declared.error_entry.ErrorEntry.{ErrorEntry}
 use Rattle.nv_layout.specs.declared.smart.Smart.{Smart}
 use Rattle.nv_command.specs.Logs.{is_error_log}
-use Rattle.nv_command.specs.declared.command.TheConstants.{BROADCAST_NSID}
+use Rattle.nv_command.specs.Nsid.{broadcast_nsid}
 use Rattle.nv_command.specs.declared.reply.Reply.{Reply}
 use Rattle.nv_command.specs.declared.reply.Reply.TheVariants as reply
 use Rattle.nv_command.specs.declared.status_code.StatusCode.TheVariants.{InvalidFieldInCommand}
 use Rattle.nv_command.specs.declared.status_code.StatusCode.TheVariants.{InvalidLogPage}
+use Rattle.nv_model.specs.Limit.{limit_of}
 use Rattle.nv_model.specs.Row.{row}
 use Rattle.nv_model.specs.State.{Controller, State, controller_at}
 use Rattle.nv_model.specs.declared.row.Row.{Row}
@@ -29,12 +30,13 @@ entry_count s c = option_map_or (λ x. x.identity.numbers.elpe + 1) (controller_
 abbrev pub log_length : State → ℕ → ℕ → ℕ
 log_length s c lid = if is_error_log lid then 64 * entry_count s c else 512
 
--- another log; an NSID other than 0 and the broadcast one; an offset past the end of the log, or
--- inside a dword
-abbrev pub log_rows : State → ℕ → ℕ → ℕ → ℕ → List Row
-log_rows s c lid n offset =
-    row (not (is_log lid)) InvalidLogPage
-    ∷ row (not (n == 0 || n == BROADCAST_NSID)) InvalidFieldInCommand
+-- more bytes than the controller moves at a time; another log; an NSID other than 0 and the
+-- broadcast one; an offset past the end of the log, or inside a dword
+abbrev pub log_rows : State → ℕ → ℕ → ℕ → ℕ → ℕ → List Row
+log_rows s c lid n offset dwords =
+    row (nat_lt (limit_of s c) (4 * dwords)) InvalidFieldInCommand
+    ∷ row (not (is_log lid)) InvalidLogPage
+    ∷ row (not (n == 0 || n == broadcast_nsid)) InvalidFieldInCommand
     ∷ row (nat_lt (log_length s c lid) offset || not (offset % 4 == 0)) InvalidFieldInCommand
     ∷ []
 

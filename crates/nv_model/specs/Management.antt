@@ -4,7 +4,7 @@ use Rattle.std.specs.Prelude.{[], ◌∷◌, is_some, unwrap_or, if◌then◌els
 use Rattle.std.specs.Option.{option_map_or}
 use Rattle.std.specs.FinMap as map_of
 use Rattle.nv_command.specs.StatusCode.{status_of_code}
-use Rattle.nv_command.specs.declared.command.TheConstants.{BROADCAST_NSID}
+use Rattle.nv_command.specs.Nsid.{broadcast_nsid}
 use Rattle.nv_command.specs.declared.refusal.Refusal.{Refusal}
 use Rattle.nv_command.specs.declared.status_code.StatusCode.TheVariants.{InvalidFieldInCommand}
 use Rattle.nv_command.specs.declared.status_code.StatusCode.TheVariants.{InvalidFormat}
@@ -89,8 +89,8 @@ created s w =
 
 abbrev pub delete_rows : State → ℕ → List Row
 delete_rows s n =
-    row (not (is_valid s n || n == BROADCAST_NSID)) InvalidNamespaceOrFormat
-    ∷ row (not (is_allocated s n || n == BROADCAST_NSID)) InvalidFieldInCommand
+    row (not (is_valid s n || n == broadcast_nsid)) InvalidNamespaceOrFormat
+    ∷ row (not (is_allocated s n || n == broadcast_nsid)) InvalidFieldInCommand
     ∷ []
 
 -- the NSIDs that are attached to a controller, and the values of its features
@@ -128,4 +128,4 @@ abbrev pub without_all : State → State
 without_all s = record (with_attached s without_any) { namespaces = map_of.empty }
 
 abbrev pub deleted : State → ℕ → State
-deleted s n = if n == BROADCAST_NSID then without_all s else without_one s n
+deleted s n = if n == broadcast_nsid then without_all s else without_one s n

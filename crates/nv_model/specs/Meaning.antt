@@ -71,4 +71,4 @@ meaning_of (SetFeature fid value save n) =
     changing (λ s c. set_feature_rows s c fid value save n)
     (λ s c. with_feature s c fid value save n)
 meaning_of (GetLog lid n offset dwords) =
-    telling (λ s c. log_rows s c lid n offset) (λ s c. log_reply s c lid)
+    telling (λ s c. log_rows s c lid n offset dwords) (λ s c. log_reply s c lid)

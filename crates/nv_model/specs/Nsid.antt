@@ -5,7 +5,7 @@ use Rattle.std.specs.List.{find, range_with_len}
 use Rattle.std.specs.Option.{option_map_or}
 use Rattle.std.specs.FinMap as map_of
 use Rattle.nv_bits.specs.Numbers.{above}
-use Rattle.nv_command.specs.declared.command.TheConstants.{BROADCAST_NSID}
+use Rattle.nv_command.specs.Nsid.{broadcast_nsid}
 use Rattle.nv_model.specs.State.{State, controller_at, ascending}
 
 -- an NSID that a namespace of the subsystem could have
@@ -21,7 +21,7 @@ is_active s c n = option_map_or (λ x. map_of.contains_key x.attached n) (contro
 
 -- the NSIDs that a command concerns: for the broadcast one all that are active on the controller
 abbrev pub concerned : State → ℕ → ℕ → List ℕ
-concerned s c n = if n == BROADCAST_NSID then above 0 (active_nsids s c) else n ∷ []
+concerned s c n = if n == broadcast_nsid then above 0 (active_nsids s c) else n ∷ []
 
 -- an NSID that a namespace has
 abbrev pub is_allocated : State → ℕ → Bool

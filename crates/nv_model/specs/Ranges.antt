@@ -8,7 +8,7 @@ use Rattle.nv_model.specs.declared.feature_rule.FeatureRule.{FeatureRule}
 use Rattle.nv_model.specs.declared.smart_base.Counters.{Counters}
 use Rattle.nv_model.specs.declared.smart_base.SmartBase.{SmartBase}
 use Rattle.nv_model.specs.declared.identity.IdentityNumbers.{IdentityNumbers}
-use Rattle.nv_model.specs.declared.integer.TheConstants.{GREATEST_INTEGER}
+use Rattle.nv_model.specs.Numbers.{greatest_integer}
 use Rattle.nv_layout.specs.Feature.{feature_of, is_value}
 use Rattle.nv_model.specs.Defaults.{AreDefaults, default_at}
 use Rattle.nv_model.specs.Identity.{Identity}
@@ -22,7 +22,7 @@ is_text most s =
 -- The greatest NSID, the capacity in bytes, where metadata can lie, and the name of the subsystem.
 pub record AreTopKeys (last_nsid capacity metadata : ℕ) (name : List ℕ) : Type 0 where
   pub nn : (1 ≤ last_nsid) × (last_nsid ≤ 1024)
-  pub tnvmcap : capacity ≤ GREATEST_INTEGER
+  pub tnvmcap : capacity ≤ greatest_integer
   pub mc : metadata ≤ 3
   pub subnqn : is_text 223 name ≡ true
 
@@ -39,15 +39,15 @@ pub record IsFeatureRule (r : FeatureRule) : Type 0 where
   pub saveable : r.fid ≡ 0x05 → r.saveable ≡ false
 
 pub record IsCounters (c : Counters) : Type 0 where
-  pub data_units_read : c.data_units_read ≤ GREATEST_INTEGER
-  pub data_units_written : c.data_units_written ≤ GREATEST_INTEGER
-  pub host_read_commands : c.host_read_commands ≤ GREATEST_INTEGER
-  pub host_write_commands : c.host_write_commands ≤ GREATEST_INTEGER
-  pub controller_busy_time : c.controller_busy_time ≤ GREATEST_INTEGER
-  pub power_cycles : c.power_cycles ≤ GREATEST_INTEGER
-  pub power_on_hours : c.power_on_hours ≤ GREATEST_INTEGER
-  pub unsafe_shutdowns : c.unsafe_shutdowns ≤ GREATEST_INTEGER
-  pub media_errors : c.media_errors ≤ GREATEST_INTEGER
+  pub data_units_read : c.data_units_read ≤ greatest_integer
+  pub data_units_written : c.data_units_written ≤ greatest_integer
+  pub host_read_commands : c.host_read_commands ≤ greatest_integer
+  pub host_write_commands : c.host_write_commands ≤ greatest_integer
+  pub controller_busy_time : c.controller_busy_time ≤ greatest_integer
+  pub power_cycles : c.power_cycles ≤ greatest_integer
+  pub power_on_hours : c.power_on_hours ≤ greatest_integer
+  pub unsafe_shutdowns : c.unsafe_shutdowns ≤ greatest_integer
+  pub media_errors : c.media_errors ≤ greatest_integer
 
 pub record IsSmart (s : SmartBase) : Type 0 where
   pub critical_warning : s.critical_warning ≤ 255
@@ -82,5 +82,5 @@ pub record IsIdentity (i : Identity) : Type 0 where
 -- A namespace has at least one block of its format, and extended blocks only where format and
 -- subsystem allow them.
 pub record IsInFormat (mc : ℕ) (f : Format) (n : Namespace) : Type 0 where
-  pub capacity : (2 ^ f.lbads ≤ n.capacity) × (n.capacity ≤ GREATEST_INTEGER)
+  pub capacity : (2 ^ f.lbads ≤ n.capacity) × (n.capacity ≤ greatest_integer)
   pub extended : n.extended ≡ true → (0 < f.ms) × (bit_and mc 1 ≡ 1)

@@ -11,11 +11,11 @@ use Rattle.nv_model.specs.ErrorLog.{log_entry}
 use Rattle.nv_model.specs.Refusal.{refusal_of}
 use Rattle.nv_model.specs.Reply.{reply_of}
 use Rattle.nv_model.specs.State.{Controller, State, with_controller}
-use Rattle.nv_model.specs.declared.count.TheConstants.{GREATEST_COUNT}
+use Rattle.nv_model.specs.Numbers.{greatest_count, serial_count}
 
 -- one more, up to the greatest count
 abbrev pub next_count : ℕ → ℕ
-next_count n = min (n + 1) GREATEST_COUNT
+next_count n = min (n + 1) greatest_count
 
 -- a controller with one refusal more: the newest entry stands first, and ELPE + 1 are kept
 abbrev pub with_refusal : ℕ → ℕ → Refusal → Controller → Controller
@@ -67,4 +67,4 @@ step s c k cid = step_by (refusal_of s c k) s c k cid
 
 -- the command identifier after one: FFFFh is never used
 abbrev pub next_serial : ℕ → ℕ
-next_serial serial = (serial + 1) % 0xffff
+next_serial serial = (serial + 1) % serial_count

@@ -14,7 +14,7 @@ use Rattle.nv_model.specs.FeatureRules.{FeatureRules}
 use Rattle.nv_model.specs.ValueKey.{FeatureValues, ValueKey}
 use Rattle.nv_model.specs.declared.feature_value.FeatureValue.{FeatureValue}
 use Rattle.nv_model.specs.State.{Controller, Namespaces, Nsids, State}
-use Rattle.nv_model.specs.declared.count.TheConstants.{GREATEST_COUNT}
+use Rattle.nv_model.specs.Numbers.{greatest_count}
 use Rattle.nv_layout.specs.ErrorEntry.{ErrorEntryFits}
 use Rattle.nv_model.specs.declared.namespace.Namespace.{Namespace}
 
@@ -58,8 +58,8 @@ pub record IsController (namespaces : Namespaces) (x : Controller) : Type 0 wher
   pub smart : IsSmart x.smart
   pub log : length x.log ≡ min x.refusals (x.identity.numbers.elpe + 1)
   pub entries : All ErrorEntryFits x.log
-  pub refusals : x.refusals ≤ GREATEST_COUNT
-  pub commands : x.commands ≤ GREATEST_COUNT
+  pub refusals : x.refusals ≤ greatest_count
+  pub commands : x.commands ≤ greatest_count
   pub attached : (n : ℕ) → map_of.contains_key x.attached n ≡ true
       → map_of.contains_key namespaces n ≡ true
   pub values : AreValues x.rules x.identity.numbers.vwc x.attached x.values

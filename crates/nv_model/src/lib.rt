@@ -2,7 +2,6 @@
 //! what each command answers and changes. Its definitions are what the crates above it promise.
 #![tactic(auto)]
 
-mod count;
 mod defaults;
 mod feature_rule;
 mod feature_value;
@@ -16,7 +15,6 @@ mod origin;
 mod row;
 mod smart_base;
 
-pub use count::GREATEST_COUNT;
 pub use defaults::Defaults;
 pub use feature_rule::FeatureRule;
 pub use feature_value::FeatureValue;

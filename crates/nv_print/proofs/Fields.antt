@@ -1,9 +1,8 @@
 -- One field more.
-use Rattle.std.proofs.Common.{◌≡◌, ◌∙◌, ℕ, ◌+◌, ◌<◌, ap, ap₂, append_assoc, refl, sym, List, [], ◌∷◌, ◌++◌, length, take, get_or}
+use Rattle.std.proofs.Common.{◌≡◌, ◌∙◌, ℕ, ◌+◌, ◌<◌, ap, ap₂, append_assoc, sym, List, [], ◌∷◌, ◌++◌, length, take, get_or}
 use Rattle.std.proofs.lemmas.List.{flat_map_more, take_more}
 use Rattle.std.specs.Prelude.{flat_map}
-use Rattle.serde_json.specs.Data.{Members, put}
-use Rattle.nv_print.specs.Field.{Field, shape_data, with_fields}
+use Rattle.nv_print.specs.Field.{Field}
 
 -- one field before others
 pub and_field : {x y : Field} {xs ys : List Field} → x ≡ y → xs ≡ ys → x ∷ xs ≡ y ∷ ys
@@ -18,11 +17,16 @@ pub flat_map_next : {A : Type 0} (f : A → List ℕ) (text : List ℕ) (xs : Li
     → (text ++ flat_map f (take i xs)) ++ f (get_or xs i d) ≡ text ++ flat_map f (take (i + 1) xs)
 flat_map_next f text xs i d h = flat_map_more f text (take i xs) (get_or xs i d) ∙ ap (λ ys. text ++ flat_map f ys) (sym (take_more xs i d h))
 
-with_fields-append : (xs : List Field) (f : Field) (ms : Members) → with_fields (xs ++ f ∷ []) ms ≡ put f.key (shape_data f.shape) (with_fields xs ms)
-with_fields-append [] f ms = refl
-with_fields-append (x ∷ xs) f ms = with_fields-append xs f (put x.key (shape_data x.shape) ms)
+-- a text that the parts of a field's line were added to
+pub line_more : (text key room colon value end : List ℕ)
+    → (((text ++ key) ++ (room ++ colon)) ++ value) ++ end ≡ text ++ ((key ++ room) ++ (colon ++ (value ++ end)))
+line_more text key room colon value end =
+    three_more (text ++ key) (room ++ colon) value end
+    ∙ append_assoc text key ((room ++ colon) ++ (value ++ end))
+    ∙ ap (λ rest. text ++ rest) (ap (λ rest. key ++ rest) (append_assoc room colon (value ++ end)) ∙ sym (append_assoc key room (colon ++ (value ++ end))))
 
--- members that a list's fields were put into, and one more
-pub with_fields_next : (ms : Members) (xs : List Field) (i : ℕ) (d : Field) → i < length xs
-    → with_fields (take (i + 1) xs) ms ≡ put (get_or xs i d).key (shape_data (get_or xs i d).shape) (with_fields (take i xs) ms)
-with_fields_next ms xs i d h = ap (λ ys. with_fields ys ms) (take_more xs i d h) ∙ with_fields-append (take i xs) (get_or xs i d) ms
+-- a text that the parts of a field within a line were added to
+pub within_more : (text key value : List ℕ) → (((text ++ 32 ∷ []) ++ key) ++ 58 ∷ []) ++ value ≡ text ++ (32 ∷ (key ++ 58 ∷ value))
+within_more text key value =
+    three_more (text ++ 32 ∷ []) key (58 ∷ []) value
+    ∙ append_assoc text (32 ∷ []) (key ++ 58 ∷ value)

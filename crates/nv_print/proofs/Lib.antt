@@ -1,6 +1,8 @@
 pub mod Padding
 pub mod Fields
 pub mod Items
+pub mod Sent
+pub mod KeyOrder
 pub mod NoFloats
 pub mod NumberedLines
 pub mod PrintableLaws

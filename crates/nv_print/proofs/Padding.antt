@@ -1,8 +1,12 @@
--- A number on the right of some places.
-use Rattle.std.proofs.Common.{◌≡◌, ◌∙◌, ℕ, ◌-◌, ◌^◌, zero, suc, ap, cond, refl, arith, Bool, false, true, List, [], ◌∷◌, ◌++◌, append-nil, length}
-use Rattle.std.specs.Prelude.{◌&&◌, ◌==◌, replicate}
+-- A number on the right of some places, and what stands behind a key.
+use Rattle.std.proofs.Common.{◌≡◌, ◌∙◌, ℕ, ◌-◌, ◌^◌, ◌≤◌, zero, suc, ap, cond, refl, arith, Bool, false, true, List, [], ◌∷◌, ◌++◌, append-nil, drop, length}
+use Rattle.std.specs.Prelude.{◌&&◌, ◌==◌, codes, replicate}
 use Rattle.std.proofs.lemmas.Bool.Decides.{nat_tests}
 use Rattle.std.specs.List.{repeat}
+use Rattle.std.specs.Str.{IsAscii, IsCharBoundary}
+use Rattle.std.proofs.lemmas.List.{drop-append-le, drop-replicate}
+use Rattle.std.proofs.lemmas.Str.{IsAscii-append, IsCharBoundary-from_ascii}
+use Rattle.std.proofs.lemmas.Str.Ascii.{IsAscii-cons, IsAscii-nil}
 use Rattle.std.specs.Fmt.{char_count, decimal, format_spec, padded_integral, styled_decimal, styled_text, fill_after_digits, number_padding, padded, take_chars}
 use lib.Utf8.{encode}
 use Rattle.nv_print.specs.Padding.{right}
@@ -52,3 +56,25 @@ unfolding padded_integral char_count encode
 zero_padded width ds =
     let pad : width - length ds - 0 - 0 ≡ width - length ds = omega arith in
     ap (λ (k : ℕ). replicate {A = ℕ} k 48 ++ (ds ++ [])) pad ∙ ap (λ t. replicate (width - length ds) 48 ++ t) (append-nil ds)
+
+-- ---- between a key and its value
+
+spaces_ascii : (n : ℕ) → IsAscii (replicate n 32)
+spaces_ascii zero = IsAscii-nil
+spaces_ascii (suc n) = IsAscii-cons 32 (replicate n 32) (omega arith) (spaces_ascii n)
+
+-- the widest gap can be cut at each of its places
+pub gap_cut : (n : ℕ) → IsCharBoundary (codes "                    : ") (20 - n)
+gap_cut n =
+    let mark : IsAscii (codes ": ") = IsAscii-cons 58 (32 ∷ []) (omega arith) (IsAscii-cons 32 [] (omega arith) IsAscii-nil) in
+    let ascii : IsAscii (replicate 20 32 ++ codes ": ") = IsAscii-append (replicate 20 32) (codes ": ") (spaces_ascii 20) mark in
+    let within : 20 - n ≤ 22 = omega arith in
+    IsCharBoundary-from_ascii (codes "                    : ") (20 - n) ascii within
+
+-- what is left of it behind a key
+pub gap_is : (room k : ℕ) → room ≡ 20 - k → drop (20 - room) (codes "                    : ") ≡ replicate (20 - k) 32 ++ codes ": "
+gap_is room k is =
+    let within : 20 - room ≤ 20 = omega arith in
+    let left : 20 - (20 - room) ≡ 20 - k = omega arith in
+    drop-append-le (20 - room) (replicate 20 32) (codes ": ") within
+    ∙ ap (λ (spaces : List ℕ). spaces ++ codes ": ") (drop-replicate (20 - room) 20 32 ∙ ap (λ (n : ℕ). replicate {A = ℕ} n 32) left)

@@ -1,8 +1,12 @@
--- What is shown has no float.
-use Rattle.std.proofs.Common.{◌≡◌, refl, false, codes, map}
+-- What is shown has no float, so its text is known.
+use Rattle.std.proofs.Common.{◌≡◌, ℕ, List, [], Some, refl, false, codes, map}
+use Rattle.serde.specs.Event.{Log}
 use Rattle.serde_json.specs.Data.{array, number, unsigned}
 use Rattle.serde_json.specs.View.{items_of}
-use Rattle.serde_json.specs.Written.{has_float}
+use Rattle.serde_json.specs.Events.{SendsValue}
+use Rattle.serde_json.specs.Sent.{IsTextOf}
+use Rattle.serde_json.specs.Written.{compact_text, has_float}
+use Rattle.serde_json.proofs.FreeTexts.{text_of_value}
 use Rattle.nv_print.specs.DeviceList.{fields_of_device}
 use Rattle.nv_print.specs.Field.{members_of, object_of}
 use Rattle.nv_print.specs.IdCtrl.{fields_of_id_ctrl}
@@ -33,3 +37,7 @@ data_no_float (shown.Formatted nsid) = refl
 data_no_float (shown.FeatureValue f s v) = refl
 data_no_float (shown.FeatureSet f v s) = refl
 data_no_float shown.Reset = refl
+
+-- the text of what was sent
+pub text_of_sent : (s : Shown) (log : Log) (text : List ℕ) → SendsValue (data_of s) (Some []) log → IsTextOf log text → text ≡ compact_text (data_of s)
+text_of_sent s log text sent is = text_of_value (data_of s) log text sent is (data_no_float s)

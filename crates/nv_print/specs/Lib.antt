@@ -2,6 +2,7 @@ pub mod Printable
 pub mod Hexadecimal
 pub mod Padding
 pub mod Field
+pub mod Sends
 pub mod IdCtrl
 pub mod IdNs
 pub mod Logs

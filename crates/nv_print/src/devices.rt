@@ -1,19 +1,21 @@
 //! What is shown of devices: a line in columns for each, or an object.
 
 ghost use Rattle.std.specs.Prelude.{◌≡◌, ◌≤◌, ◌+◌, ◌*◌, ◌++◌, IfOk, OnOk, length, string_bytes};
+ghost use Rattle.serde_json.specs.Events.{SendsValue};
 ghost use Rattle.serde_json.specs.Written.{compact_text};
 ghost use Rattle.nv_print.specs.DeviceList.{device_line, devices_data, devices_text};
 ghost use Rattle.nv_print.specs.DeviceList.{fields_of_device, node_of};
 ghost use Rattle.nv_print.specs.Field.{object_of};
-ghost use Rattle.serde_json.specs.View.{view};
 
 use crate::column::{Left, Right};
-use crate::data::list_object;
 use crate::device::Device;
-use crate::field::{Field, object_of};
+use crate::field::{Field, send_object};
 use crate::printable::printable;
-use serde_json::Value;
+use serde::Serializer;
 use std::alloc::{AllocError, Global};
+
+/// Where the fields of a device stand, in the order of their keys.
+pub(crate) const DEVICE_ORDER: [usize; 6] = [5, 4, 2, 3, 0, 1];
 
 /// The name of the node of a controller's namespace.
 #[tactic(auto, using(crate::proofs::DeviceLengths::node_short))]
@@ -106,25 +108,36 @@ fn device_fields<'a>(node: &'a str, device: &'a Device) -> [Field<'a>; 6]
     ]
 }
 
-/// The object of a device.
-fn device_data(alloc: Global, device: &Device) -> Result<Value, AllocError>
-    ensures value { IfOk result (λ v. view v ≡ object_of (fields_of_device device.now)) }
-    ensures bound { IfOk result (λ v. length (compact_text (view v)) ≤ 511) }
+/// Sends the object of a device to a writer of JSON.
+fn send_device<S: Serializer>(device: &Device, alloc: Global, out: &mut S) -> Result<(), S::Error>
+    ensures value { OnOk result (SendsValue (object_of (fields_of_device device.now))
+        (S.written out.old) (S.written out.new)) }
+    ensures bound { OnOk result
+        (length (compact_text (object_of (fields_of_device device.now))) ≤ 511) }
 {
-    let node = node_of(alloc, device.controller, device.nsid)?;
-    object_of(alloc, &device_fields(&node, device))
+    let Ok(node) = node_of(alloc, device.controller, device.nsid) else {
+        return Err(out.custom("no memory"));
+    };
+    send_object(&device_fields(&node, device), &DEVICE_ORDER, alloc, out)
 }
 
-/// The JSON of devices.
-#[tactic(auto, using(crate::proofs::Items::items_next))]
-pub(crate) fn devices_data(alloc: Global, devices: &[Device]) -> Result<Value, AllocError>
-    ensures value { IfOk result (λ v. view v ≡ devices_data devices.now) }
-    ensures bound { IfOk result
-        (λ v. length (compact_text (view v)) ≤ 65000 + 512 * length devices.now) }
+/// Sends devices to a writer of JSON.
+pub(crate) fn send_devices<S: Serializer>(
+    devices: &[Device],
+    alloc: Global,
+    out: &mut S,
+) -> Result<(), S::Error>
+    ensures value { OnOk result
+        (SendsValue (devices_data devices.now) (S.written out.old) (S.written out.new)) }
+    ensures bound { OnOk result
+        (length (compact_text (devices_data devices.now)) ≤ 65000 + 512 * length devices.now) }
 {
-    let mut objects = Vec::new(alloc);
+    out.begin_map(Some(1))?;
+    out.key("devices")?;
+    out.begin_seq(Some(devices.len()))?;
     for device in devices {
-        objects.push(device_data(alloc, device)?)?;
+        send_device(device, alloc, out)?;
     }
-    list_object(alloc, "devices", objects)
+    out.end_seq()?;
+    out.end_map()
 }

@@ -1,19 +1,21 @@
 //! Fields of records: keys with values, as lines of text and as members of JSON.
 
-ghost use Rattle.std.specs.Prelude.{◌≡◌, ◌++◌, [], IfOk, OnOk, flat_map, string_bytes};
-ghost use Rattle.serde_json.specs.Data.{put};
-ghost use Rattle.serde_json.specs.View.{members_view, view};
-ghost use Rattle.nv_print.specs.Field.{as_text, field, fields_text, in_decimal, in_hexadecimal};
-ghost use Rattle.nv_print.specs.Field.{in_six_digits, object_of, shape_data, wide, with_fields};
+ghost use Rattle.std.specs.Prelude.{◌≡◌, ◌-◌, ◌++◌, [], IfOk, OnOk, codes, flat_map, length};
+ghost use Rattle.std.specs.Prelude.{replicate, string_bytes};
+ghost use Rattle.serde.specs.Event.{WritesEach};
+ghost use Rattle.serde_json.specs.Events.{SendsValue};
+ghost use Rattle.nv_print.specs.Field.{as_text, field, field_line, fields_text, in_decimal};
+ghost use Rattle.nv_print.specs.Field.{in_hexadecimal, in_six_digits, object_of, shape_data};
+ghost use Rattle.nv_print.specs.Field.{shape_of, shape_text, wide};
 ghost use Rattle.nv_print.specs.IdNs.{field_within};
 ghost use Rattle.nv_print.specs.Printable.{printable};
+ghost use Rattle.nv_print.specs.Sends.{AreInOrder, ArePlaces, SendsField, picked};
 
-use crate::column::Left;
-use crate::hexadecimal::{Hexadecimal, SixDigits};
+use crate::hexadecimal::SixDigits;
 use crate::printable::printable;
-use serde_json::{Map, Value};
+use itoa::Buffer;
+use serde::Serializer;
 use std::alloc::{AllocError, Global};
-use std::fmt;
 use std::marker::Model;
 
 /// The value of a field, by the way it is shown.
@@ -28,27 +30,62 @@ pub(crate) enum FieldValue<'a> {
     Text(&'a str),
 }
 
-impl<'a> fmt::Display for FieldValue<'a> {
-    ghost use Rattle.std.specs.Prelude.{Some};
-    ghost use Rattle.nv_print.specs.Field.{shape_of, shape_text};
-
-    ghost output = { λ value. Some (shape_text (shape_of value)) };
-
-    fn fmt<W: fmt::Write>(&self, f: &mut fmt::Formatter<W>) -> fmt::Result {
-        match self {
-            FieldValue::Decimal(number) => write!(f, "{number}"),
-            FieldValue::Hexadecimal(number) => {
-                let number = Hexadecimal(*number);
-                write!(f, "{number}")
-            }
-            FieldValue::Wide(number) => write!(f, "{number}"),
+impl<'a> FieldValue<'a> {
+    /// Adds it to a text, as it is shown.
+    fn push(&self, text: &mut String) -> Result<(), AllocError>
+        ensures { IfOk result (λ _. string_bytes text.new
+            ≡ string_bytes text.old ++ shape_text (shape_of self.now)) }
+    {
+        let mut digits = Buffer::new();
+        match *self {
+            FieldValue::Decimal(number) => text.push_str(digits.format(number)),
+            FieldValue::Hexadecimal(number) => write!(text, "0x{number:x}"),
+            FieldValue::Wide(number) => text.push_str(digits.format(number)),
             FieldValue::SixDigits(number) => {
-                let number = SixDigits(*number);
-                write!(f, "{number}")
+                let number = SixDigits(number);
+                write!(text, "{number}")
             }
-            FieldValue::Text(text) => write!(f, "{text}"),
+            FieldValue::Text(shown) => text.push_str(shown),
         }
     }
+
+    /// Sends it to a writer of JSON. A number of sixteen bytes is a string, since readers cut such
+    /// numbers.
+    fn send<S: Serializer>(&self, alloc: Global, out: &mut S) -> Result<(), S::Error>
+        ensures { OnOk result
+            (SendsValue (shape_data (shape_of self.now)) (S.written out.old) (S.written out.new)) }
+    {
+        let mut digits = Buffer::new();
+        match *self {
+            FieldValue::Decimal(number) => out.u64(number),
+            FieldValue::Hexadecimal(number) => out.u64(number),
+            FieldValue::Wide(number) => out.str(digits.format(number)),
+            FieldValue::SixDigits(number) => send_six_digits(number, alloc, out),
+            FieldValue::Text(shown) => out.str(shown),
+        }
+    }
+}
+
+/// Sends a number as a string of six hexadecimal digits.
+fn send_six_digits<S: Serializer>(number: u32, alloc: Global, out: &mut S) -> Result<(), S::Error>
+    ensures { OnOk result
+        (SendsValue (shape_data (in_six_digits number)) (S.written out.old) (S.written out.new)) }
+{
+    let number = SixDigits(number);
+    let Ok(digits) = format!(in alloc; "{number}") else {
+        return Err(out.custom("no memory"));
+    };
+    out.str(&digits)
+}
+
+/// What stands between a key and its value: spaces up to 20 places, a colon and a space.
+#[tactic(auto, using(crate::proofs::Padding::gap_cut, crate::proofs::Padding::gap_is))]
+fn gap<'a>(key: &str) -> &'a str
+    ensures { result.now ≡ replicate (20 - length key.now) 32 ++ codes ": " }
+{
+    let room = 20usize.saturating_sub(key.len());
+    let (_, gap) = "                    : ".split_at(20 - room);
+    gap
 }
 
 /// A field of a record. A contract sees its key and how its value is shown.
@@ -64,23 +101,6 @@ impl<'a> Model for Field<'a> {
     ghost Value = { Field };
 
     ghost view = { λ f. field f.key.now (shape_of f.value) };
-}
-
-impl<'a> fmt::Display for Field<'a> {
-    ghost use Rattle.std.specs.Prelude.{Some};
-    ghost use Rattle.nv_print.specs.Field.{field_line};
-
-    ghost output = { λ f. Some (field_line f) };
-
-    /// A line: the key on the left of 20 places, and the value.
-    fn fmt<W: fmt::Write>(&self, f: &mut fmt::Formatter<W>) -> fmt::Result {
-        let key = Left {
-            text: self.key,
-            width: 20,
-        };
-        let value = self.value;
-        write!(f, "{key}: {value}\n")
-    }
 }
 
 impl<'a> Field<'a> {
@@ -136,29 +156,36 @@ impl<'a> Field<'a> {
         Field::text(key, printable(bytes))
     }
 
-    /// Its value in JSON. A number of sixteen bytes is a string, since readers cut such numbers.
-    fn to_json(&self, alloc: Global) -> Result<Value, AllocError>
-        ensures { IfOk result (λ v. view v ≡ shape_data self.now.shape) }
+    /// Adds its line to a text: the key on the left of 20 places, and the value.
+    #[tactic(auto, using(crate::proofs::Fields::line_more))]
+    pub(crate) fn push_line(&self, text: &mut String) -> Result<(), AllocError>
+        ensures { IfOk result
+            (λ _. string_bytes text.new ≡ string_bytes text.old ++ field_line self.now) }
     {
-        match self.value {
-            FieldValue::Decimal(number) => Ok(Value::from(number)),
-            FieldValue::Hexadecimal(number) => Ok(Value::from(number)),
-            FieldValue::Wide(number) => Ok(Value::from(format!(in alloc; "{number}")?)),
-            FieldValue::SixDigits(number) => {
-                let number = SixDigits(number);
-                Ok(Value::from(format!(in alloc; "{number}")?))
-            }
-            FieldValue::Text(text) => Value::try_from_str(alloc, text),
-        }
+        text.push_str(self.key)?;
+        text.push_str(gap(self.key))?;
+        self.value.push(text)?;
+        text.push_str("\n")
     }
 
-    /// Puts the field into an object, at its key.
-    fn put(&self, members: &mut Map<String, Value>, alloc: Global) -> Result<(), AllocError>
-        ensures { OnOk result (members_view members.new.entries
-            ≡ put self.now.key (shape_data self.now.shape) (members_view members.old.entries)) }
+    /// Adds it to a line.
+    #[tactic(auto, using(crate::proofs::Fields::within_more))]
+    fn push_within(&self, text: &mut String) -> Result<(), AllocError>
+        ensures { IfOk result
+            (λ _. string_bytes text.new ≡ string_bytes text.old ++ field_within self.now) }
     {
-        let value = self.to_json(alloc)?;
-        serde_json::put(members, alloc, self.key, value)
+        text.push_str(" ")?;
+        text.push_str(self.key)?;
+        text.push_str(":")?;
+        self.value.push(text)
+    }
+
+    /// Sends it to a writer of JSON: its key and its value.
+    fn send<S: Serializer>(&self, alloc: Global, out: &mut S) -> Result<(), S::Error>
+        ensures { OnOk result (SendsField self.now (S.written out.old) (S.written out.new)) }
+    {
+        out.key(self.key)?;
+        self.value.send(alloc, out)
     }
 }
 
@@ -169,7 +196,7 @@ pub(crate) fn push_fields(text: &mut String, fields: &[Field<'_>]) -> Result<(),
         (λ _. string_bytes text.new ≡ string_bytes text.old ++ fields_text fields.now) }
 {
     for field in fields {
-        write!(text, "{field}")?;
+        field.push_line(text)?;
     }
     Ok(())
 }
@@ -183,25 +210,6 @@ pub(crate) fn fields_text(alloc: Global, fields: &[Field<'_>]) -> Result<String,
     Ok(text)
 }
 
-/// A field within a line.
-#[derive(Drop)]
-struct Within<'a> {
-    field: &'a Field<'a>,
-}
-
-impl<'a> fmt::Display for Within<'a> {
-    ghost use Rattle.std.specs.Prelude.{Some};
-    ghost use Rattle.nv_print.specs.IdNs.{field_within};
-
-    ghost output = { λ within. Some (field_within within.field.now) };
-
-    fn fmt<W: fmt::Write>(&self, f: &mut fmt::Formatter<W>) -> fmt::Result {
-        let field = self.field;
-        let Field { key, value } = field;
-        write!(f, " {key}:{value}")
-    }
-}
-
 /// Adds fields to a line.
 #[tactic(auto, using(crate::proofs::Fields::flat_map_next))]
 pub(crate) fn push_within(text: &mut String, fields: &[Field<'_>]) -> Result<(), AllocError>
@@ -209,34 +217,40 @@ pub(crate) fn push_within(text: &mut String, fields: &[Field<'_>]) -> Result<(),
         (λ _. string_bytes text.new ≡ string_bytes text.old ++ flat_map field_within fields.now) }
 {
     for field in fields {
-        let field = Within { field };
-        write!(text, "{field}")?;
+        field.push_within(text)?;
     }
     Ok(())
 }
 
-/// Puts fields into an object, each at its key.
-#[tactic(auto, using(crate::proofs::Fields::with_fields_next))]
-pub(crate) fn put_fields(
-    members: &mut Map<String, Value>,
-    alloc: Global,
+/// Sends the fields at some places of a table.
+pub(crate) fn send_fields<S: Serializer>(
     fields: &[Field<'_>],
-) -> Result<(), AllocError>
-    ensures { OnOk result
-        (members_view members.new.entries
-        ≡ with_fields fields.now (members_view members.old.entries)) }
+    places: &[usize],
+    alloc: Global,
+    out: &mut S,
+) -> Result<(), S::Error>
+    requires { ArePlaces places.now fields.now }
+    ensures { OnOk result (WritesEach SendsField (picked fields.now places.now)
+        (S.written out.old) (S.written out.new)) }
 {
-    for field in fields {
-        field.put(members, alloc)?;
+    for place in places {
+        fields[*place].send(alloc, out)?;
     }
     Ok(())
 }
 
-/// The object of fields.
-pub(crate) fn object_of(alloc: Global, fields: &[Field<'_>]) -> Result<Value, AllocError>
-    ensures { IfOk result (λ v. view v ≡ object_of fields.now) }
+/// Sends an object of fields, in the order of its members.
+pub(crate) fn send_object<S: Serializer>(
+    fields: &[Field<'_>],
+    order: &[usize],
+    alloc: Global,
+    out: &mut S,
+) -> Result<(), S::Error>
+    requires { AreInOrder order.now fields.now }
+    ensures { OnOk result
+        (SendsValue (object_of fields.now) (S.written out.old) (S.written out.new)) }
 {
-    let mut members = Map::new(alloc);
-    put_fields(&mut members, alloc, fields)?;
-    Ok(Value::Object(members))
+    out.begin_map(Some(order.len()))?;
+    send_fields(fields, order, alloc, out)?;
+    out.end_map()
 }

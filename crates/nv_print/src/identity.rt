@@ -1,11 +1,30 @@
 //! What Identify tells, as fields: of a controller, and of a namespace.
 
-ghost use Rattle.std.specs.Prelude.{◌≡◌};
+ghost use Rattle.std.specs.Prelude.{◌≡◌, OnOk};
+ghost use Rattle.serde_json.specs.Events.{SendsValue};
+ghost use Rattle.nv_print.specs.Field.{object_of};
 ghost use Rattle.nv_print.specs.IdCtrl.{fields_of_id_ctrl, texts_length};
 ghost use Rattle.nv_print.specs.IdNs.{fields_of_id_ns, fields_of_lbaf};
 
-use crate::field::Field;
+use crate::field::{Field, send_object};
 use nv_layout::{IdCtrl, IdNs, Lbaf};
+use serde::Serializer;
+use std::alloc::Global;
+
+/// Where the fields of a controller stand, in the order of their keys.
+pub(crate) const ID_CTRL_ORDER: [usize; 27] = [
+    17, 7, 9, 21, 14, 24, 4, 12, 6, 13, 8, 3, 22, 15, 11, 23, 5, 2, 20, 1, 26, 18, 19, 10, 0, 25,
+    16,
+];
+
+/// Where the fields of a namespace stand whose keys come before "lbafs", in their order.
+pub(crate) const BEFORE_LBAFS: [usize; 3] = [7, 8, 5];
+
+/// Where those stand whose keys come after it, in their order.
+pub(crate) const AFTER_LBAFS: [usize; 8] = [6, 1, 4, 9, 3, 0, 2, 10];
+
+/// Where the fields of a format stand, in the order of their keys.
+pub(crate) const LBAF_ORDER: [usize; 3] = [1, 0, 2];
 
 /// The fields of a controller ("Identify Controller data structure").
 pub(crate) fn id_ctrl_fields<'a>(identity: &'a IdCtrl) -> [Field<'a>; 27]
@@ -43,6 +62,19 @@ pub(crate) fn id_ctrl_fields<'a>(identity: &'a IdCtrl) -> [Field<'a>; 27]
     ]
 }
 
+/// Sends the object of a controller to a writer of JSON.
+pub(crate) fn send_id_ctrl<S: Serializer>(
+    identity: &IdCtrl,
+    alloc: Global,
+    out: &mut S,
+) -> Result<(), S::Error>
+    ensures value { OnOk result (SendsValue (object_of (fields_of_id_ctrl identity.now))
+        (S.written out.old) (S.written out.new)) }
+    ensures texts { texts_length identity.now ≡ 324 }
+{
+    send_object(&id_ctrl_fields(identity), &ID_CTRL_ORDER, alloc, out)
+}
+
 /// The fields of a namespace before its formats ("Identify Namespace data structure").
 #[tactic(auto, unfolding(crate::specs::IdNs::fields_of_id_ns))]
 pub(crate) fn id_ns_fields<'a>(namespace: &IdNs) -> [Field<'a>; 11]
@@ -73,4 +105,16 @@ pub(crate) fn lbaf_fields<'a>(format: &Lbaf) -> [Field<'a>; 3]
         Field::decimal("lbads", format.lbads as u64),
         Field::decimal("rp", format.rp as u64),
     ]
+}
+
+/// Sends the object of a format to a writer of JSON.
+pub(crate) fn send_lbaf<S: Serializer>(
+    format: &Lbaf,
+    alloc: Global,
+    out: &mut S,
+) -> Result<(), S::Error>
+    ensures { OnOk result (SendsValue (object_of (fields_of_lbaf format.now))
+        (S.written out.old) (S.written out.new)) }
+{
+    send_object(&lbaf_fields(format), &LBAF_ORDER, alloc, out)
 }

@@ -1,13 +1,12 @@
 //! What a line of a script prints: what it shows, as text or as JSON, and the message of a fault.
 //!
 //! A record is a table of fields. Its text and its JSON are both made of that table. JSON is what
-//! `serde_json` writes of a value.
+//! `serde_json` writes of what the table sends.
 //!
 //! Sections are named as in the NVM Express Base Specification, revision 1.4.
 #![tactic(auto)]
 
 mod column;
-mod data;
 mod device;
 mod device_list;
 mod devices;

@@ -1,10 +1,22 @@
 //! What logs hold, as fields.
 
-ghost use Rattle.std.specs.Prelude.{◌≡◌};
+ghost use Rattle.std.specs.Prelude.{◌≡◌, OnOk};
+ghost use Rattle.serde_json.specs.Events.{SendsValue};
+ghost use Rattle.nv_print.specs.Field.{object_of};
 ghost use Rattle.nv_print.specs.Logs.{fields_of_entry, fields_of_smart};
 
-use crate::field::Field;
+use crate::field::{Field, send_object};
 use nv_layout::{ErrorEntry, Smart};
+use serde::Serializer;
+use std::alloc::Global;
+
+/// Where the fields of a health log stand, in the order of their keys.
+pub(crate) const SMART_ORDER: [usize; 25] = [
+    2, 9, 16, 0, 5, 6, 7, 8, 13, 14, 4, 10, 11, 3, 1, 17, 18, 19, 20, 21, 22, 23, 24, 12, 15,
+];
+
+/// Where the fields of an entry of an error log stand, in the order of their keys.
+pub(crate) const ENTRY_ORDER: [usize; 9] = [2, 8, 0, 5, 6, 4, 1, 3, 7];
 
 /// The fields of a health log ("SMART / Health Information"): how a controller is, what it has done
 /// and what has happened to it, how warm it was and is.
@@ -40,6 +52,18 @@ pub(crate) fn smart_fields<'a>(smart: &Smart) -> [Field<'a>; 25]
     ]
 }
 
+/// Sends the object of a health log to a writer of JSON.
+pub(crate) fn send_smart<S: Serializer>(
+    smart: &Smart,
+    alloc: Global,
+    out: &mut S,
+) -> Result<(), S::Error>
+    ensures { OnOk result (SendsValue (object_of (fields_of_smart smart.now))
+        (S.written out.old) (S.written out.new)) }
+{
+    send_object(&smart_fields(smart), &SMART_ORDER, alloc, out)
+}
+
 /// The fields of an entry of an error log, but for its index ("Error Information").
 #[tactic(auto, unfolding(crate::specs::Logs::fields_of_entry))]
 pub(crate) fn entry_fields<'a>(entry: &ErrorEntry) -> [Field<'a>; 9]
@@ -56,4 +80,16 @@ pub(crate) fn entry_fields<'a>(entry: &ErrorEntry) -> [Field<'a>; 9]
         Field::hexadecimal("vs", entry.vendor as u64),
         Field::hexadecimal("cs", entry.specific),
     ]
+}
+
+/// Sends the object of an entry to a writer of JSON.
+pub(crate) fn send_entry<S: Serializer>(
+    entry: &ErrorEntry,
+    alloc: Global,
+    out: &mut S,
+) -> Result<(), S::Error>
+    ensures { OnOk result (SendsValue (object_of (fields_of_entry entry.now))
+        (S.written out.old) (S.written out.new)) }
+{
+    send_object(&entry_fields(entry), &ENTRY_ORDER, alloc, out)
 }

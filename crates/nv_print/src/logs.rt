@@ -1,16 +1,17 @@
 //! What is shown of an error log.
 
-ghost use Rattle.std.specs.Prelude.{◌≡◌, ◌++◌, ◌∷◌, [], IfOk, if◌then◌else◌, map, string_bytes};
-ghost use Rattle.serde_json.specs.View.{view};
+ghost use Rattle.std.specs.Prelude.{◌≡◌, ◌++◌, ◌∷◌, [], IfOk, OnOk, filter, if◌then◌else◌};
+ghost use Rattle.std.specs.Prelude.{length, string_bytes};
+ghost use Rattle.serde.specs.Event.{WritesEach};
+ghost use Rattle.serde_json.specs.Events.{SendsValue};
 ghost use Rattle.nv_print.specs.Field.{object_of};
 ghost use Rattle.nv_print.specs.Logs.{entries_data, entries_text, entry_text, fields_of_entry};
 ghost use Rattle.nv_print.specs.Logs.{holds_error};
 
-use crate::data::list_object;
-use crate::field::{Field, object_of, push_fields};
-use crate::log_fields::entry_fields;
+use crate::field::{Field, push_fields};
+use crate::log_fields::{entry_fields, send_entry};
 use nv_layout::{ErrorEntries, ErrorEntry};
-use serde_json::Value;
+use serde::Serializer;
 use std::alloc::{AllocError, Global};
 
 /// Whether an entry holds an error.
@@ -29,7 +30,7 @@ fn push_entry(text: &mut String, index: usize, entry: &ErrorEntry) -> Result<(),
         return Ok(());
     }
     let index = Field::decimal("entry", index as u64);
-    write!(text, "{index}")?;
+    index.push_line(text)?;
     push_fields(text, &entry_fields(entry))
 }
 
@@ -44,30 +45,46 @@ pub(crate) fn entries_text(alloc: Global, entries: &ErrorEntries<'_>) -> Result<
     Ok(text)
 }
 
-/// Adds the object of an entry to a list, if it holds an error.
-fn push_object(
-    objects: &mut Vec<Value>,
-    alloc: Global,
-    entry: &ErrorEntry,
-) -> Result<(), AllocError>
-    ensures { IfOk result (λ _. map view objects.new.items ≡ map view objects.old.items
-        ++ (if holds_error entry.now then object_of (fields_of_entry entry.now) ∷ [] else [])) }
+/// How many entries hold an error.
+fn errors_count(entries: &ErrorEntries<'_>) -> usize
+    ensures { result ≡ length (filter holds_error entries.now) }
+{
+    let mut count = 0;
+    for index in 0..entries.len() {
+        if holds_error(&entries.get(index)) {
+            count += 1;
+        }
+    }
+    count
+}
+
+/// Sends the object of an entry to a writer of JSON, if it holds an error.
+fn send_error<S: Serializer>(entry: &ErrorEntry, alloc: Global, out: &mut S) -> Result<(), S::Error>
+    ensures { OnOk result (WritesEach SendsValue
+        (if holds_error entry.now then object_of (fields_of_entry entry.now) ∷ [] else [])
+        (S.written out.old) (S.written out.new)) }
 {
     if !holds_error(entry) {
         return Ok(());
     }
-    let object = object_of(alloc, &entry_fields(entry))?;
-    Ok(objects.push(object)?)
+    send_entry(entry, alloc, out)
 }
 
-/// The JSON of the entries of an error log that hold an error.
-#[tactic(auto, using(crate::proofs::Items::chosen_next))]
-pub(crate) fn entries_data(alloc: Global, entries: &ErrorEntries<'_>) -> Result<Value, AllocError>
-    ensures { IfOk result (λ v. view v ≡ entries_data entries.now) }
+/// Sends the entries of an error log that hold an error to a writer of JSON.
+pub(crate) fn send_entries<S: Serializer>(
+    entries: &ErrorEntries<'_>,
+    alloc: Global,
+    out: &mut S,
+) -> Result<(), S::Error>
+    ensures { OnOk result
+        (SendsValue (entries_data entries.now) (S.written out.old) (S.written out.new)) }
 {
-    let mut objects = Vec::new(alloc);
+    out.begin_map(Some(1))?;
+    out.key("errors")?;
+    out.begin_seq(Some(errors_count(entries)))?;
     for index in 0..entries.len() {
-        push_object(&mut objects, alloc, &entries.get(index))?;
+        send_error(&entries.get(index), alloc, out)?;
     }
-    list_object(alloc, "errors", objects)
+    out.end_seq()?;
+    out.end_map()
 }

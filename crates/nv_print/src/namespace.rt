@@ -1,18 +1,19 @@
 //! What is shown of a namespace: its fields, and its formats.
 
-ghost use Rattle.std.specs.Prelude.{◌≡◌, ◌++◌, IfOk, map, string_bytes};
+ghost use Rattle.std.specs.Prelude.{◌≡◌, ◌++◌, IfOk, OnOk, map, string_bytes};
 ghost use Rattle.serde_json.specs.Data.{array};
-ghost use Rattle.serde_json.specs.View.{items_of, view};
+ghost use Rattle.serde_json.specs.Events.{SendsValue};
+ghost use Rattle.serde_json.specs.View.{items_of};
 ghost use Rattle.nv_print.specs.Field.{object_of};
 ghost use Rattle.nv_print.specs.IdNs.{fields_of_lbaf, formats_of, lbaf_line, mark_of};
 ghost use Rattle.nv_print.specs.IdNs.{namespace_data, namespace_text};
 ghost use Rattle.nv_print.specs.Padding.{lines_of};
 
 use crate::column::Right;
-use crate::field::{object_of, push_fields, push_within, put_fields};
-use crate::identity::{id_ns_fields, lbaf_fields};
+use crate::field::{push_fields, push_within, send_fields};
+use crate::identity::{AFTER_LBAFS, BEFORE_LBAFS, id_ns_fields, lbaf_fields, send_lbaf};
 use nv_layout::{IdNs, Lbaf};
-use serde_json::{Map, Value};
+use serde::Serializer;
 use std::alloc::{AllocError, Global};
 use std::cmp;
 
@@ -75,26 +76,34 @@ pub(crate) fn namespace_text(alloc: Global, namespace: &IdNs) -> Result<String, 
     Ok(text)
 }
 
-/// The JSON of a namespace's formats.
-#[tactic(auto, using(crate::proofs::Items::items_next))]
-fn formats_data(alloc: Global, formats: &[Lbaf]) -> Result<Value, AllocError>
-    ensures { IfOk result (λ v. view v
-        ≡ array (items_of (map (λ f. object_of (fields_of_lbaf f)) formats.now))) }
+/// Sends the list of a namespace's formats to a writer of JSON.
+fn send_formats<S: Serializer>(formats: &[Lbaf], alloc: Global, out: &mut S) -> Result<(), S::Error>
+    ensures { OnOk result
+        (SendsValue (array (items_of (map (λ f. object_of (fields_of_lbaf f)) formats.now)))
+        (S.written out.old) (S.written out.new)) }
 {
-    let mut objects = Vec::new(alloc);
+    out.begin_seq(Some(formats.len()))?;
     for format in formats {
-        objects.push(object_of(alloc, &lbaf_fields(format))?)?;
+        send_lbaf(format, alloc, out)?;
     }
-    Ok(Value::Array(objects))
+    out.end_seq()
 }
 
-/// The JSON of a namespace.
-pub(crate) fn namespace_data(alloc: Global, namespace: &IdNs) -> Result<Value, AllocError>
-    ensures { IfOk result (λ v. view v ≡ namespace_data namespace.now) }
+/// Sends a namespace to a writer of JSON.
+pub(crate) fn send_namespace<S: Serializer>(
+    namespace: &IdNs,
+    alloc: Global,
+    out: &mut S,
+) -> Result<(), S::Error>
+    ensures { OnOk result
+        (SendsValue (namespace_data namespace.now) (S.written out.old) (S.written out.new)) }
 {
-    let formats = formats_data(alloc, formats_of(namespace))?;
-    let mut members = Map::new(alloc);
-    put_fields(&mut members, alloc, &id_ns_fields(namespace))?;
-    serde_json::put(&mut members, alloc, "lbafs", formats)?;
-    Ok(Value::Object(members))
+    let fields = id_ns_fields(namespace);
+    // Eleven fields, and the formats.
+    out.begin_map(Some(12))?;
+    send_fields(&fields, &BEFORE_LBAFS, alloc, out)?;
+    out.key("lbafs")?;
+    send_formats(formats_of(namespace), alloc, out)?;
+    send_fields(&fields, &AFTER_LBAFS, alloc, out)?;
+    out.end_map()
 }

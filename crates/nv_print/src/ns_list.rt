@@ -1,14 +1,13 @@
 //! What is shown of a list of namespaces.
 
-ghost use Rattle.std.specs.Prelude.{◌≡◌, ◌<◌, ◌^◌, IfOk, string_bytes};
+ghost use Rattle.std.specs.Prelude.{◌≡◌, ◌<◌, ◌^◌, IfOk, OnOk, string_bytes};
 ghost use Rattle.std.specs.List.{All};
-ghost use Rattle.serde_json.specs.View.{view};
+ghost use Rattle.serde_json.specs.Events.{SendsValue};
 ghost use Rattle.nv_print.specs.NsList.{nsids_data, nsids_text};
 
 use crate::column::Right;
-use crate::data::list_object;
 use crate::hexadecimal::Hexadecimal;
-use serde_json::Value;
+use serde::{Serialize, Serializer};
 use std::alloc::{AllocError, Global};
 use std::fmt;
 
@@ -51,15 +50,14 @@ pub(crate) fn nsids_text(alloc: Global, nsids: &[u32]) -> Result<String, AllocEr
     Ok(text)
 }
 
-/// The JSON of a list of NSIDs.
-#[tactic(auto, using(crate::proofs::Items::items_next))]
-pub(crate) fn nsids_data(alloc: Global, nsids: &[u32]) -> Result<Value, AllocError>
-    ensures value { IfOk result (λ v. view v ≡ nsids_data nsids.now) }
+/// Sends a list of NSIDs to a writer of JSON.
+pub(crate) fn send_nsids<S: Serializer>(nsids: &[u32], out: &mut S) -> Result<(), S::Error>
+    ensures value { OnOk result
+        (SendsValue (nsids_data nsids.now) (S.written out.old) (S.written out.new)) }
     ensures fits { All (λ n. n < 2 ^ 64) nsids.now }
 {
-    let mut numbers = Vec::new(alloc);
-    for nsid in nsids {
-        numbers.push(Value::from(*nsid))?;
-    }
-    list_object(alloc, "nsids", numbers)
+    out.begin_map(Some(1))?;
+    out.key("nsids")?;
+    Serialize::serialize(&nsids, out)?;
+    out.end_map()
 }

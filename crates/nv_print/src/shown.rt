@@ -1,23 +1,22 @@
 //! What a line shows, as text and as JSON.
 
-ghost use Rattle.std.specs.Prelude.{◌≡◌, ◌<◌, ◌≤◌, IfOk, length, string_bytes, true};
-ghost use Rattle.serde_json.specs.View.{view};
+ghost use Rattle.std.specs.Prelude.{◌≡◌, ◌<◌, ◌≤◌, IfOk, OnOk, length, string_bytes, true};
+ghost use Rattle.serde_json.specs.Events.{SendsValue};
 ghost use Rattle.serde_json.specs.Written.{compact_text};
 ghost use Rattle.nv_print.specs.Shown.{data_of, has_json, json_of, text_limit, text_of};
 
-use crate::data::compact_line;
 use crate::device_list::DeviceList;
-use crate::devices::{devices_data, devices_text};
-use crate::field::{fields_text, object_of};
-use crate::identity::id_ctrl_fields;
-use crate::log_fields::smart_fields;
-use crate::logs::{entries_data, entries_text};
-use crate::namespace::{namespace_data, namespace_text};
-use crate::ns_list::{nsids_data, nsids_text};
+use crate::devices::{devices_text, send_devices};
+use crate::field::fields_text;
+use crate::identity::{id_ctrl_fields, send_id_ctrl};
+use crate::log_fields::{send_smart, smart_fields};
+use crate::logs::{entries_text, send_entries};
+use crate::namespace::{namespace_text, send_namespace};
+use crate::ns_list::{nsids_text, send_nsids};
 use crate::select::Select;
 use crate::sentence::{feature_set, feature_value, reset, success};
 use nv_layout::{ErrorEntries, Feature, IdCtrl, IdNs, NamespaceIds, Smart};
-use serde_json::Value;
+use serde::{Described, Serialize, Serializer};
 use std::alloc::{AllocError, Global};
 
 /// What a line shows.
@@ -119,28 +118,57 @@ pub fn text(alloc: Global, shown: &Shown) -> Result<String, AllocError>
     }
 }
 
-/// The JSON value of what a line shows; null where it has no JSON form.
-fn data(alloc: Global, shown: &Shown) -> Result<Value, AllocError>
-    ensures exact { IfOk result (λ v. view v ≡ data_of shown.now) }
-    ensures bound { IfOk result (λ v. length (compact_text (view v)) < text_limit shown.now) }
+/// Sends what a line shows to a writer of JSON; null where it has no JSON form.
+fn send<S: Serializer>(shown: &Shown, alloc: Global, out: &mut S) -> Result<(), S::Error>
+    ensures exact { OnOk result
+        (SendsValue (data_of shown.now) (S.written out.old) (S.written out.new)) }
+    ensures bound { OnOk result
+        (length (compact_text (data_of shown.now)) < text_limit shown.now) }
 {
     match shown {
-        Shown::Controller(identity) => object_of(alloc, &id_ctrl_fields(identity)),
-        Shown::Namespace(namespace) => namespace_data(alloc, namespace),
-        Shown::NsList(nsids) => nsids_data(alloc, nsids.as_slice()),
-        Shown::Smart(smart) => object_of(alloc, &smart_fields(smart)),
-        Shown::Errors(entries) => entries_data(alloc, entries),
-        Shown::Devices(devices) => devices_data(alloc, devices.as_slice()),
-        _ => Ok(Value::Null),
+        Shown::Controller(identity) => send_id_ctrl(identity, alloc, out),
+        Shown::Namespace(namespace) => send_namespace(namespace, alloc, out),
+        Shown::NsList(nsids) => send_nsids(nsids.as_slice(), out),
+        Shown::Smart(smart) => send_smart(smart, alloc, out),
+        Shown::Errors(entries) => send_entries(entries, alloc, out),
+        Shown::Devices(devices) => send_devices(devices.as_slice(), alloc, out),
+        _ => out.unit(),
+    }
+}
+
+/// What a line shows, for a writer of JSON.
+#[derive(Clone, Copy)]
+struct ShownData<'a, 'b> {
+    shown: &'a Shown<'b>,
+    alloc: Global,
+}
+
+impl Described for ShownData<'_, '_> {
+    ghost use Rattle.std.specs.Prelude.{◌<◌, length};
+    ghost use Rattle.serde_json.specs.Events.{SendsValue};
+    ghost use Rattle.serde_json.specs.Written.{compact_text};
+    ghost use Rattle.nv_print.specs.Shown.{data_of, text_limit};
+
+    ghost writes = { λ j old new. SendsValue (data_of j.shown.now) old new
+        × (length (compact_text (data_of j.shown.now)) < text_limit j.shown.now) };
+}
+
+impl Serialize for ShownData<'_, '_> {
+    fn serialize<S: Serializer>(&self, out: &mut S) -> Result<(), S::Error> {
+        send(self.shown, self.alloc, out)
     }
 }
 
 /// The JSON of what a line shows, and a newline.
-#[tactic(auto, using(crate::proofs::ShownFacts::data_no_float))]
 pub fn json(alloc: Global, shown: &Shown) -> Result<String, AllocError>
     requires { has_json shown.now ≡ true }
     ensures exact { IfOk result (λ t. string_bytes t ≡ json_of shown.now) }
     ensures bound { IfOk result (λ t. length (string_bytes t) ≤ text_limit shown.now) }
 {
-    compact_line(alloc, &data(alloc, shown)?)
+    // All that is sent has a form in JSON, so what can fail is memory.
+    let Ok(mut text) = serde_json::to_string(alloc, &ShownData { shown, alloc }) else {
+        return Err(AllocError);
+    };
+    text.push('\n')?;
+    Ok(text)
 }

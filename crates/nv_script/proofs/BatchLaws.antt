@@ -1,28 +1,30 @@
 -- A batch of commands that ask a controller for namespaces, and one command at a time.
-use Rattle.std.proofs.Common.{◌≡◌, ◌∙◌, ℕ, suc, ◌+◌, ◌<◌, ◌%◌, arith, ap, sym, refl, List, [], ◌∷◌, ◌++◌, length, map, get_or, set, Ok, Err, take, drop}
+use Rattle.std.proofs.Common.{◌≡◌, ◌∙◌, ℕ, suc, ◌+◌, ◌<◌, ◌%◌, arith, ap, sym, refl, List, [], ◌∷◌, ◌++◌, length, map, get_or, set, Result, Ok, Err, subst, take, drop}
+use Rattle.std.specs.Prelude.{Contains, IfErr, OnOk}
 use Rattle.std.proofs.Math.Nat.{mod-add-mod}
 use Rattle.std.proofs.Math.Seq.{take-append_seam}
 use Rattle.std.proofs.lemmas.List.{ext_get_or, get_or-map, get_or-set_same, get_or-take, length-map, length-set, length-take-le, map-append, map-set, set-set, take-append-drop}
 use Rattle.nv_command.specs.Logs.{answer_received}
 use Rattle.nv_command.specs.declared.command.Command.{Command}
 use Rattle.nv_command.specs.declared.command.Command.TheVariants.{IdentifyController, IdentifyNamespace}
-use Rattle.nv_command.specs.declared.reply.Reply.TheVariants as reply
 use Rattle.nv_driver.specs.Batch.{answers_of, state_after}
 use Rattle.nv_driver.specs.Driver.{after_commands, lane_at, no_lane}
 use Rattle.nv_driver.specs.Exchange.{after_some}
 use Rattle.nv_driver.specs.Lane.{Lane}
 use Rattle.nv_driver.specs.Schedule.{Answer}
 use Rattle.nv_driver.specs.Settled.{DriverValue}
-use Rattle.nv_layout.specs.declared.id_ctrl.IdCtrl.{IdCtrl}
-use Rattle.nv_print.specs.declared.device.Device.{Device}
 use Rattle.nv_model.specs.State.{State}
 use Rattle.nv_model.specs.Step.{next_serial, step}
-use Rattle.nv_model.specs.declared.origin.TheConstants.{SERIALS}
+use Rattle.nv_model.specs.Numbers.{serial_count}
 use Rattle.nv_script.specs.Exchange.{order_of}
 use Rattle.nv_script.specs.Link.{serials_of}
-use Rattle.nv_script.specs.Listing.{IsListed, Standing, asked, asked_all, devices_more, devices_with, listing_answered}
+use Rattle.nv_script.specs.Listing.{IsHandedOn, IsListed, ListLeaves, Standing, answers_to, asked, asked_all}
 use Rattle.nv_script.specs.Orders.{namespace_orders}
-use Rattle.nv_script.specs.Shown.{Listing}
+use Rattle.nv_script.specs.Shown.{listing_of}
+use Rattle.nv_script.specs.declared.listing.Listing.{Listing}
+use Rattle.nv_script.specs.declared.performing.Stop.{Stop}
+use Rattle.nv_script.specs.declared.performing.Stop.TheVariants as stop
+use Rattle.nv_script.proofs.ListLaws.{begun_all, listing_asked}
 
 -- ---- the commands
 
@@ -47,21 +49,14 @@ namespaces_split c ns done rest n e =
     ∙ namespaces_join c done (take n rest ++ drop n rest)
     ∙ ap (λ x. namespace_orders c done ++ x) (namespaces_join c (take n rest) (drop n rest))
 
+-- as orders
+orders_are : (c : ℕ) (ns : List ℕ) → map (order_of c) (map IdentifyNamespace ns) ≡ namespace_orders c ns
+orders_are c [] = refl
+orders_are c (n ∷ ns) = ap (λ os. order_of c (IdentifyNamespace n) ∷ os) (orders_are c ns)
+
 -- ---- their answers, one at a time
 
 module _ (c : ℕ) where
-  -- what an answer adds
-  adds : (l : Listing) (n : ℕ) (a : Answer)
-      → listing_answered l (order_of c (IdentifyNamespace n)) a ≡ record { identity = l.identity; devices = devices_more c l.identity l.devices n a }
-  adds l n (Ok (reply.Controller r)) = refl
-  adds l n (Ok (reply.Namespace r)) = refl
-  adds l n (Ok (reply.List ids)) = refl
-  adds l n (Ok (reply.Number v)) = refl
-  adds l n (Ok reply.Done) = refl
-  adds l n (Ok (reply.Errors es)) = refl
-  adds l n (Ok (reply.Smart r)) = refl
-  adds l n (Err status) = refl
-
   abbrev next : Standing → ℕ → Standing
   next w n = asked w (order_of c (IdentifyNamespace n))
 
@@ -77,34 +72,25 @@ module _ (c : ℕ) where
   still : (w : Standing) (n : ℕ) → c < length w.serials → c < length (next w n).serials
   still w n h = omega (arith, length-set w.serials c (next_serial (due w)))
 
-  pub identity_stays : (w : Standing) (ns : List ℕ) → (all_after w ns).listing.identity ≡ w.listing.identity
-  identity_stays w [] = refl
-  identity_stays w (n ∷ ns) =
-      identity_stays (next w n) ns
-      ∙ ap (λ (l : Listing). l.identity) (adds w.listing n (answer_received (IdentifyNamespace n) (step w.state c (IdentifyNamespace n) (due w)).answer))
-
   states : (w : Standing) (ns : List ℕ) → c < length w.serials → (all_after w ns).state ≡ state_after c w.state (due w) (map IdentifyNamespace ns)
   states w [] h = refl
   states w (n ∷ ns) h =
       states (next w n) ns (still w n h) ∙ ap (λ x. state_after c (next w n).state x (map IdentifyNamespace ns)) (next_due w n h)
 
-  listings : (w : Standing) (ns : List ℕ) → c < length w.serials
-      → (all_after w ns).listing.devices ≡ devices_with c w.listing.identity w.listing.devices ns (answers_of c w.state (due w) (map IdentifyNamespace ns))
-  listings w [] h = refl
-  listings w (n ∷ ns) h =
-      let more = adds w.listing n (answer_received (IdentifyNamespace n) (step w.state c (IdentifyNamespace n) (due w)).answer) in
-      listings (next w n) ns (still w n h)
-      ∙ ap (λ (l : Listing). devices_with c l.identity l.devices ns (answers_of c (next w n).state (due (next w n)) (map IdentifyNamespace ns))) more
-      ∙ ap (λ x. devices_with c w.listing.identity (devices_more c w.listing.identity w.listing.devices n (answer_received (IdentifyNamespace n) (step w.state c (IdentifyNamespace n) (due w)).answer)) ns (answers_of c (next w n).state x (map IdentifyNamespace ns))) (next_due w n h)
+  answers : (w : Standing) (ns : List ℕ) → c < length w.serials → answers_to w (namespace_orders c ns) ≡ answers_of c w.state (due w) (map IdentifyNamespace ns)
+  answers w [] h = refl
+  answers w (n ∷ ns) h =
+      ap (λ xs. answer_received (IdentifyNamespace n) (step w.state c (IdentifyNamespace n) (due w)).answer ∷ xs)
+      (answers (next w n) ns (still w n h) ∙ ap (λ x. answers_of c (next w n).state x (map IdentifyNamespace ns)) (next_due w n h))
 
-  serials : (w : Standing) (n : ℕ) (ns : List ℕ) → c < length w.serials → (all_after w (n ∷ ns)).serials ≡ set w.serials c ((due w + length (n ∷ ns)) % SERIALS)
+  serials : (w : Standing) (n : ℕ) (ns : List ℕ) → c < length w.serials → (all_after w (n ∷ ns)).serials ≡ set w.serials c ((due w + length (n ∷ ns)) % serial_count)
   serials w n [] h = refl
   serials w n (m ∷ ns) h =
       let sum : due w + 1 + length (m ∷ ns) ≡ due w + length (n ∷ m ∷ ns) = omega arith in
       serials (next w n) m ns (still w n h)
-      ∙ set-set w.serials c (next_serial (due w)) ((due (next w n) + length (m ∷ ns)) % SERIALS)
-      ∙ ap (λ x. set w.serials c ((x + length (m ∷ ns)) % SERIALS)) (next_due w n h)
-      ∙ ap (set w.serials c) (mod-add-mod (due w + 1) SERIALS (length (m ∷ ns)) ∙ ap (λ x. x % SERIALS) sum)
+      ∙ set-set w.serials c (next_serial (due w)) ((due (next w n) + length (m ∷ ns)) % serial_count)
+      ∙ ap (λ x. set w.serials c ((x + length (m ∷ ns)) % serial_count)) (next_due w n h)
+      ∙ ap (set w.serials c) (mod-add-mod (due w + 1) serial_count (length (m ∷ ns)) ∙ ap (λ x. x % serial_count) sum)
 
 -- ---- the driver's batch
 
@@ -115,7 +101,7 @@ length_answers : (c : ℕ) (s : State) (serial : ℕ) (ks : List Command) → le
 length_answers c s serial [] = refl
 length_answers c s serial (k ∷ ks) = ap suc (length_answers c (step s c k serial).state (next_serial serial) ks)
 
-module _ (w : Standing) (c : ℕ) (s : State) (d : DriverValue) (devices : List Device) (is : IsListed w s (serials_of d) devices) (below : c < length d.lanes)
+module _ (w : Standing) (c : ℕ) (s : State) (d : DriverValue) (listing : Listing) (is : IsListed w s (serials_of d) listing) (below : c < length d.lanes)
     (ns : List ℕ) (ks : List Command) (are : ks ≡ map IdentifyNamespace ns) where
   abbrev now_due : ℕ
   now_due = (lane_at d.lanes c).serial
@@ -135,25 +121,43 @@ module _ (w : Standing) (c : ℕ) (s : State) (d : DriverValue) (devices : List 
       ∙ sym (states c w ns known)
 
   -- a batch has a command
-  some_serials : (ns : List ℕ) → 0 < length ns → set w.serials c ((due c w + length ns) % SERIALS) ≡ (all_after c w ns).serials
+  some_serials : (ns : List ℕ) → 0 < length ns → set w.serials c ((due c w + length ns) % serial_count) ≡ (all_after c w ns).serials
   some_serials [] h = absurd (omega arith)
   some_serials (n ∷ ns) h = sym (serials c w n ns known)
 
   pub batch_serials : (after : DriverValue) → 0 < length ns → after ≡ after_commands d c (length ks) → serials_of after ≡ (all_after c w ns).serials
   batch_serials after some e =
       ap serials_of e ∙ map-set serial_at d.lanes c (after_some (length ks) (lane_at d.lanes c))
-      ∙ ap (λ xs. set xs c ((now_due + length ks) % SERIALS)) is.next
-      ∙ ap (λ x. set w.serials c ((x + length ks) % SERIALS)) is_due
-      ∙ ap (λ x. set w.serials c ((due c w + x) % SERIALS)) many
+      ∙ ap (λ xs. set xs c ((now_due + length ks) % serial_count)) is.next
+      ∙ ap (λ x. set w.serials c ((x + length ks) % serial_count)) is_due
+      ∙ ap (λ x. set w.serials c ((due c w + x) % serial_count)) many
       ∙ some_serials ns some
 
-  pub batch_devices : (identity : IdCtrl) (answers rest : List Answer) (now : List Device) → w.listing.identity ≡ identity → answers ≡ answers_of c s now_due ks
-      → now ≡ devices_with c identity devices ns (take (length ns) (answers ++ rest)) → now ≡ (all_after c w ns).listing.devices
-  batch_devices identity answers rest now same a e =
-      let so_many : length ns ≡ length answers = sym (ap length a ∙ length_answers c s now_due ks ∙ many) in
-      let all = ap (λ n. take n (answers ++ rest)) so_many ∙ take-append_seam answers rest in
-      e
-      ∙ ap (devices_with c identity devices ns) (all ∙ a ∙ ap (λ x. answers_of c x now_due ks) is.subsystem ∙ ap (λ x. answers_of c w.state x ks) is_due ∙ ap (answers_of c w.state (due c w)) are)
-      ∙ ap (λ i. devices_with c i devices ns (answers_of c w.state (due c w) (map IdentifyNamespace ns))) (sym same)
-      ∙ ap (λ x. devices_with c w.listing.identity x ns (answers_of c w.state (due c w) (map IdentifyNamespace ns))) is.listed
-      ∙ sym (listings c w ns known)
+  pub batch_answers : (given rest : List Answer) → given ≡ answers_of c s now_due ks → take (length ns) (given ++ rest) ≡ answers_to w (namespace_orders c ns)
+  batch_answers given rest a =
+      let so_many : length ns ≡ length given = sym (ap length a ∙ length_answers c s now_due ks ∙ many) in
+      ap (λ n. take n (given ++ rest)) so_many
+      ∙ take-append_seam given rest
+      ∙ a
+      ∙ ap (λ x. answers_of c x now_due ks) is.subsystem
+      ∙ ap (λ x. answers_of c w.state x ks) is_due
+      ∙ ap (answers_of c w.state (due c w)) are
+      ∙ sym (answers c w ns known)
+
+  -- what it leaves, by what the listing was told of it
+  pub batch_leaves : {A : Type 0} (r : Result A Stop) (now : State) (after : DriverValue) (told : Listing) (given : List Answer)
+      → 0 < length ns → now ≡ state_after c s now_due ks → after ≡ after_commands d c (length ks) → given ≡ answers_to w (namespace_orders c ns)
+      → OnOk r (told ≡ listing_of listing (map (order_of c) ks) given) → IfErr r (λ stop. IsHandedOn stop given)
+      → ListLeaves r w (namespace_orders c ns) now (serials_of after) told
+  batch_leaves (Ok x) now after told given some state driver a e refused = record {
+    subsystem = batch_state now state;
+    next = batch_serials after some driver;
+    listed = e
+        ∙ ap (λ l. listing_of l (map (order_of c) ks) given) is.listed
+        ∙ ap (λ os. listing_of w.listing os given) (ap (map (order_of c)) are ∙ orders_are c ns)
+        ∙ ap (listing_of w.listing (namespace_orders c ns)) a
+        ∙ sym (listing_asked w (namespace_orders c ns));
+  }
+  batch_leaves (Err (stop.Refused status)) now after told given some state driver a e refused = subst (λ xs. Contains xs (Err status)) a refused
+  batch_leaves (Err stop.Memory) now after told given some state driver a e refused =
+      begun_all w (namespace_orders c ns) now (serials_of after) (batch_state now state) (batch_serials after some driver)

@@ -1,5 +1,7 @@
 -- The first two commands of `list` to a controller: what it is, and which NSIDs are attached to it.
-use Rattle.std.proofs.Common.{◌≡◌, ◌∙◌, ℕ, ◌<◌, ap, sym, refl, List, [], ◌∷◌, ◌++◌, length, Result, Ok}
+use Rattle.std.proofs.Common.{◌≡◌, ◌∙◌, ℕ, ◌<◌, ap, sym, subst, refl, List, [], ◌∷◌, ◌++◌, length, Ok, Err}
+use Rattle.std.specs.Prelude.{Contains}
+use Rattle.std.proofs.lemmas.List.Elements.{Contains-append_left}
 use Rattle.nv_bits.specs.Numbers.{above}
 use Rattle.nv_command.specs.Logs.{answer_received}
 use Rattle.nv_command.specs.declared.command.Command.{Command}
@@ -8,24 +10,27 @@ use Rattle.nv_command.specs.declared.reply.Reply.{Reply}
 use Rattle.nv_command.specs.declared.reply.Reply.TheVariants as reply
 use Rattle.nv_bus.specs.Bus.{BusValue}
 use Rattle.nv_driver.specs.Driver.{after_command, lane_at}
+use Rattle.nv_driver.specs.Schedule.{Answer}
 use Rattle.nv_driver.specs.Settled.{DriverValue}
-use Rattle.nv_layout.specs.declared.id_ctrl.IdCtrl.{IdCtrl}
-use Rattle.nv_layout.specs.declared.status.Status.{Status}
-use Rattle.nv_print.specs.declared.device.Device.{Device}
+use Rattle.nv_model.proofs.LookupLaws.{controller}
 use Rattle.nv_model.specs.Nsid.{active_nsids}
 use Rattle.nv_model.specs.State.{State}
 use Rattle.nv_model.specs.Step.{step}
 use Rattle.nv_script.specs.Exchange.{Exchange, Order, exchange_of, exchange_with, order_of}
 use Rattle.nv_script.specs.Link.{serials_of}
-use Rattle.nv_script.specs.Listing.{IsListed, Standing, asked, listing_answered}
+use Rattle.nv_script.specs.Listing.{IsHandedOn, IsListed, ListLeaves, Standing, answers_to, asked, nsids_told}
 use Rattle.nv_script.specs.Orders.{namespace_orders, orders_of_controller}
-use Rattle.nv_script.specs.Shown.{Listing}
+use Rattle.nv_script.specs.Shown.{listing_told}
+use Rattle.nv_script.specs.declared.listing.Listing.{Listing}
+use Rattle.nv_line.specs.declared.request.Act.TheVariants.{Send}
+use Rattle.nv_script.specs.declared.performing.Stop.{Stop}
+use Rattle.nv_script.specs.declared.performing.Stop.TheVariants as stop
 use Rattle.nv_script.proofs.LinkLaws.{sent, still_known}
-use Rattle.nv_script.proofs.LookupLaws.{asked_alike}
+use Rattle.nv_script.proofs.LookupLaws.{asked_alike, sends}
 
--- a command that adds no device
-module _ (w : Standing) (b new : BusValue) (d after : DriverValue) (devices : List Device) (c : ℕ) (k : Command) (answer : Result Reply Status)
-    (is : IsListed w b.state (serials_of d) devices) (below : c < length d.lanes)
+-- one command
+module _ (w : Standing) (b new : BusValue) (d after : DriverValue) (listing : Listing) (c : ℕ) (k : Command) (answer : Answer)
+    (is : IsListed w b.state (serials_of d) listing) (below : c < length d.lanes)
     (a : answer ≡ answer_received k (step b.state c k (lane_at d.lanes c).serial).answer)
     (s : new.state ≡ (step b.state c k (lane_at d.lanes c).serial).state) (e : after ≡ after_command d c) where
   abbrev o : Order
@@ -35,22 +40,35 @@ module _ (w : Standing) (b new : BusValue) (d after : DriverValue) (devices : Li
   sent_there =
       sent b new d after c k answer below a s e ∙ ap (λ (x : State). exchange_of x (serials_of d) o) is.subsystem ∙ ap (λ (x : List ℕ). exchange_of w.state x o) is.next
 
-  told_there : (asked w o).listing ≡ listing_answered w.listing o answer
-  told_there = ap (λ (x : Exchange). listing_answered w.listing o x.answer) (sym sent_there)
-
-  still_listed : (listing_answered w.listing o answer).devices ≡ w.listing.devices → IsListed (asked w o) new.state (serials_of after) devices
-  still_listed same = record {
+  -- the listing was told of it
+  told_there : (now : Listing) → now ≡ listing_told c listing (Send k) answer → IsListed (asked w o) new.state (serials_of after) now
+  told_there now t = record {
     subsystem = ap (λ (x : Exchange). x.state) sent_there;
     next = ap (λ (x : Exchange). x.serials) sent_there;
-    listed = is.listed ∙ sym same ∙ ap (λ (x : Listing). x.devices) (sym told_there);
+    listed = t ∙ ap (λ l. listing_told c l (Send k) answer) is.listed ∙ ap (λ (x : Exchange). listing_told c w.listing (Send k) x.answer) sent_there;
+  }
+
+  -- it was refused, or memory was
+  pub stopped_there : (A : Type 0) (e : Stop) (later : List Order) (now : Listing) → IsHandedOn e (answer ∷ [])
+      → ListLeaves {A = A} (Err e) w (o ∷ later) new.state (serials_of after) now
+  stopped_there A (stop.Refused status) later now h =
+      Contains-append_left ((exchange_of w.state w.serials o).answer ∷ []) (answers_to (asked w o) later) (Err status)
+      (subst (λ x. Contains (x ∷ []) (Err status)) (ap (λ (x : Exchange). x.answer) sent_there) h)
+  stopped_there A stop.Memory later now h = record {
+    done = o ∷ [];
+    later = later;
+    split = refl;
+    subsystem = ap (λ (x : Exchange). x.state) sent_there;
+    next = ap (λ (x : Exchange). x.serials) sent_there;
   }
 
 -- both commands
-module _ (w : Standing) (c : ℕ) (b mid last : BusValue) (d second after : DriverValue) (devices : List Device) (identity : IdCtrl) (nsids : List ℕ)
-    (is : IsListed w b.state (serials_of d) devices) (below : c < length d.lanes)
-    (a1 : Ok (reply.Controller identity) ≡ answer_received IdentifyController (step b.state c IdentifyController (lane_at d.lanes c).serial).answer)
+module _ (w : Standing) (c : ℕ) (b mid last : BusValue) (d second after : DriverValue) (listing told : Listing) (first then : Answer)
+    (is : IsListed w b.state (serials_of d) listing) (below : c < length d.lanes)
+    (a1 : first ≡ answer_received IdentifyController (step b.state c IdentifyController (lane_at d.lanes c).serial).answer)
     (s1 : mid.state ≡ (step b.state c IdentifyController (lane_at d.lanes c).serial).state) (e1 : second ≡ after_command d c)
-    (a2 : Ok (reply.List nsids) ≡ answer_received (ActiveList 0) (step mid.state c (ActiveList 0) (lane_at second.lanes c).serial).answer)
+    (t : told ≡ listing_told c listing (Send IdentifyController) first)
+    (a2 : then ≡ answer_received (ActiveList 0) (step mid.state c (ActiveList 0) (lane_at second.lanes c).serial).answer)
     (s2 : last.state ≡ (step mid.state c (ActiveList 0) (lane_at second.lanes c).serial).state) (e2 : after ≡ after_command second c) where
   abbrev one : Standing
   one = asked w (order_of c IdentifyController)
@@ -58,26 +76,22 @@ module _ (w : Standing) (c : ℕ) (b mid last : BusValue) (d second after : Driv
   abbrev pub greeted : Standing
   greeted = asked one (order_of c (ActiveList 0))
 
-  is_one : IsListed one mid.state (serials_of second) devices
-  is_one = still_listed w b mid d second devices c IdentifyController (Ok (reply.Controller identity)) is below a1 s1 e1 refl
+  is_one : IsListed one mid.state (serials_of second) told
+  is_one = told_there w b mid d second listing c IdentifyController first is below a1 s1 e1 told t
 
   known : c < length second.lanes
   known = still_known d second c e1 below
 
-  pub greeted_listed : IsListed greeted last.state (serials_of after) devices
-  greeted_listed = still_listed one mid last second after devices c (ActiveList 0) (Ok (reply.List nsids)) is_one known a2 s2 e2 refl
+  pub greeted_listed : IsListed greeted last.state (serials_of after) told
+  greeted_listed = told_there one mid last second after told c (ActiveList 0) then is_one known a2 s2 e2 told refl
 
-  pub greeted_identity : greeted.listing.identity ≡ identity
-  greeted_identity =
-      ap (λ (x : Listing). x.identity) (told_there one mid last second after devices c (ActiveList 0) (Ok (reply.List nsids)) is_one known a2 s2 e2)
-      ∙ ap (λ (x : Listing). x.identity) (told_there w b mid d second devices c IdentifyController (Ok (reply.Controller identity)) is below a1 s1 e1)
-
-  pub greeted_orders : (ns : List ℕ) → ns ≡ nsids
+  pub greeted_orders : (r : Reply) (ns : List ℕ) → Ok r ≡ then → ns ≡ nsids_told r
       → orders_of_controller w.state c ≡ (order_of c IdentifyController ∷ order_of c (ActiveList 0) ∷ []) ++ namespace_orders c ns
-  greeted_orders ns e =
-      let told : ◌≡◌ {A = Result Reply Status} (Ok (reply.List nsids)) (Ok (reply.List (above 0 (active_nsids mid.state c)))) = a2 in
-      let same : nsids ≡ above 0 (active_nsids mid.state c) = cc in
+  greeted_orders r ns e n =
+      let said : ◌≡◌ {A = Answer} (Ok r) (Ok (reply.List (above 0 (active_nsids mid.state c)))) = e ∙ a2 in
+      let same : r ≡ reply.List (above 0 (active_nsids mid.state c)) = cc in
       let active : active_nsids mid.state c ≡ active_nsids w.state c =
-      ap (λ (x : State). active_nsids x c) is_one.subsystem ∙ (asked_alike w (order_of c IdentifyController) tt).active c
+      ap (λ (x : State). active_nsids x c) is_one.subsystem ∙ (asked_alike w (order_of c IdentifyController) (sends controller)).active c
       in
-      ap (λ xs. order_of c IdentifyController ∷ order_of c (ActiveList 0) ∷ namespace_orders c xs) (sym (e ∙ same ∙ ap (above 0) active))
+      ap (λ xs. order_of c IdentifyController ∷ order_of c (ActiveList 0) ∷ namespace_orders c xs)
+      (sym (n ∙ ap nsids_told same ∙ ap (above 0) active))

@@ -9,5 +9,7 @@ pub mod ListedLaws
 pub mod Taking
 pub mod LineLaws
 pub mod PieceLaws
+pub mod FeedLaws
 pub mod LinkLaws
 pub mod RunLaws
+pub mod ShownLaws

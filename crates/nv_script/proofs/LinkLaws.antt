@@ -19,7 +19,7 @@ use Rattle.nv_driver.specs.Settled.{DriverValue}
 use Rattle.nv_driver.specs.declared.geometry.Geometry.{Geometry}
 use Rattle.nv_command.specs.declared.command.Command.{Command}
 use Rattle.nv_script.specs.Exchange.{exchange_of, exchange_with, order_of}
-use Rattle.nv_script.specs.declared.order.Act.TheVariants.{Reset}
+use Rattle.nv_line.specs.declared.request.Act.TheVariants.{Reset}
 use Rattle.nv_script.specs.Link.{IsFirst, IsLinked, serials_of}
 use Rattle.std.proofs.Math.Seq.{map-set_same}
 use Rattle.nv_command.specs.declared.reply.Reply.TheVariants.{Done}

@@ -1,11 +1,17 @@
 -- How the parts of `list` make the whole.
-use Rattle.std.proofs.Common.{◌≡◌, ◌∙◌, ℕ, ap, sym, subst, List, [], ◌++◌, append_assoc, append-nil, Result, Ok, Err}
+use Rattle.std.proofs.Common.{◌≡◌, ◌∙◌, ℕ, ◌+◌, ◌<◌, ap, drop, get_or, length, map, refl, sym, subst, List, [], ◌∷◌, ◌++◌, append_assoc, append-nil, Result, Ok, Err}
+use Rattle.std.specs.Prelude.{Contains}
+use Rattle.std.proofs.lemmas.List.{at_drop_more}
+use Rattle.std.proofs.lemmas.List.Elements.{Contains-append_left, Contains-append_right}
 use Rattle.std.proofs.lemmas.List.Sums.{fold-append}
+use Rattle.nv_command.specs.declared.command.Command.{Command}
+use Rattle.nv_driver.specs.Schedule.{Answer}
+use Rattle.nv_line.specs.declared.request.Act.TheVariants.{Send}
 use Rattle.nv_model.specs.State.{State}
-use Rattle.nv_print.specs.declared.device.Device.{Device}
-use Rattle.nv_script.specs.Exchange.{Order}
-use Rattle.nv_script.specs.Listing.{AreBegun, IsListed, ListLeaves, Standing, asked, asked_all}
-use Rattle.nv_script.specs.Shown.{no_listing}
+use Rattle.nv_script.specs.Exchange.{Order, exchange_of, order_of}
+use Rattle.nv_script.specs.Listing.{AreBegun, IsListed, ListLeaves, Standing, answers_to, asked, asked_all}
+use Rattle.nv_script.specs.Shown.{listing_of, listing_told, no_listing}
+use Rattle.nv_script.specs.declared.listing.Listing.{Listing}
 use Rattle.nv_script.specs.declared.performing.Stop.{Stop}
 use Rattle.nv_script.specs.declared.performing.Stop.TheVariants as stop
 
@@ -18,6 +24,24 @@ pub begun_all : (w : Standing) (orders : List Order) (s : State) (serials : List
     → AreBegun w orders s serials
 begun_all w orders s serials state next = record { done = orders; later = []; split = sym (append-nil orders); subsystem = state; next = next }
 
+-- what some orders and more are answered
+answers-append : (w : Standing) (orders more : List Order) → answers_to w (orders ++ more) ≡ answers_to w orders ++ answers_to (asked_all w orders) more
+answers-append w [] more = refl
+answers-append w (o ∷ os) more = ap (λ xs. (exchange_of w.state w.serials o).answer ∷ xs) (answers-append (asked w o) os more)
+
+-- the listing is told of what all of them are answered
+pub listing_asked : (w : Standing) (orders : List Order) → (asked_all w orders).listing ≡ listing_of w.listing orders (answers_to w orders)
+listing_asked w [] = refl
+listing_asked w (o ∷ os) = listing_asked (asked w o) os
+
+-- of the first of the rest it is told first
+pub told_more : (c : ℕ) (l : Listing) (ks : List Command) (xs : List Answer) (i : ℕ) (dk : Command) (da : Answer) → i < length ks → i < length xs
+    → listing_of l (map (order_of c) (drop i ks)) (drop i xs)
+    ≡ listing_of (listing_told c l (Send (get_or ks i dk)) (get_or xs i da)) (map (order_of c) (drop (i + 1) ks)) (drop (i + 1) xs)
+told_more c l ks xs i dk da some answered =
+    at_drop_more (λ x. listing_of l (map (order_of c) x) (drop i xs)) ks i dk some
+    ∙ at_drop_more (listing_of l (order_of c (get_or ks i dk) ∷ map (order_of c) (drop (i + 1) ks))) xs i da answered
+
 module _ (w : Standing) (done all : List Order) where
   -- amid some commands after those that were done, with the rest after them
   begun_within : (orders rest : List Order) (s : State) (serials : List ℕ) → all ≡ done ++ (orders ++ rest) → AreBegun (asked_all w done) orders s serials → AreBegun w all s serials
@@ -29,18 +53,28 @@ module _ (w : Standing) (done all : List Order) where
     next = h.next ∙ ap (λ (x : Standing). x.serials) (sym (fold-append asked w done h.done));
   }
 
-  pub stopped_within : (A B : Type 0) (e : Stop) (orders rest : List Order) (s : State) (serials : List ℕ) (devices now : List Device) → all ≡ done ++ (orders ++ rest)
-      → ListLeaves {A = A} (Err e) (asked_all w done) orders s serials devices → ListLeaves {A = B} (Err e) w all s serials now
-  stopped_within A B (stop.Refused status) orders rest s serials devices now is h = absurd h
-  stopped_within A B stop.Memory orders rest s serials devices now is h = begun_within orders rest s serials is h
+  -- and what some of them are answered
+  answered_within : (orders rest : List Order) (a : Answer) → all ≡ done ++ (orders ++ rest) → Contains (answers_to (asked_all w done) orders) a → Contains (answers_to w all) a
+  answered_within orders rest a is h =
+      let then = asked_all w done in
+      let these = answers-append then orders rest in
+      subst (λ xs. Contains xs a)
+      (sym (ap (answers_to w) is ∙ answers-append w done (orders ++ rest) ∙ ap (λ xs. answers_to w done ++ xs) these))
+      (Contains-append_right (answers_to w done) (answers_to then orders ++ answers_to (asked_all then orders) rest) a
+      (Contains-append_left (answers_to then orders) (answers_to (asked_all then orders) rest) a h))
 
-  pub listed_after : (orders : List Order) (s : State) (serials : List ℕ) (devices : List Device) → all ≡ done ++ orders → IsListed (asked_all (asked_all w done) orders) s serials devices
-      → IsListed (asked_all w all) s serials devices
-  listed_after orders s serials devices is h =
-      subst (λ x. IsListed x s serials devices) (sym (ap (asked_all w) is ∙ fold-append asked w done orders)) h
+  pub stopped_within : (A B : Type 0) (e : Stop) (orders rest : List Order) (s : State) (serials : List ℕ) (listing now : Listing) → all ≡ done ++ (orders ++ rest)
+      → ListLeaves {A = A} (Err e) (asked_all w done) orders s serials listing → ListLeaves {A = B} (Err e) w all s serials now
+  stopped_within A B (stop.Refused status) orders rest s serials listing now is h = answered_within orders rest (Err status) is h
+  stopped_within A B stop.Memory orders rest s serials listing now is h = begun_within orders rest s serials is h
 
-  pub leaves_after : {A : Type 0} (r : Result A Stop) (orders : List Order) (s : State) (serials : List ℕ) (devices : List Device) → all ≡ done ++ orders
-      → ListLeaves r (asked_all w done) orders s serials devices → ListLeaves r w all s serials devices
-  leaves_after (Ok x) orders s serials devices is h = listed_after orders s serials devices is h
-  leaves_after {A = A} (Err e) orders s serials devices is h =
-      stopped_within A A e orders [] s serials devices devices (is ∙ ap (λ x. done ++ x) (sym (append-nil orders))) h
+  pub listed_after : (orders : List Order) (s : State) (serials : List ℕ) (listing : Listing) → all ≡ done ++ orders → IsListed (asked_all (asked_all w done) orders) s serials listing
+      → IsListed (asked_all w all) s serials listing
+  listed_after orders s serials listing is h =
+      subst (λ x. IsListed x s serials listing) (sym (ap (asked_all w) is ∙ fold-append asked w done orders)) h
+
+  pub leaves_after : {A : Type 0} (r : Result A Stop) (orders : List Order) (s : State) (serials : List ℕ) (listing : Listing) → all ≡ done ++ orders
+      → ListLeaves r (asked_all w done) orders s serials listing → ListLeaves r w all s serials listing
+  leaves_after (Ok x) orders s serials listing is h = listed_after orders s serials listing is h
+  leaves_after {A = A} (Err e) orders s serials listing is h =
+      stopped_within A A e orders [] s serials listing listing (is ∙ ap (λ x. done ++ x) (sym (append-nil orders))) h

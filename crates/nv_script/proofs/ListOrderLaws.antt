@@ -1,45 +1,19 @@
 -- The commands of `list` in a well-formed subsystem, controller by controller.
-use Rattle.std.proofs.Common.{◌≡◌, ◌∙◌, ℕ, suc, ◌+◌, ◌-◌, ◌<◌, ◌≤◌, arith, ap, subst, refl, Bool, true, false, List, [], ◌∷◌, ◌++◌, append-nil, length, Option, None, Some}
-use Rattle.std.specs.Prelude.{All, filter, flat_map, if◌then◌else◌, is_some, nat_lt}
+use Rattle.std.proofs.Common.{◌≡◌, ◌∙◌, ℕ, suc, ◌+◌, ◌-◌, ◌<◌, ◌≤◌, arith, ap, Bool, true, false, List, [], ◌∷◌, ◌++◌, append-nil, length}
+use Rattle.std.specs.Prelude.{All, filter, flat_map, if◌then◌else◌, nat_lt}
 use Rattle.std.specs.List.{range_with_len}
-use Rattle.std.specs.Option.{option_map_or}
-use Rattle.std.specs.FinMap as map_of
-use Rattle.std.specs.FinMap.{contains_key-keys}
-use Rattle.std.proofs.lemmas.Cmp.{eq_by_cmp_equiv, nat_cmp_total}
 use Rattle.std.proofs.lemmas.List.Elements.{All-tail}
-use Rattle.std.proofs.lemmas.Map.Views.{All-from_any}
-use Rattle.std.proofs.lemmas.Option.{get_or_from_slice_get, slice_get_within}
 use Rattle.nv_command.specs.declared.command.Command.TheVariants.{ActiveList, IdentifyController}
 use Rattle.nv_bits.specs.Numbers.{above}
+use Rattle.nv_model.proofs.LookupLaws.{IsAlike, IsInside, active_inside, attached, controller, namespace}
 use Rattle.nv_model.specs.Nsid.{active_nsids}
-use Rattle.nv_model.specs.State.{Controller, State, ascending, controller_at}
-use Rattle.nv_model.specs.WellFormed.{IsController, IsWellFormed}
+use Rattle.nv_model.specs.State.{State}
+use Rattle.nv_model.specs.WellFormed.{IsWellFormed}
 use Rattle.nv_script.specs.Exchange.{Order, order_of}
 use Rattle.nv_script.specs.Orders.{namespace_orders, orders_of_controller, orders_of_list}
-use Rattle.nv_script.proofs.LookupLaws.{AreLookups, IsAlike}
+use Rattle.nv_script.proofs.LookupLaws.{AreLookups, sends}
 
--- ---- NSIDs that are attached are from 1 to NN
-
-abbrev IsInside : ℕ → ℕ → Type 0
-IsInside nn n = (1 ≤ n) × (n ≤ nn)
-
-of_some : {A : Type 0} (P : Type 0) (o : Option A) → ((x : A) → o ≡ Some x → P) → is_some o ≡ true → P
-of_some P None h t = absurd (cc)
-of_some P (Some x) h t = h x refl
-
-attached_inside : (s : State) → IsWellFormed s → (o : Option Controller) → ((x : Controller) → o ≡ Some x → IsController s.namespaces x)
-    → All (IsInside s.nn) (option_map_or (λ x. ascending x.attached) o [])
-attached_inside s w None is = λ k d below. absurd (omega arith)
-attached_inside s w (Some x) is =
-    All-from_any (eq_by_cmp_equiv nat_cmp_total) (IsInside s.nn) (ascending x.attached)
-    (λ n t. of_some (IsInside s.nn n) (map_of.get s.namespaces n) (λ x e. (w.namespaces n x e).nsid) ((is x refl).attached n (contains_key-keys x.attached n ∙ t)))
-
-active_inside : (s : State) (c : ℕ) → IsWellFormed s → All (IsInside s.nn) (active_nsids s c)
-active_inside s c w =
-    attached_inside s w (controller_at s c)
-    (λ x e. subst (IsController s.namespaces) (get_or_from_slice_get s.controllers c x x e) (w.controllers c x (slice_get_within s.controllers c x e)))
-
--- ---- so no command is refused
+-- ---- they are lookups
 
 module _ (nn : ℕ) where
   pub lookups-append : (os more : List Order) → AreLookups nn os → AreLookups nn more → AreLookups nn (os ++ more)
@@ -58,7 +32,7 @@ module _ (nn : ℕ) where
       at_test (test n) first rest
     where
       at_test : (b : Bool) → IsInside nn n → AreLookups nn (namespace_orders c (filter test ns)) → AreLookups nn (namespace_orders c (if b then n ∷ filter test ns else filter test ns))
-      at_test true first rest = (first, rest)
+      at_test true first rest = (sends (namespace first), rest)
       at_test false first rest = rest
 
   flat_lookups : (f : ℕ → List Order) → ((c : ℕ) → AreLookups nn (f c)) → (cs : List ℕ) → AreLookups nn (flat_map f cs)
@@ -66,7 +40,7 @@ module _ (nn : ℕ) where
   flat_lookups f h (c ∷ cs) = lookups-append (f c) (flat_map f cs) (h c) (flat_lookups f h cs)
 
 pub controller_lookups : (s : State) (c : ℕ) → IsWellFormed s → AreLookups s.nn (orders_of_controller s c)
-controller_lookups s c w = (tt, (refl, namespace_lookups s.nn c (λ n. nat_lt 0 n) (active_nsids s c) (active_inside s c w)))
+controller_lookups s c w = (sends controller, (sends attached, namespace_lookups s.nn c (λ n. nat_lt 0 n) (active_nsids s c) (active_inside s c w)))
 
 pub list_lookups : (s : State) → IsWellFormed s → AreLookups s.nn (orders_of_list s)
 list_lookups s w = flat_lookups s.nn (orders_of_controller s) (λ c. controller_lookups s c w) (range_with_len 0 (length s.controllers))

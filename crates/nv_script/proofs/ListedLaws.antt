@@ -2,7 +2,6 @@
 use Rattle.std.proofs.Common.{◌∙◌, ℕ, ap, subst, sym, List, length, take, Some, Ok, Err}
 use Rattle.std.proofs.Math.Seq.{take-append_seam}
 use Rattle.nv_line.specs.declared.request.Query.TheVariants as query
-use Rattle.nv_print.specs.declared.device.Device.{Device}
 use Rattle.nv_print.specs.declared.shown.Shown.TheVariants as shown
 use Rattle.nv_model.specs.State.{State}
 use Rattle.nv_model.specs.WellFormed.{IsWellFormed}
@@ -10,12 +9,13 @@ use Rattle.nv_script.specs.Listing.{AreBegun, IsListed, ListLeaves, Standing, as
 use Rattle.nv_script.specs.Orders.{orders_of_list}
 use Rattle.nv_script.specs.Outcomes.{Outcome, outcome_of}
 use Rattle.nv_script.specs.Performing.{QueryLeaves, StopLeaves}
-use Rattle.nv_script.specs.Shown.{Listing}
+use Rattle.nv_script.specs.Shown.{listing_of, no_listing}
+use Rattle.nv_script.specs.declared.listing.Listing.{Listing}
 use Rattle.nv_script.specs.declared.performing.Stop.{Stop}
 use Rattle.nv_script.specs.declared.performing.Stop.TheVariants as stop
-use Rattle.nv_script.proofs.ListLaws.{first_standing}
+use Rattle.nv_script.proofs.ListLaws.{first_standing, listing_asked}
 use Rattle.nv_script.proofs.ListOrderLaws.{list_lookups, lookups-front}
-use Rattle.nv_script.proofs.LookupLaws.{AreLookups, all_accepted}
+use Rattle.nv_script.proofs.LookupLaws.{AreLookups, all_accepted, none_refused}
 use Rattle.nv_script.proofs.OutcomeLaws.{accepted_with}
 use Rattle.nv_script.proofs.QueryLaws.{left_shown}
 
@@ -24,13 +24,14 @@ module _ (s now : State) (serials next : List ℕ) (ok : IsWellFormed s) where
   first = first_standing s serials
 
   -- all controllers were asked
-  pub all_listed : (devices : List Device) → IsListed (asked_all first (orders_of_list s)) now next devices
-      → QueryLeaves (Ok (Some (shown.Devices devices))) query.List s serials now next
-  all_listed devices h =
+  pub all_listed : (listing : Listing) → IsListed (asked_all first (orders_of_list s)) now next listing
+      → QueryLeaves (Ok (Some (shown.Devices listing.devices))) query.List s serials now next
+  all_listed listing h =
       let all = all_accepted first (orders_of_list s) (list_lookups s ok) in
-      left_shown s now serials next query.List (Some (shown.Devices devices)) all.replies
+      left_shown s now serials next query.List (Some (shown.Devices listing.devices)) all.replies
       (all.outcome ∙ ap (λ (x : State). accepted_with all.replies x (asked_all first (orders_of_list s)).serials) (sym h.subsystem) ∙ ap (accepted_with all.replies now) (sym h.next))
-      (ap (λ ds. Some (shown.Devices ds)) (h.listed ∙ ap (λ (x : Listing). x.devices) (sym all.listing)))
+      (ap (λ (l : Listing). Some (shown.Devices l.devices))
+      (h.listed ∙ listing_asked first (orders_of_list s) ∙ ap (listing_of no_listing (orders_of_list s)) all.answers))
 
   begun_left : AreBegun first (orders_of_list s) now next → StopLeaves stop.Memory query.List s serials now next
   begun_left h =
@@ -41,8 +42,8 @@ module _ (s now : State) (serials next : List ℕ) (ok : IsWellFormed s) where
         record { subsystem = h.subsystem ∙ sym (ap (λ (x : Outcome). x.state) outcome); next = h.next ∙ sym (ap (λ (x : Outcome). x.serials) outcome) },
       )
 
-  -- memory was refused
-  pub list_stopped : (A : Type 0) (e : Stop) (devices : List Device) → ListLeaves {A = A} (Err e) first (orders_of_list s) now next devices
+  -- memory was refused, for no command is
+  pub list_stopped : (A : Type 0) (e : Stop) (listing : Listing) → ListLeaves {A = A} (Err e) first (orders_of_list s) now next listing
       → StopLeaves e query.List s serials now next
-  list_stopped A (stop.Refused status) devices h = absurd h
-  list_stopped A stop.Memory devices h = begun_left h
+  list_stopped A (stop.Refused status) listing h = absurd (none_refused first (orders_of_list s) status (list_lookups s ok) h)
+  list_stopped A stop.Memory listing h = begun_left h

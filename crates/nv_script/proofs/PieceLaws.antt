@@ -1,13 +1,14 @@
--- Bytes cut at their newlines, a byte at a time.
-use Rattle.std.proofs.Common.{◌≡◌, ◌≢◌, ℕ, suc, ◌+◌, ◌<◌, List, [], ◌∷◌, ◌++◌, length, take, drop, get_or, sym, ap, ◌∙◌, refl, Bool, true, false, eqb, cond, append_assoc, append-nil, arith, fold}
+-- Bytes cut at their newlines.
+use Rattle.std.proofs.Common.{◌≡◌, ℕ, suc, ◌+◌, ◌<◌, List, [], ◌∷◌, ◌++◌, length, take, drop, get_or, sym, ap, ◌∙◌, refl, Bool, true, false, eqb, cond, append_assoc, append-nil, arith, fold}
 use Rattle.std.proofs.lemmas.List.{take_more, take-append-drop, length-append}
 use Rattle.std.proofs.lemmas.List.Sums.{fold-append}
 use Rattle.std.proofs.lemmas.Bool.Decides.{nat_tests}
 use Rattle.std.specs.Prelude.{Option, Some, None, nat_le}
+use Rattle.memchr.specs.Find.{Nowhere, Passes, is_byte}
 use Rattle.nv_model.specs.State.{State}
 use Rattle.nv_script.specs.Cuts.{joined_lines}
 use Rattle.nv_script.specs.Results.{after, start, whole}
-use Rattle.nv_script.specs.ScriptLines.{Pieces, as_line, buffer_of, buffer_with, pieces, script_lines, with_byte}
+use Rattle.nv_script.specs.ScriptLines.{Pieces, as_line, buffer_after, buffer_of, pieces, script_lines, with_byte}
 
 -- a piece of which one byte more was read
 pub taken-more : (bytes piece : List ℕ) (i : ℕ) → i < length piece
@@ -21,8 +22,12 @@ taken-more bytes piece i h =
 abbrev pub with_line : Pieces → Pieces
 with_line p = record { ended = p.ended ++ p.last ∷ []; last = [] }
 
-abbrev pub in_line : Pieces → ℕ → Pieces
+abbrev in_line : Pieces → ℕ → Pieces
 in_line p b = record { ended = p.ended; last = p.last ++ b ∷ [] }
+
+-- pieces with this last one
+abbrev with_last : Pieces → List ℕ → Pieces
+with_last p last = record { ended = p.ended; last = last }
 
 pieces-append : (xs ys : List ℕ) → pieces (xs ++ ys) ≡ fold with_byte (pieces xs) ys
 pieces-append xs ys = fold-append with_byte (record { ended = []; last = [] }) xs ys
@@ -30,10 +35,27 @@ pieces-append xs ys = fold-append with_byte (record { ended = []; last = [] }) x
 pub pieces-newline : (xs : List ℕ) (b : ℕ) → b ≡ 10 → pieces (xs ++ b ∷ []) ≡ with_line (pieces xs)
 pieces-newline xs b e = pieces-append xs (b ∷ []) ∙ ap (with_byte (pieces xs)) e
 
-pub pieces-other : (xs : List ℕ) (b : ℕ) → b ≢ 10 → pieces (xs ++ b ∷ []) ≡ in_line (pieces xs) b
-pieces-other xs b n =
-    let other : eqb b 10 ≡ false = grind (arith, nat_tests) in
-    pieces-append xs (b ∷ []) ∙ ap (λ t. cond t (with_line (pieces xs)) (in_line (pieces xs) b)) other
+-- none of these bytes is a newline
+abbrev pub HasNoNewline : List ℕ → Type 0
+HasNoNewline bytes = Nowhere (Passes (is_byte 10) bytes) 0 (length bytes)
+
+not_true : (t : Bool) → ¬ (t ≡ true) → t ≡ false
+not_true true h = absurd (h refl)
+not_true false h = refl
+
+fold-others : (p : Pieces) (bytes : List ℕ) → HasNoNewline bytes
+    → fold with_byte p bytes ≡ record { ended = p.ended; last = p.last ++ bytes }
+fold-others p [] none = ap (λ (l : List ℕ). with_last p l) (sym (append-nil p.last))
+fold-others p (b ∷ bytes) none =
+    let other : eqb b 10 ≡ false = not_true (eqb b 10) (none 0 (omega arith) (omega arith)) in
+    let later : HasNoNewline bytes = λ k low high is. none (suc k) (omega arith) (omega arith) is in
+    ap (λ t. fold with_byte (cond t (with_line p) (in_line p b)) bytes) other
+    ∙ fold-others (in_line p b) bytes later
+    ∙ ap (λ (l : List ℕ). with_last p l) (append_assoc p.last (b ∷ []) bytes)
+
+pub pieces-others : (xs bytes : List ℕ) → HasNoNewline bytes
+    → pieces (xs ++ bytes) ≡ record { ended = (pieces xs).ended; last = (pieces xs).last ++ bytes }
+pieces-others xs bytes none = pieces-append xs bytes ∙ fold-others (pieces xs) bytes none
 
 -- one line more
 pub whole-more : (s : State) (lines : List (List ℕ)) (line : List ℕ)
@@ -84,16 +106,19 @@ pub as_line-some : (piece : List ℕ) → 0 < length piece → as_line piece ≡
 as_line-some [] h = absurd (omega arith)
 as_line-some (b ∷ bs) h = refl
 
--- what is held of a line, one byte on
-pub buffer_with-buffer_of : (line : List ℕ) (b : ℕ) → buffer_with (buffer_of line) b ≡ buffer_of (line ++ b ∷ [])
-buffer_with-buffer_of line b = at_test (nat_le (length line) 4095) refl
+-- what is held of a line, some bytes on
+pub buffer_after-buffer_of : (line bytes : List ℕ) → buffer_after (buffer_of line) bytes ≡ buffer_of (line ++ bytes)
+buffer_after-buffer_of line bytes = at_test (nat_le (length line) 4095) refl
   where
-    too_long : (t : Bool) → nat_le (length line) 4095 ≡ false → nat_le (length (line ++ b ∷ [])) 4095 ≡ t → t ≡ false
-    too_long t e f = grind (arith, nat_tests, length-append line (b ∷ []))
+    too_long : (t : Bool) → nat_le (length line) 4095 ≡ false → nat_le (length (line ++ bytes)) 4095 ≡ t → t ≡ false
+    too_long t e f = grind (arith, nat_tests, length-append line bytes)
 
-    at_test : (t : Bool) → nat_le (length line) 4095 ≡ t → buffer_with (cond t (Some line) None) b ≡ buffer_of (line ++ b ∷ [])
+    at_test : (t : Bool) → nat_le (length line) 4095 ≡ t
+        → buffer_after (cond t (Some line) None) bytes ≡ buffer_of (line ++ bytes)
     at_test true e = refl
-    at_test false e = ap (λ x. cond x (Some (line ++ b ∷ [])) None) (sym (too_long (nat_le (length (line ++ b ∷ [])) 4095) e refl))
+    at_test false e =
+        let fits = nat_le (length (line ++ bytes)) 4095 in
+        ap (λ x. cond x (Some (line ++ bytes)) None) (sym (too_long fits e refl))
 
 pub buffer_of-some : (line : List ℕ) → (buffer_of line ≡ Some [] → ⊥) → 0 < length line
 buffer_of-some [] h = absurd (h refl)

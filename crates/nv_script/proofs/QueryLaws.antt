@@ -53,17 +53,7 @@ module _ (s : State) (serials : List ℕ) (c : ℕ) where
 
   pub second_is_next : (a : Ask) (reply : Reply) → Ok reply ≡ (exchange_by (first_act a) s serials c).answer
       → next_command a reply ≡ second_command (entry_count s c) a
-  second_is_next ask.IdCtrl reply e = refl
-  second_is_next (ask.ListNs first all) reply e = refl
-  second_is_next (ask.IdNs nsid force) reply e = refl
-  second_is_next (ask.Create nsze ncap flbas dps nmic) reply e = refl
-  second_is_next (ask.Attachment nsid detach controllers) reply e = refl
-  second_is_next (ask.Delete nsid) reply e = refl
-  second_is_next (ask.Format nsid lbaf mset pi pil ses) reply e = refl
-  second_is_next (ask.GetFeature fid sel nsid cdw11) reply e = refl
-  second_is_next (ask.SetFeature fid value save nsid) reply e = refl
-  second_is_next (ask.SmartLog nsid) reply e = refl
-  second_is_next ask.Reset reply e = refl
+  second_is_next (ask.Do act) reply e = refl
   second_is_next (ask.ErrorLog entries) reply e = errors_next entries (refusal_of s c IdentifyController) reply e
 
 -- ---- where an outcome leads

@@ -24,7 +24,7 @@ use Rattle.nv_script.specs.declared.ends.RunEnd.TheVariants.{Status, Geometry, N
 use Rattle.nv_script.specs.declared.ends.SessionEnd.{SessionEnd}
 use Rattle.nv_script.specs.declared.ends.SessionEnd.TheVariants as ended
 use Rattle.nv_script.specs.declared.session.Session.{Session}
-use Rattle.nv_script.specs.declared.streams.TheConstants.{READ_SIZE}
+use Rattle.nv_script.specs.Limits.{read_size}
 use Rattle.nv_script.proofs.PieceLaws.{as_line-some, length-joined, length-pieces, piece-among}
 use Rattle.nv_script.proofs.Taking.{Appends-same, Consumes-join, Consumes-nothing, Consumes-same, length-taken}
 
@@ -99,7 +99,7 @@ last_cut cut s bytes left h =
 
 -- in a line of a further piece
 pub piece_cut : (cut : Cut) (s : State) (bytes piece : List ℕ) (line : Option (List ℕ)) (left : Left)
-    (session : Session) → length piece ≤ READ_SIZE
+    (session : Session) → length piece ≤ read_size
     → PieceLeaves {A = Unit {0}} (Err cut) s bytes piece line left session → IsCutShort cut s (bytes ++ piece) left
 piece_cut cut s bytes piece line left session small h =
     let i = h.0 in

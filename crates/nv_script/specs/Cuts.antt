@@ -13,7 +13,7 @@ use Rattle.nv_script.specs.declared.ends.Cut.TheVariants.{Output, Messages, Memo
 use Rattle.nv_line.specs.declared.fault.LineFault.{LineFault}
 use Rattle.nv_line.specs.declared.line.Line.{Line}
 use Rattle.nv_line.specs.declared.line.Line.TheVariants as line
-use Rattle.nv_script.specs.declared.streams.TheConstants.{READ_SIZE}
+use Rattle.nv_script.specs.Limits.{read_size}
 
 -- the streams and the subsystem: what each sink had taken before a run and has taken since, where
 -- that is told
@@ -92,4 +92,4 @@ pub record IsCutShort (cut : Cut) (s : State) (bytes : List ℕ) (left : Left) :
   pub later : List (List ℕ)
   pub lines : script_lines bytes ≡ before ++ line ∷ later
   pub beginning : IsCutIn cut (whole s before) line left
-  pub ahead : length bytes < length (joined_lines (before ++ line ∷ [])) + READ_SIZE
+  pub ahead : length bytes < length (joined_lines (before ++ line ∷ [])) + read_size

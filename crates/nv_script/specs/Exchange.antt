@@ -9,8 +9,8 @@ use Rattle.nv_command.specs.declared.reply.Reply.{Reply}
 use Rattle.nv_command.specs.declared.reply.Reply.TheVariants.{Done}
 use Rattle.nv_command.specs.Logs.{answer_received}
 use Rattle.nv_command.specs.declared.command.Command.{Command}
-use Rattle.nv_script.specs.declared.order.Act.{Act}
-use Rattle.nv_script.specs.declared.order.Act.TheVariants.{Send, Reset}
+use Rattle.nv_line.specs.declared.request.Act.{Act}
+use Rattle.nv_line.specs.declared.request.Act.TheVariants.{Send, Reset}
 
 -- an act at a controller, which is named by its place in the subsystem's file
 pub record Order : Type 0 where

@@ -1,3 +1,4 @@
+pub mod Limits
 pub use Rattle.nv_line.specs.LineFault
 pub use Rattle.nv_line.specs.Line
 pub mod Streams
@@ -6,6 +7,7 @@ pub mod Exchange
 pub mod Orders
 pub mod Outcomes
 pub mod Shown
+pub mod EachShown
 pub mod ScriptLines
 pub mod Results
 pub mod Listing

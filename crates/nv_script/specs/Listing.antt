@@ -1,15 +1,12 @@
 -- Where `list` stands between two of its orders.
-use Rattle.std.specs.Prelude.{◌≡◌, ℕ, List, [], ◌∷◌, ◌++◌, Result, Ok, Err, fold}
-use Rattle.nv_layout.specs.declared.status.Status.{Status}
+use Rattle.std.specs.Prelude.{◌≡◌, ℕ, Contains, List, [], ◌∷◌, ◌++◌, Result, Ok, Err, fold}
 use Rattle.nv_model.specs.State.{State}
 use Rattle.nv_command.specs.declared.reply.Reply.{Reply}
 use Rattle.nv_command.specs.declared.reply.Reply.TheVariants as reply
 use Rattle.nv_driver.specs.Schedule.{Answer}
-use Rattle.nv_layout.specs.declared.id_ctrl.IdCtrl.{IdCtrl}
-use Rattle.nv_print.specs.Device.{device_of}
-use Rattle.nv_print.specs.declared.device.Device.{Device}
 use Rattle.nv_script.specs.Exchange.{Order, exchange_of}
-use Rattle.nv_script.specs.Shown.{Listing, listing_told}
+use Rattle.nv_script.specs.Shown.{listing_told}
+use Rattle.nv_script.specs.declared.listing.Listing.{Listing}
 use Rattle.nv_script.specs.declared.performing.Stop.{Stop}
 use Rattle.nv_script.specs.declared.performing.Stop.TheVariants as stop
 
@@ -19,26 +16,35 @@ pub record Standing : Type 0 where
   pub serials : List ℕ
   pub listing : Listing
 
--- a refusal adds nothing
-abbrev pub listing_answered : Listing → Order → Result Reply Status → Listing
-listing_answered l o (Ok reply) = listing_told o.controller l o.act reply
-listing_answered l o (Err status) = l
-
 -- after one order more, refused or not
 abbrev pub asked : Standing → Order → Standing
 asked w o =
     let e = exchange_of w.state w.serials o in
-    record { state = e.state; serials = e.serials; listing = listing_answered w.listing o e.answer }
+    record {
+      state = e.state;
+      serials = e.serials;
+      listing = listing_told o.controller w.listing o.act e.answer;
+    }
 
 abbrev pub asked_all : Standing → List Order → Standing
 asked_all w orders = fold asked w orders
 
--- the subsystem, the serials and the devices are those of a standing
+-- what the orders are answered, one after the other
+abbrev pub answers_to : Standing → List Order → List Answer
+answers_to w [] = []
+answers_to w (o ∷ os) = (exchange_of w.state w.serials o).answer ∷ answers_to (asked w o) os
+
+-- the NSIDs that a reply tells
+abbrev pub nsids_told : Reply → List ℕ
+nsids_told (reply.List nsids) = nsids
+nsids_told _ = []
+
+-- the subsystem, the serials and the listing are those of a standing
 pub record IsListed (w : Standing) (state : State) (serials : List ℕ)
-    (devices : List Device) : Type 0 where
+    (listing : Listing) : Type 0 where
   pub subsystem : state ≡ w.state
   pub next : serials ≡ w.serials
-  pub listed : devices ≡ w.listing.devices
+  pub listed : listing ≡ w.listing
 
 -- the first of some orders were carried out
 pub record AreBegun (w : Standing) (orders : List Order) (state : State)
@@ -49,25 +55,17 @@ pub record AreBegun (w : Standing) (orders : List Order) (state : State)
   pub subsystem : state ≡ (asked_all w done).state
   pub next : serials ≡ (asked_all w done).serials
 
--- all of some orders were carried out and their replies are listed, or memory was refused amid
--- them
+-- a refusal that is handed on is one of the answers
+abbrev pub IsHandedOn : Stop → List Answer → Type 0
+IsHandedOn (stop.Refused status) answers = Contains answers (Err status)
+IsHandedOn stop.Memory answers = Unit {0}
+
+-- all of some orders were carried out and what they were answered is listed, or one of them was
+-- refused so, or memory was refused amid them
 abbrev pub ListLeaves : {A : Type 0} → Result A Stop → Standing → List Order → State → List ℕ
-    → List Device → Type 0
-ListLeaves (Ok done) w orders state serials devices =
-    IsListed (asked_all w orders) state serials devices
-ListLeaves (Err (stop.Refused status)) w orders state serials devices = ⊥
-ListLeaves (Err stop.Memory) w orders state serials devices = AreBegun w orders state serials
-
--- ---- a batch
-
--- devices with the namespace of an NSID of controller c, by the answer to its command
-abbrev pub devices_more : ℕ → IdCtrl → List Device → ℕ → Answer → List Device
-devices_more c identity devices n (Ok (reply.Namespace namespace)) =
-    devices ++ device_of c n identity namespace ∷ []
-devices_more c identity devices n answer = devices
-
--- and of some NSIDs
-abbrev pub devices_with : ℕ → IdCtrl → List Device → List ℕ → List Answer → List Device
-devices_with c identity devices (n ∷ ns) (answer ∷ answers) =
-    devices_with c identity (devices_more c identity devices n answer) ns answers
-devices_with c identity devices _ _ = devices
+    → Listing → Type 0
+ListLeaves (Ok done) w orders state serials listing =
+    IsListed (asked_all w orders) state serials listing
+ListLeaves (Err (stop.Refused status)) w orders state serials listing =
+    IsHandedOn (stop.Refused status) (answers_to w orders)
+ListLeaves (Err stop.Memory) w orders state serials listing = AreBegun w orders state serials

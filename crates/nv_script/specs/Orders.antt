@@ -1,6 +1,6 @@
 -- What a query has controllers do.
-use Rattle.std.specs.Prelude.{ℕ, ◌+◌, ◌-◌, ◌*◌, max, min, Bool, List, [], ◌∷◌, Option, Some, None}
-use Rattle.std.specs.Prelude.{flat_map, if◌then◌else◌, length, map}
+use Rattle.std.specs.Prelude.{ℕ, ◌+◌, ◌*◌, max, min, List, [], ◌∷◌, Option, Some, None}
+use Rattle.std.specs.Prelude.{flat_map, length, map}
 use Rattle.std.specs.List.{range_with_len}
 use Rattle.nv_bits.specs.Numbers.{above}
 use Rattle.nv_model.specs.Logs.{entry_count}
@@ -9,51 +9,24 @@ use Rattle.nv_model.specs.State.{State}
 use Rattle.nv_command.specs.declared.command.Command.{Command}
 use Rattle.nv_command.specs.declared.command.Command.TheVariants.{IdentifyController}
 use Rattle.nv_command.specs.declared.command.Command.TheVariants.{IdentifyNamespace}
-use Rattle.nv_command.specs.declared.command.Command.TheVariants.{AllocatedNamespace, ActiveList}
-use Rattle.nv_command.specs.declared.command.Command.TheVariants.{AllocatedList, Create, Delete}
-use Rattle.nv_command.specs.declared.command.Command.TheVariants.{Attachment}
-use Rattle.nv_command.specs.declared.command.Command.TheVariants.{Format, GetFeature, SetFeature}
-use Rattle.nv_command.specs.declared.command.Command.TheVariants.{GetLog}
+use Rattle.nv_command.specs.declared.command.Command.TheVariants.{ActiveList, GetLog}
 use Rattle.nv_command.specs.declared.reply.Reply.{Reply}
 use Rattle.nv_command.specs.declared.reply.Reply.TheVariants as reply
-use Rattle.nv_command.specs.Logs.{IsSendable}
 use Rattle.nv_script.specs.Exchange.{Order, order_of}
-use Rattle.nv_script.specs.declared.order.Act.{Act}
-use Rattle.nv_script.specs.declared.order.Act.TheVariants.{Send, Reset}
+use Rattle.nv_line.specs.declared.request.Act.{Act}
+use Rattle.nv_line.specs.declared.request.Act.TheVariants.{Send}
 use Rattle.nv_line.specs.declared.request.Ask.{Ask}
 use Rattle.nv_line.specs.declared.request.Ask.TheVariants as ask
 use Rattle.nv_line.specs.declared.request.Query.{Query}
 use Rattle.nv_line.specs.declared.request.Query.TheVariants as query
 use Rattle.nv_line.specs.declared.request.Question.{Question}
 
--- a driver can do it: a command is one that it may send
-abbrev pub IsDoable : Act → Type 0
-IsDoable (Send k) = IsSendable k
-IsDoable Reset = Unit {0}
-
 -- ---- one controller is asked
 
-abbrev pub list_command : Bool → ℕ → Command
-list_command all after = if all then AllocatedList after else ActiveList after
-
-abbrev pub namespace_command : Bool → ℕ → Command
-namespace_command force nsid = if force then AllocatedNamespace nsid else IdentifyNamespace nsid
-
--- what is done first for what a controller is asked; a list begins at an NSID, and is asked for
--- after the one before it
+-- what is done first for what a controller is asked
 abbrev pub first_act : Ask → Act
-first_act ask.IdCtrl = Send IdentifyController
-first_act (ask.ListNs first all) = Send (list_command all (first - 1))
-first_act (ask.IdNs nsid force) = Send (namespace_command force nsid)
-first_act (ask.Create nsze ncap flbas dps nmic) = Send (Create nsze ncap flbas dps nmic)
-first_act (ask.Attachment nsid detach controllers) = Send (Attachment nsid detach controllers)
-first_act (ask.Delete nsid) = Send (Delete nsid)
-first_act (ask.Format nsid lbaf mset pi pil ses) = Send (Format nsid lbaf mset pi pil ses)
-first_act (ask.GetFeature fid sel nsid cdw11) = Send (GetFeature fid sel nsid cdw11)
-first_act (ask.SetFeature fid value save nsid) = Send (SetFeature fid value save nsid)
-first_act (ask.SmartLog nsid) = Send (GetLog 0x02 nsid 0 128)
+first_act (ask.Do act) = act
 first_act (ask.ErrorLog entries) = Send IdentifyController
-first_act ask.Reset = Reset
 
 -- the entries of an error log, 16 dwords each: so many, as far as a controller keeps them, and one
 -- at least

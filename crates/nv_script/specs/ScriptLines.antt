@@ -2,7 +2,7 @@
 use Rattle.std.specs.Prelude.{ℕ, List, [], ◌∷◌, ◌++◌, fold, length, nat_le, if◌then◌else◌, Option}
 use Rattle.std.specs.Prelude.{None, Some}
 use Rattle.std.specs.Char.{is_newline}
-use Rattle.nv_line.specs.declared.line.TheConstants.{LINE_LIMIT}
+use Rattle.nv_line.specs.Limits.{line_limit}
 
 -- bytes cut at their newlines: the lines that a newline ended, and what follows the last newline
 pub record Pieces : Type 0 where
@@ -29,9 +29,9 @@ script_lines bytes = (pieces bytes).ended ++ as_line (pieces bytes).last
 
 -- a line as a buffer has it: all of it, or none where it is above 4,095 bytes
 abbrev pub buffer_of : List ℕ → Option (List ℕ)
-buffer_of line = if nat_le (length line) LINE_LIMIT then Some line else None
+buffer_of line = if nat_le (length line) line_limit then Some line else None
 
--- the same with one byte more
-abbrev pub buffer_with : Option (List ℕ) → ℕ → Option (List ℕ)
-buffer_with None b = None
-buffer_with (Some line) b = buffer_of (line ++ b ∷ [])
+-- the same with these bytes more
+abbrev pub buffer_after : Option (List ℕ) → List ℕ → Option (List ℕ)
+buffer_after None bytes = None
+buffer_after (Some line) bytes = buffer_of (line ++ bytes)

@@ -1,9 +1,12 @@
 -- What a query shows, by the replies to its orders.
-use Rattle.std.specs.Prelude.{ℕ, Bool, List, [], ◌∷◌, ◌++◌, Option, None, Some, if◌then◌else◌}
+use Rattle.std.specs.Prelude.{ℕ, Bool, List, [], ◌∷◌, ◌++◌, Option, None, Some, if◌then◌else◌, map}
+use Rattle.std.specs.Prelude.{Result, Ok}
 use Rattle.std.specs.Option.{option_map}
 use Rattle.nv_layout.specs.Feature.{feature_of}
 use Rattle.nv_layout.specs.declared.feature.Feature.{Feature}
-use Rattle.nv_layout.specs.declared.id_ctrl.IdCtrl.{IdCtrl}
+use Rattle.nv_layout.specs.declared.status.Status.{Status}
+use Rattle.nv_command.specs.declared.command.Command.TheVariants.{Attachment, Create, Delete}
+use Rattle.nv_command.specs.declared.command.Command.TheVariants.{Format, GetFeature, SetFeature}
 use Rattle.nv_command.specs.declared.command.Command.TheVariants.{IdentifyController}
 use Rattle.nv_command.specs.declared.command.Command.TheVariants.{IdentifyNamespace}
 use Rattle.nv_command.specs.declared.reply.Reply.{Reply}
@@ -18,13 +21,13 @@ use Rattle.nv_line.specs.declared.request.Query.TheVariants as query
 use Rattle.nv_print.specs.Device.{device_of}
 use Rattle.nv_print.specs.Sentences.{select_of}
 use Rattle.nv_print.specs.Shown.{has_json, json_of, text_of}
-use Rattle.nv_print.specs.declared.device.Device.{Device}
 use Rattle.nv_print.specs.declared.select.Select.{Select}
 use Rattle.nv_print.specs.declared.shown.Shown.{Shown}
 use Rattle.nv_print.specs.declared.shown.Shown.TheVariants as shown
 use Rattle.nv_script.specs.Exchange.{Order}
-use Rattle.nv_script.specs.declared.order.Act.{Act}
-use Rattle.nv_script.specs.declared.order.Act.TheVariants.{Send}
+use Rattle.nv_script.specs.declared.listing.Listing.{Listing}
+use Rattle.nv_line.specs.declared.request.Act.{Act}
+use Rattle.nv_line.specs.declared.request.Act.TheVariants.{Send, Reset}
 
 -- ---- one controller was asked
 
@@ -35,23 +38,33 @@ feature_value _ _ value = None
 abbrev pub feature_set : Option Feature → ℕ → Bool → Option Shown
 feature_set f value save = option_map (λ f. shown.FeatureSet f value save) f
 
--- what an ask shows by the last reply to it, where that is a reply to its order
-abbrev pub shown_by : Ask → Reply → Option Shown
-shown_by ask.IdCtrl (reply.Controller identity) = Some (shown.Controller identity)
-shown_by (ask.ListNs first all) (reply.List nsids) = Some (shown.NsList nsids)
-shown_by (ask.IdNs nsid force) (reply.Namespace namespace) = Some (shown.Namespace namespace)
-shown_by (ask.Create nsze ncap flbas dps nmic) (reply.Number nsid) = Some (shown.Created nsid)
-shown_by (ask.Attachment nsid detach controllers) reply.Done =
-    Some (if detach then shown.Detached nsid else shown.Attached nsid)
-shown_by (ask.Delete nsid) reply.Done = Some (shown.Deleted nsid)
-shown_by (ask.Format nsid lbaf mset pi pil ses) reply.Done = Some (shown.Formatted nsid)
-shown_by (ask.GetFeature fid sel nsid cdw11) (reply.Number value) =
+-- what is shown by a number: the NSID of a new namespace, or the value of a feature
+abbrev pub shown_number : Ask → ℕ → Option Shown
+shown_number (ask.Do (Send (Create nsze ncap flbas dps nmic))) nsid = Some (shown.Created nsid)
+shown_number (ask.Do (Send (GetFeature fid sel nsid cdw11))) value =
     feature_value (feature_of fid) (select_of sel) value
-shown_by (ask.SetFeature fid value save nsid) reply.Done = feature_set (feature_of fid) value save
-shown_by (ask.SmartLog nsid) (reply.Smart smart) = Some (shown.Smart smart)
-shown_by (ask.ErrorLog entries) (reply.Errors errors) = Some (shown.Errors errors)
-shown_by ask.Reset reply.Done = Some shown.Reset
-shown_by _ _ = None
+shown_number _ number = None
+
+-- what is shown where it is done
+abbrev pub shown_done : Ask → Option Shown
+shown_done (ask.Do (Send (Attachment nsid detach ids))) =
+    Some (if detach then shown.Detached nsid else shown.Attached nsid)
+shown_done (ask.Do (Send (Delete nsid))) = Some (shown.Deleted nsid)
+shown_done (ask.Do (Send (Format nsid lbaf mset pi pil ses))) = Some (shown.Formatted nsid)
+shown_done (ask.Do (Send (SetFeature fid value save nsid))) =
+    feature_set (feature_of fid) value save
+shown_done (ask.Do Reset) = Some shown.Reset
+shown_done _ = None
+
+-- what an ask shows by the last reply to it
+abbrev pub shown_by : Ask → Reply → Option Shown
+shown_by a (reply.Controller identity) = Some (shown.Controller identity)
+shown_by a (reply.List nsids) = Some (shown.NsList nsids)
+shown_by a (reply.Namespace namespace) = Some (shown.Namespace namespace)
+shown_by a (reply.Smart smart) = Some (shown.Smart smart)
+shown_by a (reply.Errors errors) = Some (shown.Errors errors)
+shown_by a (reply.Number number) = shown_number a number
+shown_by a reply.Done = shown_done a
 
 -- by the replies in order
 abbrev pub shown_of_one : Ask → List Reply → Option Shown
@@ -61,35 +74,30 @@ shown_of_one a (reply ∷ next ∷ later) = shown_of_one a (next ∷ later)
 
 -- ---- each controller was asked
 
--- what the controller that was asked last is, and the devices so far
-pub record Listing : Type 0 where
-  pub identity : IdCtrl
-  pub devices : List Device
-
 abbrev pub no_listing : Listing
 no_listing = record { identity = no_controller; devices = [] }
 
--- with the reply to an act at controller c
-abbrev pub listing_told : ℕ → Listing → Act → Reply → Listing
-listing_told c l (Send IdentifyController) (reply.Controller identity) =
+-- with the answer to an act at controller c; a refusal tells nothing
+abbrev pub listing_told : ℕ → Listing → Act → Result Reply Status → Listing
+listing_told c l (Send IdentifyController) (Ok (reply.Controller identity)) =
     record l { identity = identity }
-listing_told c l (Send (IdentifyNamespace n)) (reply.Namespace namespace) =
+listing_told c l (Send (IdentifyNamespace n)) (Ok (reply.Namespace namespace)) =
     record l { devices = l.devices ++ device_of c n l.identity namespace ∷ [] }
 listing_told c l _ _ = l
 
--- with the replies to some orders
-abbrev pub listing_of : Listing → List Order → List Reply → Listing
-listing_of l (order ∷ orders) (reply ∷ replies) =
-    listing_of (listing_told order.controller l order.act reply) orders replies
+-- with the answers to some orders
+abbrev pub listing_of : Listing → List Order → List (Result Reply Status) → Listing
+listing_of l (order ∷ orders) (answer ∷ answers) =
+    listing_of (listing_told order.controller l order.act answer) orders answers
 listing_of l _ _ = l
 
 -- ---- what is shown, and how it is written
 
--- what a query shows by the replies to these orders of it; nothing where a reply isn't of its order
+-- what a query shows by the replies to these orders of it
 abbrev pub shown_of : List Order → Query → List Reply → Option Shown
 shown_of orders (query.One question) replies = shown_of_one question.ask replies
 shown_of orders query.List replies =
-    Some (shown.Devices (listing_of no_listing orders replies).devices)
+    Some (shown.Devices (listing_of no_listing orders (map Ok replies)).devices)
 
 -- as JSON where that is asked for and there is a JSON form, and else as text
 abbrev pub written : OutputFormat → Shown → List ℕ

@@ -7,6 +7,7 @@ ghost use Rattle.nv_script.specs.Ends.{end_with};
 ghost use Rattle.nv_script.specs.declared.ends.RunEnd.TheVariants as end;
 
 use nv_driver::{DriverError, GeometryField};
+use std::fmt;
 
 /// How a run ended.
 #[derive(Clone, Copy, Debug, PartialEq, Eq)]
@@ -26,6 +27,19 @@ pub enum RunEnd {
     MessageWrite,
     /// Memory was refused.
     Memory,
+}
+
+impl fmt::Display for RunEnd {
+    fn fmt<W: fmt::Write>(&self, f: &mut fmt::Formatter<W>) -> fmt::Result {
+        match self {
+            RunEnd::Status(status) => write!(f, "status {status}"),
+            RunEnd::Geometry(field) => write!(f, "geometry: {field}"),
+            RunEnd::NoReady => f.write_str("no ready"),
+            RunEnd::Read => f.write_str("read fault"),
+            RunEnd::OutWrite | RunEnd::MessageWrite => f.write_str("write fault"),
+            RunEnd::Memory => f.write_str("out of memory"),
+        }
+    }
 }
 
 impl From<DriverError> for RunEnd {

@@ -16,7 +16,7 @@ use crate::performing::{Stop, perform};
 use crate::session::Session;
 use crate::streams::Sink;
 use nv_bus::Bus;
-use nv_line::{Line, LineFault, read_line};
+use nv_line::{CtrlList, Line, LineFault, read_line};
 use nv_print::{Fault, FaultCause, message};
 use std::alloc::{AllocError, Global};
 
@@ -55,15 +55,20 @@ fn print<S: Sink>(sink: &mut S, text: Result<String, AllocError>, fault: Cut) ->
     }
 }
 
-/// What a line says, as far as there was room for it.
-fn read_buffer(alloc: Global, line: Option<&[u8]>, controllers: u16) -> Result<Line, LineFault>
+/// What a line says, as far as there was room for it. Listed controllers are put in the place.
+fn read_buffer<'a>(
+    alloc: Global,
+    line: Option<&[u8]>,
+    controllers: u16,
+    place: &'a mut CtrlList,
+) -> Result<Line<'a>, LineFault>
     ensures said { (text : List ℕ) → option_copied line.entry ≡ buffer_of text
         → IsUnlessMemory (reading text controllers) result }
     ensures known { IfOk result (IsKnown controllers) }
 {
     match line {
         None => Err(LineFault::TooLong),
-        Some(line) => read_line(alloc, line, controllers),
+        Some(line) => read_line(alloc, line, controllers, place),
     }
 }
 
@@ -95,7 +100,8 @@ pub(crate) fn execute_line<B: Bus, O: Sink, M: Sink>(
     ensures number { session.new.number ≡ session.old.number + 1 }
 {
     session.number += 1;
-    let said = match read_buffer(alloc, line, bus.controllers()) {
+    let mut place = CtrlList::new();
+    let said = match read_buffer(alloc, line, bus.controllers(), &mut place) {
         Ok(said) => said,
         Err(fault) => match fault {
             LineFault::Memory => return Err(Cut::Memory),

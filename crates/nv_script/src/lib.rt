@@ -1,4 +1,4 @@
-//! Scripts of command lines: what a line says, and what a run of a script leaves.
+//! Scripts of command lines: the commands that a line sends, and what a run of a script leaves.
 #![tactic(auto)]
 
 mod ends;
@@ -8,6 +8,7 @@ mod line_buffer;
 mod listing;
 mod order;
 mod performing;
+mod retrying;
 mod running;
 mod session;
 mod shown;
@@ -17,8 +18,10 @@ pub use ends::RunEnd;
 pub use in_order::{Held, OverHeld, SinkAfter, SourceAfter};
 pub use nv_driver::{Geometry, GeometryField};
 pub use nv_line::{
-    Ask, ControllerList, LINE_LIMIT, Line, LineFault, OptionName, OutputFormat, Query, Question,
+    Act, Ask, CtrlList, LINE_LIMIT, Line, LineFault, OptionName, OutputFormat, Query, Question,
     Request, parse_number, read_line,
 };
+pub use retrying::Retrying;
 pub use running::{READ_LIMIT, run, run_within};
+pub use shown::each_is_shown;
 pub use streams::{OverRead, OverWrite, READ_SIZE, Sink, Source};

@@ -3,8 +3,8 @@
 ghost use Rattle.std.specs.Prelude.{◌≡◌, ◌≤◌, [], List, ℕ, Option, Some, None, if◌then◌else◌, take};
 ghost use Rattle.std.specs.Prelude.{IsTrue, ◌↔◌};
 ghost use Rattle.std.specs.Option.{option_copied};
-ghost use Rattle.nv_script.specs.ScriptLines.{buffer_with};
-ghost use Rattle.nv_line.specs.declared.line.TheConstants.{LINE_LIMIT};
+ghost use Rattle.nv_script.specs.ScriptLines.{buffer_after};
+ghost use Rattle.nv_line.specs.Limits.{line_limit};
 
 use nv_line::LINE_LIMIT;
 use std::marker::Model;
@@ -22,7 +22,7 @@ impl Model for LineBuffer {
 
     ghost view = { λ a. if a.is_too_long then None else Some (take a.len a.bytes) };
 
-    ghost invariant = { λ a. a.len ≤ LINE_LIMIT };
+    ghost invariant = { λ a. a.len ≤ line_limit };
 }
 
 impl LineBuffer {
@@ -36,12 +36,13 @@ impl LineBuffer {
         }
     }
 
-    pub(crate) fn push(&mut self, byte: u8)
-        ensures { self.new ≡ buffer_with self.old byte }
+    pub(crate) fn extend(&mut self, bytes: &[u8])
+        ensures { self.new ≡ buffer_after self.old bytes.now }
     {
-        if self.len < LINE_LIMIT {
-            self.bytes[self.len] = byte;
-            self.len += 1;
+        if bytes.len() <= LINE_LIMIT - self.len {
+            let end = self.len + bytes.len();
+            self.bytes[self.len..end].copy_from_slice(bytes);
+            self.len = end;
         } else {
             self.is_too_long = true;
         }

@@ -1,13 +1,17 @@
 //! `list`: each controller is asked for the namespaces that are attached to it.
 
-ghost use Rattle.std.specs.Prelude.{◌≡◌, ◌<◌, ◌≤◌, ℕ, IfOk, length, slice_index, slice_index_or};
+ghost use Rattle.std.specs.Prelude.{◌≡◌, ◌<◌, ◌≤◌, ℕ, All, IfErr, IfOk, IsOk, OnOk, length, map};
+ghost use Rattle.std.specs.Prelude.{slice_index, slice_index_or, [], ◌∷◌};
 ghost use Rattle.nv_command.specs.declared.command.Command.{Command};
 ghost use Rattle.nv_command.specs.declared.command.Command.TheVariants.{IdentifyNamespace};
+ghost use Rattle.nv_model.specs.IdentifyController.{no_controller};
+ghost use Rattle.nv_script.specs.Exchange.{order_of};
 ghost use Rattle.nv_script.specs.Link.{IsLinked, serials_of};
-ghost use Rattle.nv_script.specs.Listing.{IsListed, ListLeaves, Standing, devices_more};
-ghost use Rattle.nv_script.specs.Listing.{devices_with};
+ghost use Rattle.nv_script.specs.Listing.{IsHandedOn, IsListed, ListLeaves, Standing, nsids_told};
 ghost use Rattle.nv_script.specs.Orders.{namespace_orders, orders_of_controller};
 ghost use Rattle.nv_script.specs.Performing.{ListedAll};
+ghost use Rattle.nv_script.specs.Shown.{listing_of, listing_told, no_listing};
+ghost use Rattle.nv_line.specs.declared.request.Act.TheVariants.{Send};
 
 use crate::performing::Stop;
 use crate::session::{Answers, BATCH};
@@ -16,45 +20,110 @@ use nv_command::{Command, Reply};
 use nv_driver::{Answer, AnswerSlot, Driver};
 use nv_layout::IdCtrl;
 use nv_print::{Device, DeviceList};
-use std::alloc::{AllocError, Global};
+use std::alloc::Global;
 use std::array;
 
-/// Adds the namespace of an NSID, by the answer to its command.
-fn push_device(
-    ctrl: u16,
-    identity: &IdCtrl,
-    nsid: u32,
-    answer: Answer,
-    devices: &mut DeviceList,
-) -> Result<(), AllocError>
-    ensures { IfOk result (λ _. devices.new
-        ≡ devices_more ctrl identity.now devices.old nsid answer.entry) }
+/// What is told of a controller before any is asked: zeros.
+fn no_controller() -> IdCtrl
+    ensures { result ≡ no_controller }
 {
-    let Ok(reply) = answer else {
-        return Ok(());
-    };
-    let Reply::Namespace(namespace) = reply else {
-        return Ok(());
-    };
-    devices.push(Device::new(ctrl, nsid, identity, &namespace))
+    IdCtrl {
+        vid: 0,
+        ssvid: 0,
+        sn: [0; 20],
+        mn: [0; 40],
+        fr: [0; 8],
+        rab: 0,
+        ieee: 0,
+        cmic: 0,
+        mdts: 0,
+        cntlid: 0,
+        ver: 0,
+        oacs: 0,
+        frmw: 0,
+        lpa: 0,
+        elpe: 0,
+        npss: 0,
+        wctemp: 0,
+        cctemp: 0,
+        tnvmcap: 0,
+        unvmcap: 0,
+        sqes: 0,
+        cqes: 0,
+        nn: 0,
+        oncs: 0,
+        fna: 0,
+        vwc: 0,
+        subnqn: [0; 256],
+    }
 }
 
-/// Adds the namespaces of some NSIDs, by the answers to their commands.
-fn push_devices(
-    ctrl: u16,
-    identity: &IdCtrl,
-    nsids: &[u32],
-    answers: &[AnswerSlot],
-    devices: &mut DeviceList,
-) -> Result<(), AllocError>
-    requires len { length answers.now ≡ length nsids.now }
-    ensures { IfOk result (λ _. devices.new
-        ≡ devices_with ctrl identity.now devices.old nsids.now answers.now) }
-{
-    for i in 0..nsids.len() {
-        push_device(ctrl, identity, nsids[i], answers[i].answer(), devices)?;
+/// What the controller that was asked last is, and the devices so far.
+#[derive(Drop)]
+pub struct Listing {
+    pub identity: IdCtrl,
+    pub devices: DeviceList,
+}
+
+impl Listing {
+    /// Before the first command.
+    fn new(alloc: Global) -> Listing
+        ensures { result ≡ no_listing }
+    {
+        Listing {
+            identity: no_controller(),
+            devices: DeviceList::new(alloc),
+        }
     }
-    Ok(())
+
+    /// Keeps what the answer to a command of a controller tells. A refusal is handed on.
+    fn tell(&mut self, ctrl: u16, command: &Command, answer: Answer) -> Result<(), Stop>
+        ensures accepted { OnOk result (IsOk answer.entry) }
+        ensures told { OnOk result
+            (self.new ≡ listing_told ctrl self.old (Send command.now) answer.entry) }
+        ensures refused { IfErr result (λ stop. IsHandedOn stop (answer.entry ∷ [])) }
+    {
+        match (command, answer?) {
+            (Command::IdentifyController, Reply::Controller(identity)) => {
+                self.identity = identity;
+            }
+            (Command::IdentifyNamespace { nsid }, Reply::Namespace(namespace)) => {
+                self.devices
+                    .push(Device::new(ctrl, *nsid, &self.identity, &namespace))?;
+            }
+            _ => {}
+        }
+        Ok(())
+    }
+
+    /// Keeps what the answers to some commands of a controller tell. A refusal is handed on.
+    fn tell_all(
+        &mut self,
+        ctrl: u16,
+        commands: &[Command],
+        answers: &[AnswerSlot],
+    ) -> Result<(), Stop>
+        requires len { length answers.now ≡ length commands.now }
+        ensures accepted { OnOk result (All IsOk answers.now) }
+        ensures told { OnOk result
+            (self.new ≡ listing_of self.old (map (order_of ctrl) commands.now) answers.now) }
+        ensures refused { IfErr result (λ stop. IsHandedOn stop answers.now) }
+    {
+        for i in 0..commands.len() {
+            self.tell(ctrl, &commands[i], answers[i].answer())?;
+        }
+        Ok(())
+    }
+}
+
+/// The NSIDs that a reply tells.
+fn nsids_in<'a>(reply: &'a Reply) -> &'a [u32]
+    ensures { result.now ≡ nsids_told reply.now }
+{
+    match reply {
+        Reply::List(nsids) => nsids.as_slice(),
+        _ => &[],
+    }
 }
 
 /// The commands that ask a controller for namespaces, with commands of no account after them.
@@ -74,27 +143,24 @@ fn list_batch<B: Bus>(
     driver: &mut Driver,
     batch: &mut [AnswerSlot; BATCH],
     ctrl: u16,
-    identity: &IdCtrl,
     nsids: &[u32],
-    devices: &mut DeviceList,
+    listing: &mut Listing,
 ) -> Result<(), Stop>
     requires linked { IsLinked (B.meaning bus.old) driver.old }
     requires controller { ctrl < length driver.old.lanes }
     requires some { 0 < length nsids.now }
     requires most { length nsids.now ≤ BATCH }
     ensures left { (w : Standing)
-        → IsListed w (B.meaning bus.old).state (serials_of driver.old) devices.old
-        → w.listing.identity ≡ identity.now
+        → IsListed w (B.meaning bus.old).state (serials_of driver.old) listing.old
         → ListLeaves result w (namespace_orders ctrl nsids.now)
-        (B.meaning bus.new).state (serials_of driver.new) devices.new }
+        (B.meaning bus.new).state (serials_of driver.new) listing.new }
     ensures linked { IsLinked (B.meaning bus.new) driver.new }
     ensures lanes { length driver.new.lanes ≡ length driver.old.lanes }
 {
     let count = nsids.len();
     let commands = commands_for(nsids);
     driver.admin_all(bus, ctrl, &commands[..count], &mut batch[..count]);
-    push_devices(ctrl, identity, nsids, &batch[..count], devices)?;
-    Ok(())
+    listing.tell_all(ctrl, &commands[..count], &batch[..count])
 }
 
 /// Asks a controller for its namespaces, at most sixteen at a time.
@@ -103,24 +169,22 @@ fn list_namespaces<B: Bus>(
     driver: &mut Driver,
     batch: &mut [AnswerSlot; BATCH],
     ctrl: u16,
-    identity: &IdCtrl,
     nsids: &[u32],
-    devices: &mut DeviceList,
+    listing: &mut Listing,
 ) -> Result<(), Stop>
     requires linked { IsLinked (B.meaning bus.old) driver.old }
     requires controller { ctrl < length driver.old.lanes }
     ensures left { (w : Standing)
-        → IsListed w (B.meaning bus.old).state (serials_of driver.old) devices.old
-        → w.listing.identity ≡ identity.now
+        → IsListed w (B.meaning bus.old).state (serials_of driver.old) listing.old
         → ListLeaves result w (namespace_orders ctrl nsids.now)
-        (B.meaning bus.new).state (serials_of driver.new) devices.new }
+        (B.meaning bus.new).state (serials_of driver.new) listing.new }
     ensures linked { IsLinked (B.meaning bus.new) driver.new }
     ensures lanes { length driver.new.lanes ≡ length driver.old.lanes }
 {
     let mut rest = nsids;
     while !rest.is_empty() {
         let count = rest.len().min(BATCH);
-        list_batch(bus, driver, batch, ctrl, identity, &rest[..count], devices)?;
+        list_batch(bus, driver, batch, ctrl, &rest[..count], listing)?;
         rest = &rest[count..];
     }
     Ok(())
@@ -133,14 +197,14 @@ fn list_controller<B: Bus>(
     driver: &mut Driver,
     answers: &mut Answers,
     ctrl: u16,
-    devices: &mut DeviceList,
+    listing: &mut Listing,
 ) -> Result<(), Stop>
     requires linked { IsLinked (B.meaning bus.old) driver.old }
     requires controller { ctrl < length driver.old.lanes }
     ensures left { (w : Standing)
-        → IsListed w (B.meaning bus.old).state (serials_of driver.old) devices.old
+        → IsListed w (B.meaning bus.old).state (serials_of driver.old) listing.old
         → ListLeaves result w (orders_of_controller w.state ctrl)
-        (B.meaning bus.new).state (serials_of driver.new) devices.new }
+        (B.meaning bus.new).state (serials_of driver.new) listing.new }
     ensures linked { IsLinked (B.meaning bus.new) driver.new }
     ensures lanes { length driver.new.lanes ≡ length driver.old.lanes }
 {
@@ -149,23 +213,10 @@ fn list_controller<B: Bus>(
         second,
         batch,
     } = answers;
-    let Reply::Controller(identity) = driver.admin(bus, ctrl, &Command::IdentifyController, first)?
-    else {
-        unreachable!()
-    };
-    let Reply::List(nsids) = driver.admin(bus, ctrl, &Command::ActiveList { after: 0 }, second)?
-    else {
-        unreachable!()
-    };
-    list_namespaces(
-        bus,
-        driver,
-        batch,
-        ctrl,
-        &identity,
-        nsids.as_slice(),
-        devices,
-    )
+    let identify = Command::IdentifyController;
+    listing.tell(ctrl, &identify, driver.admin(bus, ctrl, &identify, first))?;
+    let attached = driver.admin(bus, ctrl, &Command::ActiveList { after: 0 }, second)?;
+    list_namespaces(bus, driver, batch, ctrl, nsids_in(&attached), listing)
 }
 
 /// The namespaces that are attached to each controller.
@@ -182,9 +233,9 @@ pub(crate) fn list<B: Bus>(
     ensures linked { IsLinked (B.meaning bus.new) driver.new }
     ensures lanes { length driver.new.lanes ≡ length driver.old.lanes }
 {
-    let mut devices = DeviceList::new(alloc);
+    let mut listing = Listing::new(alloc);
     for ctrl in 0..bus.controllers() {
-        list_controller(bus, driver, answers, ctrl, &mut devices)?;
+        list_controller(bus, driver, answers, ctrl, &mut listing)?;
     }
-    Ok(devices)
+    Ok(listing.devices)
 }

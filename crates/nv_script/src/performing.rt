@@ -1,22 +1,23 @@
 //! One request: its orders, and the text of what their replies show.
 
 ghost use Rattle.std.specs.Prelude.{◌≡◌, ◌<◌, length};
-ghost use Rattle.nv_line.specs.Request.{IsQueryKnown};
+ghost use Rattle.nv_line.specs.Request.{IsQueryKnown, IsQuestionKnown};
 ghost use Rattle.nv_line.specs.declared.request.Query.TheVariants.{One};
 ghost use Rattle.nv_script.specs.Link.{IsLinked, serials_of};
-ghost use Rattle.nv_script.specs.Orders.{IsDoable};
+ghost use Rattle.nv_line.specs.Ask.{IsAskable, IsDoable};
+ghost use Rattle.nv_script.specs.Orders.{first_act};
 ghost use Rattle.nv_script.specs.Performing.{OrderLeaves, QueryLeaves, RequestLeaves};
 ghost use Rattle.nv_script.specs.declared.performing.Stop.TheVariants.{Refused, Memory};
 
 use crate::listing::list;
-use crate::order::{Act, first_act, next_command};
+use crate::order::next_command;
 use crate::session::Answers;
 use crate::shown::{shown, write};
 use nv_bus::Bus;
-use nv_command::Reply;
+use nv_command::{Command, Reply};
 use nv_driver::{Answer, AnswerSlot, Driver};
 use nv_layout::Status;
-use nv_line::{Query, Question, Request};
+use nv_line::{Act, Ask, Query, Question, Request};
 use nv_print::Shown;
 use std::alloc::{AllocError, Global};
 
@@ -74,6 +75,37 @@ fn carry_out<'a, B: Bus>(
     }
 }
 
+/// Does the first act of what a controller is asked. The reply to it stands in the slot.
+fn begin<'a, B: Bus>(
+    bus: &mut B,
+    driver: &mut Driver,
+    ctrl: u16,
+    ask: &Ask,
+    slot: &'a mut AnswerSlot,
+) -> Answer<'a>
+    requires linked { IsLinked (B.meaning bus.old) driver.old }
+    requires controller { ctrl < length driver.old.lanes }
+    requires askable { IsAskable ask.now }
+    ensures left { OrderLeaves result (record { controller = ctrl; act = first_act ask.now })
+        (B.meaning bus.old).state (serials_of driver.old)
+        (B.meaning bus.new).state (serials_of driver.new) }
+    ensures linked { IsLinked (B.meaning bus.new) driver.new }
+    ensures lanes { length driver.new.lanes ≡ length driver.old.lanes }
+{
+    match ask {
+        Ask::Do(act) => carry_out(bus, driver, ctrl, act, slot),
+        Ask::ErrorLog { .. } => {
+            carry_out(
+                bus,
+                driver,
+                ctrl,
+                &Act::Send(Command::IdentifyController),
+                slot,
+            )
+        }
+    }
+}
+
 /// Carries out the orders of a question, up to the first refusal. What the last reply shows stays
 /// in `answers`.
 fn ask_one<'a, B: Bus>(
@@ -83,7 +115,7 @@ fn ask_one<'a, B: Bus>(
     question: &Question,
 ) -> Result<Option<Shown<'a>>, Stop>
     requires linked { IsLinked (B.meaning bus.old) driver.old }
-    requires controller { question.now.controller < length driver.old.lanes }
+    requires known { IsQuestionKnown (length driver.old.lanes) question.now }
     ensures left { QueryLeaves result (One question.now)
         (B.meaning bus.old).state (serials_of driver.old)
         (B.meaning bus.new).state (serials_of driver.new) }
@@ -91,7 +123,7 @@ fn ask_one<'a, B: Bus>(
 {
     let Answers { first, second, .. } = answers;
     let ctrl = question.controller;
-    let reply = carry_out(bus, driver, ctrl, &first_act(&question.ask), first)?;
+    let reply = begin(bus, driver, ctrl, &question.ask, first)?;
     let Some(command) = next_command(&question.ask, &reply) else {
         return Ok(shown(&question.ask, reply));
     };

@@ -7,6 +7,7 @@ ghost use Rattle.nv_bus.specs.Bus.{IsBus};
 ghost use Rattle.nv_script.specs.Cuts.{left_at};
 ghost use Rattle.nv_script.specs.Ends.{IsRun, RunsFrom, run_state};
 ghost use Rattle.nv_script.specs.Feeding.{IsFailureOf, LastLeaves, PieceLeaves, Stands};
+ghost use Rattle.nv_script.specs.Limits.{read_limit};
 ghost use Rattle.nv_script.specs.Link.{IsFirst, IsLinked};
 ghost use Rattle.nv_script.specs.Results.{whole};
 ghost use Rattle.nv_script.specs.ScriptLines.{buffer_of, pieces};
@@ -17,6 +18,7 @@ use crate::executing::execute_line;
 use crate::line_buffer::LineBuffer;
 use crate::session::Session;
 use crate::streams::{READ_SIZE, Sink, Source};
+use memchr::memchr;
 use nv_bus::Bus;
 use nv_driver::Geometry;
 use std::alloc::Global;
@@ -48,14 +50,14 @@ fn feed<B: Bus, O: Sink, M: Sink>(
     ensures linked { IsLinked (B.meaning bus.new) session.new.driver }
     ensures number { OnOk result (session.new.number ≤ session.old.number + length piece.now) }
 {
-    for byte in piece {
-        if *byte == b'\n' {
-            execute_line(alloc, bus, session, out, messages, line.line())?;
-            line.clear();
-        } else {
-            line.push(*byte);
-        }
+    let mut rest = piece;
+    while let Some(end) = memchr(b'\n', rest) {
+        line.extend(&rest[..end]);
+        execute_line(alloc, bus, session, out, messages, line.line())?;
+        line.clear();
+        rest = &rest[end + 1..];
     }
+    line.extend(rest);
     Ok(())
 }
 
@@ -190,7 +192,7 @@ pub fn run<B: Bus, R: Source, O: Sink, M: Sink>(
     requires fresh_out { (O.state out.old).has_failed ≡ false }
     requires fresh_messages { (M.state messages.old).has_failed ≡ false }
     // The headline, each end with what it leaves, and when each fault comes.
-    ensures run { IsRun geometry READ_LIMIT result
+    ensures run { IsRun geometry read_limit result
         (run_state (B.meaning bus.old) (R.state script.old) (O.state out.old)
         (M.state messages.old))
         (run_state (B.meaning bus.new) (R.state script.new) (O.state out.new)

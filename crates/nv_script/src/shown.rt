@@ -3,11 +3,13 @@
 ghost use Rattle.std.specs.Prelude.{◌≡◌, IfOk, string_bytes};
 ghost use Rattle.nv_layout.specs.Feature.{feature_of};
 ghost use Rattle.nv_print.specs.Sentences.{select_of};
+ghost use Rattle.nv_script.specs.EachShown.{EachIsShown};
 ghost use Rattle.nv_script.specs.Shown.{feature_set, feature_value, output_of, shown_by};
+ghost use Rattle.nv_script.specs.Shown.{shown_done, shown_number};
 
-use nv_command::Reply;
+use nv_command::{Command, Reply};
 use nv_layout::{Feature, ThreeBits};
-use nv_line::{Ask, OutputFormat};
+use nv_line::{Act, Ask, OutputFormat};
 use nv_print::{Select, Shown, json, text};
 use std::alloc::{AllocError, Global};
 
@@ -36,40 +38,60 @@ fn feature_set<'a>(fid: u8, value: u32, save: bool) -> Option<Shown<'a>>
     })
 }
 
-/// What an ask shows by the last reply to it; nothing where that is no reply to its command.
-pub(crate) fn shown<'a>(ask: &Ask, reply: Reply<'a>) -> Option<Shown<'a>>
-    ensures { result ≡ shown_by ask.now reply.entry }
+/// What is shown by a number: the NSID of a new namespace, or the value of a feature.
+fn shown_number<'a>(ask: &Ask, number: u32) -> Option<Shown<'a>>
+    ensures { result ≡ shown_number ask.now number }
 {
-    match (ask, reply) {
-        (Ask::IdCtrl, Reply::Controller(identity)) => Some(Shown::Controller(identity)),
-        (Ask::ListNs { .. }, Reply::List(nsids)) => Some(Shown::NsList(nsids)),
-        (Ask::IdNs { .. }, Reply::Namespace(namespace)) => Some(Shown::Namespace(namespace)),
-        (Ask::Create { .. }, Reply::Number(nsid)) => Some(Shown::Created { nsid }),
-        (Ask::Attachment { nsid, detach, .. }, Reply::Done) => {
+    match ask {
+        Ask::Do(Act::Send(Command::Create { .. })) => Some(Shown::Created { nsid: number }),
+        Ask::Do(Act::Send(Command::GetFeature { fid, sel, .. })) => {
+            feature_value(*fid, *sel, number)
+        }
+        _ => None,
+    }
+}
+
+/// What is shown where it is done.
+fn shown_done<'a>(ask: &Ask) -> Option<Shown<'a>>
+    ensures { result ≡ shown_done ask.now }
+{
+    match ask {
+        Ask::Do(Act::Send(Command::Attachment { nsid, detach, .. })) => {
             if *detach {
                 Some(Shown::Detached { nsid: *nsid })
             } else {
                 Some(Shown::Attached { nsid: *nsid })
             }
         }
-        (Ask::Delete { nsid }, Reply::Done) => Some(Shown::Deleted { nsid: *nsid }),
-        (Ask::Format { nsid, .. }, Reply::Done) => Some(Shown::Formatted { nsid: *nsid }),
-        (Ask::GetFeature { fid, sel, .. }, Reply::Number(value)) => feature_value(
-            *fid, *sel, value,
-        ),
-        (
-            Ask::SetFeature {
-                fid,
-                value,
-                save,
-                ..
-            },
-            Reply::Done,
+        Ask::Do(Act::Send(Command::Delete { nsid })) => Some(Shown::Deleted { nsid: *nsid }),
+        Ask::Do(Act::Send(Command::Format { nsid, .. })) => Some(Shown::Formatted { nsid: *nsid }),
+        Ask::Do(
+            Act::Send(
+                Command::SetFeature {
+                    fid,
+                    value,
+                    save,
+                    ..
+                },
+            ),
         ) => feature_set(*fid, *value, *save),
-        (Ask::SmartLog { .. }, Reply::Smart(smart)) => Some(Shown::Smart(smart)),
-        (Ask::ErrorLog { .. }, Reply::Errors(errors)) => Some(Shown::Errors(errors)),
-        (Ask::Reset, Reply::Done) => Some(Shown::Reset),
+        Ask::Do(Act::Reset) => Some(Shown::Reset),
         _ => None,
+    }
+}
+
+/// What an ask shows by the last reply to it.
+pub(crate) fn shown<'a>(ask: &Ask, reply: Reply<'a>) -> Option<Shown<'a>>
+    ensures { result ≡ shown_by ask.now reply.entry }
+{
+    match reply {
+        Reply::Controller(identity) => Some(Shown::Controller(identity)),
+        Reply::List(nsids) => Some(Shown::NsList(nsids)),
+        Reply::Namespace(namespace) => Some(Shown::Namespace(namespace)),
+        Reply::Smart(smart) => Some(Shown::Smart(smart)),
+        Reply::Errors(errors) => Some(Shown::Errors(errors)),
+        Reply::Number(number) => shown_number(ask, number),
+        Reply::Done => shown_done(ask),
     }
 }
 
@@ -91,3 +113,9 @@ pub(crate) fn write(
         text(alloc, &shown)
     }
 }
+
+/// Whatever is accepted is shown: a query of which no order is refused shows something, and `list`
+/// each namespace that is attached to each controller. It does nothing when it is called.
+pub fn each_is_shown()
+    ensures { EachIsShown }
+{}

@@ -2,6 +2,7 @@
 
 ghost use Rattle.std.specs.Prelude.{◌≡◌, ◌+◌, ◌^◌, ◌<◌, ◌≤◌, length, is_none, IfSome, unwrap_or};
 ghost use Rattle.std.specs.Prelude.{false};
+ghost use Rattle.nv_script.specs.Limits.{read_size};
 ghost use Rattle.nv_script.specs.Streams.{Gives, IsFresh, SinkState, SourceState, Takes, is_end};
 ghost use Rattle.nv_script.specs.Streams.{is_failure};
 
@@ -19,7 +20,7 @@ pub trait Source {
     /// buffer has 1 to 4,096 bytes, and no read follows an end or an error.
     fn read(&mut self, buf: &mut [u8]) -> Option<usize>
         requires some { 0 < length buf.old }
-        requires most { length buf.old ≤ READ_SIZE }
+        requires most { length buf.old ≤ read_size }
         requires not_failed { (state self.old).has_failed ≡ false }
         requires not_ended { (state self.old).has_ended ≡ false }
         requires room_for_call { (state self.old).calls + 1 < 2 ^ 64 }

@@ -1,7 +1,7 @@
 //! Lines of any bytes, as long as a line may be and longer, and very long words.
 
 use crate::rows::{Row, leaves};
-use nv_script::{LineFault, OptionName, read_line};
+use nv_script::{CtrlList, LineFault, OptionName, read_line};
 use nv_subsystem::DEMO;
 use std::alloc::{AllocError, Global};
 use std::test::Fail;
@@ -68,7 +68,8 @@ fn reads_words_of_4000_bytes(rt: HostRuntime) -> Result<(), Fail> {
         ("list-ns /dev/nvme0 -n 0x", "f", nsid),
     ] {
         let line = repeated(alloc, first, text, 4000)?;
-        let said = read_line(alloc, line.as_bytes(), 2);
+        let mut place = CtrlList::new();
+        let said = read_line(alloc, line.as_bytes(), 2, &mut place);
         assert!(&rt; said == Err(want), "{first} and 4000 bytes");
     }
     // Leading zeros don't matter.
@@ -98,7 +99,8 @@ fn reads_as_many_controllers_as_a_line_holds(rt: HostRuntime) -> Result<(), Fail
     leaves(&rt, alloc, DEMO, &row)?;
     for more in [2035, 2046, 2047] {
         let list = repeated(alloc, "detach-ns /dev/nvme0n1 -c7", ",7", more)?;
-        let said = read_line(alloc, list.as_bytes(), 2);
+        let mut place = CtrlList::new();
+        let said = read_line(alloc, list.as_bytes(), 2, &mut place);
         assert!(&rt; said == Err(LineFault::TooLong));
     }
     Ok(())

@@ -1,8 +1,10 @@
 //! Lines that are read or refused.
 
 use crate::rows::{Row, leaves};
+use nv_command::Command;
 use nv_script::{
-    Ask, Line, LineFault, OptionName, OutputFormat, Query, Question, Request, read_line,
+    Act, Ask, CtrlList, Line, LineFault, OptionName, OutputFormat, Query, Question, Request,
+    read_line,
 };
 use nv_subsystem::DEMO;
 use std::test::Fail;
@@ -49,24 +51,32 @@ fn holds_lines_of_4095_bytes(rt: HostRuntime) -> Result<(), Fail> {
 }
 
 /// A line that asks one controller something, and wants the answer as text.
-pub(crate) fn question(controller: u16, ask: Ask) -> Line {
+pub(crate) fn question<'a>(controller: u16, ask: Ask<'a>) -> Line<'a> {
     Line::Request(Request {
         query: Query::One(Question { controller, ask }),
         format: OutputFormat::Normal,
     })
 }
 
-/// What a line says to a subsystem with two controllers, if it asks one of them something.
-fn asks(controller: u16, ask: Ask) -> Result<Line, LineFault> {
-    Ok(question(controller, ask))
+/// What a line says to a subsystem with two controllers, if it asks one of them for a command.
+fn sends<'a>(controller: u16, command: Command<'a>) -> Result<Line<'a>, LineFault> {
+    Ok(question(controller, Ask::Do(Act::Send(command))))
 }
 
-fn lists(first: u32, all: bool) -> Result<Line, LineFault> {
-    asks(0, Ask::ListNs { first, all })
+fn lists(after: u32) -> Result<Line<'static>, LineFault> {
+    sends(0, Command::ActiveList { after })
 }
 
-fn identifies(nsid: u32, force: bool) -> Result<Line, LineFault> {
-    asks(0, Ask::IdNs { nsid, force })
+fn lists_all(after: u32) -> Result<Line<'static>, LineFault> {
+    sends(0, Command::AllocatedList { after })
+}
+
+fn identifies(nsid: u32) -> Result<Line<'static>, LineFault> {
+    sends(0, Command::IdentifyNamespace { nsid })
+}
+
+fn identifies_allocated(nsid: u32) -> Result<Line<'static>, LineFault> {
+    sends(0, Command::AllocatedNamespace { nsid })
 }
 
 #[test]
@@ -76,41 +86,26 @@ fn reads_what_a_line_asks(rt: HostRuntime) {
         (" \t", Ok(Line::Skipped)),
         (
             "nvme list-ns /dev/nvme1n2 -a --namespace-id=0x3",
-            asks(
-                1,
-                Ask::ListNs {
-                    first: 3,
-                    all: true,
-                },
-            ),
+            sends(1, Command::AllocatedList { after: 2 }),
         ),
-        ("list-ns /dev/nvme0", lists(1, false)),
-        ("list-ns /dev/nvme0n3", lists(1, false)),
-        ("list-ns -an3 /dev/nvme0", lists(3, true)),
-        ("list-ns /dev/nvme0 -n3", lists(3, false)),
-        ("list-ns /dev/nvme0 -n=3 --all", lists(3, true)),
-        ("list-ns -- /dev/nvme0", lists(1, false)),
-        ("list-ns /dev/nvme0 --", lists(1, false)),
-        ("list-ns /dev/nvme0 -n 010", lists(8, false)),
-        ("list-ns /dev/nvme0 -n 0010", lists(8, false)),
-        (
-            "list-ns /dev/nvme0 -n 0xfFfFfFfF",
-            lists(4_294_967_295, false),
-        ),
-        ("id-ns /dev/nvme0n3", identifies(3, false)),
-        (
-            "id-ns /dev/nvme0n4294967295",
-            identifies(4_294_967_295, false),
-        ),
-        ("id-ns /dev/nvme0n3 -n 2 -f", identifies(2, true)),
-        ("id-ns --force /dev/nvme0 -n 0", identifies(0, true)),
-        ("id-ns /dev/nvme0 -n 00", identifies(0, false)),
-        (
-            "id-ns /dev/nvme0 -n 4294967295",
-            identifies(4_294_967_295, false),
-        ),
+        ("list-ns /dev/nvme0", lists(0)),
+        ("list-ns /dev/nvme0n3", lists(0)),
+        ("list-ns -an3 /dev/nvme0", lists_all(2)),
+        ("list-ns /dev/nvme0 -n3", lists(2)),
+        ("list-ns /dev/nvme0 -n=3 --all", lists_all(2)),
+        ("list-ns -- /dev/nvme0", lists(0)),
+        ("list-ns /dev/nvme0 --", lists(0)),
+        ("list-ns /dev/nvme0 -n 010", lists(7)),
+        ("list-ns /dev/nvme0 -n 0010", lists(7)),
+        ("list-ns /dev/nvme0 -n 0xfFfFfFfF", lists(4_294_967_294)),
+        ("id-ns /dev/nvme0n3", identifies(3)),
+        ("id-ns /dev/nvme0n4294967295", identifies(4_294_967_295)),
+        ("id-ns /dev/nvme0n3 -n 2 -f", identifies_allocated(2)),
+        ("id-ns --force /dev/nvme0 -n 0", identifies_allocated(0)),
+        ("id-ns /dev/nvme0 -n 00", identifies(0)),
+        ("id-ns /dev/nvme0 -n 4294967295", identifies(4_294_967_295)),
     ] {
-        assert!(rt; read_line(rt.alloc(), line.as_bytes(), 2) == want);
+        assert!(rt; read_line(rt.alloc(), line.as_bytes(), 2, &mut CtrlList::new()) == want);
     }
 }
 
@@ -132,7 +127,8 @@ fn refuses_words_that_no_command_takes(rt: HostRuntime) {
         "list-ns /dev/nvme0 --all=",
         "list-ns /dev/nvme9 -n 1 -n 1",
     ] {
-        let said = read_line(rt.alloc(), line.as_bytes(), 2);
+        let mut place = CtrlList::new();
+        let said = read_line(rt.alloc(), line.as_bytes(), 2, &mut place);
         assert!(rt; said == Err(LineFault::Usage));
     }
 }
@@ -152,7 +148,8 @@ fn refuses_devices_before_numbers(rt: HostRuntime) {
         "id-ns /dev/nvme9",
         "id-ns /dev/nvme9 -n x",
     ] {
-        let said = read_line(rt.alloc(), line.as_bytes(), 2);
+        let mut place = CtrlList::new();
+        let said = read_line(rt.alloc(), line.as_bytes(), 2, &mut place);
         assert!(rt; said == Err(LineFault::Device));
     }
 }
@@ -175,7 +172,8 @@ fn refuses_numbers_outside_their_range(rt: HostRuntime) {
         "id-ns /dev/nvme0 -n 0x",
         "id-ns /dev/nvme0 -n 1k",
     ] {
-        let said = read_line(rt.alloc(), line.as_bytes(), 2);
+        let mut place = CtrlList::new();
+        let said = read_line(rt.alloc(), line.as_bytes(), 2, &mut place);
         assert!(rt; said == Err(LineFault::Number(OptionName::NamespaceId)));
     }
 }

@@ -1,19 +1,24 @@
 //! What lines of features and of formats ask, and their faults.
 
 use crate::lines::question;
+use nv_command::Command;
 use nv_layout::{FourBits, ThreeBits};
-use nv_script::{Ask, LineFault, OptionName, read_line};
+use nv_script::{Act, Ask, CtrlList, LineFault, OptionName, read_line};
 use std::alloc::Global;
 use std::process::Abort;
 use std::test::Fail;
 
-/// Checks what a line says to a subsystem with two controllers: it asks controller 0 something.
-fn check(rt: &impl Abort, alloc: Global, line: &str, ask: Ask) {
-    assert_eq!(rt; read_line(alloc, line.as_bytes(), 2), Ok(question(0, ask)));
+/// Checks what a line says to a subsystem with two controllers: a command for controller 0.
+fn check(rt: &impl Abort, alloc: Global, line: &str, command: Command) {
+    let ask = Ask::Do(Act::Send(command));
+    assert_eq!(rt;
+        read_line(alloc, line.as_bytes(), 2, &mut CtrlList::new()),
+        Ok(question(0, ask))
+    );
 }
 
-fn get(fid: u8, sel: u8, nsid: u32, cdw11: u32) -> Ask {
-    Ask::GetFeature {
+fn get(fid: u8, sel: u8, nsid: u32, cdw11: u32) -> Command<'static> {
+    Command::GetFeature {
         fid,
         sel: ThreeBits::low(sel),
         nsid,
@@ -21,8 +26,8 @@ fn get(fid: u8, sel: u8, nsid: u32, cdw11: u32) -> Ask {
     }
 }
 
-fn set(fid: u8, value: u32, save: bool, nsid: u32) -> Ask {
-    Ask::SetFeature {
+fn set(fid: u8, value: u32, save: bool, nsid: u32) -> Command<'static> {
+    Command::SetFeature {
         fid,
         value,
         save,
@@ -80,7 +85,7 @@ fn reads_features(rt: HostRuntime) {
 
 #[test]
 fn reads_formats(rt: HostRuntime) {
-    let plain = Ask::Format {
+    let plain = Command::Format {
         nsid: 3,
         lbaf: FourBits::low(0),
         mset: false,
@@ -89,7 +94,7 @@ fn reads_formats(rt: HostRuntime) {
         ses: ThreeBits::low(0),
     };
     check(&rt, rt.alloc(), "format /dev/nvme0n3 -l 0", plain);
-    let most = Ask::Format {
+    let most = Command::Format {
         nsid: 0xffff_ffff,
         lbaf: FourBits::low(15),
         mset: true,
@@ -99,7 +104,7 @@ fn reads_formats(rt: HostRuntime) {
     };
     let line = "format /dev/nvme0n3 -m 1 -p 0x1 -i 07 -s 6 -l 15 -n 4294967295";
     check(&rt, rt.alloc(), line, most);
-    let long = Ask::Format {
+    let long = Command::Format {
         nsid: 1,
         lbaf: FourBits::low(2),
         mset: true,
@@ -134,7 +139,10 @@ fn refuses_lines_of_features_by_their_first_fault(rt: HostRuntime) {
         ("format /dev/nvme0 -l x", LineFault::Usage),
         ("format /dev/nvme9n1 -l x", LineFault::Device),
     ] {
-        assert_eq!(rt; read_line(rt.alloc(), line.as_bytes(), 2), Err(fault));
+        assert_eq!(rt;
+            read_line(rt.alloc(), line.as_bytes(), 2, &mut CtrlList::new()),
+            Err(fault)
+        );
     }
 }
 
@@ -171,7 +179,10 @@ fn refuses_numbers_of_features(rt: HostRuntime) -> Result<(), Fail> {
         ("format /dev/nvme0n1 -m 2 -p 1 -l 15", OptionName::Ms),
     ] {
         let fault = LineFault::Number(option);
-        assert_eq!(rt; read_line(rt.alloc(), line.as_bytes(), 2), Err(fault));
+        assert_eq!(rt;
+            read_line(rt.alloc(), line.as_bytes(), 2, &mut CtrlList::new()),
+            Err(fault)
+        );
     }
     Ok(())
 }

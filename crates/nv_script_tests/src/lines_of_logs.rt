@@ -1,13 +1,17 @@
 //! What lines of logs ask, and their faults.
 
 use crate::lines::question;
-use nv_script::{Ask, LineFault, OptionName, read_line};
+use nv_command::{Command, DwordCount, HEALTH};
+use nv_script::{Act, Ask, CtrlList, LineFault, OptionName, read_line};
 use std::alloc::Global;
 use std::process::Abort;
 
 /// Checks what a line says to a subsystem with two controllers: it asks controller 0 something.
 fn check(rt: &impl Abort, alloc: Global, line: &str, ask: Ask) {
-    assert_eq!(rt; read_line(alloc, line.as_bytes(), 2), Ok(question(0, ask)));
+    assert_eq!(rt;
+        read_line(alloc, line.as_bytes(), 2, &mut CtrlList::new()),
+        Ok(question(0, ask))
+    );
 }
 
 #[test]
@@ -20,7 +24,13 @@ fn reads_logs(rt: HostRuntime) {
         ("smart-log /dev/nvme0n3 --namespace-id=0xffffffff", all),
         ("smart-log --namespace-id 1 /dev/nvme0", 1),
     ] {
-        check(&rt, rt.alloc(), line, Ask::SmartLog { nsid });
+        let log = Command::GetLog {
+            lid: HEALTH,
+            nsid,
+            offset: 0,
+            dwords: DwordCount::from_zeros_based(127),
+        };
+        check(&rt, rt.alloc(), line, Ask::Do(Act::Send(log)));
     }
     for (line, entries) in [
         ("error-log /dev/nvme0", 64),
@@ -53,6 +63,9 @@ fn tells_their_faults(rt: HostRuntime) {
         ("smart-log", LineFault::Usage),
         ("error-log /dev/nvme2", LineFault::Device),
     ] {
-        assert_eq!(rt; read_line(rt.alloc(), line.as_bytes(), 2), Err(fault));
+        assert_eq!(rt;
+            read_line(rt.alloc(), line.as_bytes(), 2, &mut CtrlList::new()),
+            Err(fault)
+        );
     }
 }

@@ -1,28 +1,25 @@
 //! What lines of namespace management ask, and their faults.
 
-ghost use Rattle.std.specs.Prelude.{◌≤◌, length};
-
 use crate::lines::question;
-use nv_script::{Ask, ControllerList, LineFault, OptionName, read_line};
-use std::alloc::{AllocError, Global};
+use nv_command::Command;
+use nv_layout::ControllerIds;
+use nv_script::{Act, Ask, CtrlList, LineFault, OptionName, read_line};
+use std::alloc::Global;
 use std::process::Abort;
 use std::test::Fail;
 
-/// Checks what a line says to a subsystem with two controllers: it asks controller 0 something.
-fn check(rt: &impl Abort, alloc: Global, line: &str, ask: Ask) {
-    assert_eq!(rt; read_line(alloc, line.as_bytes(), 2), Ok(question(0, ask)));
-}
-
-/// A list of these identifiers.
-fn list(alloc: Global, identifiers: &[u16]) -> Result<ControllerList, AllocError>
-    requires { length identifiers.now ≤ 2047 }
-{
-    Ok(ControllerList::new(identifiers.to_vec(alloc)?))
+/// Checks what a line says to a subsystem with two controllers: a command for controller 0.
+fn check(rt: &impl Abort, alloc: Global, line: &str, command: Command) {
+    let ask = Ask::Do(Act::Send(command));
+    assert_eq!(rt;
+        read_line(alloc, line.as_bytes(), 2, &mut CtrlList::new()),
+        Ok(question(0, ask))
+    );
 }
 
 #[test]
 fn reads_namespaces_to_create(rt: HostRuntime) {
-    let none = Ask::Create {
+    let none = Command::Create {
         nsze: 0,
         ncap: 0,
         flbas: 0,
@@ -30,7 +27,7 @@ fn reads_namespaces_to_create(rt: HostRuntime) {
         nmic: 0,
     };
     check(&rt, rt.alloc(), "create-ns /dev/nvme0", none);
-    let most = Ask::Create {
+    let most = Command::Create {
         nsze: u64::MAX,
         ncap: u64::MAX,
         flbas: 255,
@@ -43,7 +40,7 @@ fn reads_namespaces_to_create(rt: HostRuntime) {
         "create-ns /dev/nvme0 -s 18446744073709551615 -c 0xffffffffffffffff -f 255 -d 0377 -m 0xff",
         most,
     );
-    let each = Ask::Create {
+    let each = Command::Create {
         nsze: 1,
         ncap: 2,
         flbas: 3,
@@ -59,11 +56,11 @@ fn reads_namespaces_to_create(rt: HostRuntime) {
 }
 
 #[test]
-fn reads_attachments_and_deletions(rt: HostRuntime) -> Result<(), Fail> {
-    let attach = Ask::Attachment {
+fn reads_attachments_and_deletions(rt: HostRuntime) {
+    let attach = Command::Attachment {
         nsid: 3,
         detach: false,
-        controllers: list(rt.alloc(), &[1, 0, 0, 65535])?,
+        list: ControllerIds::new(&[1, 0, 0, 65535]),
     };
     check(
         &rt,
@@ -71,10 +68,10 @@ fn reads_attachments_and_deletions(rt: HostRuntime) -> Result<(), Fail> {
         "attach-ns /dev/nvme0 -n 3 -c 1,0,00,0xffff",
         attach,
     );
-    let detach = Ask::Attachment {
+    let detach = Command::Attachment {
         nsid: 4,
         detach: true,
-        controllers: list(rt.alloc(), &[8])?,
+        list: ControllerIds::new(&[8]),
     };
     check(
         &rt,
@@ -82,7 +79,7 @@ fn reads_attachments_and_deletions(rt: HostRuntime) -> Result<(), Fail> {
         "detach-ns /dev/nvme0n4 --controllers=010",
         detach,
     );
-    let delete = Ask::Delete { nsid: 0xffff_ffff };
+    let delete = Command::Delete { nsid: 0xffff_ffff };
     check(
         &rt,
         rt.alloc(),
@@ -93,9 +90,8 @@ fn reads_attachments_and_deletions(rt: HostRuntime) -> Result<(), Fail> {
         &rt,
         rt.alloc(),
         "delete-ns /dev/nvme0n1",
-        Ask::Delete { nsid: 1 },
+        Command::Delete { nsid: 1 },
     );
-    Ok(())
 }
 
 #[test]
@@ -106,16 +102,19 @@ fn reads_a_long_list(rt: HostRuntime) -> Result<(), Fail> {
     for _ in 0..2033 {
         line.extend_from_slice(b",7")?;
     }
-    let ask = Ask::Attachment {
+    let ask = Ask::Do(Act::Send(Command::Attachment {
         nsid: 1,
         detach: false,
-        controllers: list(rt.alloc(), &[7; 2034])?,
-    };
-    assert_eq!(rt; read_line(alloc, &line, 2), Ok(question(0, ask)));
+        list: ControllerIds::new(&[7; 2034]),
+    }));
+    assert_eq!(rt;
+        read_line(alloc, &line, 2, &mut CtrlList::new()),
+        Ok(question(0, ask))
+    );
     // The last item is empty.
     line.extend_from_slice(b",")?;
     let empty = Err(LineFault::Number(OptionName::Controllers));
-    assert_eq!(rt; read_line(alloc, &line, 2), empty);
+    assert_eq!(rt; read_line(alloc, &line, 2, &mut CtrlList::new()), empty);
     Ok(())
 }
 
@@ -132,7 +131,10 @@ fn refuses_lines_of_management_by_their_first_fault(rt: HostRuntime) {
         ("attach-ns /dev/nvme9 -n x -c x", LineFault::Device),
         ("delete-ns /dev/nvme9", LineFault::Device),
     ] {
-        assert_eq!(rt; read_line(rt.alloc(), line.as_bytes(), 2), Err(fault));
+        assert_eq!(rt;
+            read_line(rt.alloc(), line.as_bytes(), 2, &mut CtrlList::new()),
+            Err(fault)
+        );
     }
 }
 
@@ -164,6 +166,9 @@ fn refuses_numbers_of_management(rt: HostRuntime) {
         ),
     ] {
         let fault = LineFault::Number(option);
-        assert_eq!(rt; read_line(rt.alloc(), line.as_bytes(), 2), Err(fault));
+        assert_eq!(rt;
+            read_line(rt.alloc(), line.as_bytes(), 2, &mut CtrlList::new()),
+            Err(fault)
+        );
     }
 }

@@ -1,14 +1,26 @@
 //! Lines that say how the answer is written, and those of `id-ctrl` and `list`.
 
 use crate::lines::question;
+use nv_command::{Command, DwordCount, HEALTH};
 use nv_script::{
-    Ask, Line, LineFault, OptionName, OutputFormat, Query, Question, Request, read_line,
+    Act, Ask, CtrlList, Line, LineFault, OptionName, OutputFormat, Query, Question, Request,
+    read_line,
 };
 use std::alloc::Global;
 use std::process::Abort;
 
+/// The whole health log of all namespaces.
+fn health() -> Ask<'static> {
+    Ask::Do(Act::Send(Command::GetLog {
+        lid: HEALTH,
+        nsid: 0xffff_ffff,
+        offset: 0,
+        dwords: DwordCount::from_zeros_based(127),
+    }))
+}
+
 /// A line that asks all controllers for their namespaces.
-fn listing(format: OutputFormat) -> Line {
+fn listing(format: OutputFormat) -> Line<'static> {
     Line::Request(Request {
         query: Query::List,
         format,
@@ -22,7 +34,10 @@ fn check_json(rt: &impl Abort, alloc: Global, line: &str, ask: Ask) {
         query: Query::One(Question { controller: 0, ask }),
         format: OutputFormat::Json,
     });
-    assert_eq!(rt; read_line(alloc, line.as_bytes(), 2), Ok(want));
+    assert_eq!(rt;
+        read_line(alloc, line.as_bytes(), 2, &mut CtrlList::new()),
+        Ok(want)
+    );
 }
 
 #[test]
@@ -38,7 +53,7 @@ fn reads_list(rt: HostRuntime) {
         ("list -o=json", OutputFormat::Json),
     ] {
         assert_eq!(rt;
-            read_line(rt.alloc(), line.as_bytes(), 2),
+            read_line(rt.alloc(), line.as_bytes(), 2, &mut CtrlList::new()),
             Ok(listing(format))
         );
     }
@@ -51,37 +66,41 @@ fn reads_identified_controllers(rt: HostRuntime) {
         ("id-ctrl /dev/nvme1n3", 1),
         ("nvme id-ctrl -o normal /dev/nvme1", 1),
     ] {
-        let want = question(controller, Ask::IdCtrl);
-        assert_eq!(rt; read_line(rt.alloc(), line.as_bytes(), 2), Ok(want));
+        let want = question(controller, Ask::Do(Act::Send(Command::IdentifyController)));
+        assert_eq!(rt;
+            read_line(rt.alloc(), line.as_bytes(), 2, &mut CtrlList::new()),
+            Ok(want)
+        );
     }
 }
 
 #[test]
 fn reads_the_output_format(rt: HostRuntime) {
     let alloc = rt.alloc();
-    let all = 0xffff_ffff;
-    let log = question(0, Ask::SmartLog { nsid: all });
+    let log = question(0, health());
     assert_eq!(rt;
-        read_line(alloc, b"smart-log /dev/nvme0 -o normal", 2),
+        read_line(
+            alloc,
+            b"smart-log /dev/nvme0 -o normal",
+            2,
+            &mut CtrlList::new()
+        ),
         Ok(log)
     );
     for (line, ask) in [
-        ("id-ctrl /dev/nvme0 -o json", Ask::IdCtrl),
+        (
+            "id-ctrl /dev/nvme0 -o json",
+            Ask::Do(Act::Send(Command::IdentifyController)),
+        ),
         (
             "id-ns -fo json /dev/nvme0n3",
-            Ask::IdNs {
-                nsid: 3,
-                force: true,
-            },
+            Ask::Do(Act::Send(Command::AllocatedNamespace { nsid: 3 })),
         ),
         (
             "list-ns -ojson /dev/nvme0 -a",
-            Ask::ListNs {
-                first: 1,
-                all: true,
-            },
+            Ask::Do(Act::Send(Command::AllocatedList { after: 0 })),
         ),
-        ("smart-log /dev/nvme0 -o=json", Ask::SmartLog { nsid: all }),
+        ("smart-log /dev/nvme0 -o=json", health()),
         (
             "error-log --output-format json /dev/nvme0 -e 2",
             Ask::ErrorLog { entries: 2 },
@@ -110,7 +129,7 @@ fn tells_other_output_formats(rt: HostRuntime) {
         "error-log /dev/nvme0 -o=xml",
     ] {
         assert_eq!(rt;
-            read_line(rt.alloc(), line.as_bytes(), 2),
+            read_line(rt.alloc(), line.as_bytes(), 2, &mut CtrlList::new()),
             Err(LineFault::Usage)
         );
     }
@@ -137,7 +156,7 @@ fn tells_words_that_they_do_not_take(rt: HostRuntime) {
         "set-feature /dev/nvme0 -f 6 -v 1 -o json",
     ] {
         assert_eq!(rt;
-            read_line(rt.alloc(), line.as_bytes(), 2),
+            read_line(rt.alloc(), line.as_bytes(), 2, &mut CtrlList::new()),
             Err(LineFault::Usage)
         );
     }
@@ -159,6 +178,9 @@ fn tells_the_output_format_before_the_device_and_numbers(rt: HostRuntime) {
         ("id-ns /dev/nvme0 -o json", LineFault::Usage),
         ("list-ns /dev/nvme0n0 -n x -o json", LineFault::Device),
     ] {
-        assert_eq!(rt; read_line(rt.alloc(), line.as_bytes(), 2), Err(fault));
+        assert_eq!(rt;
+            read_line(rt.alloc(), line.as_bytes(), 2, &mut CtrlList::new()),
+            Err(fault)
+        );
     }
 }

@@ -4,7 +4,7 @@
 ghost use Rattle.std.specs.Prelude.{◌≤◌, length};
 
 use nv_controller::Machine;
-use nv_script::{Geometry, OverRead, OverWrite, RunEnd, run};
+use nv_script::{Geometry, OverRead, OverWrite, Retrying, RunEnd, run};
 use nv_subsystem::{DEMO, Subsystem};
 use std::cmp;
 use std::io::{self, ErrorKind, Read, Write};
@@ -207,5 +207,38 @@ fn tries_no_failing_write_again(rt: HostRuntime) -> Result<(), Fail> {
         assert!(rt; &out.bytes[..7] == "[   0]:".as_bytes());
         assert!(rt; messages.into_inner().calls == 0);
     }
+    Ok(())
+}
+
+#[test]
+fn writes_again_after_interrupted_writes(rt: HostRuntime) -> Result<(), Fail> {
+    let alloc = rt.alloc();
+    let turns = [
+        Turn::Fails,
+        Turn::Takes(7),
+        Turn::Fails,
+        Turn::Fails,
+        Turn::Takes(64),
+    ];
+    let mut output = TurnWriter::new(&turns);
+    let mut told = TurnWriter::new(&turns);
+    let subsystem = Subsystem::from_toml(alloc, DEMO.as_bytes())?;
+    let mut machine = Machine::new(alloc, subsystem)?;
+    let mut script = OverRead::new(b"list-ns /dev/nvme0\nbogus\n".as_slice());
+    let mut out = OverWrite::new(Retrying::new(&mut output));
+    let mut messages = OverWrite::new(Retrying::new(&mut told));
+    let end = run(
+        alloc,
+        &mut machine,
+        Geometry::default(),
+        &mut script,
+        &mut out,
+        &mut messages,
+    );
+    assert!(rt; end == RunEnd::Status(1));
+    assert!(rt; output.calls == 5 && output.len == 22);
+    assert!(rt; &output.bytes[..22] == "[   0]:0x1\n[   1]:0x3\n".as_bytes());
+    assert!(rt; told.calls == 5 && told.len == 20);
+    assert!(rt; &told.bytes[..20] == "line 2: usage error\n".as_bytes());
     Ok(())
 }

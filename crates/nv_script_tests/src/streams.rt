@@ -61,7 +61,8 @@ impl<'a> Source for PieceSource<'a> {
     }
 }
 
-/// A sink that takes seven bytes, one a write. Then it fails: it takes none, or answers an error.
+/// A sink that takes seven bytes at most, one a write. Then it fails: it takes none, or answers an
+/// error.
 #[derive(Drop)]
 struct CutSink {
     bytes: [u8; 7],
@@ -97,6 +98,21 @@ impl Sink for CutSink {
         self.bytes[self.len] = bytes[0];
         self.len += 1;
         Some(1)
+    }
+}
+
+impl CutSink {
+    /// One that fails at once.
+    fn full() -> CutSink
+        ensures { (⟦<CutSink as Sink>⟧.state result).has_failed ≡ false }
+    {
+        CutSink {
+            bytes: [0; 7],
+            len: 7,
+            takes_none: false,
+            failed: false,
+            calls: 0,
+        }
     }
 }
 
@@ -198,6 +214,60 @@ fn leaves_a_beginning_of_the_output(rt: HostRuntime) -> Result<(), Fail> {
     }
     let second = second_version(rt.alloc(), DEMO)?;
     expect_cut_output(&rt, rt.alloc(), second.as_str(), Geometry::default(), true)
+}
+
+/// A script in pieces, over an output that fails at once: how many bytes were given.
+fn given_before_a_full_output(
+    rt: &impl Abort,
+    alloc: Global,
+    pieces: &[&[u8]],
+) -> Result<u64, Fail> {
+    let subsystem = Subsystem::from_toml(alloc, DEMO.as_bytes())?;
+    let mut machine = Machine::new(alloc, subsystem)?;
+    let mut script = PieceSource::new(pieces);
+    let mut out = CutSink::full();
+    let mut messages = OverWrite::new(Vec::new(alloc));
+    let end = run(
+        alloc,
+        &mut machine,
+        Geometry::default(),
+        &mut script,
+        &mut out,
+        &mut messages,
+    );
+    assert!(rt; end == RunEnd::OutWrite);
+    assert!(rt; out.calls == 1);
+    assert!(rt; messages.into_inner().is_empty());
+    Ok(script.given)
+}
+
+/// After a failing write in a line of 22 bytes, 4,095 bytes past it were read at most: the rest of
+/// the piece in which its newline came.
+#[test]
+fn reads_no_more_than_a_piece_past_a_failing_write(rt: HostRuntime) -> Result<(), Fail> {
+    let alloc = rt.alloc();
+    let line: &[u8] = b"id-ns /dev/nvme0 -n 1";
+    let mut rest = Vec::new(alloc);
+    rest.push(b'\n')?;
+    for _ in 0..5000 {
+        rest.extend_from_slice(b"# what stands here.\n")?;
+    }
+    assert_eq!(rt; (line.len(), rest.len()), (21, 100_001));
+    let mut pieces: Vec<&[u8]> = Vec::new(alloc);
+    pieces.push(line)?;
+    for piece in rest.chunks(4096) {
+        pieces.push(piece)?;
+    }
+    assert_eq!(rt; given_before_a_full_output(&rt, alloc, &pieces)?, 4117);
+    let mut whole = Vec::new(alloc);
+    whole.extend_from_slice(line)?;
+    whole.extend_from_slice(&rest)?;
+    let mut pieces: Vec<&[u8]> = Vec::new(alloc);
+    for piece in whole.chunks(4096) {
+        pieces.push(piece)?;
+    }
+    assert_eq!(rt; given_before_a_full_output(&rt, alloc, &pieces)?, 4096);
+    Ok(())
 }
 
 #[test]

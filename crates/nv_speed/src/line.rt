@@ -9,7 +9,7 @@ use crate::machines::{ORIGIN, demo, machine_of};
 use crate::script_run::{Written, time_run};
 use nv_command::{Command, ReplyRoom};
 use nv_driver::{AnswerSlot, Driver, Geometry};
-use nv_script::read_line;
+use nv_script::{CtrlList, read_line};
 use std::io::{self, ErrorKind};
 use std::time::{Duration, Instant};
 
@@ -67,9 +67,10 @@ fn time_lines(
 /// What it takes to read a line so many times.
 fn time_readings(rt: &HostRuntime, line: &str) -> io::Result<Duration> {
     let line = line.trim_end().as_bytes();
+    let mut place = CtrlList::new();
     let start = Instant::now(rt)?;
     for round in 0..LINES {
-        let _ = read_line(rt.alloc(), line, CONTROLLERS);
+        let _ = read_line(rt.alloc(), line, CONTROLLERS, &mut place);
     }
     start.elapsed(rt)
 }

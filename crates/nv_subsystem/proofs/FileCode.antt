@@ -44,6 +44,15 @@ rules_within f h k d b =
     (omega (arith, length-map cs controller_entry_view)) in
     subst (λ c. All IsFeatureRule c.rules) at is.rules
 
+pub mdts_within : (f : File) → IsFile (file_view f)
+    → All (λ e. e.identity.numbers.mdts ≤ 8) f.controllers.items
+mdts_within f h k d b =
+    let cs = f.controllers.items in
+    let at = get_or-map controller_entry_view cs k d (controller_entry_view d) b in
+    let is = h.controllers k (controller_entry_view d)
+    (omega (arith, length-map cs controller_entry_view)) in
+    subst (λ c. c.identity.numbers.mdts ≤ 8) at is.identity.numbers.mdts.1
+
 pub is_sound : (f : File) (slots : RangeMap Namespace) (cs : List Controller) → IsFile (file_view f)
     → slots ≡ record { first = 1; count = f.nn; values = (state_of (file_view f)).namespaces }
     → map controller_view cs ≡ map (controller_of (map namespace_entry_view f.namespaces.items))

@@ -51,52 +51,77 @@ later : (n : NamespaceValue) (ns : List NamespaceValue) → Distinct (n ∷ ns) 
 unfolding Distinct
 later n ns h = λ i j d a b. h (suc i) (suc j) d (omega arith) (omega arith)
 
-alone : (n : NamespaceValue) (ns : List NamespaceValue) (q : ℕ) → Distinct (n ∷ ns) → (q == n.nsid) ≡ true → entry_at ns q ≡ None
+alone : (n : NamespaceValue) (ns : List NamespaceValue) (q : ℕ) → Distinct (n ∷ ns)
+    → (q == n.nsid) ≡ true → entry_at ns q ≡ None
 unfolding Distinct
-alone n ns q h e = absent ns q (λ k d b. subst (λ m. m ≢ (get_or ns k d).nsid) (sym (is_nsid q n.nsid e)) (h zero (suc k) d (omega arith) (omega arith)))
+alone n ns q h e = absent ns q (λ k d b. subst (λ m. m ≢ (get_or ns k d).nsid)
+    (sym (is_nsid q n.nsid e)) (h zero (suc k) d (omega arith) (omega arith)))
 
 -- what the map of a file's namespaces has
-found_at : (m : Namespaces) (n : NamespaceValue) (ns : List NamespaceValue) (q : ℕ) (t : Bool) → (q == n.nsid) ≡ t → Distinct (n ∷ ns)
-    → or_else (entry_at ns q) (cond t (Some n.namespace) (map_of.get m q)) ≡ or_else (cond t (Some n) (entry_at ns q)) (map_of.get m q)
+found_at : (m : Namespaces) (n : NamespaceValue) (ns : List NamespaceValue) (q : ℕ) (t : Bool)
+    → (q == n.nsid) ≡ t → Distinct (n ∷ ns)
+    → or_else (entry_at ns q) (cond t (Some n.namespace) (map_of.get m q)) ≡ or_else
+    (cond t (Some n) (entry_at ns q)) (map_of.get m q)
 found_at m n ns q true e d = ap (λ o. or_else o (Some n.namespace)) (alone n ns q d e)
 found_at m n ns q false e d = refl
 
-found : (m : Namespaces) (ns : List NamespaceValue) (q : ℕ) → Distinct ns → map_of.get (fold with_namespace m ns) q ≡ or_else (entry_at ns q) (map_of.get m q)
+found : (m : Namespaces) (ns : List NamespaceValue) (q : ℕ) → Distinct ns
+    → map_of.get (fold with_namespace m ns) q ≡ or_else (entry_at ns q) (map_of.get m q)
 unfolding entry_at
 found m [] q d = refl
 found m (n ∷ ns) q d =
-    found (with_namespace m n) ns q (later n ns d) ∙ ap (or_else (entry_at ns q)) (get_of_insert m n.nsid n.namespace q) ∙ found_at m n ns q (q == n.nsid) refl d
+    found (with_namespace m n) ns q (later n ns d)
+    ∙ ap (or_else (entry_at ns q)) (get_of_insert m n.nsid n.namespace q)
+    ∙ found_at m n ns q (q == n.nsid) refl d
 
 -- which NSIDs are attached to a controller
-marked_one : (m : Nsids) (n : NamespaceValue) (cntlid q : ℕ) (t : Bool) → is_attached_to cntlid n ≡ t → is_some (map_of.get (if t then map_of.insert m n.nsid tt else m) q) ≡ (cond (q == n.nsid) t false || is_some (map_of.get m q))
-marked_one m n cntlid q true e = ap is_some (get_of_insert m n.nsid tt q) ∙ (elim (q == n.nsid) as (λ b. is_some (cond b (Some tt) (map_of.get m q)) ≡ (cond b true false || is_some (map_of.get m q))) [ true ↦ refl | false ↦ refl ])
-marked_one m n cntlid q false e = elim (q == n.nsid) as (λ b. is_some (map_of.get m q) ≡ (cond b false false || is_some (map_of.get m q))) [ true ↦ refl | false ↦ refl ]
+marked_one : (m : Nsids) (n : NamespaceValue) (cntlid q : ℕ) (t : Bool)
+    → is_attached_to cntlid n ≡ t → is_some (map_of.get (if t then map_of.insert m n.nsid tt else m)
+    q) ≡ (cond (q == n.nsid) t false || is_some (map_of.get m q))
+marked_one m n cntlid q true e = ap is_some (get_of_insert m n.nsid tt q)
+    ∙ (elim (q == n.nsid) as (λ b. is_some (cond b (Some tt) (map_of.get m q)) ≡
+    (cond b true false || is_some (map_of.get m q))) [ true ↦ refl | false ↦ refl ])
+marked_one m n cntlid q false e = elim (q == n.nsid)
+    as (λ b. is_some (map_of.get m q) ≡ (cond b false false || is_some (map_of.get m q)))
+    [ true ↦ refl | false ↦ refl ]
 
-marked_at : (n : NamespaceValue) (ns : List NamespaceValue) (cntlid q : ℕ) (held t : Bool) → (q == n.nsid) ≡ t → Distinct (n ∷ ns)
-    → (says (is_attached_to cntlid) (entry_at ns q) || (cond t (is_attached_to cntlid n) false || held)) ≡ (says (is_attached_to cntlid) (cond t (Some n) (entry_at ns q)) || held)
-marked_at n ns cntlid q held true e d = ap (λ o. says (is_attached_to cntlid) o || (is_attached_to cntlid n || held)) (alone n ns q d e)
+marked_at : (n : NamespaceValue) (ns : List NamespaceValue) (cntlid q : ℕ) (held t : Bool)
+    → (q == n.nsid) ≡ t → Distinct (n ∷ ns)
+    → (says (is_attached_to cntlid) (entry_at ns q) ||
+    (cond t (is_attached_to cntlid n) false || held)) ≡
+    (says (is_attached_to cntlid) (cond t (Some n) (entry_at ns q)) || held)
+marked_at n ns cntlid q held true e d = ap (λ o.
+    says (is_attached_to cntlid) o || (is_attached_to cntlid n || held)) (alone n ns q d e)
 marked_at n ns cntlid q held false e d = refl
 
-marked : (m : Nsids) (ns : List NamespaceValue) (cntlid q : ℕ) → Distinct ns → map_of.contains_key (fold (with_attachment cntlid) m ns) q ≡ (says (is_attached_to cntlid) (entry_at ns q) || map_of.contains_key m q)
+marked : (m : Nsids) (ns : List NamespaceValue) (cntlid q : ℕ) → Distinct ns
+    → map_of.contains_key (fold (with_attachment cntlid) m ns) q ≡
+    (says (is_attached_to cntlid) (entry_at ns q) || map_of.contains_key m q)
 unfolding entry_at
 marked m [] cntlid q d = refl
 marked m (n ∷ ns) cntlid q d =
     marked (with_attachment cntlid m n) ns cntlid q (later n ns d)
-    ∙ ap (λ b. says (is_attached_to cntlid) (entry_at ns q) || b) (marked_one m n cntlid q (is_attached_to cntlid n) refl)
+    ∙ ap (λ b. says (is_attached_to cntlid) (entry_at ns q) || b)
+    (marked_one m n cntlid q (is_attached_to cntlid n) refl)
     ∙ marked_at n ns cntlid q (is_some (map_of.get m q)) (q == n.nsid) refl d
 
 -- what holds of each namespace of the file holds of the one with an NSID, which has that NSID
-at_nsid : (P : NamespaceValue → Type 0) (ns : List NamespaceValue) (q : ℕ) (e : NamespaceValue) → All P ns → entry_at ns q ≡ Some e → P e × (e.nsid ≡ q)
+at_nsid : (P : NamespaceValue → Type 0) (ns : List NamespaceValue) (q : ℕ) (e : NamespaceValue)
+    → All P ns → entry_at ns q ≡ Some e → P e × (e.nsid ≡ q)
 unfolding entry_at
 at_nsid P [] q e all is = absurd (cc is)
 at_nsid P (n ∷ ns) q e all is = at_test (q == n.nsid) refl is (at_nsid P ns q e (λ k d b. all (suc k) d (omega arith)))
   where
-    at_test : (t : Bool) → (q == n.nsid) ≡ t → ◌≡◌ {A = Option NamespaceValue} (cond t (Some n) (entry_at ns q)) (Some e) → (entry_at ns q ≡ Some e → P e × (e.nsid ≡ q)) → P e × (e.nsid ≡ q)
-    at_test true h w rest = let same : n ≡ e = cc w in subst (λ x. P x × (x.nsid ≡ q)) same (all zero n (omega arith), sym (is_nsid q n.nsid h))
+    at_test : (t : Bool) → (q == n.nsid) ≡ t → ◌≡◌ {A = Option NamespaceValue}
+        (cond t (Some n) (entry_at ns q)) (Some e) → (entry_at ns q ≡ Some e → P e × (e.nsid ≡ q))
+        → P e × (e.nsid ≡ q)
+    at_test true h w rest = let same : n ≡ e = cc w
+        in subst (λ x. P x × (x.nsid ≡ q)) same (all zero n (omega arith), sym (is_nsid q n.nsid h))
     at_test false h w rest = rest w
 
 -- a list of one number at most attaches to one controller at most
-one_number : (zs : List ℤ) (a b : ℕ) → length zs ≤ 1 → list_any (λ z. int_eq z (pos a)) zs ≡ true → list_any (λ z. int_eq z (pos b)) zs ≡ true → a ≡ b
+one_number : (zs : List ℤ) (a b : ℕ) → length zs ≤ 1 → list_any (λ z. int_eq z (pos a)) zs ≡ true
+    → list_any (λ z. int_eq z (pos b)) zs ≡ true → a ≡ b
 one_number [] a b h i j = absurd (cc i)
 one_number (z ∷ []) a b h i j = same (sym (is_number z a i) ∙ is_number z b j)
   where
@@ -113,13 +138,16 @@ one_number (z ∷ y ∷ zs) a b h i j = absurd (omega arith)
 
 -- ---- at most one of them
 
-one_passes : {X : Type 0} (p : X → Bool) (xs : List X) → AllPairs (λ x y. p x ≡ true → p y ≡ true → ⊥) xs → count_by p xs ≤ 1
+one_passes : {X : Type 0} (p : X → Bool) (xs : List X)
+    → AllPairs (λ x y. p x ≡ true → p y ≡ true → ⊥) xs → count_by p xs ≤ 1
 one_passes p [] h = omega arith
-one_passes p (x ∷ xs) h = at_test (p x) refl (one_passes p xs (λ i j d a b. h (suc i) (suc j) d (omega arith) (omega arith)))
+one_passes p (x ∷ xs) h = at_test (p x) refl (one_passes p xs
+    (λ i j d a b. h (suc i) (suc j) d (omega arith) (omega arith)))
   where
     at_test : (t : Bool) → p x ≡ t → count_by p xs ≤ 1 → count_by p (x ∷ xs) ≤ 1
     at_test true e rest =
-        let none = none_pass p xs (λ k d b. untrue (p (get_or xs k d)) (h zero (suc k) d (omega arith) (omega arith) e)) in
+        let none = none_pass p xs (λ k d b. untrue (p (get_or xs k d))
+        (h zero (suc k) d (omega arith) (omega arith) e)) in
         let one : ◌≡◌ {A = ℕ} (cond (p x) 1 0) 1 = ap (λ b. cond b 1 0) e in
         omega (arith, sum_by-cons (λ x. cond (p x) 1 0) x xs, none, one)
     at_test false e rest =
@@ -129,7 +157,8 @@ one_passes p (x ∷ xs) h = at_test (p x) refl (one_passes p xs (λ i j d a b. h
 -- ---- the state
 
 -- what the state has under an NSID
-namespaces_of : (ns : List NamespaceValue) (q : ℕ) → AllPairs (λ a b. a.nsid ≢ b.nsid) ns → map_of.get (fold with_namespace map_of.empty ns) q ≡ or_else (entry_at ns q) None
+namespaces_of : (ns : List NamespaceValue) (q : ℕ) → AllPairs (λ a b. a.nsid ≢ b.nsid) ns
+    → map_of.get (fold with_namespace map_of.empty ns) q ≡ or_else (entry_at ns q) None
 unfolding Distinct
 namespaces_of ns q d = found map_of.empty ns q d ∙ ap (or_else (entry_at ns q)) (get-empty nat_cmp q)
 
@@ -137,15 +166,21 @@ or_none : (b : Bool) → (b || false) ≡ b
 or_none true = refl
 or_none false = refl
 
-attached_of : (ns : List NamespaceValue) (cntlid q : ℕ) → AllPairs (λ a b. a.nsid ≢ b.nsid) ns → map_of.contains_key (fold (with_attachment cntlid) map_of.empty ns) q ≡ says (is_attached_to cntlid) (entry_at ns q)
+attached_of : (ns : List NamespaceValue) (cntlid q : ℕ) → AllPairs (λ a b. a.nsid ≢ b.nsid) ns
+    → map_of.contains_key (fold (with_attachment cntlid) map_of.empty ns) q ≡ says
+    (is_attached_to cntlid) (entry_at ns q)
 unfolding Distinct
-attached_of ns cntlid q d = marked map_of.empty ns cntlid q d ∙ ap (λ o. says (is_attached_to cntlid) (entry_at ns q) || is_some o) (get-empty nat_cmp q) ∙ or_none _
+attached_of ns cntlid q d = marked map_of.empty ns cntlid q d
+    ∙ ap (λ o. says (is_attached_to cntlid) (entry_at ns q) || is_some o) (get-empty nat_cmp q)
+    ∙ or_none _
 
-only_allocated : (o : Option NamespaceValue) (p : NamespaceValue → Bool) → says p o ≡ true → is_some (or_else o None) ≡ true
+only_allocated : (o : Option NamespaceValue) (p : NamespaceValue → Bool) → says p o ≡ true
+    → is_some (or_else o None) ≡ true
 only_allocated None p h = absurd (cc h)
 only_allocated (Some e) p h = refl
 
-controller_ok : (f : FileValue) → IsFile f → (c : ControllerValue) → IsControllerEntry c → IsController (state_of f).namespaces (controller_of f.namespaces c)
+controller_ok : (f : FileValue) → IsFile f → (c : ControllerValue) → IsControllerEntry c
+    → IsController (state_of f).namespaces (controller_of f.namespaces c)
 controller_ok f h c is = record {
   identity = is.identity;
   rules = are_rules c.rules is.rules;
@@ -156,13 +191,15 @@ controller_ok f h c is = record {
   commands = omega arith;
   attached = λ n t.
       ap is_some (namespaces_of f.namespaces n h.nsids)
-      ∙ only_allocated (entry_at f.namespaces n) (is_attached_to c.identity.cntlid) (sym (attached_of f.namespaces c.identity.cntlid n h.nsids) ∙ t);
+      ∙ only_allocated (entry_at f.namespaces n) (is_attached_to c.identity.cntlid)
+      (sym (attached_of f.namespaces c.identity.cntlid n h.nsids) ∙ t);
   values = attached_values (rules_of c.rules) c.identity.numbers.vwc c.identity.cntlid
       (are_rules c.rules is.rules) f.namespaces map_of.empty _
       (start_values (rules_of c.rules) c.identity.numbers.vwc (are_rules c.rules is.rules));
 }
 
-namespace_ok : (f : FileValue) → IsFile f → (n : ℕ) (x : Namespace) (o : Option NamespaceValue) → entry_at f.namespaces n ≡ o → or_else o None ≡ Some x → IsNamespace (state_of f) n x
+namespace_ok : (f : FileValue) → IsFile f → (n : ℕ) (x : Namespace) (o : Option NamespaceValue)
+    → entry_at f.namespaces n ≡ o → or_else o None ≡ Some x → IsNamespace (state_of f) n x
 namespace_ok f h n x None e is = absurd (cc is)
 namespace_ok f h n x (Some v) e is =
     let same : v.namespace ≡ x = cc is in
@@ -172,23 +209,39 @@ namespace_ok f h n x (Some v) e is =
       nsid = (omega (arith, fine.0.nsid.0, fine.1), omega (arith, fine.0.nsid.1, fine.1));
       format = fine.0.format;
       private = λ p. one_passes (λ c. map_of.contains_key c.attached n) (state_of f).controllers (λ i j d a b s t.
-          pairs_map (λ x y. x.identity.cntlid ≢ y.identity.cntlid) (controller_of f.namespaces) f.controllers h.cntlids i j d a b
-          (one_number v.controllers (get_or (state_of f).controllers i d).identity.cntlid (get_or (state_of f).controllers j d).identity.cntlid (attached.0.private p)
+          pairs_map (λ x y. x.identity.cntlid ≢ y.identity.cntlid) (controller_of f.namespaces)
+          f.controllers h.cntlids i j d a b
+          (one_number v.controllers (get_or (state_of f).controllers i d).identity.cntlid
+          (get_or (state_of f).controllers j d).identity.cntlid (attached.0.private p)
           (named i d (omega arith) s) (named j d b t)));
     })
   where
-    named : All (λ y. map_of.contains_key y.attached n ≡ true → is_attached_to y.identity.cntlid v ≡ true) (state_of f).controllers
-    named = All-map (λ y. map_of.contains_key y.attached n ≡ true → is_attached_to y.identity.cntlid v ≡ true) (controller_of f.namespaces) f.controllers
-        (λ k d b t. sym (attached_of f.namespaces (get_or f.controllers k d).identity.cntlid n h.nsids ∙ ap (says (is_attached_to (get_or f.controllers k d).identity.cntlid)) e) ∙ t)
+    named : All (λ y. map_of.contains_key y.attached n ≡ true
+        → is_attached_to y.identity.cntlid v ≡ true) (state_of f).controllers
+    named = All-map (λ y. map_of.contains_key y.attached n ≡ true
+        → is_attached_to y.identity.cntlid v ≡ true) (controller_of f.namespaces) f.controllers
+        (λ k d b t. sym (attached_of f.namespaces (get_or f.controllers k d).identity.cntlid n
+        h.nsids ∙ ap (says (is_attached_to (get_or f.controllers k d).identity.cntlid)) e) ∙ t)
 
 pub state_ok : (f : FileValue) → IsFile f → IsWellFormed (state_of f)
 state_ok f h = record {
   keys = h.keys;
   format_count = h.format_count;
   formats = h.formats;
-  controller_count = subst (λ n. (1 ≤ n) × (n ≤ 16)) (sym (length-map f.controllers (controller_of f.namespaces))) h.controller_count;
-  controllers = All-map (IsController (state_of f).namespaces) (controller_of f.namespaces) f.controllers (All-weaker IsControllerEntry (λ c. IsController (state_of f).namespaces (controller_of f.namespaces c)) (controller_ok f h) f.controllers h.controllers);
-  cntlids = pairs_map (λ x y. x.identity.cntlid ≢ y.identity.cntlid) (controller_of f.namespaces) f.controllers h.cntlids;
-  namespaces = λ n x e. namespace_ok f h n x (entry_at f.namespaces n) refl (sym (namespaces_of f.namespaces n h.nsids) ∙ e);
-  capacities = omega (arith, used-all map_of.empty f.namespaces h.nsids (λ k d b. get-empty nat_cmp (get_or f.namespaces k d).nsid), used-empty, h.capacities);
+  controller_count = subst (λ n. (1 ≤ n) × (n ≤ 16))
+      (sym (length-map f.controllers (controller_of f.namespaces))) h.controller_count;
+  controllers = All-map (IsController (state_of f).namespaces) (controller_of f.namespaces)
+      f.controllers (All-weaker IsControllerEntry (λ c. IsController (state_of f).namespaces
+      (controller_of f.namespaces c)) (controller_ok f h) f.controllers h.controllers);
+  cntlids = pairs_map (λ x y. x.identity.cntlid ≢ y.identity.cntlid) (controller_of f.namespaces)
+      f.controllers h.cntlids;
+  namespaces = λ n x e. namespace_ok f h n x (entry_at f.namespaces n) refl
+      (sym (namespaces_of f.namespaces n h.nsids) ∙ e);
+  capacities = omega (
+    arith,
+    used-all map_of.empty f.namespaces h.nsids
+        (λ k d b. get-empty nat_cmp (get_or f.namespaces k d).nsid),
+    used-empty,
+    h.capacities,
+  );
 }

@@ -10,11 +10,15 @@ abbrev pub with_controllers : State → List Controller → State
 with_controllers s cs = record s { controllers = cs }
 
 -- the state is seen through its fields, and one of its controllers was written as f says
-pub controller_written : (s fields : State) (xs : List code.Controller) (i : ℕ) (old new : code.Controller) (f : Controller → Controller)
-    → with_controllers fields (map controller_view xs) ≡ s → i < length s.controllers → old ≡ get_or xs i old → controller_view new ≡ f (controller_view old)
+pub controller_written : (s fields : State) (xs : List code.Controller) (i : ℕ)
+    (old new : code.Controller) (f : Controller → Controller)
+    → with_controllers fields (map controller_view xs) ≡ s → i < length s.controllers
+    → old ≡ get_or xs i old → controller_view new ≡ f (controller_view old)
     → with_controllers fields (map controller_view (set xs i new)) ≡ with_controller s i f
 controller_written s fields xs i old new f is inside at e =
-    let len : length s.controllers ≡ length xs = ap (λ t. length t.controllers) (sym is) ∙ length-map xs controller_view in
+    let len : length s.controllers ≡ length xs =
+    ap (λ t. length t.controllers) (sym is) ∙ length-map xs controller_view in
     let h : i < length xs = omega arith in
-    ap (with_controllers fields) (views_changed controller_view f xs i new old h (e ∙ ap (λ x. f (controller_view x)) at))
+    ap (with_controllers fields) (views_changed controller_view f xs i new old h
+    (e ∙ ap (λ x. f (controller_view x)) at))
     ∙ ap (λ t. with_controller t i f) is

@@ -3,7 +3,7 @@ use Rattle.std.specs.Prelude.{ℕ, ◌&&◌, not, List, [], map, Some, Result, O
 use Rattle.std.specs.List.{fold}
 use Rattle.std.specs.FinMap as map_of
 use Rattle.nv_file.specs.declared.error.SubsystemError.{SubsystemError}
-use Rattle.nv_file.specs.Fault.{◌>>=◌}
+use Rattle.nv_layout.specs.Steps.{◌>>=◌}
 use Rattle.nv_file.specs.File.{file}
 use Rattle.nv_file.specs.FileValue.{ControllerValue, FileValue, NamespaceValue, is_attached_to}
 use Rattle.nv_layout.specs.Feature.{row_of}

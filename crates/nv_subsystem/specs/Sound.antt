@@ -6,12 +6,14 @@ use Rattle.nv_subsystem.specs.declared.controller.Controller.{Controller}
 use Rattle.nv_model.specs.declared.format.Format.{Format}
 use Rattle.nv_model.specs.declared.namespace.Namespace.{Namespace}
 
--- a bit for each NSID, room for a value of each, and room for ELPE + 1 log entries
+-- a bit for each NSID, room for a value of each, room for ELPE + 1 log entries, and a greatest
+-- transfer within its limit
 pub record IsSized (nn : ℕ) (x : Controller) : Type 0 where
   pub first : x.attached.first ≡ 1
   pub count : x.attached.count ≡ nn
   pub values : x.values.nn ≡ nn
   pub log : x.log.most ≡ x.identity.numbers.elpe + 1
+  pub mdts : x.identity.numbers.mdts ≤ 8
 
 -- a slot for each NSID, and formats and controllers within their limits
 pub record IsSound (slots : RangeMap Namespace) (table : List Format) (cs : List Controller)

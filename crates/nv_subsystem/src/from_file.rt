@@ -210,6 +210,7 @@ fn controller(
     requires count { nn ≤ 1024 }
     requires nsids { All (λ n. IsOf 1 nn n.nsid) namespaces.now }
     requires rules { All IsFeatureRule entry.rules.items }
+    requires mdts { entry.identity.numbers.mdts ≤ 8 }
     ensures value { IfOk result (λ c. controller_view c
         ≡ controller_of (map namespace_entry_view namespaces.now) (controller_entry_view entry)) }
     ensures sized { IfOk result (IsSized nn) }
@@ -242,6 +243,7 @@ pub(crate) fn controllers(
     requires count { nn ≤ 1024 }
     requires nsids { All (λ n. IsOf 1 nn n.nsid) namespaces.now }
     requires rules { All (λ e. All IsFeatureRule e.rules.items) entries.items }
+    requires mdts { All (λ e. e.identity.numbers.mdts ≤ 8) entries.items }
     ensures value { IfOk result (λ cs. map controller_view cs.items
         ≡ map (controller_of (map namespace_entry_view namespaces.now))
         (map controller_entry_view entries.items)) }

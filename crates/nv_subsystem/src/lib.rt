@@ -23,7 +23,7 @@ mod subsystem;
 pub use nv_command::{Command, ERROR_INFORMATION, HEALTH, Refusal, Reply, StatusCode};
 pub use nv_file::{DEMO, Key, SubsystemError, TableName};
 pub use nv_model::{
-    Counters, Defaults, FeatureRule, Format, GREATEST_COUNT, Identity, IdentityNumbers, Namespace,
-    Origin, SERIALS, SmartBase,
+    Counters, Defaults, FeatureRule, Format, Identity, IdentityNumbers, Namespace, Origin, SERIALS,
+    SmartBase,
 };
 pub use subsystem::Subsystem;

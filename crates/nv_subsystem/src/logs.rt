@@ -12,7 +12,9 @@ ghost use Rattle.nv_model.specs.Row.{Checks};
 use crate::controller::Controller;
 use crate::row::check;
 use crate::subsystem::Subsystem;
-use nv_command::{BROADCAST_NSID, ERROR_INFORMATION, HEALTH, Refusal, Reply, StatusCode};
+use nv_command::{
+    BROADCAST_NSID, DwordCount, ERROR_INFORMATION, HEALTH, Refusal, Reply, StatusCode,
+};
 use nv_layout::{ErrorEntries, Smart};
 use nv_model::Row;
 
@@ -76,11 +78,16 @@ impl Subsystem {
         lid: u8,
         nsid: u32,
         offset: u64,
+        dwords: DwordCount,
     ) -> Result<(), Refusal>
         requires { ctrl < length self.now.controllers }
-        ensures { Checks (log_rows self.now ctrl lid nsid offset) result }
+        ensures { Checks (log_rows self.now ctrl lid nsid offset dwords) result }
     {
         check(&[
+            Row::new(
+                self.limit(ctrl) < dwords.bytes(),
+                StatusCode::InvalidFieldInCommand,
+            ),
             Row::new(
                 !(lid == ERROR_INFORMATION || lid == HEALTH),
                 StatusCode::InvalidLogPage,

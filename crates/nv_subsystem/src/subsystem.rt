@@ -1,7 +1,7 @@
 //! A subsystem, and what its commands do.
 
-ghost use Rattle.std.specs.Prelude.{◌≡◌, ◌<◌, ◌^◌, ℕ, length, option_map, None, IfOk, IfErr};
-ghost use Rattle.nv_model.specs.Entry.{counts_of, log_entry_of, mdts_of};
+ghost use Rattle.std.specs.Prelude.{◌≡◌, ◌<◌, ◌≤◌, ◌^◌, ℕ, length, option_map, None, IfOk, IfErr};
+ghost use Rattle.nv_model.specs.Entry.{counts_of, log_entry_of};
 ghost use Rattle.nv_layout.specs.ErrorEntry.{without_phase};
 ghost use Rattle.nv_command.specs.Logs.{without_phases};
 ghost use Rattle.nv_file.specs.Fault.{IsUnlessMemory};
@@ -10,6 +10,7 @@ ghost use Rattle.nv_subsystem.specs.FromFile.{state_of, subsystem};
 ghost use Rattle.nv_file.specs.IsFile.{IsFile};
 ghost use Rattle.nv_model.specs.Effect.{effect_of};
 ghost use Rattle.nv_model.specs.Fits.{RepliesFit};
+ghost use Rattle.nv_model.specs.Limit.{limit_of, mdts_of};
 ghost use Rattle.nv_model.specs.Nsid.{is_valid};
 ghost use Rattle.nv_model.specs.Refusal.{refusal_of, rows_of};
 ghost use Rattle.nv_model.specs.Reply.{reply_of};
@@ -122,13 +123,25 @@ impl Subsystem {
         (controller.refusals, controller.commands)
     }
 
-    /// MDTS: a command moves at most 4,096 × 2^MDTS bytes of data. Section "Identify Controller
-    /// data structure (CNS 01h)".
+    /// MDTS of a controller: the most pages of 4,096 bytes that a command moves, as a power of two.
+    /// Section "Identify Controller data structure (CNS 01h)", Maximum Data Transfer Size.
     pub fn mdts(&self, ctrl: u16) -> u8
         requires { ctrl < length self.now.controllers }
-        ensures { result ≡ mdts_of self.now ctrl }
+        ensures value { result ≡ mdts_of self.now ctrl }
+        ensures most { result ≤ 8 }
     {
         self.controllers[ctrl as usize].identity.numbers.mdts
+    }
+
+    /// How many bytes of data a command of a controller has at most. Section "Identify Controller
+    /// data structure (CNS 01h)", Maximum Data Transfer Size.
+    #[tactic(auto, using(nv_model::proofs::LimitLaws::greatest_limit))]
+    pub fn limit(&self, ctrl: u16) -> u64
+        requires { ctrl < length self.now.controllers }
+        ensures limit { result ≡ limit_of self.now ctrl }
+        ensures most { result ≤ 1048576 }
+    {
+        4096 * (1 << self.mdts(ctrl))
     }
 
     /// The entry of a controller's error log at this index, from the newest on, with the phase tag
@@ -193,8 +206,8 @@ impl Subsystem {
                 lid,
                 nsid,
                 offset,
-                ..
-            } => self.check_log(ctrl, *lid, *nsid, *offset),
+                dwords,
+            } => self.check_log(ctrl, *lid, *nsid, *offset, *dwords),
         }
     }
 

@@ -5,7 +5,9 @@ ghost use Rattle.nv_model.specs.WellFormed.{IsWellFormed};
 
 use nv_controller::Machine;
 use nv_program::{Stop, asked, exit_code, status_of};
-use nv_script::{Geometry, Held, OverHeld, OverRead, OverWrite, SinkAfter, SourceAfter, run};
+use nv_script::{
+    Geometry, Held, OverHeld, OverRead, OverWrite, Retrying, SinkAfter, SourceAfter, run,
+};
 use nv_subsystem::Subsystem;
 use std::io::{self, BufWriter};
 use std::process::ExitCode;
@@ -16,7 +18,7 @@ fn run_script(rt: &HostRuntime, subsystem: Subsystem, geometry: Geometry) -> Res
     requires { IsWellFormed subsystem }
 {
     let alloc = rt.alloc();
-    let Ok(buffered) = BufWriter::new(alloc, io::writer(rt)) else {
+    let Ok(buffered) = BufWriter::new(alloc, Retrying::new(io::writer(rt))) else {
         return Err(Stop::Memory);
     };
     let Ok(mut machine) = Machine::new(alloc, subsystem) else {
@@ -25,7 +27,7 @@ fn run_script(rt: &HostRuntime, subsystem: Subsystem, geometry: Geometry) -> Res
     let held = Held::new(buffered);
     let mut script = SourceAfter::new(OverRead::new(rt.reader()), &held);
     let mut out = OverHeld::new(&held);
-    let mut messages = SinkAfter::new(OverWrite::new(rt.stderr()), &held);
+    let mut messages = SinkAfter::new(OverWrite::new(Retrying::new(rt.stderr())), &held);
     let end = run(
         alloc,
         &mut machine,

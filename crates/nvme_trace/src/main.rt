@@ -7,7 +7,7 @@ ghost use Rattle.nv_model.specs.WellFormed.{IsWellFormed};
 
 use nv_controller::Machine;
 use nv_program::{Stop, asked, exit_code, status_of};
-use nv_script::{Geometry, Held, OverHeld, OverRead, SourceAfter, run};
+use nv_script::{Geometry, Held, OverHeld, OverRead, Retrying, SourceAfter, run};
 use nv_subsystem::Subsystem;
 use nv_trace::{Marked, Traced};
 use std::io::{self, BufWriter};
@@ -19,7 +19,7 @@ fn run_script(rt: &HostRuntime, subsystem: Subsystem, geometry: Geometry) -> Res
     requires { IsWellFormed subsystem }
 {
     let alloc = rt.alloc();
-    let Ok(buffered) = BufWriter::new(alloc, io::writer(rt)) else {
+    let Ok(buffered) = BufWriter::new(alloc, Retrying::new(io::writer(rt))) else {
         return Err(Stop::Memory);
     };
     let Ok(machine) = Machine::new(alloc, subsystem) else {

@@ -6,7 +6,8 @@ use Rattle.nv_controller.proofs.call.find_data.Goals as goal
 
 pub returns-in-NoData-clause-found : goal.returns-in-NoData-clause-found
 returns-in-NoData-clause-found g c =
-    no_places (g.M.HostMemory.page_len c.args.mem.now) (g.M.HostMemory.bytes c.args.mem.now) c.args.entry.now _ _ c.in-NoData.is (ap places c.clear.ensures ∙ places-nil)
+    no_places (g.M.HostMemory.page_len c.args.mem.now) (g.M.HostMemory.bytes c.args.mem.now)
+    c.args.entry.now _ _ c.in-NoData.is (ap places c.clear.ensures ∙ places-nil)
 
 pub returns-in-NoData-clause-inside : goal.returns-in-NoData-clause-inside
 returns-in-NoData-clause-inside g c = rw c.clear.ensures (nothing_lies_in _)

@@ -10,10 +10,15 @@ pub write_out-requires-clause-len : goal.write_out-requires-clause-len
 write_out-requires-clause-len g c = c.requires.len ∙ sym (length-part (log_of c.args.reply.now) _ c.args.len)
 
 pub write_out-requires-clause-limit : goal.write_out-requires-clause-limit
-write_out-requires-clause-limit g c = omega (arith, length-part (log_of c.args.reply.now) c.min-from.result c.args.len, c.requires.few)
+write_out-requires-clause-limit g c = omega (
+  arith,
+  length-part (log_of c.args.reply.now) c.min-from.result c.args.len,
+  c.requires.few,
+)
 
 pub returns-clause-bytes : goal.returns-clause-bytes
 returns-clause-bytes g c =
     let log = log_of c.args.reply.now in
-    let same = ap (λ k. part log k c.args.len) c.min-from.ensures ∙ part_least log c.args.offset 16384 c.args.len c.requires.short in
+    let same = ap (λ k. part log k c.args.len) c.min-from.ensures
+    ∙ part_least log c.args.offset 16384 c.args.len c.requires.short in
     c.write_out.ensures.bytes ∙ ap (written_at (g.M.HostMemory.bytes c.args.mem.now) (places c.args.spans.now)) same

@@ -12,11 +12,13 @@ use Rattle.nv_controller.proofs.entry.execute.Goals as goal
 
 pub deliver-requires-clause-is_reply : goal.deliver-requires-clause-is_reply
 deliver-requires-clause-is_reply g c =
-    (answered _ c.args.ctrl c.args.command.now c.args.origin.cid _ c.in-Ok.reply c.requires.well_formed c.in-Ok.is c.answer.ensures).is_reply
+    (answered _ c.args.ctrl c.args.command.now c.args.origin.cid _ c.in-Ok.reply
+    c.requires.well_formed c.in-Ok.is c.answer.ensures).is_reply
 
 pub deliver-requires-clause-fits : goal.deliver-requires-clause-fits
 deliver-requires-clause-fits g c =
-    (answered _ c.args.ctrl c.args.command.now c.args.origin.cid _ c.in-Ok.reply c.requires.well_formed c.in-Ok.is c.answer.ensures).fits
+    (answered _ c.args.ctrl c.args.command.now c.args.origin.cid _ c.in-Ok.reply
+    c.requires.well_formed c.in-Ok.is c.answer.ensures).fits
 
 pub settle-requires-clause-answered : goal.settle-requires-clause-answered
 settle-requires-clause-answered g c =
@@ -32,20 +34,25 @@ pub returns-clause-told : goal.returns-clause-told
 returns-clause-told g c = elim c.match-answer.branch [
   | in-Ok w ↦
       ap (λ (p : Told × Option Refusal). p.0) w.refusal-is ∙ w.reply_told.ensures
-      ∙ (answered _ c.args.ctrl c.args.command.now c.args.origin.cid _ w.in-Ok.reply c.requires.well_formed w.in-Ok.is c.answer.ensures).told
+      ∙ (answered _ c.args.ctrl c.args.command.now c.args.origin.cid _ w.in-Ok.reply
+      c.requires.well_formed w.in-Ok.is c.answer.ensures).told
   | in-Err w ↦
       ap (λ (p : Told × Option Refusal). p.0) w.refusal-is ∙ w.refusal_told.ensures
-      ∙ ap told_by (refused_by _ c.args.ctrl c.args.command.now c.args.origin.cid _ _ w.in-Err.is c.answer.ensures).answer
+      ∙ ap told_by (refused_by _ c.args.ctrl c.args.command.now c.args.origin.cid _ _ w.in-Err.is
+      c.answer.ensures).answer
 ]
 
 pub returns-clause-moved : goal.returns-clause-moved
 returns-clause-moved g c = elim c.match-answer.branch [
   | in-Ok w ↦
-      let of = answered _ c.args.ctrl c.args.command.now c.args.origin.cid _ w.in-Ok.reply c.requires.well_formed w.in-Ok.is c.answer.ensures in
-      moved_reply c.args.command.now (places c.args.spans.now) (g.M.HostMemory.bytes c.args.mem.now) (g.M.HostMemory.bytes c.match-answer.mem) w.in-Ok.reply _
+      let of = answered _ c.args.ctrl c.args.command.now c.args.origin.cid _ w.in-Ok.reply
+      c.requires.well_formed w.in-Ok.is c.answer.ensures in
+      moved_reply c.args.command.now (places c.args.spans.now) (g.M.HostMemory.bytes c.args.mem.now)
+      (g.M.HostMemory.bytes c.match-answer.mem) w.in-Ok.reply _
       of.answer (ap g.M.HostMemory.bytes w.mem-is ∙ w.deliver.ensures.bytes)
   | in-Err w ↦
       let of = refused_by _ c.args.ctrl c.args.command.now c.args.origin.cid _ _ w.in-Err.is c.answer.ensures in
-      moved_none c.args.command.now (places c.args.spans.now) (g.M.HostMemory.bytes c.args.mem.now) (g.M.HostMemory.bytes c.match-answer.mem) _ _
+      moved_none c.args.command.now (places c.args.spans.now) (g.M.HostMemory.bytes c.args.mem.now)
+      (g.M.HostMemory.bytes c.match-answer.mem) _ _
       of.answer (ap g.M.HostMemory.bytes w.mem-is)
 ]

@@ -16,7 +16,8 @@ loop-count-preserved g c =
           inv.taken
           (record {
             can = sym c.if-not-can_take.ensures;
-            reached = ap (λ (p : ℕ). reaches c.loop-count.rings p (length bytes)) (sym inv.page) ∙ sym c.if-not-reaches.ensures;
+            reached = ap (λ (p : ℕ). reaches c.loop-count.rings p (length bytes)) (sym inv.page)
+                ∙ sym c.if-not-reaches.ensures;
             one = c.take_one.ensures.one;
           });
       well_formed = c.take_one.ensures.well_formed;

@@ -7,12 +7,18 @@ use Rattle.nv_controller.proofs.turn.turn_port.Goals as goal
 
 pub returns-in-Ready-clause-turn : goal.returns-in-Ready-clause-turn
 returns-in-Ready-clause-turn g c =
-    turn_of_rings _ _ _ _ (site c.args.subsystem.now c.args.port.now (g.M.HostMemory.bytes c.args.mem.now)) c.in-Ready.rings
-    (scene c.take_entries-count.new.subsystem c.take_entries-count.new.rings (g.M.HostMemory.bytes c.take_entries-count.new.mem))
-    c.take_entries-count.result.1 (c.in-Ready.is ∙ ap (Ready c.in-Ready.rings) c.if-not-fatal.true) c.take_entries-count.ensures.turn
+    turn_of_rings _ _ _ _ (site c.args.subsystem.now c.args.port.now
+    (g.M.HostMemory.bytes c.args.mem.now)) c.in-Ready.rings
+    (scene c.take_entries-count.new.subsystem c.take_entries-count.new.rings
+    (g.M.HostMemory.bytes c.take_entries-count.new.mem))
+    c.take_entries-count.result.1 (c.in-Ready.is ∙ ap (Ready c.in-Ready.rings) c.if-not-fatal.true)
+    c.take_entries-count.ensures.turn
 
 pub returns-in-Ready-clause-count : goal.returns-in-Ready-clause-count
 returns-in-Ready-clause-count g c =
-    count_of_rings _ _ _ _ (site c.args.subsystem.now c.args.port.now (g.M.HostMemory.bytes c.args.mem.now)) c.in-Ready.rings
-    (scene c.take_entries-count.new.subsystem c.take_entries-count.new.rings (g.M.HostMemory.bytes c.take_entries-count.new.mem))
-    c.take_entries-count.result.1 (c.in-Ready.is ∙ ap (Ready c.in-Ready.rings) c.if-not-fatal.true) c.take_entries-count.ensures.turn
+    count_of_rings _ _ _ _ (site c.args.subsystem.now c.args.port.now
+    (g.M.HostMemory.bytes c.args.mem.now)) c.in-Ready.rings
+    (scene c.take_entries-count.new.subsystem c.take_entries-count.new.rings
+    (g.M.HostMemory.bytes c.take_entries-count.new.mem))
+    c.take_entries-count.result.1 (c.in-Ready.is ∙ ap (Ready c.in-Ready.rings) c.if-not-fatal.true)
+    c.take_entries-count.ensures.turn

@@ -8,7 +8,8 @@ pub loop-batch-init : goal.loop-batch-init
 loop-batch-init g c =
     let asked = c.requires.1.1 in
     let b = c.new-batch.ensures in
-    let begun = begins_all asked.0 asked.1.0 asked.1.1.0 asked.1.1.1 b.ctrl b.geometry b.outstanding b.sent b.collected b.told in
+    let begun = begins_all asked.0 asked.1.0 asked.1.1.0 asked.1.1.1 b.ctrl b.geometry b.outstanding
+    b.sent b.collected b.told in
     let u = begun.under_way in
     record {
       under_way = u;

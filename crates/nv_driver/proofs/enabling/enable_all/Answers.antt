@@ -11,16 +11,19 @@ bounds-lanes-ctrl g c = omega (arith, lane_count c.args.geometry _ c.args.lanes.
 pub enable-requires-clause-quiet : goal.enable-requires-clause-quiet
 enable-requires-clause-quiet g c =
     let many = lane_count c.args.geometry _ c.args.lanes.now c.requires.lanes in
-    subst IsQuiet (sym c.index-lanes-ctrl.is) (c.requires.quiet c.loop-ctrl.ctrl c.index-lanes-ctrl.result (omega arith))
+    subst IsQuiet (sym c.index-lanes-ctrl.is) (c.requires.quiet c.loop-ctrl.ctrl
+    c.index-lanes-ctrl.result (omega arith))
 
 pub enable-requires-clause-lane : goal.enable-requires-clause-lane
 enable-requires-clause-lane g c =
     let many = lane_count c.args.geometry _ c.args.lanes.now c.requires.lanes in
-    lane_is c.args.geometry _ c.loop-ctrl.ctrl c.args.lanes.now _ c.requires.lanes (omega arith) (omega arith) c.index-lanes-ctrl.is
+    lane_is c.args.geometry _ c.loop-ctrl.ctrl c.args.lanes.now _ c.requires.lanes (omega arith)
+    (omega arith) c.index-lanes-ctrl.is
 
 pub enable-requires-clause-laid : goal.enable-requires-clause-laid
 enable-requires-clause-laid g c =
-    lane_laid c.args.geometry _ c.loop-ctrl.ctrl _ c.requires.geometry (omega arith) (c.loop-ctrl.invariant.size ∙ c.requires.len)
+    lane_laid c.args.geometry _ c.loop-ctrl.ctrl _ c.requires.geometry (omega arith)
+    (c.loop-ctrl.invariant.size ∙ c.requires.len)
 
 pub loop-ctrl-preserved : goal.loop-ctrl-preserved
 loop-ctrl-preserved g c = record {
@@ -30,8 +33,10 @@ loop-ctrl-preserved g c = record {
   len = search rules;
   below = below_set _ _ c.loop-ctrl.ctrl _ (omega arith) c.enable.ensures.ports c.loop-ctrl.invariant.below;
   above = above_set _ _ _ c.loop-ctrl.ctrl _ c.enable.ensures.ports c.loop-ctrl.invariant.above;
-  tags = tags_more c.args.geometry (length (g.B.Bus.meaning c.args.bus.now).ports) c.loop-ctrl.ctrl _ _ c.requires.geometry (omega arith)
-      (c.loop-ctrl.invariant.size ∙ c.requires.len) c.enable.ensures.others c.enable.ensures.tags c.loop-ctrl.invariant.tags;
+  tags = tags_more c.args.geometry (length (g.B.Bus.meaning c.args.bus.now).ports) c.loop-ctrl.ctrl
+      _ _ c.requires.geometry (omega arith)
+      (c.loop-ctrl.invariant.size ∙ c.requires.len) c.enable.ensures.others c.enable.ensures.tags
+      c.loop-ctrl.invariant.tags;
   size = c.enable.ensures.len ∙ c.loop-ctrl.invariant.size;
   page = c.enable.ensures.page ∙ c.loop-ctrl.invariant.page;
 }

@@ -8,8 +8,10 @@ use Rattle.nv_driver.proofs.enabling.reset.Goals as goal
 pub returns-clause-ready : goal.returns-clause-ready
 returns-clause-ready g c =
     let r = c.requires.ready in
-    ready_again r c.requires.placed c.renew.ensures.page c.renew.ensures.quiet c.renew.ensures.lane c.renew.ensures.bytes c.renew.ensures.tags
-    (c.start.ensures.bus (c.disable.ensures.bus r.bus)) (set_twice _ _ _ c.args.ctrl _ _ c.disable.ensures.ports c.start.ensures.ports)
+    ready_again r c.requires.placed c.renew.ensures.page c.renew.ensures.quiet c.renew.ensures.lane
+    c.renew.ensures.bytes c.renew.ensures.tags
+    (c.start.ensures.bus (c.disable.ensures.bus r.bus))
+    (set_twice _ _ _ c.args.ctrl _ _ c.disable.ensures.ports c.start.ensures.ports)
 
 pub returns-clause-ports : goal.returns-clause-ports
 returns-clause-ports g c =

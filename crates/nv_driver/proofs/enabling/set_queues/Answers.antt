@@ -4,6 +4,8 @@ use Rattle.nv_driver.proofs.enabling.set_queues.Goals as goal
 
 pub returns-clause-ports : goal.returns-clause-ports
 returns-clause-ports g c =
-    queues_written _ _ _ _ _ _ c.args.ctrl c.args.less_one c.args.sq c.args.cq _ _ _ _ _ c.requires.ctrl c.requires.off c.requires.deep
+    queues_written _ _ _ _ _ _ c.args.ctrl c.args.less_one c.args.sq c.args.cq _ _ _ _ _
+    c.requires.ctrl c.requires.off c.requires.deep
     (omega arith) (omega arith) (omega arith) (omega arith) (omega arith)
-    c.write32.ensures.ports c.write32-2.ensures.ports c.write32-3.ensures.ports c.write32-4.ensures.ports c.write32-5.ensures.ports
+    c.write32.ensures.ports c.write32-2.ensures.ports c.write32-3.ensures.ports
+    c.write32-4.ensures.ports c.write32-5.ensures.ports

@@ -4,7 +4,8 @@ use Rattle.nv_driver.proofs.enabling.start.Goals as goal
 
 pub returns-clause-ports : goal.returns-clause-ports
 returns-clause-ports g c =
-    started _ _ c.args.ctrl c.args.geometry _ c.requires.queues c.requires.geometry (omega (arith, c.mps.ensures)) c.write32.ensures.ports
+    started _ _ c.args.ctrl c.args.geometry _ c.requires.queues c.requires.geometry
+    (omega (arith, c.mps.ensures)) c.write32.ensures.ports
 
 pub returns-clause-ok : goal.returns-clause-ok
 returns-clause-ok g c =

@@ -87,7 +87,8 @@ returns-clause-submitted g c =
     let built = g.M.HostMemory.bytes c.build_pointer-prp1.new.mem in
     let ready = g.M.HostMemory.bytes c.write_data.new.mem in
     let len = c.data_length-len.ensures.length in
-    let few : pages.data_pages + 2 ≤ pages_of_command geometry.page_size = omega (arith, t.count, c.page_count.ensures.few) in
+    let few : pages.data_pages + 2 ≤ pages_of_command geometry.page_size =
+    omega (arith, t.count, c.page_count.ensures.few) in
     let enough = subst (λ n. geometry.offset + n ≤ pages.data_pages * geometry.page_size) len
     (subst (λ n. geometry.offset + c.data_length-len.result ≤ n * geometry.page_size)
     (sym t.count) c.page_count.ensures.enough) in

@@ -16,6 +16,8 @@ loop-table-preserved c =
     record {
       reads = grind (arith, common_steps);
       count = grind (arith, common_steps);
-      sound = rw (grown, map_push controller_entry_view xs x) (All-push IsControllerEntry (map controller_entry_view xs) (controller_entry_view x) c.loop-table.invariant.sound c.in_ok-controller.ensures.sound);
+      sound = rw (grown, map_push controller_entry_view xs x)
+          (All-push IsControllerEntry (map controller_entry_view xs) (controller_entry_view x)
+          c.loop-table.invariant.sound c.in_ok-controller.ensures.sound);
       cntlids = rw grown (fresh_controller xs x c.loop-table.invariant.cntlids new);
     }

@@ -12,7 +12,8 @@ found : (bytes : List ℕ) (ms : Members) → IsUtf8 bytes → parse_document by
 unfolding document
 found bytes ms text is = rw (is_utf8-from_IsUtf8 bytes text, is)
 
-refused_by : (bytes : List ℕ) (b : Bool) → is_utf8 bytes ≡ b → (IsUtf8 bytes → parse_document bytes ≡ None) → document bytes ≡ Err NotToml
+refused_by : (bytes : List ℕ) (b : Bool) → is_utf8 bytes ≡ b
+    → (IsUtf8 bytes → parse_document bytes ≡ None) → document bytes ≡ Err NotToml
 unfolding document
 refused_by bytes true text none = rw (text, none (IsUtf8-from_is_utf8 bytes text))
 refused_by bytes false text none = rw text
@@ -21,4 +22,6 @@ pub returns-in-Ok : goal.returns-in-Ok
 returns-in-Ok c = found c.args.bytes.now _ c.in-Ok.ensures.ok.0 c.in-Ok.ensures.ok.1
 
 pub returns-else-is_memory : goal.returns-else-is_memory
-returns-else-is_memory c = refused_by c.args.bytes.now _ refl (c.in-Err.ensures.refused (λ is. absurd (false≢true (sym c.if-is_memory.false ∙ c.is_memory.ensures.1 is))))
+returns-else-is_memory c = refused_by c.args.bytes.now _ refl
+    (c.in-Err.ensures.refused (λ is. absurd (false≢true
+    (sym c.if-is_memory.false ∙ c.is_memory.ensures.1 is))))

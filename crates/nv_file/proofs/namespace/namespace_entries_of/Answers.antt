@@ -17,6 +17,8 @@ loop-table-preserved c =
     record {
       reads = grind (arith, common_steps);
       count = grind (arith, common_steps);
-      sound = rw (grown, map_push namespace_entry_view xs x) (All-push is (map namespace_entry_view xs) (namespace_entry_view x) c.loop-table.invariant.sound c.in_ok-namespace.ensures.sound);
+      sound = rw (grown, map_push namespace_entry_view xs x)
+          (All-push is (map namespace_entry_view xs) (namespace_entry_view x)
+          c.loop-table.invariant.sound c.in_ok-namespace.ensures.sound);
       nsids = rw grown (fresh_namespace xs x c.loop-table.invariant.nsids new);
     }

@@ -1,4 +1,4 @@
-use Rattle.std.proofs.Common.{◌∙◌, sym, arith, lit<}
+use Rattle.std.proofs.Common.{◌∙◌, ap, sym, arith, lit<, Some}
 use Rattle.std.specs.List.{slice_split}
 use Rattle.std.proofs.lemmas.Iterator.Consumers.{YieldsList-end, YieldsList-turn}
 use Rattle.std.proofs.lemmas.Iterator.Splits.{YieldsList-from_str_split}
@@ -20,7 +20,7 @@ returns-in_default c =
     let t = YieldsList-turn (YieldsList-from_str_split 44 c.args.text.now (lit< tt) (cc) (cc) (cc))
     c.loop-piece.yielded _ c.loop-piece.yielded_by
     _ _ c.in-Some.piece c.in-Some.is c.next.ensures.steps in
-    no_number c.args.text.now c.loop-piece.ids.items _ c.in-Some.piece.now c.loop-piece.invariant t
+    no_number c.args.text.now c.loop-piece.place _ c.in-Some.piece.now c.loop-piece.invariant t
     (sym c.parse_number.ensures ∙ c.in_default.is)
 
 pub loop-piece-preserved : goal.loop-piece-preserved
@@ -28,14 +28,14 @@ loop-piece-preserved c =
     let t = YieldsList-turn (YieldsList-from_str_split 44 c.args.text.now (lit< tt) (cc) (cc) (cc))
     c.loop-piece.yielded _ c.loop-piece.yielded_by
     _ _ c.in-Some.piece c.in-Some.is c.next.ensures.steps in
-    let read = piece_read (slice_split is_comma c.args.text.now) c.loop-piece.ids.items _
+    let read = piece_read (slice_split is_comma c.args.text.now) c.loop-piece.place _
     c.in-Some.piece.now c.in-Some-parse_number.identifier c.loop-piece.invariant
     (omega (arith, c.loop-piece.invariant.count)) t (sym c.parse_number.ensures ∙ c.in-Some-parse_number.is) in
     let n = length_push c.loop-piece.yielded c.in-Some.piece in
-    rw (c.in_ok-push.ensures.items, n) read
+    rw (c.push.ensures, n) read
 
 pub returns : goal.returns
 returns c =
     let e = YieldsList-end (YieldsList-from_str_split 44 c.args.text.now (lit< tt) (cc) (cc) (cc))
     c.loop-piece.yielded _ c.loop-piece.yielded_by _ _ c.in-None.is c.next.ensures.steps in
-    all_read c.args.text.now c.loop-piece.ids.items _ c.loop-piece.invariant (omega (arith, e.1))
+    ap Some c.ids.ensures ∙ all_read c.args.text.now c.loop-piece.place _ c.loop-piece.invariant (omega (arith, e.1))

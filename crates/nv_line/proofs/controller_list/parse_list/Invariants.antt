@@ -6,4 +6,4 @@ use Rattle.nv_line.proofs.controller_list.parse_list.Given as goal
 
 -- the list has the identifiers of the pieces so far
 abbrev pub invariant-loop-piece : goal.invariant-loop-piece
-invariant-loop-piece l = IsReadTo (slice_split is_comma l.text) l.ids.items (length l.yielded)
+invariant-loop-piece l = IsReadTo (slice_split is_comma l.text) l.place (length l.yielded)

@@ -15,4 +15,5 @@ returns c =
       | else-not-is_empty-via-then-not-is_empty+else-bytes-eq43 w ↦ grind (arith, common_steps)
       | else-not-is_empty-via-else-not-is_empty w ↦ grind (arith, common_steps)
     ] in
-    c.ok.ensures.value ∙ digits_at c.args.base c.args.text.now c.from_str_radix.result c.from_str_radix.ensures.value first
+    c.ok.ensures.value ∙ digits_at c.args.base c.args.text.now c.from_str_radix.result
+    c.from_str_radix.ensures.value first

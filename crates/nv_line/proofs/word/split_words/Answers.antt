@@ -17,9 +17,12 @@ returns c =
     (λ x u q k. (
       search (rules, tests),
       λ j e. YieldsList-from_str_split 9 x.now (lit< tt)
-          (ap (λ s. split_text s) e ∙ search (rules, tests)) (ap (λ s. split_has_more s) e ∙ search (rules, tests)) (ap (λ s. split_pattern s) e ∙ search (rules, tests)),
+          (ap (λ s. split_text s) e ∙ search (rules, tests))
+          (ap (λ s. split_has_more s) e ∙ search (rules, tests))
+          (ap (λ s. split_pattern s) e ∙ search (rules, tests)),
     ))
     (YieldsList-from_str_split 32 c.args.text.now (lit< tt) (cc) (cc) (cc))
     (cc) (cc) (cc) (cc))
     c.filter.ensures.closure (λ x b q k. search (rules, tests))) in
-    IfOk-weaker c.collect.result _ _ (λ v e. e ∙ ap (filter (λ w. not (is_empty w))) (split_twice (λ b. b == 32) (λ b. b == 9) c.args.text.now)) pieces
+    IfOk-weaker c.collect.result _ _ (λ v e. e ∙ ap (filter (λ w. not (is_empty w)))
+    (split_twice (λ b. b == 32) (λ b. b == 9) c.args.text.now)) pieces

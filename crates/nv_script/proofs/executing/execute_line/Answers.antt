@@ -25,8 +25,8 @@ returns-in-Ok-perform-clause-left g c text p o m is stands =
     same stands.holds left.2.subsystem left.2.next (ap (λ n. n + 1) stands.number) refl (amid-all p text r s serials here stands.holds.reached stands.next)
     c.print-in-Ok-perform.result (Ok c.in-Ok-perform.text) (g.O.Sink.state c.print-in-Ok-perform.new.sink).taken _ refl left.1 c.print-in-Ok-perform.ensures
 
-pub returns-clause-left : goal.returns-clause-left
-returns-clause-left g c text p o m is stands =
+pub returns-in-Err-Refused-clause-left : goal.returns-in-Err-Refused-clause-left
+returns-in-Err-Refused-clause-left g c text p o m is stands =
     let s = (g.B.Bus.meaning c.args.bus.now).state in
     let serials = serials_of c.args.session.now.driver in
     let n = c.args.session.now.number in

@@ -1,11 +1,11 @@
 use Rattle.std.proofs.Common.{◌≡◌, ◌-◌, ◌++◌, length, List}
 use Rattle.std.specs.Prelude.{flat_map}
 use Rattle.std.specs.List.{range_with_len}
+use Rattle.nv_model.proofs.LookupLaws.{IsAlike}
 use Rattle.nv_script.specs.Exchange.{Order}
 use Rattle.nv_script.specs.Link.{IsLinked, serials_of}
 use Rattle.nv_script.specs.Listing.{IsListed, asked_all}
 use Rattle.nv_script.specs.Orders.{orders_of_controller, orders_of_list}
-use Rattle.nv_script.proofs.LookupLaws.{IsAlike}
 use Rattle.nv_script.proofs.ListLaws.{first_standing}
 use Rattle.nv_script.proofs.listing.list.Given as goal
 
@@ -18,5 +18,5 @@ invariant-loop-ctrl g l =
       lanes : length l.driver.lanes ≡ length l.initial.driver.lanes;
       alike : IsAlike s (g.B.Bus.meaning l.bus).state;
       left : (done : List Order) × (orders_of_list s ≡ done ++ flat_map (orders_of_controller s) (range_with_len l.ctrl (l.ctrl-end - l.ctrl)))
-          × IsListed (asked_all (first_standing s (serials_of l.initial.driver)) done) (g.B.Bus.meaning l.bus).state (serials_of l.driver) l.devices;
+          × IsListed (asked_all (first_standing s (serials_of l.initial.driver)) done) (g.B.Bus.meaning l.bus).state (serials_of l.driver) l.listing;
     }

@@ -1,11 +1,24 @@
-use Rattle.std.proofs.Common.{◌∙◌, ap, sym, [], ◌∷◌, Ok}
+use Rattle.std.proofs.Common.{refl, [], ◌∷◌}
+use Rattle.std.proofs.lemmas.Result.{err_from_is_err_and}
+use Rattle.nv_bits.specs.Numbers.{above}
 use Rattle.nv_command.specs.declared.command.Command.TheVariants.{ActiveList, IdentifyController}
+use Rattle.nv_model.specs.Nsid.{active_nsids}
 use Rattle.nv_script.specs.Exchange.{order_of}
 use Rattle.nv_script.specs.Link.{serials_of}
 use Rattle.nv_script.specs.Orders.{namespace_orders, orders_of_controller}
-use Rattle.nv_script.proofs.GreetingLaws.{greeted_identity, greeted_listed, greeted_orders}
+use Rattle.nv_script.proofs.GreetingLaws.{greeted_listed, greeted_orders, stopped_there}
 use Rattle.nv_script.proofs.ListLaws.{leaves_after}
 use Rattle.nv_script.proofs.listing.list_controller.Goals as goal
+
+pub returns-in_err-tell-clause-left : goal.returns-in_err-tell-clause-left
+returns-in_err-tell-clause-left g c w is =
+    let ctrl = c.args.ctrl in
+    let first = c.admin.ensures in
+    let e = err_from_is_err_and c.from_residual.result c.from_residual.ensures.1 in
+    rw (e.1, e.2)
+    (stopped_there w (g.B.Bus.meaning c.args.bus.now) (g.B.Bus.meaning c.admin.new.bus) c.args.driver.now c.admin.new.self c.args.listing.now ctrl IdentifyController c.admin.result is
+    c.requires.controller first.answer first.state first.driver (Unit {0}) c.in_err-tell.field-0.0 (order_of ctrl (ActiveList 0) ∷ namespace_orders ctrl (above 0 (active_nsids w.state ctrl))) c.tell.new.self
+    c.in_err-tell.ensures.refused)
 
 pub returns-clause-left : goal.returns-clause-left
 returns-clause-left g c w is =
@@ -16,15 +29,14 @@ returns-clause-left g c w is =
     let d = c.args.driver.now in
     let second = c.admin.new.self in
     let after = c.admin-2.new.self in
-    let ns = c.as_slice.result.now in
-    let devices = c.args.devices.now in
-    let first = c.in_ok-identity.ensures in
-    let then = c.in_ok-nsids.ensures in
-    let a1 = sym (ap Ok c.in-Controller.is) ∙ first.answer in
-    let a2 = sym (ap Ok c.in-List.is) ∙ then.answer in
+    let listing = c.args.listing.now in
+    let told = c.tell.new.self in
+    let ns = c.nsids_in.result.now in
+    let first = c.admin.ensures in
+    let then = c.in_ok-attached.ensures in
     leaves_after w (order_of ctrl IdentifyController ∷ order_of ctrl (ActiveList 0) ∷ []) (orders_of_controller w.state ctrl) c.list_namespaces.result (namespace_orders ctrl ns)
-    (g.B.Bus.meaning c.list_namespaces.new.bus).state (serials_of c.list_namespaces.new.driver) c.list_namespaces.new.devices
-    (greeted_orders w ctrl b mid last d second after devices c.in-Controller.identity c.in-List.nsids is c.requires.controller a1 first.state first.driver a2 then.state then.driver ns c.as_slice.ensures.items)
+    (g.B.Bus.meaning c.list_namespaces.new.bus).state (serials_of c.list_namespaces.new.driver) c.list_namespaces.new.listing
+    (greeted_orders w ctrl b mid last d second after listing told c.admin.result _ is c.requires.controller first.answer first.state first.driver c.in_ok-tell.ensures.told then.answer then.state then.driver
+    _ ns refl c.nsids_in.ensures)
     (c.list_namespaces.ensures.left _
-    (greeted_listed w ctrl b mid last d second after devices c.in-Controller.identity c.in-List.nsids is c.requires.controller a1 first.state first.driver a2 then.state then.driver)
-    (greeted_identity w ctrl b mid last d second after devices c.in-Controller.identity c.in-List.nsids is c.requires.controller a1 first.state first.driver a2 then.state then.driver))
+    (greeted_listed w ctrl b mid last d second after listing told c.admin.result _ is c.requires.controller first.answer first.state first.driver c.in_ok-tell.ensures.told then.answer then.state then.driver))

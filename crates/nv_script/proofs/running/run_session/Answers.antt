@@ -1,7 +1,7 @@
 use Rattle.std.proofs.Common.{◌∙◌, ◌≤◌, ◌++◌, [], arith, length, refl, take}
 use Rattle.std.proofs.lemmas.Bool.Decides.{nat_tests}
 use Rattle.std.proofs.lemmas.List.{length-take-le}
-use Rattle.nv_script.specs.declared.streams.TheConstants.{READ_SIZE}
+use Rattle.nv_script.specs.Limits.{read_size}
 use Rattle.nv_script.proofs.RunLaws.{last_cut, piece_cut, read_first, read_more, read_none, stands_first}
 use Rattle.nv_script.proofs.running.run_session.Goals as goal
 
@@ -41,7 +41,7 @@ returns-in-Err-feed-clause-runs g c =
     let run = c.loop-call.invariant.run in
     let s = (g.B.Bus.meaning c.args.bus.now).state in
     let piece = take c.in-Some.count c.read.new.buf in
-    let small : length piece ≤ READ_SIZE = omega (arith, length-take-le c.in-Some.count c.read.new.buf c.in-Some.ensures.bound, c.in-Some.ensures.bound, c.read.auto.buf, c.loop-call.invariant.room) in
+    let small : length piece ≤ read_size = omega (arith, length-take-le c.in-Some.count c.read.new.buf c.in-Some.ensures.bound, c.in-Some.ensures.bound, c.read.auto.buf, c.loop-call.invariant.room) in
     let cut = piece_cut c.in-Err-feed.cut s run.0 piece c.feed.new.line _ c.feed.new.session small (c.in-Err-feed.ensures.left s run.0 _ _ run.2 run.3) in
     record {
       bytes = run.0 ++ piece;

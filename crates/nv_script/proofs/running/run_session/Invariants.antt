@@ -5,7 +5,7 @@ use Rattle.nv_script.specs.Feeding.{Stands}
 use Rattle.nv_script.specs.Results.{whole}
 use Rattle.nv_script.specs.ScriptLines.{buffer_of, pieces}
 use Rattle.nv_script.specs.Link.{IsLinked}
-use Rattle.nv_script.specs.declared.streams.TheConstants.{READ_SIZE}
+use Rattle.nv_script.specs.Limits.{read_size}
 use Rattle.nv_script.proofs.running.run_session.Given as goal
 
 abbrev pub invariant-loop-call : goal.invariant-loop-call
@@ -13,8 +13,8 @@ invariant-loop-call g l = record {
   not_failed : (g.R.Source.state l.script).has_failed ≡ false;
   not_ended : (g.R.Source.state l.script).has_ended ≡ false;
   calls : (g.R.Source.state l.script).calls ≡ l.call;
-  few : (g.R.Source.state l.script).given ≤ READ_SIZE * l.call;
-  room : length l.piece ≡ READ_SIZE;
+  few : (g.R.Source.state l.script).given ≤ read_size * l.call;
+  room : length l.piece ≡ read_size;
   numbered : l.session.number ≤ (g.R.Source.state l.script).given;
   out_ready : (g.O.Sink.state l.out).has_failed ≡ false;
   messages_ready : (g.M.Sink.state l.messages).has_failed ≡ false;

@@ -9,4 +9,5 @@ invariant-loop-entry l =
     let at_start = l.initial.attached in
     let attach = fold (with_attachment l.cntlid) in
     (l.attached.first ≡ at_start.first) × (l.attached.count ≡ at_start.count)
-    × (attach l.attached.members (map namespace_entry_view (drop l.entry-index l.entries)) ≡ attach at_start.members (map namespace_entry_view l.entries))
+    × (attach l.attached.members (map namespace_entry_view (drop l.entry-index l.entries)) ≡ attach
+    at_start.members (map namespace_entry_view l.entries))

@@ -17,7 +17,12 @@ loop-entry-preserved c =
     let so_far = c.loop-entry.invariant in
     let items : c.push.new.self.items ≡ made ++ x ∷ [] = c.in_ok-push.ensures.items in (
       ap (map view) items ∙ map_push view made x
-          ∙ ap (λ xs. xs ++ view x ∷ []) so_far.0 ∙ ap (λ v. map of (map controller_entry_view c.loop-entry.yielded) ++ v ∷ []) c.in_ok-controller.ensures.value
-          ∙ sym (ap (map of) (map_push controller_entry_view c.loop-entry.yielded c.in-Some.entry) ∙ map_push of (map controller_entry_view c.loop-entry.yielded) (controller_entry_view c.in-Some.entry)),
-      subst (All (IsSized c.args.nn)) (sym items) (All-push (IsSized c.args.nn) made x so_far.1 c.in_ok-controller.ensures.sized),
+          ∙ ap (λ xs. xs ++ view x ∷ []) so_far.0 ∙ ap
+          (λ v. map of (map controller_entry_view c.loop-entry.yielded) ++ v ∷ [])
+          c.in_ok-controller.ensures.value
+          ∙ sym (ap (map of) (map_push controller_entry_view c.loop-entry.yielded c.in-Some.entry)
+          ∙ map_push of (map controller_entry_view c.loop-entry.yielded)
+          (controller_entry_view c.in-Some.entry)),
+      subst (All (IsSized c.args.nn)) (sym items)
+          (All-push (IsSized c.args.nn) made x so_far.1 c.in_ok-controller.ensures.sized),
     )

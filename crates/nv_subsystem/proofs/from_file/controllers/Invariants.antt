@@ -8,5 +8,6 @@ use Rattle.nv_subsystem.proofs.from_file.controllers.Given as goal
 
 abbrev pub invariant-loop-entry : goal.invariant-loop-entry
 invariant-loop-entry l =
-    (map controller_view l.made.items ≡ map (controller_of (map namespace_entry_view l.namespaces)) (map controller_entry_view l.yielded))
+    (map controller_view l.made.items ≡ map (controller_of (map namespace_entry_view l.namespaces))
+    (map controller_entry_view l.yielded))
     × All (IsSized l.nn) l.made.items

@@ -8,7 +8,8 @@ use Rattle.nv_subsystem.proofs.identify.lbafs.Goals as goal
 pub loop-i-preserved : goal.loop-i-preserved
 loop-i-preserved c =
     ap (set c.loop-i.lbafs c.loop-i.i) c.lbaf.ensures
-    ∙ filled lbaf_of c.args.formats.now c.loop-i.i 16 _ no_lbaf c.loop-i.lbafs c.loop-i-test.true (omega arith) c.loop-i.invariant
+    ∙ filled lbaf_of c.args.formats.now c.loop-i.i 16 _ no_lbaf c.loop-i.lbafs c.loop-i-test.true
+    (omega arith) c.loop-i.invariant
 
 pub returns : goal.returns
 returns c =

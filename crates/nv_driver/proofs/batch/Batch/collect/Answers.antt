@@ -9,7 +9,8 @@ use Rattle.nv_driver.proofs.batch.Batch.collect.Goals as goal
 use Rattle.nv_driver.proofs.batch.Batch.collect.Goals.{then-self, else-self}
 
 -- the head is told once more
-told_once : (pace times before old new : ℕ) → old ≡ before + times * pace → new ≡ old + pace → IsToldByPace pace before new
+told_once : (pace times before old new : ℕ) → old ≡ before + times * pace → new ≡ old + pace
+    → IsToldByPace pace before new
 told_once pace times before old new h e = (times + 1, grind arith)
 
 pub loop-preserved : goal.loop-preserved
@@ -23,8 +24,13 @@ loop-preserved g c =
     let pace = ap (λ (x : Batch). x.geometry.pace) one.batch in
     let u = i.under_way in
     let asked = c.requires.1.1.1.0 in
-    let some : 1 ≤ c.loop.self.geometry.pace = omega (arith, u.begun.geometry.pace, ap (λ (q : Geometry). q.pace) u.geometry) in
-    let paces : c.loop.self.geometry.pace ≡ c.args.self.now.geometry.pace = ap (λ (q : Geometry). q.pace) (u.geometry ∙ sym asked.geometry) in
+    let some : 1 ≤ c.loop.self.geometry.pace = omega (
+      arith,
+      u.begun.geometry.pace,
+      ap (λ (q : Geometry). q.pace) u.geometry,
+    ) in
+    let paces : c.loop.self.geometry.pace ≡ c.args.self.now.geometry.pace =
+    ap (λ (q : Geometry). q.pace) (u.geometry ∙ sym asked.geometry) in
     let bus = subst (λ (x : Batch). IsBusOf r x.sent done x.told (g.B.Bus.meaning c.loop.bus)) (sym one.batch) i.bus in
     elim c.if-self.branch [
       | then-self w ↦
@@ -34,10 +40,18 @@ loop-preserved g c =
           let same = ap (λ (x : Batch). x.collected) is in
           record {
             under_way = next.0;
-            bus = subst (λ x. IsBusOf r c.if-self.self.sent done c.if-self.self.told (g.B.Bus.meaning x)) (sym w.bus-is) next.1;
+            bus = subst (λ x. IsBusOf r c.if-self.self.sent done c.if-self.self.told
+                (g.B.Bus.meaning x)) (sym w.bus-is) next.1;
             answers = subst (λ n. HasAnswers r n c.collect_one.new.answers) (sym same) one.answers;
             collected = omega (arith, same, count, i.collected);
-            near = omega (arith, some, same, ap (λ (x : Batch). x.told) is, ap (λ (x : Batch). x.geometry.pace) is, pace);
+            near = omega (
+              arith,
+              some,
+              same,
+              ap (λ (x : Batch). x.told) is,
+              ap (λ (x : Batch). x.geometry.pace) is,
+              pace,
+            );
             paced = let t = i.paced in
                 subst (λ p. IsToldByPace p c.args.self.now.told c.if-self.self.told) paces
                 (told_once c.loop.self.geometry.pace t.0 c.args.self.now.told c.loop.self.told c.if-self.self.told
@@ -48,8 +62,11 @@ loop-preserved g c =
       | else-self w ↦
           let same = ap (λ (x : Batch). x.collected) w.self-is in
           record {
-            under_way = subst (λ (x : Batch). IsUnderWay r x.sent done x c.if-self.lane (g.M.HostMemory.page_len c.args.mem.now) (g.M.HostMemory.bytes c.args.mem.now)) (sym w.self-is)
-                (subst (λ (x : Lane). IsUnderWay r c.collect_one.new.self.sent done c.collect_one.new.self x (g.M.HostMemory.page_len c.args.mem.now)
+            under_way = subst (λ (x : Batch). IsUnderWay r x.sent done x c.if-self.lane
+                (g.M.HostMemory.page_len c.args.mem.now) (g.M.HostMemory.bytes c.args.mem.now))
+                (sym w.self-is)
+                (subst (λ (x : Lane). IsUnderWay r c.collect_one.new.self.sent done
+                c.collect_one.new.self x (g.M.HostMemory.page_len c.args.mem.now)
                 (g.M.HostMemory.bytes c.args.mem.now)) (sym w.lane-is) one.under_way);
             bus = subst (λ x. IsBusOf r c.if-self.self.sent done c.if-self.self.told (g.B.Bus.meaning x)) (sym w.bus-is)
                 (subst (λ (x : Batch). IsBusOf r x.sent done x.told (g.B.Bus.meaning c.loop.bus)) (sym w.self-is) bus);

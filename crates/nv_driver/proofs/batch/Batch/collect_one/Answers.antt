@@ -157,7 +157,8 @@ returns-clause-under_way g c =
     let value = c.poll.ensures.value in
     let at = number_is u more some value c.distance.ensures in
     let place = ap (λ n. slice_index_or c.args.self.now.outstanding (n % 16) None) (sym at) in
-    collects u more some value place c.unwrap-pages.ensures c.freed.ensures (in_some _ _ some c.poll.ensures.collected) c.give.ensures
+    collects u more some value place c.unwrap-pages.ensures c.freed.ensures
+    (in_some _ _ some c.poll.ensures.collected) c.give.ensures
 
 pub returns-clause-answers : goal.returns-clause-answers
 returns-clause-answers g c =

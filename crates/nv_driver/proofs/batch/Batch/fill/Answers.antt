@@ -12,14 +12,30 @@ submit-next-requires-clause-pages g c =
     let first = c.requires.1.1 in
     let u = i.under_way in
     subst (λ (q : Geometry). pages_of_command q.page_size ≤ set.len c.loop-number.lane.pages.members) (sym u.geometry)
-    (set_has u (omega (arith, i.sent, i.collected, c.loop-number-test.true, c.min.ensures, first.window, ap (λ (q : Geometry). q.window) first.geometry)))
+    (set_has u (omega (
+      arith,
+      i.sent,
+      i.collected,
+      c.loop-number-test.true,
+      c.min.ensures,
+      first.window,
+      ap (λ (q : Geometry). q.window) first.geometry,
+    )))
 
 pub submit-next-requires-clause-free : goal.submit-next-requires-clause-free
 submit-next-requires-clause-free g c =
     let i = c.loop-number.invariant in
     let first = c.requires.1.1 in
     has_slot i.under_way
-    (omega (arith, i.sent, i.collected, c.loop-number-test.true, c.min.ensures, first.window, ap (λ (q : Geometry). q.window) first.geometry))
+    (omega (
+      arith,
+      i.sent,
+      i.collected,
+      c.loop-number-test.true,
+      c.min.ensures,
+      first.window,
+      ap (λ (q : Geometry). q.window) first.geometry,
+    ))
 
 pub loop-number-preserved : goal.loop-number-preserved
 loop-number-preserved g c =
@@ -27,11 +43,21 @@ loop-number-preserved g c =
     let u = i.under_way in
     let first = c.requires.1.1 in
     let more : c.loop-number.self.sent < c.loop-number.self.collected + g.run.geometry.window =
-    omega (arith, i.sent, i.collected, c.loop-number-test.true, c.min.ensures, first.window, ap (λ (q : Geometry). q.window) first.geometry) in
+    omega (
+      arith,
+      i.sent,
+      i.collected,
+      c.loop-number-test.true,
+      c.min.ensures,
+      first.window,
+      ap (λ (q : Geometry). q.window) first.geometry,
+    ) in
     let many = ap (λ (ks : List Command). length ks) c.requires.1.0 in
     record {
-      under_way = submits_at u _ i.sent more u.geometry c.submit-next.ensures.submitted c.requires.1.0 c.index-commands-number.is
-          (omega (arith, i.sent, c.loop-number-test.true, c.min.ensures, many, first.some)) c.submit-next.ensures.len c.submit-next.ensures.page;
+      under_way = submits_at u _ i.sent more u.geometry c.submit-next.ensures.submitted
+          c.requires.1.0 c.index-commands-number.is
+          (omega (arith, i.sent, c.loop-number-test.true, c.min.ensures, many, first.some))
+          c.submit-next.ensures.len c.submit-next.ensures.page;
       sent = ap (λ n. n + 1) i.sent;
       from = omega (arith, i.from);
       collected = i.collected;

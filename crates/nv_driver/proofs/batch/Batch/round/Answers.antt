@@ -6,6 +6,10 @@ pub returns-clause-further : goal.returns-clause-further
 returns-clause-further g c =
     let s = c.send.ensures in
     let t = c.turn-posted.ensures in
-    comes_further (length c.args.commands.now) c.args.self.now c.collect.new.self c.turn-posted.result c.requires.1.1.1.1.1.1.0
+    comes_further (length c.args.commands.now) c.args.self.now c.collect.new.self
+    c.turn-posted.result c.requires.1.1.1.1.1.1.0
     (c.collect.ensures.collected ∙ ap (λ n. n + c.turn-posted.result) (t.collected ∙ s.collected))
-    (λ none. let h = t.none none in (omega (arith, h.0, s.collected, s.told), c.collect.ensures.told none ∙ h.1 ∙ s.collected))
+    (λ none. let h = t.none none in (
+      omega (arith, h.0, s.collected, s.told),
+      c.collect.ensures.told none ∙ h.1 ∙ s.collected,
+    ))

@@ -6,7 +6,8 @@ use Rattle.nv_driver.proofs.batch.Batch.send.Goals as goal
 pub returns-in-Some-clause-under_way : goal.returns-in-Some-clause-under_way
 returns-in-Some-clause-under_way g c =
     let f = c.in-Some.ensures in
-    subst (λ n. IsUnderWay g.run c.fill.new.self.sent n c.fill.new.self c.fill.new.lane (g.M.HostMemory.page_len c.fill.new.mem)
+    subst (λ n. IsUnderWay g.run c.fill.new.self.sent n c.fill.new.self c.fill.new.lane
+    (g.M.HostMemory.page_len c.fill.new.mem)
     (g.M.HostMemory.bytes c.fill.new.mem)) (sym f.collected) (rings f.under_way)
 
 pub returns-in-Some-clause-bus : goal.returns-in-Some-clause-bus
@@ -14,6 +15,8 @@ returns-in-Some-clause-bus g c =
     let f = c.in-Some.ensures in
     let u = f.under_way in
     let w = c.write32.ensures in
-    subst (λ n. IsBusOf g.run c.fill.new.self.sent c.fill.new.self.collected n (g.B.Bus.meaning c.write32.new.self)) (sym f.told)
-    (subst (λ n. IsBusOf g.run c.fill.new.self.sent n c.args.self.now.told (g.B.Bus.meaning c.write32.new.self)) (sym f.collected)
+    subst (λ n. IsBusOf g.run c.fill.new.self.sent c.fill.new.self.collected n
+    (g.B.Bus.meaning c.write32.new.self)) (sym f.told)
+    (subst (λ n. IsBusOf g.run c.fill.new.self.sent n c.args.self.now.told
+    (g.B.Bus.meaning c.write32.new.self)) (sym f.collected)
     (bus_rings u c.requires.1.1.1.1 u.controller c.from.ensures f.tail w.state w.ports w.bus))

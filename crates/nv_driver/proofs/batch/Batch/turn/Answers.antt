@@ -13,7 +13,8 @@ returns-then-posted-eq0-clause-under_way g c =
     let t = c.tell.ensures in
     let next = tells_on h.under_way h.bus_is t.batch t.lane t.state t.bus t.told t.silent in
     let same = ap (λ (x : Batch). x.collected + c.turn-posted.result) t.batch in
-    subst (λ n. IsUnderWay g.run c.tell.new.self.sent n c.tell.new.self c.tell.new.lane (g.M.HostMemory.page_len c.turn-posted.new.mem)
+    subst (λ n. IsUnderWay g.run c.tell.new.self.sent n c.tell.new.self c.tell.new.lane
+    (g.M.HostMemory.page_len c.turn-posted.new.mem)
     (g.M.HostMemory.bytes c.turn-posted.new.mem)) (sym same) next.0
 
 pub returns-then-posted-eq0-clause-bus : goal.returns-then-posted-eq0-clause-bus
@@ -24,15 +25,19 @@ returns-then-posted-eq0-clause-bus g c =
     let t = c.tell.ensures in
     let next = tells_on h.under_way h.bus_is t.batch t.lane t.state t.bus t.told t.silent in
     let same = ap (λ (x : Batch). x.collected + c.turn-posted.result) t.batch in
-    subst (λ n. IsBusOf g.run c.tell.new.self.sent n c.tell.new.self.told (g.B.Bus.meaning c.tell.new.bus)) (sym same) next.1
+    subst (λ n. IsBusOf g.run c.tell.new.self.sent n c.tell.new.self.told
+    (g.B.Bus.meaning c.tell.new.bus)) (sym same) next.1
 
 pub returns-then-posted-eq0-clause-none : goal.returns-then-posted-eq0-clause-none
 returns-then-posted-eq0-clause-none g c = λ none.
     let u = c.requires.1.1.0 in
     let e = c.turn-posted.ensures in
     let h = turns_on u c.requires.1.1.1.0 u.controller e.turn e.bus e.len e.page in
-    let pace = u.begun.geometry.pace in
-    (none_free h none (omega (arith, pace.0, ap (λ (q : Geometry). q.pace) u.geometry)) c.requires.1.1.1.1.0, ap (λ (x : Batch). x.told) c.tell.ensures.batch)
+    let pace = u.begun.geometry.pace in (
+      none_free h none (omega (arith, pace.0, ap (λ (q : Geometry). q.pace) u.geometry))
+          c.requires.1.1.1.1.0,
+      ap (λ (x : Batch). x.told) c.tell.ensures.batch,
+    )
 
 pub returns-else-posted-eq0-clause-under_way : goal.returns-else-posted-eq0-clause-under_way
 returns-else-posted-eq0-clause-under_way g c =

@@ -23,7 +23,8 @@ loop-at-preserved c =
     let at = c.loop-at.at in
     let below : at < length numbers = omega (arith, c.loop-at-test.true, inv.1, c.requires.few) in (
       subst (λ ps. Taking c.args.free.now c.take.new.self ps) (sym (take_more_set numbers at c.unwrap.result below))
-          (taking_next c.args.free.now c.loop-at.free c.take.new.self (take at numbers) c.take.result c.unwrap.result inv.0 c.unwrap.ensures
+          (taking_next c.args.free.now c.loop-at.free c.take.new.self (take at numbers)
+          c.take.result c.unwrap.result inv.0 c.unwrap.ensures
           c.take.ensures.taken c.take.ensures.of_these),
       length-set numbers at c.unwrap.result ∙ inv.1,
     )

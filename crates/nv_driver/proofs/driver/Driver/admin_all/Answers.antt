@@ -8,22 +8,41 @@ use Rattle.nv_driver.proofs.driver.Driver.admin_all.Goals as goal
 
 pub exchange_all-requires : goal.exchange_all-requires
 exchange_all-requires g c κs within =
-    let ready = ready_at c.self.invariant c.requires.bus (c.requires.left ∙ ap ports_of (sym c.self.view_is)) (inside_of _ _ _ _ _ c.requires.ctrl c.self.view_is) c.index_mut-lane.ensures.value in
-    (search rules, (search rules, (refl, (ready, (λ i d h. record { fits = c.requires.fits i d h; sends = c.requires.sends i d h }, c.requires.len)))))
+    let ready = ready_at c.self.invariant c.requires.bus
+    (c.requires.left ∙ ap ports_of (sym c.self.view_is))
+    (inside_of _ _ _ _ _ c.requires.ctrl c.self.view_is) c.index_mut-lane.ensures.value in (
+      search rules,
+      (
+        search rules,
+        (
+          refl,
+          (
+            ready,
+            (
+              λ i d h. record { fits = c.requires.fits i d h; sends = c.requires.sends i d h },
+              c.requires.len,
+            ),
+          ),
+        ),
+      ),
+    )
 
 pub invariant_of-self : goal.invariant_of-self
 invariant_of-self g c =
     let e = c.exchange_all.ensures in
-    driver_after c.self.invariant (inside_of _ _ _ _ _ c.requires.ctrl c.self.view_is) c.index_mut-lane.ensures.value e.ready e.lane e.others e.len e.page
+    driver_after c.self.invariant (inside_of _ _ _ _ _ c.requires.ctrl c.self.view_is)
+    c.index_mut-lane.ensures.value e.ready e.lane e.others e.len e.page
 
 pub returns-clause-driver : goal.returns-clause-driver
 returns-clause-driver g c =
     let e = c.exchange_all.ensures in
     let n = length c.args.commands.now in
-    value_after (after_some n) _ _ _ _ _ _ _ (inside_of _ _ _ _ _ c.requires.ctrl c.self.view_is) c.index_mut-lane.ensures.value e.lane e.len e.page
+    value_after (after_some n) _ _ _ _ _ _ _ (inside_of _ _ _ _ _ c.requires.ctrl c.self.view_is)
+    c.index_mut-lane.ensures.value e.lane e.len e.page
     ∙ ap (λ (d : DriverValue). after_commands d c.args.ctrl n) c.self.view_is
 
 pub returns-clause-left : goal.returns-clause-left
 returns-clause-left g c =
     let e = c.exchange_all.ensures in
-    ports_left c.self.inside.geometry c.self.inside.lanes.items c.args.ctrl c.exchange_all.new.lane _ _ (c.requires.left ∙ ap ports_of (sym c.self.view_is)) e.ports e.ready.port
+    ports_left c.self.inside.geometry c.self.inside.lanes.items c.args.ctrl c.exchange_all.new.lane
+    _ _ (c.requires.left ∙ ap ports_of (sym c.self.view_is)) e.ports e.ready.port

@@ -1,6 +1,6 @@
 use Rattle.std.proofs.Common.{rules, pos, get_or, Err, ◌≡◌, w64, ℕ, Vec, Global}
 use Rattle.std.proofs.lemmas.Int.{to_z-of_z}
-use Rattle.nv_file.specs.Section.{element}
+use Rattle.nv_file.specs.KeyReading.{element}
 use Rattle.nv_file.proofs.Readings.{readings_fail}
 use Rattle.nv_file.proofs.section.Section.each_in_range.Goals as goal
 use mir.Val.{SFits}
@@ -14,7 +14,8 @@ returns-in_err-number c =
     let read = element c.args.self.now.name c.args.key c.args.high in
     let fits : SFits w64 z = search rules in
     let first = rw (to_z-of_z w64 z fits) at c.in_err-number.ensures.exact in
-    let fails = readings_fail {X = ℕ} {Z = Vec ℕ Global} (λ n. n) (λ v. v.items) read c.loop-integer.numbers.items zs i (pos 0) _ c.loop-integer-test.true first in
+    let fails = readings_fail {X = ℕ} {Z = Vec ℕ Global} (λ n. n) (λ v. v.items) read
+    c.loop-integer.numbers.items zs i (pos 0) _ c.loop-integer-test.true first in
     let whole = rw c.loop-integer.invariant at fails in
     let is : c.from_residual.result ≡ Err c.in_err-number.field-0.0 = search rules in
     rw is whole

@@ -13,6 +13,7 @@ returns-in_default c =
 pub returns-then-not-sets : goal.returns-then-not-sets
 returns-then-not-sets c =
     let k = key_of c.args.feature c.args.nsid c.args.selector in
-    let apart : is_set c.args.feature c.args.asked.value c.args.selector ≡ false = sym c.sets.ensures ∙ c.if-not-sets.true in
+    let apart : is_set c.args.feature c.args.asked.value c.args.selector ≡ false =
+    sym c.sets.ensures ∙ c.if-not-sets.true in
     ap (in_values c.args.self.now.nn) (sym (written_apart c.args.feature c.args.asked.value c.args.asked.save
     c.args.self.now.values k apart))

@@ -5,5 +5,6 @@ use Rattle.nv_subsystem.proofs.subsystem.Subsystem.book.Goals as goal
 
 pub returns-clause-state : goal.returns-clause-state
 returns-clause-state c =
-    controller_written c.args.self.now (the_view c.self.inside) c.self.inside.controllers.items c.args.ctrl _ c.book.new.self (with_refusal c.args.nsid c.args.origin.cid c.args.refusal)
+    controller_written c.args.self.now (the_view c.self.inside) c.self.inside.controllers.items
+    c.args.ctrl _ c.book.new.self (with_refusal c.args.nsid c.args.origin.cid c.args.refusal)
     c.self.view_is c.requires c.index_mut-controller.ensures.value c.book.ensures.refusal

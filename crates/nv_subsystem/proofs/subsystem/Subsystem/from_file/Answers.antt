@@ -3,7 +3,8 @@ use Rattle.std.specs.List.{fold}
 use Rattle.nv_file.specs.FileValue.{controller_entry_view, namespace_entry_view}
 use Rattle.nv_subsystem.specs.FromFile.{controller_of, with_namespace}
 use Rattle.std.proofs.Common.{ap, map, ◌∙◌}
-use Rattle.nv_subsystem.proofs.FileCode.{adds_up, is_sound, nsids_within, rules_within, within_capacity}
+use Rattle.nv_subsystem.proofs.FileCode.{adds_up, is_sound, mdts_within, nsids_within, rules_within}
+use Rattle.nv_subsystem.proofs.FileCode.{within_capacity}
 use Rattle.nv_subsystem.proofs.subsystem.Subsystem.from_file.Goals as goal
 
 pub unallocated-unallocated-requires : goal.unallocated-unallocated-requires
@@ -19,6 +20,9 @@ controllers-requires-clause-nsids c = rw (c.deref-3.ensures.value)
 
 pub controllers-requires-clause-rules : goal.controllers-requires-clause-rules
 controllers-requires-clause-rules c = rules_within c.args.file c.requires
+
+pub controllers-requires-clause-mdts : goal.controllers-requires-clause-mdts
+controllers-requires-clause-mdts c = mdts_within c.args.file c.requires
 
 pub invariant_of-result : goal.invariant_of-result
 invariant_of-result c = let slots_are = c.in_ok-slots.ensures.value

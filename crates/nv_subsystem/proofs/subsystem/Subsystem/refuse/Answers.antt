@@ -7,4 +7,5 @@ use Rattle.nv_subsystem.proofs.subsystem.Subsystem.refuse.Goals as goal
 pub returns-clause-well_formed : goal.returns-clause-well_formed
 returns-clause-well_formed c w fits =
     subst IsWellFormed (sym (c.count.ensures ∙ ap (λ s. with_command s c.args.ctrl) c.book.ensures.state))
-    (refused_keeps c.args.self.now c.args.ctrl c.args.nsid c.args.origin.cid c.args.refusal c.ranges.nsid.fits c.book.ensures.range fits w)
+    (refused_keeps c.args.self.now c.args.ctrl c.args.nsid c.args.origin.cid c.args.refusal
+    c.ranges.nsid.fits c.book.ensures.range fits w)

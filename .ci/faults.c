@@ -1,0 +1,40 @@
+/* Loaded before a program: of its reads from standard input the one that FAIL_READ names, counted from 1, fails as one of a
+   broken device does, and of its writes to standard output or standard error the one that INTERRUPT_1 or INTERRUPT_2 names
+   is interrupted. All else goes to the C library. */
+#define _GNU_SOURCE
+#include <dlfcn.h>
+#include <errno.h>
+#include <stdlib.h>
+#include <unistd.h>
+
+static unsigned long reads, writes[3];
+
+static unsigned long named(const char *name) {
+    const char *text = getenv(name);
+    return text ? strtoul(text, NULL, 10) : 0;
+}
+
+ssize_t read(int file, void *into, size_t size) {
+    static ssize_t (*next)(int, void *, size_t);
+    if (!next)
+        next = dlsym(RTLD_NEXT, "read");
+    if (file == 0 && ++reads == named("FAIL_READ")) {
+        errno = EIO;
+        return -1;
+    }
+    return next(file, into, size);
+}
+
+ssize_t write(int file, const void *from, size_t size) {
+    static ssize_t (*next)(int, const void *, size_t);
+    if (!next)
+        next = dlsym(RTLD_NEXT, "write");
+    if ((file == 1 || file == 2) && ++writes[file] == named(file == 1 ? "INTERRUPT_1" : "INTERRUPT_2")) {
+        errno = EINTR;
+        return -1;
+    }
+    return next(file, from, size);
+}
+
+/* (what a call of write with checks of its size is linked to) */
+ssize_t __write(int file, const void *from, size_t size) { return write(file, from, size); }

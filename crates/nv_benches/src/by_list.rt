@@ -1,0 +1,81 @@
+//! A log in pages that lie anywhere, by a list that is written by hand.
+
+ghost use Rattle.nv_bus.specs.Bus.{IsBus};
+
+use anyhow::bail;
+use nv_controller::{Bus, Machine};
+use nv_host::{FlatMemory, HostMemory};
+use nv_layout::{ErrorEntry, Sqe};
+use nv_register::offset;
+use nv_subsystem::{DEMO, Subsystem};
+
+/// Lets a controller refuse an entry, reads 16,384 bytes of its error log into pages 13, 5, 11 and
+/// 6, and prints what the first of them begins with and the last one ends with.
+#[tactic(auto, unfolding(nv_host::specs::Pages::IsPageSize))]
+pub(crate) fn read_log(rt: &HostRuntime) -> anyhow::Result<()> {
+    let subsystem = Subsystem::from_toml(rt.alloc(), DEMO.as_bytes())?;
+    let mut machine = Machine::new(rt.alloc(), subsystem)?;
+    let mut mem = FlatMemory::new(rt.alloc(), 4096, 16)?;
+    // PRP1 names page 13. PRP2 names the list, which names the others.
+    mem.store(0x8000, &0x5000u64.to_le_bytes())?;
+    mem.store(0x8008, &0xb000u64.to_le_bytes())?;
+    mem.store(0x8010, &0x6000u64.to_le_bytes())?;
+    mem.store(0x6ff8, &[0xff; 8])?;
+    let reserved = Sqe {
+        opcode: 0xff,
+        cid: 1,
+        ..Sqe::default()
+    };
+    let log = Sqe {
+        opcode: 0x02,
+        cid: 2,
+        nsid: 0xffff_ffff,
+        prp1: 0xd000,
+        prp2: 0x8000,
+        cdw10: 0x0fff_0001,
+        ..Sqe::default()
+    };
+    submit(&mut machine, &mut mem, &reserved, &log)?;
+    let mut newest = [0; 64];
+    mem.load(0xd000, &mut newest)?;
+    let newest = ErrorEntry::get(&newest);
+    let mut last = [0; 8];
+    mem.load(0x6ff8, &mut last)?;
+    println!(rt;
+        "by list: error {}, command {}, status {}, last bytes {:#x}",
+        newest.count,
+        newest.cid,
+        newest.status,
+        u64::from_le_bytes(last)
+    )?;
+    Ok(())
+}
+
+/// Makes the controller ready with rings of four entries, at 0h and 1000h, and gives it two entries
+/// at once.
+fn submit(
+    machine: &mut Machine,
+    mem: &mut FlatMemory,
+    first: &Sqe,
+    second: &Sqe,
+) -> anyhow::Result<()>
+    requires { IsBus machine.old }
+{
+    if machine.controllers() == 0 {
+        bail!("no controller");
+    }
+    machine.write32(0, offset::AQA, 0x0003_0003);
+    machine.write32(0, offset::ASQ_LOW, 0x0000);
+    machine.write32(0, offset::ACQ_LOW, 0x1000);
+    machine.write32(0, offset::CC, 0x0046_0001);
+    let mut bytes = [0; 64];
+    first.put(&mut bytes);
+    mem.store(0x0000, &bytes)?;
+    second.put(&mut bytes);
+    mem.store(0x0040, &bytes)?;
+    machine.write32(0, offset::TAIL_DOORBELL, 2);
+    if machine.turn(0, mem, 16) != 2 {
+        bail!("not both entries were taken");
+    }
+    Ok(())
+}

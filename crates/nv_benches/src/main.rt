@@ -1,0 +1,16 @@
+//! The benches of docs/BENCHES.md, one after the other. Each prints what it finds.
+#![tactic(auto)]
+
+mod by_hand;
+mod by_list;
+mod from_file;
+mod in_memory;
+mod own_bus;
+
+fn main(rt: HostRuntime) -> anyhow::Result<()> {
+    by_hand::identify(&rt)?;
+    by_list::read_log(&rt)?;
+    own_bus::count_turns(&rt)?;
+    in_memory::run_two_lines(&rt)?;
+    from_file::read_two(&rt)
+}

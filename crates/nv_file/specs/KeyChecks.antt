@@ -1,0 +1,127 @@
+-- What a table has at a key, and the checks of one key. `t` is the table and `k` the key, as a
+-- fault names them; `m` are the members of the table.
+use Rattle.std.specs.Prelude.{ℕ, ℤ, pos, negsuc, Bool, true, false, not, ◌&&◌, ◌||◌, ◌==◌, List, []}
+use Rattle.std.specs.Prelude.{◌∷◌, ◌++◌, length, Option, Some, option_and_then, unwrap_or, is_some}
+use Rattle.std.specs.Prelude.{nat_le}
+use Rattle.std.specs.List.{list_any}
+use Rattle.std.specs.Option.{option_map_or}
+use Rattle.std.specs.Str.{bytes_eq}
+use Rattle.toml.specs.Data.{Data, Items, no_items, item, Members, no_members, member, get_member}
+use Rattle.toml.specs.Data.{as_integer, as_str, as_bool, as_array, as_table}
+use Rattle.nv_model.specs.Ranges.{is_text}
+use Rattle.nv_file.specs.declared.error.SubsystemError.TheVariants.{Missing, Kind, Range, Repeated}
+use Rattle.nv_file.specs.declared.error.SubsystemError.TheVariants.{Unknown}
+use Rattle.nv_file.specs.declared.table_name.TableName.{TableName}
+use Rattle.nv_file.specs.declared.key.Key.{Key}
+use Rattle.nv_file.specs.Names.{key_text}
+use Rattle.nv_file.specs.Check.{Check, check}
+
+-- ---- what stands at a key
+
+-- anything does
+abbrev pub has_key : Key → Members → Bool
+has_key k m = is_some (get_member (key_text k) m)
+
+-- what does, if it is of a kind
+abbrev pub at : {A : Type 0} → (Data → Option A) → Key → Members → Option A
+at kind k m = option_and_then kind (get_member (key_text k) m)
+
+-- the items, each as `kind` has it, behind those before, if all are of the kind
+abbrev pub items_as : {A : Type 0} → (Data → Option A) → List A → Items → Option (List A)
+items_as kind before no_items = Some before
+items_as kind before (item d ds) =
+    option_and_then (λ x. items_as kind (before ++ x ∷ []) ds) (kind d)
+
+-- lists whose items are all tables, or all integers
+abbrev pub as_tables : Data → Option (List Members)
+as_tables d = option_and_then (items_as as_table []) (as_array d)
+
+abbrev pub as_integers : Data → Option (List ℤ)
+as_integers d = option_and_then (items_as as_integer []) (as_array d)
+
+-- an integer as a number; one below 0 counts as 0
+abbrev pub number : ℤ → ℕ
+number (pos n) = n
+number (negsuc n) = 0
+
+-- what does, or else what stands for it
+abbrev pub number_at : Key → ℕ → Members → ℕ
+number_at k default m = option_map_or number (at as_integer k m) default
+
+abbrev pub flag_at : Key → Bool → Members → Bool
+flag_at k default m = unwrap_or (at as_bool k m) default
+
+abbrev pub text_at : Key → Members → List ℕ
+text_at k m = unwrap_or (at as_str k m) []
+
+abbrev pub integers_at : Key → Members → List ℤ
+integers_at k m = unwrap_or (at as_integers k m) []
+
+abbrev pub tables_at : Key → Members → List Members
+tables_at k m = unwrap_or (at as_tables k m) []
+
+-- a table that is missing has no members
+abbrev pub table_at : Key → Members → Members
+table_at k m = unwrap_or (at as_table k m) no_members
+
+-- ---- checks, of which those of kind and limits hold where nothing stands at the key
+
+abbrev pub needed : TableName → Key → Members → List Check
+needed t k m = check (has_key k m) (Missing t k)
+
+abbrev pub of_kind : {A : Type 0} → TableName → Key → (Data → Option A) → Members → List Check
+of_kind t k kind m = check (not (has_key k m) || is_some (at kind k m)) (Kind t k)
+
+abbrev pub in_limits : TableName → Key → Bool → List Check
+in_limits t k holds = check holds (Range t k)
+
+-- of a kind, and such as is allowed
+abbrev pub limited : {A : Type 0} → TableName → Key → (Data → Option A) → (A → Bool) → Members
+    → List Check
+limited t k kind allowed m =
+    of_kind t k kind m ++ in_limits t k (option_map_or allowed (at kind k m) true)
+
+abbrev pub is_within : ℕ → ℕ → ℤ → Bool
+is_within low high (pos n) = nat_le low n && nat_le n high
+is_within low high (negsuc n) = false
+
+abbrev pub integer : TableName → Key → ℕ → ℕ → Members → List Check
+integer t k low high m = limited t k as_integer (is_within low high) m
+
+-- the same for several keys
+abbrev pub integers : TableName → List Key → ℕ → ℕ → Members → List Check
+integers t [] low high m = []
+integers t (k ∷ ks) low high m = integer t k low high m ++ integers t ks low high m
+
+abbrev pub text : TableName → Key → ℕ → Members → List Check
+text t k most m = limited t k as_str (is_text most) m
+
+abbrev pub flag : TableName → Key → Members → List Check
+flag t k m = of_kind t k as_bool m
+
+-- from one to most tables
+abbrev pub tables : TableName → Key → ℕ → Members → List Check
+tables t k most m =
+    limited t k as_tables (λ found. nat_le 1 (length found) && nat_le (length found) most) m
+
+-- none of the tables before has the number
+abbrev pub not_repeated : TableName → Key → List Members → Members → List Check
+not_repeated t k before m =
+    check (not (list_any (λ other. number_at k 0 other == number_at k 0 m) before)) (Repeated t k)
+
+-- a key is one of the known ones
+abbrev pub is_known : List Key → List ℕ → Bool
+is_known known k = list_any (λ x. bytes_eq (key_text x) k) known
+
+abbrev pub has_only : List Key → Members → Bool
+has_only known no_members = true
+has_only known (member k d ms) = is_known known k && has_only known ms
+
+-- no keys but the known ones
+abbrev pub no_other : TableName → List Key → Members → List Check
+no_other t known m = check (has_only known m) (Unknown t)
+
+-- each table of a list, with those before it at hand
+abbrev pub each : (List Members → Members → List Check) → List Members → List Members → List Check
+each checks before [] = []
+each checks before (m ∷ ms) = checks before m ++ each checks (before ++ m ∷ []) ms

@@ -1,0 +1,263 @@
+-- The tables of a file: for each the checks of its keys in their order, and what it holds where
+-- none of them fails. `m` are the members of the table.
+use Rattle.std.specs.Prelude.{ℕ, ℤ, ◌^◌, Bool, true, false, not, ◌&&◌, ◌||◌, List, [], ◌∷◌, ◌++◌, map}
+use Rattle.std.specs.Prelude.{Option, is_some, nat_le, ◌==◌, slice_get, slice_index, length}
+use Rattle.std.specs.Prelude.{if◌then◌else◌}
+use Rattle.std.specs.List.{list_all}
+use Rattle.std.specs.Option.{option_map_or}
+use Rattle.toml.specs.Data.{Members, as_table}
+use Rattle.nv_layout.specs.Feature as feature
+use Rattle.nv_model.specs.declared.format.Format.{Format}
+use Rattle.nv_model.specs.declared.defaults.Defaults.TheVariants.{One, Thresholds}
+use Rattle.nv_model.specs.declared.feature_rule.FeatureRule.{FeatureRule}
+use Rattle.nv_model.specs.declared.smart_base.SmartBase.{SmartBase}
+use Rattle.nv_model.specs.Formats.{may_extend}
+use Rattle.nv_model.specs.Identity.{Identity}
+use Rattle.nv_model.specs.Numbers.{greatest_integer}
+use Rattle.nv_file.specs.declared.table_name.TableName.TheVariants as table
+use Rattle.nv_file.specs.declared.key.Key.{Key}
+use Rattle.nv_file.specs.declared.key.Key.TheVariants as key
+use Rattle.nv_file.specs.Check.{Check}
+use Rattle.nv_file.specs.FileValue.{ControllerValue, NamespaceValue}
+use Rattle.nv_file.specs.KeyChecks.{has_key, needed, integer, integers, text, flag, of_kind}
+use Rattle.nv_file.specs.KeyChecks.{in_limits, is_within, not_repeated, no_other, each}
+use Rattle.nv_file.specs.KeyChecks.{as_tables, as_integers}
+use Rattle.nv_file.specs.KeyChecks.{number, number_at, text_at, flag_at, integers_at, tables_at}
+use Rattle.nv_file.specs.KeyChecks.{table_at}
+use Rattle.nv_file.specs.Names.{keys_of, feature_keys}
+
+-- ---- a format
+
+unfoldable pub format_checks : Members → List Check
+format_checks m =
+    needed table.Format key.Lbads m
+    ++ integer table.Format key.Lbads 9 16 m
+    ++ integer table.Format key.Ms 0 65535 m
+    ++ integer table.Format key.Rp 0 3 m
+    ++ no_other table.Format (keys_of table.Format) m
+
+unfoldable pub format_value : Members → Format
+format_value m = record {
+  lbads = number_at key.Lbads 0 m;
+  ms = number_at key.Ms 0 m;
+  rp = number_at key.Rp 0 m;
+}
+
+-- ---- a feature
+
+abbrev pub fid_of : Members → ℕ
+fid_of m = number_at key.Fid 0 m
+
+abbrev pub is_saveable : Members → Bool
+is_saveable m = flag_at key.Saveable false m
+
+-- at `default`: a value of the feature. Temperature Threshold has none
+abbrev pub is_default : Members → Bool
+is_default m =
+    let value = number_at key.Default 0 m in
+    option_map_or (λ f. feature.is_value f value) (feature.feature_of (fid_of m)) false
+    && not ((fid_of m == 0x04) && has_key key.Default m)
+
+-- at `over` and `under`: nine thresholds. Temperature Threshold alone may have them
+abbrev pub thresholds : Key → Members → List Check
+thresholds k m =
+    let zs = integers_at k m in
+    of_kind table.Feature k as_integers m
+    ++ in_limits table.Feature k (not (has_key k m) || ((fid_of m == 0x04) && (length zs == 9)))
+    ++ in_limits table.Feature k (list_all (is_within 0 65535) zs)
+
+-- by the version of the file. Version 1 has no thresholds
+unfoldable pub feature_checks : ℕ → List Members → Members → List Check
+feature_checks version before m =
+    needed table.Feature key.Fid m
+    ++ integer table.Feature key.Fid 0 255 m
+    ++ in_limits table.Feature key.Fid (is_some (feature.feature_of (fid_of m)))
+    ++ in_limits table.Feature key.Fid (not ((version == 1) && (fid_of m == 0x04)))
+    ++ not_repeated table.Feature key.Fid before m
+    ++ integer table.Feature key.Default 0 4294967295 m
+    ++ in_limits table.Feature key.Default (is_default m)
+    ++ flag table.Feature key.Saveable m
+    ++ in_limits table.Feature key.Saveable (not (is_saveable m && (fid_of m == 0x05)))
+    ++ flag table.Feature key.Changeable m
+    ++ (if version == 1 then [] else thresholds key.Over m ++ thresholds key.Under m)
+    ++ no_other table.Feature (feature_keys version) m
+
+-- nine numbers; those that the list does not reach are 0
+abbrev pub nine : List ℕ → List ℕ
+nine numbers = map (slice_index numbers) (0 ∷ 1 ∷ 2 ∷ 3 ∷ 4 ∷ 5 ∷ 6 ∷ 7 ∷ 8 ∷ [])
+
+abbrev pub default_over : ℕ → List ℕ
+default_over wctemp =
+    wctemp ∷ 65535 ∷ 65535 ∷ 65535 ∷ 65535 ∷ 65535 ∷ 65535 ∷ 65535 ∷ 65535 ∷ []
+
+abbrev pub thresholds_at : Key → List ℕ → Members → List ℕ
+thresholds_at k default m =
+    if has_key k m then nine (map number (integers_at k m)) else default
+
+-- by the wctemp of the controller
+unfoldable pub feature_value : ℕ → Members → FeatureRule
+feature_value wctemp m = record {
+  fid = fid_of m;
+  defaults =
+      if fid_of m == 0x04
+      then Thresholds (thresholds_at key.Over (default_over wctemp) m)
+      (thresholds_at key.Under (nine []) m)
+      else One (number_at key.Default 0 m);
+  saveable = is_saveable m;
+  changeable = flag_at key.Changeable true m;
+}
+
+-- ---- a health log
+
+abbrev pub byte_keys : List Key
+byte_keys = key.CriticalWarning ∷ key.AvailSpare ∷ key.SpareThresh ∷ key.PercentUsed ∷ []
+
+abbrev pub counter_keys : List Key
+counter_keys =
+    key.DataUnitsRead ∷ key.DataUnitsWritten ∷ key.HostReadCommands ∷ key.HostWriteCommands ∷
+    key.ControllerBusyTime ∷ key.PowerCycles ∷ key.PowerOnHours ∷ key.UnsafeShutdowns ∷
+    key.MediaErrors ∷ []
+
+abbrev pub sensors_of : Members → List ℤ
+sensors_of m = integers_at key.Sensors m
+
+unfoldable pub smart_checks : Members → List Check
+smart_checks m =
+    integers table.Smart byte_keys 0 255 m
+    ++ integer table.Smart key.Temperature 0 65535 m
+    ++ integers table.Smart counter_keys 0 greatest_integer m
+    ++ integers table.Smart (key.WarningTempTime ∷ key.CriticalCompTime ∷ []) 0 4294967295 m
+    ++ of_kind table.Smart key.Sensors as_integers m
+    ++ in_limits table.Smart key.Sensors (nat_le (length (sensors_of m)) 8)
+    ++ in_limits table.Smart key.Sensors (list_all (is_within 0 65535) (sensors_of m))
+    ++ no_other table.Smart (keys_of table.Smart) m
+
+-- the eight sensors; those that the list does not reach are 0
+abbrev pub eight : List ℕ → List ℕ
+eight numbers = map (slice_index numbers) (0 ∷ 1 ∷ 2 ∷ 3 ∷ 4 ∷ 5 ∷ 6 ∷ 7 ∷ [])
+
+unfoldable pub smart_value : Members → SmartBase
+smart_value m = record {
+  critical_warning = number_at key.CriticalWarning 0 m;
+  temperature = number_at key.Temperature 0 m;
+  avail_spare = number_at key.AvailSpare 0 m;
+  spare_thresh = number_at key.SpareThresh 0 m;
+  percent_used = number_at key.PercentUsed 0 m;
+  counters = record {
+    data_units_read = number_at key.DataUnitsRead 0 m;
+    data_units_written = number_at key.DataUnitsWritten 0 m;
+    host_read_commands = number_at key.HostReadCommands 0 m;
+    host_write_commands = number_at key.HostWriteCommands 0 m;
+    controller_busy_time = number_at key.ControllerBusyTime 0 m;
+    power_cycles = number_at key.PowerCycles 0 m;
+    power_on_hours = number_at key.PowerOnHours 0 m;
+    unsafe_shutdowns = number_at key.UnsafeShutdowns 0 m;
+    media_errors = number_at key.MediaErrors 0 m;
+  };
+  warning_temp_time = number_at key.WarningTempTime 0 m;
+  critical_comp_time = number_at key.CriticalCompTime 0 m;
+  sensors = eight (map number (sensors_of m));
+}
+
+-- ---- a controller: its own table, then its features, then its health log
+
+unfoldable pub identity_checks : List Members → Members → List Check
+identity_checks before m =
+    needed table.Controller key.Cntlid m
+    ++ integer table.Controller key.Cntlid 0 65519 m
+    ++ not_repeated table.Controller key.Cntlid before m
+    ++ needed table.Controller key.Sn m
+    ++ text table.Controller key.Sn 20 m
+    ++ needed table.Controller key.Mn m
+    ++ text table.Controller key.Mn 40 m
+    ++ needed table.Controller key.Fr m
+    ++ text table.Controller key.Fr 8 m
+    ++ integers table.Controller (key.Vid ∷ key.Ssvid ∷ []) 0 65535 m
+    ++ integer table.Controller key.Rab 0 255 m
+    ++ integer table.Controller key.Ieee 0 16777215 m
+    ++ integer table.Controller key.Mdts 2 8 m
+    ++ integer table.Controller key.Elpe 0 255 m
+    ++ integers table.Controller (key.Wctemp ∷ key.Cctemp ∷ []) 0 65535 m
+    ++ integer table.Controller key.Vwc 0 7 m
+    ++ flag table.Controller key.CryptoErase m
+
+unfoldable pub identity_value : Members → Identity
+identity_value m = record {
+  cntlid = number_at key.Cntlid 0 m;
+  sn = text_at key.Sn m;
+  mn = text_at key.Mn m;
+  fr = text_at key.Fr m;
+  numbers = record {
+    vid = number_at key.Vid 0 m;
+    ssvid = number_at key.Ssvid 0 m;
+    rab = number_at key.Rab 0 m;
+    ieee = number_at key.Ieee 0 m;
+    mdts = number_at key.Mdts 5 m;
+    elpe = number_at key.Elpe 63 m;
+    wctemp = number_at key.Wctemp 343 m;
+    cctemp = number_at key.Cctemp 353 m;
+    vwc = number_at key.Vwc 0 m;
+  };
+  crypto_erase = flag_at key.CryptoErase false m;
+}
+
+unfoldable pub controller_checks : ℕ → List Members → Members → List Check
+controller_checks version before m =
+    identity_checks before m
+    ++ of_kind table.Controller key.Feature as_tables m
+    ++ of_kind table.Controller key.Smart as_table m
+    ++ no_other table.Controller (keys_of table.Controller) m
+    ++ each (feature_checks version) [] (tables_at key.Feature m)
+    ++ smart_checks (table_at key.Smart m)
+
+unfoldable pub controller_value : Members → ControllerValue
+controller_value m = record {
+  identity = identity_value m;
+  rules = map (feature_value (number_at key.Wctemp 343 m)) (tables_at key.Feature m);
+  smart = smart_value (table_at key.Smart m);
+}
+
+-- ---- a namespace, in a subsystem with nn, mc and the formats
+
+-- the format in use
+abbrev pub format_of : List Format → Members → Option Format
+format_of formats m = slice_get formats (number_at key.Format 0 m)
+
+abbrev pub block_size : List Format → Members → ℕ
+block_size formats m = option_map_or (λ f. 2 ^ f.lbads) (format_of formats m) 0
+
+abbrev pub is_extended : Members → Bool
+is_extended m = flag_at key.Extended false m
+
+-- extended only where the format in use and mc allow it
+abbrev pub can_extend : ℕ → List Format → Members → Bool
+can_extend mc formats m =
+    option_map_or (λ f. may_extend mc f (is_extended m)) (format_of formats m) false
+
+unfoldable pub namespace_checks : ℕ → ℕ → List Format → List Members → Members → List Check
+namespace_checks nn mc formats before m =
+    needed table.Namespace key.Nsid m
+    ++ integer table.Namespace key.Nsid 1 nn m
+    ++ not_repeated table.Namespace key.Nsid before m
+    ++ needed table.Namespace key.Format m
+    ++ integer table.Namespace key.Format 0 15 m
+    ++ in_limits table.Namespace key.Format (is_some (format_of formats m))
+    ++ needed table.Namespace key.Bytes m
+    ++ integer table.Namespace key.Bytes (block_size formats m) greatest_integer m
+    ++ flag table.Namespace key.Extended m
+    ++ in_limits table.Namespace key.Extended (can_extend mc formats m)
+    ++ flag table.Namespace key.Shared m
+    ++ of_kind table.Namespace key.Controllers as_integers m
+    ++ no_other table.Namespace (keys_of table.Namespace) m
+
+unfoldable pub namespace_value : Members → NamespaceValue
+namespace_value m = record {
+  nsid = number_at key.Nsid 0 m;
+  namespace = record {
+    capacity = number_at key.Bytes 0 m;
+    format = number_at key.Format 0 m;
+    extended = is_extended m;
+    shared = flag_at key.Shared false m;
+  };
+  controllers = integers_at key.Controllers m;
+}

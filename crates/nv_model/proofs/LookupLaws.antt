@@ -1,0 +1,120 @@
+-- The commands of `list` are accepted, and change nothing but how many commands a controller took.
+use Rattle.std.proofs.Common.{◌≡◌, ◌∙◌, ℕ, zero, suc, ◌≤◌, arith, ap, subst, refl, Bool, true, List, []}
+use Rattle.std.proofs.Common.{◌∷◌, Option, Some, None, Ok, is_some}
+use Rattle.std.specs.Prelude.{All, nat_le, ◌&&◌, ◌||◌, ◌==◌, not, slice_get}
+use Rattle.std.specs.Option.{option_map_or}
+use Rattle.std.specs.FinMap as map_of
+use Rattle.std.specs.FinMap.{contains_key-keys}
+use Rattle.std.proofs.lemmas.Bool.Decides.{nat_tests}
+use Rattle.std.proofs.lemmas.Cmp.{eq_by_cmp_equiv, nat_cmp_total}
+use Rattle.std.proofs.lemmas.Map.Views.{All-from_any}
+use Rattle.std.proofs.lemmas.Option.{get_or_from_slice_get, slice_get_within}
+use Rattle.nv_command.specs.Logs.{answer_received}
+use Rattle.nv_command.specs.Nsid.{broadcast_nsid}
+use Rattle.nv_command.specs.declared.command.Command.{Command}
+use Rattle.nv_command.specs.declared.command.Command.TheVariants.{IdentifyController}
+use Rattle.nv_command.specs.declared.command.Command.TheVariants.{IdentifyNamespace, ActiveList}
+use Rattle.nv_command.specs.declared.status_code.StatusCode.TheVariants.{InvalidNamespaceOrFormat}
+use Rattle.nv_model.specs.Nsid.{active_nsids}
+use Rattle.nv_model.specs.Reply.{reply_of}
+use Rattle.nv_model.specs.Row.{first_refusal, row}
+use Rattle.nv_model.specs.State.{Controller, State, ascending, changed_at, controller_at}
+use Rattle.nv_model.specs.Step.{Step, next_count, step, step_by, with_command}
+use Rattle.nv_model.specs.WellFormed.{IsController, IsWellFormed}
+
+-- an NSID that a namespace could have, where they go up to nn
+abbrev pub IsInside : ℕ → ℕ → Type 0
+IsInside nn n = (1 ≤ n) × (n ≤ nn)
+
+-- a command that `list` sends: what the controller is, which namespaces are attached to it, and what
+-- one is
+pub data IsLookup (nn : ℕ) : Command → Type 0 where
+  controller : IsLookup nn IdentifyController
+  attached : IsLookup nn (ActiveList 0)
+  namespace : {n : ℕ} → IsInside nn n → IsLookup nn (IdentifyNamespace n)
+
+-- ---- what it does
+
+valid : (n nn : ℕ) → IsInside nn n → (nat_le 1 n && nat_le n nn) ≡ true
+valid n nn h = grind (arith, nat_tests, h.0, h.1)
+
+-- it is accepted, and counts
+pub looked : (s : State) {k : Command} (c cid : ℕ) → IsLookup s.nn k
+    → step s c k cid ≡ record { answer = Ok (reply_of s c k); state = with_command s c }
+looked s c cid controller = refl
+looked s c cid attached = refl
+looked s c cid (namespace {n} h) =
+    ap (λ b. step_by (first_refusal (row (not (b || n == broadcast_nsid)) InvalidNamespaceOrFormat ∷ []))
+    s c (IdentifyNamespace n) cid) (valid n s.nn h)
+
+as_it_is : (nn : ℕ) {k : Command} (s : State) (c : ℕ) → IsLookup nn k
+    → answer_received k (Ok (reply_of s c k)) ≡ Ok (reply_of s c k)
+as_it_is nn s c controller = refl
+as_it_is nn s c attached = refl
+as_it_is nn s c (namespace h) = refl
+
+-- and its reply is received as it is
+pub looked_received : (s : State) {k : Command} (c cid : ℕ) → IsLookup s.nn k
+    → answer_received k (step s c k cid).answer ≡ Ok (reply_of s c k)
+looked_received s {k} c cid h =
+    ap (λ (x : Step). answer_received k x.answer) (looked s c cid h) ∙ as_it_is s.nn s c h
+
+-- ---- what stays
+
+-- the same NSIDs are attached to each controller, and NSIDs go as far
+pub record IsAlike (s now : State) : Type 0 where
+  pub nn : now.nn ≡ s.nn
+  pub active : (c : ℕ) → active_nsids now c ≡ active_nsids s c
+
+attached_at : List Controller → ℕ → List ℕ
+attached_at xs c = option_map_or (λ x. ascending x.attached) (slice_get xs c) []
+
+same_attached : (xs : List Controller) (c d : ℕ)
+    → attached_at (changed_at xs c (λ x. record x { commands = next_count x.commands })) d
+    ≡ attached_at xs d
+unfolding attached_at
+same_attached [] c d = refl
+same_attached (x ∷ xs) zero zero = refl
+same_attached (x ∷ xs) zero (suc d) = refl
+same_attached (x ∷ xs) (suc c) zero = refl
+same_attached (x ∷ xs) (suc c) (suc d) = same_attached xs c d
+
+counted : (s now : State) (c : ℕ) → now ≡ with_command s c → IsAlike s now
+unfolding attached_at
+counted s now c e = record {
+  nn = ap (λ (x : State). x.nn) e;
+  active = λ d. ap (λ (x : State). active_nsids x d) e ∙ same_attached s.controllers c d;
+}
+
+pub looked_alike : (s : State) {k : Command} (c cid : ℕ) → IsLookup s.nn k
+    → IsAlike s (step s c k cid).state
+looked_alike s {k} c cid h =
+    counted s (step s c k cid).state c (ap (λ (x : Step). x.state) (looked s c cid h))
+
+pub alike-self : (s : State) → IsAlike s s
+alike-self s = record { nn = refl; active = λ c. refl }
+
+pub alike-join : (a b c : State) → IsAlike a b → IsAlike b c → IsAlike a c
+alike-join a b c h k = record { nn = k.nn ∙ h.nn; active = λ d. k.active d ∙ h.active d }
+
+-- ---- NSIDs that are attached
+
+of_some : {A : Type 0} (P : Type 0) (o : Option A) → ((x : A) → o ≡ Some x → P) → is_some o ≡ true → P
+of_some P None h t = absurd (cc)
+of_some P (Some x) h t = h x refl
+
+attached_inside : (s : State) → IsWellFormed s → (o : Option Controller)
+    → ((x : Controller) → o ≡ Some x → IsController s.namespaces x)
+    → All (IsInside s.nn) (option_map_or (λ x. ascending x.attached) o [])
+attached_inside s w None is = λ k d below. absurd (omega arith)
+attached_inside s w (Some x) is =
+    All-from_any (eq_by_cmp_equiv nat_cmp_total) (IsInside s.nn) (ascending x.attached)
+    (λ n t. of_some (IsInside s.nn n) (map_of.get s.namespaces n) (λ x e. (w.namespaces n x e).nsid)
+    ((is x refl).attached n (contains_key-keys x.attached n ∙ t)))
+
+-- they are those of namespaces
+pub active_inside : (s : State) (c : ℕ) → IsWellFormed s → All (IsInside s.nn) (active_nsids s c)
+active_inside s c w =
+    attached_inside s w (controller_at s c)
+    (λ x e. subst (IsController s.namespaces) (get_or_from_slice_get s.controllers c x x e)
+    (w.controllers c x (slice_get_within s.controllers c x e)))

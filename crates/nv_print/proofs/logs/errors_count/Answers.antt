@@ -1,0 +1,8 @@
+use Rattle.std.proofs.Common.{arith}
+use Rattle.std.proofs.lemmas.List.Filters.{length-filter_more}
+use Rattle.nv_layout.specs.ErrorEntry.{no_entry}
+use Rattle.nv_print.specs.Logs.{holds_error}
+use Rattle.nv_print.proofs.logs.errors_count.Goals as goal
+
+pub loop-index-preserved : goal.loop-index-preserved
+loop-index-preserved c = grind (arith, length-filter_more holds_error c.args.entries.now c.loop-index.index no_entry)

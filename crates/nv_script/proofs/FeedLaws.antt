@@ -1,0 +1,112 @@
+-- A piece of a script, line by line.
+use Rattle.std.proofs.Common.{◌≡◌, ℕ, ◌+◌, ◌<◌, List, [], ◌∷◌, ◌++◌, length, take, get_or, eqb, true}
+use Rattle.std.proofs.Common.{sym, ap, subst, ◌∙◌, append_assoc, append-nil, arith}
+use Rattle.std.proofs.Math.Seq.{take-append-add}
+use Rattle.std.proofs.lemmas.Bool.Decides.{nat_tests}
+use Rattle.std.proofs.lemmas.List.{get_or-append-add, get_or-take, length-append, length-take-le}
+use Rattle.std.specs.Prelude.{Option, Some, None}
+use Rattle.memchr.specs.Find.{IsFirstByte, is_byte}
+use Rattle.nv_model.specs.State.{State}
+use Rattle.nv_script.specs.Cuts.{IsCutIn, Left}
+use Rattle.nv_script.specs.Feeding.{Stands}
+use Rattle.nv_script.specs.Results.{Progress, after, whole}
+use Rattle.nv_script.specs.ScriptLines.{Pieces, buffer_after, buffer_of, pieces}
+use Rattle.nv_script.specs.declared.ends.Cut.{Cut}
+use Rattle.nv_script.specs.declared.session.Session.{Session}
+use Rattle.nv_script.proofs.PieceLaws.{HasNoNewline, buffer_after-buffer_of, pieces-newline, pieces-others}
+use Rattle.nv_script.proofs.PieceLaws.{taken-more, whole-more}
+
+-- the ended lines of these bytes are done, and their last piece is in the buffer
+abbrev pub Fed : State → List ℕ → Option (List ℕ) → Left → Session → Type 0
+Fed s bytes line left session =
+    (line ≡ buffer_of (pieces bytes).last) × Stands (whole s (pieces bytes).ended) left session
+
+Fed-same : (s : State) (xs ys : List ℕ) (line : Option (List ℕ)) (left : Left) (session : Session)
+    → xs ≡ ys → Fed s ys line left session → Fed s xs line left session
+Fed-same s xs ys line left session e fed = subst (λ (bytes : List ℕ). Fed s bytes line left session) (sym e) fed
+
+pub Fed-none : (s : State) (bytes : List ℕ) (line : Option (List ℕ)) (left : Left) (session : Session)
+    → Fed s bytes line left session → Fed s (bytes ++ []) line left session
+Fed-none s bytes line left session fed = Fed-same s (bytes ++ []) bytes line left session (append-nil bytes) fed
+
+Fed-others : (s : State) (xs bytes : List ℕ) (line held : Option (List ℕ)) (left : Left) (session : Session)
+    → HasNoNewline bytes → held ≡ buffer_after line bytes
+    → Fed s xs line left session → Fed s (xs ++ bytes) held left session
+Fed-others s xs bytes line held left session none is fed =
+    let more = pieces-others xs bytes none in (
+      is ∙ ap (λ b. buffer_after b bytes) fed.0 ∙ buffer_after-buffer_of (pieces xs).last bytes
+          ∙ sym (ap (λ (p : Pieces). buffer_of p.last) more),
+      subst (λ (q : Progress). Stands q left session) (sym (ap (λ (p : Pieces). whole s p.ended) more)) fed.1,
+    )
+
+Fed-newline : (s : State) (xs : List ℕ) (b : ℕ) (held : Option (List ℕ)) (left : Left) (session : Session)
+    → b ≡ 10 → held ≡ Some [] → Stands (after (whole s (pieces xs).ended) (pieces xs).last) left session
+    → Fed s (xs ++ b ∷ []) held left session
+Fed-newline s xs b held left session e is stands =
+    let more = pieces-newline xs b e in (
+      is ∙ sym (ap (λ (p : Pieces). buffer_of p.last) more),
+      subst (λ (q : Progress). Stands q left session)
+          (sym (ap (λ (p : Pieces). whole s p.ended) more ∙ whole-more s (pieces xs).ended (pieces xs).last)) stands,
+    )
+
+-- ---- the first newline of what is left of a piece
+
+is_newline_at : (rest : List ℕ) (end : ℕ) → IsFirstByte (is_byte 10) rest (Some end) → get_or rest end 0 ≡ 10
+is_newline_at rest end first = let is : eqb (get_or rest end 0) 10 ≡ true = first.1 in grind (arith, nat_tests)
+
+none_before : (rest : List ℕ) (end : ℕ) → IsFirstByte (is_byte 10) rest (Some end) → HasNoNewline (take end rest)
+none_before rest end first = λ k low high is.
+    let inside : end < length rest = first.0.high in
+    let below : k < end = omega (arith, length-take-le end rest (omega arith)) in
+    first.0.before k low below (subst (λ b. eqb b 10 ≡ true) (get_or-take end rest k 0 below) is)
+
+-- its line is in the buffer
+pub Fed-line : (s : State) (bytes done rest : List ℕ) (end : ℕ) (line held : Option (List ℕ))
+    (left : Left) (session : Session)
+    → IsFirstByte (is_byte 10) rest (Some end) → held ≡ buffer_after line (take end rest)
+    → Fed s (bytes ++ done) line left session → Fed s ((bytes ++ done) ++ take end rest) held left session
+Fed-line s bytes done rest end line held left session first is fed =
+    Fed-others s (bytes ++ done) (take end rest) line held left session (none_before rest end first) is fed
+
+-- the line is executed
+pub Fed-executed : (s : State) (bytes done rest : List ℕ) (end : ℕ) (held : Option (List ℕ))
+    (left : Left) (session : Session)
+    → IsFirstByte (is_byte 10) rest (Some end) → held ≡ Some []
+    → (let p = pieces ((bytes ++ done) ++ take end rest) in Stands (after (whole s p.ended) p.last) left session)
+    → Fed s (bytes ++ (done ++ take (end + 1) rest)) held left session
+Fed-executed s bytes done rest end held left session first is stands =
+    let xs = (bytes ++ done) ++ take end rest in
+    let b = get_or rest end 0 in
+    let joined =
+    sym (append_assoc bytes done (take (end + 1) rest)) ∙ taken-more (bytes ++ done) rest end first.0.high in
+    Fed-same s (bytes ++ (done ++ take (end + 1) rest)) (xs ++ b ∷ []) held left session joined
+    (Fed-newline s xs b held left session (is_newline_at rest end first) is stands)
+
+-- the line is cut short
+pub cut_at : (cut : Cut) (s : State) (bytes piece done rest : List ℕ) (end : ℕ) (left : Left)
+    → piece ≡ done ++ rest → IsFirstByte (is_byte 10) rest (Some end)
+    → (let p = pieces ((bytes ++ done) ++ take end rest) in IsCutIn cut (whole s p.ended) p.last left)
+    → (i : ℕ) × (i < length piece) × (get_or piece i 0 ≡ 10)
+    × (let p = pieces (bytes ++ take i piece) in IsCutIn cut (whole s p.ended) p.last left)
+cut_at cut s bytes piece done rest end left e first is =
+    let i = length done + end in
+    let inside : end < length rest = first.0.high in
+    let taken : bytes ++ take i piece ≡ (bytes ++ done) ++ take end rest =
+    ap (λ (t : List ℕ). bytes ++ take i t) e ∙ ap (λ t. bytes ++ t) (take-append-add done rest end)
+    ∙ sym (append_assoc bytes done (take end rest)) in (
+      i,
+      omega (arith, ap length e, length-append done rest),
+      ap (λ (t : List ℕ). get_or t i 0) e ∙ get_or-append-add done rest end 0 ∙ is_newline_at rest end first,
+      subst (λ (xs : List ℕ). IsCutIn cut (whole s (pieces xs).ended) (pieces xs).last left) (sym taken) is,
+    )
+
+-- ---- no newline is left
+
+pub Fed-last : (s : State) (bytes piece done rest : List ℕ) (line held : Option (List ℕ))
+    (left : Left) (session : Session)
+    → piece ≡ done ++ rest → HasNoNewline rest → held ≡ buffer_after line rest
+    → Fed s (bytes ++ done) line left session → Fed s (bytes ++ piece) held left session
+Fed-last s bytes piece done rest line held left session e none is fed =
+    Fed-same s (bytes ++ piece) ((bytes ++ done) ++ rest) held left session
+    (ap (λ t. bytes ++ t) e ∙ sym (append_assoc bytes done rest))
+    (Fed-others s (bytes ++ done) rest line held left session none is fed)

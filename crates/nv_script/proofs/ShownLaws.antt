@@ -1,0 +1,252 @@
+-- What is accepted is shown.
+use Rattle.std.proofs.Common.{◌≡◌, ◌∙◌, ℕ, ◌/◌, ◌≤◌, zero, suc, arith, ap, refl, sym, Bool, true, false, List, []}
+use Rattle.std.proofs.Common.{◌∷◌, ◌++◌, append-nil, append_assoc, length, get_or, map, Option, None, Some}
+use Rattle.std.proofs.Common.{Result, Ok, Err}
+use Rattle.std.specs.Prelude.{IsSome, flat_map, if◌then◌else◌, nat_lt}
+use Rattle.std.specs.List.{range_with_len}
+use Rattle.std.specs.Option.{option_map_or}
+use Rattle.std.proofs.lemmas.Bool.Decides.{nat_tests}
+use Rattle.std.proofs.lemmas.List.{map-append}
+use Rattle.std.proofs.lemmas.List.Concat.{flat_map-append}
+use Rattle.nv_bits.specs.Numbers.{above}
+use Rattle.nv_command.specs.Logs.{answer_received, first_of_log, is_error_log, received}
+use Rattle.nv_command.specs.declared.command.Command.{Command}
+use Rattle.nv_command.specs.declared.command.Command.TheVariants as command
+use Rattle.nv_command.specs.declared.refusal.Refusal.{Refusal}
+use Rattle.nv_command.specs.declared.reply.Reply.{Reply}
+use Rattle.nv_command.specs.declared.reply.Reply.TheVariants as reply
+use Rattle.nv_command.specs.declared.status_code.StatusCode.TheVariants.{InvalidFieldInCommand}
+use Rattle.nv_layout.specs.Feature.{feature_of}
+use Rattle.nv_layout.specs.declared.error_entry.ErrorEntry.{ErrorEntry}
+use Rattle.nv_layout.specs.declared.feature.Feature.{Feature}
+use Rattle.nv_layout.specs.declared.smart.Smart.{Smart}
+use Rattle.nv_layout.specs.declared.status.Status.{Status}
+use Rattle.nv_line.specs.declared.request.Act.{Act}
+use Rattle.nv_line.specs.declared.request.Act.TheVariants.{Reset, Send}
+use Rattle.nv_line.specs.declared.request.Ask.{Ask}
+use Rattle.nv_line.specs.declared.request.Ask.TheVariants as ask
+use Rattle.nv_line.specs.declared.request.Query.{Query}
+use Rattle.nv_line.specs.declared.request.Query.TheVariants as query
+use Rattle.nv_model.proofs.ManagementLaws.{none_holds}
+use Rattle.nv_model.specs.Features.{get_rows, set_rows, supported_rows}
+use Rattle.nv_model.specs.Identify.{active_reply}
+use Rattle.nv_model.specs.Logs.{entry_count}
+use Rattle.nv_model.specs.Nsid.{active_nsids}
+use Rattle.nv_model.specs.Refusal.{refusal_of}
+use Rattle.nv_model.specs.Reply.{reply_of}
+use Rattle.nv_model.specs.Row.{first_refusal, row}
+use Rattle.nv_model.specs.State.{Controller, State, controller_at}
+use Rattle.nv_model.specs.Step.{step_by}
+use Rattle.nv_model.specs.Supported.{is_supported, supported}
+use Rattle.nv_model.specs.declared.row.Row.{Row}
+use Rattle.nv_print.specs.Sentences.{select_of}
+use Rattle.nv_print.specs.declared.select.Select.{Select}
+use Rattle.nv_print.specs.declared.shown.Shown.{Shown}
+use Rattle.nv_script.specs.EachShown.{EachIsShown, IsListed, IsShown, place_of, places_of}
+use Rattle.nv_script.specs.Exchange.{Exchange, Order, exchange_by, exchange_of, order_of}
+use Rattle.nv_script.specs.Orders.{errors_command, namespace_orders, orders_of_controller, orders_of_list}
+use Rattle.nv_script.specs.Outcomes.{Outcome, outcome_after, outcome_of}
+use Rattle.nv_script.specs.Shown.{feature_set, feature_value, listing_of, listing_told, no_listing}
+use Rattle.nv_script.specs.Shown.{shown_by, shown_of_one}
+use Rattle.nv_script.specs.declared.listing.Listing.{Listing}
+
+-- ---- a feature that a command is accepted for has a name, and so has its select
+
+module _ (s : State) (c fid : ℕ) (rows : Feature → List Row) where
+  abbrev IsAccepted : Option Feature → Type 0
+  IsAccepted o = first_refusal (option_map_or rows o (row true InvalidFieldInCommand ∷ [])) ≡ None
+
+  abbrev IsFeature : Option Feature → Type 0
+  IsFeature o = (f : Feature) × (o ≡ Some f) × (first_refusal (rows f) ≡ None)
+
+  by_support : (b : Bool) (f : Feature) → IsAccepted (if b then Some f else None) → IsFeature (Some f)
+  by_support true f e = (f, refl, e)
+  by_support false f e = absurd (cc e)
+
+  by_feature : (x : Controller) (o : Option Feature)
+      → IsAccepted (option_map_or (λ f. if is_supported x.rules x.identity.numbers.vwc f then Some f else None) o None)
+      → IsFeature o
+  by_feature x None e = absurd (cc e)
+  by_feature x (Some f) e = by_support (is_supported x.rules x.identity.numbers.vwc f) f e
+
+  by_controller : (o : Option Controller)
+      → IsAccepted (option_map_or (λ x. supported x.rules x.identity.numbers.vwc fid) o None)
+      → IsFeature (feature_of fid)
+  by_controller None e = absurd (cc e)
+  by_controller (Some x) e = by_feature x (feature_of fid) e
+
+  supported_is_feature : first_refusal (supported_rows s c fid rows) ≡ None → IsFeature (feature_of fid)
+  supported_is_feature e = by_controller (controller_at s c) e
+
+up_to_three : (sel : ℕ) → nat_lt 3 sel ≡ false → sel ≤ 3
+up_to_three sel e = grind (arith, nat_tests)
+
+select_is_known : (sel : ℕ) → sel ≤ 3 → IsSome (select_of sel)
+select_is_known zero h = refl
+select_is_known (suc zero) h = refl
+select_is_known (suc (suc zero)) h = refl
+select_is_known (suc (suc (suc zero))) h = refl
+select_is_known (suc (suc (suc (suc n)))) h = absurd (omega arith)
+
+value_is_shown : (o : Option Feature) (select : Option Select) (f : Feature) (value : ℕ) → o ≡ Some f → IsSome select
+    → IsSome (feature_value o select value)
+value_is_shown None select f value e is = absurd (cc e)
+value_is_shown (Some g) None f value e is = absurd (cc is)
+value_is_shown (Some g) (Some select) f value e is = refl
+
+set_is_shown : (o : Option Feature) (f : Feature) (value : ℕ) (save : Bool) → o ≡ Some f
+    → IsSome (feature_set o value save)
+set_is_shown None f value save e = absurd (cc e)
+set_is_shown (Some g) f value save e = refl
+
+-- ---- one controller is asked
+
+module _ (s : State) (serials : List ℕ) (c : ℕ) (show : List Reply → Option Shown) (k : Command) where
+  -- what follows where the command is the last one
+  abbrev left : Option Refusal → State → List ℕ → Outcome
+  left refusal now next =
+      outcome_after (answer_received k (step_by refusal s c k (get_or serials c 0)).answer) now next
+      (outcome_of now next [])
+
+  by_refusal : (refusal : Option Refusal) (now : State) (next : List ℕ)
+      → (refusal ≡ None → IsSome (show (received k (reply_of s c k) ∷ []))) → (left refusal now next).refusal ≡ None
+      → IsSome (show (left refusal now next).replies)
+  by_refusal None now next is e = is refl
+  by_refusal (Some r) now next is e = absurd (cc e)
+
+  -- the last command is shown if its reply is, where it is accepted
+  last_is_shown : (refusal_of s c k ≡ None → IsSome (show (received k (reply_of s c k) ∷ [])))
+      → (outcome_of s serials (order_of c k ∷ [])).refusal ≡ None
+      → IsSome (show (outcome_of s serials (order_of c k ∷ [])).replies)
+  last_is_shown is e = let x = exchange_by (Send k) s serials c in by_refusal (refusal_of s c k) x.state x.serials is e
+
+module _ (s : State) (serials : List ℕ) (c : ℕ) where
+  only_is_shown : (a : Ask) (k : Command)
+      → (refusal_of s c k ≡ None → IsSome (shown_by a (received k (reply_of s c k))))
+      → (outcome_of s serials (order_of c k ∷ [])).refusal ≡ None
+      → IsSome (shown_of_one a (outcome_of s serials (order_of c k ∷ [])).replies)
+  only_is_shown a k is e = last_is_shown s serials c (shown_of_one a) k is e
+
+  log_is_shown : (a : Ask) (room : ℕ) (b : Bool) (es : List ErrorEntry) (h : Smart)
+      → IsSome (shown_by a (first_of_log room (if b then reply.Errors es else reply.Smart h)))
+  log_is_shown a room true es h = refl
+  log_is_shown a room false es h = refl
+
+  command_is_shown : (k : Command) → refusal_of s c k ≡ None
+      → IsSome (shown_by (ask.Do (Send k)) (received k (reply_of s c k)))
+  command_is_shown command.IdentifyController e = refl
+  command_is_shown (command.IdentifyNamespace n) e = refl
+  command_is_shown (command.AllocatedNamespace n) e = refl
+  command_is_shown (command.ActiveList after) e = refl
+  command_is_shown (command.AllocatedList after) e = refl
+  command_is_shown (command.Create nsze ncap flbas dps nmic) e = refl
+  command_is_shown (command.Delete n) e = refl
+  command_is_shown (command.Attachment n detach ids) e = refl
+  command_is_shown (command.Format n lbaf mset pi pil ses) e = refl
+  command_is_shown (command.GetFeature fid sel n cdw11) e =
+      let is = supported_is_feature s c fid (get_rows s c sel n cdw11) e in
+      let selects = none_holds (get_rows s c sel n cdw11 is.0) is.2 in
+      value_is_shown (feature_of fid) (select_of sel) is.0 _ is.1 (select_is_known sel (up_to_three sel selects.0))
+  command_is_shown (command.SetFeature fid value save n) e =
+      let is = supported_is_feature s c fid (set_rows s c value save n) e in
+      set_is_shown (feature_of fid) is.0 value save is.1
+  command_is_shown (command.GetLog lid n offset dwords) e =
+      log_is_shown (ask.Do (Send (command.GetLog lid n offset dwords))) (dwords / 16) (is_error_log lid) _ _
+
+  one_is_shown : (a : Ask) → IsShown s serials (query.One (record { controller = c; ask = a }))
+  one_is_shown (ask.Do (Send k)) e = only_is_shown (ask.Do (Send k)) k (command_is_shown k) e
+  one_is_shown (ask.Do Reset) e = refl
+  one_is_shown (ask.ErrorLog entries) e =
+      let first = exchange_by (Send command.IdentifyController) s serials c in
+      last_is_shown first.state first.serials c
+      (λ later. shown_of_one (ask.ErrorLog entries) (reply_of s c command.IdentifyController ∷ later))
+      (errors_command entries (entry_count s c)) (λ _. refl) e
+
+-- ---- each controller is asked
+
+-- the namespace that an act asks for
+abbrev asked_place : ℕ → Act → List (ℕ × ℕ)
+asked_place c (Send (command.IdentifyNamespace n)) = (c, n) ∷ []
+asked_place c _ = []
+
+abbrev order_place : Order → List (ℕ × ℕ)
+order_place o = asked_place o.controller o.act
+
+abbrev places_in : Listing → List (ℕ × ℕ)
+places_in l = map place_of l.devices
+
+module _ (s : State) (serials : List ℕ) (c : ℕ) (l : Listing) where
+  abbrev Tells : Act → Reply → Type 0
+  Tells a reply = places_in (listing_told c l a (Ok reply)) ≡ places_in l ++ asked_place c a
+
+  -- what an accepted act is answered is listed, where it asks for a namespace
+  identity_told : (reply : Reply) → Tells (Send command.IdentifyController) reply
+  identity_told (reply.Controller identity) = sym (append-nil (places_in l))
+  identity_told r = sym (append-nil (places_in l))
+
+  namespace_told : (n : ℕ) (refusal : Option Refusal) (reply : Reply)
+      → answer_received (command.IdentifyNamespace n)
+      (step_by refusal s c (command.IdentifyNamespace n) (get_or serials c 0)).answer ≡ Ok reply
+      → Tells (Send (command.IdentifyNamespace n)) reply
+  namespace_told n None reply e =
+      let same : active_reply s c n ≡ reply = cc e in
+      ap (λ r. places_in (listing_told c l (Send (command.IdentifyNamespace n)) (Ok r))) (sym same)
+      ∙ map-append place_of l.devices _
+  namespace_told n (Some r) reply e = absurd (cc e)
+
+  told : (a : Act) (reply : Reply) → (exchange_by a s serials c).answer ≡ Ok reply → Tells a reply
+  told (Send command.IdentifyController) reply e = identity_told reply
+  told (Send (command.IdentifyNamespace n)) reply e =
+      namespace_told n (refusal_of s c (command.IdentifyNamespace n)) reply e
+  told a reply e = sym (append-nil (places_in l))
+
+abbrev AreListed : List Order → State → List ℕ → Listing → Type 0
+AreListed orders s serials l = (outcome_of s serials orders).refusal ≡ None
+    → places_in (listing_of l orders (map Ok (outcome_of s serials orders).replies)) ≡ places_in l ++ flat_map order_place orders
+
+module _ (s : State) (serials : List ℕ) (o : Order) (os : List Order) (l : Listing) where
+  abbrev x : Exchange
+  x = exchange_of s serials o
+
+  abbrev after : Result Reply Status → Outcome
+  after answer = outcome_after answer x.state x.serials (outcome_of x.state x.serials os)
+
+  one_more : ((l : Listing) → AreListed os x.state x.serials l) → (answer : Result Reply Status) → x.answer ≡ answer
+      → (after answer).refusal ≡ None
+      → places_in (listing_of l (o ∷ os) (map Ok (after answer).replies)) ≡ places_in l ++ flat_map order_place (o ∷ os)
+  one_more later (Err status) is e = absurd (cc e)
+  one_more later (Ok reply) is e =
+      later (listing_told o.controller l o.act (Ok reply)) e
+      ∙ ap (λ ps. ps ++ flat_map order_place os) (told s serials o.controller l o.act reply is)
+      ∙ append_assoc (places_in l) (order_place o) (flat_map order_place os)
+
+all_listed : (orders : List Order) (s : State) (serials : List ℕ) (l : Listing) → AreListed orders s serials l
+all_listed [] s serials l e = sym (append-nil (places_in l))
+all_listed (o ∷ os) s serials l e =
+    let x = exchange_of s serials o in
+    one_more s serials o os l (λ l. all_listed os x.state x.serials l) x.answer refl e
+
+-- ---- the namespaces that `list` asks for
+
+asked_of_controller : (c : ℕ) (ns : List ℕ) → flat_map order_place (namespace_orders c ns) ≡ map (λ n. (c, n)) ns
+asked_of_controller c [] = refl
+asked_of_controller c (n ∷ ns) = ap (λ ps. (c, n) ∷ ps) (asked_of_controller c ns)
+
+asked_of_controllers : (s : State) (cs : List ℕ)
+    → flat_map order_place (flat_map (orders_of_controller s) cs) ≡ flat_map (places_of s) cs
+asked_of_controllers s [] = refl
+asked_of_controllers s (c ∷ cs) =
+    flat_map-append order_place (orders_of_controller s c) (flat_map (orders_of_controller s) cs)
+    ∙ (λ i. asked_of_controller c (above 0 (active_nsids s c)) i ++ asked_of_controllers s cs i)
+
+list_is_shown : (s : State) (serials : List ℕ) → IsListed s serials
+list_is_shown s serials e =
+    all_listed (orders_of_list s) s serials no_listing e
+    ∙ asked_of_controllers s (range_with_len 0 (length s.controllers))
+
+is_shown : (s : State) (serials : List ℕ) (q : Query) → IsShown s serials q
+is_shown s serials (query.One q) e = one_is_shown s serials q.controller q.ask e
+is_shown s serials query.List e = refl
+
+pub each_is_shown : EachIsShown
+each_is_shown = record { queries = is_shown; namespaces = list_is_shown }

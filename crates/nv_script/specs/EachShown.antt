@@ -1,0 +1,38 @@
+-- What is accepted is shown.
+use Rattle.std.specs.Prelude.{◌≡◌, ℕ, List, [], ◌∷◌, None, Ok, IsSome, flat_map, length, map}
+use Rattle.std.specs.List.{range_with_len}
+use Rattle.nv_bits.specs.Numbers.{above}
+use Rattle.nv_line.specs.declared.request.Query.{Query}
+use Rattle.nv_model.specs.Nsid.{active_nsids}
+use Rattle.nv_model.specs.State.{State}
+use Rattle.nv_print.specs.declared.device.Device.{Device}
+use Rattle.nv_script.specs.Orders.{orders_of, orders_of_list}
+use Rattle.nv_script.specs.Outcomes.{outcome_of}
+use Rattle.nv_script.specs.Shown.{listing_of, no_listing, shown_of}
+
+-- a query of which no order is refused shows something
+abbrev pub IsShown : State → List ℕ → Query → Type 0
+IsShown s serials q =
+    let o = outcome_of s serials (orders_of s q) in
+    o.refusal ≡ None → IsSome (shown_of (orders_of s q) q o.replies)
+
+-- a namespace of a controller, by the two numbers
+abbrev pub place_of : Device → ℕ × ℕ
+place_of d = (d.controller, d.nsid)
+
+-- the namespaces that are attached to a controller
+abbrev pub places_of : State → ℕ → List (ℕ × ℕ)
+places_of s c = map (λ n. (c, n)) (above 0 (active_nsids s c))
+
+-- `list`, where no order of it is refused, shows the namespaces of each controller, in order
+abbrev pub IsListed : State → List ℕ → Type 0
+IsListed s serials =
+    let o = outcome_of s serials (orders_of_list s) in
+    o.refusal ≡ None
+    → map place_of (listing_of no_listing (orders_of_list s) (map Ok o.replies)).devices
+    ≡ flat_map (places_of s) (range_with_len 0 (length s.controllers))
+
+-- in every state
+pub record EachIsShown : Type 0 where
+  pub queries : (s : State) (serials : List ℕ) (q : Query) → IsShown s serials q
+  pub namespaces : (s : State) (serials : List ℕ) → IsListed s serials
