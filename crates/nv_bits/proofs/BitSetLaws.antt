@@ -1,5 +1,7 @@
 -- Sets of numbers as bits.
-use Rattle.std.proofs.Common.{◌≡◌, ◌≢◌, ◌∙◌, ℕ, zero, suc, ◌+◌, ◌-◌, ◌*◌, ◌/◌, ◌%◌, ◌^◌, ◌<◌, ◌≤◌, ◌==◌, Bool, true, false, not, cond, List, length, get_or, set, length-set, Option, Some, None, is_some, refl, sym, ap, subst, arith, inl, inr, min, get_or-set_other, replicate}
+use Rattle.std.proofs.Common.{◌≡◌, ◌≢◌, ◌∙◌, ℕ, zero, suc, ◌+◌, ◌-◌, ◌*◌, ◌/◌, ◌%◌, ◌^◌, ◌<◌, ◌≤◌, ◌==◌, Bool, true}
+use Rattle.std.proofs.Common.{false, not, cond, List, length, get_or, set, length-set, Option, Some, None, is_some}
+use Rattle.std.proofs.Common.{refl, sym, ap, subst, arith, inl, inr, min, get_or-set_other, replicate}
 use Rattle.std.proofs.lemmas.List.{get_or-replicate, length-replicate}
 use Rattle.std.proofs.lemmas.Bool.{cases_eq, cases_lt, eq-eqb, false_from_ne_true, ne_eqb, true≢false}
 use mir.Val.{bool_byte}
@@ -8,7 +10,8 @@ use Rattle.std.specs.FinMap.{get, get-empty, len-empty, len-insert, len-remove}
 use Rattle.std.specs.Cmp.{nat_cmp_total}
 use Rattle.std.specs.Ordering.{nat_cmp}
 use Rattle.nv_bits.specs.Numbers.{IsLowest, IsNext, IsOf, NumberSet, all_of, as_member, by_place, insert}
-use Rattle.nv_bits.proofs.NumberLaws.{by_place-insert, by_place-remove, by_place_is, get_at, get_outside, len-all_of, len_within}
+use Rattle.nv_bits.proofs.NumberLaws.{by_place-insert, by_place-remove, by_place_is, get_at, get_outside, len-all_of}
+use Rattle.nv_bits.proofs.NumberLaws.{len_within}
 use Rattle.nv_bits.specs.Words.{ChangesBit, IsLeastFrom, bit_of}
 use Rattle.nv_bits.specs.BitSet.{AreBits, members_of}
 use Rattle.nv_bits.proofs.WordLaws.{bit_of-ones, bit_of-past_ones, bit_of-zeros, first_ones, none_of_zero}
@@ -38,23 +41,31 @@ as_member-change true c d = refl
 as_member-change false c d = refl
 
 module _ (first count : ℕ) (old new : List ℕ) (k : ℕ) (here : k < count) where
-  pub members-insert : ChangesBit old new k true → members_of first count new ≡ insert (members_of first count old) (first + k)
+  pub members-insert : ChangesBit old new k true
+      → members_of first count new ≡ insert (members_of first count old) (first + k)
   members-insert change =
-      by_place-insert _ _ first count k here tt (λ j. ap as_member (change j) ∙ as_member-change (j == k) true (bit_of old j))
+      by_place-insert _ _ first count k here tt
+      (λ j. ap as_member (change j) ∙ as_member-change (j == k) true (bit_of old j))
 
-  pub members-remove : ChangesBit old new k false → members_of first count new ≡ map.remove (members_of first count old) (first + k)
+  pub members-remove : ChangesBit old new k false
+      → members_of first count new ≡ map.remove (members_of first count old) (first + k)
   members-remove change =
-      by_place-remove _ _ first count k here (λ j. ap as_member (change j) ∙ as_member-change (j == k) false (bit_of old j))
+      by_place-remove _ _ first count k here
+      (λ j. ap as_member (change j) ∙ as_member-change (j == k) false (bit_of old j))
 
 -- no bit is set
-pub members-empty : (first count : ℕ) (words : List ℕ) → ((k : ℕ) → k < count → bit_of words k ≡ false) → members_of first count words ≡ map.empty
+pub members-empty : (first count : ℕ) (words : List ℕ) → ((k : ℕ) → k < count → bit_of words k ≡ false)
+    → members_of first count words ≡ map.empty
 members-empty first count words none =
-    by_place_is _ first count map.empty (λ k h. get-empty nat_cmp (first + k) ∙ rw (none k h) refl) (λ q _. get-empty nat_cmp q)
+    by_place_is _ first count map.empty (λ k h. get-empty nat_cmp (first + k) ∙ rw (none k h) refl)
+    (λ q _. get-empty nat_cmp q)
 
 -- all bits are set
-pub members-all : (first count : ℕ) (words : List ℕ) → ((k : ℕ) → k < count → bit_of words k ≡ true) → members_of first count words ≡ all_of first count
+pub members-all : (first count : ℕ) (words : List ℕ) → ((k : ℕ) → k < count → bit_of words k ≡ true)
+    → members_of first count words ≡ all_of first count
 members-all first count words all =
-    by_place_is _ first count (all_of first count) (λ k h. get_at _ first count k h ∙ rw (all k h) refl) (λ q out. get_outside _ first count q out)
+    by_place_is _ first count (all_of first count) (λ k h. get_at _ first count k h ∙ rw (all k h) refl)
+    (λ q out. get_outside _ first count q out)
 
 -- ---- the fields of a set
 
@@ -72,7 +83,8 @@ module _ (first count len lowest_word : ℕ) (words : List ℕ) (are : AreBits f
   -- none is a member below the lowest word
   none_below_lowest : (q : ℕ) → q < first + 64 * lowest_word → map.contains_key members q ≡ false
   none_below_lowest q h =
-      not_member first count words q (λ from _. none_of_zero words (q - first) (are.none_below ((q - first) / 64) (omega arith)))
+      not_member first count words q
+      (λ from _. none_of_zero words (q - first) (are.none_below ((q - first) / 64) (omega arith)))
 
   module _ (at k : ℕ) (least : IsLeastFrom (bit_of words) at k) where
     pub least_in_range : k < count
@@ -134,12 +146,14 @@ module _ (first count len lowest_word : ℕ) (words : List ℕ) (are : AreBits f
         ∙ len-insert nat_cmp_total members (first + k) tt
         ∙ ap (λ b. cond b (map.len members) (map.len members + 1)) (contains_at first count words k here));
     within = omega (arith, length-set words (k / 64) w, are.within);
-    none_below = λ i h. let ne : i ≢ k / 64 = omega arith in get_or-set_other words (k / 64) i w 0 ne ∙ are.none_below i (omega arith);
+    none_below = λ i h. let ne : i ≢ k / 64 = omega arith in
+        get_or-set_other words (k / 64) i w 0 ne ∙ are.none_below i (omega arith);
   }
 
   -- one bit less
   pub are-remove : (k w next : ℕ) → k < count → bit_of words k ≡ true → ChangesBit words (set words (k / 64) w) k false
-      → lowest_word ≤ next → next ≤ length words → ((i : ℕ) → lowest_word ≤ i → i < next → get_or (set words (k / 64) w) i 0 ≡ 0)
+      → lowest_word ≤ next → next ≤ length words
+      → ((i : ℕ) → lowest_word ≤ i → i < next → get_or (set words (k / 64) w) i 0 ≡ 0)
       → AreBits first count (len - 1) next (set words (k / 64) w)
   are-remove k w next here bit change from to zeros = record {
     in_range = are.in_range;
@@ -170,15 +184,19 @@ are-empty first count range = record {
   in_range = range;
   room = length-replicate {A = ℕ} (count / 64 + 1) 0;
   none_past = λ k _. bit_of-zeros (count / 64 + 1) k;
-  len_is = sym (ap map.len (members-empty first count _ (λ k _. bit_of-zeros (count / 64 + 1) k)) ∙ len-empty nat_cmp (Unit {0}));
+  len_is =
+      sym (ap map.len (members-empty first count _ (λ k _. bit_of-zeros (count / 64 + 1) k))
+      ∙ len-empty nat_cmp (Unit {0}));
   within = omega arith;
-  none_below = λ i h. get_or-replicate (count / 64 + 1) i 0 0 (omega (arith, length-replicate {A = ℕ} (count / 64 + 1) 0));
+  none_below =
+      λ i h. get_or-replicate (count / 64 + 1) i 0 0 (omega (arith, length-replicate {A = ℕ} (count / 64 + 1) 0));
 }
 
 pub are-full : (first count : ℕ) → first + count ≤ 2 ^ 32 → AreBits first count count 0 (first_ones count)
 are-full first count range = record {
   in_range = range;
-  room = length-set (replicate (count / 64 + 1) (2 ^ 64 - 1)) (count / 64) (2 ^ (count % 64) - 1) ∙ length-replicate (count / 64 + 1) (2 ^ 64 - 1);
+  room = length-set (replicate (count / 64 + 1) (2 ^ 64 - 1)) (count / 64) (2 ^ (count % 64) - 1)
+      ∙ length-replicate (count / 64 + 1) (2 ^ 64 - 1);
   none_past = bit_of-past_ones count;
   len_is = sym (ap map.len (members-all first count (first_ones count) (bit_of-ones count)) ∙ len-all_of first count);
   within = omega arith;

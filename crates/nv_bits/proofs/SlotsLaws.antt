@@ -1,12 +1,15 @@
 -- Slots that are written.
-use Rattle.std.proofs.Common.{◌≡◌, ◌≢◌, ◌∙◌, ℕ, ◌+◌, ◌-◌, ◌<◌, ◌≤◌, ◌==◌, Bool, true, false, not, cond, List, [], ◌∷◌, length, get_or, set, Option, Some, None, is_some, IfSome, MatchOption, refl, sym, ap, arith, inl, inr, get_or-set_same, get_or-set_other}
+use Rattle.std.proofs.Common.{◌≡◌, ◌≢◌, ◌∙◌, ℕ, ◌+◌, ◌-◌, ◌<◌, ◌≤◌, ◌==◌, Bool, true, false, not, cond, List, [], ◌∷◌}
+use Rattle.std.proofs.Common.{length, get_or, set, Option, Some, None, is_some, IfSome, MatchOption, refl, sym, ap}
+use Rattle.std.proofs.Common.{arith, inl, inr, get_or-set_same, get_or-set_other}
 use Rattle.std.proofs.lemmas.Bool.{cases_eq, eq-eqb, ne_eqb, not-false, not-true}
 use Rattle.std.specs.Cmp.{nat_cmp_total}
 use Rattle.std.specs.Ordering.{nat_cmp}
 use Rattle.std.specs.FinMap as map
 use Rattle.std.specs.FinMap.{len-empty, len-insert, len-remove}
 use Rattle.nv_bits.specs.BitSet.{RangeSet}
-use Rattle.nv_bits.proofs.NumberLaws.{above_next, above_none, by_place-insert, by_place-remove, by_place_is, contains-insert, contains-remove, get_at, get_outside, len-all_of}
+use Rattle.nv_bits.proofs.NumberLaws.{above_next, above_none, by_place-insert, by_place-remove, by_place_is}
+use Rattle.nv_bits.proofs.NumberLaws.{contains-insert, contains-remove, get_at, get_outside, len-all_of}
 use Rattle.nv_bits.specs.Numbers.{IsLowest, IsNext, IsOf, NumberMap, above, all_of, as_member, insert}
 use Rattle.nv_bits.specs.Slots.{AreSlots, IsLowestFree, RangeMap, values_of}
 
@@ -29,7 +32,8 @@ module _ {A : Type 0} where
       ]
 
   module _ (first count : ℕ) (slots : List (Option A)) (k : ℕ) (here : k < count) (room : length slots ≡ count) where
-    pub values-insert : (x : A) → values_of first count (set slots k (Some x)) ≡ map.insert (values_of first count slots) (first + k) x
+    pub values-insert : (x : A)
+        → values_of first count (set slots k (Some x)) ≡ map.insert (values_of first count slots) (first + k) x
     values-insert x = by_place-insert _ _ first count k here x (set_slot slots k (Some x) (omega arith))
 
     pub values-remove : values_of first count (set slots k None) ≡ map.remove (values_of first count slots) (first + k)
@@ -99,7 +103,8 @@ module _ {A : Type 0} where
     -- the lowest of the free numbers
     pub lowest_free_is : (r : Option ℕ) → MatchOption r (free.members ≡ map.empty) (IsLowest free.members)
         → IfSome r (IsOf free.first free.count)
-        → MatchOption r ((q : ℕ) → IsOf occupied.first occupied.count q → map.contains_key values q ≡ true) (IsLowestFree all)
+        → MatchOption r ((q : ℕ) → IsOf occupied.first occupied.count q → map.contains_key values q ≡ true)
+        (IsLowestFree all)
     lowest_free_is None none range = λ q of.
         not-false (map.contains_key values q)
         (sym (are.free_is q of) ∙ ap (λ s. map.contains_key s q) none ∙ ap is_some (map.get-empty nat_cmp q))
@@ -113,7 +118,8 @@ module _ {A : Type 0} where
     -- the numbers that have a value, in ascending order
     pub next_listed : (r : Option ℕ)
         → MatchOption r ((q : ℕ) → n < q → map.contains_key occupied.members q ≡ false) (IsNext occupied.members n)
-        → MatchOption r (above n (map.keys values) ≡ []) (λ k. above n (map.keys values) ≡ k ∷ above k (map.keys values))
+        → MatchOption r (above n (map.keys values) ≡ [])
+        (λ k. above n (map.keys values) ≡ k ∷ above k (map.keys values))
     next_listed None none = above_none values n (λ q h. sym (are.occupied_is q) ∙ none q h)
     next_listed (Some k) next = above_next values n k (record {
       later = next.later;

@@ -1,9 +1,12 @@
 -- Bits of words that are written.
-use Rattle.std.proofs.Common.{◌≡◌, ◌≢◌, ◌∙◌, ℕ, ◌+◌, ◌-◌, ◌*◌, ◌/◌, ◌%◌, ◌^◌, ◌<◌, ◌≤◌, ◌==◌, ◌||◌, ◌&&◌, Bool, true, false, not, cond, List, length, get_or, set, w64, refl, sym, ap, arith, inl, inr, get_or-set_same, get_or-set_other, bit_and, bit_or, length-set, replicate}
+use Rattle.std.proofs.Common.{◌≡◌, ◌≢◌, ◌∙◌, ℕ, ◌+◌, ◌-◌, ◌*◌, ◌/◌, ◌%◌, ◌^◌, ◌<◌, ◌≤◌, ◌==◌, ◌||◌, ◌&&◌, Bool, true}
+use Rattle.std.proofs.Common.{false, not, cond, List, length, get_or, set, w64, refl, sym, ap, arith, inl, inr}
+use Rattle.std.proofs.Common.{get_or-set_same, get_or-set_other, bit_and, bit_or, length-set, replicate}
 use Rattle.std.proofs.lemmas.Bool.{cases_eq, cases_lt, eq-eqb, ne_eqb}
 use Rattle.std.proofs.Math.Nat.{div-div-eq-div-mul, div-le_self, div-one, pow-zero}
 use Rattle.std.proofs.lemmas.Nat.{pow-add}
-use Rattle.std.proofs.lemmas.Nat.Bits.{bit_at-trailing_zeros, bit_at-zero, bit_at_above, bit_at_ones, bit_at_ones_above, bit_at_clear_other, bit_at_clear_same, bit_at_set_other, bit_at_set_same}
+use Rattle.std.proofs.lemmas.Nat.Bits.{bit_at-trailing_zeros, bit_at-zero, bit_at_above, bit_at_ones, bit_at_ones_above}
+use Rattle.std.proofs.lemmas.Nat.Bits.{bit_at_clear_other, bit_at_clear_same, bit_at_set_other, bit_at_set_same}
 use Rattle.std.proofs.lemmas.List.{get_or-replicate, get_or_past, length-replicate}
 use Rattle.std.specs.Int.{bit_at, bit_not, trailing_zeros}
 use Rattle.nv_bits.specs.Words.{ChangesBit, IsLeastFrom, bit_of}
@@ -33,19 +36,23 @@ pub bit_of-or : (words : List ℕ) (k : ℕ) → k / 64 < length words
     → ChangesBit words (set words (k / 64) (bit_or (get_or words (k / 64) 0) (1 * 2 ^ (k % 64) % 2 ^ 64))) k true
 bit_of-or words k h =
     let within : k % 64 < 64 = omega arith in
-    changed words k _ 1 h (bit_at_set_same w64 _ (k % 64) within) (λ i _ ne. bit_at_set_other w64 _ (k % 64) within i ne)
+    changed words k _ 1 h (bit_at_set_same w64 _ (k % 64) within)
+    (λ i _ ne. bit_at_set_other w64 _ (k % 64) within i ne)
 
 pub bit_of-and_not : (words : List ℕ) (k : ℕ) → k / 64 < length words
-    → ChangesBit words (set words (k / 64) (bit_and (get_or words (k / 64) 0) (bit_not w64 (1 * 2 ^ (k % 64) % 2 ^ 64)))) k false
+    → ChangesBit words
+    (set words (k / 64) (bit_and (get_or words (k / 64) 0) (bit_not w64 (1 * 2 ^ (k % 64) % 2 ^ 64)))) k false
 bit_of-and_not words k h =
     let within : k % 64 < 64 = omega arith in
-    changed words k _ 0 h (bit_at_clear_same w64 _ (k % 64) within) (λ i small ne. bit_at_clear_other w64 _ (k % 64) within i small ne)
+    changed words k _ 0 h (bit_at_clear_same w64 _ (k % 64) within)
+    (λ i small ne. bit_at_clear_other w64 _ (k % 64) within i small ne)
 
 bit_at-shr : (n s j : ℕ) → bit_at (n / 2 ^ s) j ≡ bit_at n (s + j)
 bit_at-shr n s j = rw (pow-add 2 s j, ← div-div-eq-div-mul n (2 ^ s) (2 ^ j)) refl
 
 -- bit j of a word without its lowest s bits
-pub bit_of-shr : (words : List ℕ) (i s j : ℕ) → s + j < 64 → bit_of words (64 * i + (s + j)) ≡ (bit_at (get_or words i 0 / 2 ^ s) j == 1)
+pub bit_of-shr : (words : List ℕ) (i s j : ℕ) → s + j < 64
+    → bit_of words (64 * i + (s + j)) ≡ (bit_at (get_or words i 0 / 2 ^ s) j == 1)
 unfolding bit_of
 bit_of-shr words i s j h =
     let word : (64 * i + (s + j)) / 64 ≡ i = omega arith in
@@ -53,7 +60,8 @@ bit_of-shr words i s j h =
     rw (word, place, bit_at-shr (get_or words i 0) s j) refl
 
 -- a word that has no bit from s on
-pub none_in_word : (words : List ℕ) (i s k : ℕ) → get_or words i 0 / 2 ^ s ≡ 0 → 64 * i + s ≤ k → k < 64 * i + 64 → bit_of words k ≡ false
+pub none_in_word : (words : List ℕ) (i s k : ℕ) → get_or words i 0 / 2 ^ s ≡ 0 → 64 * i + s ≤ k → k < 64 * i + 64
+    → bit_of words k ≡ false
 none_in_word words i s k zero from to =
     let is : k ≡ 64 * i + (s + (k - (64 * i + s))) = omega arith in
     let j = k - (64 * i + s) in
@@ -74,7 +82,13 @@ least_in_word words i s small fits some =
     let inside : s + t < 64 =
     elim (cases_lt (s + t) 64) [
       | inl h ↦ h
-      | inr h ↦ absurd (omega (arith, bit_at-shr (get_or words i 0) s t, bit_at_above (get_or words i 0) 64 (s + t) fits h, lowest.1))
+      | inr h ↦ absurd
+          (omega (
+            arith,
+            bit_at-shr (get_or words i 0) s t,
+            bit_at_above (get_or words i 0) 64 (s + t) fits h,
+            lowest.1,
+          ))
     ] in (
       inside,
       record {
@@ -82,12 +96,14 @@ least_in_word words i s small fits some =
         passes = bit_of-shr words i s t inside ∙ rw lowest.1 refl;
         before = λ q a b.
             let is : q ≡ 64 * i + (s + (q - (64 * i + s))) = omega arith in
-            rw is (bit_of-shr words i s (q - (64 * i + s)) (omega arith) ∙ rw (lowest.2 (q - (64 * i + s)) (omega arith)) refl);
+            rw is (bit_of-shr words i s (q - (64 * i + s)) (omega arith)
+            ∙ rw (lowest.2 (q - (64 * i + s)) (omega arith)) refl);
       },
     )
 
 -- the same at the bit from which the search goes
-pub first_found : (words : List ℕ) (at : ℕ) → get_or words (at / 64) 0 < 2 ^ 64 → 0 < get_or words (at / 64) 0 / 2 ^ (at % 64)
+pub first_found : (words : List ℕ) (at : ℕ) → get_or words (at / 64) 0 < 2 ^ 64
+    → 0 < get_or words (at / 64) 0 / 2 ^ (at % 64)
     → (trailing_zeros w64 (get_or words (at / 64) 0 / 2 ^ (at % 64)) < 64)
     × IsLeastFrom (bit_of words) at (at + trailing_zeros w64 (get_or words (at / 64) 0 / 2 ^ (at % 64)))
 first_found words at fits some =
@@ -99,7 +115,8 @@ first_found words at fits some =
 
 -- the bits from one on before word i, where they are 0 in their own word and all words between are 0
 none_before : (words : List ℕ) (at i : ℕ) → get_or words (at / 64) 0 / 2 ^ (at % 64) ≡ 0
-    → ((k : ℕ) → at / 64 + 1 ≤ k → k < i → get_or words k 0 ≡ 0) → (q : ℕ) → at ≤ q → q < 64 * i → bit_of words q ≡ false
+    → ((k : ℕ) → at / 64 + 1 ≤ k → k < i → get_or words k 0 ≡ 0) → (q : ℕ) → at ≤ q → q < 64 * i
+    → bit_of words q ≡ false
 none_before words at i here between q from to =
     elim (cases_lt (at / 64) (q / 64)) [
       | inl later ↦ none_of_zero words q (between (q / 64) (omega arith) (omega arith))
@@ -155,7 +172,9 @@ first_ones count = set (replicate (count / 64 + 1) (2 ^ 64 - 1)) (count / 64) (2
 
 module _ (count : ℕ) where
   last_word : get_or (first_ones count) (count / 64) 0 ≡ 2 ^ (count % 64) - 1
-  last_word = get_or-set_same (replicate (count / 64 + 1) (2 ^ 64 - 1)) (count / 64) _ 0 (omega (arith, length-replicate (count / 64 + 1) (2 ^ 64 - 1)))
+  last_word =
+      get_or-set_same (replicate (count / 64 + 1) (2 ^ 64 - 1)) (count / 64) _ 0
+      (omega (arith, length-replicate (count / 64 + 1) (2 ^ 64 - 1)))
 
   pub bit_of-ones : (k : ℕ) → k < count → bit_of (first_ones count) k ≡ true
   unfolding bit_of
@@ -164,7 +183,8 @@ module _ (count : ℕ) where
         | inl e ↦ rw (e, last_word, bit_at_ones (count % 64) (k % 64) (omega arith)) refl
         | inr ne ↦
             rw (
-              get_or-set_other (replicate (count / 64 + 1) (2 ^ 64 - 1)) (count / 64) (k / 64) (2 ^ (count % 64) - 1) 0 ne,
+              get_or-set_other (replicate (count / 64 + 1) (2 ^ 64 - 1)) (count / 64) (k / 64)
+                  (2 ^ (count % 64) - 1) 0 ne,
               get_or-replicate (count / 64 + 1) (k / 64) (2 ^ 64 - 1) 0 (omega arith),
               bit_at_ones 64 (k % 64) (omega arith),
             ) refl
@@ -176,5 +196,9 @@ module _ (count : ℕ) where
       elim (cases_eq (k / 64) (count / 64)) [
         | inl e ↦ rw (e, last_word, bit_at_ones_above (count % 64) (k % 64) (omega arith)) refl
         | inr ne ↦ none_past (first_ones count) k
-            (omega (arith, length-set (replicate (count / 64 + 1) (2 ^ 64 - 1)) (count / 64) (2 ^ (count % 64) - 1), length-replicate (count / 64 + 1) (2 ^ 64 - 1)))
+            (omega (
+              arith,
+              length-set (replicate (count / 64 + 1) (2 ^ 64 - 1)) (count / 64) (2 ^ (count % 64) - 1),
+              length-replicate (count / 64 + 1) (2 ^ 64 - 1),
+            ))
       ]

@@ -15,7 +15,7 @@ use Rattle.nv_command.specs.declared.entry.Opcode.TheVariants.{NamespaceAttachme
 use Rattle.nv_command.specs.declared.entry.Opcode.TheVariants.{GetFeatures, SetFeatures, GetLogPage}
 use Rattle.nv_command.specs.declared.status_code.StatusCode.{StatusCode}
 use Rattle.nv_command.specs.declared.status_code.StatusCode.TheVariants.{InvalidFieldInCommand}
-use Rattle.nv_command.specs.declared.transfer.Transfer.{Transfer as Moves}
+use Rattle.nv_command.specs.declared.transfer.Transfer.{Transfer}
 use Rattle.nv_command.specs.declared.transfer.Transfer.TheVariants.{FromHost, NoData, ToHost}
 use Rattle.nv_prp.specs.Place.{LieIn, places}
 use Rattle.nv_prp.specs.Transfer.{Transfer, IsLegal, fault_after_prp1, first_fault}
@@ -53,24 +53,24 @@ unfolding LieIn
 nothing_lies_in size = λ i d h. absurd (omega arith)
 
 -- an entry without data has no places
-pub no_places : (page_size : ℕ) (bytes : List ℕ) (e : Sqe) (m : Moves) (at : List ℕ) → m ≡ NoData
+pub no_places : (page_size : ℕ) (bytes : List ℕ) (e : Sqe) (m : Transfer) (at : List ℕ) → m ≡ NoData
     → at ≡ [] → data_places page_size bytes e m ≡ Ok at
-no_places page_size bytes e m at is none = ap (λ (x : Moves). data_places page_size bytes e x) is
+no_places page_size bytes e m at is none = ap (λ (x : Transfer). data_places page_size bytes e x) is
     ∙ ap Ok (sym none)
 
 -- ---- a length that a data pointer can have
 
 -- there is some, and what the host sends is a page of 4,096 bytes at most
-abbrev HasSome : Moves → Type 0
+abbrev HasSome : Transfer → Type 0
 HasSome NoData = Unit {0}
 HasSome (ToHost n) = 0 < n
 HasSome (FromHost n) = (0 < n) × (n ≤ 4096)
 
-abbrev SomeIf : Result Moves StatusCode → Type 0
+abbrev SomeIf : Result Transfer StatusCode → Type 0
 SomeIf (Ok t) = HasSome t
 SomeIf (Err code) = Unit {0}
 
-some_after : {A : Type 0} (r : Result A StatusCode) (t : Moves) → HasSome t
+some_after : {A : Type 0} (r : Result A StatusCode) (t : Transfer) → HasSome t
     → SomeIf (r >>= (λ _. Ok t))
 some_after (Ok x) t some = some
 some_after (Err code) t some = tt
@@ -94,14 +94,14 @@ some_by_opcode : (r : Result Opcode StatusCode) (e : Sqe) → SomeIf (r >>= (λ 
 some_by_opcode (Ok o) e = some_as o e
 some_by_opcode (Err code) e = tt
 
-room_within : (limit : ℕ) (t : Moves) → limit ≤ 1048576 → HasSome t → length_of t ≤ limit
+room_within : (limit : ℕ) (t : Transfer) → limit ≤ 1048576 → HasSome t → length_of t ≤ limit
     → HasRoom t
 room_within limit NoData low some few = tt
 room_within limit (ToHost n) low some few = (some, omega arith)
 room_within limit (FromHost n) low some few = some
 
 -- what the rule on the length lets through is no longer than the limit
-pub within_limit : (limit : ℕ) (asked t : Moves) → within limit asked ≡ Ok t → (t ≡ asked)
+pub within_limit : (limit : ℕ) (asked t : Transfer) → within limit asked ≡ Ok t → (t ≡ asked)
     × (length_of t ≤ limit)
 within_limit limit asked t h = by_test (nat_lt limit (length_of asked)) refl h
   where
@@ -112,16 +112,16 @@ within_limit limit asked t h = by_test (nat_lt limit (length_of asked)) refl h
     by_test false is e =
         let same : t ≡ asked = sym (cc) in
         let few : length_of asked ≤ limit = grind (arith, nat_tests, is) in
-        (same, subst (λ (m : Moves). length_of m ≤ limit) (sym same) few)
+        (same, subst (λ (m : Transfer). length_of m ≤ limit) (sym same) few)
 
 -- and that is what is let through
-pub within_few : (limit : ℕ) (asked : Moves) → length_of asked ≤ limit → within limit asked
+pub within_few : (limit : ℕ) (asked : Transfer) → length_of asked ≤ limit → within limit asked
     ≡ Ok asked
 within_few limit asked few =
     let no : nat_lt limit (length_of asked) ≡ false = grind (arith, nat_tests) in
     ap (λ b. if b then Err InvalidFieldInCommand else Ok asked) no
 
-pub has_room : (limit : ℕ) (e : Sqe) (asked t : Moves) → limit ≤ 1048576 → transfer_of e ≡ Ok asked
+pub has_room : (limit : ℕ) (e : Sqe) (asked t : Transfer) → limit ≤ 1048576 → transfer_of e ≡ Ok asked
     → within limit asked ≡ Ok t → HasRoom t
 has_room limit e asked t low h w =
     let both = within_limit limit asked t w in

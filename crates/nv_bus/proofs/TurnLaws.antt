@@ -20,15 +20,15 @@ use Rattle.nv_queue.proofs.NumberLaws.{within_more, within_taken}
 use Rattle.nv_queue.specs.Rings.{fetched_one, posted_one}
 use Rattle.nv_queue.specs.Slots.{completion_place, put_as, submission_place}
 use Rattle.nv_register.specs.Readiness.{is_fatal}
-use Rattle.nv_register.specs.declared.port.Port.{Port}
+use Rattle.nv_register.specs.declared.register_bank.RegisterBank.{RegisterBank}
 use Rattle.nv_register.specs.declared.readiness.Readiness.{Readiness}
 use Rattle.nv_register.specs.declared.readiness.Readiness.TheVariants.{Ready}
 use Rattle.nv_register.specs.declared.rings.Rings.{Rings}
 use Rattle.nv_bus.specs.Call.{Call}
 use Rattle.nv_bus.specs.Entry.{Moves, MovesBy, Scene, call_in, completion_in, entry_step}
 use Rattle.nv_bus.specs.Entry.{scene}
-use Rattle.nv_bus.specs.Turn.{PortTurn, RingsLie, RingsTurn, Site, Taken, Takes, TakesCount}
-use Rattle.nv_bus.specs.Turn.{TurnBy, can_take, free_slots, reaches, ready_port}
+use Rattle.nv_bus.specs.Turn.{BankTurn, RingsLie, RingsTurn, Site, Taken, Takes, TakesCount}
+use Rattle.nv_bus.specs.Turn.{TurnBy, can_take, free_slots, reaches, ready_bank}
 use Rattle.nv_bus.specs.Turn.{turn_count, waiting}
 
 -- ---- one ring
@@ -284,17 +284,17 @@ completion_after (suc k) n r h =
     ∙ ap (λ x. record r.completion { posted = kept_number d x }) same
 
 -- what a turn leaves of a ready controller with rings that lie in the memory
-pub record PortTakes (page_size most count : ℕ) (r : Rings) (old new : Site) : Type 0 where
+pub record BankTakes (page_size most count : ℕ) (r : Rings) (old new : Site) : Type 0 where
   pub number : count ≡ turn_count most r
-  pub port : new.port ≡ ready_port old.port (rings_after count r) false
+  pub bank : new.bank ≡ ready_bank old.bank (rings_after count r) false
   pub less : RingsLess count page_size (length new.bytes) r (rings_after count r)
   pub len : length new.bytes ≡ length old.bytes
 
-pub port_takes : (page_size c most count : ℕ) (r : Rings) (old new : Site)
-    → old.port.readiness ≡ Ready r false
-    → RingsLie r page_size (length old.bytes) → PortTurn page_size c most count old new
-    → PortTakes page_size most count r old new
-port_takes page_size c most count r old new ready is turn =
+pub bank_takes : (page_size c most count : ℕ) (r : Rings) (old new : Site)
+    → old.bank.readiness ≡ Ready r false
+    → RingsLie r page_size (length old.bytes) → BankTurn page_size c most count old new
+    → BankTakes page_size most count r old new
+bank_takes page_size c most count r old new ready is turn =
     let own = subst (λ (x : Readiness). TurnBy x page_size c most count old new) ready turn in
     let last = own.0 in
     let first = scene old.state r old.bytes in
@@ -304,18 +304,18 @@ port_takes page_size c most count r old new ready is turn =
     let bytes : length new.bytes ≡ length last.bytes = ap (λ (s : Site). length s.bytes) own.3 in
     record {
       number = law.0;
-      port =
-          ap (λ (s : Site). s.port) own.3
-          ∙ ap (ready_port old.port last.rings) law.1
-          ∙ ap (λ (x : Rings). ready_port old.port x false) rings;
+      bank =
+          ap (λ (s : Site). s.bank) own.3
+          ∙ ap (ready_bank old.bank last.rings) law.1
+          ∙ ap (λ (x : Rings). ready_bank old.bank x false) rings;
       less = subst (λ (x : Rings). RingsLess count page_size (length new.bytes) r x) rings
           (subst (λ n. RingsLess count page_size n r last.rings) (sym bytes) less.rings);
       len = bytes ∙ less.len;
     }
 
-pub port_turn_count : (page_size c most count : ℕ) (old new : Site)
-    → PortTurn page_size c most count old new
-    → TakesCount page_size (length old.bytes) most old.port count new.port
-port_turn_count page_size c most count old new turn r ready is =
-    let takes = port_takes page_size c most count r old new ready is turn in
-    (takes.number, ap (λ (p : Port). is_fatal p.readiness) takes.port)
+pub bank_turn_count : (page_size c most count : ℕ) (old new : Site)
+    → BankTurn page_size c most count old new
+    → TakesCount page_size (length old.bytes) most old.bank count new.bank
+bank_turn_count page_size c most count old new turn r ready is =
+    let takes = bank_takes page_size c most count r old new ready is turn in
+    (takes.number, ap (λ (p : RegisterBank). is_fatal p.readiness) takes.bank)

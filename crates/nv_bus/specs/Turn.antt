@@ -5,12 +5,12 @@ use Rattle.nv_queue.specs.Numbers.{above}
 use Rattle.nv_queue.specs.Rings.{IsFetchRing, IsPostRing}
 use Rattle.nv_queue.specs.Slots.{completion_place, submission_place}
 use Rattle.nv_register.specs.Readiness.{is_fatal}
-use Rattle.nv_register.specs.declared.port.Port.{Port}
+use Rattle.nv_register.specs.declared.register_bank.RegisterBank.{RegisterBank}
 use Rattle.nv_register.specs.declared.readiness.Readiness.{Readiness}
 use Rattle.nv_register.specs.declared.readiness.Readiness.TheVariants.{Off, Failed, Ready}
 use Rattle.nv_register.specs.declared.rings.Rings.{Rings}
 use Rattle.nv_model.specs.State.{State}
-use Rattle.nv_bus.specs.Bus.{BusValue, port_at}
+use Rattle.nv_bus.specs.Bus.{BusValue, bank_at}
 use Rattle.nv_bus.specs.Entry.{One, Scene, scene}
 
 -- an entry waits, and there is a free slot for its completion
@@ -57,15 +57,15 @@ pub record RingsTurn (page_size c most count : ℕ) (old new : Scene) (fatal : B
 -- what a turn of one controller reads and changes
 pub record Site : Type 0 where
   pub state : State
-  pub port : Port
+  pub bank : RegisterBank
   pub bytes : List ℕ
 
-abbrev pub site : State → Port → List ℕ → Site
-site state port bytes = record { state = state; port = port; bytes = bytes }
+abbrev pub site : State → RegisterBank → List ℕ → Site
+site state bank bytes = record { state = state; bank = bank; bytes = bytes }
 
 -- the registers where the controller is ready with these rings
-abbrev pub ready_port : Port → Rings → Bool → Port
-ready_port p rings fatal = record p { readiness = Ready rings fatal }
+abbrev pub ready_bank : RegisterBank → Rings → Bool → RegisterBank
+ready_bank p rings fatal = record p { readiness = Ready rings fatal }
 
 -- a turn by whether the controller is ready
 abbrev pub TurnBy : Readiness → ℕ → ℕ → ℕ → ℕ → Site → Site → Type 0
@@ -75,19 +75,19 @@ TurnBy (Ready rings true) page_size c most count old new = (count ≡ 0) × (new
 TurnBy (Ready rings false) page_size c most count old new =
     (last : Scene) × (fatal : Bool)
     × RingsTurn page_size c most count (scene old.state rings old.bytes) last fatal
-    × (new ≡ site last.state (ready_port old.port last.rings fatal) last.bytes)
+    × (new ≡ site last.state (ready_bank old.bank last.rings fatal) last.bytes)
 
 -- a turn of controller c, which takes nothing where it isn't ready or has a fatal status
-abbrev pub PortTurn : ℕ → ℕ → ℕ → ℕ → Site → Site → Type 0
-PortTurn page_size c most count old new =
-    TurnBy old.port.readiness page_size c most count old new
+abbrev pub BankTurn : ℕ → ℕ → ℕ → ℕ → Site → Site → Type 0
+BankTurn page_size c most count old new =
+    TurnBy old.bank.readiness page_size c most count old new
 
 -- a turn of controller c of a bus: the other controllers' registers and rings stay
 pub record Turn (page_size c most count : ℕ) (b : BusValue) (bytes : List ℕ) (b' : BusValue)
     (bytes' : List ℕ) : Type 0 where
-  pub own : PortTurn page_size c most count (site b.state (port_at b.ports c) bytes)
-      (site b'.state (port_at b'.ports c) bytes')
-  pub others : b'.ports ≡ slice_set b.ports c (port_at b'.ports c)
+  pub own : BankTurn page_size c most count (site b.state (bank_at b.banks c) bytes)
+      (site b'.state (bank_at b'.banks c) bytes')
+  pub others : b'.banks ≡ slice_set b.banks c (bank_at b'.banks c)
 
 -- ---- how many entries a turn takes
 
@@ -113,7 +113,7 @@ abbrev pub turn_count : ℕ → Rings → ℕ
 turn_count most r = min most (min (waiting r) (free_slots r))
 
 -- a ready controller takes so many of rings that lie in the memory, and gets no fatal status
-abbrev pub TakesCount : ℕ → ℕ → ℕ → Port → ℕ → Port → Type 0
+abbrev pub TakesCount : ℕ → ℕ → ℕ → RegisterBank → ℕ → RegisterBank → Type 0
 TakesCount page_size size most old count new =
     (r : Rings) → old.readiness ≡ Ready r false → RingsLie r page_size size
     → (count ≡ turn_count most r) × (is_fatal new.readiness ≡ false)

@@ -1,8 +1,8 @@
 //! What a host talks to.
 
 ghost use Rattle.std.specs.Prelude.{◌≡◌, ◌<◌, length, slice_set};
-ghost use Rattle.nv_register.specs.Port.{value_at, with_register_at};
-ghost use Rattle.nv_bus.specs.Bus.{BusValue, IsBus, port_at, state_written};
+ghost use Rattle.nv_register.specs.RegisterBank.{value_at, with_register_at};
+ghost use Rattle.nv_bus.specs.Bus.{BusValue, IsBus, bank_at, state_written};
 ghost use Rattle.nv_bus.specs.Turn.{TakesCount, Turn};
 
 use nv_host::HostMemory;
@@ -14,22 +14,22 @@ pub trait Bus {
 
     /// The number of controllers.
     fn controllers(&self) -> u16
-        ensures { result ≡ length (meaning self.now).ports };
+        ensures { result ≡ length (meaning self.now).banks };
 
     /// The dword of a controller's registers at an offset in bytes; 0 where no register begins.
     fn read32(&self, ctrl: u16, offset: u32) -> u32
-        requires { ctrl < length (meaning self.now).ports }
-        ensures { result ≡ value_at (port_at (meaning self.now).ports ctrl) offset };
+        requires { ctrl < length (meaning self.now).banks }
+        ensures { result ≡ value_at (bank_at (meaning self.now).banks ctrl) offset };
 
     /// Writes the dword of a controller's registers at an offset in bytes. A write that clears an
     /// EN that was 1 resets the controller; after any other the subsystem is as it was. Section
     /// "Controller Level Reset".
     fn write32(&mut self, ctrl: u16, offset: u32, dword: u32)
-        requires { ctrl < length (meaning self.old).ports }
+        requires { ctrl < length (meaning self.old).banks }
         ensures state { (meaning self.new).state
             ≡ state_written (meaning self.old) ctrl offset dword }
-        ensures ports { (meaning self.new).ports ≡ slice_set (meaning self.old).ports ctrl
-            (with_register_at (port_at (meaning self.old).ports ctrl) offset dword) }
+        ensures banks { (meaning self.new).banks ≡ slice_set (meaning self.old).banks ctrl
+            (with_register_at (bank_at (meaning self.old).banks ctrl) offset dword) }
         ensures bus { IsBus (meaning self.old) → IsBus (meaning self.new) };
 
     /// Takes entries of a controller's submission ring, at most so many, and answers how many it
@@ -37,12 +37,12 @@ pub trait Bus {
     /// completion's slot change. None is taken where the controller isn't ready or has a fatal
     /// status.
     fn turn<M: HostMemory>(&mut self, ctrl: u16, mem: &mut M, most: u16) -> u16
-        requires ctrl { ctrl < length (meaning self.old).ports }
+        requires ctrl { ctrl < length (meaning self.old).banks }
         requires bus { IsBus (meaning self.old) }
         ensures turn { Turn (M.page_len mem.old) ctrl most result
             (meaning self.old) (M.bytes mem.old) (meaning self.new) (M.bytes mem.new) }
         ensures count { TakesCount (M.page_len mem.old) (length (M.bytes mem.old)) most
-            (port_at (meaning self.old).ports ctrl) result (port_at (meaning self.new).ports ctrl) }
+            (bank_at (meaning self.old).banks ctrl) result (bank_at (meaning self.new).banks ctrl) }
         ensures bus { IsBus (meaning self.new) }
         ensures len { length (M.bytes mem.new) ≡ length (M.bytes mem.old) }
         ensures page { M.page_len mem.new ≡ M.page_len mem.old };

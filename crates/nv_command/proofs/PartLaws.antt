@@ -1,5 +1,6 @@
 -- A part of bytes as what they have of it and the zeros after that.
-use Rattle.std.proofs.Common.{◌≡◌, ◌∙◌, ℕ, ◌+◌, ◌-◌, ap, arith, inl, inr, sym, List, ◌++◌, append-nil, drop, length, length-drop, min, replicate, take}
+use Rattle.std.proofs.Common.{◌≡◌, ◌∙◌, ℕ, ◌+◌, ◌-◌, ap, arith, inl, inr, sym, List, ◌++◌, append-nil, drop, length}
+use Rattle.std.proofs.Common.{length-drop, min, replicate, take}
 use Rattle.std.proofs.lemmas.Bool.{cases_lt}
 use Rattle.std.proofs.lemmas.List.{take-append-le, take-replicate, take_all}
 use Rattle.std.proofs.Math.Seq.{take-append-add}

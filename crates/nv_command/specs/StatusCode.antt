@@ -9,15 +9,15 @@ use Rattle.nv_command.specs.declared.status_code.StatusCode.{StatusCode}
 use Rattle.nv_command.specs.declared.status_code.StatusCode.TheVariants as code
 
 -- a status code type, a status code and a name
-pub record Row : Type 0 where
+pub record StatusRow : Type 0 where
   pub sct : ℕ
   pub sc : ℕ
   pub name : List ℕ
 
-abbrev pub row : ℕ → ℕ → List ℕ → Row
+abbrev pub row : ℕ → ℕ → List ℕ → StatusRow
 row sct sc name = record { sct = sct; sc = sc; name = name }
 
-abbrev pub row_of : StatusCode → Row
+abbrev pub row_of : StatusCode → StatusRow
 row_of code.InvalidCommandOpcode = row 0 0x01 (codes "Invalid Command Opcode")
 row_of code.InvalidFieldInCommand = row 0 0x02 (codes "Invalid Field in Command")
 row_of code.DataTransferError = row 0 0x04 (codes "Data Transfer Error")

@@ -21,7 +21,8 @@ use Rattle.nv_model.specs.WellFormed.{IsWellFormed}
 use Rattle.nv_bus.specs.Call.{call_of}
 use Rattle.nv_model.specs.Limit.{limit_of}
 use Rattle.nv_bus.proofs.TagLaws.{dword0_tagged, tagged}
-use Rattle.nv_bus.specs.Entry.{Moves, MovesBy, One, Scene, call_in, completion_with, entry_in, entry_step, step_unless, success, told_by}
+use Rattle.nv_bus.specs.Entry.{Moves, MovesBy, One, Scene, call_in, completion_with, entry_in, entry_step, step_unless}
+use Rattle.nv_bus.specs.Entry.{success, told_by}
 
 -- ---- answers
 

@@ -5,8 +5,8 @@ use Rattle.nv_register.specs.declared.readiness.Readiness.TheVariants.{Ready}
 use Rattle.nv_register.specs.declared.rings.Rings.{Rings}
 use Rattle.nv_model.specs.WellFormed.{IsWellFormed}
 use Rattle.nv_bus.specs.Entry.{Scene, scene}
-use Rattle.nv_bus.specs.Turn.{PortTurn, RingsTurn, Site, Taken, Takes, TakesCount, TurnBy, ready_port, site}
-use Rattle.nv_bus.proofs.TurnLaws.{port_turn_count}
+use Rattle.nv_bus.specs.Turn.{BankTurn, RingsTurn, Site, Taken, Takes, TakesCount, TurnBy, ready_bank, site}
+use Rattle.nv_bus.proofs.TurnLaws.{bank_turn_count}
 
 -- so many entries were taken, in a memory whose page size and length stay
 pub record Goes (count page_size now c : ℕ) (old new : Scene) : Type 0 where
@@ -31,18 +31,18 @@ taken_more k page_size c old mid new before t =
 
 -- the turn of a ready controller without a fatal status is that of its rings
 pub turn_of_rings : (page_size c most count : ℕ) (old : Site) (rings : Rings) (last : Scene)
-    (fatal : Bool) → old.port.readiness ≡ Ready rings false
+    (fatal : Bool) → old.bank.readiness ≡ Ready rings false
     → RingsTurn page_size c most count (scene old.state rings old.bytes) last fatal
-    → PortTurn page_size c most count old (site last.state (ready_port old.port last.rings fatal) last.bytes)
+    → BankTurn page_size c most count old (site last.state (ready_bank old.bank last.rings fatal) last.bytes)
 turn_of_rings page_size c most count old rings last fatal ready turn =
-    let new = site last.state (ready_port old.port last.rings fatal) last.bytes in
+    let new = site last.state (ready_bank old.bank last.rings fatal) last.bytes in
     subst (λ (r : Readiness). TurnBy r page_size c most count old new) (sym ready) (last, fatal, turn, refl)
 
 -- and so is the number of entries that it takes
 pub count_of_rings : (page_size c most count : ℕ) (old : Site) (rings : Rings) (last : Scene)
-    (fatal : Bool) → old.port.readiness ≡ Ready rings false
+    (fatal : Bool) → old.bank.readiness ≡ Ready rings false
     → RingsTurn page_size c most count (scene old.state rings old.bytes) last fatal
-    → TakesCount page_size (length old.bytes) most old.port count (ready_port old.port last.rings fatal)
+    → TakesCount page_size (length old.bytes) most old.bank count (ready_bank old.bank last.rings fatal)
 count_of_rings page_size c most count old rings last fatal ready turn =
-    port_turn_count page_size c most count old (site last.state (ready_port old.port last.rings fatal) last.bytes)
+    bank_turn_count page_size c most count old (site last.state (ready_bank old.bank last.rings fatal) last.bytes)
     (turn_of_rings page_size c most count old rings last fatal ready turn)

@@ -1,16 +1,16 @@
 //! The controllers of a subsystem.
 
 ghost use Rattle.std.specs.Prelude.{◌≡◌, ◌<◌, IfOk, if◌then◌else◌, length, replicate};
-ghost use Rattle.nv_register.specs.Port.{new_port, stops_at, with_register_at};
+ghost use Rattle.nv_register.specs.RegisterBank.{new_bank, stops_at, with_register_at};
 ghost use Rattle.nv_model.specs.Reset.{reset};
 ghost use Rattle.nv_model.specs.WellFormed.{IsWellFormed};
 ghost use Rattle.nv_bus.specs.Bus.{IsBus};
 
 use crate::scratch::Scratch;
-use crate::turn::turn_port;
+use crate::turn::turn_bank;
 use nv_bus::Bus;
 use nv_host::{HostMemory, Memory};
-use nv_register::Port;
+use nv_register::RegisterBank;
 use nv_subsystem::Subsystem;
 use std::alloc::Global;
 use std::marker::Model;
@@ -19,7 +19,7 @@ use std::marker::Model;
 #[derive(Drop)]
 pub struct Machine {
     subsystem: Subsystem,
-    ports: Vec<Port>,
+    banks: Vec<RegisterBank>,
     scratch: Scratch,
 }
 
@@ -32,42 +32,48 @@ impl Model for Machine {
 
     ghost coded = { bus_code };
 
-    ghost view = { λ m. record { state = m.subsystem; ports = m.ports.items } };
+    ghost view = { λ m. record { state = m.subsystem; banks = m.banks.items } };
 
     ghost use Rattle.std.specs.Prelude.{◌≡◌, length};
 
-    ghost invariant = { λ m. length m.ports.items ≡ length m.subsystem.controllers };
+    ghost invariant = { λ m. length m.banks.items ≡ length m.subsystem.controllers };
 }
 
 /// The registers of so many controllers after power on.
 #[tactic(auto, using(std::proofs::lemmas::List::replicate_more))]
-fn new_ports(alloc: Global, count: u16) -> Result<Vec<Port>, Memory>
-    ensures { IfOk result (λ ports. ports.items ≡ replicate count new_port) }
+fn new_banks(alloc: Global, count: u16) -> Result<Vec<RegisterBank>, Memory>
+    ensures { IfOk result (λ banks. banks.items ≡ replicate count new_bank) }
 {
-    let mut ports = Vec::new(alloc);
+    let mut banks = Vec::new(alloc);
     for _ in 0..count {
-        if ports.push(Port::new()).is_err() {
+        if banks.push(RegisterBank::new()).is_err() {
             return Err(Memory);
         }
     }
-    Ok(ports)
+    Ok(banks)
 }
 
 /// Writes a register of a controller, which is reset where that clears an EN that was 1. Section
 /// "Controller Level Reset".
 #[tactic(auto, using(crate::proofs::ResetLaws::controllers_stay))]
-fn write_port(subsystem: &mut Subsystem, port: &mut Port, ctrl: u16, offset: u32, dword: u32)
+fn write_bank(
+    subsystem: &mut Subsystem,
+    bank: &mut RegisterBank,
+    ctrl: u16,
+    offset: u32,
+    dword: u32,
+)
     requires { ctrl < length subsystem.old.controllers }
     ensures state { subsystem.new
-        ≡ (if stops_at port.old offset dword then reset subsystem.old ctrl else subsystem.old) }
-    ensures port { port.new ≡ with_register_at port.old offset dword }
+        ≡ (if stops_at bank.old offset dword then reset subsystem.old ctrl else subsystem.old) }
+    ensures bank { bank.new ≡ with_register_at bank.old offset dword }
     ensures controllers { length subsystem.new.controllers ≡ length subsystem.old.controllers }
     ensures well_formed { IsWellFormed subsystem.old → IsWellFormed subsystem.new }
 {
-    if port.stops_at(offset, dword) {
+    if bank.stops_at(offset, dword) {
         subsystem.reset(ctrl);
     }
-    port.write32(offset, dword);
+    bank.write32(offset, dword);
 }
 
 impl Machine {
@@ -76,14 +82,14 @@ impl Machine {
     pub fn new(alloc: Global, subsystem: Subsystem) -> Result<Machine, Memory>
         ensures value { IfOk result (λ m. m ≡ record {
           state = subsystem;
-          ports = replicate (length subsystem.controllers) new_port;
+          banks = replicate (length subsystem.controllers) new_bank;
         }) }
         ensures bus { IfOk result (λ m. IsWellFormed subsystem → IsBus m) }
     {
-        let ports = new_ports(alloc, subsystem.controllers())?;
+        let banks = new_banks(alloc, subsystem.controllers())?;
         Ok(Machine {
             subsystem,
-            ports,
+            banks,
             scratch: Scratch::new(),
         })
     }
@@ -104,19 +110,19 @@ impl Bus for Machine {
     }
 
     fn read32(&self, ctrl: u16, offset: u32) -> u32 {
-        self.ports[ctrl as usize].read32(offset)
+        self.banks[ctrl as usize].read32(offset)
     }
 
     fn write32(&mut self, ctrl: u16, offset: u32, dword: u32) {
-        let port = &mut self.ports[ctrl as usize];
-        write_port(&mut self.subsystem, port, ctrl, offset, dword);
+        let bank = &mut self.banks[ctrl as usize];
+        write_bank(&mut self.subsystem, bank, ctrl, offset, dword);
     }
 
     fn turn<M: HostMemory>(&mut self, ctrl: u16, mem: &mut M, most: u16) -> u16 {
-        let port = &mut self.ports[ctrl as usize];
-        turn_port(
+        let bank = &mut self.banks[ctrl as usize];
+        turn_bank(
             &mut self.subsystem,
-            port,
+            bank,
             &mut self.scratch,
             ctrl,
             mem,

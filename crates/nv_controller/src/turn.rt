@@ -3,13 +3,13 @@
 ghost use Rattle.std.specs.Prelude.{◌≡◌, ◌<◌, length};
 ghost use Rattle.nv_model.specs.WellFormed.{IsWellFormed};
 ghost use Rattle.nv_bus.specs.Entry.{scene};
-ghost use Rattle.nv_bus.specs.Turn.{PortTurn, RingsTurn, TakesCount, can_take, reaches};
+ghost use Rattle.nv_bus.specs.Turn.{BankTurn, RingsTurn, TakesCount, can_take, reaches};
 ghost use Rattle.nv_bus.specs.Turn.{site};
 
 use crate::entry::take_one;
 use crate::scratch::Scratch;
 use nv_host::HostMemory;
-use nv_register::{Port, Readiness, Rings};
+use nv_register::{Readiness, RegisterBank, Rings};
 use nv_subsystem::Subsystem;
 
 /// Whether an entry waits, and there is a free slot for its completion.
@@ -60,9 +60,9 @@ fn take_entries<M: HostMemory>(
 }
 
 /// A turn of one controller, over its registers and rings.
-pub(crate) fn turn_port<M: HostMemory>(
+pub(crate) fn turn_bank<M: HostMemory>(
     subsystem: &mut Subsystem,
-    port: &mut Port,
+    bank: &mut RegisterBank,
     scratch: &mut Scratch,
     ctrl: u16,
     mem: &mut M,
@@ -70,17 +70,17 @@ pub(crate) fn turn_port<M: HostMemory>(
 ) -> u16
     requires ctrl { ctrl < length subsystem.old.controllers }
     requires well_formed { IsWellFormed subsystem.old }
-    ensures turn { PortTurn (M.page_len mem.old) ctrl most result
-        (site subsystem.old port.old (M.bytes mem.old))
-        (site subsystem.new port.new (M.bytes mem.new)) }
+    ensures turn { BankTurn (M.page_len mem.old) ctrl most result
+        (site subsystem.old bank.old (M.bytes mem.old))
+        (site subsystem.new bank.new (M.bytes mem.new)) }
     ensures count { TakesCount (M.page_len mem.old) (length (M.bytes mem.old)) most
-        port.old result port.new }
+        bank.old result bank.new }
     ensures well_formed { IsWellFormed subsystem.new }
     ensures controllers { length subsystem.new.controllers ≡ length subsystem.old.controllers }
     ensures len { length (M.bytes mem.new) ≡ length (M.bytes mem.old) }
     ensures page { M.page_len mem.new ≡ M.page_len mem.old }
 {
-    match &mut port.readiness {
+    match &mut bank.readiness {
         Readiness::Ready { rings, fatal } if !*fatal => {
             let (count, stopped) = take_entries(subsystem, rings, scratch, ctrl, mem, most);
             *fatal = stopped;

@@ -2,7 +2,7 @@
 
 ghost use Rattle.std.specs.Prelude.{◌≡◌, ◌<◌, IfOk, length};
 ghost use Rattle.nv_bus.specs.Bus.{IsBus};
-ghost use Rattle.nv_driver.specs.Registers.{ports_of};
+ghost use Rattle.nv_driver.specs.Registers.{banks_of};
 
 use nv_command::{Command, Reply};
 use nv_controller::{Bus, Machine};
@@ -140,12 +140,12 @@ pub(crate) fn expect_list(
     ctrl: u16,
     want: &[u32],
 )
-    requires ctrl { ctrl < length driver.old.lanes }
+    requires ctrl { ctrl < length driver.old.pairs }
     requires bus { IsBus machine.old }
-    requires left { machine.old.ports ≡ ports_of driver.old }
+    requires left { machine.old.banks ≡ banks_of driver.old }
     ensures bus { IsBus machine.new }
-    ensures left { machine.new.ports ≡ ports_of driver.new }
-    ensures lanes { length driver.new.lanes ≡ length driver.old.lanes }
+    ensures left { machine.new.banks ≡ banks_of driver.new }
+    ensures pairs { length driver.new.pairs ≡ length driver.old.pairs }
 {
     let mut slot = AnswerSlot::new();
     match driver.admin(machine, ctrl, &Command::ActiveList { after: 0 }, &mut slot) {
@@ -156,12 +156,12 @@ pub(crate) fn expect_list(
 
 /// Asks for a namespace that no controller can have.
 pub(crate) fn expect_refusal(rt: &impl Abort, driver: &mut Driver, machine: &mut Machine, ctrl: u16)
-    requires ctrl { ctrl < length driver.old.lanes }
+    requires ctrl { ctrl < length driver.old.pairs }
     requires bus { IsBus machine.old }
-    requires left { machine.old.ports ≡ ports_of driver.old }
+    requires left { machine.old.banks ≡ banks_of driver.old }
     ensures bus { IsBus machine.new }
-    ensures left { machine.new.ports ≡ ports_of driver.new }
-    ensures lanes { length driver.new.lanes ≡ length driver.old.lanes }
+    ensures left { machine.new.banks ≡ banks_of driver.new }
+    ensures pairs { length driver.new.pairs ≡ length driver.old.pairs }
 {
     let mut slot = AnswerSlot::new();
     match driver.admin(

@@ -4,7 +4,7 @@ ghost use Rattle.std.specs.Prelude.{◌≡◌, ◌≤◌, ◌<◌, IfOk, length}
 ghost use Rattle.nv_command.specs.Command.{CommandFits};
 ghost use Rattle.nv_command.specs.Logs.{IsSendable};
 ghost use Rattle.nv_bus.specs.Bus.{IsBus};
-ghost use Rattle.nv_driver.specs.Registers.{ports_of};
+ghost use Rattle.nv_driver.specs.Registers.{banks_of};
 
 use crate::drivers::machine;
 use nv_command::{Command, Reply};
@@ -71,9 +71,9 @@ struct Bench {
 impl Bench {
     /// Over the demonstration subsystem.
     fn new(rt: &impl Abort, alloc: Global, geometry: Geometry) -> Result<Bench, Fail>
-        ensures controllers { IfOk result (λ b. 1 < length b.driver.lanes) }
+        ensures controllers { IfOk result (λ b. 1 < length b.driver.pairs) }
         ensures bus { IfOk result (λ b. IsBus b.machine) }
-        ensures left { IfOk result (λ b. b.machine.ports ≡ ports_of b.driver) }
+        ensures left { IfOk result (λ b. b.machine.banks ≡ banks_of b.driver) }
     {
         let mut machine = machine(alloc)?;
         let driver = Driver::bring_up(alloc, &mut machine, geometry)?;
@@ -83,14 +83,14 @@ impl Bench {
 
     /// A command is answered as wanted.
     fn expect(&mut self, rt: &impl Abort, ctrl: u16, command: &Command, want: Want)
-        requires ctrl { ctrl < length self.old.driver.lanes }
+        requires ctrl { ctrl < length self.old.driver.pairs }
         requires bus { IsBus self.old.machine }
-        requires left { self.old.machine.ports ≡ ports_of self.old.driver }
+        requires left { self.old.machine.banks ≡ banks_of self.old.driver }
         requires fits { CommandFits command.now }
         requires sends { IsSendable command.now }
         ensures bus { IsBus self.new.machine }
-        ensures left { self.new.machine.ports ≡ ports_of self.new.driver }
-        ensures lanes { length self.new.driver.lanes ≡ length self.old.driver.lanes }
+        ensures left { self.new.machine.banks ≡ banks_of self.new.driver }
+        ensures pairs { length self.new.driver.pairs ≡ length self.old.driver.pairs }
     {
         let mut slot = AnswerSlot::new();
         let answer = self

@@ -2,7 +2,7 @@
 
 ghost use Rattle.std.specs.Prelude.{◌≡◌, ◌<◌, length};
 ghost use Rattle.nv_bus.specs.Bus.{IsBus};
-ghost use Rattle.nv_driver.specs.Registers.{ports_of};
+ghost use Rattle.nv_driver.specs.Registers.{banks_of};
 
 use crate::drivers::{expect, expect_list, expect_refusal, machine};
 use nv_controller::{Bus, Machine};
@@ -13,12 +13,12 @@ use std::test::Fail;
 
 /// Resets a controller.
 fn reset(rt: &impl Abort, driver: &mut Driver, machine: &mut Machine, ctrl: u16)
-    requires ctrl { ctrl < length driver.old.lanes }
+    requires ctrl { ctrl < length driver.old.pairs }
     requires bus { IsBus machine.old }
-    requires left { machine.old.ports ≡ ports_of driver.old }
+    requires left { machine.old.banks ≡ banks_of driver.old }
     ensures bus { IsBus machine.new }
-    ensures left { machine.new.ports ≡ ports_of driver.new }
-    ensures lanes { length driver.new.lanes ≡ length driver.old.lanes }
+    ensures left { machine.new.banks ≡ banks_of driver.new }
+    ensures pairs { length driver.new.pairs ≡ length driver.old.pairs }
 {
     assert!(rt; driver.reset(machine, ctrl).is_ok());
 }

@@ -1,6 +1,7 @@
--- Commands of a driver or a reset, over the lanes of its controllers.
+-- Commands of a driver or a reset, over the queue pairs of its controllers.
 use Rattle.std.specs.Prelude.{slice_set}
-use Rattle.std.proofs.Common.{◌≡◌, ◌≢◌, ◌∙◌, ◌⊎◌, ℕ, ◌+◌, ◌-◌, ◌*◌, ◌/◌, ◌^◌, ◌<◌, ◌≤◌, List, ap, arith, get_or, inl, inr, length, map, refl, subst, sym}
+use Rattle.std.proofs.Common.{◌≡◌, ◌≢◌, ◌∙◌, ◌⊎◌, ℕ, ◌+◌, ◌-◌, ◌*◌, ◌/◌, ◌^◌, ◌<◌, ◌≤◌, List, ap, arith, get_or, inl}
+use Rattle.std.proofs.Common.{inr, length, map, refl, subst, sym}
 use Rattle.std.proofs.Math.ListN.{length-set}
 use Rattle.std.proofs.Math.Nat.{mul-le-mul_left, mul-le-mul_right}
 use Rattle.std.proofs.lemmas.Bool.{cases_eq, cases_lt}
@@ -12,18 +13,19 @@ use Rattle.nv_layout.specs.declared.cqe.Cqe.{Cqe}
 use Rattle.nv_prp.specs.Buffer.{IsApart}
 use Rattle.nv_queue.specs.Numbers.{kept_number, next}
 use Rattle.nv_queue.specs.Slots.{HoldsTags}
-use Rattle.nv_register.specs.Port.{new_port}
-use Rattle.nv_register.specs.declared.port.Port.{Port}
-use Rattle.nv_bus.specs.Bus.{BusValue, IsBus, port_at}
-use Rattle.nv_driver.specs.Driver.{IsDriver, IsPlaced, after_command, after_commands, driver_value, lane_at, no_lane, page_count}
+use Rattle.nv_register.specs.RegisterBank.{new_bank}
+use Rattle.nv_register.specs.declared.register_bank.RegisterBank.{RegisterBank}
+use Rattle.nv_bus.specs.Bus.{BusValue, IsBus, bank_at}
+use Rattle.nv_driver.specs.Driver.{IsDriver, IsPlaced, after_command, after_commands, driver_value, pair_at, no_pair}
+use Rattle.nv_driver.specs.Driver.{page_count}
 use Rattle.nv_driver.specs.Exchange.{IsReady, KeepsOthers}
-use Rattle.nv_driver.specs.Lane.{IsLaid, Lane, idle_port}
+use Rattle.nv_driver.specs.QueuePair.{IsLaid, QueuePair, idle_bank}
 use Rattle.nv_driver.specs.Layout.{pages_of_command, set_pages}
-use Rattle.nv_driver.specs.Quiet.{IsQuiet, lane_value}
-use Rattle.nv_driver.specs.Registers.{idle_ports, mps_of}
+use Rattle.nv_driver.specs.Quiet.{IsQuiet, pair_value}
+use Rattle.nv_driver.specs.Registers.{idle_banks, mps_of}
 use Rattle.nv_driver.specs.Settled.{DriverValue, IsSettled, end_of}
 use Rattle.nv_driver.specs.declared.geometry.Geometry.{Geometry}
-use Rattle.nv_driver.specs.declared.lane.Lane.{Lane as LaneFields}
+use Rattle.nv_driver.specs.declared.queue_pair.QueuePair.{QueuePair as QueuePairFields}
 
 -- ---- before the command
 
@@ -32,53 +34,54 @@ set_room : (g : Geometry) → g.window * pages_of_command g.page_size ≤ set_pa
 unfolding set_pages
 set_room g = omega arith
 
-value_at : (ls : List LaneFields) (c : ℕ) (d : LaneFields) (e : Lane) → c < length ls
-    → get_or (map lane_value ls) c e ≡ lane_value (get_or ls c d)
-value_at ls c d e below = get_or-map lane_value ls c d e below
+value_at : (ls : List QueuePairFields) (c : ℕ) (d : QueuePairFields) (e : QueuePair) → c < length ls
+    → get_or (map pair_value ls) c e ≡ pair_value (get_or ls c d)
+value_at ls c d e below = get_or-map pair_value ls c d e below
 
-pub ready_at : {g : Geometry} {mem : PagedBytes} {ls : List LaneFields} {b : BusValue} {c : ℕ}
-    {l : LaneFields} → IsDriver g mem ls → IsBus b
-    → b.ports ≡ idle_ports g.page_size (map lane_value ls) → c < length ls → l ≡ get_or ls c l
+pub ready_at : {g : Geometry} {mem : PagedBytes} {ls : List QueuePairFields} {b : BusValue} {c : ℕ}
+    {l : QueuePairFields} → IsDriver g mem ls → IsBus b
+    → b.banks ≡ idle_banks g.page_size (map pair_value ls) → c < length ls → l ≡ get_or ls c l
     → IsReady g b c l mem.page_size mem.bytes
-ready_at {g} {mem} {ls} {b} {c} {l} is bus ports below here =
-    let many = length-map ls lane_value in
-    let at : get_or (map lane_value ls) c no_lane ≡ lane_value l =
-    value_at ls c l no_lane below ∙ ap lane_value (sym here) in
+ready_at {g} {mem} {ls} {b} {c} {l} is bus banks below here =
+    let many = length-map ls pair_value in
+    let at : get_or (map pair_value ls) c no_pair ≡ pair_value l =
+    value_at ls c l no_pair below ∙ ap pair_value (sym here) in
     let settled = is.settled in
     record {
       geometry = is.geometry;
       page_size = is.page_size;
-      depth = ap (λ (v : Lane). v.depth) (sym at ∙ is.placed c no_lane below);
+      depth = ap (λ (v : QueuePair). v.depth) (sym at ∙ is.placed c no_pair below);
       room = subst (λ n. g.window * pages_of_command g.page_size ≤ n)
-          (sym (ap (λ (v : Lane). v.page_count) (sym at ∙ is.placed c no_lane below))) (set_room g);
+          (sym (ap (λ (v : QueuePair). v.page_count) (sym at ∙ is.placed c no_pair below))) (set_room g);
       quiet = subst IsQuiet (sym here) (is.quiet c l below);
-      laid = subst (λ p. IsLaid p (length mem.bytes) (lane_value l)) is.page_size
-          (subst (IsLaid mem.page_size (length mem.bytes)) at (settled.laid c no_lane (omega arith)));
-      tags = subst (λ (v : Lane). HoldsTags mem.bytes v.cq v.depth v.number) at (settled.tags c no_lane (omega arith));
+      laid = subst (λ p. IsLaid p (length mem.bytes) (pair_value l)) is.page_size
+          (subst (IsLaid mem.page_size (length mem.bytes)) at (settled.laid c no_pair (omega arith)));
+      tags = subst (λ (v : QueuePair). HoldsTags mem.bytes v.cq v.depth v.number) at
+          (settled.tags c no_pair (omega arith));
       controller = omega (
         arith,
-        ap (λ (p : List Port). length p) ports,
-        length-map (map lane_value ls) (idle_port (mps_of g.page_size) g.page_size),
+        ap (λ (p : List RegisterBank). length p) banks,
+        length-map (map pair_value ls) (idle_bank (mps_of g.page_size) g.page_size),
       );
       bus = bus;
-      port = ap (λ p. port_at p c) ports
-          ∙ get_or-map (idle_port (mps_of g.page_size) g.page_size) (map lane_value ls) c no_lane new_port (omega arith)
-          ∙ ap (idle_port (mps_of g.page_size) g.page_size) at;
+      bank = ap (λ p. bank_at p c) banks
+          ∙ get_or-map (idle_bank (mps_of g.page_size) g.page_size) (map pair_value ls) c no_pair new_bank (omega arith)
+          ∙ ap (idle_bank (mps_of g.page_size) g.page_size) at;
     }
 
--- its lane lies where it was laid
-pub placed_at : {g : Geometry} {mem : PagedBytes} {ls : List LaneFields} {c : ℕ} {l : LaneFields}
+-- its queue pair lies where it was laid
+pub placed_at : {g : Geometry} {mem : PagedBytes} {ls : List QueuePairFields} {c : ℕ} {l : QueuePairFields}
     → IsDriver g mem ls → c < length ls → l ≡ get_or ls c l
-    → IsPlaced g c (lane_value l)
+    → IsPlaced g c (pair_value l)
 placed_at {g} {mem} {ls} {c} {l} is below here =
-    subst (IsPlaced g c) (value_at ls c l no_lane below ∙ ap lane_value (sym here)) (is.placed c no_lane below)
+    subst (IsPlaced g c) (value_at ls c l no_pair below ∙ ap pair_value (sym here)) (is.placed c no_pair below)
 
 -- ---- after the command
 
--- what holds of the other lanes, and of this one, holds of each
-set_each : (P : ℕ → Lane → Type 0) (vs : List Lane) (c : ℕ) (v : Lane)
-    → ((i : ℕ) (d : Lane) → i < length vs → i ≢ c → P i (get_or vs i d)) → P c v
-    → (i : ℕ) (d : Lane) → i < length (slice_set vs c v) → P i (get_or (slice_set vs c v) i d)
+-- what holds of the other queue pairs, and of this one, holds of each
+set_each : (P : ℕ → QueuePair → Type 0) (vs : List QueuePair) (c : ℕ) (v : QueuePair)
+    → ((i : ℕ) (d : QueuePair) → i < length vs → i ≢ c → P i (get_or vs i d)) → P c v
+    → (i : ℕ) (d : QueuePair) → i < length (slice_set vs c v) → P i (get_or (slice_set vs c v) i d)
 set_each P vs c v others own i d below =
     let many = length-set vs c v in
     elim (cases_eq i c) [
@@ -88,8 +91,8 @@ set_each P vs c v others own i d below =
       | inr differ ↦ subst (P i) (sym (get_or-set_other vs c i v d differ)) (others i d (omega arith) differ)
     ]
 
--- the completion slots of another lane stay
-pub slots_stay : (page_size : ℕ) (old new : List ℕ) (v u : Lane) → KeepsOthers page_size v old new
+-- the completion slots of another queue pair stay
+pub slots_stay : (page_size : ℕ) (old new : List ℕ) (v u : QueuePair) → KeepsOthers page_size v old new
     → IsLaid page_size (length old) u → IsLaid page_size (length old) v
     → (end_of page_size u ≤ v.sq) ⊎ (end_of page_size v ≤ u.sq)
     → HoldsTags old u.cq u.depth u.number → HoldsTags new u.cq u.depth u.number
@@ -107,7 +110,7 @@ slots_stay page_size old new v u keeps laid own apart tags s below =
     ] in
     ap (λ (q : Cqe). q.phase) (ap cqe_of_bytes (keeps slot 16 aside)) ∙ tags s below
 
-pub settled_after : (page_size : ℕ) (old new : List ℕ) (vs : List Lane) (c : ℕ) (v u : Lane)
+pub settled_after : (page_size : ℕ) (old new : List ℕ) (vs : List QueuePair) (c : ℕ) (v u : QueuePair)
     → IsSettled page_size old vs → c < length vs
     → v ≡ get_or vs c v → length new ≡ length old → KeepsOthers page_size v old new → IsLaid page_size (length new) u
     → HoldsTags new u.cq u.depth u.number → u.sq ≡ v.sq → u.first_page ≡ v.first_page → u.page_count ≡ v.page_count
@@ -127,20 +130,20 @@ settled_after page_size old new vs c v u s below here size keeps laid tags sq fi
           (s.apart i j d before (omega arith)));
     }
   where
-    same_one : (d : Lane) → get_or vs c d ≡ v
+    same_one : (d : QueuePair) → get_or vs c d ≡ v
     same_one d = get_or_default vs c d v below ∙ sym here
 
-    beside : (i : ℕ) (d : Lane) → i < length vs → i ≢ c → (end_of page_size (get_or vs i d) ≤ v.sq)
+    beside : (i : ℕ) (d : QueuePair) → i < length vs → i ≢ c → (end_of page_size (get_or vs i d) ≤ v.sq)
         ⊎ (end_of page_size v ≤ (get_or vs i d).sq)
     beside i d h differ =
         elim (cases_lt i c) [
-          | inl l ↦ inl (subst (λ (q : Lane). end_of page_size (get_or vs i d) ≤ q.sq) (same_one d)
+          | inl l ↦ inl (subst (λ (q : QueuePair). end_of page_size (get_or vs i d) ≤ q.sq) (same_one d)
               (s.apart i c d l below))
-          | inr g ↦ inr (subst (λ (q : Lane). end_of page_size q ≤ (get_or vs i d).sq) (same_one d)
+          | inr g ↦ inr (subst (λ (q : QueuePair). end_of page_size q ≤ (get_or vs i d).sq) (same_one d)
               (s.apart c i d (omega (arith, differ)) h))
         ]
 
-    end_at : (i : ℕ) (d : Lane) → i < length (slice_set vs c u)
+    end_at : (i : ℕ) (d : QueuePair) → i < length (slice_set vs c u)
         → end_of page_size (get_or (slice_set vs c u) i d) ≡ end_of page_size (get_or vs i d)
     end_at i d h =
         set_each (λ j q. end_of page_size q ≡ end_of page_size (get_or vs j d)) vs c u
@@ -149,33 +152,34 @@ settled_after page_size old new vs c v u s below here size keeps laid tags sq fi
         ∙ ap (λ n. (v.first_page + n) * page_size) count
         ∙ sym (ap (end_of page_size) (same_one d))) i d h
 
-    sq_at : (i : ℕ) (d : Lane) → i < length (slice_set vs c u) → (get_or (slice_set vs c u) i d).sq ≡ (get_or vs i d).sq
+    sq_at : (i : ℕ) (d : QueuePair) → i < length (slice_set vs c u)
+        → (get_or (slice_set vs c u) i d).sq ≡ (get_or vs i d).sq
     sq_at i d h =
         set_each (λ j q. q.sq ≡ (get_or vs j d).sq) vs c u
-        (λ j e low differ. ap (λ (q : Lane). q.sq) (get_or_default vs j e d low))
-        (sq ∙ sym (ap (λ (q : Lane). q.sq) (same_one d))) i d h
+        (λ j e low differ. ap (λ (q : QueuePair). q.sq) (get_or_default vs j e d low))
+        (sq ∙ sym (ap (λ (q : QueuePair). q.sq) (same_one d))) i d h
 
--- the values of the lanes
-values_set : (ls : List LaneFields) (c : ℕ) (l : LaneFields) (v : Lane) → lane_value l ≡ v
-    → map lane_value (slice_set ls c l) ≡ slice_set (map lane_value ls) c v
-values_set ls c l v is = map-set lane_value ls c l ∙ ap (slice_set (map lane_value ls) c) is
+-- the values of the queue pairs
+values_set : (ls : List QueuePairFields) (c : ℕ) (l : QueuePairFields) (v : QueuePair) → pair_value l ≡ v
+    → map pair_value (slice_set ls c l) ≡ slice_set (map pair_value ls) c v
+values_set ls c l v is = map-set pair_value ls c l ∙ ap (slice_set (map pair_value ls) c) is
 
--- where the number and the serial of a lane change
-pub driver_after : {g : Geometry} {mem new : PagedBytes} {ls : List LaneFields} {b : BusValue}
-    {c : ℕ} {l l' : LaneFields} {n serial : ℕ} → IsDriver g mem ls
+-- where the number and the serial of a queue pair change
+pub driver_after : {g : Geometry} {mem new : PagedBytes} {ls : List QueuePairFields} {b : BusValue}
+    {c : ℕ} {l l' : QueuePairFields} {n serial : ℕ} → IsDriver g mem ls
     → c < length ls → l ≡ get_or ls c l → IsReady g b c l' new.page_size new.bytes
-    → lane_value l' ≡ record (lane_value l) { number = n; serial = serial }
-    → KeepsOthers g.page_size (lane_value l) mem.bytes new.bytes
+    → pair_value l' ≡ record (pair_value l) { number = n; serial = serial }
+    → KeepsOthers g.page_size (pair_value l) mem.bytes new.bytes
     → length new.bytes ≡ length mem.bytes → new.page_size ≡ mem.page_size
     → IsDriver g new (slice_set ls c l')
 driver_after {g} {mem} {new} {ls} {b} {c} {l} {l'} {n} {serial} is below here ready next keeps size page =
-    let many = length-map ls lane_value in
-    let vs = map lane_value ls in
-    let at : lane_value l ≡ get_or vs c (lane_value l) =
-    sym (value_at ls c l (lane_value l) below ∙ ap lane_value (sym here)) in
+    let many = length-map ls pair_value in
+    let vs = map pair_value ls in
+    let at : pair_value l ≡ get_or vs c (pair_value l) =
+    sym (value_at ls c l (pair_value l) below ∙ ap pair_value (sym here)) in
     let pages : page_count new ≡ page_count mem =
     ap (λ n. n / new.page_size) size ∙ ap (λ p. length mem.bytes / p) page in
-    let change = values_set ls c l' (lane_value l') refl in
+    let change = values_set ls c l' (pair_value l') refl in
     record {
       geometry = is.geometry;
       page_size = page ∙ is.page_size;
@@ -184,38 +188,39 @@ driver_after {g} {mem} {new} {ls} {b} {c} {l} {l'} {n} {serial} is below here re
       quiet = All-set IsQuiet ls c l' ready.quiet is.quiet;
       placed = λ i d inside.
           subst (λ xs. IsPlaced g i (get_or xs i d)) (sym change)
-          (set_each (λ j v. IsPlaced g j v) vs c (lane_value l') (λ j e low differ. is.placed j e (omega arith))
-          (stays_placed g c (lane_value l) (lane_value l')
-          (subst (IsPlaced g c) (sym at) (is.placed c (lane_value l) below)) next) i d
-          (let longer = length-set ls c l' in let values = length-set vs c (lane_value l') in omega arith));
+          (set_each (λ j v. IsPlaced g j v) vs c (pair_value l') (λ j e low differ. is.placed j e (omega arith))
+          (stays_placed g c (pair_value l) (pair_value l')
+          (subst (IsPlaced g c) (sym at) (is.placed c (pair_value l) below)) next) i d
+          (let longer = length-set ls c l' in let values = length-set vs c (pair_value l') in omega arith));
       settled = subst (IsSettled new.page_size new.bytes) (sym change)
-          (settled_after new.page_size mem.bytes new.bytes vs c (lane_value l) (lane_value l')
+          (settled_after new.page_size mem.bytes new.bytes vs c (pair_value l) (pair_value l')
           (subst (λ p. IsSettled p mem.bytes vs) (sym page) is.settled) (omega arith) at size
-          (subst (λ p. KeepsOthers p (lane_value l) mem.bytes new.bytes) (sym (page ∙ is.page_size)) keeps)
-          (subst (λ p. IsLaid p (length new.bytes) (lane_value l')) (sym ready.page_size) ready.laid)
+          (subst (λ p. KeepsOthers p (pair_value l) mem.bytes new.bytes) (sym (page ∙ is.page_size)) keeps)
+          (subst (λ p. IsLaid p (length new.bytes) (pair_value l')) (sym ready.page_size) ready.laid)
           (subst (λ d. HoldsTags new.bytes l'.completion.base d l'.submission.submitted) refl ready.tags)
-          (ap (λ (v : Lane). v.sq) next) (ap (λ (v : Lane). v.first_page) next) (ap (λ (v : Lane). v.page_count) next));
+          (ap (λ (v : QueuePair). v.sq) next) (ap (λ (v : QueuePair). v.first_page) next)
+          (ap (λ (v : QueuePair). v.page_count) next));
     }
   where
-    stays_placed : (g : Geometry) (i : ℕ) (v u : Lane) → IsPlaced g i v
+    stays_placed : (g : Geometry) (i : ℕ) (v u : QueuePair) → IsPlaced g i v
         → u ≡ record v { number = n; serial = serial } → IsPlaced g i u
     stays_placed g i v u placed is = subst (IsPlaced g i) (sym is)
-        (ap (λ (q : Lane). record q { number = n; serial = serial }) placed)
+        (ap (λ (q : QueuePair). record q { number = n; serial = serial }) placed)
 
 -- what the driver stands for
-pub value_after : (f : Lane → Lane) (g : Geometry) (mem new : PagedBytes) (ls : List LaneFields)
-    (c : ℕ) (l l' : LaneFields) → c < length ls → l ≡ get_or ls c l
-    → lane_value l' ≡ f (lane_value l) → length new.bytes ≡ length mem.bytes → new.page_size ≡ mem.page_size
+pub value_after : (f : QueuePair → QueuePair) (g : Geometry) (mem new : PagedBytes) (ls : List QueuePairFields)
+    (c : ℕ) (l l' : QueuePairFields) → c < length ls → l ≡ get_or ls c l
+    → pair_value l' ≡ f (pair_value l) → length new.bytes ≡ length mem.bytes → new.page_size ≡ mem.page_size
     → driver_value g new (slice_set ls c l') ≡ record (driver_value g mem ls)
-    { lanes = slice_set (map lane_value ls) c (f (lane_at (map lane_value ls) c)) }
+    { pairs = slice_set (map pair_value ls) c (f (pair_at (map pair_value ls) c)) }
 value_after f g mem new ls c l l' below here next size page =
     let pages : page_count new ≡ page_count mem =
     ap (λ n. n / new.page_size) size ∙ ap (λ p. length mem.bytes / p) page in
-    let at : lane_value l ≡ lane_at (map lane_value ls) c =
-    sym (value_at ls c l no_lane below ∙ ap lane_value (sym here)) in
-    let lanes = values_set ls c l' (f (lane_at (map lane_value ls) c)) (next ∙ ap f at) in
-    ap (λ n. record { geometry = g; pages = n; lanes = map lane_value (slice_set ls c l') }) pages
-    ∙ ap (λ vs. record { geometry = g; pages = page_count mem; lanes = vs }) lanes
+    let at : pair_value l ≡ pair_at (map pair_value ls) c =
+    sym (value_at ls c l no_pair below ∙ ap pair_value (sym here)) in
+    let pairs = values_set ls c l' (f (pair_at (map pair_value ls) c)) (next ∙ ap f at) in
+    ap (λ n. record { geometry = g; pages = n; pairs = map pair_value (slice_set ls c l') }) pages
+    ∙ ap (λ vs. record { geometry = g; pages = page_count mem; pairs = vs }) pairs
 
 -- one command is a list of one
 pub after_first : (d : DriverValue) (c : ℕ) → after_commands d c 1 ≡ after_command d c
@@ -223,24 +228,24 @@ unfolding kept_number next
 after_first d c = refl
 
 -- and the registers
-pub ports_left : (g : Geometry) (ls : List LaneFields) (c : ℕ) (l' : LaneFields)
-    (ports new : List Port) → ports ≡ idle_ports g.page_size (map lane_value ls)
-    → new ≡ slice_set ports c (port_at new c) → port_at new c ≡ idle_port (mps_of g.page_size)
-    g.page_size (lane_value l')
-    → new ≡ idle_ports g.page_size (map lane_value (slice_set ls c l'))
-ports_left g ls c l' ports new is change port =
-    let f = idle_port (mps_of g.page_size) g.page_size in
-    change ∙ ap (slice_set ports c) port ∙ ap (λ x. slice_set x c (f (lane_value l'))) is
-    ∙ sym (map-set f (map lane_value ls) c (lane_value l')) ∙ ap (map f) (sym (values_set ls c l' (lane_value l') refl))
+pub banks_left : (g : Geometry) (ls : List QueuePairFields) (c : ℕ) (l' : QueuePairFields)
+    (banks new : List RegisterBank) → banks ≡ idle_banks g.page_size (map pair_value ls)
+    → new ≡ slice_set banks c (bank_at new c) → bank_at new c ≡ idle_bank (mps_of g.page_size)
+    g.page_size (pair_value l')
+    → new ≡ idle_banks g.page_size (map pair_value (slice_set ls c l'))
+banks_left g ls c l' banks new is change bank =
+    let f = idle_bank (mps_of g.page_size) g.page_size in
+    change ∙ ap (slice_set banks c) bank ∙ ap (λ x. slice_set x c (f (pair_value l'))) is
+    ∙ sym (map-set f (map pair_value ls) c (pair_value l')) ∙ ap (map f) (sym (values_set ls c l' (pair_value l') refl))
 
--- each controller has a lane
-pub inside_of : (g : Geometry) (mem : PagedBytes) (ls : List LaneFields) (d : DriverValue) (c : ℕ)
-    → c < length d.lanes → driver_value g mem ls ≡ d
+-- each controller has a queue pair
+pub inside_of : (g : Geometry) (mem : PagedBytes) (ls : List QueuePairFields) (d : DriverValue) (c : ℕ)
+    → c < length d.pairs → driver_value g mem ls ≡ d
     → c < length ls
 inside_of g mem ls d c below is =
-    let many = ap (λ (v : DriverValue). length v.lanes) is ∙ refl in
-    let same = length-map ls lane_value in omega arith
+    let many = ap (λ (v : DriverValue). length v.pairs) is ∙ refl in
+    let same = length-map ls pair_value in omega arith
 
--- a lane for each
-pub lane_count : (ls : List LaneFields) → length ls ≡ length (map lane_value ls)
-lane_count ls = sym (length-map ls lane_value)
+-- a queue pair for each
+pub pair_count : (ls : List QueuePairFields) → length ls ≡ length (map pair_value ls)
+pair_count ls = sym (length-map ls pair_value)

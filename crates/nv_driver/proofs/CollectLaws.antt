@@ -1,6 +1,8 @@
 -- A list of commands on its way: its answers are collected.
 use Rattle.std.specs.Prelude.{IfSome, IsSome, OnSome, Option, Some, set}
-use Rattle.std.proofs.Common.{◌≡◌, ◌∙◌, ℕ, ◌+◌, ◌-◌, ◌*◌, ◌%◌, ◌<◌, ◌≤◌, All, AllPairs, List, [], ◌∷◌, ◌++◌, add-one, ap, arith, drop, false, get_or, inl, length, length-append, not, refl, subst, suc, sym, take, true, ◌==◌, ◌≢◌}
+use Rattle.std.proofs.Common.{◌≡◌, ◌∙◌, ℕ, ◌+◌, ◌-◌, ◌*◌, ◌%◌, ◌<◌, ◌≤◌, All, AllPairs, List, [], ◌∷◌, ◌++◌, add-one}
+use Rattle.std.proofs.Common.{ap, arith, drop, false, get_or, inl, length, length-append, not, refl, subst, suc, sym}
+use Rattle.std.proofs.Common.{take, true, ◌==◌, ◌≢◌}
 use Rattle.std.proofs.Math.Seq.{drop-cons}
 use Rattle.std.proofs.Math.ListN.{length-set}
 use Rattle.std.proofs.lemmas.List.{take_more, take_more_set}
@@ -19,13 +21,15 @@ use Rattle.nv_command.specs.Logs.{IsSendable}
 use Rattle.nv_command.specs.declared.command.Command.{Command}
 use Rattle.nv_bus.specs.Call.{length_of}
 use Rattle.nv_driver.specs.CommandPages.{AreTaken, all_pages, data_pages, with_pages, without}
-use Rattle.nv_driver.specs.Schedule.{Answer, Collect, Happens, Numbered, Sent, World, answer_from, answer_read, answers_to, awaited, collect_ring, data_length, number, own_pages, places, received_from, slot, submit_ring}
+use Rattle.nv_driver.specs.Schedule.{Answer, Collect, Happens, Numbered, Sent, World, answer_from, answer_read}
+use Rattle.nv_driver.specs.Schedule.{answers_to, awaited, collect_ring, data_length, number, own_pages, places}
+use Rattle.nv_driver.specs.Schedule.{received_from, slot, submit_ring}
 use Rattle.nv_driver.specs.Layout.{pages_of_command}
 use Rattle.nv_driver.specs.UnderWay.{HasAnswers, IsKept, IsUnderWay, Run, kept_at, pages_of_all, serial_at, setting_of}
 use Rattle.nv_driver.specs.declared.batch.Batch.{Batch}
 use Rattle.nv_driver.specs.declared.command_pages.CommandPages.{CommandPages}
 use Rattle.nv_driver.specs.declared.geometry.Geometry.{Geometry}
-use Rattle.nv_driver.specs.declared.lane.Lane.{Lane as LaneFields}
+use Rattle.nv_driver.specs.declared.queue_pair.QueuePair.{QueuePair as QueuePairFields}
 use Rattle.nv_driver.proofs.BatchLaws.{answers_are, distance_is}
 use Rattle.nv_driver.proofs.CountLaws.{number_next}
 use Rattle.nv_driver.proofs.KeptLaws.{collect_keeps, is_found}
@@ -61,14 +65,14 @@ is_one r found o x k is =
 above_told : (h k : ℕ) → h ≤ k → true ≡ not (h == k + 1)
 above_told h k low = grind (arith, nat_tests)
 
-abbrev lane_by : SubmitNumbers → CollectNumbers → ℕ → Pages → LaneFields
-lane_by a c n p = record { submission = a; completion = c; serial = n; pages = p }
+abbrev pair_by : SubmitNumbers → CollectNumbers → ℕ → Pages → QueuePairFields
+pair_by a c n p = record { submission = a; completion = c; serial = n; pages = p }
 
-lanes_same : {a a' : SubmitNumbers} {c c' : CollectNumbers} {n n' : ℕ} {p p' : Pages} → a ≡ a'
-    → c ≡ c' → n ≡ n' → p ≡ p' → lane_by a c n p ≡ lane_by a' c' n' p'
-lanes_same e f g h = cc
+pairs_same : {a a' : SubmitNumbers} {c c' : CollectNumbers} {n n' : ℕ} {p p' : Pages} → a ≡ a'
+    → c ≡ c' → n ≡ n' → p ≡ p' → pair_by a c n p ≡ pair_by a' c' n' p'
+pairs_same e f g h = cc
 
-module _ {r : Run} {bells turns : ℕ} {b : Batch} {l : LaneFields} {now : ℕ} {bytes : List ℕ}
+module _ {r : Run} {bells turns : ℕ} {b : Batch} {l : QueuePairFields} {now : ℕ} {bytes : List ℕ}
     (u : IsUnderWay r bells turns b l now bytes) where
   pub no_more : (b.collected ≤ b.sent) × (turns ≤ b.sent)
   no_more =
@@ -86,7 +90,7 @@ module _ {r : Run} {bells turns : ℕ} {b : Batch} {l : LaneFields} {now : ℕ} 
   ring_is =
       ap (λ n. collect_ring (setting_of r) n u.world.told) u.collected
       ∙ ap (collect_ring (setting_of r) b.collected) u.told
-      ∙ ap (λ (q : LaneFields). q.completion) (sym u.lane)
+      ∙ ap (λ (q : QueuePairFields). q.completion) (sym u.pair)
 
   pub is_there : b.collected < turns → IsAwaitedThere bytes l.completion
   is_there more = subst (λ q. IsAwaitedThere bytes q) ring_is
@@ -102,7 +106,7 @@ module _ {r : Run} {bells turns : ℕ} {b : Batch} {l : LaneFields} {now : ℕ} 
     pub completion_is : q ≡ completion_at u.world.mem (setting_of r).cq (slot (setting_of r) b.collected)
     completion_is =
         subst (λ (o : Option Cqe). IfSome o (λ c. c ≡ awaited_completion bytes l.completion)) some value
-        ∙ ap (awaited_completion bytes) (ap (λ (o : LaneFields). o.completion) u.lane)
+        ∙ ap (awaited_completion bytes) (ap (λ (o : QueuePairFields). o.completion) u.pair)
         ∙ ap (λ m. completion_at m (setting_of r).cq (slot (setting_of r) b.collected)) (sym u.mem)
 
     pub cid_is : q.cid ≡ serial_at r b.collected
@@ -118,14 +122,14 @@ module _ {r : Run} {bells turns : ℕ} {b : Batch} {l : LaneFields} {now : ℕ} 
         ap (λ (c : Cqe). c.sq_head) completion_is ∙ held.head
 
     pub cid_below : q.cid < 65535
-    cid_below = let below = mod_below (r.lane.serial + b.collected) 65535 (omega arith) in omega (arith, cid_is, below)
+    cid_below = let below = mod_below (r.pair.serial + b.collected) 65535 (omega arith) in omega (arith, cid_is, below)
 
     -- by its command identifier it is the awaited one
     pub distance_to : (n : ℕ) → n ≡ (l.serial + 65535 - q.cid) % 65535 → n ≡ b.sent - b.collected
     distance_to n is =
         is ∙ ap (λ c. (l.serial + 65535 - c) % 65535) cid_is
-        ∙ ap (λ (o : LaneFields). (o.serial + 65535 - serial_at r b.collected) % 65535) u.lane
-        ∙ distance_is r.lane.serial b.collected b.sent (no_more.0) (omega (arith, u.window, u.begun.geometry.window.1))
+        ∙ ap (λ (o : QueuePairFields). (o.serial + 65535 - serial_at r b.collected) % 65535) u.pair
+        ∙ distance_is r.pair.serial b.collected b.sent (no_more.0) (omega (arith, u.window, u.begun.geometry.window.1))
 
     pub number_is : {n : ℕ} → n ≡ (l.serial + 65535 - q.cid) % 65535 → b.sent - n ≡ b.collected
     number_is {n} is = omega (arith, distance_to n is, no_more)
@@ -134,8 +138,8 @@ module _ {r : Run} {bells turns : ℕ} {b : Batch} {l : LaneFields} {now : ℕ} 
     freed_between =
         let t = setting_of r in
         let window = u.begun.geometry.window in
-        subst (λ (o : LaneFields). IsSlotBetween o.submission.depth o.submission.known
-        o.submission.submitted q.sq_head) (sym u.lane)
+        subst (λ (o : QueuePairFields). IsSlotBetween o.submission.depth o.submission.known
+        o.submission.submitted q.sq_head) (sym u.pair)
         (subst (IsSlotBetween t.depth (number t b.collected) (number t b.sent)) (sym head_is)
         (between_kept t.depth (t.start + b.collected) 1 (b.sent - b.collected)
         (t.start + (b.collected + 1)) (t.start + b.sent)
@@ -169,44 +173,44 @@ module _ {r : Run} {bells turns : ℕ} {b : Batch} {l : LaneFields} {now : ℕ} 
       pub give_own : All (λ p. IsOf l.pages.first l.pages.count p) (all_pages o)
       give_own =
           subst (λ (s : Pages). All (λ p. IsOf s.first s.count p) (all_pages o)) (sym (pages_left u))
-          (taken_first r.lane.pages (all_pages o) _ (subst (AreTaken r.lane.pages) all_is u.taken)).own
+          (taken_first r.pair.pages (all_pages o) _ (subst (AreTaken r.pair.pages) all_is u.taken)).own
 
       pub give_none : All (λ p. set.contains l.pages.members p ≡ false) (all_pages o)
       give_none =
           subst (λ (s : Pages). All (λ p. set.contains s.members p ≡ false) (all_pages o))
-          (sym (pages_left u ∙ ap (without r.lane.pages) all_is))
-          (λ i d h. gone r.lane.pages (all_pages o) (pages_of_all (drop (b.collected + 1) u.world.sent)) i d h)
+          (sym (pages_left u ∙ ap (without r.pair.pages) all_is))
+          (λ i d h. gone r.pair.pages (all_pages o) (pages_of_all (drop (b.collected + 1) u.world.sent)) i d h)
 
       pub give_distinct : AllPairs (λ p q. p ≢ q) (all_pages o)
-      give_distinct = (taken_first r.lane.pages (all_pages o) _ (subst (AreTaken r.lane.pages) all_is u.taken)).distinct
+      give_distinct = (taken_first r.pair.pages (all_pages o) _ (subst (AreTaken r.pair.pages) all_is u.taken)).distinct
 
-      taken_left : AreTaken r.lane.pages (pages_of_all (drop (b.collected + 1) u.world.sent))
-      taken_left = taken_rest r.lane.pages (all_pages o) _ (subst (AreTaken r.lane.pages) all_is u.taken)
+      taken_left : AreTaken r.pair.pages (pages_of_all (drop (b.collected + 1) u.world.sent))
+      taken_left = taken_rest r.pair.pages (all_pages o) _ (subst (AreTaken r.pair.pages) all_is u.taken)
 
-      pages_back : with_pages l.pages (all_pages o) ≡ without r.lane.pages
+      pages_back : with_pages l.pages (all_pages o) ≡ without r.pair.pages
           (pages_of_all (drop (b.collected + 1) u.world.sent))
-      pages_back = ap (λ s. with_pages s (all_pages o)) (pages_left u ∙ ap (without r.lane.pages) all_is)
-          ∙ given_back r.lane.pages (all_pages o) (pages_of_all
-          (drop (b.collected + 1) u.world.sent)) (subst (AreTaken r.lane.pages) all_is u.taken)
+      pages_back = ap (λ s. with_pages s (all_pages o)) (pages_left u ∙ ap (without r.pair.pages) all_is)
+          ∙ given_back r.pair.pages (all_pages o) (pages_of_all
+          (drop (b.collected + 1) u.world.sent)) (subst (AreTaken r.pair.pages) all_is u.taken)
 
       -- ---- what is left
 
-      lane_left : lane_by (known_to l.submission q.sq_head) (collected_one l.completion) l.serial
+      pair_left : pair_by (known_to l.submission q.sq_head) (collected_one l.completion) l.serial
           (with_pages l.pages (all_pages o))
-          ≡ lane_by (submit_ring (setting_of r) b.sent (b.collected + 1))
+          ≡ pair_by (submit_ring (setting_of r) b.sent (b.collected + 1))
           (collect_ring (setting_of r) (b.collected + 1) b.told)
-          (serial_at r b.sent) (without r.lane.pages (pages_of_all (drop (b.collected + 1) u.world.sent)))
-      lane_left =
+          (serial_at r b.sent) (without r.pair.pages (pages_of_all (drop (b.collected + 1) u.world.sent)))
+      pair_left =
           let t = setting_of r in
           let c = u.keeps.counts in
-          let serial = ap (λ (x : LaneFields). x.serial) u.lane in
+          let serial = ap (λ (x : QueuePairFields). x.serial) u.pair in
           let untold : true ≡ not (b.told == b.collected + 1) =
           above_told b.told b.collected (omega (arith, c.told, u.told, u.collected)) in
           let submission : known_to l.submission q.sq_head ≡ submit_ring t b.sent (b.collected + 1) =
-          ap (λ (x : LaneFields). known_to x.submission q.sq_head) u.lane
+          ap (λ (x : QueuePairFields). known_to x.submission q.sq_head) u.pair
           ∙ ap (λ n. record { base = t.sq; depth = t.depth; submitted = number t b.sent; known = n }) freed_to in
           let completion : collected_one l.completion ≡ collect_ring t (b.collected + 1) b.told =
-          ap (λ (x : LaneFields). collected_one x.completion) u.lane
+          ap (λ (x : QueuePairFields). collected_one x.completion) u.pair
           ∙ ap (λ n. record {
             base = t.cq;
             depth = t.depth;
@@ -221,12 +225,12 @@ module _ {r : Run} {bells turns : ℕ} {b : Batch} {l : LaneFields} {now : ℕ} 
             told = number t b.told;
             untold = a;
           }) untold in
-          lanes_same submission completion serial pages_back
+          pairs_same submission completion serial pages_back
 
       pub collects : {a : SubmitNumbers} {p : CollectNumbers} {s : Pages}
           → a ≡ known_to l.submission q.sq_head → p ≡ collected_one l.completion
           → s ≡ with_pages l.pages (all_pages o) → IsUnderWay r bells turns
-          (record b { collected = b.collected + 1 }) (lane_by a p l.serial s) now bytes
+          (record b { collected = b.collected + 1 }) (pair_by a p l.serial s) now bytes
       collects submission completion pages =
           let t = setting_of r in
           let w = u.world in
@@ -263,7 +267,7 @@ module _ {r : Run} {bells turns : ℕ} {b : Batch} {l : LaneFields} {now : ℕ} 
             collected = length-append w.answers (a ∷ []) ∙ ap (λ n. n + 1) u.collected;
             commands = u.commands;
             kept = λ n d from h. u.kept n d (omega (arith, from)) h;
-            lane = lanes_same submission completion refl pages ∙ lane_left;
+            pair = pairs_same submission completion refl pages ∙ pair_left;
             taken = taken_left;
             own = u.own;
           }
@@ -282,7 +286,7 @@ module _ {r : Run} {bells turns : ℕ} {b : Batch} {l : LaneFields} {now : ℕ} 
             below = u.begun.geometry.offset.1;
             aligned = u.begun.geometry.offset.0;
             enough = subst (λ from. from + data_length x ≤ length x.pages * size) one_is.offset own.enough;
-            inside = λ i d h. of_set r.lane.pages bytes size (get_or x.pages i d)
+            inside = λ i d h. of_set r.pair.pages bytes size (get_or x.pages i d)
                 (omega (arith, u.begun.laid.inside, u.size))
                 (u.own b.collected no_command (omega (arith, no_more, more)) (suc (suc i)) d (omega arith));
           })
@@ -331,7 +335,7 @@ module _ {r : Run} {bells turns : ℕ} {b : Batch} {l : LaneFields} {now : ℕ} 
               let xs = u.world.sent in
               let size = length-answers c s xs in
               let few = no_more in
-              let all = answers_are r.lane.serial r.commands xs b.sent u.commands c s in
+              let all = answers_are r.pair.serial r.commands xs b.sent u.commands c s in
               record {
                 len = length-set answers n a ∙ has.len;
                 first = ap (λ i. take (b.collected + 1) (set answers i a)) at

@@ -3,10 +3,11 @@ use Rattle.std.proofs.Common.{◌≡◌, ◌≢◌, ◌∙◌, ℕ, ◌+◌, ◌
 use Rattle.std.proofs.lemmas.Bool.Decides.{nat_tests}
 use Rattle.nv_queue.specs.Numbers.{IsSlotBetween, above, ahead, kept_number, next}
 use Rattle.nv_queue.proofs.NumberLaws.{above_cases, slot_below}
-use Rattle.nv_queue.proofs.KeptLaws.{above_kept, between_kept, first_kept, kept_below, kept_next, slot_kept, slots_apart}
+use Rattle.nv_queue.proofs.KeptLaws.{above_kept, between_kept, first_kept, kept_below, kept_next, slot_kept}
+use Rattle.nv_queue.proofs.KeptLaws.{slots_apart}
 use Rattle.nv_queue.specs.Rings.{FetchNumbers, PostNumbers}
-use Rattle.nv_register.specs.Port.{rung_by, told_by, with_register_at}
-use Rattle.nv_driver.specs.Schedule.{Setting, device_rings, number, port_with, slot}
+use Rattle.nv_register.specs.RegisterBank.{rung_by, told_by, with_register_at}
+use Rattle.nv_driver.specs.Schedule.{Setting, device_rings, number, bank_with, slot}
 
 pub number_below : (t : Setting) (n : ℕ) → 0 < t.depth → number t n < 2 * t.depth
 number_below t n p = kept_below t.depth (t.start + n) p
@@ -50,10 +51,10 @@ rung_is t rung done m l h =
 
 -- the tail of the commands that were sent is taken
 pub tail_rung : (t : Setting) (rung done told m : ℕ) → done ≤ m → m < done + t.depth
-    → with_register_at (port_with t (device_rings t rung done told)) 0x1000 (slot t m) ≡ port_with t
+    → with_register_at (bank_with t (device_rings t rung done told)) 0x1000 (slot t m) ≡ bank_with t
     (device_rings t m done told)
 tail_rung t rung done told m l h =
-    ap (λ (r : FetchNumbers). port_with t (record (device_rings t rung done told)
+    ap (λ (r : FetchNumbers). bank_with t (record (device_rings t rung done told)
     { submission = r })) (rung_is t rung done m l h)
 
 told_is : (t : Setting) (done told k : ℕ) → told ≤ k → k ≤ done → done < told + t.depth
@@ -72,8 +73,8 @@ told_is t done told k l m h =
 
 -- the head of the answers that were collected is taken
 pub head_told : (t : Setting) (rung done told k : ℕ) → told ≤ k → k ≤ done → done < told + t.depth
-    → with_register_at (port_with t (device_rings t rung done told)) 0x1004 (slot t k) ≡ port_with t
+    → with_register_at (bank_with t (device_rings t rung done told)) 0x1004 (slot t k) ≡ bank_with t
     (device_rings t rung done k)
 head_told t rung done told k l m h =
-    ap (λ (r : PostNumbers). port_with t (record (device_rings t rung done told)
+    ap (λ (r : PostNumbers). bank_with t (record (device_rings t rung done told)
     { completion = r })) (told_is t done told k l m h)

@@ -1,5 +1,6 @@
 -- The data of a command: none, a page from the host, or up to 16,384 bytes from the controller.
-use Rattle.std.proofs.Common.{◌≡◌, ◌∙◌, ◌*◌, ◌<◌, ◌≤◌, ℕ, Bool, true, false, List, [], ◌∷◌, ◌++◌, ap, append-nil, arith, drop, get_or, length, length-drop, lit<, lit≤, refl, subst, sym}
+use Rattle.std.proofs.Common.{◌≡◌, ◌∙◌, ◌*◌, ◌<◌, ◌≤◌, ℕ, Bool, true, false, List, [], ◌∷◌, ◌++◌, ap, append-nil, arith}
+use Rattle.std.proofs.Common.{drop, get_or, length, length-drop, lit<, lit≤, refl, subst, sym}
 use Rattle.nv_prp.specs.Place.{AreDistinct, read_at, written_at}
 use Rattle.nv_prp.proofs.PlaceLaws.{read_written}
 use Rattle.nv_command.specs.Command.{CommandFits, bytes_from_host, bytes_to_host, host_data_of, transfer_by}

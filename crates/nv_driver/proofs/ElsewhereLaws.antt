@@ -1,5 +1,6 @@
 -- What a schedule keeps where the host writes elsewhere.
-use Rattle.std.proofs.Common.{◌≡◌, ◌∙◌, ℕ, suc, ◌+◌, ◌-◌, ◌*◌, ◌<◌, ◌≤◌, List, ap, arith, get_or, length, refl, subst, sym}
+use Rattle.std.proofs.Common.{◌≡◌, ◌∙◌, ℕ, suc, ◌+◌, ◌-◌, ◌*◌, ◌<◌, ◌≤◌, List, ap, arith, get_or, length, refl, subst}
+use Rattle.std.proofs.Common.{sym}
 use Rattle.std.proofs.Math.Nat.{mul-le-mul_left}
 use Rattle.nv_host.specs.Bytes.{bytes_at}
 use Rattle.nv_host.proofs.BytesLaws.{bytes_at-bytes_at}
@@ -11,7 +12,8 @@ use Rattle.nv_prp.specs.Buffer.{KeepsList}
 use Rattle.nv_prp.specs.Place.{read_at}
 use Rattle.nv_queue.specs.Slots.{completion_at, submission_at}
 use Rattle.nv_model.specs.State.{State}
-use Rattle.nv_driver.specs.Schedule.{Elsewhere, Happens, LeavesOutstanding, PagesStay, Sent, Setting, World, data_length, places, pointed, slot}
+use Rattle.nv_driver.specs.Schedule.{Elsewhere, Happens, LeavesOutstanding, PagesStay, Sent, Setting, World}
+use Rattle.nv_driver.specs.Schedule.{data_length, places, pointed, slot}
 use Rattle.nv_driver.specs.Keeping.{IsOwn, Keeps}
 use Rattle.nv_driver.proofs.CountLaws.{slot_inside}
 use Rattle.nv_driver.proofs.HeldLaws.{holds_on}
@@ -82,7 +84,7 @@ written t s w new k leaves =
         completions = omega (arith, p.completions, leaves.len);
       };
       counts = k.counts;
-      port = k.port;
+      bank = k.bank;
       state = k.state;
       well_formed = k.well_formed;
       controller = k.controller;

@@ -1,25 +1,25 @@
--- A list of commands from its beginning to its end, over a quiet lane.
+-- A list of commands from its beginning to its end, over a quiet queue pair.
 use Rattle.std.specs.Prelude.{slice_set}
 use Rattle.std.proofs.Common.{◌≡◌, ◌∙◌, ℕ, ◌≤◌, All, List, [], ap, arith, drop, length, refl, subst, sym, take}
 use Rattle.std.proofs.Math.Seq.{drop-length, take-length}
 use Rattle.std.proofs.lemmas.List.{set-get_or}
 use Rattle.nv_queue.specs.Slots.{HoldsTags}
 use Rattle.nv_command.specs.declared.command.Command.{Command}
-use Rattle.nv_register.specs.Port.{new_port}
-use Rattle.nv_bus.specs.Bus.{BusValue, port_at}
+use Rattle.nv_register.specs.RegisterBank.{new_bank}
+use Rattle.nv_bus.specs.Bus.{BusValue, bank_at}
 use Rattle.nv_driver.specs.Batch.{answers_of, from_serial, state_after}
 use Rattle.nv_driver.specs.CommandPages.{without}
 use Rattle.nv_driver.specs.Exchange.{IsReady, KeepsOthers}
-use Rattle.nv_driver.specs.Quiet.{lane_value}
-use Rattle.nv_driver.specs.Schedule.{Answer, CanBeSent, collect_ring, device_rings, number, port_with, submit_ring}
+use Rattle.nv_driver.specs.Quiet.{pair_value}
+use Rattle.nv_driver.specs.Schedule.{Answer, CanBeSent, collect_ring, device_rings, number, bank_with, submit_ring}
 use Rattle.nv_driver.specs.UnderWay.{HasAnswers, IsBusOf, IsUnderWay, Run, pages_of_all, run_of, setting, setting_of}
 use Rattle.nv_driver.specs.declared.batch.Batch.{Batch}
 use Rattle.nv_driver.specs.declared.geometry.Geometry.{Geometry}
-use Rattle.nv_driver.specs.declared.lane.Lane.{Lane as LaneFields}
+use Rattle.nv_driver.specs.declared.queue_pair.QueuePair.{QueuePair as QueuePairFields}
 use Rattle.nv_driver.proofs.BatchLaws.{length-from_serial}
 use Rattle.nv_driver.proofs.CollectLaws.{no_more}
-use Rattle.nv_driver.proofs.QuietLaws.{is_idle, lane_after, others_kept}
-use Rattle.nv_driver.proofs.RoundLaws.{has_port, none_untold}
+use Rattle.nv_driver.proofs.QuietLaws.{is_idle, pair_after, others_kept}
+use Rattle.nv_driver.proofs.RoundLaws.{has_bank, none_untold}
 use Rattle.nv_driver.proofs.SerialLaws.{length-answers_of_all}
 use Rattle.nv_driver.proofs.UnderWayLaws.{begins, serial_below}
 use Rattle.nv_driver.proofs.WindowPageLaws.{taken_none}
@@ -27,13 +27,13 @@ use Rattle.nv_driver.proofs.WindowPageLaws.{taken_none}
 -- ---- the beginning
 
 -- what holds of a list of which nothing was sent
-pub record HasBegun (r : Run) (b : Batch) (l : LaneFields) (now : ℕ) (bytes : List ℕ)
+pub record HasBegun (r : Run) (b : Batch) (l : QueuePairFields) (now : ℕ) (bytes : List ℕ)
     (bus : BusValue) (answers : List Answer) : Type 0 where
   pub under_way : IsUnderWay r b.sent b.collected b l now bytes
   pub bus_is : IsBusOf r b.sent b.collected b.told bus
   pub answers_are : HasAnswers r b.collected answers
 
-pub begins_all : {g : Geometry} {c : ℕ} {bus : BusValue} {l : LaneFields} {now : ℕ} {bytes : List ℕ}
+pub begins_all : {g : Geometry} {c : ℕ} {bus : BusValue} {l : QueuePairFields} {now : ℕ} {bytes : List ℕ}
     {commands : List Command} {answers : List Answer} {r : Run} {b : Batch}
     → r ≡ run_of g c bus l bytes commands → IsReady g bus c l now bytes → All CanBeSent commands
     → length answers ≡ length commands
@@ -49,11 +49,11 @@ begins_all {g} {c} {bus} {l} {now} {bytes} {commands} {answers} {r} {b} is ready
       bus_is = record {
         bus = ready.bus;
         state = ap (λ n. state_after c bus.state l.serial (take n commands)) (sym collected);
-        port = ready.port ∙ (is_idle g bus c l now bytes ready).port
-            ∙ ap (λ n. port_with t (device_rings t n 0 0)) (sym sent)
-            ∙ ap (λ n. port_with t (device_rings t b.sent n 0)) (sym collected)
-            ∙ ap (λ n. port_with t (device_rings t b.sent b.collected n)) (sym told);
-        ports = sym (set-get_or bus.ports c new_port);
+        bank = ready.bank ∙ (is_idle g bus c l now bytes ready).bank
+            ∙ ap (λ n. bank_with t (device_rings t n 0 0)) (sym sent)
+            ∙ ap (λ n. bank_with t (device_rings t b.sent n 0)) (sym collected)
+            ∙ ap (λ n. bank_with t (device_rings t b.sent b.collected n)) (sym told);
+        banks = sym (set-get_or bus.banks c new_bank);
       };
       answers_are = record { len = size; first = rw collected refl };
     })
@@ -61,13 +61,13 @@ begins_all {g} {c} {bus} {l} {now} {bytes} {commands} {answers} {r} {b} is ready
 -- ---- the end
 
 -- what holds where all were sent, collected and told
-pub record HasEnded (g : Geometry) (c : ℕ) (old : BusValue) (l : LaneFields) (bytes : List ℕ)
-    (bus : BusValue) (l' : LaneFields) (now : ℕ) (mem : List ℕ) : Type 0 where
+pub record HasEnded (g : Geometry) (c : ℕ) (old : BusValue) (l : QueuePairFields) (bytes : List ℕ)
+    (bus : BusValue) (l' : QueuePairFields) (now : ℕ) (mem : List ℕ) : Type 0 where
   pub ready : IsReady g bus c l' now mem
-  pub ports : bus.ports ≡ slice_set old.ports c (port_at bus.ports c)
-  pub others : KeepsOthers g.page_size (lane_value l) bytes mem
+  pub banks : bus.banks ≡ slice_set old.banks c (bank_at bus.banks c)
+  pub others : KeepsOthers g.page_size (pair_value l) bytes mem
 
-pub ends_all : {g : Geometry} {c : ℕ} {old bus : BusValue} {l l' : LaneFields} {now : ℕ}
+pub ends_all : {g : Geometry} {c : ℕ} {old bus : BusValue} {l l' : QueuePairFields} {now : ℕ}
     {bytes mem : List ℕ} {commands : List Command} {r : Run} {b : Batch}
     → r ≡ run_of g c old l bytes commands → (u : IsUnderWay r b.sent b.collected b l' now mem)
     → IsBusOf r b.sent b.collected b.told bus
@@ -80,14 +80,14 @@ ends_all {g} {c} {old} {bus} {l} {l'} {now} {bytes} {mem} {commands} {r} {b} is 
         → IsBusOf (run_of g c old l bytes commands) b.sent b.collected b.told bus
         → HasEnded g c old l bytes bus l' now mem
     at_end u of =
-        let t = setting g c (lane_value l) in
+        let t = setting g c (pair_value l) in
         let n = b.collected in
         let none : drop n u.world.sent ≡ [] = ap (λ i. drop i u.world.sent) (sym (u.sent ∙ sent))
         ∙ drop-length u.world.sent in
-        let pages = ap (λ (x : LaneFields). x.pages) u.lane
+        let pages = ap (λ (x : QueuePairFields). x.pages) u.pair
         ∙ ap (λ xs. without l.pages (pages_of_all xs)) none ∙ (taken_none l.pages).1 in
-        let submission = ap (λ (x : LaneFields). x.submission) u.lane ∙ ap (λ i. submit_ring t i n) sent in
-        let completion = ap (λ (x : LaneFields). x.completion) u.lane ∙ ap (λ i. collect_ring t n i) told
+        let submission = ap (λ (x : QueuePairFields). x.submission) u.pair ∙ ap (λ i. submit_ring t i n) sent in
+        let completion = ap (λ (x : QueuePairFields). x.completion) u.pair ∙ ap (λ i. collect_ring t n i) told
         ∙ ap (λ e. record {
           base = t.cq;
           depth = t.depth;
@@ -95,20 +95,20 @@ ends_all {g} {c} {old} {bus} {l} {l'} {now} {bytes} {mem} {commands} {r} {b} is 
           told = number t n;
           untold = e;
         }) (sym (none_untold n)) in
-        let port = of.port ∙ ap (λ i. port_with t (device_rings t i n b.told)) sent
-        ∙ ap (λ i. port_with t (device_rings t n n i)) told in
+        let bank = of.bank ∙ ap (λ i. bank_with t (device_rings t i n b.told)) sent
+        ∙ ap (λ i. bank_with t (device_rings t n n i)) told in
         record {
-          ready = lane_after n u.begun u.page_size u.size submission completion (serial_below u) pages
+          ready = pair_after n u.begun u.page_size u.size submission completion (serial_below u) pages
               (subst (λ m. HoldsTags m t.cq t.depth (number t n)) u.mem
               (subst (λ i. HoldsTags u.world.mem t.cq t.depth (number t i)) u.done u.keeps.tags))
-              (has_port u of) of.bus port;
-          ports = of.ports;
-          others = subst (KeepsOthers g.page_size (lane_value l) bytes) u.mem
+              (has_bank u of) of.bus bank;
+          banks = of.banks;
+          others = subst (KeepsOthers g.page_size (pair_value l) bytes) u.mem
               (others_kept u.begun u.others (λ i d h. u.own i d (omega (arith, u.sent))));
         }
 
 -- all were collected
-pub all_collected : {g : Geometry} {c : ℕ} {old : BusValue} {l l' : LaneFields} {now : ℕ}
+pub all_collected : {g : Geometry} {c : ℕ} {old : BusValue} {l l' : QueuePairFields} {now : ℕ}
     {bytes mem : List ℕ} {commands : List Command} {r : Run} {b : Batch}
     → r ≡ run_of g c old l bytes commands → (u : IsUnderWay r b.sent b.collected b l' now mem)
     → length commands ≤ b.collected
@@ -118,7 +118,7 @@ all_collected is u enough =
     let same = ap (λ (x : Run). length x.commands) is
     in (omega (arith, order, u.some, same), omega (arith, order, u.some, same))
 
-pub answers_all : {g : Geometry} {c : ℕ} {old : BusValue} {l : LaneFields} {bytes : List ℕ}
+pub answers_all : {g : Geometry} {c : ℕ} {old : BusValue} {l : QueuePairFields} {bytes : List ℕ}
     {commands : List Command} {r : Run} {n : ℕ} {answers : List Answer}
     → r ≡ run_of g c old l bytes commands → HasAnswers r n answers → n ≡ length commands
     → answers ≡ answers_of c old.state l.serial commands

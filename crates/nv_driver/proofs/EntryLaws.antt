@@ -1,5 +1,6 @@
 -- What one entry of a turn keeps.
-use Rattle.std.proofs.Common.{◌≡◌, ◌∙◌, ℕ, ◌+◌, ◌*◌, ◌<◌, ◌≤◌, ◌^◌, List, ap, arith, get_or, inl, inr, length, lit<, refl, subst, sym}
+use Rattle.std.proofs.Common.{◌≡◌, ◌∙◌, ℕ, ◌+◌, ◌*◌, ◌<◌, ◌≤◌, ◌^◌, List, ap, arith, get_or, inl, inr, length, lit<}
+use Rattle.std.proofs.Common.{refl, subst, sym}
 use Rattle.std.proofs.Math.Nat.{mul-le-mul_left}
 use Rattle.std.proofs.lemmas.Bool.{cases_lt, cases_order}
 use Rattle.std.proofs.lemmas.List.{get_or_default}
@@ -23,14 +24,16 @@ use Rattle.nv_model.proofs.StepLaws.{step_controllers, step_keeps}
 use Rattle.nv_bus.specs.Entry.{Scene, completion_with, scene}
 use Rattle.nv_bus.specs.Turn.{Takes}
 use Rattle.nv_bus.proofs.TurnLaws.{length_moved}
-use Rattle.nv_driver.specs.Schedule.{Answer, AreApart, AreOthers, Holds, Sent, Setting, World, answer_read, device_rings, number, places, pointed, port_with, slot}
+use Rattle.nv_driver.specs.Schedule.{Answer, AreApart, AreOthers, Holds, Sent, Setting, World, answer_read}
+use Rattle.nv_driver.specs.Schedule.{device_rings, number, places, pointed, bank_with, slot}
 use Rattle.nv_driver.proofs.AnswerLaws.{IsAnswerTo, answer_back, answer_sound, completion_fits}
 use Rattle.nv_driver.proofs.CountLaws.{number_below, number_next, slot_inside, slots_differ}
 use Rattle.nv_driver.proofs.HeldLaws.{holds_on}
 use Rattle.nv_driver.specs.Keeping.{IsOwn, Keeps}
 use Rattle.nv_driver.proofs.ListPageLaws.{list_beside, list_stays}
 use Rattle.nv_driver.proofs.PointerLaws.{stays_in}
-use Rattle.nv_driver.proofs.RegionLaws.{ChangesOnlyAt, apart-sym, completion_keeps, data_beside, data_stays, holds_sent_on, outside_part, submission_aside}
+use Rattle.nv_driver.proofs.RegionLaws.{ChangesOnlyAt, apart-sym, completion_keeps, data_beside, data_stays}
+use Rattle.nv_driver.proofs.RegionLaws.{holds_sent_on, outside_part, submission_aside}
 use Rattle.nv_driver.proofs.SerialLaws.{after_more, answer_at}
 use Rattle.nv_driver.proofs.TakenLaws.{IsDone, can_go, delivered, is_done, moved_keeps, moved_list, moved_slot, now}
 
@@ -47,7 +50,7 @@ abbrev pub world_after : Setting → World → Scene → World
 world_after t w y = record w {
   mem = y.bytes;
   state = y.state;
-  port = port_with t (device_rings t w.rung (w.done + 1) w.told);
+  bank = bank_with t (device_rings t w.rung (w.done + 1) w.told);
   done = w.done + 1;
 }
 
@@ -141,7 +144,7 @@ one_more t s w y d k waits free one =
         few = c.few;
         free = free;
       };
-      port = refl;
+      bank = refl;
       state = one.state ∙ ap (λ (q : State). (step q t.controller x.command x.cid).state) k.state
           ∙ sym (after_more t.controller s w.sent n d below);
       well_formed = subst IsWellFormed (sym one.state)

@@ -5,7 +5,8 @@ use Rattle.nv_prp.specs.Place.{read_at}
 use Rattle.nv_queue.specs.Slots.{completion_at}
 use Rattle.nv_command.specs.Command.{transfer_by}
 use Rattle.nv_model.specs.State.{State}
-use Rattle.nv_driver.specs.Schedule.{Answer, Holds, Sent, Setting, World, answer_from, answer_read, answers_to, places, received_from, slot}
+use Rattle.nv_driver.specs.Schedule.{Answer, Holds, Sent, Setting, World, answer_from, answer_read, answers_to, places}
+use Rattle.nv_driver.specs.Schedule.{received_from, slot}
 use Rattle.nv_driver.proofs.DataLaws.{received_same}
 
 pub answer_same : (t : Setting) (x : Sent) (old new : List ℕ) (c e : Cqe) → e ≡ c

@@ -1,5 +1,6 @@
 -- What a schedule keeps from its beginning on, where a doorbell is rung or an answer is collected.
-use Rattle.std.proofs.Common.{◌≡◌, ◌↔◌, ◌∙◌, ℕ, ◌+◌, ◌*◌, ◌%◌, ◌<◌, ◌≤◌, length-append, [], ◌∷◌, ◌++◌, ap, arith, get_or, inl, inr, length, refl, subst, sym, take}
+use Rattle.std.proofs.Common.{◌≡◌, ◌↔◌, ◌∙◌, ℕ, ◌+◌, ◌*◌, ◌%◌, ◌<◌, ◌≤◌, length-append, [], ◌∷◌, ◌++◌, ap, arith}
+use Rattle.std.proofs.Common.{get_or, inl, inr, length, refl, subst, sym, take}
 use Rattle.std.proofs.Math.Nat.{mod-eq_of_lt}
 use Rattle.std.proofs.lemmas.Bool.{cases_lt}
 use Rattle.std.proofs.lemmas.List.{take_more}
@@ -8,9 +9,10 @@ use Rattle.nv_queue.proofs.SlotLaws.{not_own}
 use Rattle.nv_queue.specs.Slots.{HoldsTags, IsAwaitedThere, completion_at}
 use Rattle.nv_queue.proofs.TagLaws.{tag_below_here, tag_there}
 use Rattle.nv_model.specs.State.{State}
-use Rattle.nv_register.specs.Port.{with_register_at}
-use Rattle.nv_register.specs.declared.port.Port.{Port}
-use Rattle.nv_driver.specs.Schedule.{Happens, IsIdle, Sent, Setting, World, answer_awaited, answers_to, awaited, device_rings, number, port_with, slot}
+use Rattle.nv_register.specs.RegisterBank.{with_register_at}
+use Rattle.nv_register.specs.declared.register_bank.RegisterBank.{RegisterBank}
+use Rattle.nv_driver.specs.Schedule.{Happens, IsIdle, Sent, Setting, World, answer_awaited, answers_to, awaited}
+use Rattle.nv_driver.specs.Schedule.{device_rings, number, bank_with, slot}
 use Rattle.nv_driver.specs.Schedule.{Bell, Collect, Tell}
 use Rattle.nv_driver.proofs.CountLaws.{head_told, number_above, number_below, numbers_differ, slot_inside, tail_rung}
 use Rattle.nv_driver.specs.Keeping.{AreInOrder, Keeps}
@@ -44,7 +46,7 @@ idle_keeps t w i =
         few = omega (arith, no_sent, deep.0);
         free = omega (arith, i.done, deep.0);
       };
-      port = rw (i.rung, i.done, i.told) i.port;
+      bank = rw (i.rung, i.done, i.told) i.bank;
       state = rw (i.done) refl;
       well_formed = i.state;
       controller = i.controller;
@@ -60,14 +62,14 @@ idle_keeps t w i =
 
 -- ---- doorbells change a count and the registers
 
-told_otherwise : (t : Setting) (s : State) (w : World) (rung told : ℕ) (port : Port) → Keeps t s w
+told_otherwise : (t : Setting) (s : State) (w : World) (rung told : ℕ) (bank : RegisterBank) → Keeps t s w
     → AreInOrder t.depth (length w.answers) w.done rung (length w.sent) told
-    → port ≡ port_with t (device_rings t rung w.done told)
-    → Keeps t s (record w { port = port; rung = rung; told = told })
-told_otherwise t s w rung told port k counts is = record {
+    → bank ≡ bank_with t (device_rings t rung w.done told)
+    → Keeps t s (record w { bank = bank; rung = rung; told = told })
+told_otherwise t s w rung told bank k counts is = record {
   placed = k.placed;
   counts = counts;
-  port = is;
+  bank = is;
   state = k.state;
   well_formed = k.well_formed;
   controller = k.controller;
@@ -95,7 +97,7 @@ bell_keeps t s w w' k happens =
       few = c.few;
       free = c.free;
     })
-    (ap (λ p. with_register_at p 0x1000 (slot t m)) k.port
+    (ap (λ p. with_register_at p 0x1000 (slot t m)) k.bank
     ∙ tail_rung t w.rung w.done w.told m (omega (arith, c.done, c.rung)) (omega (arith, c.few, c.collected))))
 
 pub tell_keeps : (t : Setting) (s : State) (w w' : World) → Keeps t s w → Happens t Tell w w' → Keeps t s w'
@@ -112,7 +114,7 @@ tell_keeps t s w w' k happens =
       few = c.few;
       free = omega (arith, c.few, c.done, c.rung);
     })
-    (ap (λ p. with_register_at p 0x1004 (slot t n)) k.port
+    (ap (λ p. with_register_at p 0x1004 (slot t n)) k.bank
     ∙ head_told t w.rung w.done w.told n c.told c.collected c.free))
 
 -- ---- an answer is collected
@@ -172,7 +174,7 @@ collected_one t s w d k below =
         few = omega (arith, c.few);
         free = c.free;
       };
-      port = k.port;
+      bank = k.bank;
       state = k.state;
       well_formed = k.well_formed;
       controller = k.controller;

@@ -24,7 +24,7 @@ pub mod TurnLaws
 pub mod OthersLaws
 pub mod ElsewhereLaws
 pub mod ScheduleLaws
-pub mod LaneLaws
+pub mod QueuePairLaws
 pub mod LayoutLaws
 pub mod MemoryLaws
 pub mod RegisterLaws

@@ -1,8 +1,10 @@
 -- Bytes that stay along a schedule as long as the host doesn't write elsewhere.
-use Rattle.std.proofs.Common.{◌≡◌, ◌∙◌, ℕ, ◌+◌, ◌≤◌, List, [], ◌∷◌, ◌++◌, arith, get_or, inl, inr, length, length-append, refl, subst, sym}
+use Rattle.std.proofs.Common.{◌≡◌, ◌∙◌, ℕ, ◌+◌, ◌≤◌, List, [], ◌∷◌, ◌++◌, arith, get_or, inl, inr, length}
+use Rattle.std.proofs.Common.{length-append, refl, subst, sym}
 use Rattle.std.proofs.lemmas.List.{get_or_append_left, get_or_push}
 use Rattle.nv_model.specs.State.{State}
-use Rattle.nv_driver.specs.Schedule.{AreOthers, AreOutside, Bell, Collect, Happens, IsPrepared, Sent, Setting, Submit, Tell, Turn, World, answer_awaited}
+use Rattle.nv_driver.specs.Schedule.{AreOthers, AreOutside, Bell, Collect, Happens, IsPrepared, Sent, Setting, Submit}
+use Rattle.nv_driver.specs.Schedule.{Tell, Turn, World, answer_awaited}
 use Rattle.nv_driver.specs.Keeping.{Keeps, OthersStay}
 use Rattle.nv_driver.proofs.SubmitLaws.{changes_only, mem_after}
 use Rattle.nv_driver.proofs.TurnLaws.{turn_leaves}

@@ -1,5 +1,7 @@
 -- Pages taken out of a set one after the other, and given back.
-use Rattle.std.proofs.Common.{◌≡◌, ◌≢◌, ◌∙◌, ℕ, zero, suc, ◌+◌, ◌-◌, ◌<◌, ◌≤◌, ◌==◌, ◌&&◌, ◌||◌, inl, inr, not, cond, All, AllPairs, Bool, true, false, List, [], ◌∷◌, ◌++◌, ap, arith, get_or, length, length-append, length-take, nat_eq, refl, take, subst, sym}
+use Rattle.std.proofs.Common.{◌≡◌, ◌≢◌, ◌∙◌, ℕ, zero, suc, ◌+◌, ◌-◌, ◌<◌, ◌≤◌, ◌==◌, ◌&&◌, ◌||◌, inl, inr, not, cond}
+use Rattle.std.proofs.Common.{All, AllPairs, Bool, true, false, List, [], ◌∷◌, ◌++◌, ap, arith, get_or, length}
+use Rattle.std.proofs.Common.{length-append, length-take, nat_eq, refl, take, subst, sym}
 use Rattle.std.proofs.Common.{IfSome, IsSome, MatchOption, None, Option, Some, nat_cmp}
 use Rattle.std.proofs.lemmas.Bool.{cases_lt}
 use Rattle.std.proofs.lemmas.Bool.Decides.{nat_tests}

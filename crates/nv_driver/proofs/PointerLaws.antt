@@ -1,5 +1,6 @@
 -- A command whose pages were made ready: what a controller finds of its entry.
-use Rattle.std.proofs.Common.{subst, ◌≡◌, ◌∙◌, ◌^◌, ℕ, refl, inl, inr, ◌+◌, ◌*◌, ◌<◌, ◌≤◌, List, Ok, ap, arith, length, sym}
+use Rattle.std.proofs.Common.{subst, ◌≡◌, ◌∙◌, ◌^◌, ℕ, refl, inl, inr, ◌+◌, ◌*◌, ◌<◌, ◌≤◌, List, Ok, ap, arith, length}
+use Rattle.std.proofs.Common.{sym}
 use Rattle.std.proofs.Math.Nat.{mul-le-mul_right}
 use Rattle.std.proofs.lemmas.Bool.{cases_lt}
 use Rattle.std.proofs.lemmas.Grind.{div_ceil_times}
@@ -14,12 +15,13 @@ use Rattle.nv_layout.specs.declared.sqe.Sqe.{Sqe}
 use Rattle.nv_command.specs.Decoding.{command_of, transfer_of}
 use Rattle.nv_command.proofs.TravelLaws.{commands_travel}
 use Rattle.nv_command.specs.declared.command.Command.{Command}
-use Rattle.nv_command.specs.declared.transfer.Transfer.{Transfer as Moves}
+use Rattle.nv_command.specs.declared.transfer.Transfer.{Transfer}
 use Rattle.nv_command.specs.declared.transfer.Transfer.TheVariants.{FromHost, NoData, ToHost}
 use Rattle.nv_bus.specs.Call.{call_of, data_places, length_of, places_of, sent_from, within}
 use Rattle.nv_bus.proofs.CallLaws.{legal_places, no_places, within_few}
 use Rattle.nv_driver.specs.Layout.{pages_of_command}
-use Rattle.nv_driver.specs.Schedule.{CanBeSent, HoldsSent, Sent, Setting, StaysNamed, data_length, entry, places, pointed}
+use Rattle.nv_driver.specs.Schedule.{CanBeSent, HoldsSent, Sent, Setting, StaysNamed, data_length, entry, places}
+use Rattle.nv_driver.specs.Schedule.{pointed}
 use Rattle.nv_driver.proofs.DataLaws.{HasShape, most, nothing, shape}
 use Rattle.nv_driver.proofs.RegionLaws.{length-places}
 
@@ -90,7 +92,7 @@ stays_in page_size x mem later keep stays some last next =
 
 -- ---- the command of the entry
 
-places_by : (m : Moves) (page_size : ℕ) (mem : List ℕ) (e : Sqe) (at : List ℕ) → HasShape m
+places_by : (m : Transfer) (page_size : ℕ) (mem : List ℕ) (e : Sqe) (at : List ℕ) → HasShape m
     → length at ≡ length_of m
     → (0 < length_of m → places_of (transfer page_size mem e.prp1 e.prp2 (length_of m)) ≡ Ok at)
     → data_places page_size mem e m ≡ Ok at
@@ -99,7 +101,7 @@ places_by NoData page_size mem e at is size found =
 places_by (ToHost n) page_size mem e at is size found = found is.0
 places_by (FromHost n) page_size mem e at is size found = found (omega (arith, is))
 
-call_by : (e : Sqe) (at : List ℕ) (k : Command) (page_size limit : ℕ) (mem : List ℕ) (m : Moves)
+call_by : (e : Sqe) (at : List ℕ) (k : Command) (page_size limit : ℕ) (mem : List ℕ) (m : Transfer)
     → transfer_of e ≡ Ok m → within limit m ≡ Ok m → data_places page_size mem e m ≡ Ok at
     → command_of e (sent_from m mem at) ≡ Ok k
     → call_of page_size limit mem e ≡ Ok (record { command = k; places = at })

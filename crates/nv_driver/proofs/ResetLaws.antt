@@ -1,68 +1,69 @@
--- What becomes of the subsystem where controllers are disabled, and of a lane whose controller is reset.
+-- What becomes of the subsystem where controllers are disabled, and of a queue pair whose controller is reset.
 use Rattle.std.specs.Prelude.{if◌then◌else◌, slice_index_or, slice_set}
 use Rattle.std.proofs.Common.{◌≡◌, ◌∙◌, ℕ, ◌+◌, ◌<◌, Bool, false, List, ap, arith, length, refl, subst, sym}
 use Rattle.std.proofs.Math.ListN.{length-set}
 use Rattle.std.proofs.lemmas.List.{get_or-map, get_or-set_same, length-map}
 use Rattle.nv_host.specs.Bytes.{with_bytes}
 use Rattle.nv_queue.specs.Slots.{HoldsTags}
-use Rattle.nv_register.specs.Port.{new_port}
+use Rattle.nv_register.specs.RegisterBank.{new_bank}
 use Rattle.nv_register.specs.Readiness.{is_enabled}
-use Rattle.nv_register.specs.declared.port.Port.{Port}
+use Rattle.nv_register.specs.declared.register_bank.RegisterBank.{RegisterBank}
 use Rattle.nv_model.specs.Reset.{reset, reset_if, reset_where}
 use Rattle.nv_model.proofs.ResetLaws.{reset_first, reset_first_more}
 use Rattle.nv_model.specs.State.{State}
-use Rattle.nv_bus.specs.Bus.{BusValue, IsBus, enabled_in, port_at}
+use Rattle.nv_bus.specs.Bus.{BusValue, IsBus, enabled_in, bank_at}
 use Rattle.nv_driver.specs.Driver.{IsPlaced}
 use Rattle.nv_driver.specs.Exchange.{IsReady}
-use Rattle.nv_driver.specs.Lane.{IsLaid, Lane, idle_port, renewed_lane}
-use Rattle.nv_driver.specs.Layout.{lane_of}
-use Rattle.nv_driver.specs.Quiet.{IsQuiet, lane_value}
+use Rattle.nv_driver.specs.QueuePair.{IsLaid, QueuePair, idle_bank, renewed_pair}
+use Rattle.nv_driver.specs.Layout.{pair_of}
+use Rattle.nv_driver.specs.Quiet.{IsQuiet, pair_value}
 use Rattle.nv_driver.specs.Registers.{mps_of}
 use Rattle.nv_driver.specs.declared.geometry.Geometry.{Geometry}
-use Rattle.nv_driver.specs.declared.lane.Lane.{Lane as LaneFields}
+use Rattle.nv_driver.specs.declared.queue_pair.QueuePair.{QueuePair as QueuePairFields}
 use Rattle.nv_driver.proofs.ZeroLaws.{zeroed_length, zeros}
 
-enabled_at : (ports : List Port) (c : ℕ) → c < length ports
-    → slice_index_or (enabled_in ports) c false ≡ is_enabled (port_at ports c).readiness
-enabled_at ports c h = get_or-map (λ (p : Port). is_enabled p.readiness) ports c new_port false h
+enabled_at : (banks : List RegisterBank) (c : ℕ) → c < length banks
+    → slice_index_or (enabled_in banks) c false ≡ is_enabled (bank_at banks c).readiness
+enabled_at banks c h = get_or-map (λ (p : RegisterBank). is_enabled p.readiness) banks c new_bank false h
 
 -- ---- each enabled one
 
 -- a controller more
-pub states_more : (a o : List Port) (s mid new : State) (c : ℕ) → c < length a → c < length o
-    → port_at a c ≡ port_at o c
+pub states_more : (a o : List RegisterBank) (s mid new : State) (c : ℕ) → c < length a → c < length o
+    → bank_at a c ≡ bank_at o c
     → mid ≡ reset_first (enabled_in o) c s → new ≡ reset_if (enabled_in a) mid c
     → new ≡ reset_first (enabled_in o) (c + 1) s
 states_more a o s mid new c h k same before is =
-    let enabled = enabled_at a c h ∙ ap (λ (p : Port). is_enabled p.readiness) same ∙ sym (enabled_at o c k) in
+    let enabled = enabled_at a c h ∙ ap (λ (p : RegisterBank). is_enabled p.readiness) same ∙ sym (enabled_at o c k) in
     is ∙ ap (λ (on : Bool). if on then reset mid c else mid) enabled ∙ ap (λ t. reset_if (enabled_in o) t c) before
     ∙ sym (reset_first_more (enabled_in o) c s)
 
-pub states_all : (o : List Port) (s new : State) (c : ℕ) → c ≡ length o
+pub states_all : (o : List RegisterBank) (s new : State) (c : ℕ) → c ≡ length o
     → new ≡ reset_first (enabled_in o) c s → new ≡ reset_where (enabled_in o) s
 states_all o s new c all is =
-    is ∙ ap (λ n. reset_first (enabled_in o) n s) (all ∙ sym (length-map o (λ (p : Port). is_enabled p.readiness)))
+    is ∙ ap (λ n. reset_first (enabled_in o) n s)
+    (all ∙ sym (length-map o (λ (p : RegisterBank). is_enabled p.readiness)))
 
 -- ---- a reset
 
--- what a reset leaves of a quiet lane
-pub ready_again : {g : Geometry} {b b' : BusValue} {c : ℕ} {l l' : LaneFields} {now page : ℕ}
+-- what a reset leaves of a quiet queue pair
+pub ready_again : {g : Geometry} {b b' : BusValue} {c : ℕ} {l l' : QueuePairFields} {now page : ℕ}
     {bytes mem : List ℕ} → IsReady g b c l now bytes
-    → IsPlaced g c (lane_value l) → page ≡ now → IsQuiet l' → lane_value l' ≡ renewed_lane (lane_value l)
+    → IsPlaced g c (pair_value l) → page ≡ now → IsQuiet l' → pair_value l' ≡ renewed_pair (pair_value l)
     → mem ≡ with_bytes bytes l.completion.base (zeros l)
     → HoldsTags mem l.completion.base l.completion.depth 0 → IsBus b'
-    → b'.ports ≡ slice_set b.ports c (idle_port (mps_of g.page_size) g.page_size (lane_of g c))
+    → b'.banks ≡ slice_set b.banks c (idle_bank (mps_of g.page_size) g.page_size (pair_of g c))
     → IsReady g b' c l' page mem
-ready_again {g} {b} {b'} {c} {l} {l'} {now} {page} {bytes} {mem} r placed same quiet is zeroed tags bus ports =
+ready_again {g} {b} {b'} {c} {l} {l'} {now} {page} {bytes} {mem} r placed same quiet is zeroed tags bus banks =
     let laid = r.laid in
     let deep = laid.deep in
-    let idle = idle_port (mps_of g.page_size) g.page_size in
+    let idle = idle_bank (mps_of g.page_size) g.page_size in
     let size = zeroed_length bytes mem r.quiet refl laid zeroed in
     record {
       geometry = r.geometry;
       page_size = same ∙ r.page_size;
-      depth = ap (λ (v : Lane). v.depth) is ∙ r.depth;
-      room = omega (arith, r.room, ap (λ (v : Lane). v.page_count) is);
+      depth = ap (λ (v : QueuePair). v.depth) is ∙ r.depth;
+      room = omega (arith, r.room, ap (λ (v : QueuePair). v.page_count) is);
       quiet = quiet;
       laid = subst (IsLaid g.page_size (length mem)) (sym is) (record {
         deep = deep;
@@ -72,15 +73,15 @@ ready_again {g} {b} {b'} {c} {l} {l'} {now} {page} {bytes} {mem} r placed same q
         pages = laid.pages;
         inside = omega (arith, laid.inside, size);
       });
-      tags = subst (λ (v : Lane). HoldsTags mem v.cq v.depth v.number) (sym is)
+      tags = subst (λ (v : QueuePair). HoldsTags mem v.cq v.depth v.number) (sym is)
           (subst (λ d. HoldsTags mem l.completion.base d 0) r.quiet.depth tags);
       controller = omega (
         arith,
         r.controller,
-        ap (λ (x : List Port). length x) ports,
-        length-set b.ports c (idle (lane_of g c)),
+        ap (λ (x : List RegisterBank). length x) banks,
+        length-set b.banks c (idle (pair_of g c)),
       );
       bus = bus;
-      port = ap (λ x. port_at x c) ports ∙ get_or-set_same b.ports c (idle (lane_of g c)) new_port r.controller
-          ∙ sym (ap idle (is ∙ ap renewed_lane placed));
+      bank = ap (λ x. bank_at x c) banks ∙ get_or-set_same b.banks c (idle (pair_of g c)) new_bank r.controller
+          ∙ sym (ap idle (is ∙ ap renewed_pair placed));
     }

@@ -1,11 +1,13 @@
 -- Every schedule.
 use Rattle.std.proofs.Common.{◌≢◌, ℕ, suc, All, List, [], ◌∷◌, arith, length, refl, subst, sym}
 use Rattle.nv_model.specs.State.{State}
-use Rattle.nv_driver.specs.Schedule.{Event, Submit, Bell, Turn, Collect, Tell, Elsewhere, EveryScheduleIsSerial, Happens, IsSerial, Runs, Setting, World}
+use Rattle.nv_driver.specs.Schedule.{Event, Submit, Bell, Turn, Collect, Tell, Elsewhere, EveryScheduleIsSerial}
+use Rattle.nv_driver.specs.Schedule.{Happens, IsSerial, Runs, Setting, World}
 use Rattle.nv_driver.specs.Keeping.{Keeps, OthersStay}
 use Rattle.nv_driver.proofs.KeptLaws.{bell_keeps, collect_keeps, idle_keeps, is_found, tell_keeps}
 use Rattle.nv_driver.proofs.ElsewhereLaws.{elsewhere_keeps}
-use Rattle.nv_driver.proofs.OthersLaws.{bell_others, collect_others, others_now, submit_others, tell_others, turn_others}
+use Rattle.nv_driver.proofs.OthersLaws.{bell_others, collect_others, others_now, submit_others, tell_others}
+use Rattle.nv_driver.proofs.OthersLaws.{turn_others}
 use Rattle.nv_driver.proofs.SubmitLaws.{submit_keeps}
 use Rattle.nv_driver.proofs.TurnLaws.{turn_keeps, turn_takes}
 

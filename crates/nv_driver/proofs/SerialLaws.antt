@@ -1,5 +1,6 @@
 -- Commands one at a time: their answers, and the state after them.
-use Rattle.std.proofs.Common.{◌≡◌, ◌∙◌, ℕ, zero, suc, ◌+◌, ◌<◌, List, [], ◌∷◌, ◌++◌, add-one, ap, arith, get_or, length, map, refl, take}
+use Rattle.std.proofs.Common.{◌≡◌, ◌∙◌, ℕ, zero, suc, ◌+◌, ◌<◌, List, [], ◌∷◌, ◌++◌, add-one, ap, arith, get_or, length}
+use Rattle.std.proofs.Common.{map, refl, take}
 use Rattle.std.proofs.lemmas.List.{length-map}
 use Rattle.nv_command.specs.Logs.{answer_received}
 use Rattle.nv_model.specs.State.{State}

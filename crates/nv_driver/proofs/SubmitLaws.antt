@@ -1,5 +1,6 @@
 -- What a submission keeps.
-use Rattle.std.proofs.Common.{◌≡◌, ◌∙◌, ℕ, ◌+◌, ◌*◌, ◌<◌, ◌≤◌, List, [], ◌∷◌, ◌++◌, ap, arith, get_or, inl, inr, length, length-append, subst, sym, take}
+use Rattle.std.proofs.Common.{◌≡◌, ◌∙◌, ℕ, ◌+◌, ◌*◌, ◌<◌, ◌≤◌, List, [], ◌∷◌, ◌++◌, ap, arith, get_or, inl, inr, length}
+use Rattle.std.proofs.Common.{length-append, subst, sym, take}
 use Rattle.std.proofs.Math.Nat.{mul-le-mul_left}
 use Rattle.std.proofs.lemmas.Bool.{cases_lt}
 use Rattle.std.proofs.lemmas.List.{get_or_append_left, get_or_push, take-append-le}
@@ -12,13 +13,15 @@ use Rattle.nv_queue.proofs.SlotLaws.{length-with_submission, push_written}
 use Rattle.nv_queue.specs.Slots.{completion_at, submission_at, with_submission}
 use Rattle.nv_command.proofs.TravelLaws.{commands_travel}
 use Rattle.nv_model.specs.State.{State}
-use Rattle.nv_driver.specs.Schedule.{AreApart, AreOutside, Happens, Holds, HoldsSent, IsPrepared, MaySubmit, Sent, Setting, StaysNamed, Submit, World, after, answers_to, entry, slot, submit_ring}
+use Rattle.nv_driver.specs.Schedule.{AreApart, AreOutside, Happens, Holds, HoldsSent, IsPrepared, MaySubmit, Sent}
+use Rattle.nv_driver.specs.Schedule.{Setting, StaysNamed, Submit, World, after, answers_to, entry, slot, submit_ring}
 use Rattle.nv_driver.proofs.CountLaws.{slot_inside, slots_differ}
 use Rattle.nv_driver.proofs.HeldLaws.{holds_on}
 use Rattle.nv_driver.specs.Keeping.{IsOwn, Keeps}
 use Rattle.nv_driver.proofs.ListPageLaws.{list_beside, list_stays}
 use Rattle.nv_driver.proofs.PointerLaws.{stays_in}
-use Rattle.nv_driver.proofs.RegionLaws.{ChangesOnlyAt, buffer_data, completion_aside, data_beside, data_stays, holds_sent_on, outside_part, submission_keeps}
+use Rattle.nv_driver.proofs.RegionLaws.{ChangesOnlyAt, buffer_data, completion_aside, data_beside, data_stays}
+use Rattle.nv_driver.proofs.RegionLaws.{holds_sent_on, outside_part, submission_keeps}
 use Rattle.nv_driver.proofs.SerialLaws.{answers-append, length-answers}
 
 -- the memory after a submission
@@ -168,7 +171,7 @@ submitted t s x w ready k may prepared =
         few = omega (arith, may.free, more);
         free = c.free;
       };
-      port = k.port;
+      bank = k.bank;
       state = k.state ∙ ap (after t.controller s)
           (sym (take-append-le w.done w.sent (x ∷ []) (omega (arith, c.done, c.rung))));
       well_formed = k.well_formed;

@@ -1,5 +1,6 @@
 -- The pages of a command, as `build` wants them.
-use Rattle.std.proofs.Common.{◌≡◌, ◌∙◌, ℕ, suc, ◌+◌, ◌*◌, ◌^◌, ◌<◌, ◌≤◌, All, List, [], ◌∷◌, OnOk, Ok, Result, ap, arith, drop, get_or, length, length-drop, length-take, slice_index, subst, sym, take}
+use Rattle.std.proofs.Common.{◌≡◌, ◌∙◌, ℕ, suc, ◌+◌, ◌*◌, ◌^◌, ◌<◌, ◌≤◌, All, List, [], ◌∷◌, OnOk, Ok, Result, ap}
+use Rattle.std.proofs.Common.{arith, drop, get_or, length, length-drop, length-take, slice_index, subst, sym, take}
 use Rattle.std.proofs.Math.Nat.{mul-le-mul_right}
 use Rattle.nv_host.specs.PageSets.{IsOf, Pages}
 use Rattle.nv_host.specs.Pages.{HasPage, IsPageSize}

@@ -1,5 +1,6 @@
 -- What taking one entry keeps of a schedule.
-use Rattle.std.proofs.Common.{◌≡◌, ◌∙◌, ℕ, ◌+◌, ◌-◌, ◌*◌, ◌<◌, ◌≤◌, true, Err, List, Ok, Result, ap, arith, get_or, inl, inr, length, refl, subst, sym}
+use Rattle.std.proofs.Common.{◌≡◌, ◌∙◌, ℕ, ◌+◌, ◌-◌, ◌*◌, ◌<◌, ◌≤◌, true, Err, List, Ok, Result, ap, arith, get_or, inl}
+use Rattle.std.proofs.Common.{inr, length, refl, subst, sym}
 use Rattle.std.proofs.Math.Nat.{mul-le-mul_left}
 use Rattle.std.proofs.lemmas.Bool.{cases_lt}
 use Rattle.nv_host.specs.Bytes.{bytes_at}
@@ -23,7 +24,8 @@ use Rattle.nv_bus.proofs.TurnLaws.{can_means}
 use Rattle.nv_model.specs.Limit.{limit_of}
 use Rattle.nv_model.proofs.LimitLaws.{limit_bounds}
 use Rattle.nv_bus.specs.Turn.{can_take}
-use Rattle.nv_driver.specs.Schedule.{Answer, AreOutside, Sent, Setting, World, data_length, device_rings, entry, number, own_pages, places, pointed, received_from, slot}
+use Rattle.nv_driver.specs.Schedule.{Answer, AreOutside, Sent, Setting, World, data_length, device_rings, entry, number}
+use Rattle.nv_driver.specs.Schedule.{own_pages, places, pointed, received_from, slot}
 use Rattle.nv_driver.proofs.AnswerLaws.{Delivers, IsAnswerTo}
 use Rattle.nv_driver.proofs.DataLaws.{ArePlaces, received_back, received_same}
 use Rattle.nv_driver.proofs.CountLaws.{number_above, number_next}

@@ -6,8 +6,9 @@ use Rattle.nv_command.specs.declared.command.Command.TheVariants.{ActiveList}
 use Rattle.nv_model.specs.State.{State}
 use Rattle.nv_bus.specs.Entry.{Scene, scene}
 use Rattle.nv_bus.proofs.TurnLaws.{turn_count_is}
-use Rattle.nv_bus.specs.Turn.{PortTurn, RingsLie, Site, Taken, Takes, ready_port, turn_count, site}
-use Rattle.nv_driver.specs.Schedule.{AreOthers, Happens, Sent, Setting, Turn, World, device_rings, least, number, port_with}
+use Rattle.nv_bus.specs.Turn.{BankTurn, RingsLie, Site, Taken, Takes, ready_bank, turn_count, site}
+use Rattle.nv_driver.specs.Schedule.{AreOthers, Happens, Sent, Setting, Turn, World, device_rings, least, number}
+use Rattle.nv_driver.specs.Schedule.{bank_with}
 use Rattle.nv_driver.proofs.CountLaws.{number_above, number_below}
 use Rattle.nv_driver.proofs.EntryLaws.{entry_keeps, entry_others, world_after}
 use Rattle.nv_driver.specs.Keeping.{Keeps}
@@ -32,7 +33,7 @@ abbrev pub world_with : Setting → World → ℕ → Scene → World
 world_with t w count y = record w {
   mem = y.bytes;
   state = y.state;
-  port = port_with t (device_rings t w.rung (w.done + count) w.told);
+  bank = bank_with t (device_rings t w.rung (w.done + count) w.told);
   done = w.done + count;
 }
 
@@ -48,20 +49,20 @@ counted : (t : Setting) (s : State) (w : World) (y : Scene) (n m : ℕ) → n �
     → Keeps t s (record w {
       mem = y.bytes;
       state = y.state;
-      port = port_with t (device_rings t w.rung n w.told);
+      bank = bank_with t (device_rings t w.rung n w.told);
       done = n;
     })
     → Keeps t s (record w {
       mem = y.bytes;
       state = y.state;
-      port = port_with t (device_rings t w.rung m w.told);
+      bank = bank_with t (device_rings t w.rung m w.told);
       done = m;
     })
 counted t s w y n m same =
     subst (λ i. Keeps t s (record w {
       mem = y.bytes;
       state = y.state;
-      port = port_with t (device_rings t w.rung i w.told);
+      bank = bank_with t (device_rings t w.rung i w.told);
       done = i;
     })) same
 
@@ -70,7 +71,7 @@ none_taken t s w k =
     let zero_more : w.done ≡ w.done + 0 = omega arith in
     record {
       keeps = counted t s w (scene w.state (now t w) w.mem) w.done (w.done + 0) zero_more
-          (subst (λ p. Keeps t s (record w { port = p })) k.port k);
+          (subst (λ p. Keeps t s (record w { bank = p })) k.bank k);
       rings = ap (λ n. device_rings t w.rung n w.told) zero_more;
       others = λ from n apart. refl;
     }
@@ -134,11 +135,11 @@ rings_lie t s w k =
 pub record IsTurn (t : Setting) (s : State) (w : World) (most count : ℕ) (z : Site) : Type 0 where
   pub last : Scene
   pub reached : Reaches t s w count last
-  pub left : z ≡ site last.state (port_with t last.rings) last.bytes
+  pub left : z ≡ site last.state (bank_with t last.rings) last.bytes
   pub number : count ≡ turn_count most (now t w)
 
 by_rings : (t : Setting) (s : State) (w : World) (most count : ℕ) (z : Site) → Keeps t s w
-    → PortTurn t.page_size t.controller most count (site w.state (port_with t (now t w)) w.mem) z
+    → BankTurn t.page_size t.controller most count (site w.state (bank_with t (now t w)) w.mem) z
     → IsTurn t s w most count z
 by_rings t s w most count z k turn =
     let last = turn.0 in
@@ -147,29 +148,29 @@ by_rings t s w most count z k turn =
     record {
       last = last;
       reached = taken_keep t s count w last k turn.2.entries;
-      left = turn.3 ∙ ap (λ b. site last.state (ready_port (port_with t (now t w)) last.rings b) last.bytes) counted.1;
+      left = turn.3 ∙ ap (λ b. site last.state (ready_bank (bank_with t (now t w)) last.rings b) last.bytes) counted.1;
       number = counted.0;
     }
 
 pub is_turn : (t : Setting) (s : State) (w : World) (most count : ℕ) (z : Site) → Keeps t s w
-    → PortTurn t.page_size t.controller most count (site w.state w.port w.mem) z → IsTurn t s w most count z
+    → BankTurn t.page_size t.controller most count (site w.state w.bank w.mem) z → IsTurn t s w most count z
 is_turn t s w most count z k turn =
-    by_rings t s w most count z k (subst (λ p. PortTurn t.page_size t.controller most count
-    (site w.state p w.mem) z) k.port turn)
+    by_rings t s w most count z k (subst (λ p. BankTurn t.page_size t.controller most count
+    (site w.state p w.mem) z) k.bank turn)
 
 pub turn_keeps : (t : Setting) (s : State) (most : ℕ) (w w' : World) → Keeps t s w
     → Happens t (Turn most) w w' → Keeps t s w'
 turn_keeps t s most w w' k happens =
     let count = happens.0 in
-    let r = is_turn t s w most count (site w'.state w'.port w'.mem) k happens.1 in
+    let r = is_turn t s w most count (site w'.state w'.bank w'.mem) k happens.1 in
     let last = r.last in
     subst (Keeps t s)
     (sym (happens.2 ∙ ap (λ (z : Site). record w
-    { mem = z.bytes; state = z.state; port = z.port; done = w.done + count }) r.left
+    { mem = z.bytes; state = z.state; bank = z.bank; done = w.done + count }) r.left
     ∙ ap (λ rings. record w {
       mem = last.bytes;
       state = last.state;
-      port = port_with t rings;
+      bank = bank_with t rings;
       done = w.done + count;
     }) r.reached.rings))
     r.reached.keeps
@@ -178,14 +179,14 @@ turn_keeps t s most w w' k happens =
 pub turn_leaves : (t : Setting) (s : State) (most : ℕ) (w w' : World) → Keeps t s w → Happens t (Turn most) w w'
     → (from n : ℕ) → AreOthers t (length w.answers) w.sent from n → bytes_at w'.mem from n ≡ bytes_at w.mem from n
 turn_leaves t s most w w' k happens from n apart =
-    let r = is_turn t s w most happens.0 (site w'.state w'.port w'.mem) k happens.1 in
+    let r = is_turn t s w most happens.0 (site w'.state w'.bank w'.mem) k happens.1 in
     ap (λ (z : Site). bytes_at z.bytes from n) r.left ∙ r.reached.others from n apart
 
 -- the turn takes as many entries as the counts say
 pub turn_takes : (t : Setting) (s : State) (most : ℕ) (w w' : World) → Keeps t s w
     → Happens t (Turn most) w w' → w'.done ≡ w.done + least t w most
 turn_takes t s most w w' k happens =
-    let r = is_turn t s w most happens.0 (site w'.state w'.port w'.mem) k happens.1 in
+    let r = is_turn t s w most happens.0 (site w'.state w'.bank w'.mem) k happens.1 in
     let c = k.counts in
     let some : 0 < t.depth = let deep = k.placed.deep in omega (arith, deep.0) in
     let wait = number_above t w.done w.rung some c.done (omega (arith, c.rung, c.few, c.collected)) in

@@ -1,6 +1,7 @@
 -- A list of commands on its way: its beginning, submissions, doorbells and turns.
 use Rattle.std.specs.Prelude.{None, Some, set}
-use Rattle.std.proofs.Common.{◌≡◌, ◌≢◌, ◌∙◌, ℕ, ◌+◌, ◌-◌, ◌*◌, ◌%◌, ◌<◌, ◌≤◌, All, List, [], ◌∷◌, ◌++◌, ap, arith, drop, get_or, inl, length, length-append, length-drop, refl, subst, sym, take, true}
+use Rattle.std.proofs.Common.{◌≡◌, ◌≢◌, ◌∙◌, ℕ, ◌+◌, ◌-◌, ◌*◌, ◌%◌, ◌<◌, ◌≤◌, All, List, [], ◌∷◌, ◌++◌, ap, arith, drop}
+use Rattle.std.proofs.Common.{get_or, inl, length, length-append, length-drop, refl, subst, sym, take, true}
 use Rattle.std.proofs.Math.ListN.{length-set}
 use Rattle.std.proofs.Math.Nat.{mod-eq_of_lt, mul-le-mul_right}
 use Rattle.std.proofs.lemmas.List.{drop-append-le, get_or-drop, get_or-map, get_or-set_other, get_or-set_same}
@@ -17,13 +18,14 @@ use Rattle.nv_model.specs.Step.{next_serial}
 use Rattle.nv_driver.specs.CommandPages.{AreTaken, all_pages, without}
 use Rattle.nv_driver.specs.Exchange.{IsReady}
 use Rattle.nv_driver.specs.Layout.{pages_of_command}
-use Rattle.nv_driver.specs.Schedule.{AreOutside, CanBeSent, Happens, IsPrepared, MaySubmit, Sent, Submit, collect_ring, entry, number, numbered, own_pages, slot, submit_ring}
+use Rattle.nv_driver.specs.Schedule.{AreOutside, CanBeSent, Happens, IsPrepared, MaySubmit, Sent, Submit, collect_ring}
+use Rattle.nv_driver.specs.Schedule.{entry, number, numbered, own_pages, slot, submit_ring}
 use Rattle.nv_driver.specs.Submitting.{IsSubmitted, sent_by}
 use Rattle.nv_driver.specs.UnderWay.{IsKept, IsUnderWay, Run, kept_at, numbered_of, pages_of_all, serial_at, setting_of}
 use Rattle.nv_driver.specs.declared.batch.Batch.{Batch}
 use Rattle.nv_driver.specs.declared.command_pages.CommandPages.{CommandPages}
 use Rattle.nv_driver.specs.declared.geometry.Geometry.{Geometry}
-use Rattle.nv_driver.specs.declared.lane.Lane.{Lane as LaneFields}
+use Rattle.nv_driver.specs.declared.queue_pair.QueuePair.{QueuePair as QueuePairFields}
 use Rattle.nv_driver.proofs.BatchLaws.{command_at, length-from_serial, serial_next}
 use Rattle.nv_driver.proofs.CountLaws.{number_above, number_next}
 use Rattle.nv_driver.proofs.KeptLaws.{idle_keeps}
@@ -34,23 +36,24 @@ use Rattle.nv_driver.proofs.OthersLaws.{others_now, submit_others}
 use Rattle.nv_driver.proofs.SubmitLaws.{each_more, submit_keeps}
 use Rattle.nv_driver.proofs.SubmittingLaws.{Has, buffer_of, distinct_of, list_of, pages_are, length-data_pages}
 use Rattle.nv_driver.proofs.TurnLaws.{no_command}
-use Rattle.nv_driver.proofs.WindowPageLaws.{differ, few_pages, fresh, page_of_one, pages-append, taken_also, taken_len, taken_none, without_also}
+use Rattle.nv_driver.proofs.WindowPageLaws.{differ, few_pages, fresh, page_of_one, pages-append, taken_also, taken_len}
+use Rattle.nv_driver.proofs.WindowPageLaws.{taken_none, without_also}
 
 -- ---- the beginning
 
-serial_first : (r : Run) → r.lane.serial < 65535 → r.lane.serial ≡ serial_at r 0
-serial_first r below = let sum : r.lane.serial + 0 ≡ r.lane.serial =
+serial_first : (r : Run) → r.pair.serial < 65535 → r.pair.serial ≡ serial_at r 0
+serial_first r below = let sum : r.pair.serial + 0 ≡ r.pair.serial =
     omega arith in sym (ap (λ n. n % 65535) sum ∙ mod-eq_of_lt below)
 
-lane_first : (r : Run) → IsReady r.geometry r.bus r.controller r.lane r.geometry.page_size r.bytes
-    → r.lane ≡ record {
+pair_first : (r : Run) → IsReady r.geometry r.bus r.controller r.pair r.geometry.page_size r.bytes
+    → r.pair ≡ record {
       submission = submit_ring (setting_of r) 0 0;
       completion = collect_ring (setting_of r) 0 0;
       serial = serial_at r 0;
-      pages = without r.lane.pages [];
+      pages = without r.pair.pages [];
     }
-lane_first r ready =
-    let l = r.lane in
+pair_first r ready =
+    let l = r.pair in
     let laid = ready.laid in
     ap (λ (q : SubmitNumbers). record l { submission = q })
     (submit_ring_is r.geometry r.controller r.bytes l ready.quiet laid.number)
@@ -68,10 +71,10 @@ lane_first r ready =
       pages = p;
     }) (sym (taken_none l.pages).1)
 
-pub begins : (r : Run) (b : Batch) (now : ℕ) → IsReady r.geometry r.bus r.controller r.lane r.geometry.page_size r.bytes
+pub begins : (r : Run) (b : Batch) (now : ℕ) → IsReady r.geometry r.bus r.controller r.pair r.geometry.page_size r.bytes
     → All CanBeSent r.commands → b.geometry ≡ r.geometry → b.ctrl ≡ r.controller
     → now ≡ r.geometry.page_size → length b.outstanding ≡ 16
-    → b.sent ≡ 0 → b.collected ≡ 0 → b.told ≡ 0 → IsUnderWay r b.sent b.collected b r.lane now r.bytes
+    → b.sent ≡ 0 → b.collected ≡ 0 → b.told ≡ 0 → IsUnderWay r b.sent b.collected b r.pair now r.bytes
 begins r b now ready can geometry controller page room sent collected told =
     let t = setting_of r in
     let w = beginning t r.bytes r.bus.state in
@@ -86,7 +89,7 @@ begins r b now ready can geometry controller page room sent collected told =
       some = omega arith;
       room = room;
       world = w;
-      keeps = idle_keeps t w (is_idle r.geometry r.bus r.controller r.lane r.geometry.page_size r.bytes ready);
+      keeps = idle_keeps t w (is_idle r.geometry r.bus r.controller r.pair r.geometry.page_size r.bytes ready);
       others = others_now t w;
       mem = refl;
       rung = sym sent;
@@ -96,20 +99,20 @@ begins r b now ready can geometry controller page room sent collected told =
       collected = sym collected;
       commands = rw sent refl;
       kept = λ n d from h. absurd (omega arith);
-      lane = rw (sent, collected, told) (lane_first r ready);
-      taken = rw collected (taken_none r.lane.pages).0;
+      pair = rw (sent, collected, told) (pair_first r ready);
+      taken = rw collected (taken_none r.pair.pages).0;
       own = λ n d h. absurd (omega arith);
     }
 
 -- ---- what is known on the way
 
 -- the pages that the outstanding commands have
-abbrev pub held : {r : Run} {bells turns : ℕ} {b : Batch} {l : LaneFields} {now : ℕ}
+abbrev pub held : {r : Run} {bells turns : ℕ} {b : Batch} {l : QueuePairFields} {now : ℕ}
     {bytes : List ℕ} → IsUnderWay r bells turns b l now bytes → List ℕ
 held {r} {bells} {turns} {b} u = pages_of_all (drop b.collected u.world.sent)
 
 pub own_length : (r : Run) (b : Batch) (n : ℕ) (x : Sent)
-    → IsReady r.geometry r.bus r.controller r.lane r.geometry.page_size r.bytes
+    → IsReady r.geometry r.bus r.controller r.pair r.geometry.page_size r.bytes
     → IsKept r (kept_at b n) x → length (own_pages x) ≤ pages_of_command r.geometry.page_size
 own_length r b n x ready k =
     let size = length-data_pages k.one k.seven (omega (
@@ -119,7 +122,7 @@ own_length r b n x ready k =
     )) in
     let same = ap (λ (y : Sent). length (own_pages y)) k.sent in omega (arith, size, same, k.few)
 
-module _ {r : Run} {bells turns : ℕ} {b : Batch} {l : LaneFields} {now : ℕ} {bytes : List ℕ}
+module _ {r : Run} {bells turns : ℕ} {b : Batch} {l : QueuePairFields} {now : ℕ} {bytes : List ℕ}
     (u : IsUnderWay r bells turns b l now bytes) where
   -- command n under its command identifier
   pub command_of : (n : ℕ) (e : Command) → n < b.sent
@@ -128,10 +131,10 @@ module _ {r : Run} {bells turns : ℕ} {b : Batch} {l : LaneFields} {now : ℕ} 
       sym (get_or-map numbered u.world.sent n no_command (numbered no_command) (omega (arith, u.sent)))
       ∙ ap (λ xs. get_or xs n (numbered no_command)) u.commands
       ∙ get_or-take b.sent (numbered_of r) n (numbered no_command) below
-      ∙ command_at r.lane.serial n r.commands (numbered no_command) e u.begun.laid.serial (omega (arith, u.some))
+      ∙ command_at r.pair.serial n r.commands (numbered no_command) e u.begun.laid.serial (omega (arith, u.some))
 
-  pub pages_left : l.pages ≡ without r.lane.pages (held u)
-  pages_left = ap (λ (q : LaneFields). q.pages) u.lane
+  pub pages_left : l.pages ≡ without r.pair.pages (held u)
+  pages_left = ap (λ (q : QueuePairFields). q.pages) u.pair
 
   pub still_inside : (l.pages.first + l.pages.count) * r.geometry.page_size ≤ length bytes
   still_inside =
@@ -142,7 +145,7 @@ module _ {r : Run} {bells turns : ℕ} {b : Batch} {l : LaneFields} {now : ℕ} 
       → pages_of_command r.geometry.page_size ≤ set.len l.pages.members
   set_has more =
       let each = pages_of_command r.geometry.page_size in
-      let pages = r.lane.pages in
+      let pages = r.pair.pages in
       let quiet = u.begun.quiet in
       let all = ap (λ (m : Pages). set.len m.members)
       (ap (λ m. record pages { members = m }) quiet.free) ∙ full_length pages.first pages.count in
@@ -161,8 +164,8 @@ module _ {r : Run} {bells turns : ℕ} {b : Batch} {l : LaneFields} {now : ℕ} 
 
   pub serial_below : l.serial < 65535
   serial_below =
-      let is = ap (λ (q : LaneFields). q.serial) u.lane in
-      let below = mod_below (r.lane.serial + b.sent) 65535 (omega arith) in omega (arith, is, below)
+      let is = ap (λ (q : QueuePairFields). q.serial) u.pair in
+      let below = mod_below (r.pair.serial + b.sent) 65535 (omega arith) in omega (arith, is, below)
 
   pub has_slot : b.sent < b.collected + r.geometry.window → ¬ IsSubmitFull l.submission
   has_slot more full =
@@ -172,16 +175,17 @@ module _ {r : Run} {bells turns : ℕ} {b : Batch} {l : LaneFields} {now : ℕ} 
       let order : b.collected ≤ b.sent = omega (arith, c.collected, c.done, c.rung, u.sent, u.collected) in
       let far = number_above t b.collected b.sent (omega (arith, window.2, u.begun.depth)) order
       (omega (arith, window.2, u.begun.depth)) in
-      let is = subst IsSubmitFull (ap (λ (q : LaneFields). q.submission) u.lane) full in
+      let is = subst IsSubmitFull (ap (λ (q : QueuePairFields). q.submission) u.pair) full in
       omega (arith, far, is, order, window.2, u.begun.depth)
 
 -- the tail after one command more
-pub tail_after : {r : Run} {bells turns : ℕ} {b : Batch} {l : LaneFields} {now : ℕ} {bytes : List ℕ}
+pub tail_after : {r : Run} {bells turns : ℕ} {b : Batch} {l : QueuePairFields} {now : ℕ} {bytes : List ℕ}
     (u : IsUnderWay r bells turns b l now bytes) (n tail : ℕ)
     → n ≡ b.sent → tail ≡ slot_of l.submission.depth
     (next l.submission.depth l.submission.submitted) → tail ≡ slot (setting_of r) (n + 1)
 tail_after {r} {bells} {turns} {b} u n tail sent is =
-    is ∙ ap (λ (q : LaneFields). slot_of q.submission.depth (next q.submission.depth q.submission.submitted)) u.lane
+    is ∙ ap (λ (q : QueuePairFields). slot_of q.submission.depth
+    (next q.submission.depth q.submission.submitted)) u.pair
     ∙ ap (slot_of (setting_of r).depth) (number_next (setting_of r) b.sent)
     ∙ ap (λ i. slot (setting_of r) (i + 1)) (sym sent)
 
@@ -212,12 +216,12 @@ unfolding slot_of
 two_places n m l h = λ same. slots_apart 16 m n l h (sym same)
 
 -- a command that is submitted while others are outstanding
-module _ {r : Run} {bells turns : ℕ} {b : Batch} {l l' : LaneFields} {now : ℕ} {bytes mem : List ℕ}
+module _ {r : Run} {bells turns : ℕ} {b : Batch} {l l' : QueuePairFields} {now : ℕ} {bytes mem : List ℕ}
     {k : Command} {o : CommandPages}
     (u : IsUnderWay r bells turns b l now bytes) (more : b.sent < b.collected + r.geometry.window)
     (sub : IsSubmitted r.geometry k o l l' bytes mem) where
   own_new : (i d : ℕ) → i < length (own_pages (sent_by r.geometry k l.serial o sub.prp1 sub.prp2))
-      → IsOf r.lane.pages.first r.lane.pages.count
+      → IsOf r.pair.pages.first r.pair.pages.count
       (get_or (own_pages (sent_by r.geometry k l.serial o sub.prp1 sub.prp2)) i d)
   own_new i d h =
       subst (λ (s : Pages). IsOf s.first s.count (get_or
@@ -225,7 +229,7 @@ module _ {r : Run} {bells turns : ℕ} {b : Batch} {l l' : LaneFields} {now : �
       (own_of_set l.pages (sent_by r.geometry k l.serial o sub.prp1 sub.prp2) (all_pages o)
       (pages_are o sub.seven) sub.taken.own i d h)
 
-  taken_new : AreTaken (without r.lane.pages (held u)) (own_pages (sent_by r.geometry k l.serial o sub.prp1 sub.prp2))
+  taken_new : AreTaken (without r.pair.pages (held u)) (own_pages (sent_by r.geometry k l.serial o sub.prp1 sub.prp2))
   taken_new = subst (λ s. AreTaken s (own_pages (sent_by r.geometry k l.serial o sub.prp1 sub.prp2))) (pages_left u)
       (subst (AreTaken l.pages) (pages_are o sub.seven) sub.taken)
 
@@ -255,10 +259,10 @@ module _ {r : Run} {bells turns : ℕ} {b : Batch} {l l' : LaneFields} {now : �
         buffer = buffer_of g l.pages o u.world.mem g.page_size _ u.begun.geometry refl has sub.enough;
         list = list_of g l.pages o u.world.mem g.page_size u.begun.geometry refl has;
         distinct = distinct_of l.pages o sub.seven sub.taken;
-        submissions = before_pages r.lane.pages x g.page_size r.lane.submission.base
-            (64 * r.lane.submission.depth) own_new (omega (arith, laid.rings, laid.pages));
-        completions = before_pages r.lane.pages x g.page_size r.lane.completion.base
-            (16 * r.lane.submission.depth) own_new laid.pages;
+        submissions = before_pages r.pair.pages x g.page_size r.pair.submission.base
+            (64 * r.pair.submission.depth) own_new (omega (arith, laid.rings, laid.pages));
+        completions = before_pages r.pair.pages x g.page_size r.pair.completion.base
+            (16 * r.pair.submission.depth) own_new laid.pages;
         apart = λ n d from below i e h j f low same.
             let xs = u.world.sent in
             let p = get_or (own_pages (get_or xs n d)) i e in
@@ -271,7 +275,7 @@ module _ {r : Run} {bells turns : ℕ} {b : Batch} {l l' : LaneFields} {now : �
             let there = page_of_one (drop b.collected xs) (n - b.collected) d p
             (omega (arith, size, from, below, u.collected)) one in
             differ (is_in (held u) p) there (ap (is_in (held u)) same
-            ∙ fresh r.lane.pages (held u) (own_pages x) taken_new j f low);
+            ∙ fresh r.pair.pages (held u) (own_pages x) taken_new j f low);
       }
 
   submitted : CanBeSent k
@@ -282,7 +286,7 @@ module _ {r : Run} {bells turns : ℕ} {b : Batch} {l l' : LaneFields} {now : �
       let x = sent_by r.geometry k l.serial o sub.prp1 sub.prp2 in
       let w = u.world in
       let ring : l.submission ≡ submit_ring t (length w.sent) (length w.answers) =
-      ap (λ (q : LaneFields). q.submission) u.lane
+      ap (λ (q : QueuePairFields). q.submission) u.pair
       ∙ ap (λ n. submit_ring t n b.collected) (sym u.sent)
       ∙ ap (submit_ring t (length w.sent)) (sym u.collected) in
       let put = sub.mem ∙ ap (λ q. with_submission sub.ready q (entry x)) ring in (
@@ -320,42 +324,42 @@ module _ {r : Run} {bells turns : ℕ} {b : Batch} {l l' : LaneFields} {now : �
     seven = sub.seven;
   }
 
-  lane_new : l' ≡ record {
+  pair_new : l' ≡ record {
     submission = submit_ring (setting_of r) (b.sent + 1) b.collected;
     completion = collect_ring (setting_of r) b.collected b.told;
     serial = serial_at r (b.sent + 1);
-    pages = without r.lane.pages (pages_of_all (drop b.collected
+    pages = without r.pair.pages (pages_of_all (drop b.collected
         (u.world.sent ++ sent_by r.geometry k l.serial o sub.prp1 sub.prp2 ∷ [])));
   }
-  lane_new =
+  pair_new =
       let t = setting_of r in
       let x = sent_by r.geometry k l.serial o sub.prp1 sub.prp2 in
       let xs = u.world.sent in
       let c = u.keeps.counts in
-      let pages : without (without r.lane.pages (held u)) (all_pages o) ≡ without r.lane.pages
+      let pages : without (without r.pair.pages (held u)) (all_pages o) ≡ without r.pair.pages
       (pages_of_all (drop b.collected (xs ++ x ∷ []))) =
-      without_also r.lane.pages (held u) (all_pages o)
-      ∙ ap (λ ps. without r.lane.pages (held u ++ ps)) (pages_are o sub.seven)
-      ∙ ap (without r.lane.pages) (sym (held_more xs x b.collected
+      without_also r.pair.pages (held u) (all_pages o)
+      ∙ ap (λ ps. without r.pair.pages (held u ++ ps)) (pages_are o sub.seven)
+      ∙ ap (without r.pair.pages) (sym (held_more xs x b.collected
       (omega (arith, c.collected, c.done, c.rung, u.sent, u.collected)))) in
-      sub.lane
-      ∙ ap (λ (q : LaneFields). record q {
+      sub.pair
+      ∙ ap (λ (q : QueuePairFields). record q {
         submission = submitted_one q.submission;
         serial = next_serial q.serial;
         pages = without q.pages (all_pages o);
-      }) u.lane
+      }) u.pair
       ∙ ap (λ n. record {
         submission = record { base = t.sq; depth = t.depth; submitted = n; known = number t b.collected };
         completion = collect_ring t b.collected b.told;
         serial = next_serial (serial_at r b.sent);
-        pages = without (without r.lane.pages (held u)) (all_pages o);
+        pages = without (without r.pair.pages (held u)) (all_pages o);
       }) (number_next t b.sent)
       ∙ ap (λ n. record {
         submission = submit_ring t (b.sent + 1) b.collected;
         completion = collect_ring t b.collected b.told;
         serial = n;
-        pages = without (without r.lane.pages (held u)) (all_pages o);
-      }) (serial_next r.lane.serial b.sent)
+        pages = without (without r.pair.pages (held u)) (all_pages o);
+      }) (serial_next r.pair.serial b.sent)
       ∙ ap (λ (p : Pages). record {
         submission = submit_ring t (b.sent + 1) b.collected;
         completion = collect_ring t b.collected b.told;
@@ -374,12 +378,12 @@ module _ {r : Run} {bells turns : ℕ} {b : Batch} {l l' : LaneFields} {now : �
       let w = u.world in
       let c = u.keeps.counts in
       let can = subst CanBeSent (sym (is k)) (u.can b.sent k below) in
-      let serial = ap (λ (q : LaneFields). q.serial) u.lane in
-      let size_of = length-from_serial r.lane.serial r.commands in
+      let serial = ap (λ (q : QueuePairFields). q.serial) u.pair in
+      let size_of = length-from_serial r.pair.serial r.commands in
       let at : numbered x ≡ record { command = get_or r.commands b.sent k; cid = serial_at r b.sent } =
       ap (λ q. record { command = q; cid = l.serial }) (is k)
       ∙ ap (λ i. record { command = get_or r.commands b.sent k; cid = i }) serial in
-      let next = command_at r.lane.serial b.sent r.commands (numbered x) k u.begun.laid.serial below in
+      let next = command_at r.pair.serial b.sent r.commands (numbered x) k u.begun.laid.serial below in
       record {
         begun = u.begun;
         can = u.can;
@@ -411,8 +415,8 @@ module _ {r : Run} {bells turns : ℕ} {b : Batch} {l l' : LaneFields} {now : �
             w.sent x
             (λ i e above low. kept_on i e above (omega (arith, u.sent))) (kept_new (length w.sent) u.sent)
             n d from (omega (arith, h, u.sent, length-append w.sent (x ∷ [])));
-        lane = lane_new;
-        taken = subst (AreTaken r.lane.pages) (sym
+        pair = pair_new;
+        taken = subst (AreTaken r.pair.pages) (sym
             (held_more w.sent x b.collected (omega (
               arith,
               c.collected,
@@ -421,15 +425,15 @@ module _ {r : Run} {bells turns : ℕ} {b : Batch} {l l' : LaneFields} {now : �
               u.sent,
               u.collected,
             ))))
-            (taken_also r.lane.pages (held u) (own_pages x) u.taken taken_new);
-        own = λ n d h. each_more (λ i y. All (λ p. IsOf r.lane.pages.first r.lane.pages.count p)
+            (taken_also r.pair.pages (held u) (own_pages x) u.taken taken_new);
+        own = λ n d h. each_more (λ i y. All (λ p. IsOf r.pair.pages.first r.pair.pages.count p)
             (own_pages y)) 0 w.sent x
             (λ i e from low. u.own i e (omega (arith, u.sent))) own_new n d (omega arith)
             (omega (arith, h, u.sent, length-append w.sent (x ∷ [])));
       }
 
 -- the same by the number that a loop has come to
-pub submits_at : {r : Run} {bells turns : ℕ} {b : Batch} {l l' : LaneFields} {now now' n : ℕ}
+pub submits_at : {r : Run} {bells turns : ℕ} {b : Batch} {l l' : QueuePairFields} {now now' n : ℕ}
     {bytes mem : List ℕ} {g : Geometry} {k : Command} {ks : List Command}
     {o : CommandPages} (u : IsUnderWay r bells turns b l now bytes) (e : Command) → b.sent ≡ n
     → b.sent < b.collected + r.geometry.window → g ≡ r.geometry

@@ -1,5 +1,7 @@
 -- The pages of several outstanding commands.
-use Rattle.std.proofs.Common.{◌≡◌, ◌≢◌, ◌∙◌, ℕ, zero, suc, ◌+◌, ◌-◌, ◌*◌, ◌<◌, ◌≤◌, ◌&&◌, ◌||◌, inl, inr, not, All, AllPairs, Bool, true, false, List, [], ◌∷◌, ◌++◌, add-one, ap, arith, get_or, length, length-append, nat_eq, refl, subst, sym, take}
+use Rattle.std.proofs.Common.{◌≡◌, ◌≢◌, ◌∙◌, ℕ, zero, suc, ◌+◌, ◌-◌, ◌*◌, ◌<◌, ◌≤◌, ◌&&◌, ◌||◌, inl, inr, not, All}
+use Rattle.std.proofs.Common.{AllPairs, Bool, true, false, List, [], ◌∷◌, ◌++◌, add-one, ap, arith, get_or, length}
+use Rattle.std.proofs.Common.{length-append, nat_eq, refl, subst, sym, take}
 use Rattle.std.proofs.Common.{length-take}
 use Rattle.std.proofs.Math.Seq.{take-length}
 use Rattle.std.proofs.lemmas.Bool.{cases_lt}
@@ -11,7 +13,8 @@ use Rattle.nv_host.specs.PageSets.{IsOf, Pages}
 use Rattle.nv_driver.specs.CommandPages.{AreTaken, with_pages, without}
 use Rattle.nv_driver.specs.Schedule.{Sent, own_pages}
 use Rattle.nv_driver.specs.UnderWay.{pages_of_all}
-use Rattle.nv_driver.proofs.PageSetLaws.{Taking, difference_in, in_all, in_of, is_in, not_in, same_numbers, taking_more, taking_none, union_in, without_none}
+use Rattle.nv_driver.proofs.PageSetLaws.{Taking, difference_in, in_all, in_of, is_in, not_in, same_numbers, taking_more}
+use Rattle.nv_driver.proofs.PageSetLaws.{taking_none, union_in, without_none}
 
 -- ---- lists of pages, one after the other
 

@@ -1,4 +1,4 @@
--- A lane's completion ring is zeroed.
+-- A queue pair's completion ring is zeroed.
 use Rattle.std.specs.Prelude.{replicate}
 use Rattle.std.proofs.Common.{◌≡◌, ◌∙◌, ℕ, ◌+◌, ◌*◌, ◌≤◌, List, ap, arith, inl, inr, length}
 use Rattle.std.proofs.Math.Nat.{mul-le-mul_right}
@@ -6,25 +6,25 @@ use Rattle.std.proofs.lemmas.List.{length-replicate}
 use Rattle.nv_host.specs.Bytes.{bytes_at, with_bytes}
 use Rattle.nv_host.proofs.BytesLaws.{bytes_at-with_after, bytes_at-with_before, length-with_bytes}
 use Rattle.nv_driver.specs.Exchange.{KeepsOthers}
-use Rattle.nv_driver.specs.Lane.{IsLaid, Lane}
-use Rattle.nv_driver.specs.Quiet.{IsQuiet, lane_value}
-use Rattle.nv_driver.specs.declared.lane.Lane.{Lane as LaneFields}
+use Rattle.nv_driver.specs.QueuePair.{IsLaid, QueuePair}
+use Rattle.nv_driver.specs.Quiet.{IsQuiet, pair_value}
+use Rattle.nv_driver.specs.declared.queue_pair.QueuePair.{QueuePair as QueuePairFields}
 
 -- its bytes are zeros
-abbrev pub zeros : LaneFields → List ℕ
+abbrev pub zeros : QueuePairFields → List ℕ
 zeros l = replicate (16 * l.completion.depth) 0
 
 -- the ring lies between the submission ring and the pages
-pub record RingLies (page_size size : ℕ) (l : LaneFields) (v : Lane) : Type 0 where
+pub record RingLies (page_size size : ℕ) (l : QueuePairFields) (v : QueuePair) : Type 0 where
   pub low : v.sq ≤ l.completion.base
   pub high : l.completion.base + length (zeros l) ≤ (v.first_page + v.page_count) * page_size
   pub inside : l.completion.base + length (zeros l) ≤ size
 
-ring_lies : {page_size size : ℕ} {l : LaneFields} {v : Lane} → IsQuiet l → lane_value l ≡ v
+ring_lies : {page_size size : ℕ} {l : QueuePairFields} {v : QueuePair} → IsQuiet l → pair_value l ≡ v
     → IsLaid page_size size v → RingLies page_size size l v
 ring_lies {page_size} {size} {l} {v} quiet is laid =
-    let cq = ap (λ (u : Lane). u.cq) is in
-    let depth = quiet.depth ∙ ap (λ (u : Lane). u.depth) is in
+    let cq = ap (λ (u : QueuePair). u.cq) is in
+    let depth = quiet.depth ∙ ap (λ (u : QueuePair). u.depth) is in
     let many = length-replicate {A = ℕ} (16 * l.completion.depth) 0 in
     let least : v.first_page ≤ v.first_page + v.page_count = omega arith in
     let pages = mul-le-mul_right page_size least in
@@ -34,15 +34,15 @@ ring_lies {page_size} {size} {l} {v} quiet is laid =
       inside = omega (arith, laid.pages, laid.inside, cq, depth, many, pages);
     }
 
-pub zeroed_length : {page_size : ℕ} {l : LaneFields} {v : Lane} (old new : List ℕ) → IsQuiet l
-    → lane_value l ≡ v → IsLaid page_size (length old) v
+pub zeroed_length : {page_size : ℕ} {l : QueuePairFields} {v : QueuePair} (old new : List ℕ) → IsQuiet l
+    → pair_value l ≡ v → IsLaid page_size (length old) v
     → new ≡ with_bytes old l.completion.base (zeros l) → length new ≡ length old
 zeroed_length {page_size} {l} {v} old new quiet is laid zeroed =
     ap (λ (bs : List ℕ). length bs) zeroed ∙ length-with_bytes old l.completion.base (zeros l)
     (ring_lies quiet is laid).inside
 
-pub zeroed_others : {page_size : ℕ} {l : LaneFields} {v : Lane} (old new : List ℕ) → IsQuiet l
-    → lane_value l ≡ v → IsLaid page_size (length old) v
+pub zeroed_others : {page_size : ℕ} {l : QueuePairFields} {v : QueuePair} (old new : List ℕ) → IsQuiet l
+    → pair_value l ≡ v → IsLaid page_size (length old) v
     → new ≡ with_bytes old l.completion.base (zeros l) → KeepsOthers page_size v old new
 zeroed_others {page_size} {l} {v} old new quiet is laid zeroed from n apart =
     let lies = ring_lies quiet is laid in

@@ -4,61 +4,61 @@ use Rattle.std.specs.Prelude.{slice_set}
 use Rattle.nv_host.specs.Pages.{PagedBytes}
 use Rattle.nv_driver.specs.Exchange.{after_one, after_some}
 use Rattle.nv_driver.specs.Geometry.{IsGeometry}
-use Rattle.nv_driver.specs.Lane.{Lane, renewed_lane}
-use Rattle.nv_driver.specs.Layout.{lane_of, lanes_of, pages_of}
-use Rattle.nv_driver.specs.Quiet.{IsQuiet, lane_value}
+use Rattle.nv_driver.specs.QueuePair.{QueuePair, renewed_pair}
+use Rattle.nv_driver.specs.Layout.{pair_of, pairs_of, pages_of}
+use Rattle.nv_driver.specs.Quiet.{IsQuiet, pair_value}
 use Rattle.nv_driver.specs.Settled.{DriverValue, IsSettled}
 use Rattle.nv_driver.specs.declared.geometry.Geometry.{Geometry}
-use Rattle.nv_driver.specs.declared.lane.Lane.{Lane as LaneFields}
+use Rattle.nv_driver.specs.declared.queue_pair.QueuePair.{QueuePair as QueuePairFields}
 
 -- how many pages a memory has
 abbrev pub page_count : PagedBytes → ℕ
 page_count mem = length mem.bytes / mem.page_size
 
-abbrev pub driver_value : Geometry → PagedBytes → List LaneFields → DriverValue
-driver_value g mem lanes =
-    record { geometry = g; pages = page_count mem; lanes = map lane_value lanes }
+abbrev pub driver_value : Geometry → PagedBytes → List QueuePairFields → DriverValue
+driver_value g mem pairs =
+    record { geometry = g; pages = page_count mem; pairs = map pair_value pairs }
 
 -- a driver that was brought up for so many controllers
 abbrev pub new_driver : Geometry → ℕ → DriverValue
 new_driver g controllers =
-    record { geometry = g; pages = pages_of g controllers; lanes = lanes_of g controllers }
+    record { geometry = g; pages = pages_of g controllers; pairs = pairs_of g controllers }
 
--- a lane lies where it was laid first; only its number and its serial change
-abbrev pub IsPlaced : Geometry → ℕ → Lane → Type 0
-IsPlaced g i l = l ≡ record (lane_of g i) { number = l.number; serial = l.serial }
+-- a queue pair lies where it was laid first; only its number and its serial change
+abbrev pub IsPlaced : Geometry → ℕ → QueuePair → Type 0
+IsPlaced g i l = l ≡ record (pair_of g i) { number = l.number; serial = l.serial }
 
-pub record IsDriver (g : Geometry) (mem : PagedBytes) (lanes : List LaneFields) : Type 0 where
+pub record IsDriver (g : Geometry) (mem : PagedBytes) (pairs : List QueuePairFields) : Type 0 where
   pub geometry : IsGeometry g
   pub page_size : mem.page_size ≡ g.page_size
   pub whole : page_count mem * mem.page_size ≡ length mem.bytes
   pub numbered : page_count mem < 2 ^ 32
-  pub quiet : All IsQuiet lanes
-  pub placed : (i : ℕ) (d : Lane) → i < length lanes
-      → IsPlaced g i (slice_index_or (map lane_value lanes) i d)
-  pub settled : IsSettled mem.page_size mem.bytes (map lane_value lanes)
+  pub quiet : All IsQuiet pairs
+  pub placed : (i : ℕ) (d : QueuePair) → i < length pairs
+      → IsPlaced g i (slice_index_or (map pair_value pairs) i d)
+  pub settled : IsSettled mem.page_size mem.bytes (map pair_value pairs)
 
 -- ---- a command
 
--- no lane of a driver
-abbrev pub no_lane : Lane
-no_lane =
+-- no queue pair of a driver
+abbrev pub no_pair : QueuePair
+no_pair =
     record { sq = 0; cq = 0; depth = 0; number = 0; serial = 0; first_page = 0; page_count = 0 }
 
-abbrev pub lane_at : List Lane → ℕ → Lane
-lane_at lanes c = slice_index_or lanes c no_lane
+abbrev pub pair_at : List QueuePair → ℕ → QueuePair
+pair_at pairs c = slice_index_or pairs c no_pair
 
 -- the driver after a command of controller c: the next number and the next command identifier of
--- its lane are due
+-- its queue pair are due
 abbrev pub after_command : DriverValue → ℕ → DriverValue
-after_command d c = record d { lanes = slice_set d.lanes c (after_one (lane_at d.lanes c)) }
+after_command d c = record d { pairs = slice_set d.pairs c (after_one (pair_at d.pairs c)) }
 
 -- and after so many commands
 abbrev pub after_commands : DriverValue → ℕ → ℕ → DriverValue
-after_commands d c n = record d { lanes = slice_set d.lanes c (after_some n (lane_at d.lanes c)) }
+after_commands d c n = record d { pairs = slice_set d.pairs c (after_some n (pair_at d.pairs c)) }
 
 -- ---- a reset
 
 -- the driver after a reset of controller c
 abbrev pub after_reset : DriverValue → ℕ → DriverValue
-after_reset d c = record d { lanes = slice_set d.lanes c (renewed_lane (lane_at d.lanes c)) }
+after_reset d c = record d { pairs = slice_set d.pairs c (renewed_pair (pair_at d.pairs c)) }

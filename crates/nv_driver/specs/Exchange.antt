@@ -1,4 +1,4 @@
--- What commands of a driver need of a lane, and what they leave.
+-- What commands of a driver need of a queue pair, and what they leave.
 use Rattle.std.specs.Prelude.{◌≡◌, ℕ, ◌+◌, ◌-◌, ◌*◌, ◌%◌, ◌<◌, ◌≤◌, List, length}
 use Rattle.nv_host.specs.Bytes.{bytes_at}
 use Rattle.nv_prp.specs.Buffer.{IsApart}
@@ -6,42 +6,42 @@ use Rattle.nv_queue.specs.Numbers.{kept_number, next}
 use Rattle.nv_queue.specs.Slots.{HoldsTags}
 use Rattle.nv_model.specs.Step.{next_serial}
 use Rattle.nv_model.specs.Numbers.{serial_count}
-use Rattle.nv_bus.specs.Bus.{BusValue, IsBus, port_at}
+use Rattle.nv_bus.specs.Bus.{BusValue, IsBus, bank_at}
 use Rattle.nv_driver.specs.Geometry.{IsGeometry}
-use Rattle.nv_driver.specs.Lane.{IsLaid, Lane, idle_port}
+use Rattle.nv_driver.specs.QueuePair.{IsLaid, QueuePair, idle_bank}
 use Rattle.nv_driver.specs.Layout.{pages_of_command}
-use Rattle.nv_driver.specs.Quiet.{IsQuiet, lane_value}
+use Rattle.nv_driver.specs.Quiet.{IsQuiet, pair_value}
 use Rattle.nv_driver.specs.Registers.{mps_of}
 use Rattle.nv_driver.specs.Settled.{end_of}
 use Rattle.nv_driver.specs.declared.geometry.Geometry.{Geometry}
-use Rattle.nv_driver.specs.declared.lane.Lane.{Lane as LaneFields}
+use Rattle.nv_driver.specs.declared.queue_pair.QueuePair.{QueuePair as QueuePairFields}
 
--- controller c of a bus and a quiet lane of it, with pages for each command of the window, in a
+-- controller c of a bus and a quiet queue pair of it, with pages for each command of the window, in a
 -- memory that holds the tags that are due
-pub record IsReady (g : Geometry) (b : BusValue) (c : ℕ) (l : LaneFields) (now : ℕ)
+pub record IsReady (g : Geometry) (b : BusValue) (c : ℕ) (l : QueuePairFields) (now : ℕ)
     (bytes : List ℕ) : Type 0 where
   pub geometry : IsGeometry g
   pub page_size : now ≡ g.page_size
   pub depth : l.submission.depth ≡ g.depth
   pub room : g.window * pages_of_command g.page_size ≤ l.pages.count
   pub quiet : IsQuiet l
-  pub laid : IsLaid g.page_size (length bytes) (lane_value l)
+  pub laid : IsLaid g.page_size (length bytes) (pair_value l)
   pub tags : HoldsTags bytes l.completion.base l.submission.depth l.submission.submitted
-  pub controller : c < length b.ports
+  pub controller : c < length b.banks
   pub bus : IsBus b
-  pub port : port_at b.ports c ≡ idle_port (mps_of g.page_size) g.page_size (lane_value l)
+  pub bank : bank_at b.banks c ≡ idle_bank (mps_of g.page_size) g.page_size (pair_value l)
 
--- the lane after a command
-abbrev pub after_one : Lane → Lane
+-- the queue pair after a command
+abbrev pub after_one : QueuePair → QueuePair
 after_one l = record l { number = next l.depth l.number; serial = next_serial l.serial }
 
 -- and after so many
-abbrev pub after_some : ℕ → Lane → Lane
+abbrev pub after_some : ℕ → QueuePair → QueuePair
 after_some n l =
     record l { number = kept_number l.depth (l.number + n); serial = (l.serial + n) % serial_count }
 
--- bytes outside the lane stay
-abbrev pub KeepsOthers : ℕ → Lane → List ℕ → List ℕ → Type 0
+-- bytes outside the queue pair stay
+abbrev pub KeepsOthers : ℕ → QueuePair → List ℕ → List ℕ → Type 0
 KeepsOthers page_size l old new =
     (from n : ℕ) → IsApart l.sq (end_of page_size l - l.sq) from n → bytes_at new from n
     ≡ bytes_at old from n

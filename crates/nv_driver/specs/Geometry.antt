@@ -21,15 +21,15 @@ unfoldable pub is_window : ℕ → ℕ → Bool
 is_window depth x = is_between 1 16 x && nat_lt x depth
 
 -- whether a field keeps its limits
-pub record Row : Type 0 where
+pub record GeometryRow : Type 0 where
   pub field : GeometryField
   pub keeps : Bool
 
-abbrev pub row : GeometryField → Bool → Row
+abbrev pub row : GeometryField → Bool → GeometryRow
 row field keeps = record { field = field; keeps = keeps }
 
 -- the fields in order
-abbrev pub rows_of : Geometry → List Row
+abbrev pub rows_of : Geometry → List GeometryRow
 rows_of g =
     row Depth (is_between 2 4096 g.depth)
     ∷ row PageSize (is_page_size g.page_size)
@@ -39,7 +39,7 @@ rows_of g =
     ∷ row Pace (is_between 1 4096 g.pace)
     ∷ []
 
-abbrev pub first_fault : List Row → Option GeometryField
+abbrev pub first_fault : List GeometryRow → Option GeometryField
 first_fault [] = None
 first_fault (r ∷ rows) = if r.keeps then first_fault rows else Some r.field
 

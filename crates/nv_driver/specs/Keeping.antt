@@ -11,7 +11,7 @@ use Rattle.nv_model.specs.WellFormed.{IsWellFormed}
 use Rattle.nv_driver.specs.Schedule.{AreApart, AreOthers, AreOutside, CanBeSent, Holds, HoldsSent}
 use Rattle.nv_driver.specs.Schedule.{Sent, Setting, StaysNamed, World, after, answers_to}
 use Rattle.nv_driver.specs.Schedule.{data_length, device_rings, entry, number, own_pages, places}
-use Rattle.nv_driver.specs.Schedule.{port_with, slot}
+use Rattle.nv_driver.specs.Schedule.{bank_with, slot}
 
 -- the rings lie in a memory of this size, apart from each other
 pub record HasRings (t : Setting) (size : ℕ) : Type 0 where
@@ -45,7 +45,7 @@ pub record AreInOrder (depth k d r m h : ℕ) : Type 0 where
 pub record Keeps (t : Setting) (s : State) (w : World) : Type 0 where
   pub placed : HasRings t (length w.mem)
   pub counts : AreInOrder t.depth (length w.answers) w.done w.rung (length w.sent) w.told
-  pub port : w.port ≡ port_with t (device_rings t w.rung w.done w.told)
+  pub bank : w.bank ≡ bank_with t (device_rings t w.rung w.done w.told)
   pub state : w.state ≡ after t.controller s (take w.done w.sent)
   pub well_formed : IsWellFormed w.state
   pub controller : t.controller < length w.state.controllers

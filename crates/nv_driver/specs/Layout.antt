@@ -3,7 +3,7 @@
 use Rattle.std.specs.Prelude.{ℕ, ◌+◌, ◌*◌, List, map}
 use Rattle.std.specs.Int.{div_ceil}
 use Rattle.std.specs.List.{range_with_len}
-use Rattle.nv_driver.specs.Lane.{Lane}
+use Rattle.nv_driver.specs.QueuePair.{QueuePair}
 use Rattle.nv_driver.specs.declared.geometry.Geometry.{Geometry}
 
 -- how many pages a ring of so many slots takes, of 64 bytes for submissions and of 16 for
@@ -23,24 +23,24 @@ pages_of_command page_size = div_ceil 16384 page_size + 3
 unfoldable pub set_pages : Geometry → ℕ
 set_pages g = g.window * pages_of_command g.page_size
 
-abbrev pub lane_pages : Geometry → ℕ
-lane_pages g = submission_pages g + completion_pages g + set_pages g
+abbrev pub pair_pages : Geometry → ℕ
+pair_pages g = submission_pages g + completion_pages g + set_pages g
 
 -- of all controllers
 abbrev pub pages_of : Geometry → ℕ → ℕ
-pages_of g controllers = controllers * lane_pages g
+pages_of g controllers = controllers * pair_pages g
 
--- the lane of controller i before its first command
-abbrev pub lane_of : Geometry → ℕ → Lane
-lane_of g i = record {
-  sq = i * lane_pages g * g.page_size;
-  cq = (i * lane_pages g + submission_pages g) * g.page_size;
+-- the queue pair of controller i before its first command
+abbrev pub pair_of : Geometry → ℕ → QueuePair
+pair_of g i = record {
+  sq = i * pair_pages g * g.page_size;
+  cq = (i * pair_pages g + submission_pages g) * g.page_size;
   depth = g.depth;
   number = 0;
   serial = 0;
-  first_page = i * lane_pages g + submission_pages g + completion_pages g;
+  first_page = i * pair_pages g + submission_pages g + completion_pages g;
   page_count = set_pages g;
 }
 
-abbrev pub lanes_of : Geometry → ℕ → List Lane
-lanes_of g controllers = map (lane_of g) (range_with_len 0 controllers)
+abbrev pub pairs_of : Geometry → ℕ → List QueuePair
+pairs_of g controllers = map (pair_of g) (range_with_len 0 controllers)

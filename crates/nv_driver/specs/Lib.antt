@@ -1,6 +1,6 @@
 pub mod Geometry
 pub mod Names
-pub mod Lane
+pub mod QueuePair
 pub mod Layout
 pub mod Quiet
 pub mod Settled

@@ -8,7 +8,7 @@ use Rattle.nv_driver.specs.declared.batch.Batch.{Batch}
 abbrev pub taken_by_turn : Run → Batch → ℕ
 taken_by_turn r b =
     min b.geometry.pace
-    (min (b.sent - b.collected) (r.lane.submission.depth - 1 - (b.collected - b.told)))
+    (min (b.sent - b.collected) (r.pair.submission.depth - 1 - (b.collected - b.told)))
 
 -- fewer answers than the pace are collected of which the controller wasn't told
 abbrev pub IsToldInTime : Batch → Type 0

@@ -2,11 +2,11 @@
 use Rattle.std.specs.Prelude.{◌≡◌, false}
 use Rattle.std.specs.FinSet as set
 use Rattle.nv_host.specs.PageSets.{consecutive}
-use Rattle.nv_driver.specs.Lane.{Lane}
-use Rattle.nv_driver.specs.declared.lane.Lane.{Lane as LaneFields}
+use Rattle.nv_driver.specs.QueuePair.{QueuePair}
+use Rattle.nv_driver.specs.declared.queue_pair.QueuePair.{QueuePair as QueuePairFields}
 
 -- all numbers are that of the next command, and no page is in use
-pub record IsQuiet (l : LaneFields) : Type 0 where
+pub record IsQuiet (l : QueuePairFields) : Type 0 where
   pub depth : l.completion.depth ≡ l.submission.depth
   pub known : l.submission.known ≡ l.submission.submitted
   pub collected : l.completion.collected ≡ l.submission.submitted
@@ -14,8 +14,8 @@ pub record IsQuiet (l : LaneFields) : Type 0 where
   pub untold : l.completion.untold ≡ false
   pub free : l.pages.members ≡ set.from_list (consecutive l.pages.first l.pages.count)
 
-abbrev pub lane_value : LaneFields → Lane
-lane_value l = record {
+abbrev pub pair_value : QueuePairFields → QueuePair
+pair_value l = record {
   sq = l.submission.base;
   cq = l.completion.base;
   depth = l.submission.depth;

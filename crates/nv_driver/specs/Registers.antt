@@ -1,22 +1,22 @@
 -- What a driver's controllers have in their registers.
 use Rattle.std.specs.Prelude.{◌≡◌, ℕ, ◌-◌, ◌==◌, List, map, if◌then◌else◌}
-use Rattle.nv_register.specs.Port.{with_register_at}
-use Rattle.nv_register.specs.declared.port.Port.{Port}
+use Rattle.nv_register.specs.RegisterBank.{with_register_at}
+use Rattle.nv_register.specs.declared.register_bank.RegisterBank.{RegisterBank}
 use Rattle.nv_register.specs.declared.readiness.Readiness.TheVariants.{Off}
-use Rattle.nv_driver.specs.Lane.{Lane, idle_port}
+use Rattle.nv_driver.specs.QueuePair.{QueuePair, idle_bank}
 use Rattle.nv_driver.specs.Settled.{DriverValue}
 
 -- EN is cleared
-abbrev pub disabled : Port → Port
+abbrev pub disabled : RegisterBank → RegisterBank
 disabled p = with_register_at p 0x14 0
 
 -- queues of so many entries, less one, at these addresses
-abbrev pub with_queues : Port → ℕ → ℕ → ℕ → Port
+abbrev pub with_queues : RegisterBank → ℕ → ℕ → ℕ → RegisterBank
 with_queues p less_one sq cq =
     record p { aqa = record { asqs = less_one; acqs = less_one }; asq = sq; acq = cq }
 
--- a controller that is off, with the queues of a lane
-pub record HasQueues (l : Lane) (p : Port) : Type 0 where
+-- a controller that is off, with the queues of a queue pair
+pub record HasQueues (l : QueuePair) (p : RegisterBank) : Type 0 where
   pub off : p.readiness ≡ Off
   pub aqa : p.aqa ≡ record { asqs = l.depth - 1; acqs = l.depth - 1 }
   pub asq : p.asq ≡ l.sq
@@ -28,9 +28,9 @@ mps_of page_size =
     if page_size == 4096 then 0 else if page_size == 8192 then 1
     else if page_size == 16384 then 2 else if page_size == 32768 then 3 else 4
 
-abbrev pub idle_ports : ℕ → List Lane → List Port
-idle_ports page_size lanes = map (idle_port (mps_of page_size) page_size) lanes
+abbrev pub idle_banks : ℕ → List QueuePair → List RegisterBank
+idle_banks page_size pairs = map (idle_bank (mps_of page_size) page_size) pairs
 
 -- of each controller, with no command outstanding
-abbrev pub ports_of : DriverValue → List Port
-ports_of d = idle_ports d.geometry.page_size d.lanes
+abbrev pub banks_of : DriverValue → List RegisterBank
+banks_of d = idle_banks d.geometry.page_size d.pairs

@@ -10,7 +10,7 @@ use Rattle.nv_layout.specs.declared.sqe.Sqe.{Sqe}
 use Rattle.nv_layout.specs.declared.status.Status.{Status}
 use Rattle.nv_prp.specs.Buffer.{IsApart, IsBuffer, IsListPlace, IsOutside, StaysFor, buffer_places}
 use Rattle.nv_prp.specs.Place.{AreDistinct, read_at}
-use Rattle.nv_prp.specs.Transfer.{Transfer as Pointed, transfer}
+use Rattle.nv_prp.specs.Transfer.{PrpTransfer, transfer}
 use Rattle.nv_queue.specs.Numbers.{IsDepth, kept_number, slot_of}
 use Rattle.nv_queue.specs.Rings.{CollectNumbers, SubmitNumbers}
 use Rattle.nv_queue.specs.Slots.{HoldsTags, IsAwaitedThere, awaited_completion, completion_at}
@@ -23,14 +23,14 @@ use Rattle.nv_command.specs.declared.command.Command.{Command}
 use Rattle.nv_command.specs.declared.reply.Reply.{Reply}
 use Rattle.nv_command.specs.declared.transfer.Transfer.{Transfer}
 use Rattle.nv_command.specs.declared.transfer.Transfer.TheVariants.{FromHost, NoData, ToHost}
-use Rattle.nv_register.specs.Port.{with_register_at}
-use Rattle.nv_register.specs.declared.port.Port.{Port}
+use Rattle.nv_register.specs.RegisterBank.{with_register_at}
+use Rattle.nv_register.specs.declared.register_bank.RegisterBank.{RegisterBank}
 use Rattle.nv_register.specs.declared.rings.Rings.{Rings}
 use Rattle.nv_model.specs.State.{State}
 use Rattle.nv_model.specs.Step.{step}
 use Rattle.nv_model.specs.WellFormed.{IsWellFormed}
 use Rattle.nv_bus.specs.Call.{length_of, sent_from}
-use Rattle.nv_bus.specs.Turn.{PortTurn, ready_port, site}
+use Rattle.nv_bus.specs.Turn.{BankTurn, ready_bank, site}
 
 -- ---- commands, one at a time
 
@@ -89,7 +89,7 @@ pub record Setting : Type 0 where
   pub cq : ℕ
   pub depth : ℕ
   pub start : ℕ
-  pub port : Port
+  pub bank : RegisterBank
 
 -- The memory, the subsystem, the controller's registers, the commands that were sent, and the
 -- answers that were collected. Of the commands so many were told by the tail doorbell, so many were
@@ -97,7 +97,7 @@ pub record Setting : Type 0 where
 pub record World : Type 0 where
   pub mem : List ℕ
   pub state : State
-  pub port : Port
+  pub bank : RegisterBank
   pub sent : List Sent
   pub rung : ℕ
   pub done : ℕ
@@ -135,8 +135,8 @@ device_rings t rung done told = record {
       record { base = t.cq; depth = t.depth; posted = number t done; told = number t told };
 }
 
-abbrev pub port_with : Setting → Rings → Port
-port_with t rings = ready_port t.port rings false
+abbrev pub bank_with : Setting → Rings → RegisterBank
+bank_with t rings = ready_bank t.bank rings false
 
 -- ---- submitting
 
@@ -192,7 +192,7 @@ HoldsSent page_size x mem =
     sent_from (transfer_by x.command) mem (places page_size x) ≡ host_data_of x.command
 
 -- the transfer of a command's data that its data pointer describes
-abbrev pub pointed : ℕ → Sent → List ℕ → Pointed
+abbrev pub pointed : ℕ → Sent → List ℕ → PrpTransfer
 pointed page_size x mem = transfer page_size mem x.prp1 x.prp2 (data_length x)
 
 -- the data pointer, if the command has data, names the places of the data while its list stays as
@@ -271,13 +271,13 @@ Happens t (Submit x) w w' =
     })
 Happens t Bell w w' =
     w' ≡ record w {
-      port = with_register_at w.port 0x1000 (slot t (length w.sent));
+      bank = with_register_at w.bank 0x1000 (slot t (length w.sent));
       rung = length w.sent;
     }
 Happens t (Turn most) w w' =
-    (count : ℕ) × PortTurn t.page_size t.controller most count (site w.state w.port w.mem)
-    (site w'.state w'.port w'.mem)
-    × (w' ≡ record w { mem = w'.mem; state = w'.state; port = w'.port; done = w.done + count })
+    (count : ℕ) × BankTurn t.page_size t.controller most count (site w.state w.bank w.mem)
+    (site w'.state w'.bank w'.mem)
+    × (w' ≡ record w { mem = w'.mem; state = w'.state; bank = w'.bank; done = w.done + count })
 Happens t Collect w w' =
     (IsAwaitedThere w.mem (awaited t w) × (d : Sent)
     × (w' ≡ record w {
@@ -287,7 +287,7 @@ Happens t Collect w w' =
     ⊎ ((¬ IsAwaitedThere w.mem (awaited t w)) × (w' ≡ w))
 Happens t Tell w w' =
     w' ≡ record w {
-      port = with_register_at w.port 0x1004 (slot t (length w.answers));
+      bank = with_register_at w.bank 0x1004 (slot t (length w.answers));
       told = length w.answers;
     }
 Happens t Elsewhere w w' =
@@ -309,7 +309,7 @@ pub record IsIdle (t : Setting) (w : World) : Type 0 where
   pub submissions : t.sq + 64 * t.depth ≤ length w.mem
   pub completions : t.cq + 16 * t.depth ≤ length w.mem
   pub tags : HoldsTags w.mem t.cq t.depth t.start
-  pub port : w.port ≡ port_with t (device_rings t 0 0 0)
+  pub bank : w.bank ≡ bank_with t (device_rings t 0 0 0)
   pub state : IsWellFormed w.state
   pub controller : t.controller < length w.state.controllers
   pub sent : w.sent ≡ []

@@ -12,7 +12,7 @@ use Rattle.nv_driver.specs.Layout.{pages_of_command}
 use Rattle.nv_driver.specs.Schedule.{IsPrepared, Sent, data_length, entry}
 use Rattle.nv_driver.specs.declared.command_pages.CommandPages.{CommandPages}
 use Rattle.nv_driver.specs.declared.geometry.Geometry.{Geometry}
-use Rattle.nv_driver.specs.declared.lane.Lane.{Lane as LaneFields}
+use Rattle.nv_driver.specs.declared.queue_pair.QueuePair.{QueuePair as QueuePairFields}
 
 -- the command with its pages and its data pointer
 abbrev pub sent_by : Geometry → Command → ℕ → CommandPages → ℕ → ℕ → Sent
@@ -30,7 +30,7 @@ sent_by g k cid own prp1 prp2 = record {
 
 -- it took its pages, they were made ready, and its entry was put in the ring; a command without
 -- data has no data pointer
-pub record IsSubmitted (g : Geometry) (k : Command) (own : CommandPages) (old new : LaneFields)
+pub record IsSubmitted (g : Geometry) (k : Command) (own : CommandPages) (old new : QueuePairFields)
     (before after : List ℕ) : Type 0 where
   pub prp1 : ℕ
   pub prp2 : ℕ
@@ -44,7 +44,7 @@ pub record IsSubmitted (g : Geometry) (k : Command) (own : CommandPages) (old ne
   pub pointer : length_of (transfer_by k) ≡ 0 → (prp1 ≡ 0) × (prp2 ≡ 0)
   pub mem : after
       ≡ with_submission ready old.submission (entry (sent_by g k old.serial own prp1 prp2))
-  pub lane : new ≡ record old {
+  pub pair : new ≡ record old {
     submission = submitted_one old.submission;
     serial = next_serial old.serial;
     pages = without old.pages (all_pages own);

@@ -5,26 +5,26 @@ use Rattle.std.specs.Prelude.{slice_set, take}
 use Rattle.nv_host.specs.PageSets.{IsOf}
 use Rattle.nv_command.specs.declared.command.Command.{Command}
 use Rattle.nv_model.specs.Numbers.{serial_count}
-use Rattle.nv_bus.specs.Bus.{BusValue, IsBus, port_at}
+use Rattle.nv_bus.specs.Bus.{BusValue, IsBus, bank_at}
 use Rattle.nv_driver.specs.Batch.{answers_of, from_serial, state_after}
 use Rattle.nv_driver.specs.CommandPages.{AreTaken, without}
 use Rattle.nv_driver.specs.Exchange.{IsReady}
 use Rattle.nv_driver.specs.Keeping.{Keeps, OthersStay}
-use Rattle.nv_driver.specs.Lane.{Lane, idle_port}
+use Rattle.nv_driver.specs.QueuePair.{QueuePair, idle_bank}
 use Rattle.nv_driver.specs.Layout.{pages_of_command}
-use Rattle.nv_driver.specs.Quiet.{lane_value}
+use Rattle.nv_driver.specs.Quiet.{pair_value}
 use Rattle.nv_driver.specs.Registers.{mps_of}
 use Rattle.nv_driver.specs.Schedule.{Answer, CanBeSent, Numbered, Sent, Setting, World}
-use Rattle.nv_driver.specs.Schedule.{collect_ring, device_rings, numbered, own_pages, port_with}
+use Rattle.nv_driver.specs.Schedule.{collect_ring, device_rings, numbered, own_pages, bank_with}
 use Rattle.nv_driver.specs.Schedule.{submit_ring}
 use Rattle.nv_driver.specs.Submitting.{sent_by}
 use Rattle.nv_driver.specs.declared.batch.Batch.{Batch}
 use Rattle.nv_driver.specs.declared.command_pages.CommandPages.{CommandPages}
 use Rattle.nv_driver.specs.declared.geometry.Geometry.{Geometry}
-use Rattle.nv_driver.specs.declared.lane.Lane.{Lane as LaneFields}
+use Rattle.nv_driver.specs.declared.queue_pair.QueuePair.{QueuePair as QueuePairFields}
 
--- the schedule of a lane's controller from its next command on
-abbrev pub setting : Geometry → ℕ → Lane → Setting
+-- the schedule of a queue pair's controller from its next command on
+abbrev pub setting : Geometry → ℕ → QueuePair → Setting
 setting g c l = record {
   controller = c;
   page_size = g.page_size;
@@ -32,31 +32,31 @@ setting g c l = record {
   cq = l.cq;
   depth = l.depth;
   start = l.number;
-  port = idle_port (mps_of g.page_size) g.page_size l;
+  bank = idle_bank (mps_of g.page_size) g.page_size l;
 }
 
--- what a run begins with: the controller's bus, its lane and the memory, and the commands
+-- what a run begins with: the controller's bus, its queue pair and the memory, and the commands
 pub record Run : Type 0 where
   pub geometry : Geometry
   pub controller : ℕ
   pub bus : BusValue
-  pub lane : LaneFields
+  pub pair : QueuePairFields
   pub bytes : List ℕ
   pub commands : List Command
 
-abbrev pub run_of : Geometry → ℕ → BusValue → LaneFields → List ℕ → List Command → Run
+abbrev pub run_of : Geometry → ℕ → BusValue → QueuePairFields → List ℕ → List Command → Run
 run_of g c b l bytes commands =
-    record { geometry = g; controller = c; bus = b; lane = l; bytes = bytes; commands = commands }
+    record { geometry = g; controller = c; bus = b; pair = l; bytes = bytes; commands = commands }
 
 abbrev pub setting_of : Run → Setting
-setting_of r = setting r.geometry r.controller (lane_value r.lane)
+setting_of r = setting r.geometry r.controller (pair_value r.pair)
 
 -- its commands under their command identifiers, and that of command n
 abbrev pub numbered_of : Run → List Numbered
-numbered_of r = from_serial r.lane.serial r.commands
+numbered_of r = from_serial r.pair.serial r.commands
 
 abbrev pub serial_at : Run → ℕ → ℕ
-serial_at r n = (r.lane.serial + n) % serial_count
+serial_at r n = (r.pair.serial + n) % serial_count
 
 -- the pages of commands, one after the other
 abbrev pub pages_of_all : List Sent → List ℕ
@@ -76,9 +76,9 @@ abbrev pub kept_at : Batch → ℕ → Option CommandPages
 kept_at b n = slice_index_or b.outstanding (n % 16) None
 
 -- of its commands so many were told by the tail doorbell, and so many were done by turns
-pub record IsUnderWay (r : Run) (bells turns : ℕ) (b : Batch) (l : LaneFields) (now : ℕ)
+pub record IsUnderWay (r : Run) (bells turns : ℕ) (b : Batch) (l : QueuePairFields) (now : ℕ)
     (bytes : List ℕ) : Type 0 where
-  pub begun : IsReady r.geometry r.bus r.controller r.lane r.geometry.page_size r.bytes
+  pub begun : IsReady r.geometry r.bus r.controller r.pair r.geometry.page_size r.bytes
   pub can : All CanBeSent r.commands
   pub geometry : b.geometry ≡ r.geometry
   pub controller : b.ctrl ≡ r.controller
@@ -99,30 +99,30 @@ pub record IsUnderWay (r : Run) (bells turns : ℕ) (b : Batch) (l : LaneFields)
   pub commands : map numbered world.sent ≡ take b.sent (numbered_of r)
   pub kept : (n : ℕ) (d : Sent) → b.collected ≤ n → n < b.sent
       → IsKept r (kept_at b n) (slice_index_or world.sent n d)
-  pub lane : l ≡ record {
+  pub pair : l ≡ record {
     submission = submit_ring (setting_of r) b.sent b.collected;
     completion = collect_ring (setting_of r) b.collected b.told;
     serial = serial_at r b.sent;
-    pages = without r.lane.pages (pages_of_all (drop b.collected world.sent));
+    pages = without r.pair.pages (pages_of_all (drop b.collected world.sent));
   }
-  pub taken : AreTaken r.lane.pages (pages_of_all (drop b.collected world.sent))
+  pub taken : AreTaken r.pair.pages (pages_of_all (drop b.collected world.sent))
   pub own : (n : ℕ) (d : Sent) → n < b.sent
-      → All (λ p. IsOf r.lane.pages.first r.lane.pages.count p)
+      → All (λ p. IsOf r.pair.pages.first r.pair.pages.count p)
       (own_pages (slice_index_or world.sent n d))
 
 -- the bus where so many commands were told, done, and told to be collected
 pub record IsBusOf (r : Run) (rung done told : ℕ) (b : BusValue) : Type 0 where
   pub bus : IsBus b
-  pub state : b.state ≡ state_after r.controller r.bus.state r.lane.serial (take done r.commands)
-  pub port : port_at b.ports r.controller
-      ≡ port_with (setting_of r) (device_rings (setting_of r) rung done told)
-  pub ports : b.ports ≡ slice_set r.bus.ports r.controller (port_at b.ports r.controller)
+  pub state : b.state ≡ state_after r.controller r.bus.state r.pair.serial (take done r.commands)
+  pub bank : bank_at b.banks r.controller
+      ≡ bank_with (setting_of r) (device_rings (setting_of r) rung done told)
+  pub banks : b.banks ≡ slice_set r.bus.banks r.controller (bank_at b.banks r.controller)
 
 -- the first answers are those of one command at a time
 pub record HasAnswers (r : Run) (collected : ℕ) (answers : List Answer) : Type 0 where
   pub len : length answers ≡ length r.commands
   pub first : take collected answers
-      ≡ take collected (answers_of r.controller r.bus.state r.lane.serial r.commands)
+      ≡ take collected (answers_of r.controller r.bus.state r.pair.serial r.commands)
 
 -- what is to do yet, of so many commands
 abbrev pub left_of : ℕ → Batch → ℕ

@@ -2,14 +2,14 @@
 
 ghost use Rattle.std.specs.Prelude.{◌≡◌, ◌+◌, ◌-◌, ◌%◌, ◌<◌, ◌≤◌, All, MatchOption, false, length};
 ghost use Rattle.std.specs.Prelude.{None, min, set, slice_set, true};
-ghost use Rattle.nv_bus.specs.Bus.{IsBus, port_at};
+ghost use Rattle.nv_bus.specs.Bus.{IsBus, bank_at};
 ghost use Rattle.nv_queue.specs.Numbers.{slot_of};
 ghost use Rattle.nv_queue.specs.Rings.{told_all};
-ghost use Rattle.nv_register.specs.Port.{with_register_at};
+ghost use Rattle.nv_register.specs.RegisterBank.{with_register_at};
 ghost use Rattle.nv_model.specs.Numbers.{serial_count};
 ghost use Rattle.nv_driver.specs.Batch.{answers_of, state_after};
 ghost use Rattle.nv_driver.specs.Exchange.{IsReady, KeepsOthers, after_some};
-ghost use Rattle.nv_driver.specs.Quiet.{lane_value};
+ghost use Rattle.nv_driver.specs.Quiet.{pair_value};
 ghost use Rattle.nv_driver.specs.Schedule.{CanBeSent, slot};
 ghost use Rattle.nv_driver.specs.UnderWay.{HasAnswers, IsBusOf, IsUnderWay, Moment, Run};
 ghost use Rattle.nv_driver.specs.UnderWay.{left_of, run_of, setting_of};
@@ -19,7 +19,7 @@ use crate::answer_slot::AnswerSlot;
 use crate::answering::answer;
 use crate::command_pages::CommandPages;
 use crate::geometry::Geometry;
-use crate::lane::Lane;
+use crate::queue_pair::QueuePair;
 use crate::scratch::Scratch;
 use crate::submitting::submit;
 use nv_bus::Bus;
@@ -78,16 +78,16 @@ impl Batch {
     fn fill<M: HostMemory>(
         &mut self,
         mem: &mut M,
-        lane: &mut Lane,
+        pair: &mut QueuePair,
         commands: &[Command],
         scratch: &mut Scratch,
     ) -> Option<u16>
         ghost run: { Run }
         requires commands { commands.now ≡ run.commands }
         requires under_way { IsUnderWay run self.old.sent self.old.collected
-            self.old lane.old (M.page_len mem.old) (M.bytes mem.old) }
+            self.old pair.old (M.page_len mem.old) (M.bytes mem.old) }
         ensures under_way { IsUnderWay run self.old.sent self.old.collected
-            self.new lane.new (M.page_len mem.new) (M.bytes mem.new) }
+            self.new pair.new (M.page_len mem.new) (M.bytes mem.new) }
         ensures tail { MatchOption result (self.new.sent ≡ self.old.sent)
             (λ tail. tail ≡ slot (setting_of run) self.new.sent) }
         ensures sent { self.new.sent ≡ min (self.old.collected + self.old.geometry.window)
@@ -101,7 +101,7 @@ impl Batch {
         let end = self.sent + room.min(commands.len() - self.sent);
         let mut tail = None;
         for number in self.sent..end {
-            let (pages, next) = submit(mem, lane, self.geometry, &commands[number], scratch);
+            let (pages, next) = submit(mem, pair, self.geometry, &commands[number], scratch);
             self.outstanding[number % MOST] = Some(pages);
             self.sent += 1;
             tail = Some(next);
@@ -115,18 +115,18 @@ impl Batch {
         &mut self,
         bus: &mut B,
         mem: &mut M,
-        lane: &mut Lane,
+        pair: &mut QueuePair,
         commands: &[Command],
         scratch: &mut Scratch,
     )
         ghost run: { Run }
         requires commands { commands.now ≡ run.commands }
         requires under_way { IsUnderWay run self.old.sent self.old.collected
-            self.old lane.old (M.page_len mem.old) (M.bytes mem.old) }
+            self.old pair.old (M.page_len mem.old) (M.bytes mem.old) }
         requires bus { IsBusOf run self.old.sent self.old.collected self.old.told
             (B.meaning bus.old) }
         ensures under_way { IsUnderWay run self.new.sent self.new.collected
-            self.new lane.new (M.page_len mem.new) (M.bytes mem.new) }
+            self.new pair.new (M.page_len mem.new) (M.bytes mem.new) }
         ensures bus { IsBusOf run self.new.sent self.new.collected self.new.told
             (B.meaning bus.new) }
         ensures sent { self.new.sent ≡ min (self.old.collected + self.old.geometry.window)
@@ -136,29 +136,29 @@ impl Batch {
         ensures collected { self.new.collected ≡ self.old.collected }
         ensures told { self.new.told ≡ self.old.told }
     {
-        if let Some(tail) = self.fill(mem, lane, commands, scratch) {
+        if let Some(tail) = self.fill(mem, pair, commands, scratch) {
             bus.write32(self.ctrl, offset::TAIL_DOORBELL, u32::from(tail));
         }
     }
 
     /// Tells the controller how many answers were collected, where it doesn't know. Section
     /// "Completion Queue y Head Doorbell".
-    fn tell<B: Bus>(&mut self, bus: &mut B, lane: &mut Lane)
-        requires ctrl { self.old.ctrl < length (B.meaning bus.old).ports }
+    fn tell<B: Bus>(&mut self, bus: &mut B, pair: &mut QueuePair)
+        requires ctrl { self.old.ctrl < length (B.meaning bus.old).banks }
         ensures batch { self.new ≡ record self.old { told = self.old.collected } }
-        ensures lane { lane.new ≡ record lane.old {
-          completion = told_all lane.old.completion;
+        ensures pair { pair.new ≡ record pair.old {
+          completion = told_all pair.old.completion;
         } }
         ensures state { (B.meaning bus.new).state ≡ (B.meaning bus.old).state }
         ensures bus { IsBus (B.meaning bus.old) → IsBus (B.meaning bus.new) }
-        ensures told { lane.old.completion.untold ≡ true → (B.meaning bus.new).ports
-            ≡ slice_set (B.meaning bus.old).ports self.old.ctrl (with_register_at
-            (port_at (B.meaning bus.old).ports self.old.ctrl) 0x1004
-            (slot_of lane.old.completion.depth lane.old.completion.collected)) }
-        ensures silent { lane.old.completion.untold ≡ false
-            → (B.meaning bus.new).ports ≡ (B.meaning bus.old).ports }
+        ensures told { pair.old.completion.untold ≡ true → (B.meaning bus.new).banks
+            ≡ slice_set (B.meaning bus.old).banks self.old.ctrl (with_register_at
+            (bank_at (B.meaning bus.old).banks self.old.ctrl) 0x1004
+            (slot_of pair.old.completion.depth pair.old.completion.collected)) }
+        ensures silent { pair.old.completion.untold ≡ false
+            → (B.meaning bus.new).banks ≡ (B.meaning bus.old).banks }
     {
-        if let Some(head) = lane.completion.head_to_tell() {
+        if let Some(head) = pair.completion.head_to_tell() {
             bus.write32(self.ctrl, offset::HEAD_DOORBELL, u32::from(head));
         }
         self.told = self.collected;
@@ -166,16 +166,16 @@ impl Batch {
 
     /// Gives the controller a turn, and answers how many commands it did. Where it did none, the
     /// head is told.
-    fn turn<B: Bus, M: HostMemory>(&mut self, bus: &mut B, mem: &mut M, lane: &mut Lane) -> u16
+    fn turn<B: Bus, M: HostMemory>(&mut self, bus: &mut B, mem: &mut M, pair: &mut QueuePair) -> u16
         ghost run: { Run }
         requires under_way { IsUnderWay run self.old.sent self.old.collected
-            self.old lane.old (M.page_len mem.old) (M.bytes mem.old) }
+            self.old pair.old (M.page_len mem.old) (M.bytes mem.old) }
         requires bus { IsBusOf run self.old.sent self.old.collected self.old.told
             (B.meaning bus.old) }
         requires some { self.old.collected < self.old.sent }
         requires near { IsToldInTime self.old }
         ensures under_way { IsUnderWay run self.new.sent (self.new.collected + result)
-            self.new lane.new (M.page_len mem.new) (M.bytes mem.new) }
+            self.new pair.new (M.page_len mem.new) (M.bytes mem.new) }
         ensures bus { IsBusOf run self.new.sent (self.new.collected + result) self.new.told
             (B.meaning bus.new) }
         ensures collected { self.new.collected ≡ self.old.collected }
@@ -187,7 +187,7 @@ impl Batch {
     {
         let posted = bus.turn(self.ctrl, mem, self.geometry.pace as u16);
         if posted == 0 {
-            self.tell(bus, lane);
+            self.tell(bus, pair);
         }
         posted
     }
@@ -197,7 +197,7 @@ impl Batch {
     fn collect_one<M: HostMemory>(
         &mut self,
         mem: &M,
-        lane: &mut Lane,
+        pair: &mut QueuePair,
         commands: &[Command],
         answers: &mut [AnswerSlot],
         scratch: &mut Scratch,
@@ -205,19 +205,19 @@ impl Batch {
         ghost at: { Moment }
         requires commands { commands.now ≡ at.run.commands }
         requires under_way { IsUnderWay at.run self.old.sent at.done
-            self.old lane.old (M.page_len mem.now) (M.bytes mem.now) }
+            self.old pair.old (M.page_len mem.now) (M.bytes mem.now) }
         requires answers { HasAnswers at.run self.old.collected answers.old }
         requires posted { self.old.collected < at.done }
         ensures under_way { IsUnderWay at.run self.new.sent at.done
-            self.new lane.new (M.page_len mem.now) (M.bytes mem.now) }
+            self.new pair.new (M.page_len mem.now) (M.bytes mem.now) }
         ensures answers { HasAnswers at.run self.new.collected answers.new }
         ensures batch { self.new ≡ record self.old { collected = self.old.collected + 1 } }
     {
-        let completion = lane.completion.poll(mem).unwrap();
-        lane.submission.freed(completion.sq_head);
-        let number = self.sent - distance(completion.cid, lane.serial);
+        let completion = pair.completion.poll(mem).unwrap();
+        pair.submission.freed(completion.sq_head);
+        let number = self.sent - distance(completion.cid, pair.serial);
         let pages = self.outstanding[number % MOST].unwrap();
-        pages.give(&mut lane.pages);
+        pages.give(&mut pair.pages);
         let buffer = pages.buffer(self.geometry.offset);
         answer(
             mem,
@@ -235,7 +235,7 @@ impl Batch {
         &mut self,
         bus: &mut B,
         mem: &M,
-        lane: &mut Lane,
+        pair: &mut QueuePair,
         commands: &[Command],
         answers: &mut [AnswerSlot],
         posted: u16,
@@ -244,13 +244,13 @@ impl Batch {
         ghost at: { Moment }
         requires commands { commands.now ≡ at.run.commands }
         requires under_way { IsUnderWay at.run self.old.sent at.done
-            self.old lane.old (M.page_len mem.now) (M.bytes mem.now) }
+            self.old pair.old (M.page_len mem.now) (M.bytes mem.now) }
         requires bus { IsBusOf at.run self.old.sent at.done self.old.told (B.meaning bus.old) }
         requires answers { HasAnswers at.run self.old.collected answers.old }
         requires posted { self.old.collected + posted ≡ at.done }
         requires near { IsToldInTime self.old }
         ensures under_way { IsUnderWay at.run self.new.sent at.done
-            self.new lane.new (M.page_len mem.now) (M.bytes mem.now) }
+            self.new pair.new (M.page_len mem.now) (M.bytes mem.now) }
         ensures bus { IsBusOf at.run self.new.sent at.done self.new.told (B.meaning bus.new) }
         ensures answers { HasAnswers at.run self.new.collected answers.new }
         ensures collected { self.new.collected ≡ at.done }
@@ -259,9 +259,9 @@ impl Batch {
         ensures told { posted ≡ 0 → self.new.told ≡ self.old.told }
     {
         for _ in 0..posted {
-            self.collect_one(mem, lane, commands, answers, scratch);
+            self.collect_one(mem, pair, commands, answers, scratch);
             if self.collected - self.told == self.geometry.pace as usize {
-                self.tell(bus, lane);
+                self.tell(bus, pair);
             }
         }
     }
@@ -271,7 +271,7 @@ impl Batch {
         &mut self,
         bus: &mut B,
         mem: &mut M,
-        lane: &mut Lane,
+        pair: &mut QueuePair,
         commands: &[Command],
         answers: &mut [AnswerSlot],
         scratch: &mut Scratch,
@@ -279,14 +279,14 @@ impl Batch {
         ghost run: { Run }
         requires commands { commands.now ≡ run.commands }
         requires under_way { IsUnderWay run self.old.sent self.old.collected
-            self.old lane.old (M.page_len mem.old) (M.bytes mem.old) }
+            self.old pair.old (M.page_len mem.old) (M.bytes mem.old) }
         requires bus { IsBusOf run self.old.sent self.old.collected self.old.told
             (B.meaning bus.old) }
         requires answers { HasAnswers run self.old.collected answers.old }
         requires some { self.old.collected < length commands.now }
         requires near { IsToldInTime self.old }
         ensures under_way { IsUnderWay run self.new.sent self.new.collected
-            self.new lane.new (M.page_len mem.new) (M.bytes mem.new) }
+            self.new pair.new (M.page_len mem.new) (M.bytes mem.new) }
         ensures bus { IsBusOf run self.new.sent self.new.collected self.new.told
             (B.meaning bus.new) }
         ensures answers { HasAnswers run self.new.collected answers.new }
@@ -294,19 +294,19 @@ impl Batch {
         ensures further { left_of (length commands.now) self.new
             < left_of (length commands.now) self.old }
     {
-        self.send(bus, mem, lane, commands, scratch);
-        let posted = self.turn(bus, mem, lane);
-        self.collect(bus, mem, lane, commands, answers, posted, scratch);
+        self.send(bus, mem, pair, commands, scratch);
+        let posted = self.turn(bus, mem, pair);
+        self.collect(bus, mem, pair, commands, answers, posted, scratch);
     }
 }
 
 /// Sends commands to a controller, several at a time, and awaits their answers. No command of its
-/// lane is outstanding, before and after.
+/// queue pair is outstanding, before and after.
 pub(crate) fn exchange_all<B: Bus, M: HostMemory>(
     bus: &mut B,
     ctrl: u16,
     mem: &mut M,
-    lane: &mut Lane,
+    pair: &mut QueuePair,
     geometry: Geometry,
     commands: &[Command],
     answers: &mut [AnswerSlot],
@@ -314,29 +314,29 @@ pub(crate) fn exchange_all<B: Bus, M: HostMemory>(
 )
     ghost run: { Run }
     requires run { run
-        ≡ run_of geometry ctrl (B.meaning bus.old) lane.old (M.bytes mem.old) commands.now }
+        ≡ run_of geometry ctrl (B.meaning bus.old) pair.old (M.bytes mem.old) commands.now }
     requires ready { IsReady geometry (B.meaning bus.old) ctrl
-        lane.old (M.page_len mem.old) (M.bytes mem.old) }
+        pair.old (M.page_len mem.old) (M.bytes mem.old) }
     requires can { All CanBeSent commands.now }
     requires len { length answers.old ≡ length commands.now }
     ensures answers { answers.new
-        ≡ answers_of ctrl (B.meaning bus.old).state lane.old.serial commands.now }
+        ≡ answers_of ctrl (B.meaning bus.old).state pair.old.serial commands.now }
     ensures state { (B.meaning bus.new).state
-        ≡ state_after ctrl (B.meaning bus.old).state lane.old.serial commands.now }
+        ≡ state_after ctrl (B.meaning bus.old).state pair.old.serial commands.now }
     ensures ready { IsReady geometry (B.meaning bus.new) ctrl
-        lane.new (M.page_len mem.new) (M.bytes mem.new) }
-    ensures ports { (B.meaning bus.new).ports
-        ≡ slice_set (B.meaning bus.old).ports ctrl (port_at (B.meaning bus.new).ports ctrl) }
-    ensures lane { lane_value lane.new
-        ≡ after_some (length commands.now) (lane_value lane.old) }
-    ensures others { KeepsOthers geometry.page_size (lane_value lane.old)
+        pair.new (M.page_len mem.new) (M.bytes mem.new) }
+    ensures banks { (B.meaning bus.new).banks
+        ≡ slice_set (B.meaning bus.old).banks ctrl (bank_at (B.meaning bus.new).banks ctrl) }
+    ensures pair { pair_value pair.new
+        ≡ after_some (length commands.now) (pair_value pair.old) }
+    ensures others { KeepsOthers geometry.page_size (pair_value pair.old)
         (M.bytes mem.old) (M.bytes mem.new) }
     ensures len { length (M.bytes mem.new) ≡ length (M.bytes mem.old) }
     ensures page { M.page_len mem.new ≡ M.page_len mem.old }
 {
     let mut batch = Batch::new(ctrl, geometry);
     while batch.collected < commands.len() {
-        batch.round(bus, mem, lane, commands, answers, scratch);
+        batch.round(bus, mem, pair, commands, answers, scratch);
     }
-    batch.tell(bus, lane);
+    batch.tell(bus, pair);
 }

@@ -8,10 +8,10 @@ ghost use Rattle.nv_command.specs.Logs.{IsSendable, answer_received};
 ghost use Rattle.nv_model.specs.Reset.{reset, reset_where};
 ghost use Rattle.nv_model.specs.Step.{step};
 ghost use Rattle.nv_driver.specs.Batch.{answers_of, state_after};
-ghost use Rattle.nv_driver.specs.Driver.{after_command, after_commands, after_reset, lane_at};
+ghost use Rattle.nv_driver.specs.Driver.{after_command, after_commands, after_reset, pair_at};
 ghost use Rattle.nv_driver.specs.Driver.{new_driver};
 ghost use Rattle.nv_driver.specs.Geometry.{fault_of};
-ghost use Rattle.nv_driver.specs.Registers.{ports_of};
+ghost use Rattle.nv_driver.specs.Registers.{banks_of};
 
 use crate::answer_slot::{Answer, AnswerSlot};
 use crate::batch::exchange_all;
@@ -19,7 +19,7 @@ use crate::enabling::{enable_all, reset};
 use crate::error::DriverError;
 use crate::geometry::Geometry;
 use crate::geometry_field::GeometryField;
-use crate::lane::{Lane, new_lanes};
+use crate::queue_pair::{QueuePair, new_pairs};
 use crate::scratch::Scratch;
 use nv_bus::Bus;
 use nv_command::Command;
@@ -34,7 +34,7 @@ use std::slice::{from_mut, from_ref};
 pub struct Driver {
     mem: FlatMemory,
     geometry: Geometry,
-    lanes: Vec<Lane>,
+    pairs: Vec<QueuePair>,
     scratch: Scratch,
 }
 
@@ -45,9 +45,9 @@ impl Model for Driver {
 
     ghost use Rattle.nv_driver.specs.Driver.{IsDriver, driver_value};
 
-    ghost view = { λ d. driver_value d.geometry d.mem d.lanes.items };
+    ghost view = { λ d. driver_value d.geometry d.mem d.pairs.items };
 
-    ghost invariant = { λ d. IsDriver d.geometry d.mem d.lanes.items };
+    ghost invariant = { λ d. IsDriver d.geometry d.mem d.pairs.items };
 }
 
 impl Driver {
@@ -62,27 +62,27 @@ impl Driver {
     ) -> Result<Driver, DriverError>
         requires { IsBus (B.meaning bus.old) }
         ensures state { IfOk result (λ _. (B.meaning bus.new).state
-            ≡ reset_where (enabled_in (B.meaning bus.old).ports) (B.meaning bus.old).state) }
+            ≡ reset_where (enabled_in (B.meaning bus.old).banks) (B.meaning bus.old).state) }
         ensures bus { IsBus (B.meaning bus.new) }
         ensures geometry { (field : GeometryField)
             → (result ≡ Err (DriverError.Geometry field)) ↔ (fault_of geometry ≡ Some field) }
         ensures ready { result ≢ Err DriverError.NoReady }
         ensures untouched { OnErr result (B.meaning bus.new ≡ B.meaning bus.old) }
         ensures value { IfOk result
-            (λ d. d ≡ new_driver geometry (length (B.meaning bus.old).ports)) }
-        ensures ports { IfOk result (λ d. (B.meaning bus.new).ports ≡ ports_of d) }
+            (λ d. d ≡ new_driver geometry (length (B.meaning bus.old).banks)) }
+        ensures banks { IfOk result (λ d. (B.meaning bus.new).banks ≡ banks_of d) }
     {
         if let Err(field) = geometry.check() {
             return Err(DriverError::Geometry(field));
         }
         let controllers = bus.controllers();
         let mut mem = FlatMemory::new(alloc, geometry.page_size, geometry.pages(controllers))?;
-        let lanes = new_lanes(alloc, geometry, controllers)?;
-        enable_all(bus, &mut mem, &lanes, geometry)?;
+        let pairs = new_pairs(alloc, geometry, controllers)?;
+        enable_all(bus, &mut mem, &pairs, geometry)?;
         Ok(Driver {
             mem,
             geometry,
-            lanes,
+            pairs,
             scratch: Scratch::new(),
         })
     }
@@ -92,17 +92,17 @@ impl Driver {
     /// The bus is as this driver left it; one that keeps its contract never gives `NoReady`, the
     /// only error. Section "Controller Level Reset".
     pub fn reset<B: Bus>(&mut self, bus: &mut B, ctrl: u16) -> Result<(), DriverError>
-        requires ctrl { ctrl < length self.old.lanes }
+        requires ctrl { ctrl < length self.old.pairs }
         requires bus { IsBus (B.meaning bus.old) }
-        requires left { (B.meaning bus.old).ports ≡ ports_of self.old }
+        requires left { (B.meaning bus.old).banks ≡ banks_of self.old }
         ensures ok { IsOk result }
         ensures state { (B.meaning bus.new).state ≡ reset (B.meaning bus.old).state ctrl }
         ensures bus { IsBus (B.meaning bus.new) }
         ensures driver { self.new ≡ after_reset self.old ctrl }
-        ensures left { (B.meaning bus.new).ports ≡ ports_of self.new }
+        ensures left { (B.meaning bus.new).banks ≡ banks_of self.new }
     {
-        let lane = &mut self.lanes[ctrl as usize];
-        reset(bus, ctrl, &mut self.mem, lane, self.geometry)
+        let pair = &mut self.pairs[ctrl as usize];
+        reset(bus, ctrl, &mut self.mem, pair, self.geometry)
     }
 
     /// Sends a command to a controller and awaits its answer: the reply, or the status of the
@@ -116,18 +116,18 @@ impl Driver {
         command: &Command,
         slot: &'a mut AnswerSlot,
     ) -> Answer<'a>
-        requires ctrl { ctrl < length self.old.lanes }
+        requires ctrl { ctrl < length self.old.pairs }
         requires bus { IsBus (B.meaning bus.old) }
-        requires left { (B.meaning bus.old).ports ≡ ports_of self.old }
+        requires left { (B.meaning bus.old).banks ≡ banks_of self.old }
         requires fits { CommandFits command.now }
         requires sends { IsSendable command.now }
         ensures answer { result ≡ answer_received command.now (step (B.meaning bus.old).state
-            ctrl command.now (lane_at self.old.lanes ctrl).serial).answer }
+            ctrl command.now (pair_at self.old.pairs ctrl).serial).answer }
         ensures state { (B.meaning bus.new).state ≡ (step (B.meaning bus.old).state
-            ctrl command.now (lane_at self.old.lanes ctrl).serial).state }
+            ctrl command.now (pair_at self.old.pairs ctrl).serial).state }
         ensures bus { IsBus (B.meaning bus.new) }
         ensures driver { self.new ≡ after_command self.old ctrl }
-        ensures left { (B.meaning bus.new).ports ≡ ports_of self.new }
+        ensures left { (B.meaning bus.new).banks ≡ banks_of self.new }
     {
         self.admin_all(bus, ctrl, from_ref(command), from_mut(slot));
         slot.answer()
@@ -145,26 +145,26 @@ impl Driver {
         commands: &[Command],
         answers: &mut [AnswerSlot],
     )
-        requires ctrl { ctrl < length self.old.lanes }
+        requires ctrl { ctrl < length self.old.pairs }
         requires bus { IsBus (B.meaning bus.old) }
-        requires left { (B.meaning bus.old).ports ≡ ports_of self.old }
+        requires left { (B.meaning bus.old).banks ≡ banks_of self.old }
         requires fits { All CommandFits commands.now }
         requires sends { All IsSendable commands.now }
         requires len { length answers.old ≡ length commands.now }
         ensures answers { answers.new ≡ answers_of ctrl (B.meaning bus.old).state
-            (lane_at self.old.lanes ctrl).serial commands.now }
+            (pair_at self.old.pairs ctrl).serial commands.now }
         ensures state { (B.meaning bus.new).state ≡ state_after ctrl (B.meaning bus.old).state
-            (lane_at self.old.lanes ctrl).serial commands.now }
+            (pair_at self.old.pairs ctrl).serial commands.now }
         ensures bus { IsBus (B.meaning bus.new) }
         ensures driver { self.new ≡ after_commands self.old ctrl (length commands.now) }
-        ensures left { (B.meaning bus.new).ports ≡ ports_of self.new }
+        ensures left { (B.meaning bus.new).banks ≡ banks_of self.new }
     {
-        let lane = &mut self.lanes[ctrl as usize];
+        let pair = &mut self.pairs[ctrl as usize];
         exchange_all(
             bus,
             ctrl,
             &mut self.mem,
-            lane,
+            pair,
             self.geometry,
             commands,
             answers,
@@ -173,11 +173,11 @@ impl Driver {
     }
 
     /// How many controllers the driver has.
-    #[tactic(auto, using(crate::proofs::AdminLaws::lane_count))]
+    #[tactic(auto, using(crate::proofs::AdminLaws::pair_count))]
     pub fn controllers(&self) -> usize
-        ensures { result ≡ length self.now.lanes }
+        ensures { result ≡ length self.now.pairs }
     {
-        self.lanes.len()
+        self.pairs.len()
     }
 
     /// How many pages the host's memory has.

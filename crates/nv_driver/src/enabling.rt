@@ -6,20 +6,20 @@ ghost use Rattle.nv_queue.specs.Slots.{HoldsTags};
 ghost use Rattle.nv_register.specs.Readiness.{is_ready};
 ghost use Rattle.nv_register.specs.declared.readiness.Readiness.TheVariants.{Off};
 ghost use Rattle.nv_model.specs.Reset.{reset, reset_if, reset_where};
-ghost use Rattle.nv_bus.specs.Bus.{IsBus, enabled_in, port_at};
+ghost use Rattle.nv_bus.specs.Bus.{IsBus, enabled_in, bank_at};
 ghost use Rattle.nv_driver.specs.Driver.{IsPlaced};
 ghost use Rattle.nv_driver.specs.Exchange.{IsReady, KeepsOthers};
 ghost use Rattle.nv_driver.specs.Geometry.{IsGeometry};
-ghost use Rattle.nv_driver.specs.Lane.{IsLaid, idle_port, renewed_lane};
-ghost use Rattle.nv_driver.specs.Layout.{lane_of, lanes_of, pages_of};
-ghost use Rattle.nv_driver.specs.Quiet.{IsQuiet, lane_value};
-ghost use Rattle.nv_driver.specs.Registers.{HasQueues, disabled, idle_ports, mps_of};
+ghost use Rattle.nv_driver.specs.QueuePair.{IsLaid, idle_bank, renewed_pair};
+ghost use Rattle.nv_driver.specs.Layout.{pair_of, pairs_of, pages_of};
+ghost use Rattle.nv_driver.specs.Quiet.{IsQuiet, pair_value};
+ghost use Rattle.nv_driver.specs.Registers.{HasQueues, disabled, idle_banks, mps_of};
 ghost use Rattle.nv_driver.specs.Registers.{with_queues};
 ghost use Rattle.nv_driver.specs.Settled.{IsSettled};
 
 use crate::error::DriverError;
 use crate::geometry::Geometry;
-use crate::lane::Lane;
+use crate::queue_pair::QueuePair;
 use nv_bus::Bus;
 use nv_host::HostMemory;
 use nv_register::offset;
@@ -46,10 +46,10 @@ fn mps(page_size: u32) -> u32
 
 /// Awaits that CSTS.RDY has a value. Section "Controller Status".
 fn await_ready<B: Bus>(bus: &B, ctrl: u16, ready: bool) -> Result<(), DriverError>
-    requires { ctrl < length (B.meaning bus.now).ports }
+    requires { ctrl < length (B.meaning bus.now).banks }
     ensures ready { MatchResult result
-        (λ _. is_ready (port_at (B.meaning bus.now).ports ctrl).readiness ≡ ready)
-        (λ _. is_ready (port_at (B.meaning bus.now).ports ctrl).readiness ≢ ready) }
+        (λ _. is_ready (bank_at (B.meaning bus.now).banks ctrl).readiness ≡ ready)
+        (λ _. is_ready (bank_at (B.meaning bus.now).banks ctrl).readiness ≢ ready) }
     ensures no_ready { IfErr result (λ e. e ≡ DriverError.NoReady) }
 {
     for _ in 0..READS {
@@ -63,13 +63,13 @@ fn await_ready<B: Bus>(bus: &B, ctrl: u16, ready: bool) -> Result<(), DriverErro
 /// Clears EN of a controller and awaits that it is not ready. Where EN was 1 this resets it. Section
 /// "Controller Configuration", Enable.
 fn disable<B: Bus>(bus: &mut B, ctrl: u16) -> Result<(), DriverError>
-    requires { ctrl < length (B.meaning bus.old).ports }
+    requires { ctrl < length (B.meaning bus.old).banks }
     ensures ok { IsOk result }
     ensures state { (B.meaning bus.new).state
-        ≡ reset_if (enabled_in (B.meaning bus.old).ports) (B.meaning bus.old).state ctrl }
-    ensures ports { (B.meaning bus.new).ports ≡ slice_set (B.meaning bus.old).ports ctrl
-        (disabled (port_at (B.meaning bus.old).ports ctrl)) }
-    ensures off { (port_at (B.meaning bus.new).ports ctrl).readiness ≡ Off }
+        ≡ reset_if (enabled_in (B.meaning bus.old).banks) (B.meaning bus.old).state ctrl }
+    ensures banks { (B.meaning bus.new).banks ≡ slice_set (B.meaning bus.old).banks ctrl
+        (disabled (bank_at (B.meaning bus.old).banks ctrl)) }
+    ensures off { (bank_at (B.meaning bus.new).banks ctrl).readiness ≡ Off }
     ensures bus { IsBus (B.meaning bus.old) → IsBus (B.meaning bus.new) }
 {
     bus.write32(ctrl, offset::CC, 0);
@@ -80,12 +80,12 @@ fn disable<B: Bus>(bus: &mut B, ctrl: u16) -> Result<(), DriverError>
 /// where it begins. Sections "Admin Queue Attributes", "Admin Submission Queue Base Address" and
 /// "Admin Completion Queue Base Address".
 fn set_queues<B: Bus>(bus: &mut B, ctrl: u16, less_one: u32, sq: u64, cq: u64)
-    requires ctrl { ctrl < length (B.meaning bus.old).ports }
-    requires off { (port_at (B.meaning bus.old).ports ctrl).readiness ≡ Off }
+    requires ctrl { ctrl < length (B.meaning bus.old).banks }
+    requires off { (bank_at (B.meaning bus.old).banks ctrl).readiness ≡ Off }
     requires deep { less_one ≤ 4095 }
     ensures state { (B.meaning bus.new).state ≡ (B.meaning bus.old).state }
-    ensures ports { (B.meaning bus.new).ports ≡ slice_set (B.meaning bus.old).ports ctrl
-        (with_queues (port_at (B.meaning bus.old).ports ctrl) less_one sq cq) }
+    ensures banks { (B.meaning bus.new).banks ≡ slice_set (B.meaning bus.old).banks ctrl
+        (with_queues (bank_at (B.meaning bus.old).banks ctrl) less_one sq cq) }
     ensures bus { IsBus (B.meaning bus.old) → IsBus (B.meaning bus.new) }
 {
     bus.write32(ctrl, offset::AQA, (less_one << 16) + less_one);
@@ -99,12 +99,12 @@ fn set_queues<B: Bus>(bus: &mut B, ctrl: u16, less_one: u32, sq: u64, cq: u64)
 /// Section "Controller Configuration", Enable.
 fn start<B: Bus>(bus: &mut B, ctrl: u16, geometry: Geometry) -> Result<(), DriverError>
     requires geometry { IsGeometry geometry }
-    requires ctrl { ctrl < length (B.meaning bus.old).ports }
-    requires queues { HasQueues (lane_of geometry ctrl) (port_at (B.meaning bus.old).ports ctrl) }
+    requires ctrl { ctrl < length (B.meaning bus.old).banks }
+    requires queues { HasQueues (pair_of geometry ctrl) (bank_at (B.meaning bus.old).banks ctrl) }
     ensures ok { IsOk result }
     ensures state { (B.meaning bus.new).state ≡ (B.meaning bus.old).state }
-    ensures ports { (B.meaning bus.new).ports ≡ slice_set (B.meaning bus.old).ports ctrl
-        (idle_port (mps_of geometry.page_size) geometry.page_size (lane_of geometry ctrl)) }
+    ensures banks { (B.meaning bus.new).banks ≡ slice_set (B.meaning bus.old).banks ctrl
+        (idle_bank (mps_of geometry.page_size) geometry.page_size (pair_of geometry ctrl)) }
     ensures bus { IsBus (B.meaning bus.old) → IsBus (B.meaning bus.new) }
 {
     bus.write32(ctrl, offset::CC, ENABLE + (mps(geometry.page_size) << 7));
@@ -117,61 +117,61 @@ fn enable<B: Bus, M: HostMemory>(
     bus: &mut B,
     ctrl: u16,
     mem: &mut M,
-    lane: &Lane,
+    pair: &QueuePair,
     geometry: Geometry,
 ) -> Result<(), DriverError>
     requires geometry { IsGeometry geometry }
-    requires ctrl { ctrl < length (B.meaning bus.old).ports }
+    requires ctrl { ctrl < length (B.meaning bus.old).banks }
     requires few { ctrl < 16 }
-    requires quiet { IsQuiet lane.now }
-    requires lane { lane_value lane.now ≡ lane_of geometry ctrl }
-    requires laid { IsLaid geometry.page_size (length (M.bytes mem.old)) (lane_of geometry ctrl) }
+    requires quiet { IsQuiet pair.now }
+    requires pair { pair_value pair.now ≡ pair_of geometry ctrl }
+    requires laid { IsLaid geometry.page_size (length (M.bytes mem.old)) (pair_of geometry ctrl) }
     ensures ok { IsOk result }
     ensures state { (B.meaning bus.new).state
-        ≡ reset_if (enabled_in (B.meaning bus.old).ports) (B.meaning bus.old).state ctrl }
-    ensures ports { (B.meaning bus.new).ports ≡ slice_set (B.meaning bus.old).ports ctrl
-        (idle_port (mps_of geometry.page_size) geometry.page_size (lane_of geometry ctrl)) }
+        ≡ reset_if (enabled_in (B.meaning bus.old).banks) (B.meaning bus.old).state ctrl }
+    ensures banks { (B.meaning bus.new).banks ≡ slice_set (B.meaning bus.old).banks ctrl
+        (idle_bank (mps_of geometry.page_size) geometry.page_size (pair_of geometry ctrl)) }
     ensures bus { IsBus (B.meaning bus.old) → IsBus (B.meaning bus.new) }
-    ensures tags { HoldsTags (M.bytes mem.new) (lane_of geometry ctrl).cq geometry.depth 0 }
-    ensures others { KeepsOthers geometry.page_size (lane_of geometry ctrl)
+    ensures tags { HoldsTags (M.bytes mem.new) (pair_of geometry ctrl).cq geometry.depth 0 }
+    ensures others { KeepsOthers geometry.page_size (pair_of geometry ctrl)
         (M.bytes mem.old) (M.bytes mem.new) }
     ensures len { length (M.bytes mem.new) ≡ length (M.bytes mem.old) }
     ensures page { M.page_len mem.new ≡ M.page_len mem.old }
 {
     disable(bus, ctrl)?;
-    lane.completion.zero(mem);
+    pair.completion.zero(mem);
     let place = geometry.place(ctrl);
     set_queues(bus, ctrl, geometry.depth - 1, place.sq, place.cq);
     start(bus, ctrl, geometry)
 }
 
-/// Enables each controller with the rings of its lane. Those that were enabled are reset.
+/// Enables each controller with the rings of its queue pair. Those that were enabled are reset.
 pub(crate) fn enable_all<B: Bus, M: HostMemory>(
     bus: &mut B,
     mem: &mut M,
-    lanes: &[Lane],
+    pairs: &[QueuePair],
     geometry: Geometry,
 ) -> Result<(), DriverError>
     requires geometry { IsGeometry geometry }
     requires bus { IsBus (B.meaning bus.old) }
-    requires quiet { All IsQuiet lanes.now }
-    requires lanes { map lane_value lanes.now
-        ≡ lanes_of geometry (length (B.meaning bus.old).ports) }
+    requires quiet { All IsQuiet pairs.now }
+    requires pairs { map pair_value pairs.now
+        ≡ pairs_of geometry (length (B.meaning bus.old).banks) }
     requires len { length (M.bytes mem.old)
-        ≡ pages_of geometry (length (B.meaning bus.old).ports) * geometry.page_size }
+        ≡ pages_of geometry (length (B.meaning bus.old).banks) * geometry.page_size }
     ensures ok { IsOk result }
     ensures state { (B.meaning bus.new).state
-        ≡ reset_where (enabled_in (B.meaning bus.old).ports) (B.meaning bus.old).state }
-    ensures ports { (B.meaning bus.new).ports
-        ≡ idle_ports geometry.page_size (lanes_of geometry (length (B.meaning bus.old).ports)) }
+        ≡ reset_where (enabled_in (B.meaning bus.old).banks) (B.meaning bus.old).state }
+    ensures banks { (B.meaning bus.new).banks
+        ≡ idle_banks geometry.page_size (pairs_of geometry (length (B.meaning bus.old).banks)) }
     ensures bus { IsBus (B.meaning bus.new) }
     ensures settled { IsSettled geometry.page_size (M.bytes mem.new)
-        (lanes_of geometry (length (B.meaning bus.old).ports)) }
+        (pairs_of geometry (length (B.meaning bus.old).banks)) }
     ensures len { length (M.bytes mem.new) ≡ length (M.bytes mem.old) }
     ensures page { M.page_len mem.new ≡ M.page_len mem.old }
 {
     for ctrl in 0..bus.controllers() {
-        enable(bus, ctrl, mem, &lanes[ctrl as usize], geometry)?;
+        enable(bus, ctrl, mem, &pairs[ctrl as usize], geometry)?;
     }
     Ok(())
 }
@@ -182,25 +182,25 @@ pub(crate) fn reset<B: Bus, M: HostMemory>(
     bus: &mut B,
     ctrl: u16,
     mem: &mut M,
-    lane: &mut Lane,
+    pair: &mut QueuePair,
     geometry: Geometry,
 ) -> Result<(), DriverError>
     requires ready { IsReady geometry (B.meaning bus.old) ctrl
-        lane.old (M.page_len mem.old) (M.bytes mem.old) }
-    requires placed { IsPlaced geometry ctrl (lane_value lane.old) }
+        pair.old (M.page_len mem.old) (M.bytes mem.old) }
+    requires placed { IsPlaced geometry ctrl (pair_value pair.old) }
     ensures ok { IsOk result }
     ensures state { (B.meaning bus.new).state ≡ reset (B.meaning bus.old).state ctrl }
     ensures ready { IsReady geometry (B.meaning bus.new) ctrl
-        lane.new (M.page_len mem.new) (M.bytes mem.new) }
-    ensures ports { (B.meaning bus.new).ports
-        ≡ slice_set (B.meaning bus.old).ports ctrl (port_at (B.meaning bus.new).ports ctrl) }
-    ensures lane { lane_value lane.new ≡ renewed_lane (lane_value lane.old) }
-    ensures others { KeepsOthers geometry.page_size (lane_value lane.old)
+        pair.new (M.page_len mem.new) (M.bytes mem.new) }
+    ensures banks { (B.meaning bus.new).banks
+        ≡ slice_set (B.meaning bus.old).banks ctrl (bank_at (B.meaning bus.new).banks ctrl) }
+    ensures pair { pair_value pair.new ≡ renewed_pair (pair_value pair.old) }
+    ensures others { KeepsOthers geometry.page_size (pair_value pair.old)
         (M.bytes mem.old) (M.bytes mem.new) }
     ensures len { length (M.bytes mem.new) ≡ length (M.bytes mem.old) }
     ensures page { M.page_len mem.new ≡ M.page_len mem.old }
 {
     disable(bus, ctrl)?;
-    lane.renew(mem);
+    pair.renew(mem);
     start(bus, ctrl, geometry)
 }

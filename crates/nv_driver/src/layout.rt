@@ -2,7 +2,7 @@
 
 ghost use Rattle.std.specs.Prelude.{◌≡◌, ◌+◌, ◌^◌, ◌<◌, ◌≤◌};
 ghost use Rattle.nv_driver.specs.Geometry.{IsGeometry};
-ghost use Rattle.nv_driver.specs.Layout.{completion_pages, lane_of, lane_pages, pages_of};
+ghost use Rattle.nv_driver.specs.Layout.{completion_pages, pair_of, pair_pages, pages_of};
 ghost use Rattle.nv_driver.specs.Layout.{set_pages, submission_pages};
 
 use crate::geometry::Geometry;
@@ -57,22 +57,22 @@ impl Geometry {
     }
 
     /// How many pages one controller takes.
-    fn lane_pages(self) -> u32
+    fn pair_pages(self) -> u32
         requires { IsGeometry self }
-        ensures pages { result ≡ lane_pages self }
+        ensures pages { result ≡ pair_pages self }
         ensures few { result ≤ 0x180000 }
     {
         self.submission_pages() + self.completion_pages() + self.set_pages()
     }
 
     /// How many pages so many controllers take, of which there are 16 at most.
-    #[tactic(auto, using(crate::proofs::LayoutLaws::lane_times))]
+    #[tactic(auto, using(crate::proofs::LayoutLaws::pair_times))]
     pub(crate) fn pages(self, controllers: u16) -> u32
         requires geometry { IsGeometry self }
         requires controllers { controllers ≤ 16 }
         ensures { result ≡ pages_of self controllers }
     {
-        u32::from(controllers) * self.lane_pages()
+        u32::from(controllers) * self.pair_pages()
     }
 
     /// Where the rings and pages of a controller lie. The page behind them has a number too.
@@ -80,13 +80,13 @@ impl Geometry {
     pub(crate) fn place(self, ctrl: u16) -> Place
         requires geometry { IsGeometry self }
         requires ctrl { ctrl < 16 }
-        ensures sq { result.sq ≡ (lane_of self ctrl).sq }
-        ensures cq { result.cq ≡ (lane_of self ctrl).cq }
-        ensures first_page { result.first_page ≡ (lane_of self ctrl).first_page }
-        ensures page_count { result.page_count ≡ (lane_of self ctrl).page_count }
+        ensures sq { result.sq ≡ (pair_of self ctrl).sq }
+        ensures cq { result.cq ≡ (pair_of self ctrl).cq }
+        ensures first_page { result.first_page ≡ (pair_of self ctrl).first_page }
+        ensures page_count { result.page_count ≡ (pair_of self ctrl).page_count }
         ensures numbered { result.first_page + result.page_count < 2 ^ 32 }
     {
-        let first = u32::from(ctrl) * self.lane_pages();
+        let first = u32::from(ctrl) * self.pair_pages();
         let second = first + self.submission_pages();
         Place {
             sq: u64::from(first) * u64::from(self.page_size),

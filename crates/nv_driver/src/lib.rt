@@ -45,9 +45,9 @@ mod enabling;
 mod error;
 mod geometry;
 mod geometry_field;
-mod lane;
 mod law;
 mod layout;
+mod queue_pair;
 mod scratch;
 mod submitting;
 

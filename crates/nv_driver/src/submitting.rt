@@ -20,7 +20,7 @@ ghost use Rattle.nv_driver.specs.Submitting.{IsSubmitted};
 
 use crate::command_pages::CommandPages;
 use crate::geometry::Geometry;
-use crate::lane::Lane;
+use crate::queue_pair::QueuePair;
 use crate::scratch::Scratch;
 use nv_command::{Command, Transfer};
 use nv_host::HostMemory;
@@ -129,7 +129,7 @@ fn write_data<M: HostMemory>(mem: &mut M, buffer: &Buffer, command: &Command, sc
 /// Queue Entry".
 pub(crate) fn submit<M: HostMemory>(
     mem: &mut M,
-    lane: &mut Lane,
+    pair: &mut QueuePair,
     geometry: Geometry,
     command: &Command,
     scratch: &mut Scratch,
@@ -137,28 +137,28 @@ pub(crate) fn submit<M: HostMemory>(
     requires geometry { IsGeometry geometry }
     requires page { M.page_len mem.old ≡ geometry.page_size }
     requires can { CanBeSent command.now }
-    requires serial { lane.old.serial < serial_count }
-    requires pages { pages_of_command geometry.page_size ≤ set.len lane.old.pages.members }
-    requires inside { (lane.old.pages.first + lane.old.pages.count) * geometry.page_size
+    requires serial { pair.old.serial < serial_count }
+    requires pages { pages_of_command geometry.page_size ≤ set.len pair.old.pages.members }
+    requires inside { (pair.old.pages.first + pair.old.pages.count) * geometry.page_size
         ≤ length (M.bytes mem.old) }
-    requires ring { lane.old.submission.base + 64 * lane.old.submission.depth
+    requires ring { pair.old.submission.base + 64 * pair.old.submission.depth
         ≤ length (M.bytes mem.old) }
-    requires free { ¬ IsSubmitFull lane.old.submission }
-    ensures submitted { IsSubmitted geometry command.now result.0 lane.old lane.new
+    requires free { ¬ IsSubmitFull pair.old.submission }
+    ensures submitted { IsSubmitted geometry command.now result.0 pair.old pair.new
         (M.bytes mem.old) (M.bytes mem.new) }
-    ensures tail { result.1 ≡ slot_of lane.old.submission.depth
-        (next lane.old.submission.depth lane.old.submission.submitted) }
+    ensures tail { result.1 ≡ slot_of pair.old.submission.depth
+        (next pair.old.submission.depth pair.old.submission.submitted) }
     ensures len { length (M.bytes mem.new) ≡ length (M.bytes mem.old) }
     ensures page { M.page_len mem.new ≡ M.page_len mem.old }
 {
     let len = data_length(command);
-    let pages = CommandPages::take(&mut lane.pages, page_count(geometry, len));
+    let pages = CommandPages::take(&mut pair.pages, page_count(geometry, len));
     let (prp1, prp2) = build_pointer(mem, geometry, &pages, len);
     write_data(mem, &pages.buffer(geometry.offset), command, scratch);
-    let mut entry = command.entry(lane.serial);
+    let mut entry = command.entry(pair.serial);
     entry.prp1 = prp1;
     entry.prp2 = prp2;
-    let tail = lane.submission.push(mem, &entry).unwrap();
-    lane.serial = (lane.serial + 1) % SERIALS;
+    let tail = pair.submission.push(mem, &entry).unwrap();
+    pair.serial = (pair.serial + 1) % SERIALS;
     (pages, tail)
 }

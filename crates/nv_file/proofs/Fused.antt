@@ -1,5 +1,6 @@
 -- Entries of the code, and those that they stand for.
-use Rattle.std.proofs.Common.{◌≡◌, ℕ, List, [], ◌∷◌, map, ◌==◌, ◌+◌, ◌<◌, ◌&&◌, not, length, drop, get_or, sum_by, int_eq, ℤ, pos, refl}
+use Rattle.std.proofs.Common.{◌≡◌, ℕ, List, [], ◌∷◌, map, ◌==◌, ◌+◌, ◌<◌, ◌&&◌, not, length, drop, get_or, sum_by}
+use Rattle.std.proofs.Common.{int_eq, ℤ, pos, refl}
 use Rattle.std.proofs.lemmas.List.{drop_more}
 use Rattle.std.specs.List.{list_any, list_all, fold}
 use Rattle.nv_file.specs.declared.controller.ControllerEntry.{ControllerEntry}

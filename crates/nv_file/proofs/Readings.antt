@@ -2,7 +2,8 @@
 use Rattle.std.proofs.Common.{◌≡◌, ℕ, ◌+◌, ◌<◌, List, [], ◌∷◌, ◌++◌, length, drop, get_or, Result, Err}
 use Rattle.std.proofs.lemmas.List.{drop_more}
 use Rattle.nv_file.specs.declared.error.SubsystemError.{SubsystemError}
-use Rattle.nv_file.specs.declared.error.SubsystemError.TheVariants.{NotToml, Missing, Kind, Range, Repeated, Unknown, Capacity, Attachment, Memory}
+use Rattle.nv_file.specs.declared.error.SubsystemError.TheVariants.{NotToml, Missing, Kind, Range, Repeated, Unknown}
+use Rattle.nv_file.specs.declared.error.SubsystemError.TheVariants.{Capacity, Attachment, Memory}
 use Rattle.nv_layout.specs.Steps.{◌>>=◌}
 use Rattle.nv_file.specs.Fault.{IsUnlessMemory}
 use Rattle.nv_file.specs.KeyReading.{readings}

@@ -1,5 +1,6 @@
 -- Sets of page numbers as sets of numbers.
-use Rattle.std.proofs.Common.{◌≡◌, ◌∙◌, ℕ, zero, suc, ◌+◌, ◌<◌, ◌==◌, ◌||◌, ◌&&◌, Bool, true, false, not, cond, ap, refl, sym, IfSome, MatchOption, None, Option, Some, is_some, length}
+use Rattle.std.proofs.Common.{◌≡◌, ◌∙◌, ℕ, zero, suc, ◌+◌, ◌<◌, ◌==◌, ◌||◌, ◌&&◌, Bool, true, false, not, cond, ap}
+use Rattle.std.proofs.Common.{refl, sym, IfSome, MatchOption, None, Option, Some, is_some, length}
 use Rattle.std.specs.Cmp.{nat_cmp_total}
 use Rattle.std.specs.Ordering.{nat_cmp}
 use Rattle.std.specs.FinMap as map
@@ -17,7 +18,8 @@ contains-as_set s q = set.contains-from_list nat_cmp_total (map.keys s) q ∙ sy
 
 -- a set that has what the numbers have
 as_set_is : (s : NumberSet) (t : set.FinSet nat_cmp) → ((q : ℕ) → map.contains_key s q ≡ member t q) → as_set s ≡ t
-as_set_is s t same = set.same_set nat_cmp_total set.nat_cmp-IsAntisymmetric (as_set s) t (λ q. contains-as_set s q ∙ same q)
+as_set_is s t same =
+    set.same_set nat_cmp_total set.nat_cmp-IsAntisymmetric (as_set s) t (λ q. contains-as_set s q ∙ same q)
 
 with_one : (b : Bool) (x : Option (Unit {0})) → is_some (cond b (Some tt) x) ≡ (b || is_some x)
 with_one true x = refl
@@ -40,7 +42,8 @@ as_set-remove s k =
     ∙ ap (λ b. not (q == k) && b) (contains-as_set s q)))
 
 as_set-empty : as_set map.empty ≡ set.empty
-as_set-empty = as_set_is map.empty set.empty (λ q. ap is_some (map.get-empty nat_cmp q) ∙ sym (set.contains-empty nat_cmp q))
+as_set-empty =
+    as_set_is map.empty set.empty (λ q. ap is_some (map.get-empty nat_cmp q) ∙ sym (set.contains-empty nat_cmp q))
 
 as_set-all : (first count : ℕ) → as_set (all_of first count) ≡ set.from_list (consecutive first count)
 unfolding by_place

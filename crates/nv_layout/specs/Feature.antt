@@ -12,7 +12,7 @@ use Rattle.nv_layout.specs.declared.feature.Feature.TheVariants as feature
 -- a feature identifier, a name, the bits that the dword of a Set may have, those of them that are 0
 -- all the same, those that are stored, whether each namespace has a value of its own, and the
 -- selectors
-pub record Row : Type 0 where
+pub record FeatureRow : Type 0 where
   pub fid : ℕ
   pub name : List ℕ
   pub mask : ℕ
@@ -22,7 +22,7 @@ pub record Row : Type 0 where
   pub selectors : List ℕ
 
 -- a feature of one value, which has each bit of its mask
-abbrev pub row : ℕ → List ℕ → ℕ → ℕ → Bool → Row
+abbrev pub row : ℕ → List ℕ → ℕ → ℕ → Bool → FeatureRow
 row fid name mask clear per_namespace = record {
   fid = fid;
   name = name;
@@ -38,7 +38,7 @@ abbrev pub thresholds : List ℕ
 thresholds =
     0 ∷ 1 ∷ 2 ∷ 3 ∷ 4 ∷ 5 ∷ 6 ∷ 7 ∷ 8 ∷ 16 ∷ 17 ∷ 18 ∷ 19 ∷ 20 ∷ 21 ∷ 22 ∷ 23 ∷ 24 ∷ []
 
-abbrev pub row_of : Feature → Row
+abbrev pub row_of : Feature → FeatureRow
 row_of feature.Arbitration = row 0x01 (codes "Arbitration") 0xffffff07 0 false
 row_of feature.PowerManagement = row 0x02 (codes "Power Management") 0xff 0x1f false
 row_of feature.TemperatureThreshold = record {

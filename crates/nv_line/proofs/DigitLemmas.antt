@@ -1,5 +1,7 @@
 -- The digits of a number.
-use Rattle.std.proofs.Common.{◌≡◌, ◌≢◌, ◌∙◌, ◌&&◌, ◌^◌, ◌<◌, ◌≤◌, ℕ, ap, refl, sym, inl, inr, arith, rules, not, nat_lt, get_or, Bool, true, false, if◌then◌else◌, List, [], ◌∷◌, Result, Ok, Err, Some, None, option_and_then}
+use Rattle.std.proofs.Common.{◌≡◌, ◌≢◌, ◌∙◌, ◌&&◌, ◌^◌, ◌<◌, ◌≤◌, ℕ, ap, refl, sym, inl, inr, arith, rules, not, nat_lt}
+use Rattle.std.proofs.Common.{get_or, Bool, true, false, if◌then◌else◌, List, [], ◌∷◌, Result, Ok, Err, Some, None}
+use Rattle.std.proofs.Common.{option_and_then}
 use Rattle.std.specs.List.{list_all}
 use Rattle.std.specs.Char.{digit_value}
 use Rattle.std.specs.Result.{result_ok}

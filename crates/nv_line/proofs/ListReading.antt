@@ -1,5 +1,7 @@
 -- A list of identifiers that is read piece by piece.
-use Rattle.std.proofs.Common.{◌≡◌, ◌∙◌, ℕ, ◌+◌, ◌<◌, ◌≤◌, true, false, nat_le, if◌then◌else◌, ap, refl, sym, arith, append-nil, append_assoc, List, [], ◌∷◌, ◌++◌, Option, Some, None, drop, get_or, length, length-append, option_and_then, option_map}
+use Rattle.std.proofs.Common.{◌≡◌, ◌∙◌, ℕ, ◌+◌, ◌<◌, ◌≤◌, true, false, nat_le, if◌then◌else◌, ap, refl, sym, arith}
+use Rattle.std.proofs.Common.{append-nil, append_assoc, List, [], ◌∷◌, ◌++◌, Option, Some, None, drop, get_or, length}
+use Rattle.std.proofs.Common.{length-append, option_and_then, option_map}
 use Rattle.std.proofs.lemmas.List.{at_drop_all, at_drop_more}
 use Rattle.std.specs.List.{slice_split}
 use Rattle.clap.specs.Words.{Text}

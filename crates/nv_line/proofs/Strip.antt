@@ -1,5 +1,6 @@
 -- What follows a prefix.
-use Rattle.std.proofs.Common.{◌≡◌, ◌∙◌, ◌++◌, ℕ, ap, refl, sym, take, drop, length, Bool, true, false, List, Option, Some, None, option_map, Bor, MatchOption, if◌then◌else◌}
+use Rattle.std.proofs.Common.{◌≡◌, ◌∙◌, ◌++◌, ℕ, ap, refl, sym, take, drop, length, Bool, true, false, List, Option}
+use Rattle.std.proofs.Common.{Some, None, option_map, Bor, MatchOption, if◌then◌else◌}
 use Rattle.std.specs.Bool.{Decides}
 use Rattle.std.specs.Str.{bytes_eq}
 use Rattle.std.specs.Str.Pattern.{FindsTextPrefix, StripsPrefix}

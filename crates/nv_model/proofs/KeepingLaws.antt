@@ -8,16 +8,16 @@ use Rattle.nv_model.specs.State.{Controller, Namespaces, Nsids, State, with_cont
 use Rattle.nv_model.specs.WellFormed.{IsController, IsWellFormed}
 
 -- what a command keeps of each controller
-pub record Keeps (f : Controller → Controller) : Type 0 where
+pub record KeepsController (f : Controller → Controller) : Type 0 where
   pub identity : (x : Controller) → (f x).identity ≡ x.identity
   pub attached : (x : Controller) → (f x).attached ≡ x.attached
   pub sound : (ns : Namespaces) (x : Controller) → IsController ns x → IsController ns (f x)
 
-same_shared : (f : Controller → Controller) (k : Keeps f) (n : ℕ) (x : Controller)
+same_shared : (f : Controller → Controller) (k : KeepsController f) (n : ℕ) (x : Controller)
     → map_of.contains_key (f x).attached n ≡ map_of.contains_key x.attached n
 same_shared f k n x = ap (λ (a : Nsids). map_of.contains_key a n) (k.attached x)
 
-pub keeps : (s : State) (c : ℕ) (f : Controller → Controller) → Keeps f → IsWellFormed s
+pub keeps : (s : State) (c : ℕ) (f : Controller → Controller) → KeepsController f → IsWellFormed s
     → IsWellFormed (with_controller s c f)
 keeps s c f k w =
     let cs = s.controllers in

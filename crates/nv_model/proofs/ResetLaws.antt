@@ -16,7 +16,7 @@ use Rattle.nv_model.proofs.ChangedAtLaws.{length-changed_at}
 use Rattle.nv_model.proofs.FeatureLaws.{AreSound, default_is_sound}
 use Rattle.nv_model.specs.FeatureRules.{FeatureRules, first_value, rule_for, rule_of}
 use Rattle.nv_model.specs.FeatureValue.{default_of, restored}
-use Rattle.nv_model.proofs.KeepingLaws.{Keeps, keeps}
+use Rattle.nv_model.proofs.KeepingLaws.{KeepsController, keeps}
 use Rattle.nv_model.specs.Reset.{all_restored, reset, reset_if, reset_where, with_restored}
 use Rattle.nv_model.specs.State.{State}
 use Rattle.nv_model.specs.ValueKey.{FeatureValues, ValueKey, key_cmp}
@@ -90,7 +90,7 @@ module _ (rules : FeatureRules) (are : AreRules rules) where
           let same : restored (first_value rules k).current x ≡ y = cc is in
           subst (λ z. is_value_at k z ≡ true) same (one_is_sound k x (sound k x e))
 
-restoring_keeps : Keeps with_restored
+restoring_keeps : KeepsController with_restored
 restoring_keeps = record {
   identity = λ x. refl;
   attached = λ x. refl;

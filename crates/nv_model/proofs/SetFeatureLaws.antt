@@ -23,7 +23,7 @@ use Rattle.nv_model.specs.Features.{get_rows, is_set}
 use Rattle.nv_model.specs.Features.{selected, set_feature_rows, set_rows, supported_at, told}
 use Rattle.nv_model.specs.Features.{with_feature, with_value, with_values, write}
 use Rattle.nv_model.specs.FeatureValue.{default_of, written}
-use Rattle.nv_model.proofs.KeepingLaws.{Keeps, keeps}
+use Rattle.nv_model.proofs.KeepingLaws.{KeepsController, keeps}
 use Rattle.nv_model.proofs.ManagementLaws.{AllRefuse, none_holds}
 use Rattle.nv_command.specs.declared.status_code.StatusCode.TheVariants.{InvalidFieldInCommand}
 use Rattle.nv_model.specs.Row.{first_refusal, row}
@@ -120,7 +120,7 @@ module _ (f : Feature) (value : ℕ) (save : Bool) (fits : is_accepted f value �
       (some_selectors n (row_of f).selectors values are)
 
 set_keeps : (f : Feature) (value : ℕ) (save : Bool) (ns : List ℕ) → is_accepted f value ≡ true
-    → Keeps (with_values f value save ns)
+    → KeepsController (with_values f value save ns)
 set_keeps f value save ns fits = record {
   identity = λ x. refl;
   attached = λ x. refl;

@@ -21,13 +21,13 @@ use Rattle.nv_command.specs.declared.refusal.Refusal.{Refusal}
 use Rattle.nv_layout.specs.ErrorEntry.{ErrorEntryFits}
 use Rattle.nv_layout.specs.declared.error_entry.ErrorEntry.{ErrorEntry}
 use Rattle.nv_model.proofs.ChangedAtLaws.{length-changed_at}
-use Rattle.nv_model.proofs.KeepingLaws.{Keeps, keeps}
+use Rattle.nv_model.proofs.KeepingLaws.{KeepsController, keeps}
 use Rattle.nv_model.proofs.MeaningLaws.{sound}
 
 next_count-le : (n : ℕ) → next_count n ≤ greatest_count
 next_count-le n = omega arith
 
-pub counting_keeps : Keeps (λ x. record x { commands = next_count x.commands })
+pub counting_keeps : KeepsController (λ x. record x { commands = next_count x.commands })
 counting_keeps = record {
   identity = λ x. refl;
   attached = λ x. refl;
@@ -72,7 +72,7 @@ entry_fits count cid nsid r low a b fits = record {
 }
 
 pub booking_keeps : (nsid cid : ℕ) (r : Refusal) → nsid < 2 ^ 32 → cid < 2 ^ 16 → IsRefusal r
-    → Keeps (with_refusal nsid cid r)
+    → KeepsController (with_refusal nsid cid r)
 booking_keeps nsid cid r a b fits = record {
   identity = λ x. refl;
   attached = λ x. refl;

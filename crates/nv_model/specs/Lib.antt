@@ -30,4 +30,4 @@ pub mod Step
 pub mod Reset
 pub mod WellFormed
 pub mod Fits
-pub mod Entry
+pub mod LogEntry

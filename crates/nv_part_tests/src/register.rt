@@ -4,24 +4,24 @@ use nv_register::*;
 use std::process::Abort;
 
 /// Writes of registers, one after another.
-fn write_all(port: &mut Port, writes: &[(u32, u32)]) {
+fn write_all(bank: &mut RegisterBank, writes: &[(u32, u32)]) {
     for (offset, dword) in writes {
-        port.write32(*offset, *dword);
+        bank.write32(*offset, *dword);
     }
 }
 
 /// What registers read.
-fn expect(rt: &impl Abort, port: &Port, want: &[(u32, u32)]) {
+fn expect(rt: &impl Abort, bank: &RegisterBank, want: &[(u32, u32)]) {
     for (offset, dword) in want {
-        assert_eq!(rt; port.read32(*offset), *dword, "at {offset}");
+        assert_eq!(rt; bank.read32(*offset), *dword, "at {offset}");
     }
 }
 
 /// A controller with four submission queue entries and eight completion queue entries.
-fn ready() -> Port {
-    let mut port = Port::new();
+fn ready() -> RegisterBank {
+    let mut bank = RegisterBank::new();
     write_all(
-        &mut port,
+        &mut bank,
         &[
             (0x24, 0x0007_0003),
             (0x28, 0x1000),
@@ -29,14 +29,14 @@ fn ready() -> Port {
             (0x14, 0x0046_0001),
         ],
     );
-    port
+    bank
 }
 
 #[test]
 fn says_what_the_controller_can_do(rt: HostRuntime) {
-    let mut port = Port::new();
+    let mut bank = RegisterBank::new();
     write_all(
-        &mut port,
+        &mut bank,
         &[
             (0x00, 0xffff_ffff),
             (0x04, 0xffff_ffff),
@@ -46,7 +46,7 @@ fn says_what_the_controller_can_do(rt: HostRuntime) {
     );
     expect(
         &rt,
-        &port,
+        &bank,
         &[
             (0x00, 0x0101_0fff),
             (0x04, 0x0040_0020),
@@ -58,9 +58,9 @@ fn says_what_the_controller_can_do(rt: HostRuntime) {
 
 #[test]
 fn keeps_the_bits_of_its_fields(rt: HostRuntime) {
-    let mut port = Port::new();
+    let mut bank = RegisterBank::new();
     write_all(
-        &mut port,
+        &mut bank,
         &[
             (0x14, 0xffff_fffe),
             (0x24, 0xffff_ffff),
@@ -76,7 +76,7 @@ fn keeps_the_bits_of_its_fields(rt: HostRuntime) {
     );
     expect(
         &rt,
-        &port,
+        &bank,
         &[
             (0x14, 0x00ff_0780),
             (0x24, 0x0fff_0fff),
@@ -95,11 +95,11 @@ fn keeps_the_bits_of_its_fields(rt: HostRuntime) {
 
 #[test]
 fn is_ready_until_it_is_cleared(rt: HostRuntime) {
-    let mut port = ready();
-    expect(&rt, &port, &[(0x14, 0x0046_0001), (0x1c, 1)]);
+    let mut bank = ready();
+    expect(&rt, &bank, &[(0x14, 0x0046_0001), (0x1c, 1)]);
     // While EN is 1 the queues stay, and of CC only EN changes.
     write_all(
-        &mut port,
+        &mut bank,
         &[
             (0x24, 0),
             (0x28, 0),
@@ -111,7 +111,7 @@ fn is_ready_until_it_is_cleared(rt: HostRuntime) {
     );
     expect(
         &rt,
-        &port,
+        &bank,
         &[
             (0x24, 0x0007_0003),
             (0x28, 0x1000),
@@ -122,10 +122,10 @@ fn is_ready_until_it_is_cleared(rt: HostRuntime) {
             (0x1c, 1),
         ],
     );
-    port.write32(0x14, 0x0000_0380);
+    bank.write32(0x14, 0x0000_0380);
     expect(
         &rt,
-        &port,
+        &bank,
         &[(0x14, 0x0046_0000), (0x1c, 0), (0x24, 0x0007_0003)],
     );
 }
@@ -140,9 +140,9 @@ fn fails_on_bad_values(rt: HostRuntime) {
         (0x30, 0x2000, 0x0046_0081),
         (0x28, 0, 0x0046_0281),
     ] {
-        let mut port = Port::new();
+        let mut bank = RegisterBank::new();
         write_all(
-            &mut port,
+            &mut bank,
             &[
                 (0x24, 0x0007_0003),
                 (0x28, 0),
@@ -151,20 +151,20 @@ fn fails_on_bad_values(rt: HostRuntime) {
             ],
         );
         if offset == 0x30 && dword == 0x2000 {
-            port.write32(0x28, 0x1000);
+            bank.write32(0x28, 0x1000);
         }
-        port.write32(0x14, cc);
-        expect(&rt, &port, &[(0x14, cc), (0x1c, 2)]);
-        port.write32(0x14, 0);
-        expect(&rt, &port, &[(0x14, cc - 1), (0x1c, 0)]);
+        bank.write32(0x14, cc);
+        expect(&rt, &bank, &[(0x14, cc), (0x1c, 2)]);
+        bank.write32(0x14, 0);
+        expect(&rt, &bank, &[(0x14, cc - 1), (0x1c, 0)]);
     }
 }
 
 #[test]
 fn takes_pages_of_65536_bytes(rt: HostRuntime) {
-    let mut port = Port::new();
+    let mut bank = RegisterBank::new();
     write_all(
-        &mut port,
+        &mut bank,
         &[
             (0x24, 0x0fff_0001),
             (0x28, 0x0001_0000),
@@ -172,8 +172,8 @@ fn takes_pages_of_65536_bytes(rt: HostRuntime) {
             (0x14, 0x0046_0201),
         ],
     );
-    expect(&rt, &port, &[(0x1c, 1)]);
-    match &port.readiness {
+    expect(&rt, &bank, &[(0x1c, 1)]);
+    match &bank.readiness {
         Readiness::Ready { rings, .. } => assert_eq!(rt; rings.page_size, 65536),
         Readiness::Off | Readiness::Failed => assert!(rt; false),
     }
@@ -182,10 +182,10 @@ fn takes_pages_of_65536_bytes(rt: HostRuntime) {
 #[test]
 fn rings_by_doorbells(rt: HostRuntime) {
     // Ignored: a tail past the last slot, and one of more than a slot's bits.
-    let mut port = ready();
+    let mut bank = ready();
     for (tail, is_empty) in [(4, true), (0x0001_0001, true), (3, false), (0, true)] {
-        port.write32(0x1000, tail);
-        match &port.readiness {
+        bank.write32(0x1000, tail);
+        match &bank.readiness {
             Readiness::Ready { rings, .. } => {
                 assert_eq!(rt; rings.submission.is_empty(), is_empty);
             }
@@ -194,10 +194,10 @@ fn rings_by_doorbells(rt: HostRuntime) {
     }
     // New rings are empty.
     write_all(
-        &mut port,
+        &mut bank,
         &[(0x1000, 2), (0x14, 0x0046_0000), (0x14, 0x0046_0001)],
     );
-    match &port.readiness {
+    match &bank.readiness {
         Readiness::Ready { rings, .. } => assert!(rt; rings.submission.is_empty()),
         Readiness::Off | Readiness::Failed => assert!(rt; false),
     }
@@ -217,40 +217,40 @@ fn stops_where_en_is_cleared(rt: HostRuntime) {
         (0x1000, 0, false),
         (0x1004, 0, false),
     ] {
-        let port = ready();
-        assert_eq!(rt; port.stops_at(offset, dword), stops, "{offset}: {dword}");
-        assert!(rt; !Port::new().stops_at(offset, dword));
+        let bank = ready();
+        assert_eq!(rt; bank.stops_at(offset, dword), stops, "{offset}: {dword}");
+        assert!(rt; !RegisterBank::new().stops_at(offset, dword));
     }
 }
 
 /// A turn's fatal status beside RDY 1 goes where EN is cleared, and so does one of a failed start.
 #[test]
 fn a_fatal_status_goes_with_en(rt: HostRuntime) {
-    let mut port = ready();
-    if let Readiness::Ready { fatal, .. } = &mut port.readiness {
+    let mut bank = ready();
+    if let Readiness::Ready { fatal, .. } = &mut bank.readiness {
         *fatal = true;
     }
-    expect(&rt, &port, &[(0x14, 0x0046_0001), (0x1c, 3)]);
+    expect(&rt, &bank, &[(0x14, 0x0046_0001), (0x1c, 3)]);
     // While it stands no queue is set.
-    port.write32(0x24, 0);
-    expect(&rt, &port, &[(0x24, 0x0007_0003), (0x1c, 3)]);
-    assert!(rt; port.stops_at(0x14, 0));
-    port.write32(0x14, 0);
-    expect(&rt, &port, &[(0x14, 0x0046_0000), (0x1c, 0)]);
-    port.write32(0x30, 0x2001);
-    port.write32(0x14, 0x0046_0001);
-    expect(&rt, &port, &[(0x14, 0x0046_0001), (0x1c, 2)]);
-    assert!(rt; port.stops_at(0x14, 0));
-    port.write32(0x14, 0);
-    assert!(rt; !port.stops_at(0x14, 0));
-    expect(&rt, &port, &[(0x14, 0x0046_0000), (0x1c, 0)]);
+    bank.write32(0x24, 0);
+    expect(&rt, &bank, &[(0x24, 0x0007_0003), (0x1c, 3)]);
+    assert!(rt; bank.stops_at(0x14, 0));
+    bank.write32(0x14, 0);
+    expect(&rt, &bank, &[(0x14, 0x0046_0000), (0x1c, 0)]);
+    bank.write32(0x30, 0x2001);
+    bank.write32(0x14, 0x0046_0001);
+    expect(&rt, &bank, &[(0x14, 0x0046_0001), (0x1c, 2)]);
+    assert!(rt; bank.stops_at(0x14, 0));
+    bank.write32(0x14, 0);
+    assert!(rt; !bank.stops_at(0x14, 0));
+    expect(&rt, &bank, &[(0x14, 0x0046_0000), (0x1c, 0)]);
 }
 
 /// Writes AQA, ASQ and ACQ.
-fn write_queues(port: &mut Port, queues: [u32; 5]) {
+fn write_queues(bank: &mut RegisterBank, queues: [u32; 5]) {
     let [aqa, asq_low, asq_high, acq_low, acq_high] = queues;
     write_all(
-        port,
+        bank,
         &[
             (0x24, aqa),
             (0x28, asq_low),
@@ -262,11 +262,11 @@ fn write_queues(port: &mut Port, queues: [u32; 5]) {
 }
 
 /// What every register reads: CC, CSTS, and AQA, ASQ and ACQ.
-fn expect_all(rt: &impl Abort, port: &Port, cc: u32, csts: u32, queues: [u32; 5]) {
+fn expect_all(rt: &impl Abort, bank: &RegisterBank, cc: u32, csts: u32, queues: [u32; 5]) {
     let [aqa, asq_low, asq_high, acq_low, acq_high] = queues;
     expect(
         rt,
-        port,
+        bank,
         &[
             (0x00, 0x0101_0fff),
             (0x04, 0x0040_0020),
@@ -285,9 +285,9 @@ fn expect_all(rt: &impl Abort, port: &Port, cc: u32, csts: u32, queues: [u32; 5]
 }
 
 /// Writes the registers that take no write, and a doorbell.
-fn write_fixed(port: &mut Port) {
+fn write_fixed(bank: &mut RegisterBank) {
     write_all(
-        port,
+        bank,
         &[
             (0x00, 0),
             (0x04, 0xffff_ffff),
@@ -303,29 +303,29 @@ fn write_fixed(port: &mut Port) {
 fn reads_and_writes_at_each_stage(rt: HostRuntime) {
     let good = [0x0007_0003, 0x1000, 1, 0x2000, 2];
     let bad = [0x0007_0003, 0x1000, 1, 0x2004, 2];
-    let mut port = Port::new();
-    expect_all(&rt, &port, 0, 0, [0, 0, 0, 0, 0]);
-    write_queues(&mut port, good);
-    write_fixed(&mut port);
-    expect_all(&rt, &port, 0, 0, good);
+    let mut bank = RegisterBank::new();
+    expect_all(&rt, &bank, 0, 0, [0, 0, 0, 0, 0]);
+    write_queues(&mut bank, good);
+    write_fixed(&mut bank);
+    expect_all(&rt, &bank, 0, 0, good);
     // Ready: of all these writes none is taken.
-    port.write32(0x14, 0x0046_0001);
-    expect_all(&rt, &port, 0x0046_0001, 1, good);
-    write_queues(&mut port, bad);
-    write_fixed(&mut port);
-    port.write32(0x14, 0x00ff_0781);
-    expect_all(&rt, &port, 0x0046_0001, 1, good);
+    bank.write32(0x14, 0x0046_0001);
+    expect_all(&rt, &bank, 0x0046_0001, 1, good);
+    write_queues(&mut bank, bad);
+    write_fixed(&mut bank);
+    bank.write32(0x14, 0x00ff_0781);
+    expect_all(&rt, &bank, 0x0046_0001, 1, good);
     // Not enabled any more: EN alone has changed, and then all is written again.
-    port.write32(0x14, 0x00ff_0780);
-    expect_all(&rt, &port, 0x0046_0000, 0, good);
-    write_queues(&mut port, bad);
-    expect_all(&rt, &port, 0x0046_0000, 0, bad);
+    bank.write32(0x14, 0x00ff_0780);
+    expect_all(&rt, &bank, 0x0046_0000, 0, good);
+    write_queues(&mut bank, bad);
+    expect_all(&rt, &bank, 0x0046_0000, 0, bad);
     // A fatal status: EN is 1, and again none is taken.
-    port.write32(0x14, 0x0046_0001);
-    expect_all(&rt, &port, 0x0046_0001, 2, bad);
-    write_queues(&mut port, good);
-    write_fixed(&mut port);
-    expect_all(&rt, &port, 0x0046_0001, 2, bad);
-    port.write32(0x14, 0);
-    expect_all(&rt, &port, 0x0046_0000, 0, bad);
+    bank.write32(0x14, 0x0046_0001);
+    expect_all(&rt, &bank, 0x0046_0001, 2, bad);
+    write_queues(&mut bank, good);
+    write_fixed(&mut bank);
+    expect_all(&rt, &bank, 0x0046_0001, 2, bad);
+    bank.write32(0x14, 0);
+    expect_all(&rt, &bank, 0x0046_0000, 0, bad);
 }

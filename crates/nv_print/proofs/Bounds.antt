@@ -4,7 +4,8 @@ use Rattle.std.specs.Prelude.{OnOk, String}
 use Rattle.std.specs.Result.{IfOk}
 use Rattle.std.specs.declared.alloc.Global.{Global}
 
-pub text_within : {E : Type 0} (r : Result (String Global) E) (text : List ℕ) (n : ℕ) → IfOk r (λ t. string_bytes t ≡ text) → length text ≤ n → IfOk r (λ t. length (string_bytes t) ≤ n)
+pub text_within : {E : Type 0} (r : Result (String Global) E) (text : List ℕ) (n : ℕ)
+    → IfOk r (λ t. string_bytes t ≡ text) → length text ≤ n → IfOk r (λ t. length (string_bytes t) ≤ n)
 text_within (Ok t) text n is h = rw is h
 text_within (Err e) text n is h = tt
 

@@ -1,5 +1,6 @@
 -- How long what is shown of a device is.
-use Rattle.std.proofs.Common.{◌≡◌, ℕ, zero, suc, ◌+◌, ◌*◌, ◌/◌, ◌%◌, ◌^◌, ◌<◌, ◌≤◌, arith, Bool, true, false, refl, List, [], ◌∷◌, ◌++◌, length, length-append, get_or}
+use Rattle.std.proofs.Common.{◌≡◌, ℕ, zero, suc, ◌+◌, ◌*◌, ◌/◌, ◌%◌, ◌^◌, ◌<◌, ◌≤◌, arith, Bool, true, false, refl}
+use Rattle.std.proofs.Common.{List, [], ◌∷◌, ◌++◌, length, length-append, get_or}
 use Rattle.std.specs.Prelude.{codes, ◌==◌, nat_le, if◌then◌else◌}
 use Rattle.std.specs.Fmt.{decimal, digit_glyph, digits, digits_onto}
 use Rattle.std.specs.List.{All, list_all, take_while}
@@ -20,12 +21,25 @@ use Rattle.nv_print.proofs.PrintableLaws.{each_printable}
 -- ---- its line
 
 node_length : (controller nsid : ℕ) → length (node_of controller nsid) ≤ 138
-node_length controller nsid = omega (arith, decimal_length controller, decimal_length nsid, length-append (decimal controller) (codes "n" ++ decimal nsid))
+node_length controller nsid =
+    omega (
+      arith,
+      decimal_length controller,
+      decimal_length nsid,
+      length-append (decimal controller) (codes "n" ++ decimal nsid),
+    )
 
 pub node_short : (controller nsid : ℕ) → controller < 2 ^ 64 → nsid < 2 ^ 64 → length (node_of controller nsid) ≤ 64
-node_short controller nsid c n = omega (arith, decimal_short controller c, decimal_short nsid n, length-append (decimal controller) (codes "n" ++ decimal nsid))
+node_short controller nsid c n =
+    omega (
+      arith,
+      decimal_short controller c,
+      decimal_short nsid n,
+      length-append (decimal controller) (codes "n" ++ decimal nsid),
+    )
 
-columns_length : (a b c d e f : List ℕ) → length (a ++ (32 ∷ b ++ (32 ∷ c ++ (32 ∷ d ++ (32 ∷ e ++ (32 ∷ f ++ 10 ∷ []))))))
+columns_length : (a b c d e f : List ℕ)
+    → length (a ++ (32 ∷ b ++ (32 ∷ c ++ (32 ∷ d ++ (32 ∷ e ++ (32 ∷ f ++ 10 ∷ []))))))
     ≡ (length a + length b) + (length c + length d) + (length e + length f) + 6
 columns_length a b c d e f = simp length-append (omega arith)
 
@@ -35,7 +49,8 @@ device_line_length d has_20 has_40 =
     let model = printable d.model in
     omega (
       arith,
-      columns_length (left 18 (node_of d.controller d.nsid)) (left 20 serial) (left 40 model) (right 10 (decimal d.nsid)) (right 20 (decimal d.bytes)) (right 6 (decimal d.block_size)),
+      columns_length (left 18 (node_of d.controller d.nsid)) (left 20 serial) (left 40 model)
+          (right 10 (decimal d.nsid)) (right 20 (decimal d.bytes)) (right 6 (decimal d.block_size)),
       left_length 18 (node_of d.controller d.nsid),
       left_length 20 serial,
       left_length 40 model,
@@ -81,7 +96,8 @@ either : (t : Bool) (x y : List ℕ) → IsPlain x → IsPlain y → IsPlain (if
 either true x y hx hy = hx
 either false x y hx hy = hy
 
-digits_plain : (k base : ℕ) (upper : Bool) (n : ℕ) (acc : List ℕ) → IsPlain acc → IsPlain (digits_onto k base upper n acc)
+digits_plain : (k base : ℕ) (upper : Bool) (n : ℕ) (acc : List ℕ) → IsPlain acc
+    → IsPlain (digits_onto k base upper n acc)
 digits_plain zero base upper n acc h = h
 digits_plain (suc k) base upper n acc h =
     let more = cons_plain (digit_glyph upper (n % base)) acc (glyph_plain upper (n % base)) h in
@@ -97,7 +113,9 @@ literal_plain s e k d h =
     grind (arith, nat_tests)
 
 node_plain : (controller nsid : ℕ) → IsPlain (node_of controller nsid)
-node_plain controller nsid = All-append (λ b. 32 ≤ b) (codes "/dev/nvme") (decimal controller ++ (codes "n" ++ decimal nsid)) (literal_plain (codes "/dev/nvme") refl)
+node_plain controller nsid =
+    All-append (λ b. 32 ≤ b) (codes "/dev/nvme") (decimal controller ++ (codes "n" ++ decimal nsid))
+    (literal_plain (codes "/dev/nvme") refl)
     (All-append (λ b. 32 ≤ b) (decimal controller) (codes "n" ++ decimal nsid) (decimal_plain controller)
     (cons_plain 110 (decimal nsid) (omega arith) (decimal_plain nsid)))
 
@@ -107,8 +125,10 @@ printable_plain bs = All-take (λ b. 32 ≤ b) _ (take_while is_printable bs) (�
     plain : (b : ℕ) → is_printable b ≡ true → 32 ≤ b
     plain b p = grind (arith, nat_tests)
 
-pub device_json_length : (d : Device) → length d.serial ≡ 20 → length d.model ≡ 40 → length (node_of d.controller d.nsid) ≤ 64
-    → d.nsid < 2 ^ 64 → d.bytes < 2 ^ 64 → d.block_size < 2 ^ 64 → length (compact_text (object_of (fields_of_device d))) ≤ 511
+pub device_json_length : (d : Device) → length d.serial ≡ 20 → length d.model ≡ 40
+    → length (node_of d.controller d.nsid) ≤ 64
+    → d.nsid < 2 ^ 64 → d.bytes < 2 ^ 64 → d.block_size < 2 ^ 64
+    → length (compact_text (object_of (fields_of_device d))) ≤ 511
 unfolding fields_of_device escape_byte
 device_json_length d has_20 has_40 node nsid bytes block_size =
     omega (

@@ -3,7 +3,8 @@ use Rattle.std.proofs.Common.{ℕ, ◌+◌, ◌*◌, ◌≤◌, arith, List, [],
 use Rattle.std.specs.Prelude.{codes, flat_map}
 use Rattle.std.specs.Fmt.{decimal}
 use Rattle.serde_json.specs.Written.{compact_text}
-use Rattle.nv_print.specs.Field.{Field, Shape, as_text, in_decimal, in_hexadecimal, in_six_digits, wide, field_line, fields_text, object_of, shape_data, shape_text}
+use Rattle.nv_print.specs.Field.{Field, Shape, as_text, in_decimal, in_hexadecimal, in_six_digits, wide, field_line}
+use Rattle.nv_print.specs.Field.{fields_text, object_of, shape_data, shape_text}
 use Rattle.nv_print.specs.Hexadecimal.{six_digits}
 use Rattle.nv_print.specs.IdNs.{field_within}
 use Rattle.nv_print.specs.Padding.{left}
@@ -42,7 +43,8 @@ fields_width (f ∷ fields) = 23 + (length f.key + shape_width f.shape) + fields
 
 pub fields_text-length : (fields : List Field) → length (fields_text fields) ≤ fields_width fields
 fields_text-length [] = omega arith
-fields_text-length (f ∷ fields) = omega (arith, length-append (field_line f) (fields_text fields), field_line-length f, fields_text-length fields)
+fields_text-length (f ∷ fields) =
+    omega (arith, length-append (field_line f) (fields_text fields), field_line-length f, fields_text-length fields)
 
 pub within_length : (fields : List Field) → length (flat_map field_within fields) ≤ fields_width fields
 within_length [] = omega arith
@@ -76,7 +78,8 @@ members_width (f ∷ fields) = 4 + (6 * length f.key + data_width f.shape) + mem
 
 pub members_length-width : (fields : List Field) → members_length fields ≤ members_width fields
 members_length-width [] = omega arith
-members_length-width (f ∷ fields) = omega (arith, quoted_length f.key, shape_data-width f.shape, members_length-width fields)
+members_length-width (f ∷ fields) =
+    omega (arith, quoted_length f.key, shape_data-width f.shape, members_length-width fields)
 
 pub object_width : (fields : List Field) → length (compact_text (object_of fields)) ≤ 2 + members_width fields
 object_width fields = omega (arith, object_length fields, members_length-width fields)

@@ -1,5 +1,6 @@
 -- One field more.
-use Rattle.std.proofs.Common.{◌≡◌, ◌∙◌, ℕ, ◌+◌, ◌<◌, ap, ap₂, append_assoc, sym, List, [], ◌∷◌, ◌++◌, length, take, get_or}
+use Rattle.std.proofs.Common.{◌≡◌, ◌∙◌, ℕ, ◌+◌, ◌<◌, ap, ap₂, append_assoc, sym, List, [], ◌∷◌, ◌++◌, length, take}
+use Rattle.std.proofs.Common.{get_or}
 use Rattle.std.proofs.lemmas.List.{flat_map_more, take_more}
 use Rattle.std.specs.Prelude.{flat_map}
 use Rattle.nv_print.specs.Field.{Field}
@@ -15,7 +16,8 @@ three_more text a b c = append_assoc (text ++ a) b c ∙ append_assoc text a (b 
 -- a text that a list's elements were added to, and one more
 pub flat_map_next : {A : Type 0} (f : A → List ℕ) (text : List ℕ) (xs : List A) (i : ℕ) (d : A) → i < length xs
     → (text ++ flat_map f (take i xs)) ++ f (get_or xs i d) ≡ text ++ flat_map f (take (i + 1) xs)
-flat_map_next f text xs i d h = flat_map_more f text (take i xs) (get_or xs i d) ∙ ap (λ ys. text ++ flat_map f ys) (sym (take_more xs i d h))
+flat_map_next f text xs i d h = flat_map_more f text (take i xs) (get_or xs i d)
+    ∙ ap (λ ys. text ++ flat_map f ys) (sym (take_more xs i d h))
 
 -- a text that the parts of a field's line were added to
 pub line_more : (text key room colon value end : List ℕ)
@@ -23,10 +25,13 @@ pub line_more : (text key room colon value end : List ℕ)
 line_more text key room colon value end =
     three_more (text ++ key) (room ++ colon) value end
     ∙ append_assoc text key ((room ++ colon) ++ (value ++ end))
-    ∙ ap (λ rest. text ++ rest) (ap (λ rest. key ++ rest) (append_assoc room colon (value ++ end)) ∙ sym (append_assoc key room (colon ++ (value ++ end))))
+    ∙ ap (λ rest. text ++ rest)
+    (ap (λ rest. key ++ rest) (append_assoc room colon (value ++ end))
+    ∙ sym (append_assoc key room (colon ++ (value ++ end))))
 
 -- a text that the parts of a field within a line were added to
-pub within_more : (text key value : List ℕ) → (((text ++ 32 ∷ []) ++ key) ++ 58 ∷ []) ++ value ≡ text ++ (32 ∷ (key ++ 58 ∷ value))
+pub within_more : (text key value : List ℕ)
+    → (((text ++ 32 ∷ []) ++ key) ++ 58 ∷ []) ++ value ≡ text ++ (32 ∷ (key ++ 58 ∷ value))
 within_more text key value =
     three_more (text ++ 32 ∷ []) key (58 ∷ []) value
     ∙ append_assoc text (32 ∷ []) (key ++ 58 ∷ value)

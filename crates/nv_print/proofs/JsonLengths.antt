@@ -1,5 +1,6 @@
 -- How long the compact text of JSON is.
-use Rattle.std.proofs.Common.{◌≡◌, ℕ, suc, ◌+◌, ◌*◌, ◌<◌, ◌≤◌, arith, Bool, true, false, List, [], ◌∷◌, ◌++◌, length, length-append, get_or, map, take, nat_cmp, Ordering, Less, Equal, Greater}
+use Rattle.std.proofs.Common.{◌≡◌, ℕ, suc, ◌+◌, ◌*◌, ◌<◌, ◌≤◌, arith, Bool, true, false, List, [], ◌∷◌, ◌++◌, length}
+use Rattle.std.proofs.Common.{length-append, get_or, map, take, nat_cmp, Ordering, Less, Equal, Greater}
 use Rattle.std.specs.List.{All}
 use Rattle.std.proofs.lemmas.List.{map_more}
 use Rattle.std.specs.Cmp.Lexicographic.{slice_cmp}
@@ -20,7 +21,9 @@ comma_length true = omega arith
 comma_length false = omega arith
 
 one_member : (later : Bool) (k : List ℕ) (d : Data) (ms : Members)
-    → length (members_text later (member k d ms)) ≡ length (comma_if later) + (length (quoted k) + (1 + (length (compact_text d) + length (members_text true ms))))
+    → length (members_text later (member k d ms))
+    ≡ length (comma_if later) +
+    (length (quoted k) + (1 + (length (compact_text d) + length (members_text true ms))))
 one_member later k d ms = omega (
   arith,
   length-append (comma_if later) (quoted k ++ 58 ∷ (compact_text d ++ members_text true ms)),
@@ -32,30 +35,39 @@ placed : (o : Ordering) (later : Bool) (k l : List ℕ) (d e : Data) (ms rest : 
     → length (members_text true rest) ≤ length (members_text true ms) + member_length k d
     → length (members_text later (match_ordering o (member k d (member l e ms)) (member l d ms) (member l e rest)))
     ≤ length (members_text later (member l e ms)) + member_length k d
-placed Less later k l d e ms rest h = omega (arith, one_member later k d (member l e ms), one_member true l e ms, one_member later l e ms)
+placed Less later k l d e ms rest h =
+    omega (arith, one_member later k d (member l e ms), one_member true l e ms, one_member later l e ms)
 placed Equal later k l d e ms rest h = omega (arith, one_member later l d ms, one_member later l e ms)
 placed Greater later k l d e ms rest h = omega (arith, one_member later l e rest, one_member later l e ms)
 
 pub put_length : (later : Bool) (k : List ℕ) (d : Data) (ms : Members)
     → length (members_text later (put k d ms)) ≤ length (members_text later ms) + member_length k d
 put_length later k d no_members = omega (arith, one_member later k d no_members, comma_length later)
-put_length later k d (member l e ms) = placed (slice_cmp nat_cmp k l) later k l d e ms (put k d ms) (put_length true k d ms)
+put_length later k d (member l e ms) =
+    placed (slice_cmp nat_cmp k l) later k l d e ms (put k d ms) (put_length true k d ms)
 
 -- what fields add at most
 abbrev pub members_length : List Field → ℕ
 members_length [] = 0
 members_length (f ∷ fields) = member_length f.key (shape_data f.shape) + members_length fields
 
-pub with_fields_length : (fields : List Field) (ms : Members) → length (members_text false (with_fields fields ms)) ≤ length (members_text false ms) + members_length fields
+pub with_fields_length : (fields : List Field) (ms : Members)
+    → length (members_text false (with_fields fields ms)) ≤ length (members_text false ms) + members_length fields
 with_fields_length [] ms = omega arith
-with_fields_length (f ∷ fields) ms = omega (arith, with_fields_length fields (put f.key (shape_data f.shape) ms), put_length false f.key (shape_data f.shape) ms)
+with_fields_length (f ∷ fields) ms =
+    omega (
+      arith,
+      with_fields_length fields (put f.key (shape_data f.shape) ms),
+      put_length false f.key (shape_data f.shape) ms,
+    )
 
 pub object_length : (fields : List Field) → length (compact_text (object_of fields)) ≤ 2 + members_length fields
 object_length fields = omega (arith, with_fields_length fields no_members)
 
 -- a list whose elements' texts have so many bytes at most
 pub items_length : {A : Type 0} (data_of : A → Data) (most : ℕ) (later : Bool) (xs : List A)
-    → All (λ x. length (compact_text (data_of x)) ≤ most) xs → length (items_text later (items_of (map data_of xs))) ≤ 1 + (most + 1) * length xs
+    → All (λ x. length (compact_text (data_of x)) ≤ most) xs
+    → length (items_text later (items_of (map data_of xs))) ≤ 1 + (most + 1) * length xs
 items_length data_of most later [] each = omega arith
 items_length data_of most later (x ∷ xs) each =
     let first : length (compact_text (data_of x)) ≤ most = each 0 x (omega arith) in
@@ -70,14 +82,27 @@ items_length data_of most later (x ∷ xs) each =
 -- an object of one such list
 pub list_object_length : {A : Type 0} (key : List ℕ) (data_of : A → Data) (most : ℕ) (xs : List A)
     → All (λ x. length (compact_text (data_of x)) ≤ most) xs
-    → length (compact_text (object (put key (array (items_of (map data_of xs))) no_members))) ≤ 8 + (6 * length key + (most + 1) * length xs)
+    → length (compact_text (object (put key (array (items_of (map data_of xs))) no_members)))
+    ≤ 8 + (6 * length key + (most + 1) * length xs)
 list_object_length key data_of most xs each =
-    omega (arith, put_length false key (array (items_of (map data_of xs))) no_members, items_length data_of most false xs each, quoted_length key)
+    omega (
+      arith,
+      put_length false key (array (items_of (map data_of xs))) no_members,
+      items_length data_of most false xs each,
+      quoted_length key,
+    )
 
 -- one item more
 items_append_length : (later : Bool) (ds : List Data) (d : Data)
-    → length (items_text later (items_of (ds ++ d ∷ []))) ≤ length (items_text later (items_of ds)) + (length (compact_text d) + 1)
-items_append_length later [] d = omega (arith, comma_length later, length-append (comma_if later) (compact_text d ++ items_text true no_items), length-append (compact_text d) (items_text true no_items))
+    → length (items_text later (items_of (ds ++ d ∷ [])))
+    ≤ length (items_text later (items_of ds)) + (length (compact_text d) + 1)
+items_append_length later [] d =
+    omega (
+      arith,
+      comma_length later,
+      length-append (comma_if later) (compact_text d ++ items_text true no_items),
+      length-append (compact_text d) (items_text true no_items),
+    )
 items_append_length later (x ∷ ds) d = omega (
   arith,
   items_append_length true ds d,
@@ -87,8 +112,10 @@ items_append_length later (x ∷ ds) d = omega (
   length-append (compact_text x) (items_text true (items_of ds)),
 )
 
-pub items_next_length : {A : Type 0} (data_of : A → Data) (most : ℕ) (xs : List A) (i : ℕ) (d : A) → i < length xs → length (compact_text (data_of (get_or xs i d))) ≤ most
-    → length (items_text false (items_of (map data_of (take i xs)))) ≤ 1 + (most + 1) * i → length (items_text false (items_of (map data_of (take (i + 1) xs)))) ≤ 1 + (most + 1) * (i + 1)
+pub items_next_length : {A : Type 0} (data_of : A → Data) (most : ℕ) (xs : List A) (i : ℕ) (d : A) → i < length xs
+    → length (compact_text (data_of (get_or xs i d))) ≤ most
+    → length (items_text false (items_of (map data_of (take i xs)))) ≤ 1 + (most + 1) * i
+    → length (items_text false (items_of (map data_of (take (i + 1) xs)))) ≤ 1 + (most + 1) * (i + 1)
 items_next_length data_of most xs i d h this old =
     let more = items_append_length false (map data_of (take i xs)) (data_of (get_or xs i d)) in
     rw (map_more data_of xs i d h) (omega arith)

@@ -50,21 +50,29 @@ after_lbafs r = refl
 
 -- a namespace's formats stand between its fields
 pub id_ns_order : (r : IdNs) (formats : Data) → put (codes "lbafs") formats (members_of (fields_of_id_ns r))
-    ≡ before (picked (fields_of_id_ns r) BEFORE_LBAFS) (member (codes "lbafs") formats (before (picked (fields_of_id_ns r) AFTER_LBAFS) no_members))
+    ≡ before (picked (fields_of_id_ns r) BEFORE_LBAFS)
+    (member (codes "lbafs") formats (before (picked (fields_of_id_ns r) AFTER_LBAFS) no_members))
 unfolding fields_of_id_ns
 id_ns_order r formats = refl
 
 id_ns_len : (r : IdNs) (formats : Data) → 12
-    ≡ members_len (before (picked (fields_of_id_ns r) BEFORE_LBAFS) (member (codes "lbafs") formats (before (picked (fields_of_id_ns r) AFTER_LBAFS) no_members)))
+    ≡ members_len
+    (before (picked (fields_of_id_ns r) BEFORE_LBAFS)
+    (member (codes "lbafs") formats (before (picked (fields_of_id_ns r) AFTER_LBAFS) no_members)))
 unfolding fields_of_id_ns
 id_ns_len r formats = refl
 
-pub id_ns_sent : (r : IdNs) (formats : Data) (old first before_list after_list last new : Log) → Logs old first (map_begins (Some 12))
-    → WritesEach SendsField (picked (fields_of_id_ns r) BEFORE_LBAFS) first before_list → SendsMember (codes "lbafs") formats before_list after_list
+pub id_ns_sent : (r : IdNs) (formats : Data) (old first before_list after_list last new : Log)
+    → Logs old first (map_begins (Some 12))
+    → WritesEach SendsField (picked (fields_of_id_ns r) BEFORE_LBAFS) first before_list
+    → SendsMember (codes "lbafs") formats before_list after_list
     → WritesEach SendsField (picked (fields_of_id_ns r) AFTER_LBAFS) after_list last → Logs last new map_ends
     → SendsValue (object (put (codes "lbafs") formats (members_of (fields_of_id_ns r)))) old new
 id_ns_sent r formats old first before_list after_list last new begun some list others ended =
     let end = fields_sent (picked (fields_of_id_ns r) AFTER_LBAFS) no_members after_list last new others ended in
     let later = member (codes "lbafs") formats (before (picked (fields_of_id_ns r) AFTER_LBAFS) no_members) in
-    let all = fields_sent (picked (fields_of_id_ns r) BEFORE_LBAFS) later first before_list new some (list.0, after_list, list.1, list.2, end) in
-    subst (λ ms. SendsValue (object ms) old new) (sym (id_ns_order r formats)) (first, subst (λ n. Logs old first (map_begins (Some n))) (id_ns_len r formats) begun, all)
+    let all =
+    fields_sent (picked (fields_of_id_ns r) BEFORE_LBAFS) later first before_list new some
+    (list.0, after_list, list.1, list.2, end) in
+    subst (λ ms. SendsValue (object ms) old new) (sym (id_ns_order r formats))
+    (first, subst (λ n. Logs old first (map_begins (Some n))) (id_ns_len r formats) begun, all)

@@ -1,5 +1,6 @@
 -- How long texts are.
-use Rattle.std.proofs.Common.{◌≡◌, ◌∙◌, ℕ, zero, suc, ◌+◌, ◌-◌, ◌*◌, ◌/◌, ◌%◌, ◌^◌, ◌<◌, ◌≤◌, arith, Bool, true, false, ap, List, [], ◌∷◌, length, length-append}
+use Rattle.std.proofs.Common.{◌≡◌, ◌∙◌, ℕ, zero, suc, ◌+◌, ◌-◌, ◌*◌, ◌/◌, ◌%◌, ◌^◌, ◌<◌, ◌≤◌, arith, Bool, true, false}
+use Rattle.std.proofs.Common.{ap, List, [], ◌∷◌, length, length-append}
 use Rattle.std.specs.Prelude.{◌==◌, replicate, if◌then◌else◌}
 use Rattle.std.specs.Fmt.{decimal, digit_glyph, digits, digits_onto}
 use Rattle.std.proofs.lemmas.Fmt.{length-decimal-le}
@@ -14,7 +15,8 @@ either : (t : Bool) (x y : List ℕ) (n : ℕ) → length x ≤ n → length y �
 either true x y n hx hy = hx
 either false x y n hx hy = hy
 
-digits_onto-length : (k base : ℕ) (upper : Bool) (n : ℕ) (acc : List ℕ) → length (digits_onto k base upper n acc) ≤ k + length acc
+digits_onto-length : (k base : ℕ) (upper : Bool) (n : ℕ) (acc : List ℕ)
+    → length (digits_onto k base upper n acc) ≤ k + length acc
 digits_onto-length zero base upper n acc = omega arith
 digits_onto-length (suc k) base upper n acc =
     let more = digits_onto-length k base upper (n / base) (digit_glyph upper (n % base) ∷ acc) in
@@ -31,7 +33,13 @@ pub hexadecimal_length : (n : ℕ) → length (hexadecimal n) ≤ 66
 hexadecimal_length n = omega (arith, digits_length 16 false n)
 
 pub six_digits_length : (n : ℕ) → length (six_digits n) ≤ 64
-six_digits_length n = omega (arith, digits_length 16 false n, length-append (replicate {A = ℕ} (6 - length (digits 16 false n)) 48) (digits 16 false n), length-replicate {A = ℕ} (6 - length (digits 16 false n)) 48)
+six_digits_length n =
+    omega (
+      arith,
+      digits_length 16 false n,
+      length-append (replicate {A = ℕ} (6 - length (digits 16 false n)) 48) (digits 16 false n),
+      length-replicate {A = ℕ} (6 - length (digits 16 false n)) 48,
+    )
 
 pub left_length : (width : ℕ) (text : List ℕ) → length (left width text) ≡ length text + (width - length text)
 left_length width text = length-append text _ ∙ ap (λ n. length text + n) (length-replicate (width - length text) 32)
@@ -60,7 +68,8 @@ pub decimal_short : (n : ℕ) → n < 2 ^ 64 → length (decimal n) ≤ 20
 decimal_short n h = length-decimal-le 20 n (omega arith) (omega arith) h
 
 -- a number below p sixteens more has one digit more at most
-hexadecimal_onto : (k fuel n : ℕ) (acc : List ℕ) → n < 16 ^ suc k → length (digits_onto fuel 16 false n acc) ≤ suc k + length acc
+hexadecimal_onto : (k fuel n : ℕ) (acc : List ℕ) → n < 16 ^ suc k
+    → length (digits_onto fuel 16 false n acc) ≤ suc k + length acc
 hexadecimal_onto k zero n acc h = omega arith
 hexadecimal_onto zero (suc fuel) n acc h =
     let one : (n / 16 == 0) ≡ true = grind (arith, nat_tests) in

@@ -1,5 +1,6 @@
 -- How long what is shown of lists is.
-use Rattle.std.proofs.Common.{ℕ, suc, ◌+◌, ◌*◌, ◌^◌, ◌<◌, ◌≤◌, arith, Bool, true, false, List, [], ◌∷◌, ◌++◌, length, length-append, map, min, get_or, ◌%◌}
+use Rattle.std.proofs.Common.{ℕ, suc, ◌+◌, ◌*◌, ◌^◌, ◌<◌, ◌≤◌, arith, Bool, true, false, List, [], ◌∷◌, ◌++◌, length}
+use Rattle.std.proofs.Common.{length-append, map, min, get_or, ◌%◌}
 use Rattle.std.specs.Prelude.{codes, ◌==◌, filter, flat_map, if◌then◌else◌, ⊤}
 use Rattle.std.specs.Fmt.{decimal}
 use Rattle.std.specs.List.{All}
@@ -12,22 +13,26 @@ use Rattle.nv_layout.specs.declared.id_ns.IdNs.{IdNs}
 use Rattle.nv_layout.specs.declared.id_ns.Lbaf.{Lbaf}
 use Rattle.nv_print.specs.Field.{field, field_line, fields_text, in_decimal, members_of, object_of}
 use Rattle.nv_print.specs.Hexadecimal.{hexadecimal}
-use Rattle.nv_print.specs.IdNs.{field_within, fields_of_id_ns, fields_of_lbaf, formats_of, lbaf_key, lbaf_line, mark_of, namespace_data, namespace_text}
+use Rattle.nv_print.specs.IdNs.{field_within, fields_of_id_ns, fields_of_lbaf, formats_of, lbaf_key, lbaf_line, mark_of}
+use Rattle.nv_print.specs.IdNs.{namespace_data, namespace_text}
 use Rattle.nv_print.specs.Logs.{entries_data, entries_text, entry_text, fields_of_entry, holds_error}
 use Rattle.nv_print.specs.NsList.{nsid_line, nsids_data, nsids_text}
 use Rattle.nv_print.specs.Padding.{lines_of, right}
 use Rattle.nv_print.proofs.FieldLengths.{field_line-length, members_length-width, within_length}
 use Rattle.nv_print.proofs.JsonLengths.{items_length, list_object_length, put_length, with_fields_length}
 use Rattle.nv_print.proofs.Lengths.{decimal_length, decimal_short, hexadecimal_short, quoted_length, right_length}
-use Rattle.nv_print.proofs.RecordLengths.{entry_json, entry_text_length, id_ns_members, id_ns_text, lbaf_json, lbaf_width}
+use Rattle.nv_print.proofs.RecordLengths.{entry_json, entry_text_length, id_ns_members, id_ns_text, lbaf_json}
+use Rattle.nv_print.proofs.RecordLengths.{lbaf_width}
 
 -- lines of so many bytes at most, while their indexes are below a limit
-lines_length : {A : Type 0} (line : ℕ → A → List ℕ) (fits : A → Type 0) (limit most : ℕ) → ((i : ℕ) (x : A) → i < limit → fits x → length (line i x) ≤ most)
+lines_length : {A : Type 0} (line : ℕ → A → List ℕ) (fits : A → Type 0) (limit most : ℕ)
+    → ((i : ℕ) (x : A) → i < limit → fits x → length (line i x) ≤ most)
     → (i : ℕ) (xs : List A) → i + length xs ≤ limit → All fits xs → length (lines_of line i xs) ≤ most * length xs
 lines_length line fits limit most each i [] within all = omega arith
 lines_length line fits limit most each i (x ∷ xs) within all =
     let first : length (line i x) ≤ most = each i x (omega arith) (all 0 x (omega arith)) in
-    let others = lines_length line fits limit most each (i + 1) xs (omega arith) (λ k d h. all (suc k) d (omega arith)) in
+    let others =
+    lines_length line fits limit most each (i + 1) xs (omega arith) (λ k d h. all (suc k) d (omega arith)) in
     omega (arith, length-append (line i x) (lines_of line (i + 1) xs))
 
 -- ---- namespaces
@@ -42,12 +47,19 @@ nsid_line_length i nsid hi hn = omega (
   length-append (hexadecimal nsid) (10 ∷ []),
 )
 
-pub nsids_text_length : (nsids : List ℕ) → length nsids ≤ 1024 → All (λ n. n < 2 ^ 64) nsids → length (nsids_text nsids) ≤ 65536
-nsids_text_length nsids few fit = omega (arith, lines_length nsid_line (λ n. n < 2 ^ 64) (2 ^ 64) 42 nsid_line_length 0 nsids (omega arith) fit)
+pub nsids_text_length : (nsids : List ℕ) → length nsids ≤ 1024 → All (λ n. n < 2 ^ 64) nsids
+    → length (nsids_text nsids) ≤ 65536
+nsids_text_length nsids few fit =
+    omega (arith, lines_length nsid_line (λ n. n < 2 ^ 64) (2 ^ 64) 42 nsid_line_length 0 nsids (omega arith) fit)
 
-pub nsids_json_length : (nsids : List ℕ) → length nsids ≤ 1024 → All (λ n. n < 2 ^ 64) nsids → length (compact_text (nsids_data nsids)) ≤ 65000
+pub nsids_json_length : (nsids : List ℕ) → length nsids ≤ 1024 → All (λ n. n < 2 ^ 64) nsids
+    → length (compact_text (nsids_data nsids)) ≤ 65000
 nsids_json_length nsids few fit =
-    omega (arith, list_object_length (codes "nsids") (λ n. number (unsigned n)) 20 nsids (λ k d h. decimal_short (get_or nsids k d) (fit k d h)))
+    omega (
+      arith,
+      list_object_length (codes "nsids") (λ n. number (unsigned n)) 20 nsids
+          (λ k d h. decimal_short (get_or nsids k d) (fit k d h)),
+    )
 
 -- ---- formats of a namespace
 
@@ -84,7 +96,8 @@ namespace_text_length r = omega (
   id_ns_text r,
   formats_length r,
   length-append (fields_text (fields_of_id_ns r)) (lines_of (lbaf_line (r.flbas % 16)) 0 (formats_of r)),
-  lines_length (lbaf_line (r.flbas % 16)) (λ f. ⊤) 16 400 (λ i f h t. lbaf_line_length (r.flbas % 16) i f) 0 (formats_of r) (omega (arith, formats_length r)) (λ k d h. tt),
+  lines_length (lbaf_line (r.flbas % 16)) (λ f. ⊤) 16 400 (λ i f h t. lbaf_line_length (r.flbas % 16) i f) 0
+      (formats_of r) (omega (arith, formats_length r)) (λ k d h. tt),
 )
 
 pub namespace_json_length : (r : IdNs) → length (compact_text (namespace_data r)) ≤ 65000
@@ -98,12 +111,15 @@ namespace_json_length r =
       members_length-width (fields_of_id_ns r),
       id_ns_members r,
       formats_length r,
-      items_length (λ f. object_of (fields_of_lbaf f)) 300 false (formats_of r) (λ k d h. lbaf_json (get_or (formats_of r) k d)),
+      items_length (λ f. object_of (fields_of_lbaf f)) 300 false (formats_of r)
+          (λ k d h. lbaf_json (get_or (formats_of r) k d)),
     )
 
 -- ---- entries of an error log
 
-entry_length : (i : ℕ) (e : ErrorEntry) (b : Bool) → length (if b then field_line (field (codes "entry") (in_decimal i)) ++ fields_text (fields_of_entry e) else []) ≤ (if b then 1024 else 0)
+entry_length : (i : ℕ) (e : ErrorEntry) (b : Bool)
+    → length (if b then field_line (field (codes "entry") (in_decimal i)) ++ fields_text (fields_of_entry e) else [])
+    ≤ (if b then 1024 else 0)
 entry_length i e true = omega (
   arith,
   field_line-length (field (codes "entry") (in_decimal i)),
@@ -112,17 +128,26 @@ entry_length i e true = omega (
 )
 entry_length i e false = omega arith
 
-entries_length : (i : ℕ) (es : List ErrorEntry) → length (lines_of entry_text i es) ≤ 1024 * length (filter holds_error es)
+entries_length : (i : ℕ) (es : List ErrorEntry)
+    → length (lines_of entry_text i es) ≤ 1024 * length (filter holds_error es)
 entries_length i [] = omega arith
 entries_length i (e ∷ es) = at_test (holds_error e) (entry_length i e (holds_error e)) (entries_length (i + 1) es)
   where
-    at_test : (b : Bool) → length (entry_text i e) ≤ (if b then 1024 else 0) → length (lines_of entry_text (i + 1) es) ≤ 1024 * length (filter holds_error es)
-        → length (lines_of entry_text i (e ∷ es)) ≤ 1024 * length (if b then e ∷ filter holds_error es else filter holds_error es)
+    at_test : (b : Bool) → length (entry_text i e) ≤ (if b then 1024 else 0)
+        → length (lines_of entry_text (i + 1) es) ≤ 1024 * length (filter holds_error es)
+        → length (lines_of entry_text i (e ∷ es))
+        ≤ 1024 * length (if b then e ∷ filter holds_error es else filter holds_error es)
     at_test true first others = omega (arith, length-append (entry_text i e) (lines_of entry_text (i + 1) es))
     at_test false first others = omega (arith, length-append (entry_text i e) (lines_of entry_text (i + 1) es))
 
 pub entries_text_length : (es : List ErrorEntry) → length (entries_text es) ≤ 1024 * length (filter holds_error es)
 entries_text_length es = entries_length 0 es
 
-pub entries_json_length : (es : List ErrorEntry) → length (compact_text (entries_data es)) ≤ 65000 + 1024 * length (filter holds_error es)
-entries_json_length es = omega (arith, list_object_length (codes "errors") (λ e. object_of (fields_of_entry e)) 1000 (filter holds_error es) (λ k d h. entry_json _))
+pub entries_json_length : (es : List ErrorEntry)
+    → length (compact_text (entries_data es)) ≤ 65000 + 1024 * length (filter holds_error es)
+entries_json_length es =
+    omega (
+      arith,
+      list_object_length (codes "errors") (λ e. object_of (fields_of_entry e)) 1000 (filter holds_error es)
+          (λ k d h. entry_json _),
+    )

@@ -1,25 +1,32 @@
 -- Lines, one after another.
-use Rattle.std.proofs.Common.{◌≡◌, ◌∙◌, ℕ, zero, suc, ◌+◌, ◌<◌, ap, sym, arith, List, [], ◌∷◌, ◌++◌, append_assoc, append-nil, length, take, get_or}
+use Rattle.std.proofs.Common.{◌≡◌, ◌∙◌, ℕ, zero, suc, ◌+◌, ◌<◌, ap, sym, arith, List, [], ◌∷◌, ◌++◌, append_assoc}
+use Rattle.std.proofs.Common.{append-nil, length, take, get_or}
 use Rattle.nv_print.specs.Padding.{lines_of}
 
 module _ {A : Type 0} (line : ℕ → A → List ℕ) where
   -- one line more
-  next_from : (k : ℕ) (xs : List A) (i : ℕ) (d : A) → i < length xs → lines_of line k (take (suc i) xs) ≡ lines_of line k (take i xs) ++ line (k + i) (get_or xs i d)
+  next_from : (k : ℕ) (xs : List A) (i : ℕ) (d : A) → i < length xs
+      → lines_of line k (take (suc i) xs) ≡ lines_of line k (take i xs) ++ line (k + i) (get_or xs i d)
   next_from k [] i d h = absurd (omega arith)
   next_from k (x ∷ xs) zero d h = append-nil (line k x) ∙ (let at : k ≡ k + 0 = omega arith in ap (λ n. line n x) at)
   next_from k (x ∷ xs) (suc i) d h =
       let at : (k + 1) + i ≡ k + suc i = omega arith in
-      ap (λ t. line k x ++ t) (next_from (k + 1) xs i d (omega arith) ∙ ap (λ n. lines_of line (k + 1) (take i xs) ++ line n (get_or xs i d)) at)
+      ap (λ t. line k x ++ t)
+      (next_from (k + 1) xs i d (omega arith)
+      ∙ ap (λ n. lines_of line (k + 1) (take i xs) ++ line n (get_or xs i d)) at)
       ∙ sym (append_assoc (line k x) (lines_of line (k + 1) (take i xs)) (line (k + suc i) (get_or xs i d)))
 
-  pub lines_of_next : (xs : List A) (i : ℕ) (d : A) → i < length xs → lines_of line 0 (take (i + 1) xs) ≡ lines_of line 0 (take i xs) ++ line i (get_or xs i d)
+  pub lines_of_next : (xs : List A) (i : ℕ) (d : A) → i < length xs
+      → lines_of line 0 (take (i + 1) xs) ≡ lines_of line 0 (take i xs) ++ line i (get_or xs i d)
   lines_of_next xs i d h =
       let next : i + 1 ≡ suc i = omega arith in
       let at : 0 + i ≡ i = omega arith in
-      ap (λ n. lines_of line 0 (take n xs)) next ∙ next_from 0 xs i d h ∙ ap (λ n. lines_of line 0 (take i xs) ++ line n (get_or xs i d)) at
+      ap (λ n. lines_of line 0 (take n xs)) next ∙ next_from 0 xs i d h
+      ∙ ap (λ n. lines_of line 0 (take i xs) ++ line n (get_or xs i d)) at
 
   -- a text that lines were added to, and one line more
   pub text_and_line_next : (text : List ℕ) (xs : List A) (i : ℕ) (d : A) → i < length xs
       → (text ++ lines_of line 0 (take i xs)) ++ line i (get_or xs i d) ≡ text ++ lines_of line 0 (take (i + 1) xs)
   text_and_line_next text xs i d h =
-      append_assoc text (lines_of line 0 (take i xs)) (line i (get_or xs i d)) ∙ ap (λ t. text ++ t) (sym (lines_of_next xs i d h))
+      append_assoc text (lines_of line 0 (take i xs)) (line i (get_or xs i d))
+      ∙ ap (λ t. text ++ t) (sym (lines_of_next xs i d h))

@@ -12,7 +12,8 @@ use Rattle.std.proofs.lemmas.Str.{IsUtf8-from_ascii, IsAscii-take}
 use Rattle.std.proofs.lemmas.Str.Ascii.{IsAscii-from_reads}
 use Rattle.nv_print.specs.Printable.{is_printable, printable}
 
-pub each_printable : (bs : List ℕ) (k d : ℕ) → k < length (take_while is_printable bs) → is_printable (get_or (take_while is_printable bs) k d) ≡ true
+pub each_printable : (bs : List ℕ) (k d : ℕ) → k < length (take_while is_printable bs)
+    → is_printable (get_or (take_while is_printable bs) k d) ≡ true
 each_printable bs k d h =
     let short : k < prefix_len is_printable bs = omega (arith, length-prefix_len is_printable bs) in
     ap is_printable (get_or-take _ bs k d short) ∙ prefix_len_passes is_printable bs k d short
@@ -31,7 +32,8 @@ pub trimmed_is : (bs r : List ℕ) → IsTrimAsciiEnd (take_while is_printable b
 trimmed_is bs r (n, cut, len, within, from, before) =
     let s : List ℕ = take_while is_printable bs in
     let spaces : suffix_len (λ b. b == 32) s ≡ length s - n
-    = suffix_len_is (λ b. b == 32) s n 0 within (λ k from_n high. is_space _ (each_printable bs k 0 high) (from k from_n high)) (λ h. no_space _ (before h)) in
+    = suffix_len_is (λ b. b == 32) s n 0 within
+    (λ k from_n high. is_space _ (each_printable bs k 0 high) (from k from_n high)) (λ h. no_space _ (before h)) in
     let left : n ≡ length s - suffix_len (λ b. b == 32) s = omega arith in
     cut ∙ ap (λ m. take m s) left
 

@@ -15,11 +15,27 @@ use Rattle.nv_print.proofs.Lengths.{printable_length}
 
 pub id_ctrl_text : (c : IdCtrl) → length (fields_text (fields_of_id_ctrl c)) ≤ 5000 + texts_length c
 unfolding fields_of_id_ctrl
-id_ctrl_text c = omega (arith, fields_text-length (fields_of_id_ctrl c), printable_length c.sn, printable_length c.mn, printable_length c.fr, printable_length c.subnqn)
+id_ctrl_text c =
+    omega (
+      arith,
+      fields_text-length (fields_of_id_ctrl c),
+      printable_length c.sn,
+      printable_length c.mn,
+      printable_length c.fr,
+      printable_length c.subnqn,
+    )
 
 pub id_ctrl_json : (c : IdCtrl) → length (compact_text (object_of (fields_of_id_ctrl c))) ≤ 5000 + 6 * texts_length c
 unfolding fields_of_id_ctrl
-id_ctrl_json c = omega (arith, object_width (fields_of_id_ctrl c), printable_length c.sn, printable_length c.mn, printable_length c.fr, printable_length c.subnqn)
+id_ctrl_json c =
+    omega (
+      arith,
+      object_width (fields_of_id_ctrl c),
+      printable_length c.sn,
+      printable_length c.mn,
+      printable_length c.fr,
+      printable_length c.subnqn,
+    )
 
 pub smart_text : (s : Smart) → length (fields_text (fields_of_smart s)) ≤ 5000
 unfolding fields_of_smart

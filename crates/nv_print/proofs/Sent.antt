@@ -1,5 +1,6 @@
 -- From what is sent in turn to what is sent of a whole.
-use Rattle.std.proofs.Common.{◌≡◌, ◌∙◌, ℕ, ◌+◌, ◌<◌, ◌≤◌, ap, arith, refl, sym, subst, true, List, [], ◌∷◌, ◌++◌, length, take, get_or, map, Some}
+use Rattle.std.proofs.Common.{◌≡◌, ◌∙◌, ℕ, ◌+◌, ◌<◌, ◌≤◌, ap, arith, refl, sym, subst, true, List, [], ◌∷◌, ◌++◌}
+use Rattle.std.proofs.Common.{length, take, get_or, map, Some}
 use Rattle.std.specs.Prelude.{nat_lt}
 use Rattle.std.proofs.lemmas.Bool.Decides.{nat_tests}
 use Rattle.std.proofs.lemmas.List.{get_or_read_under, length-map, map_more, take_all}
@@ -15,38 +16,50 @@ use Rattle.nv_print.specs.Sends.{ArePlaces, SendsField, SendsMember, before, pic
 
 -- ---- one more
 
-pub each_append : {A : Type 0} (w : A → Log → Log → Type 0) (xs ys : List A) (old mid new : Log) → WritesEach w xs old mid → WritesEach w ys mid new → WritesEach w (xs ++ ys) old new
+pub each_append : {A : Type 0} (w : A → Log → Log → Type 0) (xs ys : List A) (old mid new : Log)
+    → WritesEach w xs old mid → WritesEach w ys mid new → WritesEach w (xs ++ ys) old new
 each_append w [] ys old mid new h k = subst (λ l. WritesEach w ys l new) h k
 each_append w (x ∷ xs) ys old mid new h k = (h.0, h.1, each_append w xs ys h.0 mid new h.2 k)
 
 -- values that stand for a list's elements, and one more
 pub each_next : {A : Type 0} (data_of : A → Data) (xs : List A) (i : ℕ) (d : A) (old mid new : Log) → i < length xs
-    → WritesEach SendsValue (map data_of (take i xs)) old mid → SendsValue (data_of (get_or xs i d)) mid new → WritesEach SendsValue (map data_of (take (i + 1) xs)) old new
+    → WritesEach SendsValue (map data_of (take i xs)) old mid → SendsValue (data_of (get_or xs i d)) mid new
+    → WritesEach SendsValue (map data_of (take (i + 1) xs)) old new
 each_next data_of xs i d old mid new h before this =
-    subst (λ ds. WritesEach SendsValue ds old new) (sym (map_more data_of xs i d h)) (WritesEach-snoc SendsValue (map data_of (take i xs)) (data_of (get_or xs i d)) old mid new before this)
+    subst (λ ds. WritesEach SendsValue ds old new) (sym (map_more data_of xs i d h))
+    (WritesEach-snoc SendsValue (map data_of (take i xs)) (data_of (get_or xs i d)) old mid new before this)
 
-pub place_within : (places : List ℕ) (fields : List Field) (i : ℕ) → ArePlaces places fields → i < length places → get_or places i 0 < length fields
+pub place_within : (places : List ℕ) (fields : List Field) (i : ℕ) → ArePlaces places fields → i < length places
+    → get_or places i 0 < length fields
 place_within places fields i all h =
-    let at : nat_lt (get_or places i 0) (length fields) ≡ true = AllPass-from_list_all (λ k. nat_lt k (length fields)) places all i 0 h in
+    let at : nat_lt (get_or places i 0) (length fields) ≡ true =
+    AllPass-from_list_all (λ k. nat_lt k (length fields)) places all i 0 h in
     grind (arith, nat_tests)
 
-pub fields_next : (fields : List Field) (places : List ℕ) (i : ℕ) (x : Field) (old mid new : Log) → ArePlaces places fields → i < length places → x ≡ get_or fields (get_or places i 0) x
-    → WritesEach SendsField (picked fields (take i places)) old mid → SendsField x mid new → WritesEach SendsField (picked fields (take (i + 1) places)) old new
+pub fields_next : (fields : List Field) (places : List ℕ) (i : ℕ) (x : Field) (old mid new : Log)
+    → ArePlaces places fields → i < length places → x ≡ get_or fields (get_or places i 0) x
+    → WritesEach SendsField (picked fields (take i places)) old mid → SendsField x mid new
+    → WritesEach SendsField (picked fields (take (i + 1) places)) old new
 fields_next fields places i x old mid new all h is sent this =
     let none : Field = field [] (in_decimal 0) in
     let pick : ℕ → Field = λ k. get_or fields k none in
     let so_far : List Field = picked fields (take i places) in
-    let same : x ≡ get_or fields (get_or places i 0) none = get_or_read_under fields (get_or places i 0) (length fields) x none is (place_within places fields i all h) refl in
-    subst (λ fs. WritesEach SendsField fs old new) (sym (map_more pick places i 0 h ∙ ap (λ (f : Field). so_far ++ f ∷ []) (sym same)))
+    let same : x ≡ get_or fields (get_or places i 0) none =
+    get_or_read_under fields (get_or places i 0) (length fields) x none is
+    (place_within places fields i all h) refl in
+    subst (λ fs. WritesEach SendsField fs old new)
+    (sym (map_more pick places i 0 h ∙ ap (λ (f : Field). so_far ++ f ∷ []) (sym same)))
     (WritesEach-snoc SendsField so_far x old mid new sent this)
 
 -- ---- all of them
 
-pub fields_sent : (fields : List Field) (ms : Members) (old mid new : Log) → WritesEach SendsField fields old mid → SendsMembers ms mid new → SendsMembers (before fields ms) old new
+pub fields_sent : (fields : List Field) (ms : Members) (old mid new : Log) → WritesEach SendsField fields old mid
+    → SendsMembers ms mid new → SendsMembers (before fields ms) old new
 fields_sent [] ms old mid new h k = subst (λ l. SendsMembers ms l new) h k
 fields_sent (f ∷ fields) ms old mid new h k = (h.1.0, h.0, h.1.1, h.1.2, fields_sent fields ms h.0 mid new h.2 k)
 
-pub items_sent : (ds : List Data) (old mid new : Log) → WritesEach SendsValue ds old mid → Logs mid new event.seq_ends → SendsItems (items_of ds) old new
+pub items_sent : (ds : List Data) (old mid new : Log) → WritesEach SendsValue ds old mid → Logs mid new event.seq_ends
+    → SendsItems (items_of ds) old new
 items_sent [] old mid new h k = subst (λ l. Logs l new event.seq_ends) h k
 items_sent (d ∷ ds) old mid new h k = (h.0, h.1, items_sent ds h.0 mid new h.2 k)
 
@@ -58,26 +71,36 @@ items_of_len : (ds : List Data) → items_len (items_of ds) ≡ length ds
 items_of_len [] = omega arith
 items_of_len (d ∷ ds) = omega (arith, items_of_len ds)
 
-pub object_sent : (fields : List Field) (n : ℕ) (old first last new : Log) → n ≡ length fields → Logs old first (event.map_begins (Some n))
-    → WritesEach SendsField fields first last → Logs last new event.map_ends → SendsValue (object (before fields no_members)) old new
+pub object_sent : (fields : List Field) (n : ℕ) (old first last new : Log) → n ≡ length fields
+    → Logs old first (event.map_begins (Some n))
+    → WritesEach SendsField fields first last → Logs last new event.map_ends
+    → SendsValue (object (before fields no_members)) old new
 object_sent fields n old first last new e begun each ended =
-    let len : n ≡ members_len (before fields no_members) = omega (arith, e, before_len fields no_members) in
-    (first, subst (λ m. Logs old first (event.map_begins (Some m))) len begun, fields_sent fields no_members first last new each ended)
+    let len : n ≡ members_len (before fields no_members) = omega (arith, e, before_len fields no_members) in (
+      first,
+      subst (λ m. Logs old first (event.map_begins (Some m))) len begun,
+      fields_sent fields no_members first last new each ended,
+    )
 
-pub array_sent : (ds : List Data) (n : ℕ) (old first last new : Log) → n ≡ length ds → Logs old first (event.seq_begins (Some n))
+pub array_sent : (ds : List Data) (n : ℕ) (old first last new : Log) → n ≡ length ds
+    → Logs old first (event.seq_begins (Some n))
     → WritesEach SendsValue ds first last → Logs last new event.seq_ends → SendsValue (array (items_of ds)) old new
 array_sent ds n old first last new e begun each ended =
     let len : n ≡ items_len (items_of ds) = omega (arith, e, items_of_len ds) in
     (first, subst (λ m. Logs old first (event.seq_begins (Some m))) len begun, items_sent ds first last new each ended)
 
 -- a list of values that stand for a list's elements
-pub elements_sent : {A : Type 0} (data_of : A → Data) (xs : List A) (i n : ℕ) (old first last new : Log) → length xs ≤ i → n ≡ length xs → Logs old first (event.seq_begins (Some n))
-    → WritesEach SendsValue (map data_of (take i xs)) first last → Logs last new event.seq_ends → SendsValue (array (items_of (map data_of xs))) old new
+pub elements_sent : {A : Type 0} (data_of : A → Data) (xs : List A) (i n : ℕ) (old first last new : Log) → length xs ≤ i
+    → n ≡ length xs → Logs old first (event.seq_begins (Some n))
+    → WritesEach SendsValue (map data_of (take i xs)) first last → Logs last new event.seq_ends
+    → SendsValue (array (items_of (map data_of xs))) old new
 elements_sent data_of xs i n old first last new past e begun each ended =
-    array_sent (map data_of xs) n old first last new (e ∙ sym (length-map xs data_of)) begun (subst (λ ys. WritesEach SendsValue (map data_of ys) first last) (take_all i xs past) each) ended
+    array_sent (map data_of xs) n old first last new (e ∙ sym (length-map xs data_of)) begun
+    (subst (λ ys. WritesEach SendsValue (map data_of ys) first last) (take_all i xs past) each) ended
 
 -- an object of one member
-pub lone_member_sent : (key : List ℕ) (d : Data) (old first last new : Log) → Logs old first (event.map_begins (Some 1)) → SendsMember key d first last → Logs last new event.map_ends
+pub lone_member_sent : (key : List ℕ) (d : Data) (old first last new : Log) → Logs old first (event.map_begins (Some 1))
+    → SendsMember key d first last → Logs last new event.map_ends
     → SendsValue (object (put key d no_members)) old new
 lone_member_sent key d old first last new begun sent ended = (first, begun, (sent.0, last, sent.1, sent.2, ended))
 
@@ -89,9 +112,13 @@ SendsNumber n old new = Logs old new (event.unsigned n)
 abbrev pub number_data : ℕ → Data
 number_data n = number (unsigned n)
 
-numbers_sent : (ns : List ℕ) (old new : Log) → WritesEach SendsNumber ns old new → WritesEach SendsValue (map number_data ns) old new
+numbers_sent : (ns : List ℕ) (old new : Log) → WritesEach SendsNumber ns old new
+    → WritesEach SendsValue (map number_data ns) old new
 numbers_sent [] old new h = h
 numbers_sent (n ∷ ns) old new h = (h.0, h.1, numbers_sent ns h.0 new h.2)
 
-pub number_list_sent : (ns : List ℕ) (old new : Log) → WritesSeq SendsNumber ns old new → SendsValue (array (items_of (map number_data ns))) old new
-number_list_sent ns old new h = array_sent (map number_data ns) (length ns) old h.0 h.1 new (sym (length-map ns number_data)) h.2 (numbers_sent ns h.0 h.1 h.3) h.4
+pub number_list_sent : (ns : List ℕ) (old new : Log) → WritesSeq SendsNumber ns old new
+    → SendsValue (array (items_of (map number_data ns))) old new
+number_list_sent ns old new h =
+    array_sent (map number_data ns) (length ns) old h.0 h.1 new (sym (length-map ns number_data)) h.2
+    (numbers_sent ns h.0 h.1 h.3) h.4

@@ -13,7 +13,13 @@ use Rattle.nv_print.specs.declared.select.Select.TheVariants as select
 use Rattle.nv_print.proofs.Lengths.{decimal_length, hexadecimal_length}
 
 pub success_length : (words : List ℕ) (nsid : ℕ) → length (success words nsid) ≤ length words + 65
-success_length words nsid = omega (arith, decimal_length nsid, length-append words (decimal nsid ++ 10 ∷ []), length-append (decimal nsid) (10 ∷ []))
+success_length words nsid =
+    omega (
+      arith,
+      decimal_length nsid,
+      length-append words (decimal nsid ++ 10 ∷ []),
+      length-append (decimal nsid) (10 ∷ []),
+    )
 
 name_length : (f : Feature) → length (row_of f).name ≤ 100
 name_length feature.Arbitration = omega arith
@@ -49,7 +55,8 @@ feature_set_length f value save = omega (
   feature_text_length f,
   hexadecimal_length value,
   decimal_length (bit save),
-  length-append (feature_text f) (codes ", value:" ++ (hexadecimal value ++ (codes ", save:" ++ (decimal (bit save) ++ 10 ∷ [])))),
+  length-append (feature_text f)
+      (codes ", value:" ++ (hexadecimal value ++ (codes ", save:" ++ (decimal (bit save) ++ 10 ∷ [])))),
   length-append (hexadecimal value) (codes ", save:" ++ (decimal (bit save) ++ 10 ∷ [])),
   length-append (decimal (bit save)) (10 ∷ []),
 )

@@ -23,12 +23,16 @@ pub data_no_float : (s : Shown) → has_float (data_of s) ≡ false
 data_no_float (shown.Controller c) = object_no_float (fields_of_id_ctrl c)
 data_no_float (shown.Namespace r) =
     let formats = array (items_of (map (λ f. object_of (fields_of_lbaf f)) (formats_of r))) in
-    put_no_float (codes "lbafs") formats (members_of (fields_of_id_ns r)) (items_no_float (λ f. object_of (fields_of_lbaf f)) (formats_of r) (λ f. object_no_float (fields_of_lbaf f)))
+    put_no_float (codes "lbafs") formats (members_of (fields_of_id_ns r))
+    (items_no_float (λ f. object_of (fields_of_lbaf f)) (formats_of r) (λ f. object_no_float (fields_of_lbaf f)))
     (with_fields_no_float (fields_of_id_ns r) no_members refl)
 data_no_float (shown.NsList nsids) = list_no_float (codes "nsids") (λ n. number (unsigned n)) nsids (λ n. refl)
 data_no_float (shown.Smart s) = object_no_float (fields_of_smart s)
-data_no_float (shown.Errors es) = list_no_float (codes "errors") (λ e. object_of (fields_of_entry e)) (filter holds_error es) (λ e. object_no_float (fields_of_entry e))
-data_no_float (shown.Devices ds) = list_no_float (codes "devices") (λ d. object_of (fields_of_device d)) ds (λ d. object_no_float (fields_of_device d))
+data_no_float (shown.Errors es) =
+    list_no_float (codes "errors") (λ e. object_of (fields_of_entry e)) (filter holds_error es)
+    (λ e. object_no_float (fields_of_entry e))
+data_no_float (shown.Devices ds) =
+    list_no_float (codes "devices") (λ d. object_of (fields_of_device d)) ds (λ d. object_no_float (fields_of_device d))
 data_no_float (shown.Created nsid) = refl
 data_no_float (shown.Attached nsid) = refl
 data_no_float (shown.Detached nsid) = refl
@@ -39,5 +43,6 @@ data_no_float (shown.FeatureSet f v s) = refl
 data_no_float shown.Reset = refl
 
 -- the text of what was sent
-pub text_of_sent : (s : Shown) (log : Log) (text : List ℕ) → SendsValue (data_of s) (Some []) log → IsTextOf log text → text ≡ compact_text (data_of s)
+pub text_of_sent : (s : Shown) (log : Log) (text : List ℕ) → SendsValue (data_of s) (Some []) log → IsTextOf log text
+    → text ≡ compact_text (data_of s)
 text_of_sent s log text sent is = text_of_value (data_of s) log text sent is (data_no_float s)

@@ -8,7 +8,7 @@ use Rattle.nv_host.specs.Pages.{HasPage}
 use Rattle.nv_prp.specs.Buffer.{IsBuffer, IsListPlace, buffer_place, buffer_places}
 use Rattle.nv_prp.specs.Place.{AreDistinct}
 use Rattle.nv_prp.proofs.PlaceLaws.{table-same, table_distinct}
-use Rattle.nv_prp.specs.Transfer.{Transfer, place_of, transfer_places}
+use Rattle.nv_prp.specs.Transfer.{PrpTransfer, place_of, transfer_places}
 
 -- a memory that keeps its size keeps its buffers, and its places for lists
 
@@ -62,7 +62,7 @@ buffer_distinct page_size pages start len some enough distinct =
           omega (arith, same.1)
     ])
 
-pub built_is_walked : (t : Transfer) (pages : List ℕ) (offset : ℕ)
+pub built_is_walked : (t : PrpTransfer) (pages : List ℕ) (offset : ℕ)
     → IsBuffer t.bytes t.page_size pages offset t.len
     → ((i : ℕ) → i < t.len → place_of t i ≡ buffer_place t.page_size pages offset i)
     → (transfer_places t ≡ buffer_places t.page_size pages offset t.len)

@@ -1,5 +1,6 @@
 -- Transfers whose entries are those of a buffer.
-use Rattle.std.proofs.Common.{◌≡◌, ◌∙◌, ◌⊎◌, ℕ, ◌+◌, ◌-◌, ◌*◌, ◌/◌, ◌%◌, ◌<◌, ◌≤◌, List, None, ap, arith, get_or, inl, inr, length, refl, subst}
+use Rattle.std.proofs.Common.{◌≡◌, ◌∙◌, ◌⊎◌, ℕ, ◌+◌, ◌-◌, ◌*◌, ◌/◌, ◌%◌, ◌<◌, ◌≤◌, List, None, ap, arith, get_or, inl}
+use Rattle.std.proofs.Common.{inr, length, refl, subst}
 use Rattle.std.proofs.lemmas.Bool.{cases_lt, cases_order, lt-ltb}
 use Rattle.std.proofs.lemmas.Nat.{div_below, mod-mul-add}
 use Rattle.std.proofs.lemmas.Bool.Decides.{nat_tests}
@@ -8,34 +9,37 @@ use Rattle.nv_host.proofs.BytesLaws.{bytes_at-bytes_at}
 use Rattle.nv_host.specs.Pages.{HasPage, IsPageSize}
 use Rattle.nv_host.proofs.PageLaws.{page_size_bounds, page_size_in_qwords}
 use Rattle.nv_prp.specs.Buffer.{IsBuffer, IsFor, IsListPlace, KeepsList, NamesPages, buffer_place}
-use Rattle.nv_prp.specs.Transfer.{Transfer, data_pages, entry_fault, list_qwords, naming_number, naming_qword, offset, page_base, place_of, prp2_fault, qword, qword_fault, qword_place, qwords, room}
+use Rattle.nv_prp.specs.Transfer.{PrpTransfer, data_pages, entry_fault, list_qwords, naming_number, naming_qword}
+use Rattle.nv_prp.specs.Transfer.{offset, page_base, place_of, prp2_fault, qword, qword_fault, qword_place, qwords}
+use Rattle.nv_prp.specs.Transfer.{room}
 use Rattle.nv_prp.proofs.FaultLaws.{multiple_stays, no_fault_at, no_fault_of_page}
 use Rattle.nv_prp.proofs.ListLaws.{base_by_list, whole_room}
 use Rattle.nv_prp.proofs.PageLaws.{base_of_two, pages_span}
 use Rattle.nv_prp.proofs.WriteLaws.{IsWithin, Lies, chain_within, list_even, place_within}
 
 -- the entries for a buffer, as far as PRP1
-pub record Begins (t : Transfer) (pages : List ℕ) (start : ℕ) : Type 0 where
+pub record Begins (t : PrpTransfer) (pages : List ℕ) (start : ℕ) : Type 0 where
   pub size : IsPageSize t.page_size
   pub buffer : IsBuffer t.bytes t.page_size pages start t.len
   pub prp1 : t.prp1 ≡ get_or pages 0 0 * t.page_size + start
 
-begins_at : (t : Transfer) (pages : List ℕ) (start : ℕ) → Begins t pages start → offset t ≡ start
+begins_at : (t : PrpTransfer) (pages : List ℕ) (start : ℕ) → Begins t pages start → offset t ≡ start
 begins_at t pages start begins =
     ap (λ n. n % t.page_size) begins.prp1 ∙ mod-mul-add (get_or pages 0 0) t.page_size start begins.buffer.below
 
 -- a buffer that is long enough has the data pages
-pub pages_enough : (t : Transfer) (pages : List ℕ) (start : ℕ) → Begins t pages start → data_pages t ≤ length pages
+pub pages_enough : (t : PrpTransfer) (pages : List ℕ) (start : ℕ) → Begins t pages start → data_pages t ≤ length pages
 pages_enough t pages start begins =
     let bounds = page_size_bounds t.page_size begins.size in
     let span = pages_span t (omega (arith, bounds)) in
     grind (arith, begins_at t pages start begins, begins.buffer.enough)
 
-page_has : (t : Transfer) (pages : List ℕ) (start j : ℕ) → Begins t pages start → j < data_pages t → HasPage t.bytes t.page_size (get_or pages j 0)
+page_has : (t : PrpTransfer) (pages : List ℕ) (start j : ℕ) → Begins t pages start → j < data_pages t
+    → HasPage t.bytes t.page_size (get_or pages j 0)
 page_has t pages start j begins below = begins.buffer.inside j 0 (omega (arith, pages_enough t pages start begins))
 
 -- PRP1 has no fault, and data page 0 is the buffer's first one: what is left are PRP2, the list, and the other pages
-is_for : (t : Transfer) (pages : List ℕ) (start : ℕ) → Begins t pages start → 0 < data_pages t → prp2_fault t ≡ None
+is_for : (t : PrpTransfer) (pages : List ℕ) (start : ℕ) → Begins t pages start → 0 < data_pages t → prp2_fault t ≡ None
     → ((n : ℕ) → n < qwords t → qword_fault t n ≡ None)
     → ((j : ℕ) → 0 < j → j < data_pages t → page_base t j ≡ get_or pages j 0 * t.page_size) → IsFor t pages start
 unfolding place_of buffer_place page_base
@@ -51,25 +55,30 @@ is_for t pages start begins more prp2 list bases =
     ] in
     record {
       legal = record {
-        prp1 = no_fault_at t.bytes (get_or pages 0 0) size start 4 t.prp1 begins.prp1 begins.buffer.below (page_has t pages start 0 begins more)
-            (ap (λ n. n % 4) begins.prp1 ∙ multiple_stays (get_or pages 0 0) size start 4 whole ∙ begins.buffer.aligned);
+        prp1 = no_fault_at t.bytes (get_or pages 0 0) size start 4 t.prp1 begins.prp1 begins.buffer.below
+            (page_has t pages start 0 begins more)
+            (ap (λ n. n % 4) begins.prp1 ∙ multiple_stays (get_or pages 0 0) size start 4 whole
+            ∙ begins.buffer.aligned);
         prp2 = prp2;
         list = list;
       };
       places = λ i below.
-          let page : (offset t + i) / size < data_pages t = div_below (offset t + i) size (data_pages t) some (omega (arith, (pages_span t some).0)) in
+          let page : (offset t + i) / size < data_pages t =
+          div_below (offset t + i) size (data_pages t) some (omega (arith, (pages_span t some).0)) in
           cc (base ((offset t + i) / size) page, at);
     }
 
 -- ---- one data page, or two
 
-pub few_pages : (t : Transfer) (pages : List ℕ) (start : ℕ) → Begins t pages start → 0 < data_pages t → data_pages t ≤ 2
+pub few_pages : (t : PrpTransfer) (pages : List ℕ) (start : ℕ) → Begins t pages start → 0 < data_pages t
+    → data_pages t ≤ 2
     → (data_pages t ≡ 2 → t.prp2 ≡ get_or pages 1 0 * t.page_size) → IsFor t pages start
 unfolding prp2_fault qwords
 few_pages t pages start begins more few second =
     let some : 0 < t.page_size = omega (arith, page_size_bounds t.page_size begins.size) in
     let two_fits : data_pages t ≡ 2 → entry_fault t.page_size (length t.bytes) t.page_size t.prp2 ≡ None = λ two.
-    no_fault_of_page t.bytes (get_or pages 1 0) t.page_size t.prp2 (second two) some (page_has t pages start 1 begins (omega arith)) in
+    no_fault_of_page t.bytes (get_or pages 1 0) t.page_size t.prp2 (second two) some
+    (page_has t pages start 1 begins (omega arith)) in
     is_for t pages start begins more (grind (arith, nat_tests)) (λ n used. absurd (grind (arith, nat_tests)))
     (λ j later below. let is : j ≡ 1 = omega arith in grind (arith, base_of_two t))
 
@@ -88,7 +97,8 @@ qword_cases space pages n some used =
       | inr single ↦ inr (n + 1, omega arith, grind (arith, nat_tests), grind (arith, nat_tests))
     ]
 
-pub many_pages : (t : Transfer) (pages : List ℕ) (start first second at : ℕ) → Begins t pages start → 2 < data_pages t
+pub many_pages : (t : PrpTransfer) (pages : List ℕ) (start first second at : ℕ) → Begins t pages start
+    → 2 < data_pages t
     → t.prp2 ≡ first * t.page_size + at → IsListPlace t.bytes t.page_size first second at
     → NamesPages t.bytes t.page_size (room t) t.prp2 (second * t.page_size) pages (data_pages t) → IsFor t pages start
 unfolding qword_fault prp2_fault qwords naming_qword qword_place
@@ -100,40 +110,49 @@ many_pages t pages start first second at begins many prp2 place names =
     let whole = whole_room t.prp2 size begins.size even in
     let space : 0 < room t = omega arith in
     let all : qwords t ≡ list_qwords (room t) (data_pages t) = rw (lt-ltb 2 (data_pages t) many) refl in
-    let holds : (j : ℕ) → 0 < j → j < data_pages t → qword t.bytes (qword_place t (naming_qword t j)) ≡ get_or pages j 0 * size = λ j later below.
+    let holds : (j : ℕ) → 0 < j → j < data_pages t
+    → qword t.bytes (qword_place t (naming_qword t j)) ≡ get_or pages j 0 * size = λ j later below.
     grind (arith, nat_tests, names.each j later below, names.chain) in
     is_for t pages start begins (omega arith)
     (rw (lt-ltb 2 (data_pages t) many)
     (no_fault_at t.bytes first size at 8 t.prp2 prp2 place.below place.has_first even))
     (λ n below. elim (qword_cases (room t) (data_pages t) n space (subst (λ m. n < m) all below)) [
-      | inl chained ↦ no_fault_of_page t.bytes second size _ (grind (arith, nat_tests, names.chain)) some place.has_second
-      | inr (j, later, within, is) ↦ no_fault_of_page t.bytes (get_or pages j 0) size _ (grind (arith, holds j later within)) some (page_has t pages start j begins within)
+      | inl chained ↦ no_fault_of_page t.bytes second size _
+          (grind (arith, nat_tests, names.chain)) some place.has_second
+      | inr (j, later, within, is) ↦ no_fault_of_page t.bytes (get_or pages j 0) size _
+          (grind (arith, holds j later within)) some (page_has t pages start j begins within)
     ])
     (λ j later below. base_by_list t j many later ∙ holds j later below)
 
 -- ---- over a later memory
 
-pub keeps_itself : (t : Transfer) (first second : ℕ) → KeepsList t first second t.bytes
+pub keeps_itself : (t : PrpTransfer) (first second : ℕ) → KeepsList t first second t.bytes
 keeps_itself t first second = record { len = refl; in_first = λ _. refl; in_second = λ _. refl }
 
-qword_of_page : (old new : List ℕ) (q p addr : ℕ) → bytes_at new q p ≡ bytes_at old q p → q ≤ addr → addr + 8 ≤ q + p → qword new addr ≡ qword old addr
+qword_of_page : (old new : List ℕ) (q p addr : ℕ) → bytes_at new q p ≡ bytes_at old q p → q ≤ addr → addr + 8 ≤ q + p
+    → qword new addr ≡ qword old addr
 unfolding qword
 qword_of_page old new q p addr same low high =
     let at : q + (addr - q) ≡ addr = omega arith in
     cc (bytes_at-bytes_at new q p (addr - q) 8 (omega arith), bytes_at-bytes_at old q p (addr - q) 8 (omega arith))
 
 -- a list whose pages stay names the same data pages
-pub names_kept : (t : Transfer) (pages : List ℕ) (first second : ℕ) (later : List ℕ) → 2 < data_pages t → data_pages t ≤ 257
+pub names_kept : (t : PrpTransfer) (pages : List ℕ) (first second : ℕ) (later : List ℕ) → 2 < data_pages t
+    → data_pages t ≤ 257
     → Lies t.page_size (room t) t.prp2 (first * t.page_size) (second * t.page_size) → KeepsList t first second later
     → NamesPages t.bytes t.page_size (room t) t.prp2 (second * t.page_size) pages (data_pages t)
     → NamesPages later t.page_size (room t) t.prp2 (second * t.page_size) pages (data_pages t)
 names_kept t pages first second later many few lies keeps names =
-    let kept : (addr : ℕ) → IsWithin t.page_size (first * t.page_size) (second * t.page_size) addr 8 → qword later addr ≡ qword t.bytes addr = λ addr within.
+    let kept : (addr : ℕ) → IsWithin t.page_size (first * t.page_size) (second * t.page_size) addr 8
+    → qword later addr ≡ qword t.bytes addr = λ addr within.
     elim within [
-      | inl here ↦ qword_of_page t.bytes later (first * t.page_size) t.page_size addr (keeps.in_first many) here.0 here.1
-      | inr here ↦ qword_of_page t.bytes later (second * t.page_size) t.page_size addr (keeps.in_second many) here.0 here.1
+      | inl here ↦ qword_of_page t.bytes later (first * t.page_size) t.page_size addr
+          (keeps.in_first many) here.0 here.1
+      | inr here ↦ qword_of_page t.bytes later (second * t.page_size) t.page_size addr
+          (keeps.in_second many) here.0 here.1
     ] in
     record {
       chain = λ chained. kept (t.prp2 + 8 * (room t - 1)) (chain_within _ _ _ _ _ _ lies refl) ∙ names.chain chained;
-      each = λ j after below. kept _ (place_within _ _ _ _ _ (data_pages t) j _ _ lies few after below refl refl) ∙ names.each j after below;
+      each = λ j after below. kept _ (place_within _ _ _ _ _ (data_pages t) j _ _ lies few after below refl refl)
+          ∙ names.each j after below;
     }

@@ -1,7 +1,11 @@
 -- Copies part by part, and span by span, are copies byte by byte.
-use Rattle.std.proofs.Common.{append-nil, append_assoc, ◌≡◌, ◌∙◌, ℕ, ◌+◌, ◌≤◌, List, [], ◌++◌, ap, arith, drop, length, length-append, length-drop, length-take, sym, take, add-one, zero, suc, ◌<◌, ◌∷◌, get_or, refl, set, subst}
+use Rattle.std.proofs.Common.{append-nil, append_assoc, ◌≡◌, ◌∙◌, ℕ, ◌+◌, ◌≤◌, List, [], ◌++◌, ap, arith, drop, length}
+use Rattle.std.proofs.Common.{length-append, length-drop, length-take, sym, take, add-one, zero, suc, ◌<◌, ◌∷◌, get_or}
+use Rattle.std.proofs.Common.{refl, set, subst}
 use Rattle.std.proofs.Math.Seq.{take-add, take-suc}
-use Rattle.std.proofs.lemmas.List.{drop-drop, places as item_places, same_lists, take-append-drop, drop_all, drop_more, take_all, get_or-drop, get_or-map, get_or-take, length-take-le, map-append, set_split}
+use Rattle.std.proofs.lemmas.List.{drop-drop, places as item_places, same_lists, take-append-drop, drop_all, drop_more}
+use Rattle.std.proofs.lemmas.List.{take_all, get_or-drop, get_or-map, get_or-take, length-take-le, map-append}
+use Rattle.std.proofs.lemmas.List.{set_split}
 use Rattle.std.proofs.lemmas.Slice.{take-put_mid}
 use Rattle.nv_host.specs.Bytes.{bytes_at, with_bytes}
 use Rattle.nv_host.proofs.BytesLaws.{bytes_at-bytes_at, length-bytes_at, length-with_bytes}
@@ -24,16 +28,19 @@ with_more m a xs ys inside =
     same_lists _ _ (simp (length-append, length-take, length-drop) (omega arith)) (λ k d h. grind (arith, item_places))
 
 -- a page that is written in part
-pub with_part : (m : List ℕ) (q s k : ℕ) (page ys : List ℕ) → page ≡ bytes_at m q (length page) → q + length page ≤ length m
+pub with_part : (m : List ℕ) (q s k : ℕ) (page ys : List ℕ) → page ≡ bytes_at m q (length page)
+    → q + length page ≤ length m
     → s + k ≤ length page → length ys ≡ k → with_bytes m q (put_mid s k page ys) ≡ with_bytes m (q + s) ys
 unfolding with_bytes bytes_at
 with_part m q s k page ys is inside within same =
     let p = length page in
     ap (λ l. with_bytes m q (put_mid s k l ys)) is
-    ∙ same_lists _ _ (simp (length-append, length-take, length-drop) (omega arith)) (λ i d h. grind (arith, item_places))
+    ∙ same_lists _ _ (simp (length-append, length-take, length-drop) (omega arith))
+    (λ i d h. grind (arith, item_places))
 
 -- and stays a page
-pub page_length : (page ys : List ℕ) (s k : ℕ) → s + k ≤ length page → length ys ≡ k → length (put_mid s k page ys) ≡ length page
+pub page_length : (page ys : List ℕ) (s k : ℕ) → s + k ≤ length page → length ys ≡ k
+    → length (put_mid s k page ys) ≡ length page
 page_length page ys s k within same = simp (length-append, length-take, length-drop) (omega arith)
 
 -- ---- the next part of a range
@@ -51,11 +58,13 @@ unfolding bytes_at
 none_read m a = refl
 
 pub write_more : (m : List ℕ) (a i n from : ℕ) (xs : List ℕ) → from + i + n ≤ length xs → a + i + n ≤ length m
-    → with_bytes m a (take (i + n) (drop from xs)) ≡ with_bytes (with_bytes m a (take i (drop from xs))) (a + i) (take n (drop (from + i) xs))
+    → with_bytes m a (take (i + n) (drop from xs))
+    ≡ with_bytes (with_bytes m a (take i (drop from xs))) (a + i) (take n (drop (from + i) xs))
 write_more m a i n from xs most fits =
     let front : length (take i (drop from xs)) ≡ i = simp (length-take, length-drop) (omega arith) in
     let next : length (take n (drop (from + i) xs)) ≡ n = simp (length-take, length-drop) (omega arith) in
-    ap (λ l. with_bytes m a l) (take-add i n (drop from xs) ∙ ap (λ l. take i (drop from xs) ++ take n l) (drop-drop i from xs))
+    ap (λ l. with_bytes m a l)
+    (take-add i n (drop from xs) ∙ ap (λ l. take i (drop from xs) ++ take n l) (drop-drop i from xs))
     ∙ sym (with_more m a (take i (drop from xs)) (take n (drop (from + i) xs)) (omega arith))
     ∙ ap (λ k. with_bytes (with_bytes m a (take i (drop from xs))) (a + k) (take n (drop (from + i) xs))) front
 
@@ -93,16 +102,19 @@ next_inside size spans i inside below = inside i none below
 
 -- ---- reading
 
-read_span : (bytes : List ℕ) (s : Span) → s.address + s.len ≤ length bytes → read_at bytes (span_places s) ≡ bytes_at bytes s.address s.len
+read_span : (bytes : List ℕ) (s : Span) → s.address + s.len ≤ length bytes
+    → read_at bytes (span_places s) ≡ bytes_at bytes s.address s.len
 unfolding read_at span_places bytes_at
 read_span bytes s inside =
     let size = length-read_at bytes (span_places s) ∙ length-span_places s in
     same_number_lists _ _ (size ∙ sym (length-bytes_at bytes s.address s.len inside))
-    (λ k h. grind (arith, item_places, size, length-span_places s, get_or-map, get_or-table s.len (λ j. s.address + j) k 0))
+    (λ k h. grind
+    (arith, item_places, size, length-span_places s, get_or-map, get_or-table s.len (λ j. s.address + j) k 0))
 
 pub read_left : (bytes : List ℕ) (spans : List Span) (i : ℕ) → LieIn (length bytes) spans → i < length spans
     → read_at bytes (places (drop i spans))
-    ≡ bytes_at bytes (get_or spans i none).address (get_or spans i none).len ++ read_at bytes (places (drop (i + 1) spans))
+    ≡ bytes_at bytes (get_or spans i none).address (get_or spans i none).len
+    ++ read_at bytes (places (drop (i + 1) spans))
 unfolding read_at
 read_left bytes spans i inside below =
     let s = get_or spans i none in
@@ -138,13 +150,15 @@ written_range bytes a (suc n) xs few inside =
     let size : length ys ≡ n = length-take-le n xs (omega arith) in
     let more : take (suc n) xs ≡ ys ++ b ∷ [] = take-suc xs n 0 (omega arith) in
     cc (
-      written_at-append bytes (table n (λ k. a + k)) ((a + n) ∷ []) ys (b ∷ []) (length-table n (λ k. a + k) ∙ sym size),
+      written_at-append bytes (table n (λ k. a + k)) ((a + n) ∷ []) ys (b ∷ [])
+          (length-table n (λ k. a + k) ∙ sym size),
       written_range bytes a n xs (omega arith) (omega arith),
       one_written (with_bytes bytes a ys) (a + n) b (omega (arith, length-with_bytes bytes a ys (omega arith))),
       with_more bytes a ys (b ∷ []) (omega arith),
     )
 
-pub write_left : (bytes : List ℕ) (spans : List Span) (i at : ℕ) (source : List ℕ) → LieIn (length bytes) spans → i < length spans
+pub write_left : (bytes : List ℕ) (spans : List Span) (i at : ℕ) (source : List ℕ) → LieIn (length bytes) spans
+    → i < length spans
     → at + length (places (drop i spans)) ≡ length source
     → written_at bytes (places (drop i spans)) (drop at source)
     ≡ written_at (with_bytes bytes (get_or spans i none).address (take (get_or spans i none).len (drop at source)))
@@ -156,11 +170,27 @@ write_left bytes spans i at source inside below all =
     let few : s.len ≤ length xs = omega (arith, length-drop at source, count_left spans i below) in
     let same = length-span_places s ∙ sym (length-take-le s.len xs few) in
     let range = written_range bytes s.address s.len xs few (next_inside _ spans i inside below) in
-    let behind = written_at-append bytes (span_places s) (places (drop (i + 1) spans)) (take s.len xs) (drop s.len xs) same in
+    let behind =
+    written_at-append bytes (span_places s) (places (drop (i + 1) spans)) (take s.len xs) (drop s.len xs) same in
     cc (places_left spans i below, take-append-drop s.len xs, drop-drop s.len at source)
 
 pub written_none : (bytes source : List ℕ) → written_at bytes [] source ≡ bytes
 unfolding written_at
 written_none bytes source = refl
 
-pub ruleset lefts = (count_left, none_left, next_inside, read_left, read_none, write_left, written_none, length-bytes_at, length-take, length-drop, take_all, take-put_mid, append-nil, append_assoc)
+pub ruleset lefts = (
+  count_left,
+  none_left,
+  next_inside,
+  read_left,
+  read_none,
+  write_left,
+  written_none,
+  length-bytes_at,
+  length-take,
+  length-drop,
+  take_all,
+  take-put_mid,
+  append-nil,
+  append_assoc,
+)

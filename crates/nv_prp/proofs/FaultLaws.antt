@@ -1,18 +1,21 @@
 -- A single entry's fault, and which fault of a transfer is the first.
-use Rattle.std.proofs.Common.{◌==◌, if◌then◌else◌, nat_le, ◌≡◌, ◌∙◌, ℕ, ◌+◌, ◌-◌, ◌*◌, ◌/◌, ◌%◌, ◌<◌, ◌≤◌, List, None, Some, ap, arith, length, zero, suc, inl, inr, refl}
+use Rattle.std.proofs.Common.{◌==◌, if◌then◌else◌, nat_le, ◌≡◌, ◌∙◌, ℕ, ◌+◌, ◌-◌, ◌*◌, ◌/◌, ◌%◌, ◌<◌, ◌≤◌, List, None}
+use Rattle.std.proofs.Common.{Some, ap, arith, length, zero, suc, inl, inr, refl}
 use Rattle.std.proofs.Math.Nat.{mul-add-mod_self_left, mul-mod_left}
 use Rattle.std.proofs.lemmas.Bool.Decides.{nat_tests}
 use Rattle.std.proofs.lemmas.Bool.{cases_lt, lt-ltb}
 use Rattle.std.proofs.lemmas.Nat.{mod-mul-add}
 use Rattle.nv_host.specs.Pages.{HasPage, IsPageSize}
 use Rattle.nv_host.proofs.PageLaws.{page_size_bounds}
-use Rattle.nv_prp.specs.Transfer.{entry_fault, IsLegal, Transfer, data_pages, fault_after_prp1, first_fault, first_qword_fault, list_qwords, prp1_fault, prp2_fault, qword_fault, qwords, room}
+use Rattle.nv_prp.specs.Transfer.{entry_fault, IsLegal, PrpTransfer, data_pages, fault_after_prp1, first_fault}
+use Rattle.nv_prp.specs.Transfer.{first_qword_fault, list_qwords, prp1_fault, prp2_fault, qword_fault, qwords, room}
 use Rattle.std.specs.Option.{option_or}
 use Rattle.nv_prp.specs.declared.error.PrpError.{PrpError}
 use Rattle.nv_prp.specs.declared.error.PrpError.TheVariants.{Offset, Outside}
 
 -- an entry that lies in a memory of whole pages has its page there
-pub entry_inside : (pages page_size size alignment entry : ℕ) → pages * page_size ≡ size → IsPageSize page_size → entry < size
+pub entry_inside : (pages page_size size alignment entry : ℕ) → pages * page_size ≡ size → IsPageSize page_size
+    → entry < size
     → entry % alignment ≡ 0 → entry_fault page_size size alignment entry ≡ None
 unfolding entry_fault
 entry_inside pages page_size size alignment entry whole is inside even =
@@ -21,7 +24,8 @@ entry_inside pages page_size size alignment entry whole is inside even =
     grind (arith, nat_tests)
 
 pub fault_is : (page_size size alignment entry : ℕ) → entry_fault page_size size alignment entry
-    ≡ (if entry % alignment == 0 then (if nat_le (entry - entry % page_size + page_size) size then None else Some Outside) else Some Offset)
+    ≡ (if entry % alignment == 0
+    then (if nat_le (entry - entry % page_size + page_size) size then None else Some Outside) else Some Offset)
 unfolding entry_fault
 fault_is page_size size alignment entry = refl
 
@@ -42,7 +46,8 @@ multiple_stays page size x k whole =
     let turned : page * (k * q) ≡ k * (page * q) = grind arith in
     ap (λ n. (n + x) % k) (ap (λ p. page * p) whole ∙ turned) ∙ mul-add-mod_self_left k (page * q) x
 
-pub no_fault_at : (bytes : List ℕ) (page size x alignment entry : ℕ) → entry ≡ page * size + x → x < size → HasPage bytes size page
+pub no_fault_at : (bytes : List ℕ) (page size x alignment entry : ℕ) → entry ≡ page * size + x → x < size
+    → HasPage bytes size page
     → entry % alignment ≡ 0 → entry_fault size (length bytes) alignment entry ≡ None
 unfolding entry_fault
 no_fault_at bytes page size x alignment entry is below has even =
@@ -57,7 +62,7 @@ no_fault_of_page bytes page size entry is some has =
 -- ---- a list's Qwords
 
 -- each of the first Qwords is without a fault
-pub each_none : (t : Transfer) (n : ℕ) → first_qword_fault t n ≡ None → (k : ℕ) → k < n → qword_fault t k ≡ None
+pub each_none : (t : PrpTransfer) (n : ℕ) → first_qword_fault t n ≡ None → (k : ℕ) → k < n → qword_fault t k ≡ None
 each_none t zero none k below = absurd (omega arith)
 each_none t (suc n) none k below =
     elim (cases_lt k n) [
@@ -65,16 +70,18 @@ each_none t (suc n) none k below =
       | inr last ↦ let is : k ≡ n = omega arith in grind (arith, nat_tests)
     ]
 
-no_qword_fault : (t : Transfer) (n : ℕ) → ((k : ℕ) → k < n → qword_fault t k ≡ None) → first_qword_fault t n ≡ None
+no_qword_fault : (t : PrpTransfer) (n : ℕ) → ((k : ℕ) → k < n → qword_fault t k ≡ None) → first_qword_fault t n ≡ None
 no_qword_fault t zero none = refl
 no_qword_fault t (suc n) none =
     ap (λ o. option_or o (qword_fault t n)) (no_qword_fault t n (λ k h. none k (omega arith))) ∙ none n (omega arith)
 
-pub next_fault : (t : Transfer) (n m : ℕ) → m ≡ n + 1 → first_qword_fault t n ≡ None → first_qword_fault t m ≡ qword_fault t n
+pub next_fault : (t : PrpTransfer) (n m : ℕ) → m ≡ n + 1 → first_qword_fault t n ≡ None
+    → first_qword_fault t m ≡ qword_fault t n
 next_fault t n m e none = grind (arith, nat_tests)
 
 -- a fault stays the first one
-pub fault_stays : (t : Transfer) (e : PrpError) (m n : ℕ) → m ≤ n → first_qword_fault t m ≡ Some e → first_qword_fault t n ≡ Some e
+pub fault_stays : (t : PrpTransfer) (e : PrpError) (m n : ℕ) → m ≤ n → first_qword_fault t m ≡ Some e
+    → first_qword_fault t n ≡ Some e
 fault_stays t e m zero le h = let is : 0 ≡ m = omega arith in ap (λ k. first_qword_fault t k) is ∙ h
 fault_stays t e m (suc n) le h =
     elim (cases_lt n m) [
@@ -84,31 +91,37 @@ fault_stays t e m (suc n) le h =
 
 -- ---- a transfer
 
-pub legal_from_none : (t : Transfer) → first_fault t ≡ None → IsLegal t
+pub legal_from_none : (t : PrpTransfer) → first_fault t ≡ None → IsLegal t
 unfolding first_fault
 legal_from_none t none =
-    record { prp1 = grind (arith, nat_tests); prp2 = grind (arith, nat_tests); list = each_none t (qwords t) (grind (arith, nat_tests)) }
+    record {
+      prp1 = grind (arith, nat_tests);
+      prp2 = grind (arith, nat_tests);
+      list = each_none t (qwords t) (grind (arith, nat_tests));
+    }
 
-pub none_from_legal : (t : Transfer) → IsLegal t → first_fault t ≡ None
+pub none_from_legal : (t : PrpTransfer) → IsLegal t → first_fault t ≡ None
 unfolding first_fault
 none_from_legal t legal = rw (legal.prp1, legal.prp2) (no_qword_fault t (qwords t) legal.list)
 
-pub first_is : (t : Transfer) → first_fault t ≡ option_or (prp1_fault t) (fault_after_prp1 t)
+pub first_is : (t : PrpTransfer) → first_fault t ≡ option_or (prp1_fault t) (fault_after_prp1 t)
 unfolding first_fault
 first_is t = refl
 
 -- of one data page, of two, and of more
 
-pub fault_of_one : (t : Transfer) → data_pages t ≡ 1 → fault_after_prp1 t ≡ None
+pub fault_of_one : (t : PrpTransfer) → data_pages t ≡ 1 → fault_after_prp1 t ≡ None
 unfolding prp2_fault qwords
 fault_of_one t one = grind (arith, nat_tests)
 
-pub fault_of_two : (t : Transfer) → data_pages t ≡ 2 → fault_after_prp1 t ≡ entry_fault t.page_size (length t.bytes) t.page_size t.prp2
+pub fault_of_two : (t : PrpTransfer) → data_pages t ≡ 2
+    → fault_after_prp1 t ≡ entry_fault t.page_size (length t.bytes) t.page_size t.prp2
 unfolding prp2_fault qwords
 fault_of_two t two = grind (arith, nat_tests)
 
-pub fault_of_list : (t : Transfer) → 2 < data_pages t → fault_after_prp1 t
-    ≡ option_or (entry_fault t.page_size (length t.bytes) 8 t.prp2) (first_qword_fault t (list_qwords (room t) (data_pages t)))
+pub fault_of_list : (t : PrpTransfer) → 2 < data_pages t → fault_after_prp1 t
+    ≡ option_or (entry_fault t.page_size (length t.bytes) 8 t.prp2)
+    (first_qword_fault t (list_qwords (room t) (data_pages t)))
 unfolding prp2_fault qwords
 fault_of_list t many = rw (lt-ltb 2 (data_pages t) many)
 

@@ -6,8 +6,10 @@ use Rattle.std.proofs.lemmas.Bool.Decides.{nat_tests}
 use Rattle.std.proofs.lemmas.Nat.{div-add-mod'}
 use Rattle.nv_host.specs.Pages.{IsPageSize}
 use Rattle.nv_host.proofs.PageLaws.{page_size_bounds, page_size_in_qwords}
-use Rattle.nv_prp.specs.ListWalk.{Comes, IsList, Turn, cursor_of, used_of}
-use Rattle.nv_prp.specs.Transfer.{Transfer, data_pages, entry_fault, fault_after_prp1, first_qword_fault, list_place, list_qwords, naming_number, naming_qword, page_base, qword, qword_fault, qword_place, room, second_page}
+use Rattle.nv_prp.specs.ListWalk.{Comes, IsList, ListTurn, cursor_of, used_of}
+use Rattle.nv_prp.specs.Transfer.{PrpTransfer, data_pages, entry_fault, fault_after_prp1, first_qword_fault, list_place}
+use Rattle.nv_prp.specs.Transfer.{list_qwords, naming_number, naming_qword, page_base, qword, qword_fault, qword_place}
+use Rattle.nv_prp.specs.Transfer.{room, second_page}
 use Rattle.nv_prp.specs.declared.error.PrpError.{PrpError}
 use Rattle.nv_prp.proofs.FaultLaws.{from_no_fault, each_none, fault_of_list, fault_stays, next_fault}
 use Rattle.nv_prp.proofs.PageLaws.{spans}
@@ -35,7 +37,7 @@ whole_room x size is even =
 
 -- ---- a walk over the list
 
-pub is_list : (t : Transfer) → 2 < data_pages t → IsPageSize t.page_size → data_pages t ≤ 257
+pub is_list : (t : PrpTransfer) → 2 < data_pages t → IsPageSize t.page_size → data_pages t ≤ 257
     → entry_fault t.page_size (length t.bytes) 8 t.prp2 ≡ None → IsList t
 is_list t many size few none =
     let entry = from_no_fault t.page_size (length t.bytes) 8 t.prp2 none in
@@ -51,29 +53,33 @@ is_list t many size few none =
     }
 
 -- the faults of all Qwords are those of the list
-pub list_fault : (t : Transfer) → IsList t → fault_after_prp1 t ≡ first_qword_fault t (used_of t (data_pages t))
+pub list_fault : (t : PrpTransfer) → IsList t → fault_after_prp1 t ≡ first_qword_fault t (used_of t (data_pages t))
 list_fault t list =
     let all : list_qwords (room t) (data_pages t) ≡ used_of t (data_pages t) = grind (arith, nat_tests) in
-    fault_of_list t list.many ∙ ap (λ o. option_or o (first_qword_fault t (list_qwords (room t) (data_pages t)))) list.prp2
+    fault_of_list t list.many
+    ∙ ap (λ o. option_or o (first_qword_fault t (list_qwords (room t) (data_pages t)))) list.prp2
     ∙ ap (λ n. first_qword_fault t n) all
 
 -- a fault at a Qword before data page j's or at it is the list's
-pub fault_found : (t : Transfer) (e : PrpError) (j m : ℕ) → IsList t → j < data_pages t → m ≤ used_of t (j + 1) → first_qword_fault t m ≡ Some e
+pub fault_found : (t : PrpTransfer) (e : PrpError) (j m : ℕ) → IsList t → j < data_pages t → m ≤ used_of t (j + 1)
+    → first_qword_fault t m ≡ Some e
     → fault_after_prp1 t ≡ Some e
 fault_found t e j m list below most found =
     list_fault t list ∙ fault_stays t e m (used_of t (data_pages t)) (grind (arith, nat_tests)) found
 
-pub comes_first : (t : Transfer) → IsList t → Comes t 1 t.prp2
+pub comes_first : (t : PrpTransfer) → IsList t → Comes t 1 t.prp2
 comes_first t list = record { later = omega arith; here = grind (arith, nat_tests); none = grind (arith, nat_tests) }
 
-pub base_by_list : (t : Transfer) (j : ℕ) → 2 < data_pages t → 0 < j
+pub base_by_list : (t : PrpTransfer) (j : ℕ) → 2 < data_pages t → 0 < j
     → page_base t j ≡ qword t.bytes (qword_place t (naming_qword t j))
 unfolding page_base
 base_by_list t zero many later = absurd (omega arith)
 base_by_list t (suc j) many later = rw (lt-ltb 2 (data_pages t) many)
 
-turn : (t : Transfer) (j at : ℕ) → IsList t → 0 < j → list_place (room t) t.prp2 (second_page t) (naming_number (room t) (data_pages t) j) ≡ at
-    → first_qword_fault t (naming_number (room t) (data_pages t) j) ≡ None → cursor_of t (j + 1) ≡ at + 8 → at + 8 ≤ length t.bytes → Turn t j at
+turn : (t : PrpTransfer) (j at : ℕ) → IsList t → 0 < j
+    → list_place (room t) t.prp2 (second_page t) (naming_number (room t) (data_pages t) j) ≡ at
+    → first_qword_fault t (naming_number (room t) (data_pages t) j) ≡ None → cursor_of t (j + 1) ≡ at + 8
+    → at + 8 ≤ length t.bytes → ListTurn t j at
 unfolding qword_fault qword_place naming_qword
 turn t j at list later place none next inside = record {
   fault = grind (arith, nat_tests, next_fault t (naming_number (room t) (data_pages t) j) (used_of t (j + 1)));
@@ -83,36 +89,48 @@ turn t j at list later place none next inside = record {
 }
 
 -- a page of the memory has room for all Qwords of a list's second page
-in_page : (t : Transfer) (entry n : ℕ) → IsList t → n < data_pages t → entry_fault t.page_size (length t.bytes) t.page_size entry ≡ None
+in_page : (t : PrpTransfer) (entry n : ℕ) → IsList t → n < data_pages t
+    → entry_fault t.page_size (length t.bytes) t.page_size entry ≡ None
     → entry + 8 * n + 8 ≤ length t.bytes
-in_page t entry n list below none = grind (arith, from_no_fault t.page_size (length t.bytes) t.page_size entry none, page_size_bounds t.page_size list.size, list.few)
+in_page t entry n list below none =
+    grind (
+      arith,
+      from_no_fault t.page_size (length t.bytes) t.page_size entry none,
+      page_size_bounds t.page_size list.size,
+      list.few,
+    )
 
-second_inside : (t : Transfer) (j at : ℕ) → IsList t → Comes t j at → j < data_pages t → room t < j → room t + 1 < data_pages t
+second_inside : (t : PrpTransfer) (j at : ℕ) → IsList t → Comes t j at → j < data_pages t → room t < j
+    → room t + 1 < data_pages t
     → second_page t + 8 * (j - room t) + 8 ≤ length t.bytes
 unfolding qword_fault qword_place
 second_inside t j at list comes below later more =
     let none : first_qword_fault t j ≡ None = grind (arith, nat_tests) in
     in_page t (second_page t) (j - room t) list (omega arith)
-    (rw (lt-ltb (room t - 1) (room t) (omega (arith, list.some))) at (each_none t j none (room t - 1) (omega (arith, list.some))))
+    (rw (lt-ltb (room t - 1) (room t) (omega (arith, list.some))) at
+    (each_none t j none (room t - 1) (omega (arith, list.some))))
 
-pub next_inside : (t : Transfer) (j at : ℕ) → IsList t → Comes t j at → j < data_pages t → at + 8 ≤ length t.bytes
+pub next_inside : (t : PrpTransfer) (j at : ℕ) → IsList t → Comes t j at → j < data_pages t → at + 8 ≤ length t.bytes
 next_inside t j at list comes below = grind (arith, nat_tests, second_inside t j at list comes below)
 
-pub turn_here : (t : Transfer) (j at : ℕ) → IsList t → Comes t j at → j < data_pages t → (j ≡ room t → data_pages t ≤ room t + 1) → Turn t j at
+pub turn_here : (t : PrpTransfer) (j at : ℕ) → IsList t → Comes t j at → j < data_pages t
+    → (j ≡ room t → data_pages t ≤ room t + 1) → ListTurn t j at
 turn_here t j at list comes below h =
-    turn t j at list comes.later (grind (arith, nat_tests)) (grind (arith, nat_tests)) (grind (arith, nat_tests)) (next_inside t j at list comes below)
+    turn t j at list comes.later (grind (arith, nat_tests)) (grind (arith, nat_tests)) (grind (arith, nat_tests))
+    (next_inside t j at list comes below)
 
 -- the last Qword of the list's first page holds the address of its second one
-pub record Chain (t : Transfer) (j at : ℕ) : Type 0 where
+pub record Chain (t : PrpTransfer) (j at : ℕ) : Type 0 where
   pub fault : first_qword_fault t j ≡ entry_fault t.page_size (length t.bytes) t.page_size (qword t.bytes at)
   pub is : qword t.bytes at ≡ second_page t
 
-pub chain : (t : Transfer) (j at : ℕ) → Comes t j at → j ≡ room t → room t + 1 < data_pages t → Chain t j at
+pub chain : (t : PrpTransfer) (j at : ℕ) → Comes t j at → j ≡ room t → room t + 1 < data_pages t → Chain t j at
 unfolding qword_fault qword_place
 chain t j at comes last more = grind (arith, nat_tests)
 
-pub turn_behind : (t : Transfer) (j at entry : ℕ) → IsList t → Comes t j at → j ≡ room t → room t + 1 < data_pages t
-    → entry ≡ qword t.bytes at → entry_fault t.page_size (length t.bytes) t.page_size (qword t.bytes at) ≡ None → Turn t j entry
+pub turn_behind : (t : PrpTransfer) (j at entry : ℕ) → IsList t → Comes t j at → j ≡ room t → room t + 1 < data_pages t
+    → entry ≡ qword t.bytes at → entry_fault t.page_size (length t.bytes) t.page_size (qword t.bytes at) ≡ None
+    → ListTurn t j entry
 turn_behind t j at entry list comes last more is none =
     let link = chain t j at comes last more in
     turn t j entry list comes.later (grind (arith, nat_tests)) (grind (arith, nat_tests)) (grind (arith, nat_tests))

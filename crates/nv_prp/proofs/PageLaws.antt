@@ -1,6 +1,7 @@
 -- Data pages by their numbers.
 use Rattle.std.proofs.lemmas.Bool.Decides.{nat_tests}
-use Rattle.std.proofs.Common.{◌≡◌, ◌∙◌, ℕ, zero, suc, ◌+◌, ◌-◌, ◌*◌, ◌<◌, ◌≤◌, ◌++◌, ◌∷◌, [], append-nil, ap, arith, length, refl, sym}
+use Rattle.std.proofs.Common.{◌≡◌, ◌∙◌, ℕ, zero, suc, ◌+◌, ◌-◌, ◌*◌, ◌<◌, ◌≤◌, ◌++◌, ◌∷◌, [], append-nil, ap, arith}
+use Rattle.std.proofs.Common.{length, refl, sym}
 use Rattle.std.specs.Int.{div_ceil}
 use Rattle.std.proofs.Math.Nat.{mul-le-mul, mul-le-mul_right}
 use Rattle.std.proofs.lemmas.Bool.{le-ltb}
@@ -11,18 +12,19 @@ use Rattle.nv_host.proofs.PageLaws.{page_size_bounds}
 use Rattle.nv_prp.specs.Place.{places, span_places, table}
 use Rattle.nv_prp.proofs.PlaceLaws.{length-table, table-append, table-more, table-same}
 use Rattle.nv_prp.specs.declared.spans.Span.{Span}
-use Rattle.nv_prp.specs.Transfer.{Transfer, data_pages, first_byte, offset, page_base, place_of, span_of, spans_of, transfer_places}
+use Rattle.nv_prp.specs.Transfer.{PrpTransfer, data_pages, first_byte, offset, page_base, place_of, span_of, spans_of}
+use Rattle.nv_prp.specs.Transfer.{transfer_places}
 
 -- the last data page holds a byte, and no byte lies behind it
-pub pages_span : (t : Transfer) → 0 < t.page_size
+pub pages_span : (t : PrpTransfer) → 0 < t.page_size
     → (offset t + t.len ≤ data_pages t * t.page_size) × (data_pages t * t.page_size < offset t + t.len + t.page_size)
 pages_span t some = div_ceil_times (offset t + t.len) t.page_size some
 
 -- page j of them begins in the transfer
-page_begins : (t : Transfer) (j : ℕ) → 0 < t.page_size → j < data_pages t → j * t.page_size < offset t + t.len
+page_begins : (t : PrpTransfer) (j : ℕ) → 0 < t.page_size → j < data_pages t → j * t.page_size < offset t + t.len
 page_begins t j some below = grind (arith, nat_tests)
 
-pub at_least_one : (t : Transfer) → 0 < t.page_size → 0 < t.len → 0 < data_pages t
+pub at_least_one : (t : PrpTransfer) → 0 < t.page_size → 0 < t.len → 0 < data_pages t
 at_least_one t some bytes = let span = pages_span t some in grind arith
 
 pub at_most_257 : (rest len size : ℕ) → IsPageSize size → rest < size → len ≤ 1048576 → div_ceil (rest + len) size ≤ 257
@@ -34,7 +36,8 @@ at_most_257 rest len size is below limit =
 pub ruleset page_counts = (at_most_257, page_size_bounds)
 
 -- the place of a byte of page j
-place_in_page : (t : Transfer) (j x : ℕ) → j * t.page_size ≤ offset t + x → offset t + x < j * t.page_size + t.page_size
+place_in_page : (t : PrpTransfer) (j x : ℕ) → j * t.page_size ≤ offset t + x
+    → offset t + x < j * t.page_size + t.page_size
     → place_of t x ≡ page_base t j + (offset t + x - j * t.page_size)
 unfolding place_of
 place_in_page t j x low high =
@@ -49,11 +52,12 @@ page_times j size is = mul-le-mul (omega arith) (page_size_bounds size is).1
 pub next_page : (j size : ℕ) → (j + 1) * size ≡ j * size + size
 next_page j size = grind arith
 
-pub first_bytes_rise : (t : Transfer) (j : ℕ) → first_byte t j ≤ first_byte t (j + 1)
+pub first_bytes_rise : (t : PrpTransfer) (j : ℕ) → first_byte t j ≤ first_byte t (j + 1)
 first_bytes_rise t j = omega (arith, next_page j t.page_size)
 
 -- a byte of page j lies as far from the page's first byte as in the transfer
-place_after_first : (t : Transfer) (j k : ℕ) → 0 < t.page_size → j < data_pages t → k < first_byte t (j + 1) - first_byte t j
+place_after_first : (t : PrpTransfer) (j k : ℕ) → 0 < t.page_size → j < data_pages t
+    → k < first_byte t (j + 1) - first_byte t j
     → place_of t (first_byte t j + k) ≡ place_of t (first_byte t j) + k
 place_after_first t j k some below h =
     let begins = page_begins t j some below in
@@ -61,22 +65,23 @@ place_after_first t j k some below h =
     grind (arith, place_in_page t j (first_byte t j + k), place_in_page t j (first_byte t j))
 
 -- data page 1 of two
-pub base_of_two : (t : Transfer) → data_pages t ≡ 2 → page_base t 1 ≡ t.prp2
+pub base_of_two : (t : PrpTransfer) → data_pages t ≡ 2 → page_base t 1 ≡ t.prp2
 unfolding page_base
 base_of_two t two = rw (le-ltb 2 (data_pages t) (omega arith))
 
 -- ---- spans
 
-span_with : (t : Transfer) (j address : ℕ) → place_of t (first_byte t j) ≡ address
+span_with : (t : PrpTransfer) (j address : ℕ) → place_of t (first_byte t j) ≡ address
     → span_of t j ≡ record { address = address; len = first_byte t (j + 1) - first_byte t j }
 unfolding span_of
 span_with t j address e = λ i. record { address = e i; len = first_byte t (j + 1) - first_byte t j }
 
-pub first_span : (t : Transfer) → 0 < t.page_size → 0 < t.len → span_of t 0 ≡ record { address = t.prp1; len = first_byte t 1 - first_byte t 0 }
+pub first_span : (t : PrpTransfer) → 0 < t.page_size → 0 < t.len
+    → span_of t 0 ≡ record { address = t.prp1; len = first_byte t 1 - first_byte t 0 }
 unfolding page_base
 first_span t some bytes = span_with t 0 t.prp1 (grind (arith, place_in_page t 0 (first_byte t 0)))
 
-pub later_span : (t : Transfer) (j : ℕ) → 0 < t.page_size → 0 < j → j < data_pages t
+pub later_span : (t : PrpTransfer) (j : ℕ) → 0 < t.page_size → 0 < j → j < data_pages t
     → span_of t j ≡ record { address = page_base t j; len = first_byte t (j + 1) - first_byte t j }
 later_span t j some later below =
     let begins = page_begins t j some below in
@@ -87,37 +92,38 @@ later_span t j some later below =
 pub table_next : (n : ℕ) (f : ℕ → Span) → table (n + 1) f ≡ table n f ++ f n ∷ []
 table_next n f = table-more n (n + 1) f refl
 
-pub all_spans : (t : Transfer) → spans_of t ≡ table (data_pages t) (span_of t)
+pub all_spans : (t : PrpTransfer) → spans_of t ≡ table (data_pages t) (span_of t)
 unfolding spans_of
 all_spans t = refl
 
 pub ruleset spans = (first_span, later_span, base_of_two, table_next, all_spans, page_size_bounds)
 
-places_of_span : (t : Transfer) (j : ℕ) → 0 < t.page_size → j < data_pages t
+places_of_span : (t : PrpTransfer) (j : ℕ) → 0 < t.page_size → j < data_pages t
     → span_places (span_of t j) ≡ table (first_byte t (j + 1) - first_byte t j) (λ k. place_of t (first_byte t j + k))
 unfolding span_places span_of
 places_of_span t j some below =
     table-same (first_byte t (j + 1) - first_byte t j) _ _ (λ k h. sym (place_after_first t j k some below h))
 
-places_of_pages : (t : Transfer) (j : ℕ) → 0 < t.page_size → j ≤ data_pages t
+places_of_pages : (t : PrpTransfer) (j : ℕ) → 0 < t.page_size → j ≤ data_pages t
     → places (table j (span_of t)) ≡ table (first_byte t j) (place_of t)
 unfolding places
 places_of_pages t zero some below =
     let none : 0 ≡ first_byte t 0 = omega arith in ap (λ n. table n (place_of t)) none
 places_of_pages t (suc j) some below =
-    let parts : first_byte t j + (first_byte t (j + 1) - first_byte t j) ≡ first_byte t (suc j) = omega (arith, first_bytes_rise t j) in
+    let parts : first_byte t j + (first_byte t (j + 1) - first_byte t j) ≡ first_byte t (suc j) =
+    omega (arith, first_bytes_rise t j) in
     flat_map-append span_places (table j (span_of t)) (span_of t j ∷ [])
     ∙ (λ i. places_of_pages t j some (omega arith) i ++ append-nil (span_places (span_of t j)) i)
     ∙ ap (λ l. table (first_byte t j) (place_of t) ++ l) (places_of_span t j some (omega arith))
     ∙ sym (table-append (first_byte t j) (first_byte t (j + 1) - first_byte t j) (place_of t))
     ∙ ap (λ n. table n (place_of t)) parts
 
-pub places_of_spans : (t : Transfer) → 0 < t.page_size → places (spans_of t) ≡ transfer_places t
+pub places_of_spans : (t : PrpTransfer) → 0 < t.page_size → places (spans_of t) ≡ transfer_places t
 unfolding spans_of transfer_places
 places_of_spans t some =
     let all : first_byte t (data_pages t) ≡ t.len = omega (arith, pages_span t some) in
     places_of_pages t (data_pages t) some (omega arith) ∙ ap (λ n. table n (place_of t)) all
 
-pub length_transfer_places : (t : Transfer) → length (transfer_places t) ≡ t.len
+pub length_transfer_places : (t : PrpTransfer) → length (transfer_places t) ≡ t.len
 unfolding transfer_places
 length_transfer_places t = length-table t.len (place_of t)

@@ -5,25 +5,33 @@ use Rattle.std.proofs.lemmas.Bool.{cases_lt}
 use Rattle.nv_host.proofs.PageLaws.{page_size_bounds}
 use Rattle.nv_prp.specs.Place.{LieIn}
 use Rattle.nv_prp.proofs.PlaceLaws.{All-table}
-use Rattle.nv_prp.specs.Transfer.{IsLegal, Transfer, data_pages, entry_fault, naming_qword, page_base, prp2_fault, qword_fault, qwords, span_of, spans_of}
+use Rattle.nv_prp.specs.Transfer.{IsLegal, PrpTransfer, data_pages, entry_fault, naming_qword, page_base, prp2_fault}
+use Rattle.nv_prp.specs.Transfer.{qword_fault, qwords, span_of, spans_of}
 use Rattle.nv_prp.proofs.FaultLaws.{from_no_fault, legal_from_none, none_from_legal}
 use Rattle.nv_prp.proofs.ListLaws.{base_by_list}
-use Rattle.nv_prp.proofs.PageLaws.{base_of_two, first_span, later_span, length_transfer_places, next_page, places_of_spans}
+use Rattle.nv_prp.proofs.PageLaws.{base_of_two, first_span, later_span, length_transfer_places, next_page}
+use Rattle.nv_prp.proofs.PageLaws.{places_of_spans}
 
 -- a data page but the first is a page of the memory
-later_fault : (t : Transfer) (j : ℕ) → IsLegal t → 0 < j → j < data_pages t → entry_fault t.page_size (length t.bytes) t.page_size (page_base t j) ≡ None
+later_fault : (t : PrpTransfer) (j : ℕ) → IsLegal t → 0 < j → j < data_pages t
+    → entry_fault t.page_size (length t.bytes) t.page_size (page_base t j) ≡ None
 unfolding qword_fault prp2_fault qwords naming_qword
-later_fault t j legal later below = grind (arith, nat_tests, base_by_list t j, base_of_two t, legal.list (naming_qword t j), legal.prp2)
+later_fault t j legal later below =
+    grind (arith, nat_tests, base_by_list t j, base_of_two t, legal.list (naming_qword t j), legal.prp2)
 
-pub spans_lie_in : (t : Transfer) → IsLegal t → 0 < t.page_size → 0 < t.len → LieIn (length t.bytes) (spans_of t)
+pub spans_lie_in : (t : PrpTransfer) → IsLegal t → 0 < t.page_size → 0 < t.len → LieIn (length t.bytes) (spans_of t)
 unfolding LieIn spans_of
 spans_lie_in t legal some bytes =
     All-table (λ s. s.address + s.len ≤ length t.bytes) (data_pages t) (span_of t)
     (λ j below. elim (cases_lt 0 j) [
       | inl later ↦
-          let base = from_no_fault t.page_size (length t.bytes) t.page_size (page_base t j) (later_fault t j legal later below) in
+          let base =
+          from_no_fault t.page_size (length t.bytes) t.page_size (page_base t j)
+          (later_fault t j legal later below) in
           grind (arith, next_page j t.page_size, later_span t j some later below)
-      | inr first ↦ grind (arith, first_span t some bytes, from_no_fault t.page_size (length t.bytes) 4 t.prp1 legal.prp1)
+      | inr first ↦ grind
+          (arith, first_span t some bytes, from_no_fault t.page_size (length t.bytes) 4 t.prp1 legal.prp1)
     ])
 
-pub ruleset walks = (legal_from_none, none_from_legal, places_of_spans, spans_lie_in, length_transfer_places, page_size_bounds)
+pub ruleset walks =
+    (legal_from_none, none_from_legal, places_of_spans, spans_lie_in, length_transfer_places, page_size_bounds)

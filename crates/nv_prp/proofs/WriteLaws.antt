@@ -1,5 +1,6 @@
 -- Qwords that are written, and lists of them.
-use Rattle.std.proofs.Common.{◌≡◌, ◌≢◌, ◌∙◌, ◌⊎◌, ℕ, ◌+◌, ◌-◌, ◌*◌, ◌/◌, ◌%◌, ◌<◌, ◌≤◌, ◌^◌, List, ap, arith, get_or, inl, inr, length, refl, sym}
+use Rattle.std.proofs.Common.{◌≡◌, ◌≢◌, ◌∙◌, ◌⊎◌, ℕ, ◌+◌, ◌-◌, ◌*◌, ◌/◌, ◌%◌, ◌<◌, ◌≤◌, ◌^◌, List, ap, arith, get_or}
+use Rattle.std.proofs.Common.{inl, inr, length, refl, sym}
 use Rattle.std.specs.Int.{from_le_bytes, to_le_bytes, w64}
 use Rattle.std.proofs.Math.Nat.{mul-le-mul_right}
 use Rattle.std.proofs.lemmas.Bool.Decides.{nat_tests}
@@ -21,11 +22,13 @@ pub stored_value : (bytes : List ℕ) (addr value : ℕ) → addr + 8 ≤ length
     → qword (with_bytes bytes addr (to_le_bytes w64 value)) addr ≡ value
 unfolding qword
 stored_value bytes addr value inside fits =
-    ap (λ l. from_le_bytes w64 l) (bytes_at-with_same bytes addr 8 (to_le_bytes w64 value) inside refl) ∙ from_le_bytes-to_le_bytes_8 value fits
+    ap (λ l. from_le_bytes w64 l) (bytes_at-with_same bytes addr 8 (to_le_bytes w64 value) inside refl)
+    ∙ from_le_bytes-to_le_bytes_8 value fits
 
 pub ruleset stores = (stored_value, bytes_at-with_before, bytes_at-with_after)
 
-qword_kept : (addr n other : ℕ) (old new : List ℕ) → ChangesOnly addr n old new → IsApart addr n other 8 → qword new other ≡ qword old other
+qword_kept : (addr n other : ℕ) (old new : List ℕ) → ChangesOnly addr n old new → IsApart addr n other 8
+    → qword new other ≡ qword old other
 unfolding qword
 qword_kept addr n other old new others apart = ap (λ l. from_le_bytes w64 l) (others other 8 apart)
 
@@ -44,17 +47,23 @@ pages_apart : (size a b : ℕ) → a ≢ b → (a * size + size ≤ b * size) �
 pages_apart size a b other =
     elim (cases_order a b) [
       | inl same ↦ absurd (other same)
-      | inr (inl below) ↦ let next : (a + 1) * size ≤ b * size = mul-le-mul_right size (omega arith) in inl (omega arith)
-      | inr (inr above) ↦ let next : (b + 1) * size ≤ a * size = mul-le-mul_right size (omega arith) in inr (omega arith)
+      | inr (inl below) ↦ let next : (a + 1) * size ≤ b * size = mul-le-mul_right size (omega arith) in
+          inl (omega arith)
+      | inr (inr above) ↦ let next : (b + 1) * size ≤ a * size = mul-le-mul_right size (omega arith) in
+          inr (omega arith)
     ]
 
 -- a list's address is a multiple of 8
-pub list_even : (bytes : List ℕ) (size first second offset : ℕ) → IsPageSize size → IsListPlace bytes size first second offset
+pub list_even : (bytes : List ℕ) (size first second offset : ℕ) → IsPageSize size
+    → IsListPlace bytes size first second offset
     → (first * size + offset) % 8 ≡ 0
-list_even bytes size first second offset is place = multiple_stays first size offset 8 (page_size_in_qwords size is) ∙ place.aligned
+list_even bytes size first second offset is place = multiple_stays first size offset 8 (page_size_in_qwords size is)
+    ∙ place.aligned
 
-pub lies_at : (bytes : List ℕ) (size first second offset start space : ℕ) → IsPageSize size → IsListPlace bytes size first second offset
-    → first ≢ second → start ≡ first * size + offset → space ≡ (size - start % size) / 8 → Lies size space start (first * size) (second * size)
+pub lies_at : (bytes : List ℕ) (size first second offset start space : ℕ) → IsPageSize size
+    → IsListPlace bytes size first second offset
+    → first ≢ second → start ≡ first * size + offset → space ≡ (size - start % size) / 8
+    → Lies size space start (first * size) (second * size)
 lies_at bytes size first second offset start space is place other at room =
     let rest : start % size ≡ offset = ap (λ n. n % size) at ∙ mod-mul-add first size offset place.below in
     let bounds = page_size_bounds size is in
@@ -69,18 +78,22 @@ lies_at bytes size first second offset start space is place other at room =
 
 -- n bytes lie in one of the pages
 abbrev pub IsWithin : ℕ → ℕ → ℕ → ℕ → ℕ → Type 0
-IsWithin size first second addr n = ((first ≤ addr) × (addr + n ≤ first + size)) ⊎ ((second ≤ addr) × (addr + n ≤ second + size))
+IsWithin size first second addr n =
+    ((first ≤ addr) × (addr + n ≤ first + size)) ⊎ ((second ≤ addr) × (addr + n ≤ second + size))
 
 -- the Qword that names data page j
 abbrev pub naming_place : ℕ → ℕ → ℕ → ℕ → ℕ → ℕ
 naming_place space start second count j = list_place space start second (naming_number space count j)
 
-pub place_within : (size space start first second count j behind at : ℕ) → Lies size space start first second → count ≤ 257
-    → 0 < j → j < count → behind ≡ second → at ≡ naming_place space start behind count j → IsWithin size first second at 8
+pub place_within : (size space start first second count j behind at : ℕ) → Lies size space start first second
+    → count ≤ 257
+    → 0 < j → j < count → behind ≡ second → at ≡ naming_place space start behind count j
+    → IsWithin size first second at 8
 place_within size space start first second count j behind at lies few later below same is = grind (arith, nat_tests)
 
 -- and so does the last one of the first page
-pub chain_within : (size space start first second at : ℕ) → Lies size space start first second → at ≡ start + 8 * (space - 1)
+pub chain_within : (size space start first second at : ℕ) → Lies size space start first second
+    → at ≡ start + 8 * (space - 1)
     → IsWithin size first second at 8
 chain_within size space start first second at lies is = inl (omega arith, omega arith)
 
@@ -88,21 +101,27 @@ chain_within size space start first second at lies is = inl (omega arith, omega 
 
 -- the first Qwords name their data pages
 abbrev pub HasNamed : List ℕ → ℕ → ℕ → ℕ → ℕ → List ℕ → ℕ → ℕ → Type 0
-HasNamed bytes size space start second pages count n = (j : ℕ) → 0 < j → j < n → qword bytes (naming_place space start second count j) ≡ get_or pages j 0 * size
+HasNamed bytes size space start second pages count n = (j : ℕ) → 0 < j → j < n
+    → qword bytes (naming_place space start second count j) ≡ get_or pages j 0 * size
 
-pub one_named : (old new : List ℕ) (size space start first second : ℕ) (pages : List ℕ) (count j behind at : ℕ) → Lies size space start first second
+pub one_named : (old new : List ℕ) (size space start first second : ℕ) (pages : List ℕ) (count j behind at : ℕ)
+    → Lies size space start first second
     → count ≤ 257 → 0 < j → j < count → behind ≡ second → at ≡ naming_place space start behind count j
     → HasNamed old size space start second pages count j
-    → qword new at ≡ get_or pages j 0 * size → ChangesOnly at 8 old new → HasNamed new size space start second pages count (j + 1)
+    → qword new at ≡ get_or pages j 0 * size → ChangesOnly at 8 old new
+    → HasNamed new size space start second pages count (j + 1)
 one_named old new size space start first second pages count j behind at lies few later below second_is at_is named here others k after before =
     let is : at ≡ naming_place space start second count j = cc in
     elim (cases_lt k j) [
-      | inl less ↦ qword_kept at 8 (naming_place space start second count k) old new others (grind (arith, nat_tests)) ∙ named k after less
+      | inl less ↦ qword_kept at 8 (naming_place space start second count k) old new others (grind (arith, nat_tests))
+          ∙ named k after less
       | inr last ↦ let same : k ≡ j = omega arith in cc
     ]
 
-pub chain_names : (old new : List ℕ) (size space start first second : ℕ) (pages : List ℕ) (count n at : ℕ) → Lies size space start first second
-    → count ≤ 257 → space + 1 < count → at ≡ start + 8 * (space - 1) → count ≤ n → HasNamed old size space start second pages count n
+pub chain_names : (old new : List ℕ) (size space start first second : ℕ) (pages : List ℕ) (count n at : ℕ)
+    → Lies size space start first second
+    → count ≤ 257 → space + 1 < count → at ≡ start + 8 * (space - 1) → count ≤ n
+    → HasNamed old size space start second pages count n
     → qword new at ≡ second → ChangesOnly at 8 old new → NamesPages new size space start second pages count
 chain_names old new size space start first second pages count n at lies few chained is all named here others = record {
   chain = λ _. ap (λ a. qword new a) (sym is) ∙ here;
@@ -113,7 +132,8 @@ chain_names old new size space start first second pages count n at lies few chai
 
 -- bytes outside of the pages stay, where only bytes in them change
 pub outside_kept : (size first second addr n : ℕ) (all old new : List ℕ) → IsWithin size first second addr n
-    → ((from k : ℕ) → IsApart first size from k → IsApart second size from k → bytes_at old from k ≡ bytes_at all from k)
+    → ((from k : ℕ) → IsApart first size from k → IsApart second size from k
+    → bytes_at old from k ≡ bytes_at all from k)
     → ChangesOnly addr n old new
     → (from k : ℕ) → IsApart first size from k → IsApart second size from k → bytes_at new from k ≡ bytes_at all from k
 outside_kept size first second addr n all old new within kept others from k apart behind = grind (arith, nat_tests)

@@ -4,7 +4,7 @@ use Rattle.std.specs.Prelude.{slice_index}
 use Rattle.nv_host.specs.Bytes.{bytes_at}
 use Rattle.nv_host.specs.Pages.{HasPage}
 use Rattle.nv_prp.specs.Place.{AreDistinct, table}
-use Rattle.nv_prp.specs.Transfer.{IsLegal, Transfer, data_pages, list_place, naming_number}
+use Rattle.nv_prp.specs.Transfer.{IsLegal, PrpTransfer, data_pages, list_place, naming_number}
 use Rattle.nv_prp.specs.Transfer.{place_of, qword, transfer_places}
 
 -- the place of byte i of a buffer: its pages by their numbers, and where it begins in the first one
@@ -67,13 +67,13 @@ pub record NamesPages (bytes : List ℕ) (page_size room first second : ℕ) (pa
 -- ---- what a transfer that was built is
 
 -- a legal transfer of a buffer's bytes
-pub record IsFor (t : Transfer) (pages : List ℕ) (start : ℕ) : Type 0 where
+pub record IsFor (t : PrpTransfer) (pages : List ℕ) (start : ℕ) : Type 0 where
   pub legal : IsLegal t
   pub places : (i : ℕ) → i < t.len → place_of t i ≡ buffer_place t.page_size pages start i
 
 -- a later memory is as large, and has the same bytes in the list's pages where the transfer has a
 -- list
-pub record KeepsList (t : Transfer) (first second : ℕ) (later : List ℕ) : Type 0 where
+pub record KeepsList (t : PrpTransfer) (first second : ℕ) (later : List ℕ) : Type 0 where
   pub len : length later ≡ length t.bytes
   pub in_first : 2 < data_pages t → bytes_at later (first * t.page_size) t.page_size
       ≡ bytes_at t.bytes (first * t.page_size) t.page_size
@@ -81,7 +81,7 @@ pub record KeepsList (t : Transfer) (first second : ℕ) (later : List ℕ) : Ty
       ≡ bytes_at t.bytes (second * t.page_size) t.page_size
 
 -- over each such memory it is a legal transfer of the buffer's bytes
-abbrev pub StaysFor : Transfer → List ℕ → ℕ → ℕ → ℕ → Type 0
+abbrev pub StaysFor : PrpTransfer → List ℕ → ℕ → ℕ → ℕ → Type 0
 StaysFor t pages start first second = (later : List ℕ) → KeepsList t first second later
     → IsFor (record t { bytes = later }) pages start
 
@@ -91,7 +91,7 @@ StaysFor t pages start first second = (later : List ℕ) → KeepsList t first s
 -- distinct where its pages are
 abbrev pub BuiltIsWalked : Type 0
 BuiltIsWalked =
-    (t : Transfer) (pages : List ℕ) (offset : ℕ) → IsBuffer t.bytes t.page_size pages offset t.len
+    (t : PrpTransfer) (pages : List ℕ) (offset : ℕ) → IsBuffer t.bytes t.page_size pages offset t.len
     → ((i : ℕ) → i < t.len → place_of t i ≡ buffer_place t.page_size pages offset i)
     → (transfer_places t ≡ buffer_places t.page_size pages offset t.len)
     × (AreDistinct pages → AreDistinct (transfer_places t))

@@ -12,26 +12,26 @@ use Rattle.nv_prp.specs.declared.error.PrpError.TheVariants.{Offset, Outside}
 use Rattle.nv_prp.specs.declared.pointer.DataPointer.{DataPointer}
 use Rattle.nv_prp.specs.declared.spans.Span.{Span}
 
-pub record Transfer : Type 0 where
+pub record PrpTransfer : Type 0 where
   pub page_size : ℕ
   pub bytes : List ℕ
   pub prp1 : ℕ
   pub prp2 : ℕ
   pub len : ℕ
 
-abbrev pub transfer : ℕ → List ℕ → ℕ → ℕ → ℕ → Transfer
+abbrev pub transfer : ℕ → List ℕ → ℕ → ℕ → ℕ → PrpTransfer
 transfer page_size bytes prp1 prp2 len =
     record { page_size = page_size; bytes = bytes; prp1 = prp1; prp2 = prp2; len = len }
 
-abbrev pub transfer_of : ℕ → List ℕ → DataPointer → Transfer
+abbrev pub transfer_of : ℕ → List ℕ → DataPointer → PrpTransfer
 transfer_of page_size bytes pointer = transfer page_size bytes pointer.prp1 pointer.prp2 pointer.len
 
 -- where the first byte lies in its page
-abbrev pub offset : Transfer → ℕ
+abbrev pub offset : PrpTransfer → ℕ
 offset t = t.prp1 % t.page_size
 
 -- in how many pages the bytes lie
-abbrev pub data_pages : Transfer → ℕ
+abbrev pub data_pages : PrpTransfer → ℕ
 data_pages t = div_ceil (offset t + t.len) t.page_size
 
 -- ---- the list, where there are more than two data pages
@@ -56,29 +56,29 @@ abbrev pub list_place : ℕ → ℕ → ℕ → ℕ → ℕ
 list_place room first second n = if nat_lt n room then first + 8 * n else second + 8 * (n - room)
 
 -- how many Qwords there are from the list's first one to the end of its page
-abbrev pub room : Transfer → ℕ
+abbrev pub room : PrpTransfer → ℕ
 room t = (t.page_size - t.prp2 % t.page_size) / 8
 
 -- in a list of two pages the last Qword of the first one is the second one's address
-abbrev pub second_page : Transfer → ℕ
+abbrev pub second_page : PrpTransfer → ℕ
 second_page t = qword t.bytes (t.prp2 + 8 * (room t - 1))
 
 -- the place of Qword n of the list
-unfoldable pub qword_place : Transfer → ℕ → ℕ
+unfoldable pub qword_place : PrpTransfer → ℕ → ℕ
 qword_place t n = list_place (room t) t.prp2 (second_page t) n
 
 -- how many Qwords of the list are used
-unfoldable pub qwords : Transfer → ℕ
+unfoldable pub qwords : PrpTransfer → ℕ
 qwords t = if nat_lt 2 (data_pages t) then list_qwords (room t) (data_pages t) else 0
 
 -- the Qword of the list that holds data page j's address, j from 1 on
-unfoldable pub naming_qword : Transfer → ℕ → ℕ
+unfoldable pub naming_qword : PrpTransfer → ℕ → ℕ
 naming_qword t j = naming_number (room t) (data_pages t) j
 
 -- ---- which byte lies where
 
 -- where data page j begins
-unfoldable pub page_base : Transfer → ℕ → ℕ
+unfoldable pub page_base : PrpTransfer → ℕ → ℕ
 page_base t zero = t.prp1 - offset t
 page_base t (suc j) =
     if nat_lt 2 (data_pages t)
@@ -86,25 +86,25 @@ page_base t (suc j) =
     else t.prp2
 
 -- the place of byte i
-unfoldable pub place_of : Transfer → ℕ → ℕ
+unfoldable pub place_of : PrpTransfer → ℕ → ℕ
 place_of t i =
     let at = offset t + i in
     page_base t (at / t.page_size) + at % t.page_size
 
 -- the places of all bytes, in order
-unfoldable pub transfer_places : Transfer → List ℕ
+unfoldable pub transfer_places : PrpTransfer → List ℕ
 transfer_places t = table t.len (place_of t)
 
 -- the first byte of data page j, or the number of bytes where there is none
-abbrev pub first_byte : Transfer → ℕ → ℕ
+abbrev pub first_byte : PrpTransfer → ℕ → ℕ
 first_byte t j = min t.len (j * t.page_size - offset t)
 
 -- the bytes of data page j
-unfoldable pub span_of : Transfer → ℕ → Span
+unfoldable pub span_of : PrpTransfer → ℕ → Span
 span_of t j =
     record { address = place_of t (first_byte t j); len = first_byte t (j + 1) - first_byte t j }
 
-unfoldable pub spans_of : Transfer → List Span
+unfoldable pub spans_of : PrpTransfer → List Span
 spans_of t = table (data_pages t) (span_of t)
 
 -- ---- which transfers are legal
@@ -117,11 +117,11 @@ entry_fault page_size size alignment entry =
     then (if nat_le (entry - entry % page_size + page_size) size then None else Some Outside)
     else Some Offset
 
-abbrev pub prp1_fault : Transfer → Option PrpError
+abbrev pub prp1_fault : PrpTransfer → Option PrpError
 prp1_fault t = entry_fault t.page_size (length t.bytes) 4 t.prp1
 
 -- of one data page PRP2 has no meaning, of two it is the second one, and of more the list's address
-unfoldable pub prp2_fault : Transfer → Option PrpError
+unfoldable pub prp2_fault : PrpTransfer → Option PrpError
 prp2_fault t =
     if nat_lt 2 (data_pages t)
     then entry_fault t.page_size (length t.bytes) 8 t.prp2
@@ -130,11 +130,11 @@ prp2_fault t =
     else None)
 
 -- Qword n of the list is the address of a data page or of the second list page
-unfoldable pub qword_fault : Transfer → ℕ → Option PrpError
+unfoldable pub qword_fault : PrpTransfer → ℕ → Option PrpError
 qword_fault t n =
     entry_fault t.page_size (length t.bytes) t.page_size (qword t.bytes (qword_place t n))
 
-pub record IsLegal (t : Transfer) : Type 0 where
+pub record IsLegal (t : PrpTransfer) : Type 0 where
   pub prp1 : prp1_fault t ≡ None
   pub prp2 : prp2_fault t ≡ None
   pub list : (n : ℕ) → n < qwords t → qword_fault t n ≡ None
@@ -144,20 +144,20 @@ abbrev pub HasFault : {X : Type 0} → Result X PrpError → Option PrpError →
 HasFault result fault = MatchResult result (λ _. fault ≡ None) (λ e. fault ≡ Some e)
 
 -- a walk ended with the fault, or without one and with the spans of all data pages
-abbrev pub HasWalked : {X : Type 0} → Transfer → Option PrpError → Result X PrpError
+abbrev pub HasWalked : {X : Type 0} → PrpTransfer → Option PrpError → Result X PrpError
     → List Span → Type 0
 HasWalked t fault result spans =
     MatchResult result (λ _. (fault ≡ None) × (spans ≡ spans_of t)) (λ e. fault ≡ Some e)
 
 -- the fault at the first of the n Qwords that has one
-abbrev pub first_qword_fault : Transfer → ℕ → Option PrpError
+abbrev pub first_qword_fault : PrpTransfer → ℕ → Option PrpError
 first_qword_fault t zero = None
 first_qword_fault t (suc n) = option_or (first_qword_fault t n) (qword_fault t n)
 
 -- the fault at the first place from PRP2 on
-abbrev pub fault_after_prp1 : Transfer → Option PrpError
+abbrev pub fault_after_prp1 : PrpTransfer → Option PrpError
 fault_after_prp1 t = option_or (prp2_fault t) (first_qword_fault t (qwords t))
 
 -- the fault at the first place, in the order PRP1, PRP2, then the Qwords in the order of use
-unfoldable pub first_fault : Transfer → Option PrpError
+unfoldable pub first_fault : PrpTransfer → Option PrpError
 first_fault t = option_or (prp1_fault t) (fault_after_prp1 t)

@@ -7,9 +7,9 @@ ghost use Rattle.nv_prp.specs.Place.{AreDistinct};
 ghost use Rattle.nv_prp.specs.Transfer.{IsLegal, data_pages as pages_of, place_of, transfer};
 
 use crate::buffer::Buffer;
-use crate::entry::store_qword;
 use crate::list_shape::ListShape;
 use crate::pointer::{DataPointer, page_address, qwords_in_page};
+use crate::prp_entry::store_qword;
 use nv_host::{HostMemory, PageNo};
 
 /// Where a list may lie: in two pages of the memory.

@@ -26,12 +26,12 @@
 mod buffer;
 mod builder;
 mod copy;
-mod entry;
 mod error;
 mod law;
 mod list_shape;
 mod payload;
 mod pointer;
+mod prp_entry;
 mod range;
 mod spans;
 mod walker;

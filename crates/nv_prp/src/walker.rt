@@ -3,15 +3,15 @@
 ghost use Rattle.std.specs.Prelude.{◌≡◌, ◌+◌, ◌-◌, ◌/◌, ◌<◌, ◌≤◌, ◌↔◌, [], IfErr, IfOk, IsOk};
 ghost use Rattle.std.specs.Prelude.{OnErr, OnOk, Some, length};
 ghost use Rattle.nv_host.specs.Pages.{IsPageSize};
-ghost use Rattle.nv_prp.specs.ListWalk.{Comes, IsList, Turn};
+ghost use Rattle.nv_prp.specs.ListWalk.{Comes, IsList, ListTurn};
 ghost use Rattle.nv_prp.specs.Place.{LieIn, places, table};
 ghost use Rattle.nv_prp.specs.Transfer.{HasWalked, IsLegal, data_pages as pages_of};
 ghost use Rattle.nv_prp.specs.Transfer.{fault_after_prp1, first_fault, room, span_of, spans_of};
 ghost use Rattle.nv_prp.specs.Transfer.{transfer, transfer_of, transfer_places};
 
-use crate::entry::{check, check_page, load_page_address};
 use crate::list_shape::ListShape;
 use crate::pointer::{DataPointer, qwords_in_page};
+use crate::prp_entry::{check, check_page, load_page_address};
 use crate::{PrpError, Spans};
 use nv_host::HostMemory;
 
@@ -131,7 +131,7 @@ fn naming_qword<M: HostMemory>(
     requires below { page < list.pages }
     requires comes { Comes (transfer_of (M.page_len mem.now) (M.bytes mem.now) pointer) page next }
     ensures turn { let t = transfer_of (M.page_len mem.now) (M.bytes mem.now) pointer in
-        IfOk result (λ at. Turn t page at) }
+        IfOk result (λ at. ListTurn t page at) }
     ensures fault { let t = transfer_of (M.page_len mem.now) (M.bytes mem.now) pointer in
         IfErr result (λ e. fault_after_prp1 t ≡ Some e) }
 {

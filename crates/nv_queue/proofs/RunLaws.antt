@@ -49,7 +49,7 @@ exchange_of base d m = record {
 }
 
 -- what holds at each
-record Keeps (base d : ℕ) (m : Moment) : Type 0 where
+record KeepsExchange (base d : ℕ) (m : Moment) : Type 0 where
   deep : IsDepth d
   inside : base + 16 * d ≤ length m.bytes
   holds : HoldsPosted m.bytes base d m.posted
@@ -58,15 +58,15 @@ record Keeps (base d : ℕ) (m : Moment) : Type 0 where
   few : length m.posted < m.known + d
 
 abbrev IsReached : ℕ → ℕ → Exchange → Type 0
-IsReached base d x = (m : Moment) × Keeps base d m × (x ≡ exchange_of base d m)
+IsReached base d x = (m : Moment) × KeepsExchange base d m × (x ≡ exchange_of base d m)
 
-counted : (base d : ℕ) (m : Moment) → Keeps base d m
+counted : (base d : ℕ) (m : Moment) → KeepsExchange base d m
     → length m.polled + length m.rest ≡ length m.posted
 counted base d m keeps = sym (length-append m.polled m.rest) ∙ ap length keeps.prefix
 
 -- ---- each event
 
-after_put : (base d : ℕ) (m : Moment) (c : Cqe) → Keeps base d m → CqeFits c
+after_put : (base d : ℕ) (m : Moment) (c : Cqe) → KeepsExchange base d m → CqeFits c
     → ¬ IsPostFull (exchange_of base d m).device → IsReached base d (with_put (exchange_of base d m) c)
 after_put base d m c keeps fits free =
     let x = exchange_of base d m in
@@ -103,7 +103,7 @@ after_put base d m c keeps fits free =
     )
 
 -- the awaited completion is there exactly where one is left
-found : (base d : ℕ) (m : Moment) → Keeps base d m
+found : (base d : ℕ) (m : Moment) → KeepsExchange base d m
     → IsAwaitedThere m.bytes (exchange_of base d m).host ↔ (length m.polled < length m.posted)
 found base d m keeps =
     let deep = keeps.deep in
@@ -111,7 +111,7 @@ found base d m keeps =
     awaited_posted m.bytes (exchange_of base d m).host m.posted (length m.polled) deep.0 refl
     (omega arith) (omega (arith, keeps.few, keeps.told)) keeps.holds
 
-after_poll : (base d : ℕ) (m : Moment) (rest : List Cqe) → m.rest ≡ rest → Keeps base d m
+after_poll : (base d : ℕ) (m : Moment) (rest : List Cqe) → m.rest ≡ rest → KeepsExchange base d m
     → IsAwaitedThere m.bytes (exchange_of base d m).host
     → IsReached base d (with_polled (exchange_of base d m))
 after_poll base d m [] none keeps there =
@@ -146,7 +146,7 @@ after_poll base d m (r ∷ left) first keeps there =
       ap at (kept_next d k ∙ ap (kept_number d) (sym more)),
     )
 
-head_taken : (base d : ℕ) (m : Moment) → Keeps base d m → IsHeadTaken (exchange_of base d m)
+head_taken : (base d : ℕ) (m : Moment) → KeepsExchange base d m → IsHeadTaken (exchange_of base d m)
 head_taken base d m keeps =
     let k = length m.polled in let n = length m.posted in
     let count = counted base d m keeps in
@@ -155,7 +155,7 @@ head_taken base d m keeps =
     between_kept d m.known (k - m.known) (n - m.known) k n
     (omega arith) (omega arith) (omega arith) (omega arith)
 
-after_tell : (base d : ℕ) (m : Moment) → Keeps base d m
+after_tell : (base d : ℕ) (m : Moment) → KeepsExchange base d m
     → IsReached base d (with_told (with_head (exchange_of base d m)))
 after_tell base d m keeps =
     let x = exchange_of base d m in
@@ -181,7 +181,7 @@ after_tell base d m keeps =
 along : (base d : ℕ) (x y : Exchange) → y ≡ x → IsReached base d x → IsReached base d y
 along base d x y e is = (is.0, is.1, e ∙ is.2)
 
-moment_keeps : (base d : ℕ) (m : Moment) (event : Event) (y : Exchange) → Keeps base d m
+moment_keeps : (base d : ℕ) (m : Moment) (event : Event) (y : Exchange) → KeepsExchange base d m
     → Happens event (exchange_of base d m) y → IsReached base d y
 moment_keeps base d m (Put c) y keeps (fits, inl w) = (m, keeps, w.1)
 moment_keeps base d m (Put c) y keeps (fits, inr w) =

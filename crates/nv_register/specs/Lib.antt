@@ -2,4 +2,4 @@ pub mod Register
 pub mod Dwords
 pub mod PageSize
 pub mod Readiness
-pub mod Port
+pub mod RegisterBank

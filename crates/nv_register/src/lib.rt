@@ -1,17 +1,17 @@
 //! The registers of a controller, by dword, and the rings that they make of the admin queue pair.
 //!
-//! A [`Port`] is what a host sees of one controller: dwords at offsets, of which each is read and
+//! A [`RegisterBank`] is what a host sees of one controller: dwords at offsets, of which each is read and
 //! written by a rule of its own. Setting EN with valid values makes both rings new, clearing it
 //! takes them away:
 //!
 //! ```
-//! let mut port = Port::new();
-//! port.write32(0x24, 0x0003_0003);    // AQA: four entries each
-//! port.write32(0x28, 0x0000_1000);    // ASQ
-//! port.write32(0x30, 0x0000_2000);    // ACQ
-//! port.write32(0x14, 0x0046_0001);    // CC: pages of 4,096 bytes, EN
-//! let ready = port.read32(0x1c) == 1; // CSTS.RDY
-//! port.write32(0x1000, 1);            // one command is submitted
+//! let mut register bank = RegisterBank::new();
+//! register bank.write32(0x24, 0x0003_0003);    // AQA: four entries each
+//! register bank.write32(0x28, 0x0000_1000);    // ASQ
+//! register bank.write32(0x30, 0x0000_2000);    // ACQ
+//! register bank.write32(0x14, 0x0046_0001);    // CC: pages of 4,096 bytes, EN
+//! let ready = register bank.read32(0x1c) == 1; // CSTS.RDY
+//! register bank.write32(0x1000, 1);            // one command is submitted
 //! ```
 //!
 //! Sections are named as in the NVM Express Base Specification, revision 1.4.
@@ -21,15 +21,15 @@ mod admin_queue_attributes;
 mod controller_configuration;
 mod controller_status;
 pub mod offset;
-mod port;
 mod readiness;
 mod register;
+mod register_bank;
 mod rings;
 
 pub use admin_queue_attributes::AdminQueueAttributes;
 pub use controller_configuration::{ControllerConfiguration, Sizes};
 pub use controller_status::ControllerStatus;
-pub use port::Port;
 pub use readiness::Readiness;
 pub use register::Register;
+pub use register_bank::RegisterBank;
 pub use rings::Rings;

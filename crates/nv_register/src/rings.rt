@@ -1,7 +1,7 @@
 //! The rings of a ready controller.
 
 ghost use Rattle.std.specs.Prelude.{◌≡◌};
-ghost use Rattle.nv_register.specs.Port.{with_head, with_tail};
+ghost use Rattle.nv_register.specs.RegisterBank.{with_head, with_tail};
 
 use nv_queue::{Fetch, Post};
 

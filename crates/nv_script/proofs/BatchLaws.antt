@@ -1,16 +1,18 @@
 -- A batch of commands that ask a controller for namespaces, and one command at a time.
-use Rattle.std.proofs.Common.{◌≡◌, ◌∙◌, ℕ, suc, ◌+◌, ◌<◌, ◌%◌, arith, ap, sym, refl, List, [], ◌∷◌, ◌++◌, length, map, get_or, set, Result, Ok, Err, subst, take, drop}
+use Rattle.std.proofs.Common.{◌≡◌, ◌∙◌, ℕ, suc, ◌+◌, ◌<◌, ◌%◌, arith, ap, sym, refl, List, [], ◌∷◌, ◌++◌, length, map}
+use Rattle.std.proofs.Common.{get_or, set, Result, Ok, Err, subst, take, drop}
 use Rattle.std.specs.Prelude.{Contains, IfErr, OnOk}
 use Rattle.std.proofs.Math.Nat.{mod-add-mod}
 use Rattle.std.proofs.Math.Seq.{take-append_seam}
-use Rattle.std.proofs.lemmas.List.{ext_get_or, get_or-map, get_or-set_same, get_or-take, length-map, length-set, length-take-le, map-append, map-set, set-set, take-append-drop}
+use Rattle.std.proofs.lemmas.List.{ext_get_or, get_or-map, get_or-set_same, get_or-take, length-map, length-set}
+use Rattle.std.proofs.lemmas.List.{length-take-le, map-append, map-set, set-set, take-append-drop}
 use Rattle.nv_command.specs.Logs.{answer_received}
 use Rattle.nv_command.specs.declared.command.Command.{Command}
 use Rattle.nv_command.specs.declared.command.Command.TheVariants.{IdentifyController, IdentifyNamespace}
 use Rattle.nv_driver.specs.Batch.{answers_of, state_after}
-use Rattle.nv_driver.specs.Driver.{after_commands, lane_at, no_lane}
+use Rattle.nv_driver.specs.Driver.{after_commands, pair_at, no_pair}
 use Rattle.nv_driver.specs.Exchange.{after_some}
-use Rattle.nv_driver.specs.Lane.{Lane}
+use Rattle.nv_driver.specs.QueuePair.{QueuePair}
 use Rattle.nv_driver.specs.Schedule.{Answer}
 use Rattle.nv_driver.specs.Settled.{DriverValue}
 use Rattle.nv_model.specs.State.{State}
@@ -30,20 +32,25 @@ use Rattle.nv_script.proofs.ListLaws.{begun_all, listing_asked}
 
 -- so many commands that ask for these NSIDs
 pub commands_are : (ks : List Command) (ns : List ℕ) → length ns < length ks + 1
-    → ((k : ℕ) (d : Command) → k < length ns → get_or ks k d ≡ IdentifyNamespace (get_or ns k 0)) → take (length ns) ks ≡ map IdentifyNamespace ns
+    → ((k : ℕ) (d : Command) → k < length ns → get_or ks k d ≡ IdentifyNamespace (get_or ns k 0))
+    → take (length ns) ks ≡ map IdentifyNamespace ns
 commands_are ks ns few h =
-    let same : length (take (length ns) ks) ≡ length (map {A = ℕ} {B = Command} IdentifyNamespace ns) = length-take-le (length ns) ks (omega arith) ∙ sym (length-map ns IdentifyNamespace) in
+    let same : length (take (length ns) ks) ≡ length (map {A = ℕ} {B = Command} IdentifyNamespace ns) =
+    length-take-le (length ns) ks (omega arith) ∙ sym (length-map ns IdentifyNamespace) in
     ext_get_or IdentifyController (take (length ns) ks) (map IdentifyNamespace ns) same
     (λ i below.
     let b : i < length ns = omega (arith, length-take-le (length ns) ks (omega arith)) in
-    get_or-take (length ns) ks i IdentifyController b ∙ h i IdentifyController b ∙ sym (get_or-map IdentifyNamespace ns i 0 IdentifyController b))
+    get_or-take (length ns) ks i IdentifyController b ∙ h i IdentifyController b
+    ∙ sym (get_or-map IdentifyNamespace ns i 0 IdentifyController b))
 
 -- those of some NSIDs and of more, and of the first ones, the next ones and the rest
-pub namespaces_join : (c : ℕ) (ns more : List ℕ) → namespace_orders c (ns ++ more) ≡ namespace_orders c ns ++ namespace_orders c more
+pub namespaces_join : (c : ℕ) (ns more : List ℕ)
+    → namespace_orders c (ns ++ more) ≡ namespace_orders c ns ++ namespace_orders c more
 namespaces_join c ns more = map-append (λ n. order_of c (IdentifyNamespace n)) ns more
 
 pub namespaces_split : (c : ℕ) (ns done rest : List ℕ) (n : ℕ) → ns ≡ done ++ rest
-    → namespace_orders c ns ≡ namespace_orders c done ++ (namespace_orders c (take n rest) ++ namespace_orders c (drop n rest))
+    → namespace_orders c ns
+    ≡ namespace_orders c done ++ (namespace_orders c (take n rest) ++ namespace_orders c (drop n rest))
 namespaces_split c ns done rest n e =
     ap (namespace_orders c) (e ∙ ap (λ x. done ++ x) (sym (take-append-drop n rest)))
     ∙ namespaces_join c done (take n rest ++ drop n rest)
@@ -72,18 +79,23 @@ module _ (c : ℕ) where
   still : (w : Standing) (n : ℕ) → c < length w.serials → c < length (next w n).serials
   still w n h = omega (arith, length-set w.serials c (next_serial (due w)))
 
-  states : (w : Standing) (ns : List ℕ) → c < length w.serials → (all_after w ns).state ≡ state_after c w.state (due w) (map IdentifyNamespace ns)
+  states : (w : Standing) (ns : List ℕ) → c < length w.serials
+      → (all_after w ns).state ≡ state_after c w.state (due w) (map IdentifyNamespace ns)
   states w [] h = refl
   states w (n ∷ ns) h =
-      states (next w n) ns (still w n h) ∙ ap (λ x. state_after c (next w n).state x (map IdentifyNamespace ns)) (next_due w n h)
+      states (next w n) ns (still w n h)
+      ∙ ap (λ x. state_after c (next w n).state x (map IdentifyNamespace ns)) (next_due w n h)
 
-  answers : (w : Standing) (ns : List ℕ) → c < length w.serials → answers_to w (namespace_orders c ns) ≡ answers_of c w.state (due w) (map IdentifyNamespace ns)
+  answers : (w : Standing) (ns : List ℕ) → c < length w.serials
+      → answers_to w (namespace_orders c ns) ≡ answers_of c w.state (due w) (map IdentifyNamespace ns)
   answers w [] h = refl
   answers w (n ∷ ns) h =
       ap (λ xs. answer_received (IdentifyNamespace n) (step w.state c (IdentifyNamespace n) (due w)).answer ∷ xs)
-      (answers (next w n) ns (still w n h) ∙ ap (λ x. answers_of c (next w n).state x (map IdentifyNamespace ns)) (next_due w n h))
+      (answers (next w n) ns (still w n h)
+      ∙ ap (λ x. answers_of c (next w n).state x (map IdentifyNamespace ns)) (next_due w n h))
 
-  serials : (w : Standing) (n : ℕ) (ns : List ℕ) → c < length w.serials → (all_after w (n ∷ ns)).serials ≡ set w.serials c ((due w + length (n ∷ ns)) % serial_count)
+  serials : (w : Standing) (n : ℕ) (ns : List ℕ) → c < length w.serials
+      → (all_after w (n ∷ ns)).serials ≡ set w.serials c ((due w + length (n ∷ ns)) % serial_count)
   serials w n [] h = refl
   serials w n (m ∷ ns) h =
       let sum : due w + 1 + length (m ∷ ns) ≡ due w + length (n ∷ m ∷ ns) = omega arith in
@@ -94,46 +106,51 @@ module _ (c : ℕ) where
 
 -- ---- the driver's batch
 
-abbrev serial_at : Lane → ℕ
+abbrev serial_at : QueuePair → ℕ
 serial_at l = l.serial
 
 length_answers : (c : ℕ) (s : State) (serial : ℕ) (ks : List Command) → length (answers_of c s serial ks) ≡ length ks
 length_answers c s serial [] = refl
 length_answers c s serial (k ∷ ks) = ap suc (length_answers c (step s c k serial).state (next_serial serial) ks)
 
-module _ (w : Standing) (c : ℕ) (s : State) (d : DriverValue) (listing : Listing) (is : IsListed w s (serials_of d) listing) (below : c < length d.lanes)
+module _ (w : Standing) (c : ℕ) (s : State) (d : DriverValue) (listing : Listing)
+    (is : IsListed w s (serials_of d) listing) (below : c < length d.pairs)
     (ns : List ℕ) (ks : List Command) (are : ks ≡ map IdentifyNamespace ns) where
   abbrev now_due : ℕ
-  now_due = (lane_at d.lanes c).serial
+  now_due = (pair_at d.pairs c).serial
 
   is_due : now_due ≡ due c w
-  is_due = sym (get_or-map serial_at d.lanes c no_lane 0 below) ∙ ap (λ xs. get_or xs c 0) is.next
+  is_due = sym (get_or-map serial_at d.pairs c no_pair 0 below) ∙ ap (λ xs. get_or xs c 0) is.next
 
   known : c < length w.serials
-  known = omega (arith, ap length is.next, length-map d.lanes serial_at)
+  known = omega (arith, ap length is.next, length-map d.pairs serial_at)
 
   many : length ks ≡ length ns
   many = ap length are ∙ length-map ns IdentifyNamespace
 
   pub batch_state : (now : State) → now ≡ state_after c s now_due ks → now ≡ (all_after c w ns).state
   batch_state now e =
-      e ∙ ap (λ x. state_after c x now_due ks) is.subsystem ∙ ap (λ x. state_after c w.state x ks) is_due ∙ ap (state_after c w.state (due c w)) are
+      e ∙ ap (λ x. state_after c x now_due ks) is.subsystem ∙ ap (λ x. state_after c w.state x ks) is_due
+      ∙ ap (state_after c w.state (due c w)) are
       ∙ sym (states c w ns known)
 
   -- a batch has a command
-  some_serials : (ns : List ℕ) → 0 < length ns → set w.serials c ((due c w + length ns) % serial_count) ≡ (all_after c w ns).serials
+  some_serials : (ns : List ℕ) → 0 < length ns
+      → set w.serials c ((due c w + length ns) % serial_count) ≡ (all_after c w ns).serials
   some_serials [] h = absurd (omega arith)
   some_serials (n ∷ ns) h = sym (serials c w n ns known)
 
-  pub batch_serials : (after : DriverValue) → 0 < length ns → after ≡ after_commands d c (length ks) → serials_of after ≡ (all_after c w ns).serials
+  pub batch_serials : (after : DriverValue) → 0 < length ns → after ≡ after_commands d c (length ks)
+      → serials_of after ≡ (all_after c w ns).serials
   batch_serials after some e =
-      ap serials_of e ∙ map-set serial_at d.lanes c (after_some (length ks) (lane_at d.lanes c))
+      ap serials_of e ∙ map-set serial_at d.pairs c (after_some (length ks) (pair_at d.pairs c))
       ∙ ap (λ xs. set xs c ((now_due + length ks) % serial_count)) is.next
       ∙ ap (λ x. set w.serials c ((x + length ks) % serial_count)) is_due
       ∙ ap (λ x. set w.serials c ((due c w + x) % serial_count)) many
       ∙ some_serials ns some
 
-  pub batch_answers : (given rest : List Answer) → given ≡ answers_of c s now_due ks → take (length ns) (given ++ rest) ≡ answers_to w (namespace_orders c ns)
+  pub batch_answers : (given rest : List Answer) → given ≡ answers_of c s now_due ks
+      → take (length ns) (given ++ rest) ≡ answers_to w (namespace_orders c ns)
   batch_answers given rest a =
       let so_many : length ns ≡ length given = sym (ap length a ∙ length_answers c s now_due ks ∙ many) in
       ap (λ n. take n (given ++ rest)) so_many
@@ -145,8 +162,10 @@ module _ (w : Standing) (c : ℕ) (s : State) (d : DriverValue) (listing : Listi
       ∙ sym (answers c w ns known)
 
   -- what it leaves, by what the listing was told of it
-  pub batch_leaves : {A : Type 0} (r : Result A Stop) (now : State) (after : DriverValue) (told : Listing) (given : List Answer)
-      → 0 < length ns → now ≡ state_after c s now_due ks → after ≡ after_commands d c (length ks) → given ≡ answers_to w (namespace_orders c ns)
+  pub batch_leaves : {A : Type 0} (r : Result A Stop) (now : State) (after : DriverValue) (told : Listing)
+      (given : List Answer)
+      → 0 < length ns → now ≡ state_after c s now_due ks → after ≡ after_commands d c (length ks)
+      → given ≡ answers_to w (namespace_orders c ns)
       → OnOk r (told ≡ listing_of listing (map (order_of c) ks) given) → IfErr r (λ stop. IsHandedOn stop given)
       → ListLeaves r w (namespace_orders c ns) now (serials_of after) told
   batch_leaves (Ok x) now after told given some state driver a e refused = record {
@@ -158,6 +177,8 @@ module _ (w : Standing) (c : ℕ) (s : State) (d : DriverValue) (listing : Listi
         ∙ ap (listing_of w.listing (namespace_orders c ns)) a
         ∙ sym (listing_asked w (namespace_orders c ns));
   }
-  batch_leaves (Err (stop.Refused status)) now after told given some state driver a e refused = subst (λ xs. Contains xs (Err status)) a refused
+  batch_leaves (Err (stop.Refused status)) now after told given some state driver a e refused =
+      subst (λ xs. Contains xs (Err status)) a refused
   batch_leaves (Err stop.Memory) now after told given some state driver a e refused =
-      begun_all w (namespace_orders c ns) now (serials_of after) (batch_state now state) (batch_serials after some driver)
+      begun_all w (namespace_orders c ns) now (serials_of after) (batch_state now state)
+      (batch_serials after some driver)

@@ -9,7 +9,7 @@ use Rattle.nv_command.specs.declared.command.Command.TheVariants.{ActiveList, Id
 use Rattle.nv_command.specs.declared.reply.Reply.{Reply}
 use Rattle.nv_command.specs.declared.reply.Reply.TheVariants as reply
 use Rattle.nv_bus.specs.Bus.{BusValue}
-use Rattle.nv_driver.specs.Driver.{after_command, lane_at}
+use Rattle.nv_driver.specs.Driver.{after_command, pair_at}
 use Rattle.nv_driver.specs.Schedule.{Answer}
 use Rattle.nv_driver.specs.Settled.{DriverValue}
 use Rattle.nv_model.proofs.LookupLaws.{controller}
@@ -29,23 +29,27 @@ use Rattle.nv_script.proofs.LinkLaws.{sent, still_known}
 use Rattle.nv_script.proofs.LookupLaws.{asked_alike, sends}
 
 -- one command
-module _ (w : Standing) (b new : BusValue) (d after : DriverValue) (listing : Listing) (c : ℕ) (k : Command) (answer : Answer)
-    (is : IsListed w b.state (serials_of d) listing) (below : c < length d.lanes)
-    (a : answer ≡ answer_received k (step b.state c k (lane_at d.lanes c).serial).answer)
-    (s : new.state ≡ (step b.state c k (lane_at d.lanes c).serial).state) (e : after ≡ after_command d c) where
+module _ (w : Standing) (b new : BusValue) (d after : DriverValue) (listing : Listing) (c : ℕ) (k : Command)
+    (answer : Answer)
+    (is : IsListed w b.state (serials_of d) listing) (below : c < length d.pairs)
+    (a : answer ≡ answer_received k (step b.state c k (pair_at d.pairs c).serial).answer)
+    (s : new.state ≡ (step b.state c k (pair_at d.pairs c).serial).state) (e : after ≡ after_command d c) where
   abbrev o : Order
   o = order_of c k
 
   sent_there : exchange_with answer new.state (serials_of after) ≡ exchange_of w.state w.serials o
   sent_there =
-      sent b new d after c k answer below a s e ∙ ap (λ (x : State). exchange_of x (serials_of d) o) is.subsystem ∙ ap (λ (x : List ℕ). exchange_of w.state x o) is.next
+      sent b new d after c k answer below a s e ∙ ap (λ (x : State). exchange_of x (serials_of d) o) is.subsystem
+      ∙ ap (λ (x : List ℕ). exchange_of w.state x o) is.next
 
   -- the listing was told of it
-  told_there : (now : Listing) → now ≡ listing_told c listing (Send k) answer → IsListed (asked w o) new.state (serials_of after) now
+  told_there : (now : Listing) → now ≡ listing_told c listing (Send k) answer
+      → IsListed (asked w o) new.state (serials_of after) now
   told_there now t = record {
     subsystem = ap (λ (x : Exchange). x.state) sent_there;
     next = ap (λ (x : Exchange). x.serials) sent_there;
-    listed = t ∙ ap (λ l. listing_told c l (Send k) answer) is.listed ∙ ap (λ (x : Exchange). listing_told c w.listing (Send k) x.answer) sent_there;
+    listed = t ∙ ap (λ l. listing_told c l (Send k) answer) is.listed
+        ∙ ap (λ (x : Exchange). listing_told c w.listing (Send k) x.answer) sent_there;
   }
 
   -- it was refused, or memory was
@@ -63,13 +67,18 @@ module _ (w : Standing) (b new : BusValue) (d after : DriverValue) (listing : Li
   }
 
 -- both commands
-module _ (w : Standing) (c : ℕ) (b mid last : BusValue) (d second after : DriverValue) (listing told : Listing) (first then : Answer)
-    (is : IsListed w b.state (serials_of d) listing) (below : c < length d.lanes)
-    (a1 : first ≡ answer_received IdentifyController (step b.state c IdentifyController (lane_at d.lanes c).serial).answer)
-    (s1 : mid.state ≡ (step b.state c IdentifyController (lane_at d.lanes c).serial).state) (e1 : second ≡ after_command d c)
+module _ (w : Standing) (c : ℕ) (b mid last : BusValue) (d second after : DriverValue) (listing told : Listing)
+    (first then : Answer)
+    (is : IsListed w b.state (serials_of d) listing) (below : c < length d.pairs)
+    (a1 : first
+    ≡ answer_received IdentifyController (step b.state c IdentifyController (pair_at d.pairs c).serial).answer)
+    (s1 : mid.state ≡ (step b.state c IdentifyController (pair_at d.pairs c).serial).state)
+    (e1 : second ≡ after_command d c)
     (t : told ≡ listing_told c listing (Send IdentifyController) first)
-    (a2 : then ≡ answer_received (ActiveList 0) (step mid.state c (ActiveList 0) (lane_at second.lanes c).serial).answer)
-    (s2 : last.state ≡ (step mid.state c (ActiveList 0) (lane_at second.lanes c).serial).state) (e2 : after ≡ after_command second c) where
+    (a2 : then
+    ≡ answer_received (ActiveList 0) (step mid.state c (ActiveList 0) (pair_at second.pairs c).serial).answer)
+    (s2 : last.state ≡ (step mid.state c (ActiveList 0) (pair_at second.pairs c).serial).state)
+    (e2 : after ≡ after_command second c) where
   abbrev one : Standing
   one = asked w (order_of c IdentifyController)
 
@@ -79,19 +88,21 @@ module _ (w : Standing) (c : ℕ) (b mid last : BusValue) (d second after : Driv
   is_one : IsListed one mid.state (serials_of second) told
   is_one = told_there w b mid d second listing c IdentifyController first is below a1 s1 e1 told t
 
-  known : c < length second.lanes
+  known : c < length second.pairs
   known = still_known d second c e1 below
 
   pub greeted_listed : IsListed greeted last.state (serials_of after) told
   greeted_listed = told_there one mid last second after told c (ActiveList 0) then is_one known a2 s2 e2 told refl
 
   pub greeted_orders : (r : Reply) (ns : List ℕ) → Ok r ≡ then → ns ≡ nsids_told r
-      → orders_of_controller w.state c ≡ (order_of c IdentifyController ∷ order_of c (ActiveList 0) ∷ []) ++ namespace_orders c ns
+      → orders_of_controller w.state c
+      ≡ (order_of c IdentifyController ∷ order_of c (ActiveList 0) ∷ []) ++ namespace_orders c ns
   greeted_orders r ns e n =
       let said : ◌≡◌ {A = Answer} (Ok r) (Ok (reply.List (above 0 (active_nsids mid.state c)))) = e ∙ a2 in
       let same : r ≡ reply.List (above 0 (active_nsids mid.state c)) = cc in
       let active : active_nsids mid.state c ≡ active_nsids w.state c =
-      ap (λ (x : State). active_nsids x c) is_one.subsystem ∙ (asked_alike w (order_of c IdentifyController) (sends controller)).active c
+      ap (λ (x : State). active_nsids x c) is_one.subsystem
+      ∙ (asked_alike w (order_of c IdentifyController) (sends controller)).active c
       in
       ap (λ xs. order_of c IdentifyController ∷ order_of c (ActiveList 0) ∷ namespace_orders c xs)
       (sym (n ∙ ap nsids_told same ∙ ap (above 0) active))

@@ -1,5 +1,6 @@
 -- What one line leaves, by how its text was printed.
-use Rattle.std.proofs.Common.{◌≡◌, ◌∙◌, ℕ, ◌+◌, List, [], ◌++◌, length, take, sym, ap, subst, refl, inl, inr, append-nil, arith, Bool, String, string_bytes, Option, Result, Ok, Err}
+use Rattle.std.proofs.Common.{◌≡◌, ◌∙◌, ℕ, ◌+◌, List, [], ◌++◌, length, take, sym, ap, subst, refl, inl, inr}
+use Rattle.std.proofs.Common.{append-nil, arith, Bool, String, string_bytes, Option, Result, Ok, Err}
 use Rattle.std.specs.Prelude.{IfOk, unwrap_or}
 use Rattle.std.specs.Io.KnownBytes.{Appends}
 use Rattle.std.proofs.lemmas.List.{take_all}
@@ -29,15 +30,23 @@ took_none a b x y e h = Appends-at a b x (x ++ y) (sym (ap (λ t. x ++ t) e ∙ 
 took_same : (a b c : Option (List ℕ)) (x : List ℕ) → c ≡ b → Appends a b x → Appends a c x
 took_same a b c x e h = subst (λ t. Appends a t x) (sym e) h
 
-module _ {A E Z : Type 0} (p : Progress) (text : List ℕ) (lr : LineResult) (k : ℕ) (old : Left) (new : State) (session : Session)
-    (same : result_at p text ≡ lr) (held : Holds old p.output p.messages p.state) (reached : new ≡ lr.state) (next : serials_of session.driver ≡ lr.serials)
-    (number : session.number ≡ p.number + 1) (status : session.status ≡ unwrap_or lr.status p.status) (all : lr.state ≡ state_amid p.state p.serials (said_at p text) k) where
-  pub message_leaves : (r : Result A Cut) (t : Result (String Z) E) (messages : Option (List ℕ)) (failed : Bool) → lr.output ≡ [] → IfOk t (λ t. string_bytes t ≡ lr.message) → PrintLeaves r Messages t old.messages messages failed
+module _ {A E Z : Type 0} (p : Progress) (text : List ℕ) (lr : LineResult) (k : ℕ) (old : Left) (new : State)
+    (session : Session)
+    (same : result_at p text ≡ lr) (held : Holds old p.output p.messages p.state) (reached : new ≡ lr.state)
+    (next : serials_of session.driver ≡ lr.serials)
+    (number : session.number ≡ p.number + 1) (status : session.status ≡ unwrap_or lr.status p.status)
+    (all : lr.state ≡ state_amid p.state p.serials (said_at p text) k) where
+  pub message_leaves : (r : Result A Cut) (t : Result (String Z) E) (messages : Option (List ℕ)) (failed : Bool)
+      → lr.output ≡ [] → IfOk t (λ t. string_bytes t ≡ lr.message)
+      → PrintLeaves r Messages t old.messages messages failed
       → LineLeaves r p text (left_at old.out_before old.out old.messages_before messages new) session
   message_leaves (Ok done) (Ok t) messages failed none is h = record {
     holds = record {
-      took_output = took_none old.out_before old.out p.output _ (ap (λ (x : LineResult). x.output) same ∙ none) held.took_output;
-      took_messages = Appends-join old.messages_before old.messages messages p.messages _ held.took_messages (Appends-at old.messages messages _ _ (is ∙ sym (ap (λ (x : LineResult). x.message) same)) h.0);
+      took_output =
+          took_none old.out_before old.out p.output _ (ap (λ (x : LineResult). x.output) same ∙ none) held.took_output;
+      took_messages =
+          Appends-join old.messages_before old.messages messages p.messages _ held.took_messages
+          (Appends-at old.messages messages _ _ (is ∙ sym (ap (λ (x : LineResult). x.message) same)) h.0);
       reached = reached ∙ sym (ap (λ (x : LineResult). x.state) same);
     };
     next = next ∙ sym (ap (λ (x : LineResult). x.serials) same);
@@ -51,22 +60,32 @@ module _ {A E Z : Type 0} (p : Progress) (text : List ℕ) (lr : LineResult) (k 
         (h.1.1.0, ap (λ (x : LineResult). x.message) same ∙ sym is ∙ h.1.1.1),
         record {
           took_output = held.took_output;
-          took_messages = Appends-join old.messages_before old.messages messages p.messages h.1.0 held.took_messages h.1.2;
+          took_messages =
+              Appends-join old.messages_before old.messages messages p.messages h.1.0 held.took_messages h.1.2;
           reached = reached ∙ sym (ap (λ (x : LineResult). x.state) same);
         },
       )
   message_leaves (Err cut) (Err e) messages failed none is h =
       subst (λ x. IsCutIn x p text (left_at old.out_before old.out old.messages_before messages new)) (sym h.0) (
         k,
-        record { took_output = held.took_output; took_messages = took_same old.messages_before old.messages messages p.messages h.1 held.took_messages; reached = reached ∙ all },
+        record {
+          took_output = held.took_output;
+          took_messages = took_same old.messages_before old.messages messages p.messages h.1 held.took_messages;
+          reached = reached ∙ all;
+        },
       )
 
-  pub output_leaves : (r : Result A Cut) (t : Result (String Z) E) (out : Option (List ℕ)) (failed : Bool) → lr.message ≡ [] → IfOk t (λ t. string_bytes t ≡ lr.output) → PrintLeaves r Output t old.out out failed
+  pub output_leaves : (r : Result A Cut) (t : Result (String Z) E) (out : Option (List ℕ)) (failed : Bool)
+      → lr.message ≡ [] → IfOk t (λ t. string_bytes t ≡ lr.output) → PrintLeaves r Output t old.out out failed
       → LineLeaves r p text (left_at old.out_before out old.messages_before old.messages new) session
   output_leaves (Ok done) (Ok t) out failed none is h = record {
     holds = record {
-      took_output = Appends-join old.out_before old.out out p.output _ held.took_output (Appends-at old.out out _ _ (is ∙ sym (ap (λ (x : LineResult). x.output) same)) h.0);
-      took_messages = took_none old.messages_before old.messages p.messages _ (ap (λ (x : LineResult). x.message) same ∙ none) held.took_messages;
+      took_output =
+          Appends-join old.out_before old.out out p.output _ held.took_output
+          (Appends-at old.out out _ _ (is ∙ sym (ap (λ (x : LineResult). x.output) same)) h.0);
+      took_messages =
+          took_none old.messages_before old.messages p.messages _
+          (ap (λ (x : LineResult). x.message) same ∙ none) held.took_messages;
       reached = reached ∙ sym (ap (λ (x : LineResult). x.state) same);
     };
     next = next ∙ sym (ap (λ (x : LineResult). x.serials) same);
@@ -87,7 +106,11 @@ module _ {A E Z : Type 0} (p : Progress) (text : List ℕ) (lr : LineResult) (k 
   output_leaves (Err cut) (Err e) out failed none is h =
       subst (λ x. IsCutIn x p text (left_at old.out_before out old.messages_before old.messages new)) (sym h.0) (
         k,
-        record { took_output = took_same old.out_before old.out out p.output h.1 held.took_output; took_messages = held.took_messages; reached = reached ∙ all },
+        record {
+          took_output = took_same old.out_before old.out out p.output h.1 held.took_output;
+          took_messages = held.took_messages;
+          reached = reached ∙ all;
+        },
       )
 
 -- ---- what the line said
@@ -99,15 +122,19 @@ pub line_said : (line : Line) (said : Said) → IsUnlessMemory said (Ok line) �
 line_said line said (inl e) = absurd (cc)
 line_said line said (inr e) = sym e
 
-pub fault_said : (f : LineFault) (said : Said) → (f ≡ fault.Memory → ⊥) → IsUnlessMemory {T = Line} said (Err f) → ◌≡◌ {A = Said} said (Err f)
+pub fault_said : (f : LineFault) (said : Said) → (f ≡ fault.Memory → ⊥) → IsUnlessMemory {T = Line} said (Err f)
+    → ◌≡◌ {A = Said} said (Err f)
 fault_said f said other (inl e) = absurd (other (cc))
 fault_said f said other (inr e) = sym e
 
 -- at the place where the run stands
-pub said_here : (p : Progress) (text : List ℕ) (s : State) (controllers : ℕ) (said : Said) → s ≡ p.state → controllers ≡ length s.controllers → reading text controllers ≡ said → said_at p text ≡ said
-said_here p text s controllers said es ec e = ap (λ (x : State). reading text (length x.controllers)) (sym es) ∙ ap (reading text) (sym ec) ∙ e
+pub said_here : (p : Progress) (text : List ℕ) (s : State) (controllers : ℕ) (said : Said) → s ≡ p.state
+    → controllers ≡ length s.controllers → reading text controllers ≡ said → said_at p text ≡ said
+said_here p text s controllers said es ec e = ap (λ (x : State). reading text (length x.controllers)) (sym es)
+    ∙ ap (reading text) (sym ec) ∙ e
 
-pub result_asked : (p : Progress) (text : List ℕ) (r : Request) (s : State) (serials : List ℕ) (n : ℕ) → said_at p text ≡ Ok (line.Request r) → s ≡ p.state → serials ≡ p.serials → n ≡ p.number
+pub result_asked : (p : Progress) (text : List ℕ) (r : Request) (s : State) (serials : List ℕ) (n : ℕ)
+    → said_at p text ≡ Ok (line.Request r) → s ≡ p.state → serials ≡ p.serials → n ≡ p.number
     → result_at p text ≡ request_result (n + 1) s r (outcome_of s serials (orders_of s r.query))
 result_asked p text r s serials n e es er en =
     ap (λ (x : Said). line_result p.state p.serials (p.number + 1) x) e
@@ -115,7 +142,8 @@ result_asked p text r s serials n e es er en =
     ∙ ap (λ (x : List ℕ). request_result (p.number + 1) s r (outcome_of s x (orders_of s r.query))) (sym er)
     ∙ ap (λ (x : ℕ). request_result (x + 1) s r (outcome_of s serials (orders_of s r.query))) (sym en)
 
-pub result_fault : (p : Progress) (text : List ℕ) (f : LineFault) (s : State) (serials : List ℕ) (n : ℕ) → said_at p text ≡ Err f → s ≡ p.state → serials ≡ p.serials → n ≡ p.number
+pub result_fault : (p : Progress) (text : List ℕ) (f : LineFault) (s : State) (serials : List ℕ) (n : ℕ)
+    → said_at p text ≡ Err f → s ≡ p.state → serials ≡ p.serials → n ≡ p.number
     → result_at p text ≡ line_result s serials (n + 1) (Err f)
 result_fault p text f s serials n e es er en =
     ap (λ (x : Said). line_result p.state p.serials (p.number + 1) x) e
@@ -128,15 +156,19 @@ amid-zero s serials (Ok line.Skipped) = refl
 amid-zero s serials (Ok (line.Request r)) = refl
 amid-zero s serials (Err f) = refl
 
-pub amid-some : (p : Progress) (text : List ℕ) (r : Request) (s : State) (serials : List ℕ) (k : ℕ) → said_at p text ≡ Ok (line.Request r) → s ≡ p.state → serials ≡ p.serials
+pub amid-some : (p : Progress) (text : List ℕ) (r : Request) (s : State) (serials : List ℕ) (k : ℕ)
+    → said_at p text ≡ Ok (line.Request r) → s ≡ p.state → serials ≡ p.serials
     → (outcome_of s serials (take k (orders_of s r.query))).state ≡ state_amid p.state p.serials (said_at p text) k
 amid-some p text r s serials k e es er =
     ap (λ (x : State). (outcome_of x serials (take k (orders_of x r.query))).state) es
     ∙ ap (λ (x : List ℕ). (outcome_of p.state x (take k (orders_of p.state r.query))).state) er
     ∙ ap (λ (x : Said). state_amid p.state p.serials x k) (sym e)
 
-pub amid-all : (p : Progress) (text : List ℕ) (r : Request) (s : State) (serials : List ℕ) → said_at p text ≡ Ok (line.Request r) → s ≡ p.state → serials ≡ p.serials
-    → (outcome_of s serials (orders_of s r.query)).state ≡ state_amid p.state p.serials (said_at p text) (length (orders_of s r.query))
+pub amid-all : (p : Progress) (text : List ℕ) (r : Request) (s : State) (serials : List ℕ)
+    → said_at p text ≡ Ok (line.Request r) → s ≡ p.state → serials ≡ p.serials
+    → (outcome_of s serials (orders_of s r.query)).state
+    ≡ state_amid p.state p.serials (said_at p text) (length (orders_of s r.query))
 amid-all p text r s serials e es er =
-    ap (λ os. (outcome_of s serials os).state) (sym (take_all (length (orders_of s r.query)) (orders_of s r.query) (omega arith)))
+    ap (λ os. (outcome_of s serials os).state)
+    (sym (take_all (length (orders_of s r.query)) (orders_of s r.query) (omega arith)))
     ∙ amid-some p text r s serials (length (orders_of s r.query)) e es er

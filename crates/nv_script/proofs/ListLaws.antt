@@ -1,5 +1,6 @@
 -- How the parts of `list` make the whole.
-use Rattle.std.proofs.Common.{◌≡◌, ◌∙◌, ℕ, ◌+◌, ◌<◌, ap, drop, get_or, length, map, refl, sym, subst, List, [], ◌∷◌, ◌++◌, append_assoc, append-nil, Result, Ok, Err}
+use Rattle.std.proofs.Common.{◌≡◌, ◌∙◌, ℕ, ◌+◌, ◌<◌, ap, drop, get_or, length, map, refl, sym, subst, List, [], ◌∷◌}
+use Rattle.std.proofs.Common.{◌++◌, append_assoc, append-nil, Result, Ok, Err}
 use Rattle.std.specs.Prelude.{Contains}
 use Rattle.std.proofs.lemmas.List.{at_drop_more}
 use Rattle.std.proofs.lemmas.List.Elements.{Contains-append_left, Contains-append_right}
@@ -20,41 +21,51 @@ abbrev pub first_standing : State → List ℕ → Standing
 first_standing s serials = record { state = s; serials = serials; listing = no_listing }
 
 -- all of them were executed
-pub begun_all : (w : Standing) (orders : List Order) (s : State) (serials : List ℕ) → s ≡ (asked_all w orders).state → serials ≡ (asked_all w orders).serials
+pub begun_all : (w : Standing) (orders : List Order) (s : State) (serials : List ℕ) → s ≡ (asked_all w orders).state
+    → serials ≡ (asked_all w orders).serials
     → AreBegun w orders s serials
-begun_all w orders s serials state next = record { done = orders; later = []; split = sym (append-nil orders); subsystem = state; next = next }
+begun_all w orders s serials state next =
+    record { done = orders; later = []; split = sym (append-nil orders); subsystem = state; next = next }
 
 -- what some orders and more are answered
-answers-append : (w : Standing) (orders more : List Order) → answers_to w (orders ++ more) ≡ answers_to w orders ++ answers_to (asked_all w orders) more
+answers-append : (w : Standing) (orders more : List Order)
+    → answers_to w (orders ++ more) ≡ answers_to w orders ++ answers_to (asked_all w orders) more
 answers-append w [] more = refl
-answers-append w (o ∷ os) more = ap (λ xs. (exchange_of w.state w.serials o).answer ∷ xs) (answers-append (asked w o) os more)
+answers-append w (o ∷ os) more =
+    ap (λ xs. (exchange_of w.state w.serials o).answer ∷ xs) (answers-append (asked w o) os more)
 
 -- the listing is told of what all of them are answered
-pub listing_asked : (w : Standing) (orders : List Order) → (asked_all w orders).listing ≡ listing_of w.listing orders (answers_to w orders)
+pub listing_asked : (w : Standing) (orders : List Order)
+    → (asked_all w orders).listing ≡ listing_of w.listing orders (answers_to w orders)
 listing_asked w [] = refl
 listing_asked w (o ∷ os) = listing_asked (asked w o) os
 
 -- of the first of the rest it is told first
-pub told_more : (c : ℕ) (l : Listing) (ks : List Command) (xs : List Answer) (i : ℕ) (dk : Command) (da : Answer) → i < length ks → i < length xs
+pub told_more : (c : ℕ) (l : Listing) (ks : List Command) (xs : List Answer) (i : ℕ) (dk : Command) (da : Answer)
+    → i < length ks → i < length xs
     → listing_of l (map (order_of c) (drop i ks)) (drop i xs)
-    ≡ listing_of (listing_told c l (Send (get_or ks i dk)) (get_or xs i da)) (map (order_of c) (drop (i + 1) ks)) (drop (i + 1) xs)
+    ≡ listing_of (listing_told c l (Send (get_or ks i dk)) (get_or xs i da)) (map (order_of c) (drop (i + 1) ks))
+    (drop (i + 1) xs)
 told_more c l ks xs i dk da some answered =
     at_drop_more (λ x. listing_of l (map (order_of c) x) (drop i xs)) ks i dk some
     ∙ at_drop_more (listing_of l (order_of c (get_or ks i dk) ∷ map (order_of c) (drop (i + 1) ks))) xs i da answered
 
 module _ (w : Standing) (done all : List Order) where
   -- amid some commands after those that were done, with the rest after them
-  begun_within : (orders rest : List Order) (s : State) (serials : List ℕ) → all ≡ done ++ (orders ++ rest) → AreBegun (asked_all w done) orders s serials → AreBegun w all s serials
+  begun_within : (orders rest : List Order) (s : State) (serials : List ℕ) → all ≡ done ++ (orders ++ rest)
+      → AreBegun (asked_all w done) orders s serials → AreBegun w all s serials
   begun_within orders rest s serials is h = record {
     done = done ++ h.done;
     later = h.later ++ rest;
-    split = is ∙ ap (λ x. done ++ (x ++ rest)) h.split ∙ ap (λ x. done ++ x) (append_assoc h.done h.later rest) ∙ sym (append_assoc done h.done (h.later ++ rest));
+    split = is ∙ ap (λ x. done ++ (x ++ rest)) h.split ∙ ap (λ x. done ++ x) (append_assoc h.done h.later rest)
+        ∙ sym (append_assoc done h.done (h.later ++ rest));
     subsystem = h.subsystem ∙ ap (λ (x : Standing). x.state) (sym (fold-append asked w done h.done));
     next = h.next ∙ ap (λ (x : Standing). x.serials) (sym (fold-append asked w done h.done));
   }
 
   -- and what some of them are answered
-  answered_within : (orders rest : List Order) (a : Answer) → all ≡ done ++ (orders ++ rest) → Contains (answers_to (asked_all w done) orders) a → Contains (answers_to w all) a
+  answered_within : (orders rest : List Order) (a : Answer) → all ≡ done ++ (orders ++ rest)
+      → Contains (answers_to (asked_all w done) orders) a → Contains (answers_to w all) a
   answered_within orders rest a is h =
       let then = asked_all w done in
       let these = answers-append then orders rest in
@@ -63,17 +74,22 @@ module _ (w : Standing) (done all : List Order) where
       (Contains-append_right (answers_to w done) (answers_to then orders ++ answers_to (asked_all then orders) rest) a
       (Contains-append_left (answers_to then orders) (answers_to (asked_all then orders) rest) a h))
 
-  pub stopped_within : (A B : Type 0) (e : Stop) (orders rest : List Order) (s : State) (serials : List ℕ) (listing now : Listing) → all ≡ done ++ (orders ++ rest)
-      → ListLeaves {A = A} (Err e) (asked_all w done) orders s serials listing → ListLeaves {A = B} (Err e) w all s serials now
-  stopped_within A B (stop.Refused status) orders rest s serials listing now is h = answered_within orders rest (Err status) is h
+  pub stopped_within : (A B : Type 0) (e : Stop) (orders rest : List Order) (s : State) (serials : List ℕ)
+      (listing now : Listing) → all ≡ done ++ (orders ++ rest)
+      → ListLeaves {A = A} (Err e) (asked_all w done) orders s serials listing
+      → ListLeaves {A = B} (Err e) w all s serials now
+  stopped_within A B (stop.Refused status) orders rest s serials listing now is h =
+      answered_within orders rest (Err status) is h
   stopped_within A B stop.Memory orders rest s serials listing now is h = begun_within orders rest s serials is h
 
-  pub listed_after : (orders : List Order) (s : State) (serials : List ℕ) (listing : Listing) → all ≡ done ++ orders → IsListed (asked_all (asked_all w done) orders) s serials listing
+  pub listed_after : (orders : List Order) (s : State) (serials : List ℕ) (listing : Listing) → all ≡ done ++ orders
+      → IsListed (asked_all (asked_all w done) orders) s serials listing
       → IsListed (asked_all w all) s serials listing
   listed_after orders s serials listing is h =
       subst (λ x. IsListed x s serials listing) (sym (ap (asked_all w) is ∙ fold-append asked w done orders)) h
 
-  pub leaves_after : {A : Type 0} (r : Result A Stop) (orders : List Order) (s : State) (serials : List ℕ) (listing : Listing) → all ≡ done ++ orders
+  pub leaves_after : {A : Type 0} (r : Result A Stop) (orders : List Order) (s : State) (serials : List ℕ)
+      (listing : Listing) → all ≡ done ++ orders
       → ListLeaves r (asked_all w done) orders s serials listing → ListLeaves r w all s serials listing
   leaves_after (Ok x) orders s serials listing is h = listed_after orders s serials listing is h
   leaves_after {A = A} (Err e) orders s serials listing is h =

@@ -1,5 +1,6 @@
 -- The commands of `list` in a well-formed subsystem, controller by controller.
-use Rattle.std.proofs.Common.{◌≡◌, ◌∙◌, ℕ, suc, ◌+◌, ◌-◌, ◌<◌, ◌≤◌, arith, ap, Bool, true, false, List, [], ◌∷◌, ◌++◌, append-nil, length}
+use Rattle.std.proofs.Common.{◌≡◌, ◌∙◌, ℕ, suc, ◌+◌, ◌-◌, ◌<◌, ◌≤◌, arith, ap, Bool, true, false, List, [], ◌∷◌, ◌++◌}
+use Rattle.std.proofs.Common.{append-nil, length}
 use Rattle.std.specs.Prelude.{All, filter, flat_map, if◌then◌else◌, nat_lt}
 use Rattle.std.specs.List.{range_with_len}
 use Rattle.std.proofs.lemmas.List.Elements.{All-tail}
@@ -24,14 +25,16 @@ module _ (nn : ℕ) where
   lookups-front [] more h = tt
   lookups-front (o ∷ os) more h = (h.0, lookups-front os more h.1)
 
-  namespace_lookups : (c : ℕ) (test : ℕ → Bool) (ns : List ℕ) → All (IsInside nn) ns → AreLookups nn (namespace_orders c (filter test ns))
+  namespace_lookups : (c : ℕ) (test : ℕ → Bool) (ns : List ℕ) → All (IsInside nn) ns
+      → AreLookups nn (namespace_orders c (filter test ns))
   namespace_lookups c test [] h = tt
   namespace_lookups c test (n ∷ ns) h =
       let rest = namespace_lookups c test ns (All-tail (IsInside nn) n ns h) in
       let first : IsInside nn n = h 0 n (omega arith) in
       at_test (test n) first rest
     where
-      at_test : (b : Bool) → IsInside nn n → AreLookups nn (namespace_orders c (filter test ns)) → AreLookups nn (namespace_orders c (if b then n ∷ filter test ns else filter test ns))
+      at_test : (b : Bool) → IsInside nn n → AreLookups nn (namespace_orders c (filter test ns))
+          → AreLookups nn (namespace_orders c (if b then n ∷ filter test ns else filter test ns))
       at_test true first rest = (sends (namespace first), rest)
       at_test false first rest = rest
 
@@ -40,16 +43,21 @@ module _ (nn : ℕ) where
   flat_lookups f h (c ∷ cs) = lookups-append (f c) (flat_map f cs) (h c) (flat_lookups f h cs)
 
 pub controller_lookups : (s : State) (c : ℕ) → IsWellFormed s → AreLookups s.nn (orders_of_controller s c)
-controller_lookups s c w = (sends controller, (sends attached, namespace_lookups s.nn c (λ n. nat_lt 0 n) (active_nsids s c) (active_inside s c w)))
+controller_lookups s c w = (
+  sends controller,
+  (sends attached, namespace_lookups s.nn c (λ n. nat_lt 0 n) (active_nsids s c) (active_inside s c w)),
+)
 
 pub list_lookups : (s : State) → IsWellFormed s → AreLookups s.nn (orders_of_list s)
-list_lookups s w = flat_lookups s.nn (orders_of_controller s) (λ c. controller_lookups s c w) (range_with_len 0 (length s.controllers))
+list_lookups s w =
+    flat_lookups s.nn (orders_of_controller s) (λ c. controller_lookups s c w) (range_with_len 0 (length s.controllers))
 
 -- ---- controller by controller
 
 -- the same NSIDs are attached, so the same commands are sent
 pub same_orders : (s now : State) (c : ℕ) → IsAlike s now → orders_of_controller now c ≡ orders_of_controller s c
-same_orders s now c h = ap (λ ns. order_of c IdentifyController ∷ order_of c (ActiveList 0) ∷ namespace_orders c (above 0 ns)) (h.active c)
+same_orders s now c h =
+    ap (λ ns. order_of c IdentifyController ∷ order_of c (ActiveList 0) ∷ namespace_orders c (above 0 ns)) (h.active c)
 
 -- those of a controller and of the later ones
 abbrev pub orders_from : State → ℕ → ℕ → List Order
@@ -61,7 +69,8 @@ next_controller s i n all done below e =
     let more : n - i ≡ suc (n - (i + 1)) = omega arith in
     e ∙ ap (λ m. done ++ flat_map (orders_of_controller s) (range_with_len i m)) more
 
-pub no_controller_left : (s : State) (i n : ℕ) (all done : List Order) → n ≤ i → all ≡ done ++ orders_from s i n → all ≡ done
+pub no_controller_left : (s : State) (i n : ℕ) (all done : List Order) → n ≤ i → all ≡ done ++ orders_from s i n
+    → all ≡ done
 no_controller_left s i n all done over e =
     let none : n - i ≡ 0 = omega arith in
     e ∙ ap (λ m. done ++ flat_map (orders_of_controller s) (range_with_len i m)) none ∙ append-nil done

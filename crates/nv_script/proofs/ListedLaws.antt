@@ -29,21 +29,30 @@ module _ (s now : State) (serials next : List ℕ) (ok : IsWellFormed s) where
   all_listed listing h =
       let all = all_accepted first (orders_of_list s) (list_lookups s ok) in
       left_shown s now serials next query.List (Some (shown.Devices listing.devices)) all.replies
-      (all.outcome ∙ ap (λ (x : State). accepted_with all.replies x (asked_all first (orders_of_list s)).serials) (sym h.subsystem) ∙ ap (accepted_with all.replies now) (sym h.next))
+      (all.outcome
+      ∙ ap (λ (x : State). accepted_with all.replies x (asked_all first (orders_of_list s)).serials)
+      (sym h.subsystem) ∙ ap (accepted_with all.replies now) (sym h.next))
       (ap (λ (l : Listing). Some (shown.Devices l.devices))
       (h.listed ∙ listing_asked first (orders_of_list s) ∙ ap (listing_of no_listing (orders_of_list s)) all.answers))
 
   begun_left : AreBegun first (orders_of_list s) now next → StopLeaves stop.Memory query.List s serials now next
   begun_left h =
-      let all = all_accepted first h.done (lookups-front s.nn h.done h.later (subst (AreLookups s.nn) h.split (list_lookups s ok))) in
+      let all =
+      all_accepted first h.done
+      (lookups-front s.nn h.done h.later (subst (AreLookups s.nn) h.split (list_lookups s ok))) in
       let taken = ap (take (length h.done)) h.split ∙ take-append_seam h.done h.later in
       let outcome = ap (outcome_of s serials) taken ∙ all.outcome in (
         length h.done,
-        record { subsystem = h.subsystem ∙ sym (ap (λ (x : Outcome). x.state) outcome); next = h.next ∙ sym (ap (λ (x : Outcome). x.serials) outcome) },
+        record {
+          subsystem = h.subsystem ∙ sym (ap (λ (x : Outcome). x.state) outcome);
+          next = h.next ∙ sym (ap (λ (x : Outcome). x.serials) outcome);
+        },
       )
 
   -- memory was refused, for no command is
-  pub list_stopped : (A : Type 0) (e : Stop) (listing : Listing) → ListLeaves {A = A} (Err e) first (orders_of_list s) now next listing
+  pub list_stopped : (A : Type 0) (e : Stop) (listing : Listing)
+      → ListLeaves {A = A} (Err e) first (orders_of_list s) now next listing
       → StopLeaves e query.List s serials now next
-  list_stopped A (stop.Refused status) listing h = absurd (none_refused first (orders_of_list s) status (list_lookups s ok) h)
+  list_stopped A (stop.Refused status) listing h =
+      absurd (none_refused first (orders_of_list s) status (list_lookups s ok) h)
   list_stopped A stop.Memory listing h = begun_left h

@@ -31,21 +31,25 @@ lookups_at nn now orders e h = subst (λ n. AreLookups n orders) (sym e) h
 -- ---- what stays
 
 -- the state after a command of list
-act_alike : (s : State) (serials : List ℕ) (c : ℕ) {a : Act} → IsLookupAct s.nn a → IsAlike s (exchange_by a s serials c).state
+act_alike : (s : State) (serials : List ℕ) (c : ℕ) {a : Act} → IsLookupAct s.nn a
+    → IsAlike s (exchange_by a s serials c).state
 act_alike s serials c (sends h) = looked_alike s c (get_or serials c 0) h
 
 pub asked_alike : (w : Standing) (o : Order) → IsLookupAct w.state.nn o.act → IsAlike w.state (asked w o).state
 asked_alike w o h = act_alike w.state w.serials o.controller h
 
-pub asked_all_alike : (w : Standing) (orders : List Order) → AreLookups w.state.nn orders → IsAlike w.state (asked_all w orders).state
+pub asked_all_alike : (w : Standing) (orders : List Order) → AreLookups w.state.nn orders
+    → IsAlike w.state (asked_all w orders).state
 asked_all_alike w [] h = alike-self w.state
 asked_all_alike w (o ∷ os) h =
     let one = asked_alike w o h.0 in
-    alike-join w.state (asked w o).state (asked_all w (o ∷ os)).state one (asked_all_alike (asked w o) os (lookups_at w.state.nn (asked w o).state.nn os one.nn h.1))
+    alike-join w.state (asked w o).state (asked_all w (o ∷ os)).state one
+    (asked_all_alike (asked w o) os (lookups_at w.state.nn (asked w o).state.nn os one.nn h.1))
 
 -- ---- all of them are accepted
 
-accepted : (s : State) (serials : List ℕ) (c : ℕ) {a : Act} → IsLookupAct s.nn a → (r : Reply) × ((exchange_by a s serials c).answer ≡ Ok r)
+accepted : (s : State) (serials : List ℕ) (c : ℕ) {a : Act} → IsLookupAct s.nn a
+    → (r : Reply) × ((exchange_by a s serials c).answer ≡ Ok r)
 accepted s serials c (sends {k} h) = (reply_of s c k, looked_received s c (get_or serials c 0) h)
 
 abbrev ok : Reply → Answer
@@ -54,7 +58,8 @@ ok r = Ok r
 -- so their outcome is where `list` stands, and its replies are all that they are answered
 pub record AreAccepted (w : Standing) (orders : List Order) : Type 0 where
   pub replies : List Reply
-  pub outcome : outcome_of w.state w.serials orders ≡ accepted_with replies (asked_all w orders).state (asked_all w orders).serials
+  pub outcome : outcome_of w.state w.serials orders
+      ≡ accepted_with replies (asked_all w orders).state (asked_all w orders).serials
   pub answers : answers_to w orders ≡ map ok replies
 
 pub all_accepted : (w : Standing) (orders : List Order) → AreLookups w.state.nn orders → AreAccepted w orders

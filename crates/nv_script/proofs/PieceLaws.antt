@@ -1,5 +1,6 @@
 -- Bytes cut at their newlines.
-use Rattle.std.proofs.Common.{◌≡◌, ℕ, suc, ◌+◌, ◌<◌, List, [], ◌∷◌, ◌++◌, length, take, drop, get_or, sym, ap, ◌∙◌, refl, Bool, true, false, eqb, cond, append_assoc, append-nil, arith, fold}
+use Rattle.std.proofs.Common.{◌≡◌, ℕ, suc, ◌+◌, ◌<◌, List, [], ◌∷◌, ◌++◌, length, take, drop, get_or, sym, ap, ◌∙◌}
+use Rattle.std.proofs.Common.{refl, Bool, true, false, eqb, cond, append_assoc, append-nil, arith, fold}
 use Rattle.std.proofs.lemmas.List.{take_more, take-append-drop, length-append}
 use Rattle.std.proofs.lemmas.List.Sums.{fold-append}
 use Rattle.std.proofs.lemmas.Bool.Decides.{nat_tests}
@@ -92,13 +93,16 @@ line-among xs ys b e =
 
 -- the same where the newline stands at an index of a further piece
 pub piece-among : (bytes piece : List ℕ) (i : ℕ) → i < length piece → get_or piece i 0 ≡ 10
-    → (later : List (List ℕ)) × (script_lines (bytes ++ piece) ≡ (pieces (bytes ++ take i piece)).ended ++ (pieces (bytes ++ take i piece)).last ∷ later)
+    → (later : List (List ℕ))
+    × (script_lines (bytes ++ piece)
+    ≡ (pieces (bytes ++ take i piece)).ended ++ (pieces (bytes ++ take i piece)).last ∷ later)
 piece-among bytes piece i h e =
     let xs = bytes ++ take i piece in
     let b = get_or piece i 0 in
     let ys = drop (i + 1) piece in
     let whole : bytes ++ piece ≡ (xs ++ b ∷ []) ++ ys =
-    ap (λ t. bytes ++ t) (sym (take-append-drop (i + 1) piece)) ∙ sym (append_assoc bytes (take (i + 1) piece) ys) ∙ ap (λ t. t ++ ys) (taken-more bytes piece i h) in
+    ap (λ t. bytes ++ t) (sym (take-append-drop (i + 1) piece)) ∙ sym (append_assoc bytes (take (i + 1) piece) ys)
+    ∙ ap (λ t. t ++ ys) (taken-more bytes piece i h) in
     let among = line-among xs ys b e in
     (among.0, ap script_lines whole ∙ among.1)
 

@@ -1,5 +1,6 @@
 -- What a query leaves, by how far its orders were carried out.
-use Rattle.std.proofs.Common.{◌≡◌, ◌∙◌, ℕ, ◌+◌, arith, ap, sym, refl, List, [], ◌∷◌, length, get_or, Option, None, Some, Result, Ok, Err}
+use Rattle.std.proofs.Common.{◌≡◌, ◌∙◌, ℕ, ◌+◌, arith, ap, sym, refl, List, [], ◌∷◌, length, get_or, Option, None, Some}
+use Rattle.std.proofs.Common.{Result, Ok, Err}
 use Rattle.std.specs.Option.{option_map_or}
 use Rattle.std.proofs.lemmas.List.{take_all}
 use Rattle.nv_layout.specs.declared.status.Status.{Status}
@@ -85,7 +86,8 @@ module _ (s now : State) (serials next : List ℕ) (q : Query) where
   left_memory is =
       let all = ap (outcome_of s serials) (take_all (length (orders_of s q)) (orders_of s q) (omega arith)) in (
         length (orders_of s q),
-        reached _ now next (is.subsystem ∙ sym (ap (λ (x : Outcome). x.state) all)) (is.next ∙ sym (ap (λ (x : Outcome). x.serials) all)),
+        reached _ now next (is.subsystem ∙ sym (ap (λ (x : Outcome). x.state) all))
+            (is.next ∙ sym (ap (λ (x : Outcome). x.serials) all)),
       )
 
 -- ---- the orders of a question
@@ -94,34 +96,43 @@ module _ (s now : State) (serials next : List ℕ) (q : Question) where
   abbrev first : Order
   first = record { controller = q.controller; act = first_act q.ask }
 
-  module _ (reply : Reply) (e : exchange_with (Ok reply) now next ≡ exchange_of s serials first) (later : Option Command)
+  module _ (reply : Reply) (e : exchange_with (Ok reply) now next ≡ exchange_of s serials first)
+      (later : Option Command)
       (is : later ≡ next_command q.ask reply) where
-    begun : outcome_of s serials (orders_of s (One q)) ≡ outcome_after (Ok reply) now next (outcome_of now next (later_orders q.controller later))
+    begun : outcome_of s serials (orders_of s (One q))
+        ≡ outcome_after (Ok reply) now next (outcome_of now next (later_orders q.controller later))
     begun =
-        accepted_first s now serials next first (later_orders q.controller (second_command (entry_count s q.controller) q.ask)) reply e
+        accepted_first s now serials next first
+        (later_orders q.controller (second_command (entry_count s q.controller) q.ask)) reply e
         ∙ ap (λ x. outcome_after (Ok reply) now next (outcome_of now next (later_orders q.controller x)))
         (sym (is ∙ second_is_next s serials q.controller q.ask reply (ap (λ (x : Exchange). x.answer) e)))
 
   -- the first was all
   pub one_accepted : (reply : Reply) → exchange_with (Ok reply) now next ≡ exchange_of s serials first
-      → None ≡ next_command q.ask reply → outcome_of s serials (orders_of s (One q)) ≡ accepted_with (reply ∷ []) now next
+      → None ≡ next_command q.ask reply
+      → outcome_of s serials (orders_of s (One q)) ≡ accepted_with (reply ∷ []) now next
   one_accepted reply e is = begun reply e None is
 
-  module _ (last : State) (end : List ℕ) (reply : Reply) (e : exchange_with (Ok reply) now next ≡ exchange_of s serials first) (k : Command)
+  module _ (last : State) (end : List ℕ) (reply : Reply)
+      (e : exchange_with (Ok reply) now next ≡ exchange_of s serials first) (k : Command)
       (is : Some k ≡ next_command q.ask reply) where
-    second_refused : (status : Status) → exchange_with (Err status) last end ≡ exchange_of now next (order_of q.controller k)
+    second_refused : (status : Status)
+        → exchange_with (Err status) last end ≡ exchange_of now next (order_of q.controller k)
         → outcome_of s serials (orders_of s (One q)) ≡ refused_with (reply ∷ []) status last end
     second_refused status e2 =
         begun reply e (Some k) is
-        ∙ ap (outcome_after (Ok reply) now next) (refused_at_once now last next end (order_of q.controller k) [] status e2)
+        ∙ ap (outcome_after (Ok reply) now next)
+        (refused_at_once now last next end (order_of q.controller k) [] status e2)
 
     pub second_stopped : (status : Status) → OrderLeaves (Err status) (order_of q.controller k) now next last end
         → StopLeaves (stop.Refused status) (One q) s serials last end
     second_stopped status h =
         left_refused s last serials end (One q) (reply ∷ []) status (second_refused status h)
 
-    pub two_accepted : (second : Reply) → exchange_with (Ok second) last end ≡ exchange_of now next (order_of q.controller k)
+    pub two_accepted : (second : Reply)
+        → exchange_with (Ok second) last end ≡ exchange_of now next (order_of q.controller k)
         → outcome_of s serials (orders_of s (One q)) ≡ accepted_with (reply ∷ second ∷ []) last end
     two_accepted second e2 =
         begun reply e (Some k) is
-        ∙ ap (outcome_after (Ok reply) now next) (accepted_first now last next end (order_of q.controller k) [] second e2)
+        ∙ ap (outcome_after (Ok reply) now next)
+        (accepted_first now last next end (order_of q.controller k) [] second e2)

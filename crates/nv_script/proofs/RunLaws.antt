@@ -1,5 +1,7 @@
 -- How the pieces of a run make the whole run.
-use Rattle.std.proofs.Common.{Bool, false, ◌||◌, ◌==◌, ◌≡◌, ◌∙◌, ℕ, ◌+◌, ◌<◌, ◌≤◌, List, [], ◌∷◌, ◌++◌, length, take, sym, ap, subst, append-nil, arith, inl, inr, ◌≢◌, ◌↔◌, refl, Option, None, Some, Result, Ok, Err}
+use Rattle.std.proofs.Common.{Bool, false, ◌||◌, ◌==◌, ◌≡◌, ◌∙◌, ℕ, ◌+◌, ◌<◌, ◌≤◌, List, [], ◌∷◌, ◌++◌, length, take}
+use Rattle.std.proofs.Common.{sym, ap, subst, append-nil, arith, inl, inr, ◌≢◌, ◌↔◌, refl, Option, None, Some, Result}
+use Rattle.std.proofs.Common.{Ok, Err}
 use Rattle.std.specs.Prelude.{IfSome, replicate}
 use Rattle.std.specs.Io.KnownBytes.{Appends, Consumes, IsAtEnd, Keeps}
 use Rattle.std.proofs.lemmas.Bool.Decides.{nat_tests}
@@ -11,7 +13,8 @@ use Rattle.nv_driver.specs.declared.error.DriverError.{DriverError}
 use Rattle.nv_driver.specs.declared.error.DriverError.TheVariants as error
 use Rattle.nv_driver.specs.declared.geometry.Geometry.{Geometry as DriverGeometry}
 use Rattle.nv_driver.specs.declared.geometry_field.GeometryField.{GeometryField}
-use Rattle.nv_script.specs.Ends.{AllEnabled, AreFaults, Headline, IsEndOf, IsRun, Leaves, RunState, Runs, RunsFrom, WasRead, begun, end_with, end_without, has_stopped, left_by}
+use Rattle.nv_script.specs.Ends.{AllEnabled, AreFaults, Headline, IsEndOf, IsRun, Leaves, RunState, Runs, RunsFrom}
+use Rattle.nv_script.specs.Ends.{WasRead, begun, end_with, end_without, has_stopped, left_by}
 use Rattle.nv_script.specs.Feeding.{LastLeaves, PieceLeaves, Stands}
 use Rattle.nv_script.specs.Results.{Progress, whole}
 use Rattle.nv_script.specs.ScriptLines.{as_line, pieces, script_lines}
@@ -29,7 +32,8 @@ use Rattle.nv_script.proofs.PieceLaws.{as_line-some, length-joined, length-piece
 use Rattle.nv_script.proofs.Taking.{Appends-same, Consumes-join, Consumes-nothing, Consumes-same, length-taken}
 
 -- the last piece was a line
-pub last_line : (bytes : List ℕ) → 0 < length (pieces bytes).last → script_lines bytes ≡ (pieces bytes).ended ++ (pieces bytes).last ∷ []
+pub last_line : (bytes : List ℕ) → 0 < length (pieces bytes).last
+    → script_lines bytes ≡ (pieces bytes).ended ++ (pieces bytes).last ∷ []
 last_line bytes h = ap (λ x. (pieces bytes).ended ++ x) (as_line-some (pieces bytes).last h)
 
 -- or there was none
@@ -37,16 +41,22 @@ pub no_last : (bytes : List ℕ) → as_line (pieces bytes).last ≡ [] → scri
 no_last bytes e = ap (λ x. (pieces bytes).ended ++ x) e ∙ append-nil (pieces bytes).ended
 
 -- a run that stands after all lines
-pub ends_whole : (s : State) (bytes : List ℕ) (q : Progress) (left : Left) (session : Session) → whole s (script_lines bytes) ≡ q → Stands q left session
+pub ends_whole : (s : State) (bytes : List ℕ) (q : Progress) (left : Left) (session : Session)
+    → whole s (script_lines bytes) ≡ q → Stands q left session
     → Leaves (ended.Status session.status) s bytes left
-ends_whole s bytes q left session e h =
-    (h.status ∙ ap (λ (x : Progress). x.status) (sym e), subst (λ (x : Progress). Holds left x.output x.messages x.state) (sym e) h.holds)
+ends_whole s bytes q left session e h = (
+  h.status
+      ∙ ap (λ (x : Progress). x.status) (sym e),
+  subst (λ (x : Progress). Holds left x.output x.messages x.state) (sym e) h.holds,
+)
 
 -- nothing is read
 pub read_first : (script : SourceState) → script.given ≡ 0 → WasRead script script []
 read_first script e = record { first = Consumes-same script.to_come; count = sym e }
 
-pub stands_first : (s : State) (left : Left) (session : Session) → left.out ≡ left.out_before → left.messages ≡ left.messages_before → left.state ≡ s → serials_of session.driver ≡ replicate (length s.controllers) 0 → session.number ≡ 0 → session.status ≡ 0
+pub stands_first : (s : State) (left : Left) (session : Session) → left.out ≡ left.out_before
+    → left.messages ≡ left.messages_before → left.state ≡ s
+    → serials_of session.driver ≡ replicate (length s.controllers) 0 → session.number ≡ 0 → session.status ≡ 0
     → Stands (whole s (pieces []).ended) left session
 stands_first s left session eo em es er en et = record {
   holds = record {
@@ -60,7 +70,8 @@ stands_first s left session eo em es er en et = record {
 }
 
 -- what is told and was read to its end is what was read
-read_whole : (old new : Option (List ℕ)) (bytes : List ℕ) (P : List ℕ → Type 0) → Consumes old new bytes → IsAtEnd new → P bytes → IfSome old P
+read_whole : (old new : Option (List ℕ)) (bytes : List ℕ) (P : List ℕ → Type 0) → Consumes old new bytes → IsAtEnd new
+    → P bytes → IfSome old P
 read_whole None new bytes P h k p = tt
 read_whole (Some xs) None bytes P h k p = absurd h
 read_whole (Some xs) (Some ys) bytes P h k p = subst P (sym (h ∙ ap (λ z. bytes ++ z) k ∙ append-nil bytes)) p
@@ -111,26 +122,39 @@ piece_cut cut s bytes piece line left session small h =
       later = among.0;
       lines = among.1;
       beginning = h.3;
-      ahead = omega (arith, length-joined (pieces xs).ended (pieces xs).last, length-pieces xs, length-append bytes (take i piece), length-take-le i piece (omega arith), length-append bytes piece);
+      ahead = omega (
+        arith,
+        length-joined (pieces xs).ended (pieces xs).last,
+        length-pieces xs,
+        length-append bytes (take i piece),
+        length-take-le i piece (omega arith),
+        length-append bytes piece,
+      );
     }
 
 -- reads, one after another
-pub read_more : (old mid new : SourceState) (bytes buf : List ℕ) (count : ℕ) → WasRead old mid bytes → Consumes mid.to_come new.to_come (take count buf) → count ≤ length buf → new.given ≡ mid.given + count
+pub read_more : (old mid new : SourceState) (bytes buf : List ℕ) (count : ℕ) → WasRead old mid bytes
+    → Consumes mid.to_come new.to_come (take count buf) → count ≤ length buf → new.given ≡ mid.given + count
     → WasRead old new (bytes ++ take count buf)
 read_more old mid new bytes buf count h k z e = record {
   first = Consumes-join old.to_come mid.to_come new.to_come bytes (take count buf) h.first k;
   count = omega (arith, h.count, length-taken bytes buf count z);
 }
 
-pub read_none : (old mid new : SourceState) (bytes buf : List ℕ) (count : ℕ) → WasRead old mid bytes → Consumes mid.to_come new.to_come (take count buf) → count ≡ 0 → new.given ≡ mid.given + count → WasRead old new bytes
+pub read_none : (old mid new : SourceState) (bytes buf : List ℕ) (count : ℕ) → WasRead old mid bytes
+    → Consumes mid.to_come new.to_come (take count buf) → count ≡ 0 → new.given ≡ mid.given + count
+    → WasRead old new bytes
 read_none old mid new bytes buf count h k z e =
     let bound : count ≤ length buf = omega arith in
-    subst (WasRead old new) (ap (λ c. bytes ++ take c buf) z ∙ append-nil bytes) (read_more old mid new bytes buf count h k bound e)
+    subst (WasRead old new) (ap (λ c. bytes ++ take c buf) z ∙ append-nil bytes)
+    (read_more old mid new bytes buf count h k bound e)
 
 -- an error gave nothing
-pub read_fault : (old mid new : SourceState) (bytes : List ℕ) → WasRead old mid bytes → Keeps mid.to_come new.to_come → new.given ≡ mid.given + 0 → WasRead old new bytes
+pub read_fault : (old mid new : SourceState) (bytes : List ℕ) → WasRead old mid bytes → Keeps mid.to_come new.to_come
+    → new.given ≡ mid.given + 0 → WasRead old new bytes
 read_fault old mid new bytes h k e = record {
-  first = subst (Consumes old.to_come new.to_come) (append-nil bytes) (Consumes-join old.to_come mid.to_come new.to_come bytes [] h.first (Consumes-nothing mid.to_come new.to_come k));
+  first = subst (Consumes old.to_come new.to_come) (append-nil bytes)
+      (Consumes-join old.to_come mid.to_come new.to_come bytes [] h.first (Consumes-nothing mid.to_come new.to_come k));
   count = omega (arith, h.count);
 }
 
@@ -147,13 +171,15 @@ Gives e end = ((field : GeometryField) → e ≡ error.Geometry field → end �
 
 -- a driver was brought up, where each field out of its limits would be told
 pub without_fault : {D : Type 0} (g : DriverGeometry) (d : D)
-    → ((field : GeometryField) → ◌≡◌ {A = Result D DriverError} (Ok d) (Err (error.Geometry field)) ↔ (fault_of g ≡ Some field))
+    → ((field : GeometryField)
+    → ◌≡◌ {A = Result D DriverError} (Ok d) (Err (error.Geometry field)) ↔ (fault_of g ≡ Some field))
     → fault_of g ≡ None
 without_fault g d h = none_by (fault_of g) (λ field k. let never = (h field).1 k in absurd (cc))
 
 -- or why there is none
 pub without : {D : Type 0} (g : DriverGeometry) (e : DriverError) (end : RunEnd)
-    → ((field : GeometryField) → ◌≡◌ {A = Result D DriverError} (Err e) (Err (error.Geometry field)) ↔ (fault_of g ≡ Some field))
+    → ((field : GeometryField)
+    → ◌≡◌ {A = Result D DriverError} (Err e) (Err (error.Geometry field)) ↔ (fault_of g ≡ Some field))
     → ◌≢◌ {A = Result D DriverError} (Err e) (Err error.NoReady) → Gives e end → end ≡ end_without (fault_of g)
 without g (error.Geometry field) end h ready gives = gives.0 field refl ∙ ap end_without (sym ((h field).0 refl))
 without g error.Memory end h ready gives =
@@ -201,7 +227,8 @@ runs_headline g reads end old new (inr h) =
 geometry_without : (o : Option GeometryField) (field : GeometryField)
     → (end_without o ≡ Geometry field) ↔ (o ≡ Some field)
 geometry_without None field = (λ e. absurd (cc), λ e. absurd (cc))
-geometry_without (Some f) field = (λ e. let same : f ≡ field = cc in ap Some same, λ e. let same : f ≡ field = cc in ap Geometry same)
+geometry_without (Some f) field =
+    (λ e. let same : f ≡ field = cc in ap Some same, λ e. let same : f ≡ field = cc in ap Geometry same)
 
 geometry_with : (e : SessionEnd) (field : GeometryField) → end_with e ≢ Geometry field
 geometry_with (ended.Status status) field h = cc
@@ -279,7 +306,11 @@ pub record IsWell (reads : ℕ) (now : RunState) : Type 0 where
 pub fresh_well : (reads : ℕ) (now : RunState) → IsFresh now.script → 0 < reads → now.out.has_failed ≡ false
     → now.messages.has_failed ≡ false → IsWell reads now
 fresh_well reads now fresh some out messages =
-    record { stopped = stays now.script.has_failed now.script.calls fresh.not_failed fresh.no_call; out = out; messages = messages }
+    record {
+      stopped = stays now.script.has_failed now.script.calls fresh.not_failed fresh.no_call;
+      out = out;
+      messages = messages;
+    }
   where
     stays : (failed : Bool) (calls : ℕ) → failed ≡ false → calls ≡ 0 → (failed || calls == reads) ≡ false
     stays failed calls well none = grind (arith, nat_tests, well, none, some)
@@ -307,7 +338,8 @@ faults g reads end old new well (inr h) =
     subst (λ x. AreFaults reads x new) (sym h.2.1) (faults_with reads h.2.0 new h.2.2.end_of)
 
 -- all that a run promises follows from how it ends
-pub is_run : (g : DriverGeometry) (reads : ℕ) (end : RunEnd) (old new : RunState) → IsWell reads old → Runs g reads end old new
+pub is_run : (g : DriverGeometry) (reads : ℕ) (end : RunEnd) (old new : RunState) → IsWell reads old
+    → Runs g reads end old new
     → IsRun g reads end old new
 is_run g reads end old new well h = record {
   headline = runs_headline g reads end old new h;

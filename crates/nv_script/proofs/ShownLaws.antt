@@ -202,7 +202,8 @@ module _ (s : State) (serials : List ℕ) (c : ℕ) (l : Listing) where
 
 abbrev AreListed : List Order → State → List ℕ → Listing → Type 0
 AreListed orders s serials l = (outcome_of s serials orders).refusal ≡ None
-    → places_in (listing_of l orders (map Ok (outcome_of s serials orders).replies)) ≡ places_in l ++ flat_map order_place orders
+    → places_in (listing_of l orders (map Ok (outcome_of s serials orders).replies))
+    ≡ places_in l ++ flat_map order_place orders
 
 module _ (s : State) (serials : List ℕ) (o : Order) (os : List Order) (l : Listing) where
   abbrev x : Exchange

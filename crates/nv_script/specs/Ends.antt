@@ -30,7 +30,7 @@ pub record RunState : Type 0 where
 abbrev pub run_state : BusValue → SourceState → SinkState → SinkState → RunState
 run_state b script out messages = record {
   subsystem = b.state;
-  enabled = enabled_in b.ports;
+  enabled = enabled_in b.banks;
   script = script;
   out = out;
   messages = messages;

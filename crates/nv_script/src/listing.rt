@@ -147,7 +147,7 @@ fn list_batch<B: Bus>(
     listing: &mut Listing,
 ) -> Result<(), Stop>
     requires linked { IsLinked (B.meaning bus.old) driver.old }
-    requires controller { ctrl < length driver.old.lanes }
+    requires controller { ctrl < length driver.old.pairs }
     requires some { 0 < length nsids.now }
     requires most { length nsids.now ≤ BATCH }
     ensures left { (w : Standing)
@@ -155,7 +155,7 @@ fn list_batch<B: Bus>(
         → ListLeaves result w (namespace_orders ctrl nsids.now)
         (B.meaning bus.new).state (serials_of driver.new) listing.new }
     ensures linked { IsLinked (B.meaning bus.new) driver.new }
-    ensures lanes { length driver.new.lanes ≡ length driver.old.lanes }
+    ensures pairs { length driver.new.pairs ≡ length driver.old.pairs }
 {
     let count = nsids.len();
     let commands = commands_for(nsids);
@@ -173,13 +173,13 @@ fn list_namespaces<B: Bus>(
     listing: &mut Listing,
 ) -> Result<(), Stop>
     requires linked { IsLinked (B.meaning bus.old) driver.old }
-    requires controller { ctrl < length driver.old.lanes }
+    requires controller { ctrl < length driver.old.pairs }
     ensures left { (w : Standing)
         → IsListed w (B.meaning bus.old).state (serials_of driver.old) listing.old
         → ListLeaves result w (namespace_orders ctrl nsids.now)
         (B.meaning bus.new).state (serials_of driver.new) listing.new }
     ensures linked { IsLinked (B.meaning bus.new) driver.new }
-    ensures lanes { length driver.new.lanes ≡ length driver.old.lanes }
+    ensures pairs { length driver.new.pairs ≡ length driver.old.pairs }
 {
     let mut rest = nsids;
     while !rest.is_empty() {
@@ -200,13 +200,13 @@ fn list_controller<B: Bus>(
     listing: &mut Listing,
 ) -> Result<(), Stop>
     requires linked { IsLinked (B.meaning bus.old) driver.old }
-    requires controller { ctrl < length driver.old.lanes }
+    requires controller { ctrl < length driver.old.pairs }
     ensures left { (w : Standing)
         → IsListed w (B.meaning bus.old).state (serials_of driver.old) listing.old
         → ListLeaves result w (orders_of_controller w.state ctrl)
         (B.meaning bus.new).state (serials_of driver.new) listing.new }
     ensures linked { IsLinked (B.meaning bus.new) driver.new }
-    ensures lanes { length driver.new.lanes ≡ length driver.old.lanes }
+    ensures pairs { length driver.new.pairs ≡ length driver.old.pairs }
 {
     let Answers {
         first,
@@ -231,7 +231,7 @@ pub(crate) fn list<B: Bus>(
         (B.meaning bus.old).state (serials_of driver.old)
         (B.meaning bus.new).state (serials_of driver.new) }
     ensures linked { IsLinked (B.meaning bus.new) driver.new }
-    ensures lanes { length driver.new.lanes ≡ length driver.old.lanes }
+    ensures pairs { length driver.new.pairs ≡ length driver.old.pairs }
 {
     let mut listing = Listing::new(alloc);
     for ctrl in 0..bus.controllers() {

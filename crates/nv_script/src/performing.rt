@@ -55,13 +55,13 @@ fn carry_out<'a, B: Bus>(
     slot: &'a mut AnswerSlot,
 ) -> Answer<'a>
     requires linked { IsLinked (B.meaning bus.old) driver.old }
-    requires controller { ctrl < length driver.old.lanes }
+    requires controller { ctrl < length driver.old.pairs }
     requires doable { IsDoable act.now }
     ensures left { OrderLeaves result (record { controller = ctrl; act = act.now })
         (B.meaning bus.old).state (serials_of driver.old)
         (B.meaning bus.new).state (serials_of driver.new) }
     ensures linked { IsLinked (B.meaning bus.new) driver.new }
-    ensures lanes { length driver.new.lanes ≡ length driver.old.lanes }
+    ensures pairs { length driver.new.pairs ≡ length driver.old.pairs }
 {
     match act {
         Act::Send(command) => {
@@ -84,13 +84,13 @@ fn begin<'a, B: Bus>(
     slot: &'a mut AnswerSlot,
 ) -> Answer<'a>
     requires linked { IsLinked (B.meaning bus.old) driver.old }
-    requires controller { ctrl < length driver.old.lanes }
+    requires controller { ctrl < length driver.old.pairs }
     requires askable { IsAskable ask.now }
     ensures left { OrderLeaves result (record { controller = ctrl; act = first_act ask.now })
         (B.meaning bus.old).state (serials_of driver.old)
         (B.meaning bus.new).state (serials_of driver.new) }
     ensures linked { IsLinked (B.meaning bus.new) driver.new }
-    ensures lanes { length driver.new.lanes ≡ length driver.old.lanes }
+    ensures pairs { length driver.new.pairs ≡ length driver.old.pairs }
 {
     match ask {
         Ask::Do(act) => carry_out(bus, driver, ctrl, act, slot),
@@ -115,7 +115,7 @@ fn ask_one<'a, B: Bus>(
     question: &Question,
 ) -> Result<Option<Shown<'a>>, Stop>
     requires linked { IsLinked (B.meaning bus.old) driver.old }
-    requires known { IsQuestionKnown (length driver.old.lanes) question.now }
+    requires known { IsQuestionKnown (length driver.old.pairs) question.now }
     ensures left { QueryLeaves result (One question.now)
         (B.meaning bus.old).state (serials_of driver.old)
         (B.meaning bus.new).state (serials_of driver.new) }
@@ -140,7 +140,7 @@ fn ask<'a, B: Bus>(
     query: &Query,
 ) -> Result<Option<Shown<'a>>, Stop>
     requires linked { IsLinked (B.meaning bus.old) driver.old }
-    requires known { IsQueryKnown (length driver.old.lanes) query.now }
+    requires known { IsQueryKnown (length driver.old.pairs) query.now }
     ensures left { QueryLeaves result query.now
         (B.meaning bus.old).state (serials_of driver.old)
         (B.meaning bus.new).state (serials_of driver.new) }
@@ -162,7 +162,7 @@ pub(crate) fn perform<B: Bus>(
     request: &Request,
 ) -> Result<String, Stop>
     requires linked { IsLinked (B.meaning bus.old) driver.old }
-    requires known { IsQueryKnown (length driver.old.lanes) request.now.query }
+    requires known { IsQueryKnown (length driver.old.pairs) request.now.query }
     ensures left { RequestLeaves result request.now
         (B.meaning bus.old).state (serials_of driver.old)
         (B.meaning bus.new).state (serials_of driver.new) }

@@ -56,7 +56,7 @@ impl Session {
     ) -> Result<Session, RunEnd>
         requires bus { IsBus (B.meaning bus.old) }
         ensures state { IfOk result (λ _. (B.meaning bus.new).state
-            ≡ reset_where (enabled_in (B.meaning bus.old).ports) (B.meaning bus.old).state) }
+            ≡ reset_where (enabled_in (B.meaning bus.old).banks) (B.meaning bus.old).state) }
         ensures untouched { OnErr result (B.meaning bus.new ≡ B.meaning bus.old) }
         ensures bus { IsBus (B.meaning bus.new) }
         ensures fault { MatchResult result (λ _. fault_of geometry ≡ None)

@@ -1,5 +1,6 @@
 -- The buffer of a measured transfer: pages 2 to 258 of a memory of 259 pages.
-use Rattle.std.proofs.Common.{◌≡◌, ◌∙◌, ℕ, suc, zero, ◌+◌, ◌*◌, ◌<◌, ◌≤◌, List, ◌∷◌, length, get_or, mul-le-mul_left, mul-le-mul_right, sym, subst, refl, arith}
+use Rattle.std.proofs.Common.{◌≡◌, ◌∙◌, ℕ, suc, zero, ◌+◌, ◌*◌, ◌<◌, ◌≤◌, List, ◌∷◌, length, get_or, mul-le-mul_left}
+use Rattle.std.proofs.Common.{mul-le-mul_right, sym, subst, refl, arith}
 use Rattle.std.specs.Prelude.{replicate}
 use Rattle.std.proofs.lemmas.List.{length-replicate}
 use Rattle.std.proofs.lemmas.List.Elements.{All-from_get_or}
@@ -11,7 +12,8 @@ use Rattle.nv_prp.proofs.BufferLaws.{buffer_kept}
 use Rattle.nv_prp.proofs.PlaceLaws.{get_or-table, length-table}
 
 -- the memory was made of so many pages
-pub made_size : (m : PagedBytes) (size : ℕ) → IsPageSize size → m ≡ record { page_size = size; bytes = replicate (259 * size) 0 }
+pub made_size : (m : PagedBytes) (size : ℕ) → IsPageSize size
+    → m ≡ record { page_size = size; bytes = replicate (259 * size) 0 }
     → (4096 ≤ m.page_size) × (length m.bytes ≡ 259 * m.page_size)
 made_size m size is e = subst (λ (x : PagedBytes). (4096 ≤ x.page_size) × (length x.bytes ≡ 259 * x.page_size)) (sym e)
     ((page_size_bounds size is).0, length-replicate (259 * size) 0)
@@ -22,7 +24,8 @@ has_page bytes size n len below =
     let least : (n + 1) * size ≤ 259 * size = mul-le-mul_right size (omega arith) in
     subst (λ k. (n + 1) * size ≤ k) (sym len) least
 
-pub is_buffer : (bytes : List ℕ) (size : ℕ) (pages : List ℕ) → 4096 ≤ size → length bytes ≡ 259 * size → pages ≡ table 257 (λ k. k + 2) → IsBuffer bytes size pages 4 1048576
+pub is_buffer : (bytes : List ℕ) (size : ℕ) (pages : List ℕ) → 4096 ≤ size → length bytes ≡ 259 * size
+    → pages ≡ table 257 (λ k. k + 2) → IsBuffer bytes size pages 4 1048576
 is_buffer bytes size pages some len e = subst (λ ps. IsBuffer bytes size ps 4 1048576) (sym e) (record {
   below = omega (arith, some);
   aligned = refl;
@@ -32,7 +35,8 @@ is_buffer bytes size pages some len e = subst (λ ps. IsBuffer bytes size ps 4 1
   inside = All-from_get_or (HasPage bytes size) (table 257 (λ k. k + 2)) 0
       (λ i h.
       let below : i < 257 = omega (arith, h, length-table 257 (λ (k : ℕ). k + 2)) in
-      subst (HasPage bytes size) (sym (get_or-table 257 (λ k. k + 2) i 0 below)) (has_page bytes size (i + 2) len (omega arith)));
+      subst (HasPage bytes size) (sym (get_or-table 257 (λ k. k + 2) i 0 below))
+      (has_page bytes size (i + 2) len (omega arith)));
 })
 
 pub is_list_place : (bytes : List ℕ) (size : ℕ) → 4096 ≤ size → length bytes ≡ 259 * size → IsListPlace bytes size 0 1 0
@@ -56,7 +60,8 @@ are_distinct n pages e = subst (λ ps. AreDistinct (0 ∷ 1 ∷ ps)) (sym e) (λ
     omega (arith, one, before))
 
 -- a buffer stays one while the memory keeps its size
-pub buffer_stays : {old_size new_size start len : ℕ} {old new pages : List ℕ} → length new ≡ length old → new_size ≡ old_size
+pub buffer_stays : {old_size new_size start len : ℕ} {old new pages : List ℕ} → length new ≡ length old
+    → new_size ≡ old_size
     → IsBuffer old old_size pages start len → IsBuffer new new_size pages start len
 buffer_stays {start = start} {len = len} {new = new} {pages = pages} same_len same_size h =
     subst (λ size. IsBuffer new size pages start len) (sym same_size) (buffer_kept _ new _ pages start len same_len h)

@@ -1,5 +1,6 @@
 -- A loop over controllers that changes what is attached to each.
-use Rattle.std.proofs.Common.{◌≡◌, ◌∙◌, ℕ, ◌+◌, ◌<◌, ◌++◌, Bool, true, false, List, length, map, take, drop, set, get_or, refl, add-one}
+use Rattle.std.proofs.Common.{◌≡◌, ◌∙◌, ℕ, ◌+◌, ◌<◌, ◌++◌, Bool, true, false, List, length, map, take, drop, set}
+use Rattle.std.proofs.Common.{get_or, refl, add-one}
 use Rattle.std.specs.Prelude.{All, if◌then◌else◌}
 use Rattle.std.proofs.lemmas.List.Elements.{All-set}
 use Rattle.nv_subsystem.specs.ControllerView.{controller_view}

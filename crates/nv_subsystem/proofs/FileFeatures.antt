@@ -1,5 +1,6 @@
 -- The rules and the values of features that a file gives.
-use Rattle.std.proofs.Common.{◌≡◌, ◌∙◌, ℕ, zero, suc, ◌==◌, ◌&&◌, ◌||◌, Bool, true, false, not, cond, List, [], ◌∷◌, Some, is_some, refl, sym, ap, subst, arith}
+use Rattle.std.proofs.Common.{◌≡◌, ◌∙◌, ℕ, zero, suc, ◌==◌, ◌&&◌, ◌||◌, Bool, true, false, not, cond, List, [], ◌∷◌}
+use Rattle.std.proofs.Common.{Some, is_some, refl, sym, ap, subst, arith}
 use Rattle.std.specs.Prelude.{All, find, map, if◌then◌else◌}
 use Rattle.std.specs.List.{fold, list_any}
 use Rattle.std.specs.Ordering.{nat_cmp}
@@ -19,7 +20,8 @@ use Rattle.nv_model.specs.declared.feature_rule.FeatureRule.{FeatureRule}
 use Rattle.nv_model.specs.Change.{changed}
 use Rattle.nv_model.proofs.FeatureLaws.{AreSound, first_is_sound, has_inserted, sound-insert, values-with}
 use Rattle.nv_model.specs.FeatureRules.{FeatureRules, first_value}
-use Rattle.nv_subsystem.specs.FromFile.{defaults_of, fill, rules_of, with_attachment, with_default, with_recovery, with_rule}
+use Rattle.nv_subsystem.specs.FromFile.{defaults_of, fill, rules_of, with_attachment, with_default, with_recovery}
+use Rattle.nv_subsystem.specs.FromFile.{with_rule}
 use Rattle.nv_model.specs.State.{Nsids}
 use Rattle.nv_model.specs.Supported.{is_supported}
 use Rattle.nv_model.specs.ValueKey.{FeatureValues, ValueKey, key_cmp, key_of, recovery_key}

@@ -1,5 +1,6 @@
 -- The numbers of a map above one, listed one by one.
-use Rattle.std.proofs.Common.{append_assoc, append-nil, ◌≡◌, ◌∙◌, ℕ, ◌+◌, ◌≤◌, ap, sym, refl, arith, List, [], ◌∷◌, ◌++◌, length, nat_lt}
+use Rattle.std.proofs.Common.{append_assoc, append-nil, ◌≡◌, ◌∙◌, ℕ, ◌+◌, ◌≤◌, ap, sym, refl, arith, List, [], ◌∷◌}
+use Rattle.std.proofs.Common.{◌++◌, length, nat_lt}
 use Rattle.std.specs.FinMap as map_of
 use Rattle.std.specs.FinMap.{len-entries}
 use Rattle.std.proofs.lemmas.List.{length-append, length-map}

@@ -10,7 +10,7 @@ ghost use Rattle.nv_model.specs.Identify.{lbafs_of, list_rows};
 ghost use Rattle.nv_model.specs.Nsid.{is_active};
 ghost use Rattle.nv_model.specs.Row.{Checks};
 
-use crate::listing::{allocated_above, attached_above};
+use crate::nsid_lists::{allocated_above, attached_above};
 use crate::row::refuse_if;
 use crate::subsystem::Subsystem;
 use nv_command::{BROADCAST_NSID, Refusal, Reply, StatusCode};

@@ -1,7 +1,7 @@
 //! A subsystem, and what its commands do.
 
 ghost use Rattle.std.specs.Prelude.{◌≡◌, ◌<◌, ◌≤◌, ◌^◌, ℕ, length, option_map, None, IfOk, IfErr};
-ghost use Rattle.nv_model.specs.Entry.{counts_of, log_entry_of};
+ghost use Rattle.nv_model.specs.LogEntry.{counts_of, log_entry_of};
 ghost use Rattle.nv_layout.specs.ErrorEntry.{without_phase};
 ghost use Rattle.nv_command.specs.Logs.{without_phases};
 ghost use Rattle.nv_file.specs.Fault.{IsUnlessMemory};

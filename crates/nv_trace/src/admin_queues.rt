@@ -23,7 +23,7 @@ pub(crate) struct AdminQueues {
 
 /// The address in a register of two dwords.
 fn address<B: Bus>(bus: &B, ctrl: u16, low: u32, high: u32) -> u64
-    requires { ctrl < length (B.meaning bus.now).ports }
+    requires { ctrl < length (B.meaning bus.now).banks }
 {
     let low = u64::from(bus.read32(ctrl, low));
     let high = u64::from(bus.read32(ctrl, high));
@@ -38,7 +38,7 @@ fn place(base: u64, less_one: u16, number: u64, size: u64) -> u64 {
 
 impl AdminQueues {
     pub(crate) fn of<B: Bus>(bus: &B, ctrl: u16) -> AdminQueues
-        requires { ctrl < length (B.meaning bus.now).ports }
+        requires { ctrl < length (B.meaning bus.now).banks }
     {
         AdminQueues {
             submission: address(bus, ctrl, offset::ASQ_LOW, offset::ASQ_HIGH),

@@ -25,7 +25,7 @@ pub(crate) struct Trace<S: Sink> {
 
 /// Whether a controller is enabled.
 pub(crate) fn is_enabled<B: Bus>(bus: &B, ctrl: u16) -> bool
-    requires { ctrl < length (B.meaning bus.now).ports }
+    requires { ctrl < length (B.meaning bus.now).banks }
 {
     ControllerConfiguration::of(bus.read32(ctrl, offset::CC)).en
 }
@@ -74,7 +74,7 @@ impl<S: Sink> Trace<S> {
 
     /// Says each entry that a turn took, and its completion.
     pub(crate) fn turned<B: Bus, M: HostMemory>(&mut self, bus: &B, ctrl: u16, mem: &M, count: u16)
-        requires { ctrl < length (B.meaning bus.now).ports }
+        requires { ctrl < length (B.meaning bus.now).banks }
     {
         let Some(taken) = self.taken.get_mut(usize::from(ctrl)) else {
             return;

@@ -31,17 +31,17 @@ returns-clause-ready g c =
     let i = c.loop-batch.invariant in
     let t = c.tell.ensures in
     let enough : length c.args.commands.now ≤ c.loop-batch.batch.collected = omega (arith, c.loop-batch-test.false) in
-    let told = tells_on i.under_way i.bus refl t.lane t.state t.bus t.told t.silent in
+    let told = tells_on i.under_way i.bus refl t.pair t.state t.bus t.told t.silent in
     (ends_all run told.0 told.1 (all_collected run i.under_way enough).0 refl).ready
 
-pub returns-clause-ports : goal.returns-clause-ports
-returns-clause-ports g c =
+pub returns-clause-banks : goal.returns-clause-banks
+returns-clause-banks g c =
     let run = c.requires.1.1.0 in
     let i = c.loop-batch.invariant in
     let t = c.tell.ensures in
     let enough : length c.args.commands.now ≤ c.loop-batch.batch.collected = omega (arith, c.loop-batch-test.false) in
-    let told = tells_on i.under_way i.bus refl t.lane t.state t.bus t.told t.silent in
-    (ends_all run told.0 told.1 (all_collected run i.under_way enough).0 refl).ports
+    let told = tells_on i.under_way i.bus refl t.pair t.state t.bus t.told t.silent in
+    (ends_all run told.0 told.1 (all_collected run i.under_way enough).0 refl).banks
 
 pub returns-clause-others : goal.returns-clause-others
 returns-clause-others g c =
@@ -49,5 +49,5 @@ returns-clause-others g c =
     let i = c.loop-batch.invariant in
     let t = c.tell.ensures in
     let enough : length c.args.commands.now ≤ c.loop-batch.batch.collected = omega (arith, c.loop-batch-test.false) in
-    let told = tells_on i.under_way i.bus refl t.lane t.state t.bus t.told t.silent in
+    let told = tells_on i.under_way i.bus refl t.pair t.state t.bus t.told t.silent in
     (ends_all run told.0 told.1 (all_collected run i.under_way enough).0 refl).others

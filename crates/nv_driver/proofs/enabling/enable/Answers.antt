@@ -1,16 +1,16 @@
-use Rattle.nv_driver.proofs.RegisterLaws.{enabled_ports}
+use Rattle.nv_driver.proofs.RegisterLaws.{enabled_banks}
 use Rattle.nv_driver.proofs.ZeroLaws.{zeroed_length, zeroed_others}
 use Rattle.nv_driver.proofs.enabling.enable.Goals as goal
 
-pub returns-clause-ports : goal.returns-clause-ports
-returns-clause-ports g c =
-    enabled_ports _ _ _ _ c.args.ctrl c.args.geometry _ c.requires.ctrl
-    c.disable.ensures.ports
-    (rw (c.place-place.ensures.sq, c.place-place.ensures.cq) at c.set_queues.ensures.ports)
-    c.start.ensures.ports
+pub returns-clause-banks : goal.returns-clause-banks
+returns-clause-banks g c =
+    enabled_banks _ _ _ _ c.args.ctrl c.args.geometry _ c.requires.ctrl
+    c.disable.ensures.banks
+    (rw (c.place-place.ensures.sq, c.place-place.ensures.cq) at c.set_queues.ensures.banks)
+    c.start.ensures.banks
 
 pub returns-clause-others : goal.returns-clause-others
-returns-clause-others g c = zeroed_others _ _ c.requires.quiet c.requires.lane c.requires.laid c.zero.ensures.bytes
+returns-clause-others g c = zeroed_others _ _ c.requires.quiet c.requires.pair c.requires.laid c.zero.ensures.bytes
 
 pub returns-clause-len : goal.returns-clause-len
-returns-clause-len g c = zeroed_length _ _ c.requires.quiet c.requires.lane c.requires.laid c.zero.ensures.bytes
+returns-clause-len g c = zeroed_length _ _ c.requires.quiet c.requires.pair c.requires.laid c.zero.ensures.bytes

@@ -1,9 +1,9 @@
 use Rattle.std.proofs.Common.{◌≡◌, ℕ, ◌<◌, ◌≤◌, length}
 use Rattle.nv_queue.specs.Slots.{HoldsTags}
 use Rattle.nv_model.proofs.ResetLaws.{reset_first}
-use Rattle.nv_bus.specs.Bus.{IsBus, enabled_in, port_at}
-use Rattle.nv_driver.specs.Lane.{idle_port}
-use Rattle.nv_driver.specs.Layout.{lane_of}
+use Rattle.nv_bus.specs.Bus.{IsBus, enabled_in, bank_at}
+use Rattle.nv_driver.specs.QueuePair.{idle_bank}
+use Rattle.nv_driver.specs.Layout.{pair_of}
 use Rattle.nv_driver.specs.Registers.{mps_of}
 use Rattle.nv_driver.proofs.enabling.enable_all.Given as goal
 
@@ -12,12 +12,12 @@ abbrev pub invariant-loop-ctrl : goal.invariant-loop-ctrl
 invariant-loop-ctrl g l = record {
   bus : IsBus (g.B.Bus.meaning l.bus);
   state : (g.B.Bus.meaning l.bus).state
-      ≡ reset_first (enabled_in (g.B.Bus.meaning l.fn.bus).ports) l.ctrl (g.B.Bus.meaning l.fn.bus).state;
-  len : length (g.B.Bus.meaning l.bus).ports ≡ length (g.B.Bus.meaning l.fn.bus).ports;
-  below : (k : ℕ) → k < l.ctrl → port_at (g.B.Bus.meaning l.bus).ports k
-      ≡ idle_port (mps_of l.geometry.page_size) l.geometry.page_size (lane_of l.geometry k);
-  above : (k : ℕ) → l.ctrl ≤ k → port_at (g.B.Bus.meaning l.bus).ports k ≡ port_at (g.B.Bus.meaning l.fn.bus).ports k;
-  tags : (k : ℕ) → k < l.ctrl → HoldsTags (g.M.HostMemory.bytes l.mem) (lane_of l.geometry k).cq l.geometry.depth 0;
+      ≡ reset_first (enabled_in (g.B.Bus.meaning l.fn.bus).banks) l.ctrl (g.B.Bus.meaning l.fn.bus).state;
+  len : length (g.B.Bus.meaning l.bus).banks ≡ length (g.B.Bus.meaning l.fn.bus).banks;
+  below : (k : ℕ) → k < l.ctrl → bank_at (g.B.Bus.meaning l.bus).banks k
+      ≡ idle_bank (mps_of l.geometry.page_size) l.geometry.page_size (pair_of l.geometry k);
+  above : (k : ℕ) → l.ctrl ≤ k → bank_at (g.B.Bus.meaning l.bus).banks k ≡ bank_at (g.B.Bus.meaning l.fn.bus).banks k;
+  tags : (k : ℕ) → k < l.ctrl → HoldsTags (g.M.HostMemory.bytes l.mem) (pair_of l.geometry k).cq l.geometry.depth 0;
   size : length (g.M.HostMemory.bytes l.mem) ≡ length (g.M.HostMemory.bytes l.fn.mem);
   page : g.M.HostMemory.page_len l.mem ≡ g.M.HostMemory.page_len l.fn.mem;
 }

@@ -18,7 +18,7 @@ build_pointer-prp1-requires-clause-buffer g c =
     let t = c.take-pages.ensures in
     let geometry = c.args.geometry in
     let len = c.data_length-len.result in
-    let pages = c.args.lane.now.pages in
+    let pages = c.args.pair.now.pages in
     let bytes = g.M.HostMemory.bytes c.args.mem.now in
     let enough = subst (λ n. geometry.offset + len ≤ n * geometry.page_size)
     (sym t.count) c.page_count.ensures.enough in
@@ -34,7 +34,7 @@ build_pointer-prp1-requires-clause-buffer g c =
 pub build_pointer-prp1-requires-clause-list : goal.build_pointer-prp1-requires-clause-list
 build_pointer-prp1-requires-clause-list g c =
     let t = c.take-pages.ensures in
-    let pages = c.args.lane.now.pages in
+    let pages = c.args.pair.now.pages in
     let bytes = g.M.HostMemory.bytes c.args.mem.now in
     list_of c.args.geometry pages c.take-pages.result bytes _ c.requires.geometry c.requires.page
     (record {
@@ -47,7 +47,7 @@ build_pointer-prp1-requires-clause-list g c =
 pub build_pointer-prp1-requires-clause-distinct : goal.build_pointer-prp1-requires-clause-distinct
 build_pointer-prp1-requires-clause-distinct g c =
     let t = c.take-pages.ensures in
-    distinct_of c.args.lane.now.pages c.take-pages.result t.seven t.taken
+    distinct_of c.args.pair.now.pages c.take-pages.result t.seven t.taken
 
 pub write_data-requires-clause-buffer : goal.write_data-requires-clause-buffer
 write_data-requires-clause-buffer g c =
@@ -55,19 +55,19 @@ write_data-requires-clause-buffer g c =
     let b = c.build_pointer-prp1.ensures in
     let geometry = c.args.geometry in
     let len = c.data_length-len.result in
-    let lane = c.args.lane.now in
+    let pair = c.args.pair.now in
     let pages = c.take-pages.result in
     let built = g.M.HostMemory.bytes c.build_pointer-prp1.new.mem in
     let enough = subst (λ n. geometry.offset + len ≤ n * geometry.page_size)
     (sym t.count) c.page_count.ensures.enough in
     buffer_as (sym (b.page ∙ c.requires.page)) (sym c.buffer.ensures.pages) (sym c.buffer.ensures.offset)
     c.data_length-len.ensures.length
-    (buffer_of geometry lane.pages pages built geometry.page_size len c.requires.geometry refl
+    (buffer_of geometry pair.pages pages built geometry.page_size len c.requires.geometry refl
     (record {
       seven = t.seven;
       few = omega (arith, t.count, c.page_count.ensures.five);
       taken = t.taken;
-      inside = subst (λ n. (lane.pages.first + lane.pages.count) * geometry.page_size ≤ n)
+      inside = subst (λ n. (pair.pages.first + pair.pages.count) * geometry.page_size ≤ n)
           (sym b.len) c.requires.inside;
     })
     enough)
@@ -79,10 +79,10 @@ returns-clause-submitted g c =
     let pages = c.take-pages.result in
     let pointer = c.build_pointer-prp1.result in
     let ok = c.unwrap-tail.ensures in
-    let lane = c.args.lane.now in
+    let pair = c.args.pair.now in
     let geometry = c.args.geometry in
     let k = c.args.command.now in
-    let x = sent_by geometry k lane.serial pages pointer.0 pointer.1 in
+    let x = sent_by geometry k pair.serial pages pointer.0 pointer.1 in
     let before = g.M.HostMemory.bytes c.args.mem.now in
     let built = g.M.HostMemory.bytes c.build_pointer-prp1.new.mem in
     let ready = g.M.HostMemory.bytes c.write_data.new.mem in
@@ -92,7 +92,7 @@ returns-clause-submitted g c =
     let enough = subst (λ n. geometry.offset + n ≤ pages.data_pages * geometry.page_size) len
     (subst (λ n. geometry.offset + c.data_length-len.result ≤ n * geometry.page_size)
     (sym t.count) c.page_count.ensures.enough) in
-    let buffer = buffer_of geometry lane.pages pages before geometry.page_size _ c.requires.geometry refl
+    let buffer = buffer_of geometry pair.pages pages before geometry.page_size _ c.requires.geometry refl
     (record {
       seven = t.seven;
       few = omega (arith, t.count, c.page_count.ensures.five);
@@ -100,7 +100,7 @@ returns-clause-submitted g c =
       inside = c.requires.inside;
     })
     enough in
-    let distinct = distinct_of lane.pages pages t.seven t.taken in
+    let distinct = distinct_of pair.pages pages t.seven t.taken in
     let is_built = built_by geometry x before built _ _ _ c.requires.page b.page len
     (search rules) (search rules) b.stays b.others b.len in
     record {
@@ -118,19 +118,19 @@ returns-clause-submitted g c =
           (places_as (b.page ∙ c.requires.page) c.buffer.ensures.pages c.buffer.ensures.offset refl));
       pointer = λ none. b.none (len ∙ none);
       mem = on_ok c.push.result c.unwrap-tail.result ok c.push.ensures.bytes
-          ∙ ap (λ (e : Sqe). with_submission ready lane.submission (with_pointer e pointer.0 pointer.1))
+          ∙ ap (λ (e : Sqe). with_submission ready pair.submission (with_pointer e pointer.0 pointer.1))
           c.entry-entry.ensures.entry;
-      lane = ap (λ (r : SubmitNumbers). record lane {
+      pair = ap (λ (r : SubmitNumbers). record pair {
         submission = r;
-        serial = (lane.serial + 1) % 65535;
+        serial = (pair.serial + 1) % 65535;
         pages = c.take-pages.new.free;
       })
           (on_ok c.push.result c.unwrap-tail.result ok c.push.ensures.submitted)
-          ∙ ap (λ (s : Pages). record lane {
-            submission = submitted_one lane.submission;
-            serial = (lane.serial + 1) % 65535;
+          ∙ ap (λ (s : Pages). record pair {
+            submission = submitted_one pair.submission;
+            serial = (pair.serial + 1) % 65535;
             pages = s;
           }) t.set;
-      free = subst (λ n. set.len c.take-pages.new.free.members + (n + 2) ≡ set.len lane.pages.members)
+      free = subst (λ n. set.len c.take-pages.new.free.members + (n + 2) ≡ set.len pair.pages.members)
           (sym t.count) t.len;
     }

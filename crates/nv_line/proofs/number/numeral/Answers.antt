@@ -2,7 +2,8 @@ use Rattle.std.proofs.Common.{◌<◌, arith, get_or}
 use Rattle.std.proofs.lemmas.Grind.{common_steps}
 use Rattle.std.proofs.lemmas.Str.{lead_after_ascii}
 use Rattle.nv_line.proofs.number.numeral.Goals as goal
-use Rattle.nv_line.proofs.number.numeral.Goals.{then-bytes-eq120-via-then-bytes-eq120, then-bytes-eq120-via-else-bytes-eq120+then-bytes-eq88}
+use Rattle.nv_line.proofs.number.numeral.Goals.{then-bytes-eq120-via-then-bytes-eq120}
+use Rattle.nv_line.proofs.number.numeral.Goals.{then-bytes-eq120-via-else-bytes-eq120+then-bytes-eq88}
 
 pub range_from-requires : goal.range_from-requires
 range_from-requires c =

@@ -15,8 +15,10 @@ pub loop-device-preserved : goal.loop-device-preserved
 loop-device-preserved g c =
     let object : Device → Data = λ d. object_of (fields_of_device d) in
     let i = c.loop-device.device-index in (
-      each_next object c.args.devices.now i _ _ _ _ (search rules) c.loop-device.invariant.0 c.in_ok-send_device.ensures.value,
-      items_next_length object 511 c.args.devices.now i _ (search rules) c.in_ok-send_device.ensures.bound c.loop-device.invariant.1,
+      each_next object c.args.devices.now i _ _ _ _
+          (search rules) c.loop-device.invariant.0 c.in_ok-send_device.ensures.value,
+      items_next_length object 511 c.args.devices.now i _
+          (search rules) c.in_ok-send_device.ensures.bound c.loop-device.invariant.1,
     )
 
 pub returns-clause-value : goal.returns-clause-value
@@ -29,7 +31,8 @@ returns-clause-value g c =
     c.in_ok-begin_seq.ensures c.loop-device.invariant.0 c.in_ok-end_seq.ensures in
     let all : Data = array (items_of (map object devices)) in
     on_ok_weaker c.end_map.result
-    (λ ended. lone_member_sent (codes "devices") all _ _ _ _ c.in_ok-begin_map.ensures (named, c.in_ok-key.ensures, list) ended)
+    (λ ended. lone_member_sent (codes "devices") all _ _ _ _ c.in_ok-begin_map.ensures
+    (named, c.in_ok-key.ensures, list) ended)
     c.end_map.ensures
 
 pub returns-clause-bound : goal.returns-clause-bound
@@ -38,5 +41,9 @@ returns-clause-bound g c =
     let devices = c.args.devices.now in
     let i = c.loop-device.device-index in
     let past : length devices ≤ i = search rules in
-    let short = subst (λ (ds : List Device). length (items_text false (items_of (map object ds))) ≤ 1 + 512 * i) (take_all i devices past) c.loop-device.invariant.1 in
-    on_ok_weaker c.end_map.result (λ ended. omega (arith, one_list_length (codes "devices") (1 + 512 * i) (map object devices) short)) c.end_map.ensures
+    let short =
+    subst (λ (ds : List Device). length (items_text false (items_of (map object ds))) ≤ 1 + 512 * i)
+    (take_all i devices past) c.loop-device.invariant.1 in
+    on_ok_weaker c.end_map.result
+    (λ ended. omega
+    (arith, one_list_length (codes "devices") (1 + 512 * i) (map object devices) short)) c.end_map.ensures

@@ -9,5 +9,7 @@ use Rattle.nv_print.proofs.devices.send_devices.Given as goal
 
 abbrev pub invariant-loop-device : goal.invariant-loop-device
 invariant-loop-device g l =
-    WritesEach SendsValue (map (λ d. object_of (fields_of_device d)) (take l.device-index l.devices)) (g.S.Serializer.written l.initial.out) (g.S.Serializer.written l.out)
-    × (length (items_text false (items_of (map (λ d. object_of (fields_of_device d)) (take l.device-index l.devices)))) ≤ 1 + 512 * l.device-index)
+    WritesEach SendsValue (map (λ d. object_of (fields_of_device d)) (take l.device-index l.devices))
+    (g.S.Serializer.written l.initial.out) (g.S.Serializer.written l.out)
+    × (length (items_text false (items_of (map (λ d. object_of (fields_of_device d)) (take l.device-index l.devices))))
+    ≤ 1 + 512 * l.device-index)

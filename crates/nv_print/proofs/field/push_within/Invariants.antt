@@ -4,4 +4,5 @@ use Rattle.nv_print.specs.IdNs.{field_within}
 use Rattle.nv_print.proofs.field.push_within.Given as goal
 
 abbrev pub invariant-loop-field : goal.invariant-loop-field
-invariant-loop-field l = string_bytes l.text ≡ string_bytes l.fn.text ++ flat_map field_within (take l.field-index l.fields)
+invariant-loop-field l =
+    string_bytes l.text ≡ string_bytes l.fn.text ++ flat_map field_within (take l.field-index l.fields)

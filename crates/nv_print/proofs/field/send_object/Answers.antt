@@ -14,5 +14,7 @@ pub returns : goal.returns
 returns g c =
     let old = g.S.Serializer.written c.args.out.now in
     on_ok_weaker c.end_map.result
-    (λ ended. subst (λ (ms : Members). SendsValue (object ms) old (g.S.Serializer.written c.end_map.new.self)) (sym c.requires.1)
-    (object_sent (picked c.args.fields.now c.args.order.now) (length c.args.order.now) old _ _ _ (search (rules, length-map)) c.in_ok-begin_map.ensures c.in_ok-send_fields.ensures ended)) c.end_map.ensures
+    (λ ended. subst (λ (ms : Members). SendsValue (object ms) old (g.S.Serializer.written c.end_map.new.self))
+    (sym c.requires.1)
+    (object_sent (picked c.args.fields.now c.args.order.now) (length c.args.order.now) old _ _ _
+    (search (rules, length-map)) c.in_ok-begin_map.ensures c.in_ok-send_fields.ensures ended)) c.end_map.ensures

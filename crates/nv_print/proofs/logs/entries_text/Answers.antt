@@ -11,4 +11,5 @@ loop-index-preserved c =
     c.in_ok-push_entry.ensures
     ∙ ap (λ e. string_bytes c.loop-index.text ++ entry_text i e) c.get.ensures
     ∙ ap (λ t. t ++ entry_text i (get_or entries i no_entry)) c.loop-index.invariant
-    ∙ sym (lines_of_next entry_text entries i no_entry (subst (λ n. i < n) c.len-index-end.ensures.count c.loop-index-test.true))
+    ∙ sym (lines_of_next entry_text entries i no_entry
+    (subst (λ n. i < n) c.len-index-end.ensures.count c.loop-index-test.true))

@@ -22,10 +22,14 @@ loop-index-preserved g c =
     let old = g.S.Serializer.written c.begin_seq.new.self in
     let mid = g.S.Serializer.written c.loop-index.out in
     let new = g.S.Serializer.written c.send_error.new.out in
-    let this = subst (λ (e : ErrorEntry). WritesEach SendsValue (if holds_error e then object e ∷ [] else []) mid new) c.get.ensures c.in_ok-send_error.ensures in
+    let this =
+    subst (λ (e : ErrorEntry). WritesEach SendsValue
+    (if holds_error e then object e ∷ [] else []) mid new) c.get.ensures c.in_ok-send_error.ensures in
     let within : i < length entries = subst (λ n. i < n) c.len-index-end.ensures.count c.loop-index-test.true in
-    subst (λ (ds : List Data). WritesEach SendsValue ds old new) (chosen_next holds_error object entries i no_entry within)
-    (each_append SendsValue (map object (filter holds_error (take i entries))) _ old mid new c.loop-index.invariant this)
+    subst (λ (ds : List Data). WritesEach SendsValue ds old new)
+    (chosen_next holds_error object entries i no_entry within)
+    (each_append SendsValue
+    (map object (filter holds_error (take i entries))) _ old mid new c.loop-index.invariant this)
 
 pub returns : goal.returns
 returns g c =
@@ -37,10 +41,15 @@ returns g c =
     let first = g.S.Serializer.written c.begin_seq.new.self in
     let last = g.S.Serializer.written c.loop-index.out in
     let past : length entries ≤ i = subst (λ n. n ≤ i) c.len-index-end.ensures.count c.loop-index-test.false in
-    let each = subst (λ (es : List ErrorEntry). WritesEach SendsValue (map object (filter holds_error es)) first last) (take_all i entries past) c.loop-index.invariant in
+    let each =
+    subst (λ (es : List ErrorEntry). WritesEach SendsValue (map object (filter holds_error es)) first last)
+    (take_all i entries past) c.loop-index.invariant in
     let count = c.errors_count.ensures ∙ sym (length-map errors object) in
-    let list = array_sent (map object errors) c.errors_count.result named first last _ count c.in_ok-begin_seq.ensures each c.in_ok-end_seq.ensures in
+    let list =
+    array_sent
+    (map object errors) c.errors_count.result named first last _ count c.in_ok-begin_seq.ensures each c.in_ok-end_seq.ensures in
     let all : Data = array (items_of (map object errors)) in
     on_ok_weaker c.end_map.result
-    (λ ended. lone_member_sent (codes "errors") all _ _ _ _ c.in_ok-begin_map.ensures (named, c.in_ok-key.ensures, list) ended)
+    (λ ended. lone_member_sent (codes "errors") all _ _ _ _ c.in_ok-begin_map.ensures
+    (named, c.in_ok-key.ensures, list) ended)
     c.end_map.ensures

@@ -8,4 +8,5 @@ use Rattle.nv_print.proofs.logs.send_entries.Given as goal
 
 abbrev pub invariant-loop-index : goal.invariant-loop-index
 invariant-loop-index g l =
-    WritesEach SendsValue (map (λ e. object_of (fields_of_entry e)) (filter holds_error (take l.index l.entries))) (g.S.Serializer.written l.initial.out) (g.S.Serializer.written l.out)
+    WritesEach SendsValue (map (λ e. object_of (fields_of_entry e)) (filter holds_error (take l.index l.entries)))
+    (g.S.Serializer.written l.initial.out) (g.S.Serializer.written l.out)

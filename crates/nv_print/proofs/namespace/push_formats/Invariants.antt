@@ -4,4 +4,5 @@ use Rattle.nv_print.specs.Padding.{lines_of}
 use Rattle.nv_print.proofs.namespace.push_formats.Given as goal
 
 abbrev pub invariant-loop-index : goal.invariant-loop-index
-invariant-loop-index l = string_bytes l.text ≡ string_bytes l.fn.text ++ lines_of (lbaf_line l.in_use) 0 (take l.index l.formats)
+invariant-loop-index l =
+    string_bytes l.text ≡ string_bytes l.fn.text ++ lines_of (lbaf_line l.in_use) 0 (take l.index l.formats)

@@ -25,9 +25,17 @@ returns g c =
     let named = g.S.Serializer.written c.key.new.self in
     let after_list = g.S.Serializer.written c.send_formats.new.out in
     let last = g.S.Serializer.written c.send_fields-2.new.out in
-    let some = subst (λ (fs : List Field). WritesEach SendsField (picked fs BEFORE_LBAFS) first before_list) c.id_ns_fields-fields.ensures c.in_ok-send_fields.ensures in
-    let others = subst (λ (fs : List Field). WritesEach SendsField (picked fs AFTER_LBAFS) after_list last) c.id_ns_fields-fields.ensures c.in_ok-send_fields-2.ensures in
-    let list = subst (λ (fs : List Lbaf). SendsValue (array (items_of (map (λ f. object_of (fields_of_lbaf f)) fs))) named after_list) c.formats_of.ensures c.in_ok-send_formats.ensures in
+    let some =
+    subst (λ (fs : List Field). WritesEach SendsField
+    (picked fs BEFORE_LBAFS) first before_list) c.id_ns_fields-fields.ensures c.in_ok-send_fields.ensures in
+    let others =
+    subst (λ (fs : List Field). WritesEach SendsField
+    (picked fs AFTER_LBAFS) after_list last) c.id_ns_fields-fields.ensures c.in_ok-send_fields-2.ensures in
+    let list =
+    subst (λ (fs : List Lbaf). SendsValue
+    (array (items_of
+    (map (λ f. object_of
+    (fields_of_lbaf f)) fs))) named after_list) c.formats_of.ensures c.in_ok-send_formats.ensures in
     on_ok_weaker c.end_map.result
     (λ ended. id_ns_sent c.args.namespace.now _ _ first before_list after_list last _
     c.in_ok-begin_map.ensures some (named, c.in_ok-key.ensures, list) others ended)

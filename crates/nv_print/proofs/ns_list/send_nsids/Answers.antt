@@ -11,5 +11,6 @@ returns-clause-value g c =
     let sent = number_list_sent c.args.nsids.now named _ c.in_ok-serialize.ensures in
     let all : Data = array (items_of (map number_data c.args.nsids.now)) in
     on_ok_weaker c.end_map.result
-    (λ ended. lone_member_sent (codes "nsids") all _ _ _ _ c.in_ok-begin_map.ensures (named, c.in_ok-key.ensures, sent) ended)
+    (λ ended. lone_member_sent (codes "nsids") all _ _ _ _ c.in_ok-begin_map.ensures
+    (named, c.in_ok-key.ensures, sent) ended)
     c.end_map.ensures

@@ -8,9 +8,11 @@ pub returns-clause-exact : goal.returns-clause-exact
 returns-clause-exact c =
     let h = c.in-Ok.ensures.events in
     c.in_ok-push.ensures.bytes
-    ∙ ap₂ (λ t e. t ++ e) (text_of_sent c.args.shown.now h.0 (string_bytes c.in-Ok.text) h.1.0 h.2) (c.in_ok-push.ensures.ascii (omega arith))
+    ∙ ap₂ (λ t e. t ++ e) (text_of_sent c.args.shown.now h.0 (string_bytes c.in-Ok.text) h.1.0 h.2)
+    (c.in_ok-push.ensures.ascii (omega arith))
 
 pub returns-clause-bound : goal.returns-clause-bound
 returns-clause-bound c =
     let h = c.in-Ok.ensures.events in
-    rw (returns-clause-exact c) (omega (arith, h.1.1, length-append (compact_text (data_of c.args.shown.now)) (10 ∷ [])))
+    rw (returns-clause-exact c)
+    (omega (arith, h.1.1, length-append (compact_text (data_of c.args.shown.now)) (10 ∷ [])))

@@ -6,11 +6,19 @@ use Rattle.nv_print.proofs.shown.send.Goals as goal
 
 pub returns-in-Controller-clause-bound : goal.returns-in-Controller-clause-bound
 returns-in-Controller-clause-bound g c =
-    on_ok_weaker c.send_id_ctrl.result (λ _. rw c.in-Controller.is (omega (arith, id_ctrl_json c.in-Controller.identity, c.send_id_ctrl.ensures.texts))) c.send_id_ctrl.ensures.value
+    on_ok_weaker c.send_id_ctrl.result
+    (λ _. rw c.in-Controller.is
+    (omega (
+      arith,
+      id_ctrl_json c.in-Controller.identity,
+      c.send_id_ctrl.ensures.texts,
+    ))) c.send_id_ctrl.ensures.value
 
 pub returns-in-Namespace-clause-bound : goal.returns-in-Namespace-clause-bound
 returns-in-Namespace-clause-bound g c =
-    on_ok_weaker c.send_namespace.result (λ _. rw c.in-Namespace.is (omega (arith, namespace_json_length c.in-Namespace.namespace))) c.send_namespace.ensures
+    on_ok_weaker c.send_namespace.result
+    (λ _. rw c.in-Namespace.is
+    (omega (arith, namespace_json_length c.in-Namespace.namespace))) c.send_namespace.ensures
 
 pub returns-in-NsList-clause-bound : goal.returns-in-NsList-clause-bound
 returns-in-NsList-clause-bound g c =
@@ -20,8 +28,10 @@ returns-in-NsList-clause-bound g c =
 
 pub returns-in-Smart-clause-bound : goal.returns-in-Smart-clause-bound
 returns-in-Smart-clause-bound g c =
-    on_ok_weaker c.send_smart.result (λ _. rw c.in-Smart.is (omega (arith, smart_json c.in-Smart.smart))) c.send_smart.ensures
+    on_ok_weaker c.send_smart.result
+    (λ _. rw c.in-Smart.is (omega (arith, smart_json c.in-Smart.smart))) c.send_smart.ensures
 
 pub returns-in-Errors-clause-bound : goal.returns-in-Errors-clause-bound
 returns-in-Errors-clause-bound g c =
-    on_ok_weaker c.send_entries.result (λ _. rw c.in-Errors.is (omega (arith, entries_json_length c.in-Errors.entries))) c.send_entries.ensures
+    on_ok_weaker c.send_entries.result
+    (λ _. rw c.in-Errors.is (omega (arith, entries_json_length c.in-Errors.entries))) c.send_entries.ensures

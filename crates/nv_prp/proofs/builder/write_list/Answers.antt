@@ -26,7 +26,8 @@ loop-page-preserved g c =
       lies = now.lies;
       named = one_named _ _ _ _ _ _ _ c.args.pages.now c.args.count c.loop-page.page _ at now.lies c.requires.few later
           c.loop-page-test.true behind c.naming_qword.ensures now.named
-          (stored.value ∙ c.page_address-address.ensures.value ∙ ap (λ p. get_or c.args.pages.now c.loop-page.page 0 * p) now.page) stored.others;
+          (stored.value ∙ c.page_address-address.ensures.value
+          ∙ ap (λ p. get_or c.args.pages.now c.loop-page.page 0 * p) now.page) stored.others;
       others = outside_kept _ _ _ at 8 _ _ _ (place_within _ _ _ _ _ _ _ _ at now.lies c.requires.few later
           c.loop-page-test.true behind c.naming_qword.ensures) now.others stored.others;
       len = stored.len ∙ now.len;
@@ -40,7 +41,9 @@ returns-then-has_second_page-clause-names g c =
     let size = g.M.HostMemory.page_len c.args.mem.now in
     let now = c.loop-page.invariant in
     let start = c.page_address.result + c.from.result in
-    subst (λ r. NamesPages (g.M.HostMemory.bytes c.store_qword-then-has_second_page.new.mem) size r start (c.args.list.now.second * size) c.args.pages.now c.args.count) c.qwords_in_page.ensures.value
+    subst (λ r. NamesPages (g.M.HostMemory.bytes c.store_qword-then-has_second_page.new.mem) size r start
+    (c.args.list.now.second * size) c.args.pages.now c.args.count) c.qwords_in_page.ensures.value
     (chain_names _ _ size c.qwords_in_page.result start _ _ c.args.pages.now c.args.count _ _ now.lies c.requires.few c.if-has_second_page.ensures
     (ap (λ n. start + 8 * n) c.from-then-has_second_page.ensures) (omega arith) now.named
-    (c.store_qword-then-has_second_page.ensures.value ∙ c.page_address-second.ensures.value) c.store_qword-then-has_second_page.ensures.others)
+    (c.store_qword-then-has_second_page.ensures.value
+    ∙ c.page_address-second.ensures.value) c.store_qword-then-has_second_page.ensures.others)

@@ -9,8 +9,10 @@ invariant-loop-page g l =
     let size = g.M.HostMemory.page_len l.initial.mem in
     record {
       lies : Lies size l.shape.room l.start (l.list.first * size) (l.list.second * size);
-      named : HasNamed (g.M.HostMemory.bytes l.mem) size l.shape.room l.start (l.list.second * size) l.pages l.count l.page;
-      others : KeepsOutside size l.list.first l.list.second (g.M.HostMemory.bytes l.initial.mem) (g.M.HostMemory.bytes l.mem);
+      named : HasNamed (g.M.HostMemory.bytes l.mem) size l.shape.room l.start
+          (l.list.second * size) l.pages l.count l.page;
+      others : KeepsOutside size l.list.first l.list.second (g.M.HostMemory.bytes l.initial.mem)
+          (g.M.HostMemory.bytes l.mem);
       len : length (g.M.HostMemory.bytes l.mem) ≡ length (g.M.HostMemory.bytes l.initial.mem);
       page : g.M.HostMemory.page_len l.mem ≡ size;
     }

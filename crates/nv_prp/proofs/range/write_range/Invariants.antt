@@ -7,7 +7,9 @@ abbrev pub invariant-loop-done : goal.invariant-loop-done
 invariant-loop-done g l = record {
   at : l.at ≡ l.addr + l.done;
   within : l.done ≤ l.len;
-  bytes : g.M.HostMemory.bytes l.mem ≡ with_bytes (g.M.HostMemory.bytes l.initial.mem) l.addr (take l.done (drop l.from (g.P.Payload.bytes l.payload)));
+  bytes : g.M.HostMemory.bytes l.mem
+      ≡ with_bytes (g.M.HostMemory.bytes l.initial.mem) l.addr
+      (take l.done (drop l.from (g.P.Payload.bytes l.payload)));
   len : length (g.M.HostMemory.bytes l.mem) ≡ length (g.M.HostMemory.bytes l.initial.mem);
   page : g.M.HostMemory.page_len l.mem ≡ g.M.HostMemory.page_len l.initial.mem;
 }

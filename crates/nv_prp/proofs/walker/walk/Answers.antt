@@ -10,4 +10,5 @@ returns-in-Ok-clause-legal g c = (λ _. legal_from_none _ c.in-Ok.ensures.walked
 pub returns-in-Ok-clause-inside : goal.returns-in-Ok-clause-inside
 returns-in-Ok-clause-inside g c =
     let size = page_size_bounds _ c.in-Ok.ensures.size in
-    rw c.in-Ok.ensures.walked.1 (spans_lie_in _ (legal_from_none _ c.in-Ok.ensures.walked.0) (omega (arith, size)) c.requires.some)
+    rw c.in-Ok.ensures.walked.1
+    (spans_lie_in _ (legal_from_none _ c.in-Ok.ensures.walked.0) (omega (arith, size)) c.requires.some)

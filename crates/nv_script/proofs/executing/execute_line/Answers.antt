@@ -6,7 +6,8 @@ use Rattle.nv_script.specs.Results.{LineResult, answer_result, message_at, outpu
 use Rattle.nv_script.specs.Link.{serials_of}
 use Rattle.nv_print.specs.declared.fault.FaultCause.TheVariants as cause
 use Rattle.nv_line.specs.declared.line.Line.TheVariants as line
-use Rattle.nv_script.proofs.LineLaws.{amid-all, amid-some, amid-zero, fault_said, line_said, message_leaves, output_leaves, result_asked, result_fault, said_here}
+use Rattle.nv_script.proofs.LineLaws.{amid-all, amid-some, amid-zero, fault_said, line_said, message_leaves}
+use Rattle.nv_script.proofs.LineLaws.{output_leaves, result_asked, result_fault, said_here}
 use Rattle.nv_script.proofs.executing.execute_line.Goals as goal
 
 pub returns-in-Ok-perform-clause-left : goal.returns-in-Ok-perform-clause-left
@@ -16,14 +17,28 @@ returns-in-Ok-perform-clause-left g c text p o m is stands =
     let n = c.args.session.now.number in
     let r = c.in-Request.request in
     let said = line_said c.in-Ok.said _ (c.in-Ok.ensures.said text is) ∙ ap Ok c.in-Request.is in
-    let here = said_here p text s c.controllers.result (Ok (line.Request r)) stands.holds.reached (c.controllers.ensures ∙ c.requires.linked.bus.ports) said in
+    let here =
+    said_here p text s c.controllers.result (Ok (line.Request r)) stands.holds.reached
+    (c.controllers.ensures ∙ c.requires.linked.bus.banks) said in
     let come = outcome_of s serials (orders_of s r.query) in
     let left = c.in-Ok-perform.ensures.left in
-    let lr : LineResult = record { output = output_for s r come.replies; message = []; status = Some 0; state = come.state; serials = come.serials } in
-    let same = result_asked p text r s serials n here stands.holds.reached stands.next stands.number ∙ ap (λ x. answer_result x (n + 1) s r come) left.0 in
-    output_leaves p text lr (length (orders_of s r.query)) (left_at o (g.O.Sink.state c.args.out.now).taken m (g.M.Sink.state c.args.messages.now).taken s) (g.B.Bus.meaning c.perform.new.bus).state _
-    same stands.holds left.2.subsystem left.2.next (ap (λ n. n + 1) stands.number) refl (amid-all p text r s serials here stands.holds.reached stands.next)
-    c.print-in-Ok-perform.result (Ok c.in-Ok-perform.text) (g.O.Sink.state c.print-in-Ok-perform.new.sink).taken _ refl left.1 c.print-in-Ok-perform.ensures
+    let lr : LineResult =
+    record {
+      output = output_for s r come.replies;
+      message = [];
+      status = Some 0;
+      state = come.state;
+      serials = come.serials;
+    } in
+    let same = result_asked p text r s serials n here stands.holds.reached stands.next stands.number
+    ∙ ap (λ x. answer_result x (n + 1) s r come) left.0 in
+    output_leaves p text lr (length (orders_of s r.query))
+    (left_at o (g.O.Sink.state c.args.out.now).taken m (g.M.Sink.state c.args.messages.now).taken s)
+    (g.B.Bus.meaning c.perform.new.bus).state _
+    same stands.holds left.2.subsystem left.2.next (ap (λ n. n + 1) stands.number) refl
+    (amid-all p text r s serials here stands.holds.reached stands.next)
+    c.print-in-Ok-perform.result (Ok c.in-Ok-perform.text)
+    (g.O.Sink.state c.print-in-Ok-perform.new.sink).taken _ refl left.1 c.print-in-Ok-perform.ensures
 
 pub returns-in-Err-Refused-clause-left : goal.returns-in-Err-Refused-clause-left
 returns-in-Err-Refused-clause-left g c text p o m is stands =
@@ -32,15 +47,29 @@ returns-in-Err-Refused-clause-left g c text p o m is stands =
     let n = c.args.session.now.number in
     let r = c.in-Request.request in
     let said = line_said c.in-Ok.said _ (c.in-Ok.ensures.said text is) ∙ ap Ok c.in-Request.is in
-    let here = said_here p text s c.controllers.result (Ok (line.Request r)) stands.holds.reached (c.controllers.ensures ∙ c.requires.linked.bus.ports) said in
+    let here =
+    said_here p text s c.controllers.result (Ok (line.Request r)) stands.holds.reached
+    (c.controllers.ensures ∙ c.requires.linked.bus.banks) said in
     let come = outcome_of s serials (orders_of s r.query) in
     let status = c.in-Err-Refused.status in
     let left = rw c.in-Err-Refused.field-0-is at c.in-Err-Refused.ensures.left in
-    let lr : LineResult = record { output = []; message = message_at (n + 1) (cause.Refused status); status = Some 2; state = come.state; serials = come.serials } in
-    let same = result_asked p text r s serials n here stands.holds.reached stands.next stands.number ∙ ap (λ x. answer_result x (n + 1) s r come) left.0 in
-    message_leaves p text lr (length (orders_of s r.query)) (left_at o (g.O.Sink.state c.args.out.now).taken m (g.M.Sink.state c.args.messages.now).taken s) (g.B.Bus.meaning c.perform.new.bus).state _
-    same stands.holds left.1.subsystem left.1.next (ap (λ n. n + 1) stands.number) refl (amid-all p text r s serials here stands.holds.reached stands.next)
-    c.print-in-Err-Refused.result c.message-in-Err-Refused.result (g.M.Sink.state c.print-in-Err-Refused.new.sink).taken _ refl c.message-in-Err-Refused.ensures.exact c.print-in-Err-Refused.ensures
+    let lr : LineResult =
+    record {
+      output = [];
+      message = message_at (n + 1) (cause.Refused status);
+      status = Some 2;
+      state = come.state;
+      serials = come.serials;
+    } in
+    let same = result_asked p text r s serials n here stands.holds.reached stands.next stands.number
+    ∙ ap (λ x. answer_result x (n + 1) s r come) left.0 in
+    message_leaves p text lr (length (orders_of s r.query))
+    (left_at o (g.O.Sink.state c.args.out.now).taken m (g.M.Sink.state c.args.messages.now).taken s)
+    (g.B.Bus.meaning c.perform.new.bus).state _
+    same stands.holds left.1.subsystem left.1.next (ap (λ n. n + 1) stands.number) refl
+    (amid-all p text r s serials here stands.holds.reached stands.next)
+    c.print-in-Err-Refused.result c.message-in-Err-Refused.result
+    (g.M.Sink.state c.print-in-Err-Refused.new.sink).taken _ refl c.message-in-Err-Refused.ensures.exact c.print-in-Err-Refused.ensures
 
 pub returns-in-Err-Memory-clause-left : goal.returns-in-Err-Memory-clause-left
 returns-in-Err-Memory-clause-left g c text p o m is stands =
@@ -48,7 +77,9 @@ returns-in-Err-Memory-clause-left g c text p o m is stands =
     let serials = serials_of c.args.session.now.driver in
     let r = c.in-Request.request in
     let said = line_said c.in-Ok.said _ (c.in-Ok.ensures.said text is) ∙ ap Ok c.in-Request.is in
-    let here = said_here p text s c.controllers.result (Ok (line.Request r)) stands.holds.reached (c.controllers.ensures ∙ c.requires.linked.bus.ports) said in
+    let here =
+    said_here p text s c.controllers.result (Ok (line.Request r)) stands.holds.reached
+    (c.controllers.ensures ∙ c.requires.linked.bus.banks) said in
     let left = rw c.in-Err-Memory.field-0-is at c.in-Err-Memory.ensures.left in (
       left.0,
       record {
@@ -61,7 +92,11 @@ returns-in-Err-Memory-clause-left g c text p o m is stands =
 pub returns-in-Memory-clause-left : goal.returns-in-Memory-clause-left
 returns-in-Memory-clause-left g c text p o m is stands = (
   0,
-  record { took_output = stands.holds.took_output; took_messages = stands.holds.took_messages; reached = stands.holds.reached ∙ sym (amid-zero p.state p.serials _) },
+  record {
+    took_output = stands.holds.took_output;
+    took_messages = stands.holds.took_messages;
+    reached = stands.holds.reached ∙ sym (amid-zero p.state p.serials _);
+  },
 )
 
 pub returns-in_default-clause-left : goal.returns-in_default-clause-left
@@ -71,9 +106,14 @@ returns-in_default-clause-left g c text p o m is stands =
     let n = c.args.session.now.number in
     let f = c.in-Err.fault in
     let said = fault_said f _ c.in_default.not-Memory (c.in-Err.ensures.said text is) in
-    let here = said_here p text s c.controllers.result (Err f) stands.holds.reached (c.controllers.ensures ∙ c.requires.linked.bus.ports) said in
+    let here =
+    said_here p text s c.controllers.result (Err f) stands.holds.reached
+    (c.controllers.ensures ∙ c.requires.linked.bus.banks) said in
     let lr : LineResult = quiet_result s serials (message_at (n + 1) (cause.Line f)) (Some 1) in
     let same = result_fault p text f s serials n here stands.holds.reached stands.next stands.number in
-    message_leaves p text lr 0 (left_at o (g.O.Sink.state c.args.out.now).taken m (g.M.Sink.state c.args.messages.now).taken s) s _
-    same stands.holds refl refl (ap (λ n. n + 1) stands.number) refl (stands.holds.reached ∙ sym (amid-zero p.state p.serials _))
-    c.print.result c.message.result (g.M.Sink.state c.print.new.sink).taken _ refl c.message.ensures.exact c.print.ensures
+    message_leaves p text lr 0
+    (left_at o (g.O.Sink.state c.args.out.now).taken m (g.M.Sink.state c.args.messages.now).taken s) s _
+    same stands.holds refl refl (ap (λ n. n + 1) stands.number) refl
+    (stands.holds.reached ∙ sym (amid-zero p.state p.serials _))
+    c.print.result c.message.result
+    (g.M.Sink.state c.print.new.sink).taken _ refl c.message.ensures.exact c.print.ensures

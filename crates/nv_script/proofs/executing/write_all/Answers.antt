@@ -7,5 +7,9 @@ loop-rest-preserved g c =
     let w = c.loop-rest.invariant.written in
     record {
       failed = search rules;
-      written = (w.0 ++ take c.in-Some.taken c.loop-rest.rest.now, done_more _ _ _ c.in-Some.taken w.1, Appends-join _ _ _ _ _ w.2 c.in-Some.ensures.bytes);
+      written = (
+        w.0 ++ take c.in-Some.taken c.loop-rest.rest.now,
+        done_more _ _ _ c.in-Some.taken w.1,
+        Appends-join _ _ _ _ _ w.2 c.in-Some.ensures.bytes,
+      );
     }

@@ -5,7 +5,8 @@ use Rattle.nv_script.proofs.executing.write_all.Given as goal
 abbrev pub invariant-loop-rest : goal.invariant-loop-rest
 invariant-loop-rest g l = record {
   failed : (g.S.Sink.state l.sink).has_failed ≡ false;
-  written : (done : List ℕ) × (l.text ≡ done ++ l.rest) × Appends (g.S.Sink.state l.initial.sink).taken (g.S.Sink.state l.sink).taken done;
+  written : (done : List ℕ) × (l.text ≡ done ++ l.rest)
+      × Appends (g.S.Sink.state l.initial.sink).taken (g.S.Sink.state l.sink).taken done;
 }
 
 abbrev pub decreases-loop-rest : goal.decreases-loop-rest

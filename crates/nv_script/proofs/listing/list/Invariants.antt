@@ -15,8 +15,10 @@ invariant-loop-ctrl g l =
     let s = (g.B.Bus.meaning l.initial.bus).state in
     record {
       linked : IsLinked (g.B.Bus.meaning l.bus) l.driver;
-      lanes : length l.driver.lanes ≡ length l.initial.driver.lanes;
+      pairs : length l.driver.pairs ≡ length l.initial.driver.pairs;
       alike : IsAlike s (g.B.Bus.meaning l.bus).state;
-      left : (done : List Order) × (orders_of_list s ≡ done ++ flat_map (orders_of_controller s) (range_with_len l.ctrl (l.ctrl-end - l.ctrl)))
-          × IsListed (asked_all (first_standing s (serials_of l.initial.driver)) done) (g.B.Bus.meaning l.bus).state (serials_of l.driver) l.listing;
+      left : (done : List Order)
+          × (orders_of_list s ≡ done ++ flat_map (orders_of_controller s) (range_with_len l.ctrl (l.ctrl-end - l.ctrl)))
+          × IsListed (asked_all (first_standing s (serials_of l.initial.driver)) done) (g.B.Bus.meaning l.bus).state
+          (serials_of l.driver) l.listing;
     }

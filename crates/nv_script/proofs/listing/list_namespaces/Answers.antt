@@ -17,8 +17,10 @@ returns-in_err-list_batch-clause-left g c w is =
     let e = err_from_is_err_and c.from_residual.result c.from_residual.ensures.1 in
     let batch = c.in_err-list_batch.ensures.left (asked_all w (namespace_orders ctrl h.0)) (h.2 w is) in
     rw (e.1, e.2)
-    (stopped_within w (namespace_orders ctrl h.0) (namespace_orders ctrl c.args.nsids.now) (Unit {0}) (Unit {0}) c.in_err-list_batch.field-0.0
-    (namespace_orders ctrl (take count rest)) (namespace_orders ctrl (drop count rest)) (g.B.Bus.meaning c.list_batch.new.bus).state (serials_of c.list_batch.new.driver)
+    (stopped_within w (namespace_orders ctrl h.0) (namespace_orders ctrl c.args.nsids.now) (Unit {0})
+    (Unit {0}) c.in_err-list_batch.field-0.0
+    (namespace_orders ctrl (take count rest)) (namespace_orders ctrl (drop count rest))
+    (g.B.Bus.meaning c.list_batch.new.bus).state (serials_of c.list_batch.new.driver)
     c.list_batch.new.listing c.list_batch.new.listing (namespaces_split ctrl c.args.nsids.now h.0 rest count h.1) batch)
 
 pub loop-rest-preserved : goal.loop-rest-preserved
@@ -28,13 +30,14 @@ loop-rest-preserved g c =
     let now = take c.min-count.result c.loop-rest.rest.now in
     record {
       linked = c.list_batch.ensures.linked;
-      lanes = c.list_batch.ensures.lanes ∙ c.loop-rest.invariant.lanes;
+      pairs = c.list_batch.ensures.pairs ∙ c.loop-rest.invariant.pairs;
       left = (
         h.0 ++ now,
         done_more _ _ _ c.min-count.result h.1,
         (λ w is.
             let batch = c.in_ok-list_batch.ensures.left (asked_all w (namespace_orders ctrl h.0)) (h.2 w is) in
-            listed_after w (namespace_orders ctrl h.0) (namespace_orders ctrl (h.0 ++ now)) (namespace_orders ctrl now) (g.B.Bus.meaning c.list_batch.new.bus).state
+            listed_after w (namespace_orders ctrl h.0) (namespace_orders ctrl (h.0 ++ now)) (namespace_orders ctrl now)
+            (g.B.Bus.meaning c.list_batch.new.bus).state
             (serials_of c.list_batch.new.driver) c.list_batch.new.listing (namespaces_join ctrl h.0 now) batch),
       );
     }

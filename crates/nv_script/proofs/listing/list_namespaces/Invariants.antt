@@ -8,10 +8,11 @@ use Rattle.nv_script.proofs.listing.list_namespaces.Given as goal
 abbrev pub invariant-loop-rest : goal.invariant-loop-rest
 invariant-loop-rest g l = record {
   linked : IsLinked (g.B.Bus.meaning l.bus) l.driver;
-  lanes : length l.driver.lanes ≡ length l.initial.driver.lanes;
+  pairs : length l.driver.pairs ≡ length l.initial.driver.pairs;
   left : (done : List ℕ) × (l.nsids ≡ done ++ l.rest) × ((w : Standing)
       → IsListed w (g.B.Bus.meaning l.initial.bus).state (serials_of l.initial.driver) l.initial.listing
-      → IsListed (asked_all w (namespace_orders l.ctrl done)) (g.B.Bus.meaning l.bus).state (serials_of l.driver) l.listing);
+      → IsListed (asked_all w (namespace_orders l.ctrl done)) (g.B.Bus.meaning l.bus).state
+      (serials_of l.driver) l.listing);
 }
 
 abbrev pub decreases-loop-rest : goal.decreases-loop-rest

@@ -6,7 +6,8 @@ use Rattle.nv_script.proofs.performing.ask_one.Goals as goal
 pub returns-in_default-clause-left : goal.returns-in_default-clause-left
 returns-in_default-clause-left g c =
     let q = c.args.question.now in
-    left_shown _ _ _ _ (One q) c.shown.result _ (one_accepted _ _ _ _ q _ c.in_ok-reply.ensures.left c.in_default.ensures.command) c.shown.ensures
+    left_shown _ _ _ _ (One q) c.shown.result _
+    (one_accepted _ _ _ _ q _ c.in_ok-reply.ensures.left c.in_default.ensures.command) c.shown.ensures
 
 pub returns-in_err-next-clause-left : goal.returns-in_err-next-clause-left
 returns-in_err-next-clause-left g c =

@@ -11,7 +11,10 @@ pub returns-in_err-execute_line-clause-left : goal.returns-in_err-execute_line-c
 returns-in_err-execute_line-clause-left g c s bytes o m is stands =
     let e = err_from_is_err_and c.from_residual.result c.from_residual.ensures.1 in
     let last = (pieces bytes).last in
-    let some : 0 < length last = buffer_of-some last (λ h. let k : c.args.line.now ≡ Some [] = is ∙ h in first_of (search rules, grind (arith, c.is_empty.ensures, c.if-not-is_empty.true))) in
+    let some : 0 < length last =
+    buffer_of-some last
+    (λ h. let k : c.args.line.now ≡ Some [] = is ∙ h in
+    first_of (search rules, grind (arith, c.is_empty.ensures, c.if-not-is_empty.true))) in
     let cut = c.in_err-execute_line.ensures.left last (whole s (pieces bytes).ended) o m (c.line.ensures ∙ is) stands in
     rw (e.1, e.2) (last_line bytes some, cut)
 
@@ -21,10 +24,16 @@ returns-clause-left g c s bytes o m is stands =
     let last = (pieces bytes).last in
     elim c.if-not-is_empty.branch [
       | then-not-is_empty+in_ok-execute_line w ↦
-          let some : 0 < length last = buffer_of-some last (λ h. let k : c.args.line.now ≡ Some [] = is ∙ h in first_of (search rules, grind (arith, c.is_empty.ensures, w.if-not-is_empty.true))) in
+          let some : 0 < length last =
+          buffer_of-some last
+          (λ h. let k : c.args.line.now ≡ Some [] = is ∙ h in
+          first_of (search rules, grind (arith, c.is_empty.ensures, w.if-not-is_empty.true))) in
           let done = w.in_ok-execute_line.ensures.left last (whole s ended) o m (w.line.ensures ∙ is) stands in
-          rw (w.session-is, w.out-is, w.messages-is, w.bus-is) (ends_whole s bytes _ _ _ (ap (whole s) (last_line bytes some) ∙ whole-more s ended last) done)
+          rw (w.session-is, w.out-is, w.messages-is, w.bus-is)
+          (ends_whole s bytes _ _ _ (ap (whole s) (last_line bytes some) ∙ whole-more s ended last) done)
       | else-not-is_empty w ↦
-          let none : c.args.line.now ≡ Some [] = first_of (search rules, grind (arith, c.is_empty.ensures, w.if-not-is_empty.false)) in
-          rw (w.session-is, w.out-is, w.messages-is, w.bus-is) (ends_whole s bytes _ _ _ (ap (whole s) (no_last bytes (buffer_of-empty last (sym is ∙ none)))) stands)
+          let none : c.args.line.now ≡ Some [] =
+          first_of (search rules, grind (arith, c.is_empty.ensures, w.if-not-is_empty.false)) in
+          rw (w.session-is, w.out-is, w.messages-is, w.bus-is)
+          (ends_whole s bytes _ _ _ (ap (whole s) (no_last bytes (buffer_of-empty last (sym is ∙ none)))) stands)
     ]

@@ -8,13 +8,21 @@ use Rattle.nv_script.proofs.running.run_session.Goals as goal
 pub returns-in-Ok-clause-runs : goal.returns-in-Ok-clause-runs
 returns-in-Ok-clause-runs g c =
     let run = c.loop-call.invariant.run in
-    let read = read_none _ _ _ run.0 c.read.new.buf c.in-Some.count run.1 c.in-Some.ensures.bytes.0 c.if-count-eq0.true c.in-Some.ensures.count in
+    let read =
+    read_none _ _ _ run.0 c.read.new.buf c.in-Some.count run.1 c.in-Some.ensures.bytes.0 c.if-count-eq0.true c.in-Some.ensures.count in
     record {
       bytes = run.0;
       was_read = read;
       left = c.in-Ok.ensures.left (g.B.Bus.meaning c.args.bus.now).state run.0 _ _ run.2 run.3;
       end_of = (
-        grind (arith, nat_tests, c.in-Some.ensures.failure, c.in-Some.ensures.call, c.loop-call.invariant.calls, c.if-call-reads.false),
+        grind (
+          arith,
+          nat_tests,
+          c.in-Some.ensures.failure,
+          c.in-Some.ensures.call,
+          c.loop-call.invariant.calls,
+          c.if-call-reads.false,
+        ),
         c.in-Ok.ensures.failure.0,
         c.in-Ok.ensures.failure.1,
         grind (arith, nat_tests, c.in-Some.ensures.end, c.if-count-eq0.true),
@@ -27,7 +35,8 @@ pub returns-in-Err-clause-runs : goal.returns-in-Err-clause-runs
 returns-in-Err-clause-runs g c =
     let run = c.loop-call.invariant.run in
     let s = (g.B.Bus.meaning c.args.bus.now).state in
-    let read = read_none _ _ _ run.0 c.read.new.buf c.in-Some.count run.1 c.in-Some.ensures.bytes.0 c.if-count-eq0.true c.in-Some.ensures.count in
+    let read =
+    read_none _ _ _ run.0 c.read.new.buf c.in-Some.count run.1 c.in-Some.ensures.bytes.0 c.if-count-eq0.true c.in-Some.ensures.count in
     record {
       bytes = run.0;
       was_read = read;
@@ -41,11 +50,21 @@ returns-in-Err-feed-clause-runs g c =
     let run = c.loop-call.invariant.run in
     let s = (g.B.Bus.meaning c.args.bus.now).state in
     let piece = take c.in-Some.count c.read.new.buf in
-    let small : length piece ≤ read_size = omega (arith, length-take-le c.in-Some.count c.read.new.buf c.in-Some.ensures.bound, c.in-Some.ensures.bound, c.read.auto.buf, c.loop-call.invariant.room) in
-    let cut = piece_cut c.in-Err-feed.cut s run.0 piece c.feed.new.line _ c.feed.new.session small (c.in-Err-feed.ensures.left s run.0 _ _ run.2 run.3) in
+    let small : length piece ≤ read_size =
+    omega (
+      arith,
+      length-take-le c.in-Some.count c.read.new.buf c.in-Some.ensures.bound,
+      c.in-Some.ensures.bound,
+      c.read.auto.buf,
+      c.loop-call.invariant.room,
+    ) in
+    let cut =
+    piece_cut c.in-Err-feed.cut s run.0 piece c.feed.new.line _ c.feed.new.session small
+    (c.in-Err-feed.ensures.left s run.0 _ _ run.2 run.3) in
     record {
       bytes = run.0 ++ piece;
-      was_read = read_more _ _ _ run.0 c.read.new.buf c.in-Some.count run.1 c.in-Some.ensures.bytes.0 c.in-Some.ensures.bound c.in-Some.ensures.count;
+      was_read =
+          read_more _ _ _ run.0 c.read.new.buf c.in-Some.count run.1 c.in-Some.ensures.bytes.0 c.in-Some.ensures.bound c.in-Some.ensures.count;
       left = cut;
       end_of = c.in-Err-feed.ensures.failure;
       calls = omega (arith, c.in-Some.ensures.call, c.loop-call.invariant.calls, c.loop-call-test.true);
@@ -63,7 +82,14 @@ loop-call-preserved g c =
       calls = omega (arith, c.in-Some.ensures.call, inv.calls);
       few = omega (arith, c.in-Some.ensures.count, c.in-Some.ensures.bound, c.read.auto.buf, inv.room, inv.few);
       room = c.read.auto.buf ∙ inv.room;
-      numbered = omega (arith, c.in_default-feed.ensures.number, inv.numbered, c.in-Some.ensures.count, length-take-le c.in-Some.count c.read.new.buf c.in-Some.ensures.bound);
+      numbered =
+          omega (
+            arith,
+            c.in_default-feed.ensures.number,
+            inv.numbered,
+            c.in-Some.ensures.count,
+            length-take-le c.in-Some.count c.read.new.buf c.in-Some.ensures.bound,
+          );
       out_ready = c.in_default-feed.ensures.failure.0;
       messages_ready = c.in_default-feed.ensures.failure.1;
       linked = c.feed.ensures.linked;
@@ -88,5 +114,10 @@ loop-call-init g c =
       out_ready = c.requires.fresh_out;
       messages_ready = c.requires.fresh_messages;
       linked = c.requires.linked;
-      run = ([], read_first (g.R.Source.state c.args.script.now) c.requires.fresh_script.no_byte, c.new-line.ensures, stands_first s _ _ refl refl refl c.requires.first.next c.requires.first.number c.requires.first.status);
+      run = (
+        [],
+        read_first (g.R.Source.state c.args.script.now) c.requires.fresh_script.no_byte,
+        c.new-line.ensures,
+        stands_first s _ _ refl refl refl c.requires.first.next c.requires.first.number c.requires.first.status,
+      );
     }

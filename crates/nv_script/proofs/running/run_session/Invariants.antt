@@ -22,5 +22,8 @@ invariant-loop-call g l = record {
   run : (bytes : List ℕ)
       × WasRead (g.R.Source.state l.initial.script) (g.R.Source.state l.script) bytes
       × (l.line ≡ buffer_of (pieces bytes).last)
-      × Stands (whole (g.B.Bus.meaning l.initial.bus).state (pieces bytes).ended) (left_at (g.O.Sink.state l.initial.out).taken (g.O.Sink.state l.out).taken (g.M.Sink.state l.initial.messages).taken (g.M.Sink.state l.messages).taken (g.B.Bus.meaning l.bus).state) l.session;
+      × Stands (whole (g.B.Bus.meaning l.initial.bus).state (pieces bytes).ended)
+      (left_at (g.O.Sink.state l.initial.out).taken (g.O.Sink.state l.out).taken
+      (g.M.Sink.state l.initial.messages).taken (g.M.Sink.state l.messages).taken
+      (g.B.Bus.meaning l.bus).state) l.session;
 }

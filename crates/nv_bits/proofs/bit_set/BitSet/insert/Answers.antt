@@ -10,7 +10,9 @@ overflow_add-self c =
     let s = c.self.inside in
     let of = rw (← c.self.view_is) at c.requires in
     let k = c.args.n - s.first in
-    let are = are-insert s.first s.count s.len s.lowest_word s.words.items c.self.invariant k _ (omega arith) (bit_of-or s.words.items k (omega arith)) in
+    let are =
+    are-insert s.first s.count s.len s.lowest_word s.words.items c.self.invariant k _ (omega arith)
+    (bit_of-or s.words.items k (omega arith)) in
     rw (c.from.ensures, c.bit-is_new.ensures, c.deref.ensures.value)
     (omega (arith, len_in_range s.first s.count _ _ _ are))
 
@@ -19,9 +21,11 @@ invariant_of-self c =
     let s = c.self.inside in
     let of = rw (← c.self.view_is) at c.requires in
     let k = c.args.n - s.first in
-    let word = c.index_mut.ensures.value ∙ get_or_default_zero s.words.items (k / 64) c.index_mut.result.now (omega arith) in
+    let word = c.index_mut.ensures.value
+    ∙ get_or_default_zero s.words.items (k / 64) c.index_mut.result.now (omega arith) in
     rw (c.from.ensures, c.bit-is_new.ensures, c.deref.ensures.value, c.min-self-inside.ensures, word)
-    (are-insert s.first s.count s.len s.lowest_word s.words.items c.self.invariant k _ (omega arith) (bit_of-or s.words.items k (omega arith)))
+    (are-insert s.first s.count s.len s.lowest_word s.words.items c.self.invariant k _ (omega arith)
+    (bit_of-or s.words.items k (omega arith)))
 
 pub returns-clause-members : goal.returns-clause-members
 returns-clause-members c =
@@ -29,10 +33,12 @@ returns-clause-members c =
     let of = rw (← c.self.view_is) at c.requires in
     let k = c.args.n - s.first in
     let e : s.first + k ≡ c.args.n = omega arith in
-    let word = c.index_mut.ensures.value ∙ get_or_default_zero s.words.items (k / 64) c.index_mut.result.now (omega arith) in
+    let word = c.index_mut.ensures.value
+    ∙ get_or_default_zero s.words.items (k / 64) c.index_mut.result.now (omega arith) in
     rw (← c.self.view_is, word)
     (ap (λ m. let made : RangeSet = record { first = s.first; count = s.count; members = m } in made)
-    (rw e at (members-insert s.first s.count s.words.items _ k (omega arith) (bit_of-or s.words.items k (omega arith)))))
+    (rw e at
+    (members-insert s.first s.count s.words.items _ k (omega arith) (bit_of-or s.words.items k (omega arith)))))
 
 pub returns-clause-is_new : goal.returns-clause-is_new
 returns-clause-is_new c =

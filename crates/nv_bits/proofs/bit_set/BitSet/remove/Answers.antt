@@ -28,8 +28,10 @@ invariant_of-self c =
     let member = rw (← c.self.view_is) at (sym c.contains.ensures.value ∙ c.if-not-contains.false) in
     let k = c.args.n - s.first in
     let e : c.args.n ≡ s.first + k = omega arith in
-    let bit : bit_of s.words.items k ≡ true = sym (contains_at s.first s.count s.words.items k (omega arith)) ∙ rw e at member in
-    let word = c.index_mut.ensures.value ∙ get_or_default_zero s.words.items (k / 64) c.index_mut.result.now (omega arith) in
+    let bit : bit_of s.words.items k ≡ true = sym (contains_at s.first s.count s.words.items k (omega arith))
+    ∙ rw e at member in
+    let word = c.index_mut.ensures.value
+    ∙ get_or_default_zero s.words.items (k / 64) c.index_mut.result.now (omega arith) in
     let next = rw (c.deref.ensures.value, word) at c.next_word-self-inside.ensures.zeros in
     rw word
     (are-remove s.first s.count s.len s.lowest_word s.words.items c.self.invariant k _ c.next_word-self-inside.result
@@ -42,7 +44,10 @@ returns-clause-members c =
     let of = rw (← c.self.view_is) at (OnTrue_at c.if-not-contains.false c.contains.ensures.in_range) in
     let k = c.args.n - s.first in
     let e : s.first + k ≡ c.args.n = omega arith in
-    let word = c.index_mut.ensures.value ∙ get_or_default_zero s.words.items (k / 64) c.index_mut.result.now (omega arith) in
+    let word = c.index_mut.ensures.value
+    ∙ get_or_default_zero s.words.items (k / 64) c.index_mut.result.now (omega arith) in
     rw (← c.self.view_is, word)
     (ap (λ m. let made : RangeSet = record { first = s.first; count = s.count; members = m } in made)
-    (rw e at (members-remove s.first s.count s.words.items _ k (omega arith) (bit_of-and_not s.words.items k (omega arith)))))
+    (rw e at
+    (members-remove s.first s.count s.words.items _ k (omega arith)
+    (bit_of-and_not s.words.items k (omega arith)))))

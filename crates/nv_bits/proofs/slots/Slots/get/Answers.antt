@@ -11,5 +11,7 @@ returns-clause-value g c =
     let k = c.args.n - s.occupied.first in
     let e : s.occupied.first + k ≡ c.args.n = omega arith in
     let value = rw e at (get_at (λ j. get_or s.slots.items j None) s.occupied.first s.occupied.count k (omega arith)) in
-    let read = get_or_read_under s.slots.items k _ c.index.result.now None (rw c.first.ensures at c.index.ensures) (omega arith) s.slots.ok.0 in
+    let read =
+    get_or_read_under s.slots.items k _ c.index.result.now None (rw c.first.ensures at c.index.ensures)
+    (omega arith) s.slots.ok.0 in
     rw (← c.self.view_is) (read ∙ sym value)

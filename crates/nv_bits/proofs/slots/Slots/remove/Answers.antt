@@ -30,4 +30,5 @@ returns-clause-values g c =
     let room : length s.slots.items ≡ s.occupied.count = sym s.slots.ok.0 ∙ c.self.invariant.1 in
     let now = rw e at (values-remove s.occupied.first s.occupied.count s.slots.items k (omega arith) room) in
     rw (← c.self.view_is, c.remove.ensures.members, c.first.ensures)
-    (ap (λ m. let made : RangeMap g.row.T.Denot = record { first = s.occupied.first; count = s.occupied.count; values = m } in made) now)
+    (ap (λ m. let made : RangeMap g.row.T.Denot =
+    record { first = s.occupied.first; count = s.occupied.count; values = m } in made) now)

@@ -1,6 +1,8 @@
 use Rattle.std.proofs.Common.{◌%◌, List, None, ap, arith, length, slice_index_or, sym}
 use Rattle.nv_command.specs.declared.command.Command.{Command}
-use Rattle.nv_driver.proofs.CollectLaws.{answer_buffer, answer_sends, answers_more, cid_below, collects, command_at, distance_to, freed_between, give_distinct, give_none, give_own, in_some, is_some, is_there, no_more, number_is, one_is}
+use Rattle.nv_driver.proofs.CollectLaws.{answer_buffer, answer_sends, answers_more, cid_below, collects, command_at}
+use Rattle.nv_driver.proofs.CollectLaws.{distance_to, freed_between, give_distinct, give_none, give_own, in_some}
+use Rattle.nv_driver.proofs.CollectLaws.{is_some, is_there, no_more, number_is, one_is}
 use Rattle.nv_driver.proofs.PointerLaws.{seven_pages}
 use Rattle.nv_driver.proofs.batch.Batch.collect_one.Goals as goal
 

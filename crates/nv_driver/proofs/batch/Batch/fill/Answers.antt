@@ -11,7 +11,7 @@ submit-next-requires-clause-pages g c =
     let i = c.loop-number.invariant in
     let first = c.requires.1.1 in
     let u = i.under_way in
-    subst (λ (q : Geometry). pages_of_command q.page_size ≤ set.len c.loop-number.lane.pages.members) (sym u.geometry)
+    subst (λ (q : Geometry). pages_of_command q.page_size ≤ set.len c.loop-number.pair.pages.members) (sym u.geometry)
     (set_has u (omega (
       arith,
       i.sent,

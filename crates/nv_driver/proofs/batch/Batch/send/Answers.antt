@@ -6,7 +6,7 @@ use Rattle.nv_driver.proofs.batch.Batch.send.Goals as goal
 pub returns-in-Some-clause-under_way : goal.returns-in-Some-clause-under_way
 returns-in-Some-clause-under_way g c =
     let f = c.in-Some.ensures in
-    subst (λ n. IsUnderWay g.run c.fill.new.self.sent n c.fill.new.self c.fill.new.lane
+    subst (λ n. IsUnderWay g.run c.fill.new.self.sent n c.fill.new.self c.fill.new.pair
     (g.M.HostMemory.page_len c.fill.new.mem)
     (g.M.HostMemory.bytes c.fill.new.mem)) (sym f.collected) (rings f.under_way)
 
@@ -19,4 +19,4 @@ returns-in-Some-clause-bus g c =
     (g.B.Bus.meaning c.write32.new.self)) (sym f.told)
     (subst (λ n. IsBusOf g.run c.fill.new.self.sent n c.args.self.now.told
     (g.B.Bus.meaning c.write32.new.self)) (sym f.collected)
-    (bus_rings u c.requires.1.1.1.1 u.controller c.from.ensures f.tail w.state w.ports w.bus))
+    (bus_rings u c.requires.1.1.1.1 u.controller c.from.ensures f.tail w.state w.banks w.bus))

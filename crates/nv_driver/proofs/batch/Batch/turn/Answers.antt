@@ -11,9 +11,9 @@ returns-then-posted-eq0-clause-under_way g c =
     let e = c.turn-posted.ensures in
     let h = turns_on u c.requires.1.1.1.0 u.controller e.turn e.bus e.len e.page in
     let t = c.tell.ensures in
-    let next = tells_on h.under_way h.bus_is t.batch t.lane t.state t.bus t.told t.silent in
+    let next = tells_on h.under_way h.bus_is t.batch t.pair t.state t.bus t.told t.silent in
     let same = ap (λ (x : Batch). x.collected + c.turn-posted.result) t.batch in
-    subst (λ n. IsUnderWay g.run c.tell.new.self.sent n c.tell.new.self c.tell.new.lane
+    subst (λ n. IsUnderWay g.run c.tell.new.self.sent n c.tell.new.self c.tell.new.pair
     (g.M.HostMemory.page_len c.turn-posted.new.mem)
     (g.M.HostMemory.bytes c.turn-posted.new.mem)) (sym same) next.0
 
@@ -23,7 +23,7 @@ returns-then-posted-eq0-clause-bus g c =
     let e = c.turn-posted.ensures in
     let h = turns_on u c.requires.1.1.1.0 u.controller e.turn e.bus e.len e.page in
     let t = c.tell.ensures in
-    let next = tells_on h.under_way h.bus_is t.batch t.lane t.state t.bus t.told t.silent in
+    let next = tells_on h.under_way h.bus_is t.batch t.pair t.state t.bus t.told t.silent in
     let same = ap (λ (x : Batch). x.collected + c.turn-posted.result) t.batch in
     subst (λ n. IsBusOf g.run c.tell.new.self.sent n c.tell.new.self.told
     (g.B.Bus.meaning c.tell.new.bus)) (sym same) next.1

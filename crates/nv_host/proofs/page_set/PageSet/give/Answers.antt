@@ -7,4 +7,5 @@ pub insert-requires : goal.insert-requires
 insert-requires c = rw (← c.self.view_is) at c.requires.of_these
 
 pub returns : goal.returns
-returns c = rw (← c.self.view_is) (ap pages_of c.insert.ensures.members ∙ pages_of-insert c.self.inside.free c.args.page)
+returns c =
+    rw (← c.self.view_is) (ap pages_of c.insert.ensures.members ∙ pages_of-insert c.self.inside.free c.args.page)

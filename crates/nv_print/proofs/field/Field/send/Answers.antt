@@ -11,5 +11,13 @@ returns g c =
     let named = g.S.Serializer.written c.key.new.self in
     let key : c.self.inside.key.now ≡ c.args.self.now.key = search rules in
     let shape : shape_of c.self.inside.value ≡ c.args.self.now.shape = search rules in
-    let begun = subst (λ (k : List ℕ). Logs (g.S.Serializer.written c.args.out.now) named (field_key k AsIs)) key c.in_ok-key.ensures in
-    on_ok_weaker c.send.result (λ sent. (named, begun, subst (λ (s : Shape). SendsValue (shape_data s) named (g.S.Serializer.written c.send.new.out)) shape sent)) c.send.ensures
+    let begun =
+    subst (λ (k : List ℕ). Logs (g.S.Serializer.written c.args.out.now) named
+    (field_key k AsIs)) key c.in_ok-key.ensures in
+    on_ok_weaker c.send.result
+    (λ sent. (
+      named,
+      begun,
+      subst (λ (s : Shape). SendsValue (shape_data s) named
+          (g.S.Serializer.written c.send.new.out)) shape sent,
+    )) c.send.ensures

@@ -22,9 +22,12 @@ loop-i-preserved c =
     let command : k ≡ get_or ks i k = cc in
     let answer : x ≡ get_or xs i x = cc in
     let accepted : is_ok x ≡ true = cc (c.in_ok-tell.ensures.accepted) in
-    let told : c.tell.new.self ≡ listing_told ctrl c.loop-i.self (Send (get_or ks i k)) (get_or xs i x) = cc (c.in_ok-tell.ensures.told) in
+    let told : c.tell.new.self ≡ listing_told ctrl c.loop-i.self (Send (get_or ks i k)) (get_or xs i x) =
+    cc (c.in_ok-tell.ensures.told) in
     record {
-      told = ap (λ l. listing_of l (map (order_of ctrl) (drop (i + 1) ks)) (drop (i + 1) xs)) told ∙ sym (told_more ctrl c.loop-i.self ks xs i k x some answered) ∙ c.loop-i.invariant.told;
+      told = ap (λ l. listing_of l (map (order_of ctrl) (drop (i + 1) ks)) (drop (i + 1) xs)) told
+          ∙ sym (told_more ctrl c.loop-i.self ks xs i k x some answered) ∙ c.loop-i.invariant.told;
       accepted = λ n d below.
-          below_more (λ n. (d : Answer) → IsOk (get_or xs n d)) i (λ n less d. c.loop-i.invariant.accepted n d less) (at_read xs (λ a. IsOk a) i x answered answer accepted) n below d;
+          below_more (λ n. (d : Answer) → IsOk (get_or xs n d)) i (λ n less d. c.loop-i.invariant.accepted n d less)
+          (at_read xs (λ a. IsOk a) i x answered answer accepted) n below d;
     }

@@ -8,6 +8,7 @@ use Rattle.nv_script.proofs.listing.Listing.tell_all.Given as goal
 -- the rest tells the listing so far what all tells it at first; those before were accepted
 abbrev pub invariant-loop-i : goal.invariant-loop-i
 invariant-loop-i l = record {
-  told : listing_of l.self (map (order_of l.ctrl) (drop l.i l.commands)) (drop l.i l.answers) ≡ listing_of l.initial.self (map (order_of l.ctrl) l.commands) l.answers;
+  told : listing_of l.self (map (order_of l.ctrl) (drop l.i l.commands)) (drop l.i l.answers)
+      ≡ listing_of l.initial.self (map (order_of l.ctrl) l.commands) l.answers;
   accepted : (k : ℕ) (d : Answer) → k < l.i → IsOk (get_or l.answers k d);
 }

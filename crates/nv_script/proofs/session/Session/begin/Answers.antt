@@ -17,5 +17,5 @@ returns-clause-fault g c = without_fault c.args.geometry _ c.in_ok-driver.ensure
 pub returns-clause-first : goal.returns-clause-first
 returns-clause-first g c =
     first_session c.args.geometry (g.B.Bus.meaning c.args.bus.now) (g.B.Bus.meaning c.bring_up.new.bus)
-    c.in_ok-driver.driver _ (record { bus = c.bring_up.ensures.bus; left = c.in_ok-driver.ensures.ports })
+    c.in_ok-driver.driver _ (record { bus = c.bring_up.ensures.bus; left = c.in_ok-driver.ensures.banks })
     c.in_ok-driver.ensures.value refl refl refl

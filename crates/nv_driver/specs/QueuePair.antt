@@ -1,14 +1,14 @@
 -- One controller's place in the driver's memory, and its registers as the driver leaves them.
 use Rattle.std.specs.Prelude.{ℕ, ◌+◌, ◌-◌, ◌*◌, ◌<◌, ◌≤◌, false}
 use Rattle.nv_queue.specs.Numbers.{IsDepth}
-use Rattle.nv_register.specs.declared.port.Port.{Port}
+use Rattle.nv_register.specs.declared.register_bank.RegisterBank.{RegisterBank}
 use Rattle.nv_register.specs.declared.readiness.Readiness.TheVariants.{Ready}
 use Rattle.nv_register.specs.declared.rings.Rings.{Rings}
 use Rattle.nv_model.specs.Numbers.{serial_count}
 
 -- where its rings and its pages lie, and of its next command the number, as the rings keep it, and
 -- the command identifier
-pub record Lane : Type 0 where
+pub record QueuePair : Type 0 where
   pub sq : ℕ
   pub cq : ℕ
   pub depth : ℕ
@@ -17,21 +17,21 @@ pub record Lane : Type 0 where
   pub first_page : ℕ
   pub page_count : ℕ
 
--- the lane after a reset: its numbers begin at 0 again, and the command identifiers go on
-abbrev pub renewed_lane : Lane → Lane
-renewed_lane l = record l { number = 0 }
+-- the queue pair after a reset: its numbers begin at 0 again, and the command identifiers go on
+abbrev pub renewed_pair : QueuePair → QueuePair
+renewed_pair l = record l { number = 0 }
 
--- rings of this lane whose numbers are all that of the next command
-abbrev pub idle_rings : ℕ → Lane → Rings
+-- rings of this queue pair whose numbers are all that of the next command
+abbrev pub idle_rings : ℕ → QueuePair → Rings
 idle_rings page_size l = record {
   page_size = page_size;
   submission = record { base = l.sq; depth = l.depth; fetched = l.number; rung = l.number };
   completion = record { base = l.cq; depth = l.depth; posted = l.number; told = l.number };
 }
 
--- the registers of a controller that was enabled for this lane and has no command outstanding
-abbrev pub idle_port : ℕ → ℕ → Lane → Port
-idle_port mps page_size l = record {
+-- the registers of a controller that was enabled for this queue pair and has no command outstanding
+abbrev pub idle_bank : ℕ → ℕ → QueuePair → RegisterBank
+idle_bank mps page_size l = record {
   sizes = record { mps = mps; iosqes = 6; iocqes = 4 };
   readiness = Ready (idle_rings page_size l) false;
   aqa = record { asqs = l.depth - 1; acqs = l.depth - 1 };
@@ -41,7 +41,7 @@ idle_port mps page_size l = record {
 
 -- the submission ring, the completion ring and the pages follow one another in a memory of this
 -- size
-pub record IsLaid (page_size size : ℕ) (l : Lane) : Type 0 where
+pub record IsLaid (page_size size : ℕ) (l : QueuePair) : Type 0 where
   pub deep : IsDepth l.depth
   pub number : l.number < 2 * l.depth
   pub serial : l.serial < serial_count

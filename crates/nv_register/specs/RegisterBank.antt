@@ -10,7 +10,7 @@ use Rattle.nv_register.specs.Readiness.{is_enabled, is_fatal, is_ready, with_rin
 use Rattle.nv_register.specs.Register.{register_at}
 use Rattle.nv_register.specs.declared.controller_configuration.ControllerConfiguration.{ControllerConfiguration}
 use Rattle.nv_register.specs.declared.controller_configuration.Sizes.{Sizes}
-use Rattle.nv_register.specs.declared.port.Port.{Port}
+use Rattle.nv_register.specs.declared.register_bank.RegisterBank.{RegisterBank}
 use Rattle.nv_register.specs.declared.readiness.Readiness.TheVariants.{Off, Failed, Ready}
 use Rattle.nv_register.specs.declared.rings.Rings.{Rings}
 use Rattle.nv_register.specs.declared.register.Register.{Register}
@@ -20,8 +20,8 @@ use Rattle.nv_register.specs.declared.register.Register.TheVariants.{AcqHigh, Ta
 use Rattle.nv_register.specs.declared.register.Register.TheVariants.{HeadDoorbell}
 
 -- after power on
-abbrev pub new_port : Port
-new_port = record {
+abbrev pub new_bank : RegisterBank
+new_bank = record {
   sizes = record { mps = 0; iosqes = 0; iocqes = 0 };
   readiness = Off;
   aqa = record { asqs = 0; acqs = 0 };
@@ -32,11 +32,11 @@ new_port = record {
 -- ---- reads
 
 -- CC, of which EN says whether the controller is enabled
-abbrev pub cc_of : Port → ControllerConfiguration
+abbrev pub cc_of : RegisterBank → ControllerConfiguration
 cc_of p = record { en = is_enabled p.readiness; sizes = p.sizes }
 
 -- what a register reads; doorbells read 0
-abbrev pub value_of : Port → Register → ℕ
+abbrev pub value_of : RegisterBank → Register → ℕ
 value_of p CapLow = 0x01010fff
 value_of p CapHigh = 0x00400020
 value_of p Vs = 0x00010400
@@ -51,7 +51,7 @@ value_of p TailDoorbell = 0
 value_of p HeadDoorbell = 0
 
 -- the dword at an offset; 0 where no register begins
-abbrev pub value_at : Port → ℕ → ℕ
+abbrev pub value_at : RegisterBank → ℕ → ℕ
 value_at p offset = option_map_or (value_of p) (register_at offset) 0
 
 -- ---- enabling
@@ -63,13 +63,13 @@ is_queue sizes base less_one =
 
 -- the values with which a controller becomes ready: a page has at most 65,536 bytes, and both
 -- queues begin at a page and have 2 to 4,096 entries
-abbrev pub can_start : Port → Bool
+abbrev pub can_start : RegisterBank → Bool
 can_start p =
     nat_le p.sizes.mps 4
     && (is_queue p.sizes p.asq p.aqa.asqs && is_queue p.sizes p.acq p.aqa.acqs)
 
 -- new rings: their numbers begin at 0
-abbrev pub new_rings : Port → Rings
+abbrev pub new_rings : RegisterBank → Rings
 new_rings p = record {
   page_size = page_size_of p.sizes;
   submission = record { base = p.asq; depth = p.aqa.asqs + 1; fetched = 0; rung = 0 };
@@ -77,15 +77,15 @@ new_rings p = record {
 }
 
 -- EN was set: ready at once, or a fatal status
-abbrev pub start : Port → Port
+abbrev pub start : RegisterBank → RegisterBank
 start p = record p { readiness = if can_start p then Ready (new_rings p) false else Failed }
 
 -- EN was cleared, which clears RDY and CFS
-abbrev pub stop : Port → Port
+abbrev pub stop : RegisterBank → RegisterBank
 stop p = record p { readiness = Off }
 
 -- while EN is 1 a write of CC changes EN alone
-abbrev pub with_cc : Port → ControllerConfiguration → Port
+abbrev pub with_cc : RegisterBank → ControllerConfiguration → RegisterBank
 with_cc p cc =
     if is_enabled p.readiness then (if cc.en then p else stop p)
     else (if cc.en then start (record p { sizes = cc.sizes }) else record p { sizes = cc.sizes })
@@ -119,11 +119,11 @@ abbrev pub with_high : ℕ → ℕ → ℕ
 with_high address dword = dword * 2 ^ 32 + address % 2 ^ 32
 
 -- the queue registers ignore writes while EN is 1
-abbrev pub unless_enabled : Port → Port → Port
+abbrev pub unless_enabled : RegisterBank → RegisterBank → RegisterBank
 unless_enabled p other = if is_enabled p.readiness then p else other
 
 -- a write of a register
-abbrev pub with_register : Port → Register → ℕ → Port
+abbrev pub with_register : RegisterBank → Register → ℕ → RegisterBank
 with_register p CapLow x = p
 with_register p CapHigh x = p
 with_register p Vs x = p
@@ -138,14 +138,14 @@ with_register p TailDoorbell x = record p { readiness = with_rings (with_tail x)
 with_register p HeadDoorbell x = record p { readiness = with_rings (with_head x) p.readiness }
 
 -- a write of the dword at an offset; ignored where no register begins
-abbrev pub with_register_at : Port → ℕ → ℕ → Port
+abbrev pub with_register_at : RegisterBank → ℕ → ℕ → RegisterBank
 with_register_at p offset x = option_map_or (λ r. with_register p r x) (register_at offset) p
 
 -- ---- a write that clears an EN that is 1
 
-abbrev pub stops_by : Port → Register → ℕ → Bool
+abbrev pub stops_by : RegisterBank → Register → ℕ → Bool
 stops_by p Cc x = is_enabled p.readiness && not (cc_of_dword x).en
 stops_by p register x = false
 
-abbrev pub stops_at : Port → ℕ → ℕ → Bool
+abbrev pub stops_at : RegisterBank → ℕ → ℕ → Bool
 stops_at p offset x = option_map_or (λ r. stops_by p r x) (register_at offset) false

@@ -3,11 +3,11 @@ use Rattle.nv_register.specs.declared.readiness.Readiness.TheVariants.{Ready}
 use Rattle.nv_bus.specs.Entry.{scene}
 use Rattle.nv_bus.specs.Turn.{site}
 use Rattle.nv_controller.proofs.TurnLaws.{count_of_rings, turn_of_rings}
-use Rattle.nv_controller.proofs.turn.turn_port.Goals as goal
+use Rattle.nv_controller.proofs.turn.turn_bank.Goals as goal
 
 pub returns-in-Ready-clause-turn : goal.returns-in-Ready-clause-turn
 returns-in-Ready-clause-turn g c =
-    turn_of_rings _ _ _ _ (site c.args.subsystem.now c.args.port.now
+    turn_of_rings _ _ _ _ (site c.args.subsystem.now c.args.bank.now
     (g.M.HostMemory.bytes c.args.mem.now)) c.in-Ready.rings
     (scene c.take_entries-count.new.subsystem c.take_entries-count.new.rings
     (g.M.HostMemory.bytes c.take_entries-count.new.mem))
@@ -16,7 +16,7 @@ returns-in-Ready-clause-turn g c =
 
 pub returns-in-Ready-clause-count : goal.returns-in-Ready-clause-count
 returns-in-Ready-clause-count g c =
-    count_of_rings _ _ _ _ (site c.args.subsystem.now c.args.port.now
+    count_of_rings _ _ _ _ (site c.args.subsystem.now c.args.bank.now
     (g.M.HostMemory.bytes c.args.mem.now)) c.in-Ready.rings
     (scene c.take_entries-count.new.subsystem c.take_entries-count.new.rings
     (g.M.HostMemory.bytes c.take_entries-count.new.mem))

@@ -4,9 +4,9 @@ ghost use Rattle.std.specs.Prelude.{◌≡◌, ◌+◌, ◌*◌, ◌<◌, ◌≤
 ghost use Rattle.nv_host.specs.Bytes.{with_bytes};
 ghost use Rattle.nv_queue.specs.Slots.{HoldsTags};
 ghost use Rattle.nv_driver.specs.Geometry.{IsGeometry};
-ghost use Rattle.nv_driver.specs.Lane.{renewed_lane};
-ghost use Rattle.nv_driver.specs.Layout.{lane_of, lanes_of};
-ghost use Rattle.nv_driver.specs.Quiet.{IsQuiet, lane_value};
+ghost use Rattle.nv_driver.specs.QueuePair.{renewed_pair};
+ghost use Rattle.nv_driver.specs.Layout.{pair_of, pairs_of};
+ghost use Rattle.nv_driver.specs.Quiet.{IsQuiet, pair_value};
 
 use crate::geometry::Geometry;
 use nv_host::{HostMemory, Memory, PageSet};
@@ -15,7 +15,7 @@ use std::alloc::Global;
 
 /// The rings and the pages of one controller.
 #[derive(Drop)]
-pub struct Lane {
+pub struct QueuePair {
     pub submission: SubmitRing,
     pub completion: CompletionRing,
     /// The command identifier of the next command.
@@ -24,17 +24,17 @@ pub struct Lane {
     pub pages: PageSet,
 }
 
-impl Lane {
-    /// The lane of a controller before its first command. The page set has a bit for each page.
-    pub(crate) fn new(alloc: Global, geometry: Geometry, ctrl: u16) -> Result<Lane, Memory>
+impl QueuePair {
+    /// The queue pair of a controller before its first command. The page set has a bit for each page.
+    pub(crate) fn new(alloc: Global, geometry: Geometry, ctrl: u16) -> Result<QueuePair, Memory>
         requires geometry { IsGeometry geometry }
         requires ctrl { ctrl < 16 }
         ensures quiet { IfOk result IsQuiet }
-        ensures lane { IfOk result (λ l. lane_value l ≡ lane_of geometry ctrl) }
+        ensures pair { IfOk result (λ l. pair_value l ≡ pair_of geometry ctrl) }
     {
         let place = geometry.place(ctrl);
         let depth = geometry.depth as u16;
-        Ok(Lane {
+        Ok(QueuePair {
             submission: SubmitRing::new(place.sq, depth),
             completion: CompletionRing::new(place.cq, depth),
             serial: 0,
@@ -49,7 +49,7 @@ impl Lane {
         requires inside { self.old.completion.base + 16 * self.old.completion.depth
             ≤ length (M.bytes mem.old) }
         ensures quiet { IsQuiet self.new }
-        ensures lane { lane_value self.new ≡ renewed_lane (lane_value self.old) }
+        ensures pair { pair_value self.new ≡ renewed_pair (pair_value self.old) }
         ensures bytes { M.bytes mem.new ≡ with_bytes (M.bytes mem.old) self.old.completion.base
             (replicate (16 * self.old.completion.depth) 0) }
         ensures tags { HoldsTags (M.bytes mem.new) self.old.completion.base
@@ -62,25 +62,25 @@ impl Lane {
     }
 }
 
-/// The lanes of so many controllers before their first command.
-#[tactic(auto, using(crate::proofs::LaneLaws::quiet_more, crate::proofs::LaneLaws::lanes_more))]
-pub(crate) fn new_lanes(
+/// The queue pairs of so many controllers before their first command.
+#[tactic(auto, using(crate::proofs::QueuePairLaws::quiet_more, crate::proofs::QueuePairLaws::pairs_more))]
+pub(crate) fn new_pairs(
     alloc: Global,
     geometry: Geometry,
     controllers: u16,
-) -> Result<Vec<Lane>, Memory>
+) -> Result<Vec<QueuePair>, Memory>
     requires geometry { IsGeometry geometry }
     requires controllers { controllers ≤ 16 }
-    ensures quiet { IfOk result (λ lanes. All IsQuiet lanes.items) }
-    ensures lanes { IfOk result
-        (λ lanes. map lane_value lanes.items ≡ lanes_of geometry controllers) }
+    ensures quiet { IfOk result (λ pairs. All IsQuiet pairs.items) }
+    ensures pairs { IfOk result
+        (λ pairs. map pair_value pairs.items ≡ pairs_of geometry controllers) }
 {
-    let mut lanes = Vec::new(alloc);
+    let mut pairs = Vec::new(alloc);
     for ctrl in 0..controllers {
-        let lane = Lane::new(alloc, geometry, ctrl)?;
-        if lanes.push(lane).is_err() {
+        let pair = QueuePair::new(alloc, geometry, ctrl)?;
+        if pairs.push(pair).is_err() {
             return Err(Memory);
         }
     }
-    Ok(lanes)
+    Ok(pairs)
 }

@@ -1,10 +1,10 @@
 //! What a host reads and writes of one controller.
 
 ghost use Rattle.std.specs.Prelude.{◌≡◌, ◌≤◌, true};
-ghost use Rattle.nv_register.specs.Port.{can_start, cc_of, is_queue, new_port, new_rings, start};
-ghost use Rattle.nv_register.specs.Port.{stop, stops_at, stops_by, value_at, value_of, with_cc};
-ghost use Rattle.nv_register.specs.Port.{with_head, with_high, with_low, with_register};
-ghost use Rattle.nv_register.specs.Port.{with_register_at, with_tail};
+ghost use Rattle.nv_register.specs.RegisterBank.{can_start, cc_of, is_queue, new_bank, new_rings, start};
+ghost use Rattle.nv_register.specs.RegisterBank.{stop, stops_at, stops_by, value_at, value_of, with_cc};
+ghost use Rattle.nv_register.specs.RegisterBank.{with_head, with_high, with_low, with_register};
+ghost use Rattle.nv_register.specs.RegisterBank.{with_register_at, with_tail};
 ghost use Rattle.nv_register.specs.Readiness.{is_enabled, with_rings};
 
 use crate::admin_queue_attributes::AdminQueueAttributes;
@@ -26,7 +26,7 @@ const VS: u32 = 0x0001_0400;
 
 /// The registers of one controller, and the rings that they make where it is ready.
 #[derive(Drop)]
-pub struct Port {
+pub struct RegisterBank {
     /// What CC says beside EN.
     pub sizes: Sizes,
     pub readiness: Readiness,
@@ -59,12 +59,12 @@ fn is_queue(sizes: Sizes, base: u64, less_one: u16) -> bool
     base % u64::from(sizes.page_size()) == 0 && less_one >= 1 && less_one <= 4095
 }
 
-impl Port {
+impl RegisterBank {
     /// The registers after power on: the controller is not enabled.
-    pub fn new() -> Port
-        ensures { result ≡ new_port }
+    pub fn new() -> RegisterBank
+        ensures { result ≡ new_bank }
     {
-        Port {
+        RegisterBank {
             sizes: Sizes {
                 mps: 0,
                 iosqes: 0,

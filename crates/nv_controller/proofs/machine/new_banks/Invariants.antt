@@ -1,0 +1,7 @@
+use Rattle.std.proofs.Common.{◌≡◌}
+use Rattle.std.specs.Prelude.{replicate}
+use Rattle.nv_register.specs.RegisterBank.{new_bank}
+use Rattle.nv_controller.proofs.machine.new_banks.Given as goal
+
+abbrev pub invariant-loop : goal.invariant-loop
+invariant-loop l = l.banks.items ≡ replicate l.counter new_bank

@@ -1,0 +1,10 @@
+use Rattle.std.proofs.Common.{◌≡◌, All, map}
+use Rattle.nv_driver.specs.Layout.{pairs_of}
+use Rattle.nv_driver.specs.Quiet.{IsQuiet, pair_value}
+use Rattle.nv_driver.proofs.queue_pair.new_pairs.Given as goal
+
+abbrev pub invariant-loop-ctrl : goal.invariant-loop-ctrl
+invariant-loop-ctrl l = record {
+  quiet : All IsQuiet l.pairs.items;
+  pairs : map pair_value l.pairs.items ≡ pairs_of l.geometry l.ctrl;
+}
