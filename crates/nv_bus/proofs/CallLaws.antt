@@ -18,27 +18,27 @@ use Rattle.nv_command.specs.declared.status_code.StatusCode.TheVariants.{Invalid
 use Rattle.nv_command.specs.declared.transfer.Transfer.{Transfer}
 use Rattle.nv_command.specs.declared.transfer.Transfer.TheVariants.{FromHost, NoData, ToHost}
 use Rattle.nv_prp.specs.Place.{LieIn, places}
-use Rattle.nv_prp.specs.Transfer.{Transfer, IsLegal, fault_after_prp1, first_fault}
+use Rattle.nv_prp.specs.Transfer.{IsLegal, PrpTransfer, fault_after_prp1, first_fault}
 use Rattle.nv_prp.specs.Transfer.{first_qword_fault, qword_fault, qwords, transfer_places}
 use Rattle.nv_prp.specs.declared.error.PrpError.{PrpError}
 use Rattle.nv_bus.specs.Call.{HasRoom, data_places, length_of, places_of, places_unless}
 use Rattle.nv_bus.specs.Call.{prp_status, within}
 
-no_qword_fault : (t : Transfer) (n : ℕ) → ((k : ℕ) → k < n → qword_fault t k ≡ None)
+no_qword_fault : (t : PrpTransfer) (n : ℕ) → ((k : ℕ) → k < n → qword_fault t k ≡ None)
     → first_qword_fault t n ≡ None
 no_qword_fault t zero h = refl
 no_qword_fault t (suc n) h =
     ap (λ (o : Option PrpError). option_or o (qword_fault t n))
     (no_qword_fault t n (λ k b. h k (omega arith))) ∙ h n (omega arith)
 
-no_fault : (t : Transfer) → IsLegal t → first_fault t ≡ None
+no_fault : (t : PrpTransfer) → IsLegal t → first_fault t ≡ None
 unfolding first_fault
 no_fault t l =
     ap (λ (o : Option PrpError). option_or o (fault_after_prp1 t)) l.prp1
     ∙ ap (λ (o : Option PrpError). option_or o (first_qword_fault t (qwords t))) l.prp2
     ∙ no_qword_fault t (qwords t) l.list
 
-pub legal_places : (t : Transfer) (at : List ℕ) → IsLegal t → at ≡ transfer_places t
+pub legal_places : (t : PrpTransfer) (at : List ℕ) → IsLegal t → at ≡ transfer_places t
     → places_of t ≡ Ok at
 unfolding places_of
 legal_places t at l e =

@@ -26,7 +26,7 @@ abbrev pub places_unless : Option PrpError → List ℕ → Result (List ℕ) St
 places_unless None places = Ok places
 places_unless (Some fault) places = Err (prp_status fault)
 
-unfoldable pub places_of : prp.Transfer → Result (List ℕ) StatusCode
+unfoldable pub places_of : prp.PrpTransfer → Result (List ℕ) StatusCode
 places_of t = places_unless (prp.first_fault t) (prp.transfer_places t)
 
 -- a length that a data pointer can have; what the host sends is a page of 4,096 bytes at most

@@ -9,7 +9,7 @@ use Rattle.nv_host.specs.Pages.{IsPageSize}
 use Rattle.nv_host.proofs.PageLaws.{page_size_bounds}
 use Rattle.nv_prp.specs.Buffer.{IsFor, KeepsList, buffer_place, buffer_places}
 use Rattle.nv_prp.proofs.PlaceLaws.{table-same}
-use Rattle.nv_prp.specs.Transfer.{IsLegal, Transfer, place_of, transfer, transfer_places}
+use Rattle.nv_prp.specs.Transfer.{IsLegal, PrpTransfer, place_of, transfer, transfer_places}
 use Rattle.nv_command.specs.Command.{transfer_by}
 use Rattle.nv_layout.specs.declared.sqe.Sqe.{Sqe}
 use Rattle.nv_command.specs.Decoding.{command_of, transfer_of}
@@ -60,7 +60,7 @@ seven_pages size is =
 
 -- ---- the data pointer of a command
 
-named : (t : Transfer) (pages : List ℕ) (from : ℕ) → (0 < t.len → IsFor t pages from)
+named : (t : PrpTransfer) (pages : List ℕ) (from : ℕ) → (0 < t.len → IsFor t pages from)
     → transfer_places t ≡ buffer_places t.page_size pages from t.len
 unfolding buffer_places transfer_places
 named t pages from is =
