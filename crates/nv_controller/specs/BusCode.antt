@@ -1,7 +1,7 @@
 -- The code of what a bus stands for, by which a proof tells values apart.
 use Rattle.std.specs.Prelude.{List, refl}
 use Rattle.std.specs.Coded.{Coded, code_by, coded×, coded_list}
-use Rattle.nv_register.specs.contracts.bank.RegisterBank as bank
+use Rattle.nv_register.specs.contracts.register_bank.RegisterBank as bank
 use Rattle.nv_register.specs.declared.register_bank.RegisterBank.{RegisterBank}
 use Rattle.nv_model.specs.State.{State}
 use Rattle.nv_subsystem.specs.StateCode.{state_code}
