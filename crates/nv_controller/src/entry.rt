@@ -15,7 +15,7 @@ ghost use Rattle.nv_bus.specs.Turn.{can_take, reaches};
 
 use crate::call::read_call;
 use crate::log_part::LogPart;
-use crate::scratch::Scratch;
+use crate::scratch::{EntryData, Scratch};
 use nv_bus::Told;
 use nv_command::{Command, Refusal, Reply, Transfer};
 use nv_host::HostMemory;
@@ -59,17 +59,17 @@ fn completion(told: Told, cid: u16, sq_head: u16) -> Cqe
 }
 
 /// Writes the page of a reply to its places.
-fn deliver_page<M: HostMemory>(mem: &mut M, spans: &Spans, page: &mut [u8; 4096], reply: &Reply)
-    requires inside { LieIn (length (M.bytes mem.old)) spans.now }
-    requires len { length (places spans.now) ≡ 4096 }
+fn deliver_page<M: HostMemory>(mem: &mut M, data: &mut EntryData, reply: &Reply)
+    requires inside { LieIn (length (M.bytes mem.old)) data.old.spans }
+    requires len { length (places data.old.spans) ≡ 4096 }
     requires page { length (page_of reply.now) ≡ 4096 }
     ensures bytes { M.bytes mem.new
-        ≡ written_at (M.bytes mem.old) (places spans.now) (page_of reply.now) }
+        ≡ written_at (M.bytes mem.old) (places data.old.spans) (page_of reply.now) }
     ensures len { length (M.bytes mem.new) ≡ length (M.bytes mem.old) }
     ensures page_len { M.page_len mem.new ≡ M.page_len mem.old }
 {
-    reply.put(page);
-    copy_out(mem, spans, page);
+    reply.put(&mut data.page);
+    copy_out(mem, &data.spans, &data.page);
 }
 
 /// The most bytes of a log: 256 entries of 64 bytes.
@@ -94,49 +94,44 @@ fn deliver_log<M: HostMemory>(mem: &mut M, spans: &Spans, reply: &Reply, offset:
 /// Writes the data of a reply to its places, so many bytes.
 fn send<M: HostMemory>(
     mem: &mut M,
-    spans: &Spans,
-    page: &mut [u8; 4096],
+    data: &mut EntryData,
     command: &Command,
     reply: &Reply,
     len: u64,
 )
-    requires inside { LieIn (length (M.bytes mem.old)) spans.now }
+    requires inside { LieIn (length (M.bytes mem.old)) data.old.spans }
     requires to_host { transfer_by command.now ≡ Transfer.ToHost len }
-    requires len { length (places spans.now) ≡ len }
+    requires len { length (places data.old.spans) ≡ len }
     requires few { len ≤ 1048576 }
     requires is_reply { IsReplyTo command.now reply.now }
     requires fits { FitsRecord reply.now }
     ensures bytes { M.bytes mem.new
-        ≡ written_at (M.bytes mem.old) (places spans.now) (data_of command.now reply.now) }
+        ≡ written_at (M.bytes mem.old) (places data.old.spans) (data_of command.now reply.now) }
     ensures len { length (M.bytes mem.new) ≡ length (M.bytes mem.old) }
     ensures page_len { M.page_len mem.new ≡ M.page_len mem.old }
 {
     match command {
-        Command::GetLog { offset, .. } => deliver_log(mem, spans, reply, *offset, len as usize),
-        _ => deliver_page(mem, spans, page, reply),
+        Command::GetLog { offset, .. } => {
+            deliver_log(mem, &data.spans, reply, *offset, len as usize)
+        }
+        _ => deliver_page(mem, data, reply),
     }
 }
 
 /// Writes the data of a reply to a command to its places, where it has any.
-fn deliver<M: HostMemory>(
-    mem: &mut M,
-    spans: &Spans,
-    page: &mut [u8; 4096],
-    command: &Command,
-    reply: &Reply,
-)
-    requires inside { LieIn (length (M.bytes mem.old)) spans.now }
-    requires len { length (places spans.now) ≡ length_of (transfer_by command.now) }
-    requires few { length (places spans.now) ≤ 1048576 }
+fn deliver<M: HostMemory>(mem: &mut M, data: &mut EntryData, command: &Command, reply: &Reply)
+    requires inside { LieIn (length (M.bytes mem.old)) data.old.spans }
+    requires len { length (places data.old.spans) ≡ length_of (transfer_by command.now) }
+    requires few { length (places data.old.spans) ≤ 1048576 }
     requires is_reply { IsReplyTo command.now reply.now }
     requires fits { FitsRecord reply.now }
     ensures bytes { M.bytes mem.new
-        ≡ written_at (M.bytes mem.old) (places spans.now) (data_of command.now reply.now) }
+        ≡ written_at (M.bytes mem.old) (places data.old.spans) (data_of command.now reply.now) }
     ensures len { length (M.bytes mem.new) ≡ length (M.bytes mem.old) }
     ensures page_len { M.page_len mem.new ≡ M.page_len mem.old }
 {
     match command.transfer() {
-        Transfer::ToHost(len) => send(mem, spans, page, command, reply, len),
+        Transfer::ToHost(len) => send(mem, data, command, reply, len),
         _ => {}
     }
 }
@@ -148,18 +143,17 @@ fn execute<M: HostMemory>(
     mem: &mut M,
     command: &Command,
     origin: Origin,
-    spans: &Spans,
-    page: &mut [u8; 4096],
+    data: &mut EntryData,
     ids: &mut NsList,
 ) -> Told
     requires ctrl { ctrl < length subsystem.old.controllers }
     requires well_formed { IsWellFormed subsystem.old }
-    requires inside { LieIn (length (M.bytes mem.old)) spans.now }
-    requires len { length (places spans.now) ≡ length_of (transfer_by command.now) }
-    requires few { length (places spans.now) ≤ 1048576 }
+    requires inside { LieIn (length (M.bytes mem.old)) data.old.spans }
+    requires len { length (places data.old.spans) ≡ length_of (transfer_by command.now) }
+    requires few { length (places data.old.spans) ≤ 1048576 }
     ensures told { result ≡ told_by (step subsystem.old ctrl command.now origin.cid).answer }
     ensures state { subsystem.new ≡ (step subsystem.old ctrl command.now origin.cid).state }
-    ensures moved { Moves command.now (places spans.now)
+    ensures moved { Moves command.now (places data.old.spans)
         (step subsystem.old ctrl command.now origin.cid).answer
         (M.bytes mem.old) (M.bytes mem.new) }
     ensures well_formed { IsWellFormed subsystem.new }
@@ -168,7 +162,7 @@ fn execute<M: HostMemory>(
 {
     let (told, refusal) = match subsystem.answer(ctrl, command, ids) {
         Ok(reply) => {
-            deliver(mem, spans, page, command, &reply);
+            deliver(mem, data, command, &reply);
             (reply_told(&reply), None)
         }
         Err(refusal) => (refusal_told(&refusal), Some(refusal)),
@@ -208,20 +202,15 @@ fn answer_entry<M: HostMemory>(
         cid: entry.cid,
         phase,
     };
-    let Scratch {
-        spans,
-        page,
-        listed,
-        ids,
-    } = scratch;
+    let Scratch { data, listed, ids } = scratch;
     let limit = subsystem.limit(ctrl);
-    match read_call(mem, entry, limit, spans, page, listed) {
+    match read_call(mem, entry, limit, data, listed) {
         Err(code) => {
             let refusal = Refusal::from(code);
             subsystem.refuse(ctrl, origin, entry.nsid, refusal);
             refusal_told(&refusal)
         }
-        Ok(command) => execute(subsystem, ctrl, mem, &command, origin, spans, page, ids),
+        Ok(command) => execute(subsystem, ctrl, mem, &command, origin, data, ids),
     }
 }
 

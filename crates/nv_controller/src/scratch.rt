@@ -5,13 +5,20 @@ ghost use Rattle.std.specs.Prelude.{length};
 use nv_layout::{CtrlList, NsList};
 use nv_prp::Spans;
 
+/// The data of an entry.
+#[derive(Drop)]
+pub struct EntryData {
+    /// Where it lies in the host's memory.
+    pub spans: Spans,
+    /// A page of it, from the host or to it.
+    pub page: [u8; 4096],
+}
+
 /// Places for one entry at a time, made once. What stands in them before is of no account.
 #[derive(Drop)]
 pub struct Scratch {
-    /// Where its data lies.
-    pub spans: Spans,
-    /// Its data, from the host or to it.
-    pub page: [u8; 4096],
+    /// Its data.
+    pub data: EntryData,
     /// The controllers that it lists.
     pub listed: CtrlList,
     /// The namespaces that its reply lists.
@@ -21,8 +28,10 @@ pub struct Scratch {
 impl Scratch {
     pub(crate) fn new() -> Scratch {
         Scratch {
-            spans: Spans::new(),
-            page: [0; 4096],
+            data: EntryData {
+                spans: Spans::new(),
+                page: [0; 4096],
+            },
             listed: CtrlList::new(),
             ids: NsList::new(),
         }

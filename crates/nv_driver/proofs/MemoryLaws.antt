@@ -40,7 +40,7 @@ pair_ends g i j h =
     omega (arith, mul-le-mul_right (pair_pages g) one) in
     mul-le-mul_right g.page_size pages
 
-pub pair_laid : (g : Geometry) (n i size : ℕ) → IsGeometry g → i < n → size ≡ pages_of g n * g.page_size
+pair_laid : (g : Geometry) (n i size : ℕ) → IsGeometry g → i < n → size ≡ pages_of g n * g.page_size
     → IsLaid g.page_size size (pair_of g i)
 pair_laid g n i size is h e =
     let page = page_size_bounds g.page_size is.page_size in
@@ -72,28 +72,41 @@ pair_count g n ls are =
     sym (length-map ls pair_value) ∙ ap (λ (vs : List QueuePair). length vs) are
     ∙ length-map-range_with_len (pair_of g) 0 n
 
+-- each queue pair lies in a memory of so many pages
+pub all_laid : (g : Geometry) (n size : ℕ) → IsGeometry g → size ≡ pages_of g n * g.page_size
+    → All (IsLaid g.page_size size) (pairs_of g n)
+all_laid g n size is e i d h =
+    let many = length-map-range_with_len (pair_of g) 0 n in
+    rw (pair_at g n i d (omega arith)) (pair_laid g n i size is (omega arith) e)
+
+pub laid_in : (g : Geometry) (n i size : ℕ) → All (IsLaid g.page_size size) (pairs_of g n) → i < n
+    → IsLaid g.page_size size (pair_of g i)
+laid_in g n i size laid h =
+    let many = length-map-range_with_len (pair_of g) 0 n in
+    subst (IsLaid g.page_size size) (pair_at g n i (pair_of g i) h) (laid i (pair_of g i) (omega arith))
+
 -- ---- zeroed completion rings
 
 -- those of the queue pairs below stay so where that of queue pair c is zeroed too
-pub tags_more : (g : Geometry) (n c : ℕ) (old new : List ℕ) → IsGeometry g → c < n
-    → length old ≡ pages_of g n * g.page_size
+pub tags_more : (g : Geometry) (n c : ℕ) (old new : List ℕ)
+    → All (IsLaid g.page_size (length old)) (pairs_of g n) → c < n
     → KeepsOthers g.page_size (pair_of g c) old new → HoldsTags new (pair_of g c).cq g.depth 0
     → ((k : ℕ) → k < c → HoldsTags old (pair_of g k).cq g.depth 0)
     → (k : ℕ) → k < c + 1 → HoldsTags new (pair_of g k).cq g.depth 0
-tags_more g n c old new is h size keeps own tags =
+tags_more g n c old new laid h keeps own tags =
     below_more (λ k. HoldsTags new (pair_of g k).cq g.depth 0) c
     (λ k l. slots_stay g.page_size old new (pair_of g c) (pair_of g k) keeps
-    (pair_laid g n k (length old) is (omega arith) size) (pair_laid g n c (length old) is h size)
+    (laid_in g n k (length old) laid (omega arith)) (laid_in g n c (length old) laid h)
     (inl (pair_ends g k c l)) (tags k l))
     own
 
-pub settled_at_first : (g : Geometry) (n : ℕ) (bytes : List ℕ) → IsGeometry g
-    → length bytes ≡ pages_of g n * g.page_size
+pub settled_at_first : (g : Geometry) (n : ℕ) (bytes : List ℕ)
+    → All (IsLaid g.page_size (length bytes)) (pairs_of g n)
     → ((k : ℕ) → k < n → HoldsTags bytes (pair_of g k).cq g.depth 0) → IsSettled g.page_size bytes (pairs_of g n)
-settled_at_first g n bytes is size tags =
+settled_at_first g n bytes laid tags =
     let many : length (pairs_of g n) ≡ n = length-map-range_with_len (pair_of g) 0 n in
     record {
-      laid = λ i d h. rw (pair_at g n i d (omega arith)) (pair_laid g n i (length bytes) is (omega arith) size);
+      laid = laid;
       tags = λ i d h. rw (pair_at g n i d (omega arith)) (tags i (omega arith));
       apart = λ i j d h k. rw (pair_at g n i d (omega arith), pair_at g n j d (omega arith)) (pair_ends g i j h);
     }

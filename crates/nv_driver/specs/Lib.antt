@@ -1,4 +1,5 @@
 pub mod Geometry
+pub mod CheckedGeometry
 pub mod Names
 pub mod QueuePair
 pub mod Layout

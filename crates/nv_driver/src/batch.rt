@@ -17,8 +17,8 @@ ghost use Rattle.nv_driver.specs.Pace.{IsToldByPace, IsToldInTime, taken_by_turn
 
 use crate::answer_slot::AnswerSlot;
 use crate::answering::answer;
+use crate::checked_geometry::CheckedGeometry;
 use crate::command_pages::CommandPages;
-use crate::geometry::Geometry;
 use crate::queue_pair::QueuePair;
 use crate::scratch::Scratch;
 use crate::submitting::submit;
@@ -37,7 +37,7 @@ const MOST: usize = 16;
 #[derive(Drop)]
 pub struct Batch {
     ctrl: u16,
-    geometry: Geometry,
+    geometry: CheckedGeometry,
     outstanding: [Option<CommandPages>; MOST],
     sent: usize,
     collected: usize,
@@ -55,7 +55,7 @@ fn distance(cid: u16, next: u16) -> usize
 
 impl Batch {
     /// Nothing was sent yet.
-    fn new(ctrl: u16, geometry: Geometry) -> Batch
+    fn new(ctrl: u16, geometry: CheckedGeometry) -> Batch
         ensures ctrl { result.ctrl ≡ ctrl }
         ensures geometry { result.geometry ≡ geometry }
         ensures outstanding { length result.outstanding ≡ 16 }
@@ -97,11 +97,12 @@ impl Batch {
         ensures collected { self.new.collected ≡ self.old.collected }
         ensures told { self.new.told ≡ self.old.told }
     {
-        let room = self.geometry.window as usize - (self.sent - self.collected);
+        let geometry = self.geometry;
+        let room = usize::from(geometry.window) - (self.sent - self.collected);
         let end = self.sent + room.min(commands.len() - self.sent);
         let mut tail = None;
         for number in self.sent..end {
-            let (pages, next) = submit(mem, pair, self.geometry, &commands[number], scratch);
+            let (pages, next) = submit(mem, pair, geometry, &commands[number], scratch);
             self.outstanding[number % MOST] = Some(pages);
             self.sent += 1;
             tail = Some(next);
@@ -185,7 +186,8 @@ impl Batch {
         ensures none { result ≡ 0
             → (self.old.told < self.old.collected) × (self.new.told ≡ self.old.collected) }
     {
-        let posted = bus.turn(self.ctrl, mem, self.geometry.pace as u16);
+        let geometry = self.geometry;
+        let posted = bus.turn(self.ctrl, mem, geometry.pace);
         if posted == 0 {
             self.tell(bus, pair);
         }
@@ -218,7 +220,8 @@ impl Batch {
         let number = self.sent - distance(completion.cid, pair.serial);
         let pages = self.outstanding[number % MOST].unwrap();
         pages.give(&mut pair.pages);
-        let buffer = pages.buffer(self.geometry.offset);
+        let geometry = self.geometry;
+        let buffer = pages.buffer(geometry.offset);
         answer(
             mem,
             &buffer,
@@ -258,9 +261,11 @@ impl Batch {
         ensures paced { IsToldByPace self.old.geometry.pace self.old.told self.new.told }
         ensures told { posted ≡ 0 → self.new.told ≡ self.old.told }
     {
+        let geometry = self.geometry;
+        let pace = usize::from(geometry.pace);
         for _ in 0..posted {
             self.collect_one(mem, pair, commands, answers, scratch);
-            if self.collected - self.told == self.geometry.pace as usize {
+            if self.collected - self.told == pace {
                 self.tell(bus, pair);
             }
         }
@@ -307,7 +312,7 @@ pub(crate) fn exchange_all<B: Bus, M: HostMemory>(
     ctrl: u16,
     mem: &mut M,
     pair: &mut QueuePair,
-    geometry: Geometry,
+    geometry: CheckedGeometry,
     commands: &[Command],
     answers: &mut [AnswerSlot],
     scratch: &mut Scratch,

@@ -15,6 +15,7 @@ ghost use Rattle.nv_driver.specs.Registers.{banks_of};
 
 use crate::answer_slot::{Answer, AnswerSlot};
 use crate::batch::exchange_all;
+use crate::checked_geometry::CheckedGeometry;
 use crate::enabling::{enable_all, reset};
 use crate::error::DriverError;
 use crate::geometry::Geometry;
@@ -33,7 +34,7 @@ use std::slice::{from_mut, from_ref};
 #[derive(Drop)]
 pub struct Driver {
     mem: FlatMemory,
-    geometry: Geometry,
+    geometry: CheckedGeometry,
     pairs: Vec<QueuePair>,
     scratch: Scratch,
 }
@@ -72,9 +73,7 @@ impl Driver {
             (λ d. d ≡ new_driver geometry (length (B.meaning bus.old).banks)) }
         ensures banks { IfOk result (λ d. (B.meaning bus.new).banks ≡ banks_of d) }
     {
-        if let Err(field) = geometry.check() {
-            return Err(DriverError::Geometry(field));
-        }
+        let geometry = CheckedGeometry::new(geometry).map_err(DriverError::Geometry)?;
         let controllers = bus.controllers();
         let mut mem = FlatMemory::new(alloc, geometry.page_size, geometry.pages(controllers))?;
         let pairs = new_pairs(alloc, geometry, controllers)?;

@@ -9,16 +9,15 @@ ghost use Rattle.nv_model.specs.Reset.{reset, reset_if, reset_where};
 ghost use Rattle.nv_bus.specs.Bus.{IsBus, enabled_in, bank_at};
 ghost use Rattle.nv_driver.specs.Driver.{IsPlaced};
 ghost use Rattle.nv_driver.specs.Exchange.{IsReady, KeepsOthers};
-ghost use Rattle.nv_driver.specs.Geometry.{IsGeometry};
 ghost use Rattle.nv_driver.specs.QueuePair.{IsLaid, idle_bank, renewed_pair};
-ghost use Rattle.nv_driver.specs.Layout.{pair_of, pairs_of, pages_of};
+ghost use Rattle.nv_driver.specs.Layout.{pair_of, pairs_of};
 ghost use Rattle.nv_driver.specs.Quiet.{IsQuiet, pair_value};
 ghost use Rattle.nv_driver.specs.Registers.{HasQueues, disabled, idle_banks, mps_of};
 ghost use Rattle.nv_driver.specs.Registers.{with_queues};
 ghost use Rattle.nv_driver.specs.Settled.{IsSettled};
 
+use crate::checked_geometry::CheckedGeometry;
 use crate::error::DriverError;
-use crate::geometry::Geometry;
 use crate::queue_pair::QueuePair;
 use nv_bus::Bus;
 use nv_host::HostMemory;
@@ -60,8 +59,8 @@ fn await_ready<B: Bus>(bus: &B, ctrl: u16, ready: bool) -> Result<(), DriverErro
     Err(DriverError::NoReady)
 }
 
-/// Clears EN of a controller and awaits that it is not ready. Where EN was 1 this resets it. Section
-/// "Controller Configuration", Enable.
+/// Clears EN of a controller and awaits that it is not ready. Where EN was 1 this resets it.
+/// Section "Controller Configuration", Enable.
 fn disable<B: Bus>(bus: &mut B, ctrl: u16) -> Result<(), DriverError>
     requires { ctrl < length (B.meaning bus.old).banks }
     ensures ok { IsOk result }
@@ -97,8 +96,7 @@ fn set_queues<B: Bus>(bus: &mut B, ctrl: u16, less_one: u32, sq: u64, cq: u64)
 
 /// Sets EN of a controller whose queues are set, and awaits that it is ready with new rings.
 /// Section "Controller Configuration", Enable.
-fn start<B: Bus>(bus: &mut B, ctrl: u16, geometry: Geometry) -> Result<(), DriverError>
-    requires geometry { IsGeometry geometry }
+fn start<B: Bus>(bus: &mut B, ctrl: u16, geometry: CheckedGeometry) -> Result<(), DriverError>
     requires ctrl { ctrl < length (B.meaning bus.old).banks }
     requires queues { HasQueues (pair_of geometry ctrl) (bank_at (B.meaning bus.old).banks ctrl) }
     ensures ok { IsOk result }
@@ -118,9 +116,8 @@ fn enable<B: Bus, M: HostMemory>(
     ctrl: u16,
     mem: &mut M,
     pair: &QueuePair,
-    geometry: Geometry,
+    geometry: CheckedGeometry,
 ) -> Result<(), DriverError>
-    requires geometry { IsGeometry geometry }
     requires ctrl { ctrl < length (B.meaning bus.old).banks }
     requires few { ctrl < 16 }
     requires quiet { IsQuiet pair.now }
@@ -141,7 +138,7 @@ fn enable<B: Bus, M: HostMemory>(
     disable(bus, ctrl)?;
     pair.completion.zero(mem);
     let place = geometry.place(ctrl);
-    set_queues(bus, ctrl, geometry.depth - 1, place.sq, place.cq);
+    set_queues(bus, ctrl, u32::from(geometry.depth) - 1, place.sq, place.cq);
     start(bus, ctrl, geometry)
 }
 
@@ -150,15 +147,14 @@ pub(crate) fn enable_all<B: Bus, M: HostMemory>(
     bus: &mut B,
     mem: &mut M,
     pairs: &[QueuePair],
-    geometry: Geometry,
+    geometry: CheckedGeometry,
 ) -> Result<(), DriverError>
-    requires geometry { IsGeometry geometry }
     requires bus { IsBus (B.meaning bus.old) }
     requires quiet { All IsQuiet pairs.now }
     requires pairs { map pair_value pairs.now
         ≡ pairs_of geometry (length (B.meaning bus.old).banks) }
-    requires len { length (M.bytes mem.old)
-        ≡ pages_of geometry (length (B.meaning bus.old).banks) * geometry.page_size }
+    requires laid { All (IsLaid geometry.page_size (length (M.bytes mem.old)))
+        (pairs_of geometry (length (B.meaning bus.old).banks)) }
     ensures ok { IsOk result }
     ensures state { (B.meaning bus.new).state
         ≡ reset_where (enabled_in (B.meaning bus.old).banks) (B.meaning bus.old).state }
@@ -183,7 +179,7 @@ pub(crate) fn reset<B: Bus, M: HostMemory>(
     ctrl: u16,
     mem: &mut M,
     pair: &mut QueuePair,
-    geometry: Geometry,
+    geometry: CheckedGeometry,
 ) -> Result<(), DriverError>
     requires ready { IsReady geometry (B.meaning bus.old) ctrl
         pair.old (M.page_len mem.old) (M.bytes mem.old) }

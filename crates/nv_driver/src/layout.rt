@@ -1,11 +1,10 @@
 //! Where each controller's rings and pages lie in the host's memory.
 
 ghost use Rattle.std.specs.Prelude.{◌≡◌, ◌+◌, ◌^◌, ◌<◌, ◌≤◌};
-ghost use Rattle.nv_driver.specs.Geometry.{IsGeometry};
 ghost use Rattle.nv_driver.specs.Layout.{completion_pages, pair_of, pair_pages, pages_of};
 ghost use Rattle.nv_driver.specs.Layout.{set_pages, submission_pages};
 
-use crate::geometry::Geometry;
+use crate::checked_geometry::CheckedGeometry;
 
 /// The most bytes that a command's data has.
 const MOST_BYTES: u32 = 16_384;
@@ -25,40 +24,36 @@ pub struct Place {
     pub page_count: u32,
 }
 
-impl Geometry {
+impl CheckedGeometry {
     /// How many pages a submission ring takes.
     #[tactic(auto, unfolding(crate::specs::Layout::submission_pages))]
     fn submission_pages(self) -> u32
-        requires { IsGeometry self }
         ensures pages { result ≡ submission_pages self }
         ensures few { result ≤ 0x80000 }
     {
-        (64 * self.depth).div_ceil(self.page_size)
+        (64 * u32::from(self.depth)).div_ceil(self.page_size)
     }
 
     /// How many pages a completion ring takes.
     #[tactic(auto, unfolding(crate::specs::Layout::completion_pages))]
     fn completion_pages(self) -> u32
-        requires { IsGeometry self }
         ensures pages { result ≡ completion_pages self }
         ensures few { result ≤ 0x80000 }
     {
-        (16 * self.depth).div_ceil(self.page_size)
+        (16 * u32::from(self.depth)).div_ceil(self.page_size)
     }
 
     /// How many pages the outstanding commands take.
     #[tactic(auto, unfolding(crate::specs::Layout::set_pages))]
     fn set_pages(self) -> u32
-        requires { IsGeometry self }
         ensures pages { result ≡ set_pages self }
         ensures few { result ≤ 0x80000 }
     {
-        self.window * (MOST_BYTES.div_ceil(self.page_size) + MORE_PAGES)
+        u32::from(self.window) * (MOST_BYTES.div_ceil(self.page_size) + MORE_PAGES)
     }
 
     /// How many pages one controller takes.
     fn pair_pages(self) -> u32
-        requires { IsGeometry self }
         ensures pages { result ≡ pair_pages self }
         ensures few { result ≤ 0x180000 }
     {
@@ -68,7 +63,6 @@ impl Geometry {
     /// How many pages so many controllers take, of which there are 16 at most.
     #[tactic(auto, using(crate::proofs::LayoutLaws::pair_times))]
     pub(crate) fn pages(self, controllers: u16) -> u32
-        requires geometry { IsGeometry self }
         requires controllers { controllers ≤ 16 }
         ensures { result ≡ pages_of self controllers }
     {
@@ -78,7 +72,6 @@ impl Geometry {
     /// Where the rings and pages of a controller lie. The page behind them has a number too.
     #[tactic(auto, using(crate::proofs::LayoutLaws::lay))]
     pub(crate) fn place(self, ctrl: u16) -> Place
-        requires geometry { IsGeometry self }
         requires ctrl { ctrl < 16 }
         ensures sq { result.sq ≡ (pair_of self ctrl).sq }
         ensures cq { result.cq ≡ (pair_of self ctrl).cq }

@@ -39,6 +39,7 @@
 mod answer_slot;
 mod answering;
 mod batch;
+mod checked_geometry;
 mod command_pages;
 mod driver;
 mod enabling;

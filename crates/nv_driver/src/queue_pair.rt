@@ -3,12 +3,11 @@
 ghost use Rattle.std.specs.Prelude.{◌≡◌, ◌+◌, ◌*◌, ◌<◌, ◌≤◌, All, IfOk, length, map, replicate};
 ghost use Rattle.nv_host.specs.Bytes.{with_bytes};
 ghost use Rattle.nv_queue.specs.Slots.{HoldsTags};
-ghost use Rattle.nv_driver.specs.Geometry.{IsGeometry};
 ghost use Rattle.nv_driver.specs.QueuePair.{renewed_pair};
 ghost use Rattle.nv_driver.specs.Layout.{pair_of, pairs_of};
 ghost use Rattle.nv_driver.specs.Quiet.{IsQuiet, pair_value};
 
-use crate::geometry::Geometry;
+use crate::checked_geometry::CheckedGeometry;
 use nv_host::{HostMemory, Memory, PageSet};
 use nv_queue::{CompletionRing, SubmitRing};
 use std::alloc::Global;
@@ -25,18 +24,21 @@ pub struct QueuePair {
 }
 
 impl QueuePair {
-    /// The queue pair of a controller before its first command. The page set has a bit for each page.
-    pub(crate) fn new(alloc: Global, geometry: Geometry, ctrl: u16) -> Result<QueuePair, Memory>
-        requires geometry { IsGeometry geometry }
+    /// The queue pair of a controller before its first command. The page set has a bit for each
+    /// page.
+    pub(crate) fn new(
+        alloc: Global,
+        geometry: CheckedGeometry,
+        ctrl: u16,
+    ) -> Result<QueuePair, Memory>
         requires ctrl { ctrl < 16 }
         ensures quiet { IfOk result IsQuiet }
         ensures pair { IfOk result (λ l. pair_value l ≡ pair_of geometry ctrl) }
     {
         let place = geometry.place(ctrl);
-        let depth = geometry.depth as u16;
         Ok(QueuePair {
-            submission: SubmitRing::new(place.sq, depth),
-            completion: CompletionRing::new(place.cq, depth),
+            submission: SubmitRing::new(place.sq, geometry.depth),
+            completion: CompletionRing::new(place.cq, geometry.depth),
             serial: 0,
             pages: PageSet::new(alloc, place.first_page, place.page_count)?,
         })
@@ -66,10 +68,9 @@ impl QueuePair {
 #[tactic(auto, using(crate::proofs::QueuePairLaws::quiet_more, crate::proofs::QueuePairLaws::pairs_more))]
 pub(crate) fn new_pairs(
     alloc: Global,
-    geometry: Geometry,
+    geometry: CheckedGeometry,
     controllers: u16,
 ) -> Result<Vec<QueuePair>, Memory>
-    requires geometry { IsGeometry geometry }
     requires controllers { controllers ≤ 16 }
     ensures quiet { IfOk result (λ pairs. All IsQuiet pairs.items) }
     ensures pairs { IfOk result

@@ -13,13 +13,12 @@ ghost use Rattle.nv_queue.specs.Numbers.{next, slot_of};
 ghost use Rattle.nv_queue.specs.Rings.{IsSubmitFull};
 ghost use Rattle.nv_model.specs.Numbers.{serial_count};
 ghost use Rattle.nv_driver.specs.CommandPages.{data_pages};
-ghost use Rattle.nv_driver.specs.Geometry.{IsGeometry};
 ghost use Rattle.nv_driver.specs.Layout.{pages_of_command};
 ghost use Rattle.nv_driver.specs.Schedule.{CanBeSent};
 ghost use Rattle.nv_driver.specs.Submitting.{IsSubmitted};
 
+use crate::checked_geometry::CheckedGeometry;
 use crate::command_pages::CommandPages;
-use crate::geometry::Geometry;
 use crate::queue_pair::QueuePair;
 use crate::scratch::Scratch;
 use nv_command::{Command, Transfer};
@@ -42,8 +41,7 @@ fn data_length(command: &Command) -> u32
 }
 
 /// In how many pages so many bytes lie, from the geometry's offset on.
-fn page_count(geometry: Geometry, len: u32) -> usize
-    requires geometry { IsGeometry geometry }
+fn page_count(geometry: CheckedGeometry, len: u32) -> usize
     requires len { len ≤ 16384 }
     ensures enough { geometry.offset + len ≤ result * geometry.page_size }
     ensures few { result + 2 ≤ pages_of_command geometry.page_size }
@@ -56,7 +54,7 @@ fn page_count(geometry: Geometry, len: u32) -> usize
 /// and PRP2. Writes its list where it has one. Section "Physical Region Page Entry and List".
 fn build_pointer<M: HostMemory>(
     mem: &mut M,
-    geometry: Geometry,
+    geometry: CheckedGeometry,
     pages: &CommandPages,
     len: u32,
 ) -> (u64, u64)
@@ -130,11 +128,10 @@ fn write_data<M: HostMemory>(mem: &mut M, buffer: &Buffer, command: &Command, sc
 pub(crate) fn submit<M: HostMemory>(
     mem: &mut M,
     pair: &mut QueuePair,
-    geometry: Geometry,
+    geometry: CheckedGeometry,
     command: &Command,
     scratch: &mut Scratch,
 ) -> (CommandPages, u16)
-    requires geometry { IsGeometry geometry }
     requires page { M.page_len mem.old ≡ geometry.page_size }
     requires can { CanBeSent command.now }
     requires serial { pair.old.serial < serial_count }
@@ -151,10 +148,11 @@ pub(crate) fn submit<M: HostMemory>(
     ensures len { length (M.bytes mem.new) ≡ length (M.bytes mem.old) }
     ensures page { M.page_len mem.new ≡ M.page_len mem.old }
 {
+    let offset = geometry.offset;
     let len = data_length(command);
     let pages = CommandPages::take(&mut pair.pages, page_count(geometry, len));
     let (prp1, prp2) = build_pointer(mem, geometry, &pages, len);
-    write_data(mem, &pages.buffer(geometry.offset), command, scratch);
+    write_data(mem, &pages.buffer(offset), command, scratch);
     let mut entry = command.entry(pair.serial);
     entry.prp1 = prp1;
     entry.prp2 = prp2;

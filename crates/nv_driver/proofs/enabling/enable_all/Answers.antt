@@ -1,6 +1,8 @@
-use Rattle.std.proofs.Common.{◌∙◌, arith, length, rules, subst, sym}
+use Rattle.std.proofs.Common.{◌∙◌, All, arith, length, rules, subst, sym}
+use Rattle.nv_driver.specs.Layout.{pairs_of}
+use Rattle.nv_driver.specs.QueuePair.{IsLaid}
 use Rattle.nv_driver.specs.Quiet.{IsQuiet}
-use Rattle.nv_driver.proofs.MemoryLaws.{pair_count, pair_is, pair_laid, settled_at_first, tags_more}
+use Rattle.nv_driver.proofs.MemoryLaws.{laid_in, pair_count, pair_is, settled_at_first, tags_more}
 use Rattle.nv_driver.proofs.RegisterLaws.{above_set, all_enabled, below_set}
 use Rattle.nv_driver.proofs.ResetLaws.{states_all, states_more}
 use Rattle.nv_driver.proofs.enabling.enable_all.Goals as goal
@@ -22,8 +24,7 @@ enable-requires-clause-pair g c =
 
 pub enable-requires-clause-laid : goal.enable-requires-clause-laid
 enable-requires-clause-laid g c =
-    pair_laid c.args.geometry _ c.loop-ctrl.ctrl _ c.requires.geometry (omega arith)
-    (c.loop-ctrl.invariant.size ∙ c.requires.len)
+    laid_in c.args.geometry _ c.loop-ctrl.ctrl _ c.loop-ctrl.invariant.laid (omega arith)
 
 pub loop-ctrl-preserved : goal.loop-ctrl-preserved
 loop-ctrl-preserved g c = record {
@@ -34,9 +35,11 @@ loop-ctrl-preserved g c = record {
   below = below_set _ _ c.loop-ctrl.ctrl _ (omega arith) c.enable.ensures.banks c.loop-ctrl.invariant.below;
   above = above_set _ _ _ c.loop-ctrl.ctrl _ c.enable.ensures.banks c.loop-ctrl.invariant.above;
   tags = tags_more c.args.geometry (length (g.B.Bus.meaning c.args.bus.now).banks) c.loop-ctrl.ctrl
-      _ _ c.requires.geometry (omega arith)
-      (c.loop-ctrl.invariant.size ∙ c.requires.len) c.enable.ensures.others c.enable.ensures.tags
+      _ _ c.loop-ctrl.invariant.laid (omega arith) c.enable.ensures.others c.enable.ensures.tags
       c.loop-ctrl.invariant.tags;
+  laid = subst (λ n. All (IsLaid c.args.geometry.page_size n)
+      (pairs_of c.args.geometry (length (g.B.Bus.meaning c.args.bus.now).banks)))
+      (sym c.enable.ensures.len) c.loop-ctrl.invariant.laid;
   size = c.enable.ensures.len ∙ c.loop-ctrl.invariant.size;
   page = c.enable.ensures.page ∙ c.loop-ctrl.invariant.page;
 }
@@ -48,8 +51,8 @@ returns-clause-banks g c =
 
 pub returns-clause-settled : goal.returns-clause-settled
 returns-clause-settled g c =
-    settled_at_first c.args.geometry (length (g.B.Bus.meaning c.args.bus.now).banks) _ c.requires.geometry
-    (c.loop-ctrl.invariant.size ∙ c.requires.len) (λ k h. c.loop-ctrl.invariant.tags k (omega arith))
+    settled_at_first c.args.geometry (length (g.B.Bus.meaning c.args.bus.now).banks) _
+    c.loop-ctrl.invariant.laid (λ k h. c.loop-ctrl.invariant.tags k (omega arith))
 
 pub returns-clause-state : goal.returns-clause-state
 returns-clause-state g c =

@@ -1,9 +1,9 @@
-use Rattle.std.proofs.Common.{◌≡◌, ℕ, ◌<◌, ◌≤◌, length}
+use Rattle.std.proofs.Common.{◌≡◌, ℕ, ◌<◌, ◌≤◌, All, length}
 use Rattle.nv_queue.specs.Slots.{HoldsTags}
 use Rattle.nv_model.proofs.ResetLaws.{reset_first}
 use Rattle.nv_bus.specs.Bus.{IsBus, enabled_in, bank_at}
-use Rattle.nv_driver.specs.QueuePair.{idle_bank}
-use Rattle.nv_driver.specs.Layout.{pair_of}
+use Rattle.nv_driver.specs.QueuePair.{IsLaid, idle_bank}
+use Rattle.nv_driver.specs.Layout.{pair_of, pairs_of}
 use Rattle.nv_driver.specs.Registers.{mps_of}
 use Rattle.nv_driver.proofs.enabling.enable_all.Given as goal
 
@@ -18,6 +18,8 @@ invariant-loop-ctrl g l = record {
       ≡ idle_bank (mps_of l.geometry.page_size) l.geometry.page_size (pair_of l.geometry k);
   above : (k : ℕ) → l.ctrl ≤ k → bank_at (g.B.Bus.meaning l.bus).banks k ≡ bank_at (g.B.Bus.meaning l.fn.bus).banks k;
   tags : (k : ℕ) → k < l.ctrl → HoldsTags (g.M.HostMemory.bytes l.mem) (pair_of l.geometry k).cq l.geometry.depth 0;
+  laid : All (IsLaid l.geometry.page_size (length (g.M.HostMemory.bytes l.mem)))
+      (pairs_of l.geometry (length (g.B.Bus.meaning l.fn.bus).banks));
   size : length (g.M.HostMemory.bytes l.mem) ≡ length (g.M.HostMemory.bytes l.fn.mem);
   page : g.M.HostMemory.page_len l.mem ≡ g.M.HostMemory.page_len l.fn.mem;
 }

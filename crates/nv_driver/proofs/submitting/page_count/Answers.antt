@@ -3,26 +3,30 @@ use Rattle.nv_host.proofs.PageLaws.{page_size_bounds}
 use Rattle.nv_driver.proofs.PointerLaws.{enough_pages, seven_pages}
 use Rattle.nv_driver.proofs.submitting.page_count.Goals as goal
 
-pub overflow_add-geometry : goal.overflow_add-geometry
-overflow_add-geometry c =
-    let g = c.requires.geometry in
-    let size = page_size_bounds c.args.geometry.page_size g.page_size in omega (arith, size, g.offset.1, c.requires.len)
+pub overflow_add-geometry-inside : goal.overflow_add-geometry-inside
+overflow_add-geometry-inside c =
+    let g = c.geometry.invariant in
+    let size = page_size_bounds c.geometry.inside.page_size g.page_size in
+    omega (arith, size, g.offset.1, c.requires.len)
 
 pub returns-clause-enough : goal.returns-clause-enough
 returns-clause-enough c =
-    let g = c.requires.geometry in
-    (enough_pages c.args.geometry.offset c.args.len c.args.geometry.page_size c.div_ceil.result
+    let g = c.geometry.invariant in
+    let fields = c.geometry.inside in
+    rw (← c.geometry.view_is) (enough_pages fields.offset c.args.len fields.page_size c.div_ceil.result
     g.page_size g.offset.1 c.requires.len c.div_ceil.ensures).0
 
 pub returns-clause-few : goal.returns-clause-few
 returns-clause-few c =
-    let g = c.requires.geometry in
-    (enough_pages c.args.geometry.offset c.args.len c.args.geometry.page_size c.div_ceil.result
+    let g = c.geometry.invariant in
+    let fields = c.geometry.inside in
+    rw (← c.geometry.view_is) (enough_pages fields.offset c.args.len fields.page_size c.div_ceil.result
     g.page_size g.offset.1 c.requires.len c.div_ceil.ensures).1
 
 pub returns-clause-five : goal.returns-clause-five
 returns-clause-five c =
-    let g = c.requires.geometry in
-    let few = (enough_pages c.args.geometry.offset c.args.len c.args.geometry.page_size
-    c.div_ceil.result g.page_size g.offset.1 c.requires.len c.div_ceil.ensures).1 in
-    omega (arith, few, seven_pages c.args.geometry.page_size g.page_size)
+    let g = c.geometry.invariant in
+    let fields = c.geometry.inside in
+    let few = (enough_pages fields.offset c.args.len fields.page_size c.div_ceil.result
+    g.page_size g.offset.1 c.requires.len c.div_ceil.ensures).1 in
+    omega (arith, few, seven_pages fields.page_size g.page_size)

@@ -7,8 +7,10 @@ use Rattle.nv_queue.specs.Rings.{SubmitNumbers, submitted_one}
 use Rattle.nv_queue.specs.Slots.{with_submission}
 use Rattle.nv_command.specs.Command.{host_data_of}
 use Rattle.nv_command.specs.Entry.{with_pointer}
+use Rattle.nv_driver.specs.Geometry.{IsGeometry}
 use Rattle.nv_driver.specs.Layout.{pages_of_command}
 use Rattle.nv_driver.specs.Submitting.{sent_by}
+use Rattle.nv_driver.specs.declared.geometry.Geometry.{Geometry}
 use Rattle.nv_driver.proofs.SubmittingLaws.{buffer_as, buffer_of, built_by, distinct_of, list_of}
 use Rattle.nv_driver.proofs.SubmittingLaws.{on_ok, places_as, prepared_by}
 use Rattle.nv_driver.proofs.submitting.submit.Goals as goal
@@ -20,9 +22,10 @@ build_pointer-prp1-requires-clause-buffer g c =
     let len = c.data_length-len.result in
     let pages = c.args.pair.now.pages in
     let bytes = g.M.HostMemory.bytes c.args.mem.now in
+    let is = subst IsGeometry c.geometry.view_is c.geometry.invariant in
     let enough = subst (λ n. geometry.offset + len ≤ n * geometry.page_size)
     (sym t.count) c.page_count.ensures.enough in
-    buffer_of geometry pages c.take-pages.result bytes _ len c.requires.geometry c.requires.page
+    buffer_of geometry pages c.take-pages.result bytes _ len is c.requires.page
     (record {
       seven = t.seven;
       few = omega (arith, t.count, c.page_count.ensures.five);
@@ -36,7 +39,8 @@ build_pointer-prp1-requires-clause-list g c =
     let t = c.take-pages.ensures in
     let pages = c.args.pair.now.pages in
     let bytes = g.M.HostMemory.bytes c.args.mem.now in
-    list_of c.args.geometry pages c.take-pages.result bytes _ c.requires.geometry c.requires.page
+    let is = subst IsGeometry c.geometry.view_is c.geometry.invariant in
+    list_of c.args.geometry pages c.take-pages.result bytes _ is c.requires.page
     (record {
       seven = t.seven;
       few = omega (arith, t.count, c.page_count.ensures.five);
@@ -58,11 +62,13 @@ write_data-requires-clause-buffer g c =
     let pair = c.args.pair.now in
     let pages = c.take-pages.result in
     let built = g.M.HostMemory.bytes c.build_pointer-prp1.new.mem in
+    let is = subst IsGeometry c.geometry.view_is c.geometry.invariant in
     let enough = subst (λ n. geometry.offset + len ≤ n * geometry.page_size)
     (sym t.count) c.page_count.ensures.enough in
-    buffer_as (sym (b.page ∙ c.requires.page)) (sym c.buffer.ensures.pages) (sym c.buffer.ensures.offset)
+    let offset = c.buffer.ensures.offset ∙ ap (λ (q : Geometry). q.offset) c.geometry.view_is in
+    buffer_as (sym (b.page ∙ c.requires.page)) (sym c.buffer.ensures.pages) (sym offset)
     c.data_length-len.ensures.length
-    (buffer_of geometry pair.pages pages built geometry.page_size len c.requires.geometry refl
+    (buffer_of geometry pair.pages pages built geometry.page_size len is refl
     (record {
       seven = t.seven;
       few = omega (arith, t.count, c.page_count.ensures.five);
@@ -87,12 +93,14 @@ returns-clause-submitted g c =
     let built = g.M.HostMemory.bytes c.build_pointer-prp1.new.mem in
     let ready = g.M.HostMemory.bytes c.write_data.new.mem in
     let len = c.data_length-len.ensures.length in
+    let is = subst IsGeometry c.geometry.view_is c.geometry.invariant in
+    let offset = c.buffer.ensures.offset ∙ ap (λ (q : Geometry). q.offset) c.geometry.view_is in
     let few : pages.data_pages + 2 ≤ pages_of_command geometry.page_size =
     omega (arith, t.count, c.page_count.ensures.few) in
     let enough = subst (λ n. geometry.offset + n ≤ pages.data_pages * geometry.page_size) len
     (subst (λ n. geometry.offset + c.data_length-len.result ≤ n * geometry.page_size)
     (sym t.count) c.page_count.ensures.enough) in
-    let buffer = buffer_of geometry pair.pages pages before geometry.page_size _ c.requires.geometry refl
+    let buffer = buffer_of geometry pair.pages pages before geometry.page_size _ is refl
     (record {
       seven = t.seven;
       few = omega (arith, t.count, c.page_count.ensures.five);
@@ -111,11 +119,11 @@ returns-clause-submitted g c =
       taken = t.taken;
       enough = enough;
       ready = ready;
-      prepared = prepared_by geometry.page_size x before built ready c.requires.geometry.page_size
+      prepared = prepared_by geometry.page_size x before built ready is.page_size
           c.requires.can.fits buffer distinct is_built
           (c.write_data.ensures.bytes
           ∙ ap (λ at. written_at built at (host_data_of k))
-          (places_as (b.page ∙ c.requires.page) c.buffer.ensures.pages c.buffer.ensures.offset refl));
+          (places_as (b.page ∙ c.requires.page) c.buffer.ensures.pages offset refl));
       pointer = λ none. b.none (len ∙ none);
       mem = on_ok c.push.result c.unwrap-tail.result ok c.push.ensures.bytes
           ∙ ap (λ (e : Sqe). with_submission ready pair.submission (with_pointer e pointer.0 pointer.1))

@@ -6,7 +6,7 @@ use Rattle.nv_driver.specs.declared.geometry.Geometry.{Geometry}
 use Rattle.nv_driver.specs.declared.queue_pair.QueuePair.{QueuePair}
 use Rattle.nv_driver.proofs.RoundLaws.{tells_on}
 use Rattle.nv_driver.proofs.batch.Batch.collect.Goals as goal
-use Rattle.nv_driver.proofs.batch.Batch.collect.Goals.{then-self, else-self}
+use Rattle.nv_driver.proofs.batch.Batch.collect.Goals.{then-self-pace, else-self-pace}
 
 -- the head is told once more
 told_once : (pace times before old new : ℕ) → old ≡ before + times * pace → new ≡ old + pace
@@ -31,16 +31,17 @@ loop-preserved g c =
     ) in
     let paces : c.loop.self.geometry.pace ≡ c.args.self.now.geometry.pace =
     ap (λ (q : Geometry). q.pace) (u.geometry ∙ sym asked.geometry) in
+    let limit = c.from-pace.ensures ∙ ap (λ (q : Geometry). q.pace) c.geometry.view_is in
     let bus = subst (λ (x : Batch). IsBusOf r x.sent done x.told (g.B.Bus.meaning c.loop.bus)) (sym one.batch) i.bus in
-    elim c.if-self.branch [
-      | then-self w ↦
+    elim c.if-self-pace.branch [
+      | then-self-pace w ↦
           let told = w.tell.ensures in
           let is = w.self-is ∙ told.batch in
           let next = tells_on one.under_way bus is (w.pair-is ∙ told.pair) told.state told.bus told.told told.silent in
           let same = ap (λ (x : Batch). x.collected) is in
           record {
             under_way = next.0;
-            bus = subst (λ x. IsBusOf r c.if-self.self.sent done c.if-self.self.told
+            bus = subst (λ x. IsBusOf r c.if-self-pace.self.sent done c.if-self-pace.self.told
                 (g.B.Bus.meaning x)) (sym w.bus-is) next.1;
             answers = subst (λ n. HasAnswers r n c.collect_one.new.answers) (sym same) one.answers;
             collected = omega (arith, same, count, i.collected);
@@ -53,28 +54,41 @@ loop-preserved g c =
               pace,
             );
             paced = let t = i.paced in
-                subst (λ p. IsToldByPace p c.args.self.now.told c.if-self.self.told) paces
-                (told_once c.loop.self.geometry.pace t.0 c.args.self.now.told c.loop.self.told c.if-self.self.told
+                subst (λ p. IsToldByPace p c.args.self.now.told c.if-self-pace.self.told) paces
+                (told_once c.loop.self.geometry.pace t.0 c.args.self.now.told c.loop.self.told c.if-self-pace.self.told
                 (t.1 ∙ ap (λ p. c.args.self.now.told + t.0 * p) (sym paces))
-                (omega (arith, some, w.if-self.true, ap (λ (x : Batch). x.told) is, count, before, pace)));
+                (omega (
+                  arith,
+                  some,
+                  w.if-self-pace.true,
+                  limit,
+                  paces,
+                  ap (λ (x : Batch). x.told) is,
+                  count,
+                  before,
+                  pace,
+                )));
             told = λ none. absurd (omega arith);
           }
-      | else-self w ↦
+      | else-self-pace w ↦
           let same = ap (λ (x : Batch). x.collected) w.self-is in
           record {
-            under_way = subst (λ (x : Batch). IsUnderWay r x.sent done x c.if-self.pair
+            under_way = subst (λ (x : Batch). IsUnderWay r x.sent done x c.if-self-pace.pair
                 (g.M.HostMemory.page_len c.args.mem.now) (g.M.HostMemory.bytes c.args.mem.now))
                 (sym w.self-is)
                 (subst (λ (x : QueuePair). IsUnderWay r c.collect_one.new.self.sent done
                 c.collect_one.new.self x (g.M.HostMemory.page_len c.args.mem.now)
                 (g.M.HostMemory.bytes c.args.mem.now)) (sym w.pair-is) one.under_way);
-            bus = subst (λ x. IsBusOf r c.if-self.self.sent done c.if-self.self.told (g.B.Bus.meaning x)) (sym w.bus-is)
+            bus = subst (λ x. IsBusOf r c.if-self-pace.self.sent done c.if-self-pace.self.told
+                (g.B.Bus.meaning x)) (sym w.bus-is)
                 (subst (λ (x : Batch). IsBusOf r x.sent done x.told (g.B.Bus.meaning c.loop.bus)) (sym w.self-is) bus);
             answers = subst (λ n. HasAnswers r n c.collect_one.new.answers) (sym same) one.answers;
             collected = omega (arith, same, count, i.collected);
             near = omega (
               arith,
-              w.if-self.false,
+              w.if-self-pace.false,
+              limit,
+              paces,
               i.near,
               same,
               ap (λ (x : Batch). x.told) w.self-is,

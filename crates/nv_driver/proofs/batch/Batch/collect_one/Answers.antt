@@ -1,5 +1,6 @@
-use Rattle.std.proofs.Common.{◌%◌, List, None, ap, arith, length, slice_index_or, sym}
+use Rattle.std.proofs.Common.{◌∙◌, ◌%◌, List, None, ap, arith, length, slice_index_or, sym}
 use Rattle.nv_command.specs.declared.command.Command.{Command}
+use Rattle.nv_driver.specs.declared.geometry.Geometry.{Geometry}
 use Rattle.nv_driver.proofs.CollectLaws.{answer_buffer, answer_sends, answers_more, cid_below, collects, command_at}
 use Rattle.nv_driver.proofs.CollectLaws.{distance_to, freed_between, give_distinct, give_none, give_own, in_some}
 use Rattle.nv_driver.proofs.CollectLaws.{is_some, is_there, no_more, number_is, one_is}
@@ -138,7 +139,8 @@ answer-requires-clause-buffer g c =
     let place = ap (λ n. slice_index_or c.args.self.now.outstanding (n % 16) None) (sym at) in
     let same = command_at u _ (omega (arith, more, no_more u)) at c.requires.1.0 c.index-commands-number.is in
     let buffer = c.buffer-buffer.ensures in
-    answer_buffer u more some value place c.unwrap-pages.ensures same buffer.pages buffer.offset
+    let offset = buffer.offset ∙ ap (λ (q : Geometry). q.offset) c.geometry.view_is in
+    answer_buffer u more some value place c.unwrap-pages.ensures same buffer.pages offset
 
 pub bounds-answers-number : goal.bounds-answers-number
 bounds-answers-number g c =
@@ -173,5 +175,6 @@ returns-clause-answers g c =
     let place = ap (λ n. slice_index_or c.args.self.now.outstanding (n % 16) None) (sym at) in
     let same = command_at u _ (omega (arith, more, no_more u)) at c.requires.1.0 c.index-commands-number.is in
     let buffer = c.buffer-buffer.ensures in
-    answers_more u more some value place c.unwrap-pages.ensures same buffer.pages buffer.offset
+    let offset = buffer.offset ∙ ap (λ (q : Geometry). q.offset) c.geometry.view_is in
+    answers_more u more some value place c.unwrap-pages.ensures same buffer.pages offset
     at asked.1.0 c.answer.ensures

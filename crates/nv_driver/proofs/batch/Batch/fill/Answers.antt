@@ -1,4 +1,4 @@
-use Rattle.std.proofs.Common.{◌+◌, ◌<◌, ◌≤◌, List, ap, arith, length, subst, sym}
+use Rattle.std.proofs.Common.{◌∙◌, ◌+◌, ◌<◌, ◌≤◌, List, ap, arith, length, subst, sym}
 use Rattle.std.specs.FinSet as set
 use Rattle.nv_command.specs.declared.command.Command.{Command}
 use Rattle.nv_driver.specs.Layout.{pages_of_command}
@@ -11,15 +11,17 @@ submit-next-requires-clause-pages g c =
     let i = c.loop-number.invariant in
     let first = c.requires.1.1 in
     let u = i.under_way in
-    subst (λ (q : Geometry). pages_of_command q.page_size ≤ set.len c.loop-number.pair.pages.members) (sym u.geometry)
+    subst (λ (q : Geometry). pages_of_command q.page_size ≤ set.len c.loop-number.pair.pages.members)
+    (sym first.geometry)
     (set_has u (omega (
       arith,
       i.sent,
       i.collected,
       c.loop-number-test.true,
       c.min.ensures,
+      c.from.ensures,
       first.window,
-      ap (λ (q : Geometry). q.window) first.geometry,
+      ap (λ (q : Geometry). q.window) (c.geometry.view_is ∙ first.geometry),
     )))
 
 pub submit-next-requires-clause-free : goal.submit-next-requires-clause-free
@@ -33,8 +35,9 @@ submit-next-requires-clause-free g c =
       i.collected,
       c.loop-number-test.true,
       c.min.ensures,
+      c.from.ensures,
       first.window,
-      ap (λ (q : Geometry). q.window) first.geometry,
+      ap (λ (q : Geometry). q.window) (c.geometry.view_is ∙ first.geometry),
     ))
 
 pub loop-number-preserved : goal.loop-number-preserved
@@ -49,12 +52,13 @@ loop-number-preserved g c =
       i.collected,
       c.loop-number-test.true,
       c.min.ensures,
+      c.from.ensures,
       first.window,
-      ap (λ (q : Geometry). q.window) first.geometry,
+      ap (λ (q : Geometry). q.window) (c.geometry.view_is ∙ first.geometry),
     ) in
     let many = ap (λ (ks : List Command). length ks) c.requires.1.0 in
     record {
-      under_way = submits_at u _ i.sent more u.geometry c.submit-next.ensures.submitted
+      under_way = submits_at u _ i.sent more first.geometry c.submit-next.ensures.submitted
           c.requires.1.0 c.index-commands-number.is
           (omega (arith, i.sent, c.loop-number-test.true, c.min.ensures, many, first.some))
           c.submit-next.ensures.len c.submit-next.ensures.page;

@@ -9,7 +9,8 @@ pub returns-then-posted-eq0-clause-under_way : goal.returns-then-posted-eq0-clau
 returns-then-posted-eq0-clause-under_way g c =
     let u = c.requires.1.1.0 in
     let e = c.turn-posted.ensures in
-    let h = turns_on u c.requires.1.1.1.0 u.controller e.turn e.bus e.len e.page in
+    let paced = ap (λ (q : Geometry). q.pace) c.geometry.view_is in
+    let h = turns_on u c.requires.1.1.1.0 u.controller (rw paced at e.turn) e.bus e.len e.page in
     let t = c.tell.ensures in
     let next = tells_on h.under_way h.bus_is t.batch t.pair t.state t.bus t.told t.silent in
     let same = ap (λ (x : Batch). x.collected + c.turn-posted.result) t.batch in
@@ -21,7 +22,8 @@ pub returns-then-posted-eq0-clause-bus : goal.returns-then-posted-eq0-clause-bus
 returns-then-posted-eq0-clause-bus g c =
     let u = c.requires.1.1.0 in
     let e = c.turn-posted.ensures in
-    let h = turns_on u c.requires.1.1.1.0 u.controller e.turn e.bus e.len e.page in
+    let paced = ap (λ (q : Geometry). q.pace) c.geometry.view_is in
+    let h = turns_on u c.requires.1.1.1.0 u.controller (rw paced at e.turn) e.bus e.len e.page in
     let t = c.tell.ensures in
     let next = tells_on h.under_way h.bus_is t.batch t.pair t.state t.bus t.told t.silent in
     let same = ap (λ (x : Batch). x.collected + c.turn-posted.result) t.batch in
@@ -32,7 +34,8 @@ pub returns-then-posted-eq0-clause-none : goal.returns-then-posted-eq0-clause-no
 returns-then-posted-eq0-clause-none g c = λ none.
     let u = c.requires.1.1.0 in
     let e = c.turn-posted.ensures in
-    let h = turns_on u c.requires.1.1.1.0 u.controller e.turn e.bus e.len e.page in
+    let paced = ap (λ (q : Geometry). q.pace) c.geometry.view_is in
+    let h = turns_on u c.requires.1.1.1.0 u.controller (rw paced at e.turn) e.bus e.len e.page in
     let pace = u.begun.geometry.pace in (
       none_free h none (omega (arith, pace.0, ap (λ (q : Geometry). q.pace) u.geometry))
           c.requires.1.1.1.1.0,
@@ -43,19 +46,22 @@ pub returns-else-posted-eq0-clause-under_way : goal.returns-else-posted-eq0-clau
 returns-else-posted-eq0-clause-under_way g c =
     let u = c.requires.1.1.0 in
     let e = c.turn-posted.ensures in
-    (turns_on u c.requires.1.1.1.0 u.controller e.turn e.bus e.len e.page).under_way
+    let paced = ap (λ (q : Geometry). q.pace) c.geometry.view_is in
+    (turns_on u c.requires.1.1.1.0 u.controller (rw paced at e.turn) e.bus e.len e.page).under_way
 
 pub returns-else-posted-eq0-clause-bus : goal.returns-else-posted-eq0-clause-bus
 returns-else-posted-eq0-clause-bus g c =
     let u = c.requires.1.1.0 in
     let e = c.turn-posted.ensures in
-    (turns_on u c.requires.1.1.1.0 u.controller e.turn e.bus e.len e.page).bus_is
+    let paced = ap (λ (q : Geometry). q.pace) c.geometry.view_is in
+    (turns_on u c.requires.1.1.1.0 u.controller (rw paced at e.turn) e.bus e.len e.page).bus_is
 
 pub returns-then-posted-eq0-clause-count : goal.returns-then-posted-eq0-clause-count
 returns-then-posted-eq0-clause-count g c =
     let u = c.requires.1.1.0 in
     let e = c.turn-posted.ensures in
-    (turns_on u c.requires.1.1.1.0 u.controller e.turn e.bus e.len e.page).number_is
+    let paced = ap (λ (q : Geometry). q.pace) c.geometry.view_is in
+    (turns_on u c.requires.1.1.1.0 u.controller (rw paced at e.turn) e.bus e.len e.page).number_is
 
 pub returns-then-posted-eq0-clause-near : goal.returns-then-posted-eq0-clause-near
 returns-then-posted-eq0-clause-near g c =
@@ -74,4 +80,5 @@ pub returns-else-posted-eq0-clause-count : goal.returns-else-posted-eq0-clause-c
 returns-else-posted-eq0-clause-count g c =
     let u = c.requires.1.1.0 in
     let e = c.turn-posted.ensures in
-    (turns_on u c.requires.1.1.1.0 u.controller e.turn e.bus e.len e.page).number_is
+    let paced = ap (λ (q : Geometry). q.pace) c.geometry.view_is in
+    (turns_on u c.requires.1.1.1.0 u.controller (rw paced at e.turn) e.bus e.len e.page).number_is

@@ -1,0 +1,60 @@
+//! A geometry that was checked.
+
+ghost use Rattle.std.specs.Prelude.{◌≡◌, MatchResult, None, Some};
+ghost use Rattle.nv_driver.specs.Geometry.{fault_of};
+
+use crate::geometry::Geometry;
+use crate::geometry_field::GeometryField;
+use std::marker::Model;
+
+/// A geometry each of whose fields keeps its limits, in the types of the rings and turns.
+#[derive(Clone, Copy)]
+pub struct CheckedGeometry {
+    pub depth: u16,
+    pub page_size: u32,
+    pub offset: u32,
+    pub list_offset: u32,
+    pub window: u16,
+    pub pace: u16,
+}
+
+impl Model for CheckedGeometry {
+    ghost use Rattle.nv_driver.specs.Geometry.{IsGeometry};
+    ghost use Rattle.nv_driver.specs.declared.geometry.Geometry.{Geometry};
+
+    ghost Value = { Geometry };
+
+    ghost use Rattle.nv_driver.specs.CheckedGeometry.{geometry_of};
+
+    ghost view = { geometry_of };
+
+    ghost invariant = { λ g. IsGeometry (geometry_of g) };
+
+    ghost inverse = { λ g. record {
+      depth = g.depth;
+      page_size = g.page_size;
+      offset = g.offset;
+      list_offset = g.list_offset;
+      window = g.window;
+      pace = g.pace;
+    } };
+}
+
+impl CheckedGeometry {
+    /// The geometry where it keeps its limits, or else the first field that doesn't.
+    pub(crate) fn new(geometry: Geometry) -> Result<CheckedGeometry, GeometryField>
+        ensures { MatchResult result
+            (λ checked. (checked ≡ geometry) × (fault_of geometry ≡ None))
+            (λ field. fault_of geometry ≡ Some field) }
+    {
+        geometry.check()?;
+        Ok(CheckedGeometry {
+            depth: u16::try_from(geometry.depth).unwrap(),
+            page_size: geometry.page_size,
+            offset: geometry.offset,
+            list_offset: geometry.list_offset,
+            window: u16::try_from(geometry.window).unwrap(),
+            pace: u16::try_from(geometry.pace).unwrap(),
+        })
+    }
+}
