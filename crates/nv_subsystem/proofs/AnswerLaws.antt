@@ -2,14 +2,14 @@
 use Rattle.std.proofs.Common.{◌≡◌, Option, Some, None, Result, Ok, Err, refl}
 use Rattle.nv_command.specs.declared.refusal.Refusal.{Refusal}
 use Rattle.nv_command.specs.declared.reply.Reply.{Reply}
-use Rattle.nv_model.specs.Step.{answer_by, answer_without_phases}
+use Rattle.nv_model.specs.Step.{answer_by}
 
 abbrev pub refusal_in : Result Reply Refusal → Option Refusal
 refusal_in (Ok r) = None
 refusal_in (Err refusal) = Some refusal
 
-pub refused_as : (found : Result Reply Refusal) (o : Option Refusal) (r : Reply)
-    → answer_without_phases found ≡ answer_by o r → refusal_in found ≡ o
+abbrev pub refused_as : (found : Result Reply Refusal) (o : Option Refusal) (r : Reply)
+    → found ≡ answer_by o r → refusal_in found ≡ o
 refused_as (Ok reply) None r e = refl
 refused_as (Ok reply) (Some refusal) r e = absurd (cc)
 refused_as (Err refusal) None r e = absurd (cc)

@@ -1,3 +1,4 @@
+pub mod TaggedLaws
 pub mod AnswerLaws
 pub mod Filling
 pub mod WithController

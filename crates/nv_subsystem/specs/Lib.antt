@@ -6,3 +6,4 @@ pub mod StateCode
 pub mod ControllerView
 pub mod Sound
 pub mod FromFile
+pub mod Tagged

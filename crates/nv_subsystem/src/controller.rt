@@ -7,7 +7,8 @@ ghost use Rattle.nv_model.specs.Attachment.{with_one};
 ghost use Rattle.nv_model.specs.Management.{with_nsids, without, without_any};
 ghost use Rattle.nv_subsystem.specs.Sound.{IsSized};
 ghost use Rattle.nv_model.specs.FeatureRules.{rule_for, rule_of};
-ghost use Rattle.nv_model.specs.Step.{next_count, with_refusal};
+ghost use Rattle.nv_model.specs.Step.{next_count};
+ghost use Rattle.nv_subsystem.specs.Tagged.{with_booked};
 
 use crate::error_log::ErrorLog;
 use crate::feature_value::default_rule;
@@ -96,11 +97,11 @@ impl Controller {
         self.commands = self.commands.saturating_add(1);
     }
 
-    /// Books a refusal as the newest entry of the error log.
+    /// Books a refusal as the newest entry of the error log, with its phase tag.
     pub(crate) fn book(&mut self, origin: Origin, nsid: u32, refusal: Refusal)
         requires { self.old.log.most ≡ self.old.identity.numbers.elpe + 1 }
         ensures refusal { controller_view self.new
-            ≡ with_refusal nsid origin.cid refusal (controller_view self.old) }
+            ≡ with_booked nsid origin refusal (controller_view self.old) }
         ensures range { origin.cid < 2 ^ 16 }
         ensures sized { (nn : ℕ) → IsSized nn self.old → IsSized nn self.new }
     {

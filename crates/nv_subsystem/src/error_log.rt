@@ -1,9 +1,10 @@
 //! The error log of a controller.
 
-ghost use Rattle.std.specs.Prelude.{◌≡◌, ◌-◌, ◌≤◌, ◌∷◌, ◌++◌, [], length, map, replicate, take};
-ghost use Rattle.std.specs.Prelude.{slice_get, IfOk, option_map};
-ghost use Rattle.nv_layout.specs.ErrorEntry.{no_entry, without_phase};
+ghost use Rattle.std.specs.Prelude.{◌≡◌, ◌-◌, ◌≤◌, ◌∷◌, ◌++◌, [], length, replicate, take};
+ghost use Rattle.std.specs.Prelude.{slice_get, IfOk};
+ghost use Rattle.nv_layout.specs.ErrorEntry.{no_entry};
 ghost use Rattle.nv_model.specs.ErrorLog.{log_entry};
+ghost use Rattle.nv_subsystem.specs.Tagged.{with_phase};
 
 use circular_buffer::HeapCircularBuffer;
 use nv_command::Refusal;
@@ -13,15 +14,14 @@ use std::alloc::{AllocError, Global};
 use std::marker::Model;
 
 /// The newest refusals of a controller, newest first, in room that was made once. Each entry has
-/// the phase tag of its completion, of which the log's value says nothing.
+/// the phase tag of its completion.
 #[derive(Drop)]
 pub struct ErrorLog {
     entries: HeapCircularBuffer<ErrorEntry>,
 }
 
 impl Model for ErrorLog {
-    ghost use Rattle.std.specs.Prelude.{◌≤◌, length, map};
-    ghost use Rattle.nv_layout.specs.ErrorEntry.{without_phase};
+    ghost use Rattle.std.specs.Prelude.{◌≤◌, length};
     ghost use Rattle.nv_model.specs.ErrorLog.{Log, log_code};
 
     ghost Value = { Log };
@@ -30,7 +30,7 @@ impl Model for ErrorLog {
 
     ghost view = { λ l. record {
       most = l.entries.capacity;
-      entries = map without_phase l.entries.items;
+      entries = l.entries.items;
     } };
 
     ghost invariant = { λ l.
@@ -40,8 +40,7 @@ impl Model for ErrorLog {
 /// The entry of a refusal of a command of the admin queue: no field of the command and no logical
 /// block is told. Section "Error Information (Log Identifier 01h)".
 fn log_entry(count: u64, origin: Origin, nsid: u32, refusal: Refusal) -> ErrorEntry
-    ensures entry { without_phase result ≡ log_entry count origin.cid nsid refusal }
-    ensures phase { result.phase ≡ origin.phase }
+    ensures { result ≡ with_phase origin.phase (log_entry count origin.cid nsid refusal) }
 {
     ErrorEntry {
         count,
@@ -71,7 +70,8 @@ impl ErrorLog {
     pub(crate) fn book(&mut self, count: u64, origin: Origin, nsid: u32, refusal: Refusal)
         ensures { self.new ≡ record self.old {
           entries = take self.old.most
-              (log_entry count origin.cid nsid refusal ∷ self.old.entries);
+              (with_phase origin.phase (log_entry count origin.cid nsid refusal)
+              ∷ self.old.entries);
         } }
     {
         self.entries
@@ -80,7 +80,7 @@ impl ErrorLog {
 
     /// The entry at an index from the newest on.
     pub(crate) fn get(&self, index: usize) -> Option<ErrorEntry>
-        ensures { option_map without_phase result ≡ slice_get self.now.entries index }
+        ensures { result ≡ slice_get self.now.entries index }
     {
         self.entries.get(index).copied()
     }
@@ -88,7 +88,7 @@ impl ErrorLog {
     /// All entries where they stand, newest first, and as many without an error as there is room
     /// for.
     pub(crate) fn entries(&self) -> ErrorEntries<'_>
-        ensures { map without_phase result
+        ensures { result
             ≡ self.now.entries ++ replicate (self.now.most - length self.now.entries) no_entry }
     {
         let (newest, older) = self.entries.as_slices();

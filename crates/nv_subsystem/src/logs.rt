@@ -1,9 +1,7 @@
 //! The logs of a controller: when a Get Log Page is refused, and what it answers. Section "Get Log
 //! Page command".
 
-ghost use Rattle.std.specs.Prelude.{◌≡◌, ◌+◌, ◌<◌, ◌≤◌, length, map};
-ghost use Rattle.nv_layout.specs.ErrorEntry.{without_phase};
-ghost use Rattle.nv_command.specs.Logs.{without_phases};
+ghost use Rattle.std.specs.Prelude.{◌≡◌, ◌+◌, ◌<◌, ◌≤◌, length};
 ghost use Rattle.nv_subsystem.specs.ControllerView.{controller_view};
 ghost use Rattle.nv_model.specs.Logs.{entry_count, errors_of, log_length, log_reply, log_rows};
 ghost use Rattle.nv_model.specs.Logs.{smart_of};
@@ -22,7 +20,7 @@ impl Controller {
     /// The error log, newest first, with entries without an error up to ELPE + 1.
     fn errors(&self) -> ErrorEntries<'_>
         requires { self.now.log.most ≡ self.now.identity.numbers.elpe + 1 }
-        ensures { map without_phase result ≡ errors_of (controller_view self.now) }
+        ensures { result ≡ errors_of (controller_view self.now) }
     {
         self.log.entries()
     }
@@ -106,7 +104,7 @@ impl Subsystem {
     /// A log of a controller.
     pub(crate) fn log_reply(&self, ctrl: u16, lid: u8) -> Reply<'_>
         requires { ctrl < length self.now.controllers }
-        ensures { without_phases result ≡ log_reply self.now ctrl lid }
+        ensures { result ≡ log_reply self.now ctrl lid }
     {
         let controller = &self.controllers[ctrl as usize];
         if lid == ERROR_INFORMATION {

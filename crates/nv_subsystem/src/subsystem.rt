@@ -1,12 +1,11 @@
 //! A subsystem, and what its commands do.
 
-ghost use Rattle.std.specs.Prelude.{◌≡◌, ◌<◌, ◌≤◌, ◌^◌, ℕ, length, option_map, None, IfOk, IfErr};
+ghost use Rattle.std.specs.Prelude.{◌≡◌, ◌<◌, ◌≤◌, ◌^◌, ℕ, length, None, IfOk, IfErr};
 ghost use Rattle.nv_model.specs.LogEntry.{counts_of, log_entry_of};
-ghost use Rattle.nv_layout.specs.ErrorEntry.{without_phase};
-ghost use Rattle.nv_command.specs.Logs.{without_phases};
 ghost use Rattle.nv_file.specs.Fault.{IsUnlessMemory};
 ghost use Rattle.nv_file.specs.FileValue.{file_view};
 ghost use Rattle.nv_subsystem.specs.FromFile.{state_of, subsystem};
+ghost use Rattle.nv_subsystem.specs.Tagged.{booked, settled, untagged};
 ghost use Rattle.nv_file.specs.IsFile.{IsFile};
 ghost use Rattle.nv_model.specs.Effect.{effect_of};
 ghost use Rattle.nv_model.specs.Fits.{RepliesFit};
@@ -148,7 +147,7 @@ impl Subsystem {
     /// that its completion had. "Error Information (Log Identifier 01h)".
     pub fn log_entry(&self, ctrl: u16, index: usize) -> Option<ErrorEntry>
         requires { ctrl < length self.now.controllers }
-        ensures { option_map without_phase result ≡ log_entry_of self.now ctrl index }
+        ensures { result ≡ log_entry_of self.now ctrl index }
     {
         self.controllers[ctrl as usize].log.get(index)
     }
@@ -215,7 +214,7 @@ impl Subsystem {
     /// stands where it is.
     fn reply<'a>(&'a self, ctrl: u16, command: &Command, list: &'a mut NsList) -> Reply<'a>
         requires { ctrl < length self.now.controllers }
-        ensures { without_phases result ≡ reply_of self.now ctrl command.now }
+        ensures { result ≡ reply_of self.now ctrl command.now }
     {
         match command {
             Command::IdentifyController => self.controller_reply(ctrl),
@@ -292,7 +291,7 @@ impl Subsystem {
     /// Books a refusal in the error log of a controller.
     fn book(&mut self, ctrl: u16, origin: Origin, nsid: u32, refusal: Refusal)
         requires { ctrl < length self.old.controllers }
-        ensures state { self.new ≡ refused self.old ctrl nsid origin.cid refusal }
+        ensures state { self.new ≡ booked self.old ctrl nsid origin refusal }
         ensures range { origin.cid < 2 ^ 16 }
         ensures controllers { length self.new.controllers ≡ length self.old.controllers }
     {
@@ -300,12 +299,13 @@ impl Subsystem {
         controller.book(origin, nsid, refusal);
     }
 
-    /// Books a refusal in the error log of a controller, as its newest entry, and counts the
-    /// command. Nothing else changes.
+    /// Books a refusal in the error log of a controller, as its newest entry with the phase tag of
+    /// its completion, and counts the command. Nothing else changes.
     pub fn refuse(&mut self, ctrl: u16, origin: Origin, nsid: u32, refusal: Refusal)
         requires { ctrl < length self.old.controllers }
-        ensures state { self.new
-            ≡ with_command (refused self.old ctrl nsid origin.cid refusal) ctrl }
+        ensures state { self.new ≡ with_command (booked self.old ctrl nsid origin refusal) ctrl }
+        ensures without_tags { untagged self.new
+            ≡ with_command (refused (untagged self.old) ctrl nsid origin.cid refusal) ctrl }
         ensures well_formed { IsWellFormed self.old → IsRefusal refusal → IsWellFormed self.new }
     {
         self.book(ctrl, origin, nsid, refusal);
@@ -321,7 +321,9 @@ impl Subsystem {
         list: &'a mut NsList,
     ) -> Result<Reply<'a>, Refusal>
         requires { ctrl < length self.now.controllers }
-        ensures { answer_without_phases result ≡ answer_to self.now ctrl command.now }
+        ensures answer { result ≡ answer_to self.now ctrl command.now }
+        ensures without_tags { answer_without_phases result
+            ≡ answer_to (untagged self.now) ctrl command.now }
     {
         self.check(ctrl, command)?;
         Ok(self.reply(ctrl, command, list))
@@ -332,7 +334,9 @@ impl Subsystem {
     pub fn settle(&mut self, ctrl: u16, command: &Command, origin: Origin, refusal: Option<Refusal>)
         requires ctrl { ctrl < length self.old.controllers }
         requires answered { refusal ≡ refusal_of self.old ctrl command.now }
-        ensures state { self.new ≡ (step self.old ctrl command.now origin.cid).state }
+        ensures state { self.new ≡ settled self.old ctrl command.now origin refusal }
+        ensures without_tags { untagged self.new
+            ≡ (step (untagged self.old) ctrl command.now origin.cid).state }
         ensures well_formed { IsWellFormed self.old → IsWellFormed self.new }
     {
         if let Some(refusal) = refusal {
@@ -353,8 +357,13 @@ impl Subsystem {
         room: &'a mut ReplyRoom,
     ) -> Result<Reply<'a>, Refusal>
         requires { ctrl < length self.old.controllers }
-        ensures answer { answer_without_phases result ≡ answer_to self.old ctrl command.now }
-        ensures state { self.new ≡ (step self.old ctrl command.now origin.cid).state }
+        ensures answer { result ≡ answer_to self.old ctrl command.now }
+        ensures state { self.new
+            ≡ settled self.old ctrl command.now origin (refusal_of self.old ctrl command.now) }
+        ensures answer_without_tags { answer_without_phases result
+            ≡ answer_to (untagged self.old) ctrl command.now }
+        ensures without_tags { untagged self.new
+            ≡ (step (untagged self.old) ctrl command.now origin.cid).state }
         ensures well_formed { IsWellFormed self.old → IsWellFormed self.new }
     {
         let mut list = NsList::new();

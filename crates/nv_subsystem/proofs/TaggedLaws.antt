@@ -1,0 +1,455 @@
+-- A subsystem with the phase tags of its logs, and the same without them.
+use Rattle.std.proofs.Common.{◌≡◌, ◌≢◌, ◌∙◌, ℕ, zero, suc, ◌+◌, ◌-◌, ◌≤◌, ◌==◌, ◌&&◌, not, Bool, true, false, ap, arith}
+use Rattle.std.proofs.Common.{List, [], ◌∷◌, ◌++◌, get_or, length, map, Option, None, Some, refl, subst, sym, take}
+use Rattle.std.proofs.lemmas.List.{get_or-map, length-map, map-append, take-map}
+use Rattle.std.proofs.lemmas.List.Elements.{All-map}
+use Rattle.std.specs.FinMap as map_of
+use Rattle.std.specs.List.{list_all}
+use Rattle.std.specs.Option.{option_map_or}
+use Rattle.std.specs.Prelude.{if◌then◌else◌, nat_le, nat_lt, replicate, slice_get}
+use Rattle.nv_command.specs.Logs.{is_error_log, without_phases}
+use Rattle.nv_command.specs.Nsid.{broadcast_nsid}
+use Rattle.nv_command.specs.declared.command.Command.{Command}
+use Rattle.nv_command.specs.declared.command.Command.TheVariants.{IdentifyController}
+use Rattle.nv_command.specs.declared.command.Command.TheVariants.{IdentifyNamespace}
+use Rattle.nv_command.specs.declared.command.Command.TheVariants.{AllocatedNamespace, ActiveList}
+use Rattle.nv_command.specs.declared.command.Command.TheVariants.{AllocatedList, Create, Delete}
+use Rattle.nv_command.specs.declared.command.Command.TheVariants.{Attachment, Format, GetFeature}
+use Rattle.nv_command.specs.declared.command.Command.TheVariants.{SetFeature, GetLog}
+use Rattle.nv_command.specs.declared.refusal.Refusal.{Refusal}
+use Rattle.nv_command.specs.declared.reply.Reply.{Reply}
+use Rattle.nv_command.specs.declared.reply.Reply.TheVariants as reply
+use Rattle.nv_command.specs.declared.status_code.StatusCode.TheVariants.{ControllerListInvalid}
+use Rattle.nv_command.specs.declared.status_code.StatusCode.TheVariants.{InvalidFieldInCommand}
+use Rattle.nv_command.specs.declared.status_code.StatusCode.TheVariants.{InvalidNamespaceOrFormat}
+use Rattle.nv_command.specs.declared.status_code.StatusCode.TheVariants.{NamespaceAlreadyAttached}
+use Rattle.nv_command.specs.declared.status_code.StatusCode.TheVariants.{NamespaceIsPrivate}
+use Rattle.nv_command.specs.declared.status_code.StatusCode.TheVariants.{NamespaceNotAttached}
+use Rattle.nv_layout.specs.ErrorEntry.{ErrorEntryFits, no_entry, without_phase}
+use Rattle.nv_layout.specs.declared.error_entry.ErrorEntry.{ErrorEntry}
+use Rattle.nv_layout.specs.declared.feature.Feature.{Feature}
+use Rattle.nv_layout.specs.declared.id_ctrl.IdCtrl.{IdCtrl}
+use Rattle.nv_layout.specs.declared.smart.Smart.{Smart}
+use Rattle.nv_model.proofs.MappedLaws.{count_by-map, list_any-map, pairs_map}
+use Rattle.nv_model.specs.Attachment.{attach_rows, attachment_rows, count_with, detach_rows, fewer, first_rows}
+use Rattle.nv_model.specs.Attachment.{has_attached, has_one_attached, is_ascending, is_known, is_listed}
+use Rattle.nv_model.specs.Attachment.{is_private, lacks_one_attached, more}
+use Rattle.nv_model.specs.ChangedKeys.{changed_at_keys}
+use Rattle.nv_model.specs.Effect.{effect_of}
+use Rattle.nv_model.specs.ErrorLog.{log_entry}
+use Rattle.nv_model.specs.Features.{changed_nsids, with_values}
+use Rattle.nv_layout.specs.Feature.{feature_of}
+use Rattle.nv_model.specs.Format.{in_format}
+use Rattle.nv_model.specs.IdentifyController.{id_ctrl_of, no_controller}
+use Rattle.nv_model.specs.Limit.{limit_of}
+use Rattle.nv_model.specs.Logs.{errors_of, no_health, smart_of}
+use Rattle.nv_model.specs.Management.{Attached, new_namespace, wanted, with_nsids, without, without_all, without_any}
+use Rattle.nv_model.specs.Management.{without_one}
+use Rattle.nv_model.specs.Nsid.{concerned, free_nsid, is_allocated, is_valid}
+use Rattle.nv_model.specs.Refusal.{refusal_of, rows_of}
+use Rattle.nv_model.specs.Reply.{reply_of}
+use Rattle.nv_model.specs.Reset.{reset}
+use Rattle.nv_model.specs.Row.{first_refusal, row}
+use Rattle.nv_model.specs.State.{Controller, Namespaces, State, changed_at, controller_at, with_controller}
+use Rattle.nv_model.specs.Step.{answer_by, answer_to, answer_without_phases, next_count, refused, step, step_by}
+use Rattle.nv_model.specs.Step.{with_command, with_refusal}
+use Rattle.nv_model.specs.WellFormed.{IsController, IsWellFormed}
+use Rattle.nv_model.specs.declared.origin.Origin.{Origin}
+use Rattle.nv_model.specs.declared.row.Row.{Row}
+use Rattle.nv_subsystem.specs.Tagged.{booked, newest_tagged, settled, untagged, untagged_log, with_booked, with_phase}
+
+-- ---- logs
+
+-- the newest entry that is kept has the tag
+pub newest_of_taken : (phase : Bool) (most : ℕ) (e : ErrorEntry) (es : List ErrorEntry)
+    → newest_tagged phase (take most (e ∷ es)) ≡ take most (with_phase phase e ∷ es)
+newest_of_taken phase zero e es = refl
+newest_of_taken phase (suc most) e es = refl
+
+-- and without tags it is the entry alone
+newest_untagged : (phase : Bool) (most : ℕ) (e : ErrorEntry) (es : List ErrorEntry) → without_phase e ≡ e
+    → map without_phase (newest_tagged phase (take most (e ∷ es))) ≡ take most (e ∷ map without_phase es)
+newest_untagged phase zero e es bare = refl
+newest_untagged phase (suc most) e es bare = λ i. bare i ∷ sym (take-map without_phase most es) i
+
+blanks : (n : ℕ) → map without_phase (replicate n no_entry) ≡ replicate n no_entry
+blanks zero = refl
+blanks (suc n) = ap (λ es. no_entry ∷ es) (blanks n)
+
+errors_untagged : (x : Controller) → map without_phase (errors_of x) ≡ errors_of (untagged_log x)
+errors_untagged x =
+    let most = x.identity.numbers.elpe + 1 in
+    map-append without_phase x.log (replicate (most - length x.log) no_entry)
+    ∙ ap (λ es. map without_phase x.log ++ es) (blanks (most - length x.log))
+    ∙ ap (λ n. map without_phase x.log ++ replicate (most - n) no_entry) (sym (length-map x.log without_phase))
+
+-- ---- controllers
+
+-- what reads one controller, and not its log
+module _ {A : Type 0} (read : List Controller → ℕ → A)
+    (first : (x : Controller) (xs ys : List Controller) → read (untagged_log x ∷ xs) zero ≡ read (x ∷ ys) zero)
+    (later : (x : Controller) (xs : List Controller) (c : ℕ) → read (x ∷ xs) (suc c) ≡ read xs c) where
+  read_untagged : (xs : List Controller) (c : ℕ) → read (map untagged_log xs) c ≡ read xs c
+  read_untagged [] c = refl
+  read_untagged (x ∷ xs) zero = first x (map untagged_log xs) xs
+  read_untagged (x ∷ xs) (suc c) =
+      later (untagged_log x) (map untagged_log xs) c ∙ read_untagged xs c ∙ sym (later x xs c)
+
+abbrev of_controllers : State → List Controller → State
+of_controllers s xs = record s { controllers = xs }
+
+-- changes of one controller
+changed_untagged : (f g : Controller → Controller)
+    → ((x : Controller) → untagged_log (f x) ≡ g (untagged_log x)) → (xs : List Controller) (c : ℕ)
+    → map untagged_log (changed_at xs c f) ≡ changed_at (map untagged_log xs) c g
+changed_untagged f g same [] c = refl
+changed_untagged f g same (x ∷ xs) zero = ap (λ y. y ∷ map untagged_log xs) (same x)
+changed_untagged f g same (x ∷ xs) (suc c) =
+    ap (λ ys. untagged_log x ∷ ys) (changed_untagged f g same xs c)
+
+with_untagged : (f g : Controller → Controller)
+    → ((x : Controller) → untagged_log (f x) ≡ g (untagged_log x)) → (s : State) (c : ℕ)
+    → untagged (with_controller s c f) ≡ with_controller (untagged s) c g
+with_untagged f g same s c = ap (of_controllers s) (changed_untagged f g same s.controllers c)
+
+-- and of each
+each_untagged : (f : Controller → Controller)
+    → ((x : Controller) → untagged_log (f x) ≡ f (untagged_log x)) → (xs : List Controller)
+    → map untagged_log (map f xs) ≡ map f (map untagged_log xs)
+each_untagged f same [] = refl
+each_untagged f same (x ∷ xs) = λ i. same x i ∷ each_untagged f same xs i
+
+pub limit_untagged : (s : State) (c : ℕ) → limit_of (untagged s) c ≡ limit_of s c
+limit_untagged s c = read_untagged (λ xs c. limit_of (of_controllers s xs) c)
+    (λ x xs ys. refl) (λ x xs c. refl) s.controllers c
+
+-- ---- refusals
+
+module _ (s : State) (n : ℕ) (ids : List ℕ) where
+  known : is_known (untagged s) ≡ is_known s
+  known = λ i id. list_any-map (λ (x : Controller). id == x.identity.cntlid) untagged_log s.controllers i
+
+  first_same : first_rows (untagged s) n ids ≡ first_rows s n ids
+  first_same = ap (λ (known : ℕ → Bool).
+      row (not (is_valid s n)) InvalidNamespaceOrFormat
+      ∷ row (not (is_allocated s n)) InvalidFieldInCommand
+      ∷ row (not (not (length ids == 0) && is_ascending ids && list_all known ids)) ControllerListInvalid
+      ∷ []) known
+
+  one_attached : has_one_attached (untagged s) n ids ≡ has_one_attached s n ids
+  one_attached = list_any-map (λ x. is_listed ids x && has_attached n x) untagged_log s.controllers
+
+  one_lacking : lacks_one_attached (untagged s) n ids ≡ lacks_one_attached s n ids
+  one_lacking = list_any-map (λ x. is_listed ids x && not (has_attached n x)) untagged_log s.controllers
+
+  counted_with : count_with (untagged s) n ids ≡ count_with s n ids
+  counted_with = count_by-map _ untagged_log _ (λ x. refl) s.controllers
+
+  attach_same : attach_rows (untagged s) n ids ≡ attach_rows s n ids
+  attach_same = λ i.
+      first_same i
+      ++ row (one_attached i) NamespaceAlreadyAttached
+      ∷ row (is_private s n && nat_lt 1 (counted_with i)) NamespaceIsPrivate
+      ∷ []
+
+  detach_same : detach_rows (untagged s) n ids ≡ detach_rows s n ids
+  detach_same = λ i. first_same i ++ row (one_lacking i) NamespaceNotAttached ∷ []
+
+  attachment_same : (detach : Bool) → attachment_rows (untagged s) n detach ids ≡ attachment_rows s n detach ids
+  attachment_same true = detach_same
+  attachment_same false = attach_same
+
+module _ (s : State) (c : ℕ) where
+  abbrev rows_in : Command → List Controller → ℕ → List Row
+  rows_in k xs c = rows_of (of_controllers s xs) c k
+
+  rows_untagged : (k : Command) → rows_of (untagged s) c k ≡ rows_of s c k
+  rows_untagged IdentifyController = refl
+  rows_untagged (IdentifyNamespace n) = refl
+  rows_untagged (AllocatedNamespace n) = refl
+  rows_untagged (ActiveList after) = refl
+  rows_untagged (AllocatedList after) = refl
+  rows_untagged (Create nsze ncap flbas dps nmic) = refl
+  rows_untagged (Delete n) = refl
+  rows_untagged (Attachment n detach ids) = attachment_same s n ids detach
+  rows_untagged (Format n lbaf mset pi pil ses) =
+      read_untagged (rows_in (Format n lbaf mset pi pil ses)) (λ x xs ys. refl) (λ x xs c. refl) s.controllers c
+  rows_untagged (GetFeature fid sel n cdw11) =
+      read_untagged (rows_in (GetFeature fid sel n cdw11)) (λ x xs ys. refl) (λ x xs c. refl) s.controllers c
+  rows_untagged (SetFeature fid value save n) =
+      read_untagged (rows_in (SetFeature fid value save n)) (λ x xs ys. refl) (λ x xs c. refl) s.controllers c
+  rows_untagged (GetLog lid n offset dwords) =
+      read_untagged (rows_in (GetLog lid n offset dwords)) (λ x xs ys. refl) (λ x xs c. refl) s.controllers c
+
+  pub refusal_untagged : (k : Command) → refusal_of (untagged s) c k ≡ refusal_of s c k
+  refusal_untagged k = ap first_refusal (rows_untagged k)
+
+-- ---- replies
+
+id_ctrl_untagged : (s : State) → id_ctrl_of (untagged s) ≡ id_ctrl_of s
+id_ctrl_untagged s = λ i x. record (id_ctrl_of s x) {
+  cmic = if nat_le 2 (length-map s.controllers untagged_log i) then 0x02 else 0;
+}
+
+logs_untagged : (xs : List Controller) (c : ℕ)
+    → map without_phase (option_map_or errors_of (slice_get xs c) (no_entry ∷ []))
+    ≡ option_map_or errors_of (slice_get (map untagged_log xs) c) (no_entry ∷ [])
+logs_untagged [] c = refl
+logs_untagged (x ∷ xs) zero = errors_untagged x
+logs_untagged (x ∷ xs) (suc c) = logs_untagged xs c
+
+chosen_log : (is_errors : Bool) (es bare : List ErrorEntry) (m health : Smart)
+    → map without_phase es ≡ bare → m ≡ health
+    → without_phases (if is_errors then reply.Errors es else reply.Smart m)
+    ≡ (if is_errors then reply.Errors bare else reply.Smart health)
+chosen_log true es bare m health logs same = ap reply.Errors logs
+chosen_log false es bare m health logs same = ap reply.Smart same
+
+module _ (s : State) (c : ℕ) where
+  abbrev reply_in : Command → List Controller → ℕ → Reply
+  reply_in k xs c = reply_of (of_controllers s xs) c k
+
+  controller_told : option_map_or (id_ctrl_of (untagged s)) (controller_at (untagged s) c) no_controller
+      ≡ option_map_or (id_ctrl_of s) (controller_at s c) no_controller
+  controller_told =
+      ap (λ (tell : Controller → IdCtrl). option_map_or tell (controller_at (untagged s) c) no_controller)
+      (id_ctrl_untagged s)
+      ∙ read_untagged (λ xs c. option_map_or (id_ctrl_of s) (slice_get xs c) no_controller)
+      (λ x xs ys. refl) (λ x xs c. refl) s.controllers c
+
+  health_untagged : option_map_or smart_of (controller_at (untagged s) c) no_health
+      ≡ option_map_or smart_of (controller_at s c) no_health
+  health_untagged = read_untagged (λ xs c. option_map_or smart_of (slice_get xs c) no_health)
+      (λ x xs ys. refl) (λ x xs c. refl) s.controllers c
+
+  pub reply_untagged : (k : Command) → without_phases (reply_of s c k) ≡ reply_of (untagged s) c k
+  reply_untagged IdentifyController = ap reply.Controller (sym controller_told)
+  reply_untagged (IdentifyNamespace n) = sym
+      (read_untagged (reply_in (IdentifyNamespace n)) (λ x xs ys. refl) (λ x xs c. refl) s.controllers c)
+  reply_untagged (AllocatedNamespace n) = refl
+  reply_untagged (ActiveList after) = sym
+      (read_untagged (reply_in (ActiveList after)) (λ x xs ys. refl) (λ x xs c. refl) s.controllers c)
+  reply_untagged (AllocatedList after) = refl
+  reply_untagged (Create nsze ncap flbas dps nmic) = refl
+  reply_untagged (Delete n) = refl
+  reply_untagged (Attachment n detach ids) = refl
+  reply_untagged (Format n lbaf mset pi pil ses) = refl
+  reply_untagged (GetFeature fid sel n cdw11) = sym
+      (read_untagged (reply_in (GetFeature fid sel n cdw11)) (λ x xs ys. refl) (λ x xs c. refl) s.controllers c)
+  reply_untagged (SetFeature fid value save n) = refl
+  reply_untagged (GetLog lid n offset dwords) =
+      chosen_log (is_error_log lid) _ _ _ _ (logs_untagged s.controllers c) (sym health_untagged)
+
+answer_by_untagged : (o : Option Refusal) (r : Reply)
+    → answer_without_phases (answer_by o r) ≡ answer_by o (without_phases r)
+answer_by_untagged None r = refl
+answer_by_untagged (Some refusal) r = refl
+
+-- the answer without tags is that of the state without them
+pub answer_untagged : (s : State) (c : ℕ) (k : Command)
+    → answer_without_phases (answer_to s c k) ≡ answer_to (untagged s) c k
+answer_untagged s c k =
+    answer_by_untagged (refusal_of s c k) (reply_of s c k)
+    ∙ (λ i. answer_by (sym (refusal_untagged s c k) i) (reply_untagged s c k i))
+
+-- ---- effects
+
+chosen_untagged : (b : Bool) (s t s' t' : State) → untagged s ≡ s' → untagged t ≡ t'
+    → untagged (if b then s else t) ≡ (if b then s' else t')
+chosen_untagged true s t s' t' first second = first
+chosen_untagged false s t s' t' first second = second
+
+mapped_untagged : {A : Type 0} (f g : A → State) (s : State) → ((a : A) → untagged (f a) ≡ g a) → (o : Option A)
+    → untagged (option_map_or f o s) ≡ option_map_or g o (untagged s)
+mapped_untagged f g s same None = refl
+mapped_untagged f g s same (Some a) = same a
+
+attached_untagged : (s : State) (namespaces : Namespaces) (to : Controller → Attached)
+    → ((x : Controller) → untagged_log (with_nsids to x) ≡ with_nsids to (untagged_log x))
+    → ◌≡◌ {A = State}
+    (record s { controllers = map untagged_log (map (with_nsids to) s.controllers); namespaces = namespaces })
+    (record s { controllers = map (with_nsids to) (map untagged_log s.controllers); namespaces = namespaces })
+attached_untagged s namespaces to same =
+    ap (λ (xs : List Controller). record s { controllers = xs; namespaces = namespaces })
+    (each_untagged (with_nsids to) same s.controllers)
+
+module _ (s : State) (c : ℕ) where
+  concerned_untagged : (n : ℕ) → concerned (untagged s) c n ≡ concerned s c n
+  concerned_untagged n = read_untagged (λ xs c. concerned (of_controllers s xs) c n)
+      (λ x xs ys. refl) (λ x xs c. refl) s.controllers c
+
+  nsids_untagged : (n : ℕ) (f : Feature) → changed_nsids (untagged s) c n f ≡ changed_nsids s c n f
+  nsids_untagged n f = read_untagged (λ xs c. changed_nsids (of_controllers s xs) c n f)
+      (λ x xs ys. refl) (λ x xs c. refl) s.controllers c
+
+  pub effect_untagged : (k : Command) → untagged (effect_of s c k) ≡ effect_of (untagged s) c k
+  effect_untagged IdentifyController = refl
+  effect_untagged (IdentifyNamespace n) = refl
+  effect_untagged (AllocatedNamespace n) = refl
+  effect_untagged (ActiveList after) = refl
+  effect_untagged (AllocatedList after) = refl
+  effect_untagged (Create nsze ncap flbas dps nmic) =
+      let w = wanted nsze ncap flbas dps nmic in
+      mapped_untagged _
+      (λ n. record (untagged s) { namespaces = map_of.insert s.namespaces n (new_namespace s w) })
+      s (λ n. refl) (free_nsid s)
+  effect_untagged (Delete n) = chosen_untagged (n == broadcast_nsid) (without_all s) (without_one s n) _ _
+      (attached_untagged s map_of.empty without_any (λ x. refl))
+      (attached_untagged s (map_of.remove s.namespaces n) (without n) (λ x. refl))
+  effect_untagged (Attachment n true ids) = attached_untagged s s.namespaces (fewer n ids) (λ x. refl)
+  effect_untagged (Attachment n false ids) = attached_untagged s s.namespaces (more n ids) (λ x. refl)
+  effect_untagged (Format n lbaf mset pi pil ses) =
+      ap (λ ns. record (untagged s) { namespaces = changed_at_keys ns (in_format lbaf mset) s.namespaces })
+      (sym (concerned_untagged n))
+  effect_untagged (GetFeature fid sel n cdw11) = refl
+  effect_untagged (SetFeature fid value save n) = mapped_untagged _
+      (λ f. with_controller (untagged s) c (with_values f value save (changed_nsids (untagged s) c n f)))
+      s (λ f. with_untagged _ (with_values f value save (changed_nsids s c n f)) (λ x. refl) s c
+      ∙ ap (λ ns. with_controller (untagged s) c (with_values f value save ns)) (sym (nsids_untagged n f)))
+      (feature_of fid)
+  effect_untagged (GetLog lid n offset dwords) = refl
+
+-- ---- refusals that are booked, and the step
+
+pub counted_untagged : (s : State) (c : ℕ) → untagged (with_command s c) ≡ with_command (untagged s) c
+counted_untagged s c = with_untagged _ (λ x. record x { commands = next_count x.commands }) (λ x. refl) s c
+
+pub reset_untagged : (s : State) (c : ℕ) → untagged (reset s c) ≡ reset (untagged s) c
+reset_untagged s c = with_untagged _ _ (λ x. refl) s c
+
+booking_untagged : (nsid : ℕ) (origin : Origin) (r : Refusal) (x : Controller)
+    → untagged_log (with_booked nsid origin r x) ≡ with_refusal nsid origin.cid r (untagged_log x)
+booking_untagged nsid origin r x = ap
+    (λ (log : List ErrorEntry). record x { refusals = next_count x.refusals; log = log })
+    (newest_untagged origin.phase (x.identity.numbers.elpe + 1)
+    (log_entry (next_count x.refusals) origin.cid nsid r) x.log refl)
+
+pub booked_untagged : (s : State) (c nsid : ℕ) (origin : Origin) (r : Refusal)
+    → untagged (with_command (booked s c nsid origin r) c)
+    ≡ with_command (refused (untagged s) c nsid origin.cid r) c
+booked_untagged s c nsid origin r =
+    counted_untagged (booked s c nsid origin r) c
+    ∙ ap (λ t. with_command t c) (with_untagged (with_booked nsid origin r) (with_refusal nsid origin.cid r)
+    (booking_untagged nsid origin r) s c)
+
+settled_by : (o : Option Refusal) (s : State) (c : ℕ) (k : Command) (origin : Origin)
+    → untagged (settled s c k origin o) ≡ (step_by o (untagged s) c k origin.cid).state
+settled_by None s c k origin =
+    counted_untagged (effect_of s c k) c ∙ ap (λ t. with_command t c) (effect_untagged s c k)
+settled_by (Some r) s c k origin = booked_untagged s c _ origin r
+
+-- what a command settles to is the step without tags
+pub settled_untagged : (s : State) (c : ℕ) (k : Command) (origin : Origin) (o : Option Refusal) → o ≡ refusal_of s c k
+    → untagged (settled s c k origin o) ≡ (step (untagged s) c k origin.cid).state
+settled_untagged s c k origin o is =
+    settled_by o s c k origin
+    ∙ ap (λ o. (step_by o (untagged s) c k origin.cid).state) (is ∙ sym (refusal_untagged s c k))
+
+-- ---- well-formedness
+
+entry_keeps : (e : ErrorEntry) → ErrorEntryFits e → ErrorEntryFits (without_phase e)
+entry_keeps e fits = record {
+  count = fits.count;
+  sqid = fits.sqid;
+  cid = fits.cid;
+  status = fits.status;
+  location = fits.location;
+  lba = fits.lba;
+  nsid = fits.nsid;
+  vendor = fits.vendor;
+  specific = fits.specific;
+}
+
+entry_back : (e : ErrorEntry) → ErrorEntryFits (without_phase e) → ErrorEntryFits e
+entry_back e fits = record {
+  count = fits.count;
+  sqid = fits.sqid;
+  cid = fits.cid;
+  status = fits.status;
+  location = fits.location;
+  lba = fits.lba;
+  nsid = fits.nsid;
+  vendor = fits.vendor;
+  specific = fits.specific;
+}
+
+controller_keeps : (ns : Namespaces) (x : Controller) → IsController ns x → IsController ns (untagged_log x)
+controller_keeps ns x is = record {
+  identity = is.identity;
+  rules = is.rules;
+  smart = is.smart;
+  log = length-map x.log without_phase ∙ is.log;
+  entries = All-map ErrorEntryFits without_phase x.log (λ k d h. entry_keeps (get_or x.log k d) (is.entries k d h));
+  refusals = is.refusals;
+  commands = is.commands;
+  attached = is.attached;
+  values = is.values;
+}
+
+controller_back : (ns : Namespaces) (x : Controller) → IsController ns (untagged_log x) → IsController ns x
+controller_back ns x is = record {
+  identity = is.identity;
+  rules = is.rules;
+  smart = is.smart;
+  log = sym (length-map x.log without_phase) ∙ is.log;
+  entries = λ k d h. entry_back (get_or x.log k d)
+      (subst ErrorEntryFits (get_or-map without_phase x.log k d (without_phase d) h)
+      (is.entries k (without_phase d) (omega (arith, length-map x.log without_phase))));
+  refusals = is.refusals;
+  commands = is.commands;
+  attached = is.attached;
+  values = is.values;
+}
+
+module _ (s : State) where
+  len : length (map untagged_log s.controllers) ≡ length s.controllers
+  len = length-map s.controllers untagged_log
+
+  pub untagged_keeps : IsWellFormed s → IsWellFormed (untagged s)
+  untagged_keeps w = record {
+    keys = w.keys;
+    format_count = w.format_count;
+    formats = w.formats;
+    controller_count = (omega (arith, len, w.controller_count.0), omega (arith, len, w.controller_count.1));
+    controllers = All-map (IsController s.namespaces) untagged_log s.controllers
+        (λ k d h. controller_keeps s.namespaces (get_or s.controllers k d) (w.controllers k d h));
+    cntlids = pairs_map (λ (a b : Controller). a.identity.cntlid ≢ b.identity.cntlid) untagged_log s.controllers
+        w.cntlids;
+    namespaces = λ n x e.
+        let old = w.namespaces n x e in
+        record {
+          nsid = old.nsid;
+          format = old.format;
+          private = λ p. subst (λ m. m ≤ 1)
+              (sym (count_by-map (has_attached n) untagged_log (has_attached n) (λ y. refl) s.controllers))
+              (old.private p);
+        };
+    capacities = w.capacities;
+  }
+
+  -- a subsystem is well formed where it is so without tags
+  pub untagged_back : IsWellFormed (untagged s) → IsWellFormed s
+  untagged_back w =
+      let at = λ (k : ℕ) (d : Controller). get_or-map untagged_log s.controllers k d (untagged_log d) in
+      record {
+        keys = w.keys;
+        format_count = w.format_count;
+        formats = w.formats;
+        controller_count = (omega (arith, len, w.controller_count.0), omega (arith, len, w.controller_count.1));
+        controllers = λ k d h. controller_back s.namespaces (get_or s.controllers k d)
+            (subst (IsController s.namespaces) (at k d h)
+            (w.controllers k (untagged_log d) (omega (arith, len))));
+        cntlids = λ i j d a b e. w.cntlids i j (untagged_log d) a (omega (arith, len))
+            (ap (λ (x : Controller). x.identity.cntlid) (at i d (omega arith)) ∙ e
+            ∙ sym (ap (λ (x : Controller). x.identity.cntlid) (at j d b)));
+        namespaces = λ n x e.
+            let old = w.namespaces n x e in
+            record {
+              nsid = old.nsid;
+              format = old.format;
+              private = λ p. subst (λ m. m ≤ 1)
+                  (count_by-map (has_attached n) untagged_log (has_attached n) (λ y. refl) s.controllers)
+                  (old.private p);
+            };
+        capacities = w.capacities;
+      }
