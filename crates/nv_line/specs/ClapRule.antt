@@ -37,10 +37,14 @@ option_rule (Format o) = rule_for o.name o.letter Set false
 abbrev pub device_rule : Rule
 device_rule = record (new_rule (codes "device")) { required = true }
 
+-- `-h` and `--help` are no options
+abbrev pub without_help : App → App
+without_help a = record a { top = record a.top { disable_help_flag = true } }
+
 -- a command without its options: all but `list` take a device
 abbrev pub bare_app : Verb → App
-bare_app (verb.Of v) = with_rule (new_app (word_of (verb.Of v))) device_rule
-bare_app verb.List = new_app (word_of verb.List)
+bare_app (verb.Of v) = with_rule (without_help (new_app (word_of (verb.Of v)))) device_rule
+bare_app verb.List = without_help (new_app (word_of verb.List))
 
 -- with these options too
 abbrev pub with_options : App → List CommandOption → App

@@ -45,11 +45,12 @@ fn option_arg<'a>(alloc: Global, option: CommandOption) -> Arg<'a>
     }
 }
 
-/// The `clap` command of a command word without its options: all but `list` take a device.
+/// The `clap` command of a command word without its options: all but `list` take a device. None has
+/// an option for help.
 fn bare_command<'a>(alloc: Global, verb: Verb) -> Result<Command<'a>, AllocError>
     ensures { IfOk result (λ c. app_of c ≡ bare_app verb) }
 {
-    let command = Command::new(alloc, verb.word());
+    let command = Command::new(alloc, verb.word()).disable_help_flag(true);
     match verb {
         Verb::Of(_) => command.arg(Arg::new(alloc, "device").required(true)),
         Verb::List => Ok(command),
