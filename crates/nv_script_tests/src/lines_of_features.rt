@@ -1,20 +1,16 @@
 //! What lines of features and of formats ask, and their faults.
 
-use crate::lines::question;
+use crate::lines::{check_line, sends};
 use nv_command::Command;
 use nv_layout::{FourBits, ThreeBits};
-use nv_script::{Act, Ask, CtrlList, LineFault, OptionName, read_line};
+use nv_script::{CtrlList, LineFault, OptionName, read_line};
 use std::alloc::Global;
 use std::process::Abort;
 use std::test::Fail;
 
 /// Checks what a line says to a subsystem with two controllers: a command for controller 0.
 fn check(rt: &impl Abort, alloc: Global, line: &str, command: Command) {
-    let ask = Ask::Do(Act::Send(command));
-    assert_eq!(rt;
-        read_line(alloc, line.as_bytes(), 2, &mut CtrlList::new()),
-        Ok(question(0, ask))
-    );
+    check_line(rt, alloc, line.as_bytes(), &sends(0, command));
 }
 
 fn get(fid: u8, sel: u8, nsid: u32, cdw11: u32) -> Command<'static> {

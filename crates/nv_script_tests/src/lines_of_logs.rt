@@ -1,6 +1,6 @@
 //! What lines of logs ask, and their faults.
 
-use crate::lines::question;
+use crate::lines::{check_line, question};
 use nv_command::{Command, DwordCount, HEALTH};
 use nv_script::{Act, Ask, CtrlList, LineFault, OptionName, read_line};
 use std::alloc::Global;
@@ -8,10 +8,7 @@ use std::process::Abort;
 
 /// Checks what a line says to a subsystem with two controllers: it asks controller 0 something.
 fn check(rt: &impl Abort, alloc: Global, line: &str, ask: Ask) {
-    assert_eq!(rt;
-        read_line(alloc, line.as_bytes(), 2, &mut CtrlList::new()),
-        Ok(question(0, ask))
-    );
+    check_line(rt, alloc, line.as_bytes(), &question(0, ask));
 }
 
 #[test]

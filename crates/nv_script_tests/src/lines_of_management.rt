@@ -1,20 +1,16 @@
 //! What lines of namespace management ask, and their faults.
 
-use crate::lines::question;
+use crate::lines::{check_line, sends};
 use nv_command::Command;
 use nv_layout::ControllerIds;
-use nv_script::{Act, Ask, CtrlList, LineFault, OptionName, read_line};
+use nv_script::{CtrlList, LineFault, OptionName, read_line};
 use std::alloc::Global;
 use std::process::Abort;
 use std::test::Fail;
 
 /// Checks what a line says to a subsystem with two controllers: a command for controller 0.
 fn check(rt: &impl Abort, alloc: Global, line: &str, command: Command) {
-    let ask = Ask::Do(Act::Send(command));
-    assert_eq!(rt;
-        read_line(alloc, line.as_bytes(), 2, &mut CtrlList::new()),
-        Ok(question(0, ask))
-    );
+    check_line(rt, alloc, line.as_bytes(), &sends(0, command));
 }
 
 #[test]
@@ -102,19 +98,17 @@ fn reads_a_long_list(rt: HostRuntime) -> Result<(), Fail> {
     for _ in 0..2033 {
         line.extend_from_slice(b",7")?;
     }
-    let ask = Ask::Do(Act::Send(Command::Attachment {
+    let attach = Command::Attachment {
         nsid: 1,
         detach: false,
         list: ControllerIds::new(&[7; 2034]),
-    }));
-    assert_eq!(rt;
-        read_line(alloc, &line, 2, &mut CtrlList::new()),
-        Ok(question(0, ask))
-    );
+    };
+    check_line(&rt, alloc, &line, &sends(0, attach));
     // The last item is empty.
     line.extend_from_slice(b",")?;
-    let empty = Err(LineFault::Number(OptionName::Controllers));
-    assert_eq!(rt; read_line(alloc, &line, 2, &mut CtrlList::new()), empty);
+    let mut place = CtrlList::new();
+    let read = read_line(alloc, &line, 2, &mut place);
+    assert!(rt; read == Err(LineFault::Number(OptionName::Controllers)));
     Ok(())
 }
 
