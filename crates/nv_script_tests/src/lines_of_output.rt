@@ -1,6 +1,6 @@
 //! Lines that say how the answer is written, and those of `id-ctrl` and `list`.
 
-use crate::lines::question;
+use crate::lines::{check_line, question, sends};
 use nv_command::{Command, DwordCount, HEALTH};
 use nv_script::{
     Act, Ask, CtrlList, Line, LineFault, OptionName, OutputFormat, Query, Question, Request,
@@ -34,10 +34,7 @@ fn check_json(rt: &impl Abort, alloc: Global, line: &str, ask: Ask) {
         query: Query::One(Question { controller: 0, ask }),
         format: OutputFormat::Json,
     });
-    assert_eq!(rt;
-        read_line(alloc, line.as_bytes(), 2, &mut CtrlList::new()),
-        Ok(want)
-    );
+    check_line(rt, alloc, line.as_bytes(), &want);
 }
 
 #[test]
@@ -52,10 +49,7 @@ fn reads_list(rt: HostRuntime) {
         ("nvme list -ojson", OutputFormat::Json),
         ("list -o=json", OutputFormat::Json),
     ] {
-        assert_eq!(rt;
-            read_line(rt.alloc(), line.as_bytes(), 2, &mut CtrlList::new()),
-            Ok(listing(format))
-        );
+        check_line(&rt, rt.alloc(), line.as_bytes(), &listing(format));
     }
 }
 
@@ -66,11 +60,8 @@ fn reads_identified_controllers(rt: HostRuntime) {
         ("id-ctrl /dev/nvme1n3", 1),
         ("nvme id-ctrl -o normal /dev/nvme1", 1),
     ] {
-        let want = question(controller, Ask::Do(Act::Send(Command::IdentifyController)));
-        assert_eq!(rt;
-            read_line(rt.alloc(), line.as_bytes(), 2, &mut CtrlList::new()),
-            Ok(want)
-        );
+        let want = sends(controller, Command::IdentifyController);
+        check_line(&rt, rt.alloc(), line.as_bytes(), &want);
     }
 }
 
@@ -78,15 +69,7 @@ fn reads_identified_controllers(rt: HostRuntime) {
 fn reads_the_output_format(rt: HostRuntime) {
     let alloc = rt.alloc();
     let log = question(0, health());
-    assert_eq!(rt;
-        read_line(
-            alloc,
-            b"smart-log /dev/nvme0 -o normal",
-            2,
-            &mut CtrlList::new()
-        ),
-        Ok(log)
-    );
+    check_line(&rt, alloc, b"smart-log /dev/nvme0 -o normal", &log);
     for (line, ask) in [
         (
             "id-ctrl /dev/nvme0 -o json",

@@ -241,32 +241,44 @@ fn given_before_a_full_output(
     Ok(script.given)
 }
 
+/// A newline, and 100,000 bytes of comments.
+fn end_and_comments(alloc: Global) -> Result<Vec<u8>, Fail> {
+    let mut script = Vec::new(alloc);
+    script.push(b'\n')?;
+    for _ in 0..5000 {
+        script.extend_from_slice(b"# what stands here.\n")?;
+    }
+    Ok(script)
+}
+
+/// A first piece, and pieces of 4,096 bytes after it.
+fn pieces<'a>(alloc: Global, first: &'a [u8], rest: &'a [u8]) -> Result<Vec<&'a [u8]>, Fail> {
+    let mut pieces = Vec::new(alloc);
+    pieces.push(first)?;
+    for piece in rest.chunks(4096) {
+        pieces.push(piece)?;
+    }
+    Ok(pieces)
+}
+
 /// After a failing write in a line of 22 bytes, 4,095 bytes past it were read at most: the rest of
 /// the piece in which its newline came.
 #[test]
 fn reads_no_more_than_a_piece_past_a_failing_write(rt: HostRuntime) -> Result<(), Fail> {
-    let alloc = rt.alloc();
-    let line: &[u8] = b"id-ns /dev/nvme0 -n 1";
-    let mut rest = Vec::new(alloc);
-    rest.push(b'\n')?;
-    for _ in 0..5000 {
-        rest.extend_from_slice(b"# what stands here.\n")?;
-    }
-    assert_eq!(rt; (line.len(), rest.len()), (21, 100_001));
-    let mut pieces: Vec<&[u8]> = Vec::new(alloc);
-    pieces.push(line)?;
-    for piece in rest.chunks(4096) {
-        pieces.push(piece)?;
-    }
-    assert_eq!(rt; given_before_a_full_output(&rt, alloc, &pieces)?, 4117);
-    let mut whole = Vec::new(alloc);
-    whole.extend_from_slice(line)?;
-    whole.extend_from_slice(&rest)?;
-    let mut pieces: Vec<&[u8]> = Vec::new(alloc);
-    for piece in whole.chunks(4096) {
-        pieces.push(piece)?;
-    }
-    assert_eq!(rt; given_before_a_full_output(&rt, alloc, &pieces)?, 4096);
+    let rest = end_and_comments(rt.alloc())?;
+    assert_eq!(rt; rest.len(), 100_001);
+    let script = pieces(rt.alloc(), b"id-ns /dev/nvme0 -n 1", &rest)?;
+    assert_eq!(rt; given_before_a_full_output(&rt, rt.alloc(), &script)?, 4117);
+    Ok(())
+}
+
+#[test]
+fn reads_a_piece_with_a_failing_write(rt: HostRuntime) -> Result<(), Fail> {
+    let mut whole = Vec::new(rt.alloc());
+    whole.extend_from_slice(b"id-ns /dev/nvme0 -n 1")?;
+    whole.extend_from_slice(&end_and_comments(rt.alloc())?)?;
+    let script = pieces(rt.alloc(), &whole[..4096], &whole[4096..])?;
+    assert_eq!(rt; given_before_a_full_output(&rt, rt.alloc(), &script)?, 4096);
     Ok(())
 }
 
