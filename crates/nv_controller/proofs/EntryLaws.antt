@@ -1,9 +1,11 @@
 -- What an entry is answered, and what taking it did.
-use Rattle.std.proofs.Common.{◌≡◌, ◌∙◌, ℕ, ap, ap₂, refl, subst, sym, List, Option, Some, None, Result, Ok, Err}
+use Rattle.std.proofs.Common.{◌≡◌, ◌∙◌, ℕ, Bool, ap, ap₂, refl, subst, sym, length, List, Option, Some, None, Result}
+use Rattle.std.proofs.Common.{Ok, Err}
+use Rattle.std.proofs.lemmas.List.{length-map}
 use Rattle.nv_layout.specs.declared.cqe.Cqe.{Cqe}
 use Rattle.nv_layout.specs.declared.sqe.Sqe.{Sqe}
 use Rattle.nv_layout.specs.declared.status.Status.{Status}
-use Rattle.nv_queue.specs.Numbers.{next, slot_of}
+use Rattle.nv_queue.specs.Numbers.{next, phase_of, slot_of}
 use Rattle.nv_queue.specs.Rings.{fetched_one, posted_one}
 use Rattle.nv_queue.specs.Slots.{with_completion}
 use Rattle.nv_prp.specs.Place.{written_at}
@@ -23,6 +25,8 @@ use Rattle.nv_model.specs.Limit.{limit_of}
 use Rattle.nv_bus.proofs.TagLaws.{dword0_tagged, tagged}
 use Rattle.nv_bus.specs.Entry.{Moves, MovesBy, One, Scene, call_in, completion_with, entry_in, entry_step, step_unless}
 use Rattle.nv_bus.specs.Entry.{success, told_by}
+use Rattle.nv_controller.specs.Tags.{settled_next, settled_unless}
+use Rattle.nv_subsystem.specs.Tagged.{untagged, untagged_log}
 
 -- ---- answers
 
@@ -86,12 +90,32 @@ pub moved_none : (k : Command) (at old new : List ℕ) (status : Status)
     → Moves k at answer old new
 moved_none k at old new status answer is same = subst (λ (a : Result Reply Status). Moves k at a old new) is same
 
+-- ---- tags
+
+-- what makes and takes no controller without tags makes and takes none
+pub same_count : (old new after : State) → untagged new ≡ after
+    → length after.controllers ≡ length (untagged old).controllers
+    → length new.controllers ≡ length old.controllers
+same_count old new after is same =
+    sym (length-map new.controllers untagged_log)
+    ∙ ap (λ (t : State). length t.controllers) is
+    ∙ same
+    ∙ length-map old.controllers untagged_log
+
+-- what is booked has the phase tag of the next completion
+pub tagged_next : (c : ℕ) (x : Scene) (entry : Sqe) (size : ℕ) (phase : Bool)
+    → entry ≡ entry_in x → size ≡ x.rings.page_size
+    → (let ring = x.rings.completion in phase ≡ phase_of ring.depth ring.posted)
+    → settled_unless (call_of size (limit_of x.state c) x.bytes entry) x.state c entry phase ≡ settled_next c x
+tagged_next c x entry size phase same page due = λ i.
+    settled_unless (call_of (page i) (limit_of x.state c) x.bytes (same i)) x.state c (same i) (due i)
+
 -- ---- what taking one entry did, from its parts
 
 pub taken_one : (c : ℕ) (old new : Scene) (entry : Sqe) (size head : ℕ) (posted : Cqe)
-    → (moved : List ℕ) → let call = call_of size (limit_of old.state c) old.bytes entry in
+    → (moved : List ℕ) (limit : ℕ) → let call = call_of size limit old.bytes entry in
     let step = step_unless call old.state c entry in
-    entry ≡ entry_in old → size ≡ old.rings.page_size
+    entry ≡ entry_in old → size ≡ old.rings.page_size → limit ≡ limit_of old.state c
     → new.state ≡ step.state
     → MovesBy call step.answer old.bytes moved
     → new.rings ≡ record old.rings {
@@ -102,10 +126,9 @@ pub taken_one : (c : ℕ) (old new : Scene) (entry : Sqe) (size head : ℕ) (pos
     → posted ≡ completion_with entry.cid head step.answer
     → new.bytes ≡ with_completion moved old.rings.completion posted
     → One c old new
-taken_one c old new entry size head posted moved same page state moves rings slot made bytes =
-    let limit = limit_of old.state c in
+taken_one c old new entry size head posted moved limit same page most state moves rings slot made bytes =
     let call : call_of size limit old.bytes entry ≡ call_in c old =
-    ap₂ (λ s e. call_of s limit old.bytes e) page same in
+    (λ i. call_of (page i) (most i) old.bytes (same i)) in
     let step : step_unless (call_of size limit old.bytes entry) old.state c entry ≡ entry_step c old =
     ap₂ (λ k e. step_unless k old.state c e) call same in
     record {

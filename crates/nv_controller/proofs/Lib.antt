@@ -3,3 +3,4 @@ pub mod EntryLaws
 pub mod TurnLaws
 pub mod DataLaws
 pub mod ResetLaws
+pub mod BusLaws

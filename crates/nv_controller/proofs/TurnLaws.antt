@@ -3,16 +3,18 @@ use Rattle.std.proofs.Common.{◌≡◌, ℕ, zero, suc, ◌+◌, refl, subst, s
 use Rattle.nv_register.specs.declared.readiness.Readiness.{Readiness}
 use Rattle.nv_register.specs.declared.readiness.Readiness.TheVariants.{Ready}
 use Rattle.nv_register.specs.declared.rings.Rings.{Rings}
+use Rattle.nv_model.specs.State.{State}
 use Rattle.nv_model.specs.WellFormed.{IsWellFormed}
 use Rattle.nv_bus.specs.Entry.{Scene, scene}
 use Rattle.nv_bus.specs.Turn.{BankTurn, RingsTurn, Site, Taken, Takes, TakesCount, TurnBy, ready_bank, site}
 use Rattle.nv_bus.proofs.TurnLaws.{bank_turn_count}
 
--- so many entries were taken, in a memory whose page size and length stay
-pub record Goes (count page_size now c : ℕ) (old new : Scene) : Type 0 where
+-- so many entries were taken, over a memory whose page size and length stay; the scenes' subsystem
+-- was s and is t, but for their tags
+pub record Goes (count page_size now c : ℕ) (s t : State) (old new : Scene) : Type 0 where
   pub taken : Taken count page_size c old new
-  pub well_formed : IsWellFormed new.state
-  pub controllers : length new.state.controllers ≡ length old.state.controllers
+  pub well_formed : IsWellFormed t
+  pub controllers : length t.controllers ≡ length s.controllers
   pub len : length new.bytes ≡ length old.bytes
   pub page : now ≡ page_size
 

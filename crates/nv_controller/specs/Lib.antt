@@ -1,1 +1,2 @@
 pub mod BusCode
+pub mod Tags

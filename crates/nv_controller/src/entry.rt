@@ -5,6 +5,7 @@ ghost use Rattle.nv_layout.specs.Parts.{part};
 ghost use Rattle.nv_command.specs.Command.{transfer_by};
 ghost use Rattle.nv_command.specs.Reply.{FitsRecord, IsReplyTo, data_of, log_of, page_of};
 ghost use Rattle.nv_prp.specs.Place.{LieIn, places, written_at};
+ghost use Rattle.nv_model.specs.Refusal.{refusal_of};
 ghost use Rattle.nv_model.specs.Step.{step};
 ghost use Rattle.nv_model.specs.WellFormed.{IsWellFormed};
 ghost use Rattle.nv_bus.specs.Call.{call_of, length_of};
@@ -12,6 +13,8 @@ ghost use Rattle.nv_bus.specs.Entry.{Moves, MovesBy, One, completion_of, scene};
 ghost use Rattle.nv_bus.specs.Entry.{step_unless, told_by};
 ghost use Rattle.nv_model.specs.Limit.{limit_of};
 ghost use Rattle.nv_bus.specs.Turn.{can_take, reaches};
+ghost use Rattle.nv_controller.specs.Tags.{settled_next, settled_unless};
+ghost use Rattle.nv_subsystem.specs.Tagged.{settled, untagged};
 
 use crate::call::read_call;
 use crate::log_part::LogPart;
@@ -151,10 +154,14 @@ fn execute<M: HostMemory>(
     requires inside { LieIn (length (M.bytes mem.old)) data.old.spans }
     requires len { length (places data.old.spans) ≡ length_of (transfer_by command.now) }
     requires few { length (places data.old.spans) ≤ 1048576 }
-    ensures told { result ≡ told_by (step subsystem.old ctrl command.now origin.cid).answer }
-    ensures state { subsystem.new ≡ (step subsystem.old ctrl command.now origin.cid).state }
+    ensures told { result
+        ≡ told_by (step (untagged subsystem.old) ctrl command.now origin.cid).answer }
+    ensures state { untagged subsystem.new
+        ≡ (step (untagged subsystem.old) ctrl command.now origin.cid).state }
+    ensures tagged { subsystem.new ≡ settled subsystem.old ctrl command.now origin
+        (refusal_of subsystem.old ctrl command.now) }
     ensures moved { Moves command.now (places data.old.spans)
-        (step subsystem.old ctrl command.now origin.cid).answer
+        (step (untagged subsystem.old) ctrl command.now origin.cid).answer
         (M.bytes mem.old) (M.bytes mem.new) }
     ensures well_formed { IsWellFormed subsystem.new }
     ensures len { length (M.bytes mem.new) ≡ length (M.bytes mem.old) }
@@ -185,13 +192,17 @@ fn answer_entry<M: HostMemory>(
     requires well_formed { IsWellFormed subsystem.old }
     ensures told { let call = call_of (M.page_len mem.old)
         (limit_of subsystem.old ctrl) (M.bytes mem.old) entry.now in
-        result ≡ told_by (step_unless call subsystem.old ctrl entry.now).answer }
+        result ≡ told_by (step_unless call (untagged subsystem.old) ctrl entry.now).answer }
     ensures state { let call = call_of (M.page_len mem.old)
         (limit_of subsystem.old ctrl) (M.bytes mem.old) entry.now in
-        subsystem.new ≡ (step_unless call subsystem.old ctrl entry.now).state }
+        untagged subsystem.new
+        ≡ (step_unless call (untagged subsystem.old) ctrl entry.now).state }
+    ensures tagged { let call = call_of (M.page_len mem.old)
+        (limit_of subsystem.old ctrl) (M.bytes mem.old) entry.now in
+        subsystem.new ≡ settled_unless call subsystem.old ctrl entry.now phase }
     ensures moved { let call = call_of (M.page_len mem.old)
         (limit_of subsystem.old ctrl) (M.bytes mem.old) entry.now in
-        MovesBy call (step_unless call subsystem.old ctrl entry.now).answer
+        MovesBy call (step_unless call (untagged subsystem.old) ctrl entry.now).answer
         (M.bytes mem.old) (M.bytes mem.new) }
     ensures well_formed { IsWellFormed subsystem.new }
     ensures controllers { length subsystem.new.controllers ≡ length subsystem.old.controllers }
@@ -215,7 +226,8 @@ fn answer_entry<M: HostMemory>(
 }
 
 /// Takes the next entry of a controller's submission ring: its command is executed or the entry is
-/// refused, the data of its reply is written, and then its completion.
+/// refused, the data of its reply is written, and then its completion. What is booked has the phase
+/// tag of that completion.
 pub(crate) fn take_one<M: HostMemory>(
     subsystem: &mut Subsystem,
     rings: &mut Rings,
@@ -227,8 +239,10 @@ pub(crate) fn take_one<M: HostMemory>(
     requires well_formed { IsWellFormed subsystem.old }
     requires can { can_take rings.old ≡ true }
     requires reached { reaches rings.old (M.page_len mem.old) (length (M.bytes mem.old)) ≡ true }
-    ensures one { One ctrl (scene subsystem.old rings.old (M.bytes mem.old))
-        (scene subsystem.new rings.new (M.bytes mem.new)) }
+    ensures one { One ctrl (scene (untagged subsystem.old) rings.old (M.bytes mem.old))
+        (scene (untagged subsystem.new) rings.new (M.bytes mem.new)) }
+    ensures tagged { subsystem.new
+        ≡ settled_next ctrl (scene subsystem.old rings.old (M.bytes mem.old)) }
     ensures well_formed { IsWellFormed subsystem.new }
     ensures controllers { length subsystem.new.controllers ≡ length subsystem.old.controllers }
     ensures len { length (M.bytes mem.new) ≡ length (M.bytes mem.old) }

@@ -5,6 +5,7 @@ ghost use Rattle.nv_register.specs.RegisterBank.{new_bank, stops_at, with_regist
 ghost use Rattle.nv_model.specs.Reset.{reset};
 ghost use Rattle.nv_model.specs.WellFormed.{IsWellFormed};
 ghost use Rattle.nv_bus.specs.Bus.{IsBus};
+ghost use Rattle.nv_subsystem.specs.Tagged.{untagged};
 
 use crate::scratch::Scratch;
 use crate::turn::turn_bank;
@@ -32,7 +33,10 @@ impl Model for Machine {
 
     ghost coded = { bus_code };
 
-    ghost view = { λ m. record { state = m.subsystem; banks = m.banks.items } };
+    ghost use Rattle.nv_subsystem.specs.Tagged.{untagged};
+
+    // A bus tells nothing of the phase tags in logs.
+    ghost view = { λ m. record { state = untagged m.subsystem; banks = m.banks.items } };
 
     ghost use Rattle.std.specs.Prelude.{◌≡◌, length};
 
@@ -81,7 +85,7 @@ impl Machine {
     /// dropped.
     pub fn new(alloc: Global, subsystem: Subsystem) -> Result<Machine, Memory>
         ensures value { IfOk result (λ m. m ≡ record {
-          state = subsystem;
+          state = untagged subsystem;
           banks = replicate (length subsystem.controllers) new_bank;
         }) }
         ensures bus { IfOk result (λ m. IsWellFormed subsystem → IsBus m) }
@@ -94,9 +98,9 @@ impl Machine {
         })
     }
 
-    /// The subsystem as it is now.
+    /// The subsystem as it is now, whose logs have phase tags.
     pub fn subsystem(&self) -> &Subsystem
-        ensures { result.now ≡ self.now.state }
+        ensures { untagged result.now ≡ self.now.state }
     {
         &self.subsystem
     }

@@ -5,6 +5,7 @@ ghost use Rattle.nv_model.specs.WellFormed.{IsWellFormed};
 ghost use Rattle.nv_bus.specs.Entry.{scene};
 ghost use Rattle.nv_bus.specs.Turn.{BankTurn, RingsTurn, TakesCount, can_take, reaches};
 ghost use Rattle.nv_bus.specs.Turn.{site};
+ghost use Rattle.nv_subsystem.specs.Tagged.{untagged};
 
 use crate::entry::take_one;
 use crate::scratch::Scratch;
@@ -40,8 +41,8 @@ fn take_entries<M: HostMemory>(
     requires ctrl { ctrl < length subsystem.old.controllers }
     requires well_formed { IsWellFormed subsystem.old }
     ensures turn { RingsTurn (M.page_len mem.old) ctrl most result.0
-        (scene subsystem.old rings.old (M.bytes mem.old))
-        (scene subsystem.new rings.new (M.bytes mem.new)) result.1 }
+        (scene (untagged subsystem.old) rings.old (M.bytes mem.old))
+        (scene (untagged subsystem.new) rings.new (M.bytes mem.new)) result.1 }
     ensures well_formed { IsWellFormed subsystem.new }
     ensures controllers { length subsystem.new.controllers ≡ length subsystem.old.controllers }
     ensures len { length (M.bytes mem.new) ≡ length (M.bytes mem.old) }
@@ -71,8 +72,8 @@ pub(crate) fn turn_bank<M: HostMemory>(
     requires ctrl { ctrl < length subsystem.old.controllers }
     requires well_formed { IsWellFormed subsystem.old }
     ensures turn { BankTurn (M.page_len mem.old) ctrl most result
-        (site subsystem.old bank.old (M.bytes mem.old))
-        (site subsystem.new bank.new (M.bytes mem.new)) }
+        (site (untagged subsystem.old) bank.old (M.bytes mem.old))
+        (site (untagged subsystem.new) bank.new (M.bytes mem.new)) }
     ensures count { TakesCount (M.page_len mem.old) (length (M.bytes mem.old)) most
         bank.old result bank.new }
     ensures well_formed { IsWellFormed subsystem.new }

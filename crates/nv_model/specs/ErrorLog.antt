@@ -5,7 +5,8 @@ use Rattle.nv_command.specs.declared.refusal.Refusal.{Refusal}
 use Rattle.nv_layout.specs.declared.error_entry.ErrorEntry.{ErrorEntry}
 use Rattle.nv_layout.specs.declared.status.Status.{Status}
 
--- the entry of a refusal: no field of the command is told, and no logical block
+-- the entry of a refusal: no field of the command is told, and no logical block, and here no phase
+-- tag
 abbrev pub log_entry : ℕ → ℕ → ℕ → Refusal → ErrorEntry
 log_entry count cid nsid r = record {
   count = count;
@@ -20,7 +21,7 @@ log_entry count cid nsid r = record {
   specific = r.specific;
 }
 
--- the entries newest first, without phase tags, and how many there may be
+-- the entries newest first, and how many there may be
 pub record Log : Type 0 where
   pub most : ℕ
   pub entries : List ErrorEntry

@@ -18,9 +18,9 @@ Namespaces = map_of.FinMap nat_cmp Namespace
 abbrev pub Nsids : Type 0
 Nsids = set_of.FinSet nat_cmp
 
--- a controller: what its file table gives, its error log newest first and without phase tags, how
--- many commands it refused and how many it took, the NSIDs that are attached to it, and the values
--- of its features
+-- a controller: what its file table gives, its error log newest first, how many commands it refused
+-- and how many it took, the NSIDs that are attached to it, and the values of its features. A step
+-- books entries without phase tags; the entries of a subsystem in memory have them
 pub record Controller : Type 0 where
   pub identity : Identity
   pub rules : FeatureRules

@@ -1,6 +1,7 @@
 use Rattle.std.proofs.Common.{◌∙◌, ℕ, ap, sym, length}
 use Rattle.nv_bus.specs.Entry.{scene}
 use Rattle.nv_bus.specs.Turn.{reaches}
+use Rattle.nv_subsystem.specs.Tagged.{untagged}
 use Rattle.nv_controller.proofs.TurnLaws.{taken_more}
 use Rattle.nv_controller.proofs.turn.take_entries.Goals as goal
 
@@ -10,9 +11,9 @@ loop-count-preserved g c =
     let bytes = g.M.HostMemory.bytes c.loop-count.mem in
     record {
       taken = taken_more c.loop-count.count (g.M.HostMemory.page_len c.args.mem.now) c.args.ctrl
-          (scene c.args.subsystem.now c.args.rings.now (g.M.HostMemory.bytes c.args.mem.now))
-          (scene c.loop-count.subsystem c.loop-count.rings bytes)
-          (scene c.take_one.new.subsystem c.take_one.new.rings (g.M.HostMemory.bytes c.take_one.new.mem))
+          (scene (untagged c.args.subsystem.now) c.args.rings.now (g.M.HostMemory.bytes c.args.mem.now))
+          (scene (untagged c.loop-count.subsystem) c.loop-count.rings bytes)
+          (scene (untagged c.take_one.new.subsystem) c.take_one.new.rings (g.M.HostMemory.bytes c.take_one.new.mem))
           inv.taken
           (record {
             can = sym c.if-not-can_take.ensures;
