@@ -7,6 +7,7 @@ ghost use Rattle.nv_command.specs.Reply.{reply_in};
 ghost use Rattle.nv_bus.specs.Call.{length_of};
 ghost use Rattle.nv_prp.specs.Buffer.{IsBuffer, buffer_places};
 ghost use Rattle.nv_prp.specs.Place.{read_at};
+ghost use Rattle.nv_driver.specs.Layout.{most_bytes};
 ghost use Rattle.nv_driver.specs.Schedule.{answer_from, received_from};
 
 use crate::answer_slot::AnswerSlot;
@@ -24,7 +25,7 @@ fn read_sent<'a, M: HostMemory>(
     spans: &mut Spans,
     data: &'a mut [u8; 16384],
 ) -> &'a [u8]
-    requires few { len ≤ 16384 }
+    requires few { len ≤ most_bytes }
     requires buffer { IsBuffer (M.bytes mem.now) (M.page_len mem.now)
         buffer.now.pages.now buffer.now.offset len }
     ensures bytes { result.now ≡ read_at (M.bytes mem.now)
