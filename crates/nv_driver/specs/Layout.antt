@@ -14,10 +14,14 @@ submission_pages g = div_ceil (64 * g.depth) g.page_size
 unfoldable pub completion_pages : Geometry → ℕ
 completion_pages g = div_ceil (16 * g.depth) g.page_size
 
--- the most pages of one command: those of 16,384 bytes, one more where they begin inside a page,
--- and two of a PRP list that begins inside a page
+-- the most bytes that a command's data has
+abbrev pub most_bytes : ℕ
+most_bytes = 16384
+
+-- the most pages of one command: those of its data, one more where they begin inside a page, and
+-- two of a PRP list that begins inside a page
 abbrev pub pages_of_command : ℕ → ℕ
-pages_of_command page_size = div_ceil 16384 page_size + 3
+pages_of_command page_size = div_ceil most_bytes page_size + 3
 
 -- of all outstanding commands
 unfoldable pub set_pages : Geometry → ℕ

@@ -1,12 +1,13 @@
 //! The answer to one command.
 
-ghost use Rattle.std.specs.Prelude.{◌≡◌, ◌<◌, ◌≤◌, Ok};
+ghost use Rattle.std.specs.Prelude.{◌≡◌, ◌<◌, ◌≤◌, Ok, length};
 ghost use Rattle.nv_command.specs.Command.{transfer_by};
 ghost use Rattle.nv_command.specs.Logs.{IsSendable};
 ghost use Rattle.nv_command.specs.Reply.{reply_in};
 ghost use Rattle.nv_bus.specs.Call.{length_of};
 ghost use Rattle.nv_prp.specs.Buffer.{IsBuffer, buffer_places};
 ghost use Rattle.nv_prp.specs.Place.{read_at};
+ghost use Rattle.nv_driver.specs.Layout.{most_bytes};
 ghost use Rattle.nv_driver.specs.Schedule.{answer_from, received_from};
 
 use crate::answer_slot::AnswerSlot;
@@ -16,36 +17,30 @@ use nv_host::HostMemory;
 use nv_layout::Cqe;
 use nv_prp::{Buffer, Spans, copy_in};
 
-/// Reads the reply to a command from dword 0 of its completion and the bytes that the controller
-/// sent to the buffer of its data, so many.
-#[tactic(auto, using(crate::proofs::DataLaws::shape_as, crate::proofs::DataLaws::most))]
-fn read_data<M: HostMemory>(
+/// The bytes that the controller sent to the buffer of a command's data, so many.
+fn read_sent<'a, M: HostMemory>(
     mem: &M,
     buffer: &Buffer,
-    command: &Command,
     len: u64,
-    dword0: u32,
-    slot: &mut AnswerSlot,
     spans: &mut Spans,
-    data: &mut [u8; 16384],
-)
-    requires sends { IsSendable command.now }
-    requires to_host { transfer_by command.now ≡ Transfer.ToHost len }
-    requires few { len ≤ 16384 }
+    data: &'a mut [u8; 16384],
+) -> &'a [u8]
+    requires few { len ≤ most_bytes }
     requires buffer { IsBuffer (M.bytes mem.now) (M.page_len mem.now)
-        buffer.now.pages.now buffer.now.offset (length_of (transfer_by command.now)) }
-    ensures { slot.new ≡ Ok (reply_in command.now dword0 (read_at (M.bytes mem.now)
-        (buffer_places (M.page_len mem.now) buffer.now.pages.now buffer.now.offset
-        (length_of (transfer_by command.now))))) }
+        buffer.now.pages.now buffer.now.offset len }
+    ensures bytes { result.now ≡ read_at (M.bytes mem.now)
+        (buffer_places (M.page_len mem.now) buffer.now.pages.now buffer.now.offset len) }
+    ensures len { length result.now ≡ len }
 {
     buffer.spans(mem, len as u32, spans);
     let sent = &mut data[..len as usize];
     copy_in(mem, spans, sent);
-    slot.read(command, dword0, sent);
+    sent
 }
 
 /// Reads the reply to a command from dword 0 of its completion and what the controller sent to the
 /// buffer of its data.
+#[tactic(auto, using(crate::proofs::DataLaws::shape_as, crate::proofs::DataLaws::most))]
 fn read_reply<M: HostMemory>(
     mem: &M,
     buffer: &Buffer,
@@ -65,7 +60,8 @@ fn read_reply<M: HostMemory>(
     match command.transfer() {
         Transfer::ToHost(len) => {
             let Scratch { spans, data, .. } = scratch;
-            read_data(mem, buffer, command, len, dword0, slot, spans, data)
+            let sent = read_sent(mem, buffer, len, spans, data);
+            slot.read(command, dword0, sent);
         }
         Transfer::NoData => slot.read(command, dword0, &[]),
         Transfer::FromHost(_) => slot.read(command, dword0, &[]),

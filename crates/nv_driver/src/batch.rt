@@ -19,8 +19,8 @@ use crate::answer_slot::AnswerSlot;
 use crate::answering::answer;
 use crate::checked_geometry::CheckedGeometry;
 use crate::command_pages::CommandPages;
+use crate::host_side::HostSide;
 use crate::queue_pair::QueuePair;
-use crate::scratch::Scratch;
 use crate::submitting::submit;
 use nv_bus::Bus;
 use nv_command::Command;
@@ -77,17 +77,16 @@ impl Batch {
     /// Answers the new tail where it submitted one.
     fn fill<M: HostMemory>(
         &mut self,
-        mem: &mut M,
+        host: &mut HostSide<M>,
         pair: &mut QueuePair,
         commands: &[Command],
-        scratch: &mut Scratch,
     ) -> Option<u16>
         ghost run: { Run }
         requires commands { commands.now ≡ run.commands }
         requires under_way { IsUnderWay run self.old.sent self.old.collected
-            self.old pair.old (M.page_len mem.old) (M.bytes mem.old) }
+            self.old pair.old (M.page_len host.old.mem) (M.bytes host.old.mem) }
         ensures under_way { IsUnderWay run self.old.sent self.old.collected
-            self.new pair.new (M.page_len mem.new) (M.bytes mem.new) }
+            self.new pair.new (M.page_len host.new.mem) (M.bytes host.new.mem) }
         ensures tail { MatchOption result (self.new.sent ≡ self.old.sent)
             (λ tail. tail ≡ slot (setting_of run) self.new.sent) }
         ensures sent { self.new.sent ≡ min (self.old.collected + self.old.geometry.window)
@@ -102,7 +101,13 @@ impl Batch {
         let end = self.sent + room.min(commands.len() - self.sent);
         let mut tail = None;
         for number in self.sent..end {
-            let (pages, next) = submit(mem, pair, geometry, &commands[number], scratch);
+            let (pages, next) = submit(
+                &mut host.mem,
+                pair,
+                geometry,
+                &commands[number],
+                &mut host.scratch,
+            );
             self.outstanding[number % MOST] = Some(pages);
             self.sent += 1;
             tail = Some(next);
@@ -115,19 +120,18 @@ impl Batch {
     fn send<B: Bus, M: HostMemory>(
         &mut self,
         bus: &mut B,
-        mem: &mut M,
+        host: &mut HostSide<M>,
         pair: &mut QueuePair,
         commands: &[Command],
-        scratch: &mut Scratch,
     )
         ghost run: { Run }
         requires commands { commands.now ≡ run.commands }
         requires under_way { IsUnderWay run self.old.sent self.old.collected
-            self.old pair.old (M.page_len mem.old) (M.bytes mem.old) }
+            self.old pair.old (M.page_len host.old.mem) (M.bytes host.old.mem) }
         requires bus { IsBusOf run self.old.sent self.old.collected self.old.told
             (B.meaning bus.old) }
         ensures under_way { IsUnderWay run self.new.sent self.new.collected
-            self.new pair.new (M.page_len mem.new) (M.bytes mem.new) }
+            self.new pair.new (M.page_len host.new.mem) (M.bytes host.new.mem) }
         ensures bus { IsBusOf run self.new.sent self.new.collected self.new.told
             (B.meaning bus.new) }
         ensures sent { self.new.sent ≡ min (self.old.collected + self.old.geometry.window)
@@ -137,7 +141,7 @@ impl Batch {
         ensures collected { self.new.collected ≡ self.old.collected }
         ensures told { self.new.told ≡ self.old.told }
     {
-        if let Some(tail) = self.fill(mem, pair, commands, scratch) {
+        if let Some(tail) = self.fill(host, pair, commands) {
             bus.write32(self.ctrl, offset::TAIL_DOORBELL, u32::from(tail));
         }
     }
@@ -198,24 +202,23 @@ impl Batch {
     /// gives back the command's pages. Section "Completion Queue Entry".
     fn collect_one<M: HostMemory>(
         &mut self,
-        mem: &M,
+        host: &mut HostSide<M>,
         pair: &mut QueuePair,
         commands: &[Command],
         answers: &mut [AnswerSlot],
-        scratch: &mut Scratch,
     )
         ghost at: { Moment }
         requires commands { commands.now ≡ at.run.commands }
         requires under_way { IsUnderWay at.run self.old.sent at.done
-            self.old pair.old (M.page_len mem.now) (M.bytes mem.now) }
+            self.old pair.old (M.page_len host.old.mem) (M.bytes host.old.mem) }
         requires answers { HasAnswers at.run self.old.collected answers.old }
         requires posted { self.old.collected < at.done }
         ensures under_way { IsUnderWay at.run self.new.sent at.done
-            self.new pair.new (M.page_len mem.now) (M.bytes mem.now) }
+            self.new pair.new (M.page_len host.new.mem) (M.bytes host.new.mem) }
         ensures answers { HasAnswers at.run self.new.collected answers.new }
         ensures batch { self.new ≡ record self.old { collected = self.old.collected + 1 } }
     {
-        let completion = pair.completion.poll(mem).unwrap();
+        let completion = pair.completion.poll(&host.mem).unwrap();
         pair.submission.freed(completion.sq_head);
         let number = self.sent - distance(completion.cid, pair.serial);
         let pages = self.outstanding[number % MOST].unwrap();
@@ -223,12 +226,12 @@ impl Batch {
         let geometry = self.geometry;
         let buffer = pages.buffer(geometry.offset);
         answer(
-            mem,
+            &host.mem,
             &buffer,
             &commands[number],
             &completion,
             &mut answers[number],
-            scratch,
+            &mut host.scratch,
         );
         self.collected += 1;
     }
@@ -237,23 +240,22 @@ impl Batch {
     fn collect<B: Bus, M: HostMemory>(
         &mut self,
         bus: &mut B,
-        mem: &M,
+        host: &mut HostSide<M>,
         pair: &mut QueuePair,
         commands: &[Command],
         answers: &mut [AnswerSlot],
         posted: u16,
-        scratch: &mut Scratch,
     )
         ghost at: { Moment }
         requires commands { commands.now ≡ at.run.commands }
         requires under_way { IsUnderWay at.run self.old.sent at.done
-            self.old pair.old (M.page_len mem.now) (M.bytes mem.now) }
+            self.old pair.old (M.page_len host.old.mem) (M.bytes host.old.mem) }
         requires bus { IsBusOf at.run self.old.sent at.done self.old.told (B.meaning bus.old) }
         requires answers { HasAnswers at.run self.old.collected answers.old }
         requires posted { self.old.collected + posted ≡ at.done }
         requires near { IsToldInTime self.old }
         ensures under_way { IsUnderWay at.run self.new.sent at.done
-            self.new pair.new (M.page_len mem.now) (M.bytes mem.now) }
+            self.new pair.new (M.page_len host.new.mem) (M.bytes host.new.mem) }
         ensures bus { IsBusOf at.run self.new.sent at.done self.new.told (B.meaning bus.new) }
         ensures answers { HasAnswers at.run self.new.collected answers.new }
         ensures collected { self.new.collected ≡ at.done }
@@ -264,7 +266,7 @@ impl Batch {
         let geometry = self.geometry;
         let pace = usize::from(geometry.pace);
         for _ in 0..posted {
-            self.collect_one(mem, pair, commands, answers, scratch);
+            self.collect_one(host, pair, commands, answers);
             if self.collected - self.told == pace {
                 self.tell(bus, pair);
             }
@@ -275,23 +277,22 @@ impl Batch {
     fn round<B: Bus, M: HostMemory>(
         &mut self,
         bus: &mut B,
-        mem: &mut M,
+        host: &mut HostSide<M>,
         pair: &mut QueuePair,
         commands: &[Command],
         answers: &mut [AnswerSlot],
-        scratch: &mut Scratch,
     )
         ghost run: { Run }
         requires commands { commands.now ≡ run.commands }
         requires under_way { IsUnderWay run self.old.sent self.old.collected
-            self.old pair.old (M.page_len mem.old) (M.bytes mem.old) }
+            self.old pair.old (M.page_len host.old.mem) (M.bytes host.old.mem) }
         requires bus { IsBusOf run self.old.sent self.old.collected self.old.told
             (B.meaning bus.old) }
         requires answers { HasAnswers run self.old.collected answers.old }
         requires some { self.old.collected < length commands.now }
         requires near { IsToldInTime self.old }
         ensures under_way { IsUnderWay run self.new.sent self.new.collected
-            self.new pair.new (M.page_len mem.new) (M.bytes mem.new) }
+            self.new pair.new (M.page_len host.new.mem) (M.bytes host.new.mem) }
         ensures bus { IsBusOf run self.new.sent self.new.collected self.new.told
             (B.meaning bus.new) }
         ensures answers { HasAnswers run self.new.collected answers.new }
@@ -299,9 +300,9 @@ impl Batch {
         ensures further { left_of (length commands.now) self.new
             < left_of (length commands.now) self.old }
     {
-        self.send(bus, mem, pair, commands, scratch);
-        let posted = self.turn(bus, mem, pair);
-        self.collect(bus, mem, pair, commands, answers, posted, scratch);
+        self.send(bus, host, pair, commands);
+        let posted = self.turn(bus, &mut host.mem, pair);
+        self.collect(bus, host, pair, commands, answers, posted);
     }
 }
 
@@ -310,18 +311,17 @@ impl Batch {
 pub(crate) fn exchange_all<B: Bus, M: HostMemory>(
     bus: &mut B,
     ctrl: u16,
-    mem: &mut M,
+    host: &mut HostSide<M>,
     pair: &mut QueuePair,
     geometry: CheckedGeometry,
     commands: &[Command],
     answers: &mut [AnswerSlot],
-    scratch: &mut Scratch,
 )
     ghost run: { Run }
     requires run { run
-        ≡ run_of geometry ctrl (B.meaning bus.old) pair.old (M.bytes mem.old) commands.now }
+        ≡ run_of geometry ctrl (B.meaning bus.old) pair.old (M.bytes host.old.mem) commands.now }
     requires ready { IsReady geometry (B.meaning bus.old) ctrl
-        pair.old (M.page_len mem.old) (M.bytes mem.old) }
+        pair.old (M.page_len host.old.mem) (M.bytes host.old.mem) }
     requires can { All CanBeSent commands.now }
     requires len { length answers.old ≡ length commands.now }
     ensures answers { answers.new
@@ -329,19 +329,19 @@ pub(crate) fn exchange_all<B: Bus, M: HostMemory>(
     ensures state { (B.meaning bus.new).state
         ≡ state_after ctrl (B.meaning bus.old).state pair.old.serial commands.now }
     ensures ready { IsReady geometry (B.meaning bus.new) ctrl
-        pair.new (M.page_len mem.new) (M.bytes mem.new) }
+        pair.new (M.page_len host.new.mem) (M.bytes host.new.mem) }
     ensures banks { (B.meaning bus.new).banks
         ≡ slice_set (B.meaning bus.old).banks ctrl (bank_at (B.meaning bus.new).banks ctrl) }
     ensures pair { pair_value pair.new
         ≡ after_some (length commands.now) (pair_value pair.old) }
     ensures others { KeepsOthers geometry.page_size (pair_value pair.old)
-        (M.bytes mem.old) (M.bytes mem.new) }
-    ensures len { length (M.bytes mem.new) ≡ length (M.bytes mem.old) }
-    ensures page { M.page_len mem.new ≡ M.page_len mem.old }
+        (M.bytes host.old.mem) (M.bytes host.new.mem) }
+    ensures len { length (M.bytes host.new.mem) ≡ length (M.bytes host.old.mem) }
+    ensures page { M.page_len host.new.mem ≡ M.page_len host.old.mem }
 {
     let mut batch = Batch::new(ctrl, geometry);
     while batch.collected < commands.len() {
-        batch.round(bus, mem, pair, commands, answers, scratch);
+        batch.round(bus, host, pair, commands, answers);
     }
     batch.tell(bus, pair);
 }

@@ -20,6 +20,7 @@ use crate::enabling::{enable_all, reset};
 use crate::error::DriverError;
 use crate::geometry::Geometry;
 use crate::geometry_field::GeometryField;
+use crate::host_side::HostSide;
 use crate::queue_pair::{QueuePair, new_pairs};
 use crate::scratch::Scratch;
 use nv_bus::Bus;
@@ -33,10 +34,9 @@ use std::slice::{from_mut, from_ref};
 /// pages in it.
 #[derive(Drop)]
 pub struct Driver {
-    mem: FlatMemory,
+    host: HostSide<FlatMemory>,
     geometry: CheckedGeometry,
     pairs: Vec<QueuePair>,
-    scratch: Scratch,
 }
 
 impl Model for Driver {
@@ -46,9 +46,9 @@ impl Model for Driver {
 
     ghost use Rattle.nv_driver.specs.Driver.{IsDriver, driver_value};
 
-    ghost view = { λ d. driver_value d.geometry d.mem d.pairs.items };
+    ghost view = { λ d. driver_value d.geometry d.host.mem d.pairs.items };
 
-    ghost invariant = { λ d. IsDriver d.geometry d.mem d.pairs.items };
+    ghost invariant = { λ d. IsDriver d.geometry d.host.mem d.pairs.items };
 }
 
 impl Driver {
@@ -78,11 +78,11 @@ impl Driver {
         let mut mem = FlatMemory::new(alloc, geometry.page_size, geometry.pages(controllers))?;
         let pairs = new_pairs(alloc, geometry, controllers)?;
         enable_all(bus, &mut mem, &pairs, geometry)?;
+        let scratch = Scratch::new();
         Ok(Driver {
-            mem,
+            host: HostSide { mem, scratch },
             geometry,
             pairs,
-            scratch: Scratch::new(),
         })
     }
 
@@ -101,7 +101,7 @@ impl Driver {
         ensures left { (B.meaning bus.new).banks ≡ banks_of self.new }
     {
         let pair = &mut self.pairs[ctrl as usize];
-        reset(bus, ctrl, &mut self.mem, pair, self.geometry)
+        reset(bus, ctrl, &mut self.host.mem, pair, self.geometry)
     }
 
     /// Sends a command to a controller and awaits its answer: the reply, or the status of the
@@ -162,12 +162,11 @@ impl Driver {
         exchange_all(
             bus,
             ctrl,
-            &mut self.mem,
+            &mut self.host,
             pair,
             self.geometry,
             commands,
             answers,
-            &mut self.scratch,
         );
     }
 
@@ -183,6 +182,6 @@ impl Driver {
     pub fn pages(&self) -> u64
         ensures { result ≡ self.now.pages }
     {
-        u64::from(self.mem.pages())
+        u64::from(self.host.mem.pages())
     }
 }

@@ -46,6 +46,7 @@ mod enabling;
 mod error;
 mod geometry;
 mod geometry_field;
+mod host_side;
 mod law;
 mod layout;
 mod queue_pair;

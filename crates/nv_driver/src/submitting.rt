@@ -13,7 +13,7 @@ ghost use Rattle.nv_queue.specs.Numbers.{next, slot_of};
 ghost use Rattle.nv_queue.specs.Rings.{IsSubmitFull};
 ghost use Rattle.nv_model.specs.Numbers.{serial_count};
 ghost use Rattle.nv_driver.specs.CommandPages.{data_pages};
-ghost use Rattle.nv_driver.specs.Layout.{pages_of_command};
+ghost use Rattle.nv_driver.specs.Layout.{most_bytes, pages_of_command};
 ghost use Rattle.nv_driver.specs.Schedule.{CanBeSent};
 ghost use Rattle.nv_driver.specs.Submitting.{IsSubmitted};
 
@@ -31,7 +31,7 @@ use nv_prp::{Buffer, build, copy_out};
 fn data_length(command: &Command) -> u32
     requires { IsSendable command.now }
     ensures length { result ≡ length_of (transfer_by command.now) }
-    ensures most { result ≤ 16384 }
+    ensures most { result ≤ most_bytes }
 {
     match command.transfer() {
         Transfer::NoData => 0,
@@ -42,7 +42,7 @@ fn data_length(command: &Command) -> u32
 
 /// In how many pages so many bytes lie, from the geometry's offset on.
 fn page_count(geometry: CheckedGeometry, len: u32) -> usize
-    requires len { len ≤ 16384 }
+    requires len { len ≤ most_bytes }
     ensures enough { geometry.offset + len ≤ result * geometry.page_size }
     ensures few { result + 2 ≤ pages_of_command geometry.page_size }
     ensures five { result ≤ 5 }
@@ -59,7 +59,7 @@ fn build_pointer<M: HostMemory>(
     len: u32,
 ) -> (u64, u64)
     requires few { pages.now.data_pages ≤ 5 }
-    requires limit { len ≤ 16384 }
+    requires limit { len ≤ most_bytes }
     requires buffer { IsBuffer (M.bytes mem.old) (M.page_len mem.old)
         (data_pages pages.now) geometry.offset len }
     requires list { IsListPlace (M.bytes mem.old) (M.page_len mem.old)

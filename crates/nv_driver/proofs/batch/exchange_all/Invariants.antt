@@ -9,7 +9,7 @@ ghost-round g a = g.run
 abbrev pub invariant-loop-batch : goal.invariant-loop-batch
 invariant-loop-batch g l = record {
   under_way : IsUnderWay g.run l.batch.sent l.batch.collected l.batch l.pair
-      (g.M.HostMemory.page_len l.mem) (g.M.HostMemory.bytes l.mem);
+      (g.M.HostMemory.page_len l.host.mem) (g.M.HostMemory.bytes l.host.mem);
   bus : IsBusOf g.run l.batch.sent l.batch.collected l.batch.told (g.B.Bus.meaning l.bus);
   answers : HasAnswers g.run l.batch.collected l.answers;
   near : IsToldInTime l.batch;

@@ -74,11 +74,11 @@ loop-preserved g c =
           let same = ap (λ (x : Batch). x.collected) w.self-is in
           record {
             under_way = subst (λ (x : Batch). IsUnderWay r x.sent done x c.if-self-pace.pair
-                (g.M.HostMemory.page_len c.args.mem.now) (g.M.HostMemory.bytes c.args.mem.now))
+                (g.M.HostMemory.page_len c.collect_one.new.host.mem) (g.M.HostMemory.bytes c.collect_one.new.host.mem))
                 (sym w.self-is)
                 (subst (λ (x : QueuePair). IsUnderWay r c.collect_one.new.self.sent done
-                c.collect_one.new.self x (g.M.HostMemory.page_len c.args.mem.now)
-                (g.M.HostMemory.bytes c.args.mem.now)) (sym w.pair-is) one.under_way);
+                c.collect_one.new.self x (g.M.HostMemory.page_len c.collect_one.new.host.mem)
+                (g.M.HostMemory.bytes c.collect_one.new.host.mem)) (sym w.pair-is) one.under_way);
             bus = subst (λ x. IsBusOf r c.if-self-pace.self.sent done c.if-self-pace.self.told
                 (g.B.Bus.meaning x)) (sym w.bus-is)
                 (subst (λ (x : Batch). IsBusOf r x.sent done x.told (g.B.Bus.meaning c.loop.bus)) (sym w.self-is) bus);

@@ -9,7 +9,7 @@ ghost-collect_one g a = g.at
 abbrev pub invariant-loop : goal.invariant-loop
 invariant-loop g l = record {
   under_way : IsUnderWay g.at.run l.self.sent g.at.done l.self l.pair
-      (g.M.HostMemory.page_len l.mem) (g.M.HostMemory.bytes l.mem);
+      (g.M.HostMemory.page_len l.host.mem) (g.M.HostMemory.bytes l.host.mem);
   bus : IsBusOf g.at.run l.self.sent g.at.done l.self.told (g.B.Bus.meaning l.bus);
   answers : HasAnswers g.at.run l.self.collected l.answers;
   collected : l.self.collected ≡ l.fn.self.collected + l.counter;

@@ -6,7 +6,7 @@ use Rattle.nv_driver.proofs.batch.Batch.fill.Given as goal
 abbrev pub invariant-loop-number : goal.invariant-loop-number
 invariant-loop-number g l = record {
   under_way : IsUnderWay g.run l.fn.self.sent l.fn.self.collected l.self l.pair
-      (g.M.HostMemory.page_len l.mem) (g.M.HostMemory.bytes l.mem);
+      (g.M.HostMemory.page_len l.host.mem) (g.M.HostMemory.bytes l.host.mem);
   sent : l.self.sent ≡ l.number;
   from : l.fn.self.sent ≤ l.number;
   collected : l.self.collected ≡ l.fn.self.collected;

@@ -7,8 +7,8 @@ pub returns-in-Some-clause-under_way : goal.returns-in-Some-clause-under_way
 returns-in-Some-clause-under_way g c =
     let f = c.in-Some.ensures in
     subst (λ n. IsUnderWay g.run c.fill.new.self.sent n c.fill.new.self c.fill.new.pair
-    (g.M.HostMemory.page_len c.fill.new.mem)
-    (g.M.HostMemory.bytes c.fill.new.mem)) (sym f.collected) (rings f.under_way)
+    (g.M.HostMemory.page_len c.fill.new.host.mem)
+    (g.M.HostMemory.bytes c.fill.new.host.mem)) (sym f.collected) (rings f.under_way)
 
 pub returns-in-Some-clause-bus : goal.returns-in-Some-clause-bus
 returns-in-Some-clause-bus g c =
