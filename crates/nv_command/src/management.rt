@@ -193,11 +193,11 @@ pub(crate) fn attachment_command<'a>(
     ensures { result ≡ attachment_command entry.now sent.now }
 {
     let detach = is_detach(entry)?;
-    let list = place.read(page(sent)?)?;
+    place.read(page(sent)?)?;
     Ok(Command::Attachment {
         nsid: entry.nsid,
         detach,
-        list,
+        list: place.ids(),
     })
 }
 

@@ -1,6 +1,6 @@
 //! Controller lists.
 
-ghost use Rattle.std.specs.Prelude.{◌≡◌, Err, MatchResult, Ok};
+ghost use Rattle.std.specs.Prelude.{◌≡◌, Err, MatchResult, Ok, OnErr};
 ghost use Rattle.nv_layout.specs.CtrlList.{CtrlListFits, bytes_of_ctrl_list, ctrl_list_of_bytes};
 
 use crate::few::{Few, Lent};
@@ -54,23 +54,18 @@ impl Few<u16, 2047> {
         ensures { result ≡ ctrl_list_of_bytes bytes.now }
     {
         let mut list = CtrlList::new();
-        list.fill(bytes)?;
+        list.read(bytes)?;
         Ok(list)
     }
 
-    /// Reads a list from its bytes, as `get` does, in place of this one.
-    pub fn read(&mut self, bytes: &[u8; 4096]) -> Result<ControllerIds<'_>, LayoutError>
-        ensures { result ≡ ctrl_list_of_bytes bytes.now }
-    {
-        self.fill(bytes)?;
-        Ok(self.ids())
-    }
-
+    /// Reads a list from its bytes, as `get` does, in place of this one. After an error the list is
+    /// as it was.
     #[tactic(auto, unfolding(crate::specs::CtrlList::ctrl_list_of_bytes))]
-    fn fill(&mut self, bytes: &[u8; 4096]) -> Result<(), LayoutError>
-        ensures { MatchResult result
+    pub fn read(&mut self, bytes: &[u8; 4096]) -> Result<(), LayoutError>
+        ensures found { MatchResult result
             (λ _. ctrl_list_of_bytes bytes.now ≡ Ok self.new)
             (λ error. ctrl_list_of_bytes bytes.now ≡ Err error) }
+        ensures err { OnErr result (self.new ≡ self.old) }
     {
         let count = u16_at(bytes, 0) as usize;
         if count > 2047 {

@@ -196,7 +196,8 @@ fn controller_list_by_its_bytes(rt: HostRuntime) -> Result<(), Fail> {
     ControllerIds::new(&[0xffef, 0, 5]).put(&mut out);
     assert_eq!(rt; out, bytes);
     let mut place = CtrlList::new();
-    assert_eq!(rt; place.read(&bytes), Ok(list.ids()));
+    assert_eq!(rt; place.read(&bytes), Ok(()));
+    assert_eq!(rt; place, list);
     assert_eq!(rt; CtrlList::get(&bytes), Ok(list));
     let none = CtrlList::get(&[0; 4096])?;
     assert_eq!(rt; none, CtrlList::new());

@@ -313,7 +313,7 @@ impl Subsystem {
     }
 
     /// What a command of a controller is answered now. A list is made in the place for one, which
-    /// is of no account before; a log stands where it is.
+    /// is of no account before, nor after a refusal; a log stands where it is.
     pub fn answer<'a>(
         &'a self,
         ctrl: u16,
@@ -347,8 +347,9 @@ impl Subsystem {
         }
     }
 
-    /// Executes a command of a controller, and keeps its reply in the room. A refusal books itself
-    /// in that controller's error log; the controller counts the command in both cases.
+    /// Executes a command of a controller, and keeps its reply in the room, of which after a refusal
+    /// the content is of no account. A refusal books itself in that controller's error log; the
+    /// controller counts the command in both cases.
     pub fn execute<'a>(
         &mut self,
         ctrl: u16,
