@@ -277,6 +277,7 @@ fn reads_a_piece_with_a_failing_write(rt: HostRuntime) -> Result<(), Fail> {
     let mut whole = Vec::new(rt.alloc());
     whole.extend_from_slice(b"id-ns /dev/nvme0 -n 1")?;
     whole.extend_from_slice(&end_and_comments(rt.alloc())?)?;
+    assert!(rt; 4096 <= whole.len());
     let script = pieces(rt.alloc(), &whole[..4096], &whole[4096..])?;
     assert_eq!(rt; given_before_a_full_output(&rt, rt.alloc(), &script)?, 4096);
     Ok(())
