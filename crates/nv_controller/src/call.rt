@@ -112,28 +112,35 @@ fn check_length(moves: Transfer, limit: u64) -> Result<Transfer, StatusCode>
 }
 
 /// The command of an entry, or the status of the first rule that the entry or its data breaks. The
-/// data has at most so many bytes; `data` gets where it lies and what the host sends, and `listed`
+/// data has at most so many bytes; `entry_data` gets where it lies and what the host sends, and `listed`
 /// the controllers that it lists.
 pub(crate) fn read_call<'a, M: HostMemory>(
     mem: &M,
     entry: &Sqe,
     limit: u64,
-    data: &mut EntryData,
+    entry_data: &mut EntryData,
     listed: &'a mut CtrlList,
 ) -> Result<Command<'a>, StatusCode>
     requires { limit ≤ 1048576 }
     ensures found { let found = call_of (M.page_len mem.now) limit (M.bytes mem.now) entry.now in
         MatchResult result
-        (λ command. found ≡ Ok (record { command = command; places = places data.new.spans }))
+        (λ command. found ≡ Ok (record { command = command; places = places entry_data.new.spans }))
         (λ code. found ≡ Err code) }
-    ensures inside { OnOk result (LieIn (length (M.bytes mem.now)) data.new.spans) }
+    ensures inside { OnOk result (LieIn (length (M.bytes mem.now)) entry_data.new.spans) }
     ensures len { IfOk result
-        (λ command. length (places data.new.spans) ≡ length_of (transfer_by command)) }
-    ensures few { OnOk result (length (places data.new.spans) ≤ 1048576) }
+        (λ command. length (places entry_data.new.spans) ≡ length_of (transfer_by command)) }
+    ensures few { OnOk result (length (places entry_data.new.spans) ≤ 1048576) }
 {
     let asked = Transfer::of(entry)?;
     let moves = check_length(asked, limit)?;
-    find_data(mem, entry, moves, &mut data.spans)?;
-    let command = read_command(mem, entry, moves, &data.spans, &mut data.page, listed)?;
+    find_data(mem, entry, moves, &mut entry_data.spans)?;
+    let command = read_command(
+        mem,
+        entry,
+        moves,
+        &entry_data.spans,
+        &mut entry_data.page,
+        listed,
+    )?;
     Ok(command)
 }

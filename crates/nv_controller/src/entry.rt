@@ -62,17 +62,17 @@ fn completion(told: Told, cid: u16, sq_head: u16) -> Cqe
 }
 
 /// Writes the page of a reply to its places.
-fn deliver_page<M: HostMemory>(mem: &mut M, data: &mut EntryData, reply: &Reply)
-    requires inside { LieIn (length (M.bytes mem.old)) data.old.spans }
-    requires len { length (places data.old.spans) ≡ 4096 }
+fn deliver_page<M: HostMemory>(mem: &mut M, entry_data: &mut EntryData, reply: &Reply)
+    requires inside { LieIn (length (M.bytes mem.old)) entry_data.old.spans }
+    requires len { length (places entry_data.old.spans) ≡ 4096 }
     requires page { length (page_of reply.now) ≡ 4096 }
     ensures bytes { M.bytes mem.new
-        ≡ written_at (M.bytes mem.old) (places data.old.spans) (page_of reply.now) }
+        ≡ written_at (M.bytes mem.old) (places entry_data.old.spans) (page_of reply.now) }
     ensures len { length (M.bytes mem.new) ≡ length (M.bytes mem.old) }
     ensures page_len { M.page_len mem.new ≡ M.page_len mem.old }
 {
-    reply.put(&mut data.page);
-    copy_out(mem, &data.spans, &data.page);
+    reply.put(&mut entry_data.page);
+    copy_out(mem, &entry_data.spans, &entry_data.page);
 }
 
 /// The most bytes of a log: 256 entries of 64 bytes.
@@ -97,44 +97,44 @@ fn deliver_log<M: HostMemory>(mem: &mut M, spans: &Spans, reply: &Reply, offset:
 /// Writes the data of a reply to its places, so many bytes.
 fn send<M: HostMemory>(
     mem: &mut M,
-    data: &mut EntryData,
+    entry_data: &mut EntryData,
     command: &Command,
     reply: &Reply,
     len: u64,
 )
-    requires inside { LieIn (length (M.bytes mem.old)) data.old.spans }
+    requires inside { LieIn (length (M.bytes mem.old)) entry_data.old.spans }
     requires to_host { transfer_by command.now ≡ Transfer.ToHost len }
-    requires len { length (places data.old.spans) ≡ len }
+    requires len { length (places entry_data.old.spans) ≡ len }
     requires few { len ≤ 1048576 }
     requires is_reply { IsReplyTo command.now reply.now }
     requires fits { FitsRecord reply.now }
     ensures bytes { M.bytes mem.new
-        ≡ written_at (M.bytes mem.old) (places data.old.spans) (data_of command.now reply.now) }
+        ≡ written_at (M.bytes mem.old) (places entry_data.old.spans) (data_of command.now reply.now) }
     ensures len { length (M.bytes mem.new) ≡ length (M.bytes mem.old) }
     ensures page_len { M.page_len mem.new ≡ M.page_len mem.old }
 {
     match command {
         Command::GetLog { offset, .. } => {
-            deliver_log(mem, &data.spans, reply, *offset, len as usize)
+            deliver_log(mem, &entry_data.spans, reply, *offset, len as usize)
         }
-        _ => deliver_page(mem, data, reply),
+        _ => deliver_page(mem, entry_data, reply),
     }
 }
 
 /// Writes the data of a reply to a command to its places, where it has any.
-fn deliver<M: HostMemory>(mem: &mut M, data: &mut EntryData, command: &Command, reply: &Reply)
-    requires inside { LieIn (length (M.bytes mem.old)) data.old.spans }
-    requires len { length (places data.old.spans) ≡ length_of (transfer_by command.now) }
-    requires few { length (places data.old.spans) ≤ 1048576 }
+fn deliver<M: HostMemory>(mem: &mut M, entry_data: &mut EntryData, command: &Command, reply: &Reply)
+    requires inside { LieIn (length (M.bytes mem.old)) entry_data.old.spans }
+    requires len { length (places entry_data.old.spans) ≡ length_of (transfer_by command.now) }
+    requires few { length (places entry_data.old.spans) ≤ 1048576 }
     requires is_reply { IsReplyTo command.now reply.now }
     requires fits { FitsRecord reply.now }
     ensures bytes { M.bytes mem.new
-        ≡ written_at (M.bytes mem.old) (places data.old.spans) (data_of command.now reply.now) }
+        ≡ written_at (M.bytes mem.old) (places entry_data.old.spans) (data_of command.now reply.now) }
     ensures len { length (M.bytes mem.new) ≡ length (M.bytes mem.old) }
     ensures page_len { M.page_len mem.new ≡ M.page_len mem.old }
 {
     match command.transfer() {
-        Transfer::ToHost(len) => send(mem, data, command, reply, len),
+        Transfer::ToHost(len) => send(mem, entry_data, command, reply, len),
         _ => {}
     }
 }
@@ -146,21 +146,21 @@ fn execute<M: HostMemory>(
     mem: &mut M,
     command: &Command,
     origin: Origin,
-    data: &mut EntryData,
+    entry_data: &mut EntryData,
     ids: &mut NsList,
 ) -> Told
     requires ctrl { ctrl < length subsystem.old.controllers }
     requires well_formed { IsWellFormed subsystem.old }
-    requires inside { LieIn (length (M.bytes mem.old)) data.old.spans }
-    requires len { length (places data.old.spans) ≡ length_of (transfer_by command.now) }
-    requires few { length (places data.old.spans) ≤ 1048576 }
+    requires inside { LieIn (length (M.bytes mem.old)) entry_data.old.spans }
+    requires len { length (places entry_data.old.spans) ≡ length_of (transfer_by command.now) }
+    requires few { length (places entry_data.old.spans) ≤ 1048576 }
     ensures told { result
         ≡ told_by (step (untagged subsystem.old) ctrl command.now origin.cid).answer }
     ensures state { untagged subsystem.new
         ≡ (step (untagged subsystem.old) ctrl command.now origin.cid).state }
     ensures tagged { subsystem.new ≡ settled subsystem.old ctrl command.now origin
         (refusal_of subsystem.old ctrl command.now) }
-    ensures moved { Moves command.now (places data.old.spans)
+    ensures moved { Moves command.now (places entry_data.old.spans)
         (step (untagged subsystem.old) ctrl command.now origin.cid).answer
         (M.bytes mem.old) (M.bytes mem.new) }
     ensures well_formed { IsWellFormed subsystem.new }
@@ -169,7 +169,7 @@ fn execute<M: HostMemory>(
 {
     let (told, refusal) = match subsystem.answer(ctrl, command, ids) {
         Ok(reply) => {
-            deliver(mem, data, command, &reply);
+            deliver(mem, entry_data, command, &reply);
             (reply_told(&reply), None)
         }
         Err(refusal) => (refusal_told(&refusal), Some(refusal)),
@@ -213,15 +213,19 @@ fn answer_entry<M: HostMemory>(
         cid: entry.cid,
         phase,
     };
-    let Scratch { data, listed, ids } = scratch;
+    let Scratch {
+        entry_data,
+        listed,
+        ids,
+    } = scratch;
     let limit = subsystem.limit(ctrl);
-    match read_call(mem, entry, limit, data, listed) {
+    match read_call(mem, entry, limit, entry_data, listed) {
         Err(code) => {
             let refusal = Refusal::from(code);
             subsystem.refuse(ctrl, origin, entry.nsid, refusal);
             refusal_told(&refusal)
         }
-        Ok(command) => execute(subsystem, ctrl, mem, &command, origin, data, ids),
+        Ok(command) => execute(subsystem, ctrl, mem, &command, origin, entry_data, ids),
     }
 }
 

@@ -18,7 +18,7 @@ pub struct EntryData {
 #[derive(Drop)]
 pub struct Scratch {
     /// Its data.
-    pub data: EntryData,
+    pub entry_data: EntryData,
     /// The controllers that it lists.
     pub listed: CtrlList,
     /// The namespaces that its reply lists.
@@ -28,7 +28,7 @@ pub struct Scratch {
 impl Scratch {
     pub(crate) fn new() -> Scratch {
         Scratch {
-            data: EntryData {
+            entry_data: EntryData {
                 spans: Spans::new(),
                 page: [0; 4096],
             },

@@ -306,7 +306,8 @@ turns_on {r} {bells} {turns} {b} {l} {now} {now'} {bytes} {mem} {bus} {bus'} {c}
 
 -- ---- the head was told
 
-pub tells_on : {r : Run} {turns : ℕ} {b b' : Batch} {l l' : QueuePairFields} {now : ℕ} {bytes : List ℕ} {bus bus' : BusValue}
+pub tells_on : {r : Run} {turns : ℕ} {b b' : Batch} {l l' : QueuePairFields} {now : ℕ}
+    {bytes : List ℕ} {bus bus' : BusValue}
     (u : IsUnderWay r b.sent turns b l now bytes) → IsBusOf r b.sent turns b.told bus
     → b' ≡ record b { told = b.collected }
     → l' ≡ record l { completion = told_all l.completion } → bus'.state ≡ bus.state → (IsBus bus → IsBus bus')

@@ -50,13 +50,13 @@ returns-clause-moved g c = elim c.match-answer.branch [
   | in-Ok w ↦
       let of = answered _ c.args.ctrl c.args.command.now c.args.origin.cid _ w.in-Ok.reply
       (untagged_keeps c.args.subsystem.now c.requires.well_formed) w.in-Ok.is c.answer.ensures.without_tags in
-      moved_reply c.args.command.now (places c.args.data.now.spans) (g.M.HostMemory.bytes c.args.mem.now)
+      moved_reply c.args.command.now (places c.args.entry_data.now.spans) (g.M.HostMemory.bytes c.args.mem.now)
       (g.M.HostMemory.bytes c.match-answer.mem) w.in-Ok.reply _
       of.answer (ap g.M.HostMemory.bytes w.mem-is ∙ w.deliver.ensures.bytes)
   | in-Err w ↦
       let of = refused_by _ c.args.ctrl c.args.command.now c.args.origin.cid _ _ w.in-Err.is
       c.answer.ensures.without_tags in
-      moved_none c.args.command.now (places c.args.data.now.spans) (g.M.HostMemory.bytes c.args.mem.now)
+      moved_none c.args.command.now (places c.args.entry_data.now.spans) (g.M.HostMemory.bytes c.args.mem.now)
       (g.M.HostMemory.bytes c.match-answer.mem) _ _
       of.answer (ap g.M.HostMemory.bytes w.mem-is)
 ]

@@ -22,5 +22,5 @@ deliver_page-requires-clause-page g c =
 pub returns-in_default-clause-bytes : goal.returns-in_default-clause-bytes
 returns-in_default-clause-bytes g c =
     c.deliver_page.ensures.bytes
-    ∙ ap (written_at (g.M.HostMemory.bytes c.args.mem.now) (places c.args.data.now.spans))
+    ∙ ap (written_at (g.M.HostMemory.bytes c.args.mem.now) (places c.args.entry_data.now.spans))
     (sym (page_data c.args.command.now c.args.reply.now c.in_default.not-GetLog))
