@@ -100,8 +100,7 @@ pub(crate) fn execute_line<B: Bus, O: Sink, M: Sink>(
     ensures number { session.new.number ≡ session.old.number + 1 }
 {
     session.number += 1;
-    let mut place = CtrlList::new();
-    let said = match read_buffer(alloc, line, bus.controllers(), &mut place) {
+    let said = match read_buffer(alloc, line, bus.controllers(), &mut session.listed) {
         Ok(said) => said,
         Err(fault) => match fault {
             LineFault::Memory => return Err(Cut::Memory),

@@ -3,6 +3,7 @@
 use crate::ends::RunEnd;
 use nv_bus::Bus;
 use nv_driver::{AnswerSlot, Driver, Geometry};
+use nv_line::CtrlList;
 use std::alloc::{AllocError, Global};
 use std::array;
 
@@ -28,12 +29,14 @@ impl Answers {
     }
 }
 
-/// Where a run stands between two lines: the driver of its bus, room for answers, how many lines
-/// there were, and the status of the last one that has one.
+/// Where a run stands between two lines: the driver of its bus, room for answers and for the
+/// controllers that a line lists, how many lines there were, and the status of the last one that has
+/// one.
 #[derive(Drop)]
 pub struct Session {
     pub driver: Driver,
     pub answers: Answers,
+    pub listed: CtrlList,
     pub number: u64,
     pub status: u8,
 }
@@ -74,6 +77,7 @@ impl Session {
         Ok(Session {
             driver,
             answers,
+            listed: CtrlList::new(),
             number: 0,
             status: 0,
         })
