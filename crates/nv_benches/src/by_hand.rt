@@ -1,5 +1,6 @@
 //! A controller that is met by hand.
 
+ghost use Rattle.std.specs.Prelude.{◌<◌, IfOk, length};
 ghost use Rattle.nv_bus.specs.Bus.{IsBus};
 
 use anyhow::bail;
@@ -51,6 +52,7 @@ pub(crate) fn identify(rt: &HostRuntime) -> anyhow::Result<()> {
         cdw10: 0x01,
         ..Sqe::default()
     };
+    enable(&mut machine)?;
     let status = submit(&mut machine, &mut mem, &entry)?;
     let mut serial = [0; 20];
     mem.load(0x5804, &mut serial)?;
@@ -62,10 +64,11 @@ pub(crate) fn identify(rt: &HostRuntime) -> anyhow::Result<()> {
     Ok(())
 }
 
-/// Makes the controller ready with rings of four entries, at 0h and 1000h, and gives it an entry.
-/// The status of the completion is answered.
-fn submit(machine: &mut Machine, mem: &mut FlatMemory, entry: &Sqe) -> anyhow::Result<u16>
+/// Makes controller 0 ready with rings of four entries, at 0h and 1000h.
+pub(crate) fn enable(machine: &mut Machine) -> anyhow::Result<()>
     requires { IsBus machine.old }
+    ensures bus { IsBus machine.new }
+    ensures ready { IfOk result (λ _. 0 < length machine.new.banks) }
 {
     if machine.controllers() == 0 {
         bail!("no controller");
@@ -74,6 +77,14 @@ fn submit(machine: &mut Machine, mem: &mut FlatMemory, entry: &Sqe) -> anyhow::R
     machine.write32(0, offset::ASQ_LOW, 0x0000);
     machine.write32(0, offset::ACQ_LOW, 0x1000);
     machine.write32(0, offset::CC, 0x0046_0001);
+    Ok(())
+}
+
+/// Gives the controller an entry. The status of the completion is answered.
+fn submit(machine: &mut Machine, mem: &mut FlatMemory, entry: &Sqe) -> anyhow::Result<u16>
+    requires bus { IsBus machine.old }
+    requires ready { 0 < length machine.old.banks }
+{
     let mut bytes = [0; 64];
     entry.put(&mut bytes);
     mem.store(0x0000, &bytes)?;

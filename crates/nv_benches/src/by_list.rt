@@ -1,7 +1,9 @@
 //! A log in pages that lie anywhere, by a list that is written by hand.
 
+ghost use Rattle.std.specs.Prelude.{◌<◌, length};
 ghost use Rattle.nv_bus.specs.Bus.{IsBus};
 
+use crate::by_hand::enable;
 use anyhow::bail;
 use nv_controller::{Bus, Machine};
 use nv_host::{FlatMemory, HostMemory};
@@ -35,6 +37,7 @@ pub(crate) fn read_log(rt: &HostRuntime) -> anyhow::Result<()> {
         cdw10: 0x0fff_0001,
         ..Sqe::default()
     };
+    enable(&mut machine)?;
     submit(&mut machine, &mut mem, &reserved, &log)?;
     let mut newest = [0; 64];
     mem.load(0xd000, &mut newest)?;
@@ -51,23 +54,16 @@ pub(crate) fn read_log(rt: &HostRuntime) -> anyhow::Result<()> {
     Ok(())
 }
 
-/// Makes the controller ready with rings of four entries, at 0h and 1000h, and gives it two entries
-/// at once.
+/// Gives the controller two entries at once.
 fn submit(
     machine: &mut Machine,
     mem: &mut FlatMemory,
     first: &Sqe,
     second: &Sqe,
 ) -> anyhow::Result<()>
-    requires { IsBus machine.old }
+    requires bus { IsBus machine.old }
+    requires ready { 0 < length machine.old.banks }
 {
-    if machine.controllers() == 0 {
-        bail!("no controller");
-    }
-    machine.write32(0, offset::AQA, 0x0003_0003);
-    machine.write32(0, offset::ASQ_LOW, 0x0000);
-    machine.write32(0, offset::ACQ_LOW, 0x1000);
-    machine.write32(0, offset::CC, 0x0046_0001);
     let mut bytes = [0; 64];
     first.put(&mut bytes);
     mem.store(0x0000, &bytes)?;
