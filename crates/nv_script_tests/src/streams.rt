@@ -241,21 +241,22 @@ fn given_before_a_full_output(
     Ok(script.given)
 }
 
-/// A newline, and 100,000 bytes of comments.
-fn end_and_comments(alloc: Global) -> Result<Vec<u8>, Fail> {
+/// A line of 22 bytes, and 100,000 bytes of comments.
+fn line_and_comments(alloc: Global) -> Result<Vec<u8>, Fail> {
     let mut script = Vec::new(alloc);
-    script.push(b'\n')?;
+    script.extend_from_slice(b"id-ns /dev/nvme0 -n 1\n")?;
     for _ in 0..5000 {
         script.extend_from_slice(b"# what stands here.\n")?;
     }
     Ok(script)
 }
 
-/// A first piece, and pieces of 4,096 bytes after it.
-fn pieces<'a>(alloc: Global, first: &'a [u8], rest: &'a [u8]) -> Result<Vec<&'a [u8]>, Fail> {
+/// A first piece of so many bytes, and pieces of 4,096 bytes after it.
+fn pieces<'a>(alloc: Global, script: &'a [u8], first: usize) -> Result<Vec<&'a [u8]>, Fail> {
+    let first = cmp::min(first, script.len());
     let mut pieces = Vec::new(alloc);
-    pieces.push(first)?;
-    for piece in rest.chunks(4096) {
+    pieces.push(&script[..first])?;
+    for piece in script[first..].chunks(4096) {
         pieces.push(piece)?;
     }
     Ok(pieces)
@@ -265,21 +266,18 @@ fn pieces<'a>(alloc: Global, first: &'a [u8], rest: &'a [u8]) -> Result<Vec<&'a 
 /// the piece in which its newline came.
 #[test]
 fn reads_no_more_than_a_piece_past_a_failing_write(rt: HostRuntime) -> Result<(), Fail> {
-    let rest = end_and_comments(rt.alloc())?;
-    assert_eq!(rt; rest.len(), 100_001);
-    let script = pieces(rt.alloc(), b"id-ns /dev/nvme0 -n 1", &rest)?;
-    assert_eq!(rt; given_before_a_full_output(&rt, rt.alloc(), &script)?, 4117);
+    let script = line_and_comments(rt.alloc())?;
+    assert_eq!(rt; script.len(), 100_022);
+    let pieces = pieces(rt.alloc(), &script, 21)?;
+    assert_eq!(rt; given_before_a_full_output(&rt, rt.alloc(), &pieces)?, 4117);
     Ok(())
 }
 
 #[test]
-fn reads_a_piece_with_a_failing_write(rt: HostRuntime) -> Result<(), Fail> {
-    let mut whole = Vec::new(rt.alloc());
-    whole.extend_from_slice(b"id-ns /dev/nvme0 -n 1")?;
-    whole.extend_from_slice(&end_and_comments(rt.alloc())?)?;
-    assert!(rt; 4096 <= whole.len());
-    let script = pieces(rt.alloc(), &whole[..4096], &whole[4096..])?;
-    assert_eq!(rt; given_before_a_full_output(&rt, rt.alloc(), &script)?, 4096);
+fn reads_one_piece_where_the_first_write_fails(rt: HostRuntime) -> Result<(), Fail> {
+    let script = line_and_comments(rt.alloc())?;
+    let pieces = pieces(rt.alloc(), &script, 4096)?;
+    assert_eq!(rt; given_before_a_full_output(&rt, rt.alloc(), &pieces)?, 4096);
     Ok(())
 }
 
