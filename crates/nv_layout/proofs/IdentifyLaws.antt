@@ -9,11 +9,11 @@ use Rattle.nv_layout.specs.IdCtrl.{id_ctrl_parts}
 use Rattle.nv_layout.specs.IdNs.{IdNsReadsBack, LbafFits, bytes_of_id_ns, id_ns_of_bytes}
 use Rattle.nv_layout.specs.IdNs.{LbafReadsBack, bytes_of_lbaf, id_ns_parts, lbaf_of_bytes, lbaf_of_number}
 use Rattle.nv_layout.specs.IdNs.{number_of_lbaf}
-use Rattle.nv_layout.specs.Parts.{Fits, at_bits, bits, number, numbers}
+use Rattle.nv_layout.specs.Parts.{at_bits, bits, number}
 use Rattle.nv_layout.specs.declared.id_ctrl.IdCtrl.{IdCtrl}
 use Rattle.nv_layout.specs.declared.id_ns.IdNs.{IdNs}
 use Rattle.nv_layout.specs.declared.id_ns.Lbaf.{Lbaf}
-use Rattle.nv_layout.proofs.TableLaws.{length-laid_out, table_back}
+use Rattle.nv_layout.proofs.TableLaws.{field_back, length-laid_out, table_back}
 
 -- ---- namespaces
 
@@ -49,65 +49,27 @@ lbafs_back (l ∷ ls) fits = λ i. lbaf_back l fits.0 i ∷ lbafs_back ls fits.1
 pub length-bytes_of_id_ns : (r : IdNs) → length r.lbafs ≡ 16 → length (bytes_of_id_ns r) ≡ 4096
 unfolding bytes_of_id_ns
 length-bytes_of_id_ns r h =
-    length-laid_out 4096 (id_ns_parts r) refl (
-      tt,
-      (
-        tt,
-        (
-          tt,
-          (
-            tt,
-            (tt, (tt, (tt, (tt, (tt, (tt, (tt, (length-map r.lbafs number_of_lbaf ∙ h, tt)))))))),
-          ),
-        ),
-      ),
-    )
+    let formats = length-map r.lbafs number_of_lbaf ∙ h in length-laid_out 4096 (id_ns_parts r) refl assumption
 
 pub id_ns_back : IdNsReadsBack
 unfolding bytes_of_id_ns id_ns_of_bytes
 id_ns_back r fits =
-    let formats_fit : Fits (numbers 128 4 16 (map number_of_lbaf r.lbafs)) =
-    (length-map r.lbafs number_of_lbaf ∙ fits.formats, lbafs_fit r.lbafs fits.each_format) in
-    let parts_fit : AllByRecursion Fits (id_ns_parts r) = (
-      fits.nsze,
-      (
-        fits.ncap,
-        (
-          fits.nuse,
-          (
-            fits.nsfeat,
-            (
-              fits.nlbaf,
-              (
-                fits.flbas,
-                (fits.mc, (fits.dpc, (fits.dps, (fits.nmic, (fits.nvmcap, (formats_fit, tt)))))),
-              ),
-            ),
-          ),
-        ),
-      ),
-    ) in
-    let (
-      nsze,
-      (
-        ncap,
-        (nuse, (nsfeat, (nlbaf, (flbas, (mc, (dpc, (dps, (nmic, (nvmcap, (lbafs, end)))))))))),
-      ),
-    ) =
-    table_back 4096 (id_ns_parts r) refl parts_fit in
+    let count = length-map r.lbafs number_of_lbaf ∙ fits.formats in
+    let each = lbafs_fit r.lbafs fits.each_format in
+    let field = field_back 4096 (id_ns_parts r) refl assumption in
     λ i. record {
-      nsze = nsze i;
-      ncap = ncap i;
-      nuse = nuse i;
-      nsfeat = nsfeat i;
-      nlbaf = nlbaf i;
-      flbas = flbas i;
-      mc = mc i;
-      dpc = dpc i;
-      dps = dps i;
-      nmic = nmic i;
-      nvmcap = nvmcap i;
-      lbafs = (ap (map lbaf_of_number) lbafs ∙ lbafs_back r.lbafs fits.each_format) i;
+      nsze = field 0 i;
+      ncap = field 1 i;
+      nuse = field 2 i;
+      nsfeat = field 3 i;
+      nlbaf = field 4 i;
+      flbas = field 5 i;
+      mc = field 6 i;
+      dpc = field 7 i;
+      dps = field 8 i;
+      nmic = field 9 i;
+      nvmcap = field 10 i;
+      lbafs = (ap (map lbaf_of_number) (field 11) ∙ lbafs_back r.lbafs fits.each_format) i;
     }
 
 -- ---- controllers
@@ -115,74 +77,7 @@ id_ns_back r fits =
 pub length-bytes_of_id_ctrl : (r : IdCtrl) → length r.sn ≡ 20 → length r.mn ≡ 40 → length r.fr ≡ 8
     → length r.subnqn ≡ 256 → length (bytes_of_id_ctrl r) ≡ 4096
 unfolding bytes_of_id_ctrl
-length-bytes_of_id_ctrl r sn mn fr subnqn =
-    length-laid_out 4096 (id_ctrl_parts r) refl (
-      tt,
-      (
-        tt,
-        (
-          sn,
-          (
-            mn,
-            (
-              fr,
-              (
-                tt,
-                (
-                  tt,
-                  (
-                    tt,
-                    (
-                      tt,
-                      (
-                        tt,
-                        (
-                          tt,
-                          (
-                            tt,
-                            (
-                              tt,
-                              (
-                                tt,
-                                (
-                                  tt,
-                                  (
-                                    tt,
-                                    (
-                                      tt,
-                                      (
-                                        tt,
-                                        (
-                                          tt,
-                                          (
-                                            tt,
-                                            (
-                                              tt,
-                                              (
-                                                tt,
-                                                (tt, (tt, (tt, (tt, (subnqn, tt))))),
-                                              ),
-                                            ),
-                                          ),
-                                        ),
-                                      ),
-                                    ),
-                                  ),
-                                ),
-                              ),
-                            ),
-                          ),
-                        ),
-                      ),
-                    ),
-                  ),
-                ),
-              ),
-            ),
-          ),
-        ),
-      ),
-    )
+length-bytes_of_id_ctrl r sn mn fr subnqn = length-laid_out 4096 (id_ctrl_parts r) refl assumption
 
 ieee_bits : (x : ℕ) → x < 2 ^ 24 → (at_bits 0 24 x < 256 ^ 3) × (at_bits 0 24 x ≡ x)
 ieee_bits x h = (omega arith, omega arith)
@@ -191,197 +86,33 @@ pub id_ctrl_back : IdCtrlReadsBack
 unfolding bytes_of_id_ctrl id_ctrl_of_bytes
 id_ctrl_back r fits =
     let (small, whole) = ieee_bits r.ieee fits.ieee in
-    let parts_fit : AllByRecursion Fits (id_ctrl_parts r) = (
-      fits.vid,
-      (
-        fits.ssvid,
-        (
-          fits.sn,
-          (
-            fits.mn,
-            (
-              fits.fr,
-              (
-                fits.rab,
-                (
-                  small,
-                  (
-                    fits.cmic,
-                    (
-                      fits.mdts,
-                      (
-                        fits.cntlid,
-                        (
-                          fits.ver,
-                          (
-                            fits.oacs,
-                            (
-                              fits.frmw,
-                              (
-                                fits.lpa,
-                                (
-                                  fits.elpe,
-                                  (
-                                    fits.npss,
-                                    (
-                                      fits.wctemp,
-                                      (
-                                        fits.cctemp,
-                                        (
-                                          fits.tnvmcap,
-                                          (
-                                            fits.unvmcap,
-                                            (
-                                              fits.sqes,
-                                              (
-                                                fits.cqes,
-                                                (
-                                                  fits.nn,
-                                                  (
-                                                    fits.oncs,
-                                                    (
-                                                      fits.fna,
-                                                      (
-                                                        fits.vwc,
-                                                        (
-                                                          fits.subnqn,
-                                                          tt,
-                                                        ),
-                                                      ),
-                                                    ),
-                                                  ),
-                                                ),
-                                              ),
-                                            ),
-                                          ),
-                                        ),
-                                      ),
-                                    ),
-                                  ),
-                                ),
-                              ),
-                            ),
-                          ),
-                        ),
-                      ),
-                    ),
-                  ),
-                ),
-              ),
-            ),
-          ),
-        ),
-      ),
-    ) in
-    let (
-      vid,
-      (
-        ssvid,
-        (
-          sn,
-          (
-            mn,
-            (
-              fr,
-              (
-                rab,
-                (
-                  ieee,
-                  (
-                    cmic,
-                    (
-                      mdts,
-                      (
-                        cntlid,
-                        (
-                          ver,
-                          (
-                            oacs,
-                            (
-                              frmw,
-                              (
-                                lpa,
-                                (
-                                  elpe,
-                                  (
-                                    npss,
-                                    (
-                                      wctemp,
-                                      (
-                                        cctemp,
-                                        (
-                                          tnvmcap,
-                                          (
-                                            unvmcap,
-                                            (
-                                              sqes,
-                                              (
-                                                cqes,
-                                                (
-                                                  nn,
-                                                  (
-                                                    oncs,
-                                                    (
-                                                      fna,
-                                                      (
-                                                        vwc,
-                                                        (
-                                                          subnqn,
-                                                          end,
-                                                        ),
-                                                      ),
-                                                    ),
-                                                  ),
-                                                ),
-                                              ),
-                                            ),
-                                          ),
-                                        ),
-                                      ),
-                                    ),
-                                  ),
-                                ),
-                              ),
-                            ),
-                          ),
-                        ),
-                      ),
-                    ),
-                  ),
-                ),
-              ),
-            ),
-          ),
-        ),
-      ),
-    ) =
-    table_back 4096 (id_ctrl_parts r) refl parts_fit in
+    let field = field_back 4096 (id_ctrl_parts r) refl assumption in
     λ i. record {
-      vid = vid i;
-      ssvid = ssvid i;
-      sn = sn i;
-      mn = mn i;
-      fr = fr i;
-      rab = rab i;
-      ieee = (ieee ∙ whole) i;
-      cmic = cmic i;
-      mdts = mdts i;
-      cntlid = cntlid i;
-      ver = ver i;
-      oacs = oacs i;
-      frmw = frmw i;
-      lpa = lpa i;
-      elpe = elpe i;
-      npss = npss i;
-      wctemp = wctemp i;
-      cctemp = cctemp i;
-      tnvmcap = tnvmcap i;
-      unvmcap = unvmcap i;
-      sqes = sqes i;
-      cqes = cqes i;
-      nn = nn i;
-      oncs = oncs i;
-      fna = fna i;
-      vwc = vwc i;
-      subnqn = subnqn i;
+      vid = field 0 i;
+      ssvid = field 1 i;
+      sn = field 2 i;
+      mn = field 3 i;
+      fr = field 4 i;
+      rab = field 5 i;
+      ieee = (field 6 ∙ whole) i;
+      cmic = field 7 i;
+      mdts = field 8 i;
+      cntlid = field 9 i;
+      ver = field 10 i;
+      oacs = field 11 i;
+      frmw = field 12 i;
+      lpa = field 13 i;
+      elpe = field 14 i;
+      npss = field 15 i;
+      wctemp = field 16 i;
+      cctemp = field 17 i;
+      tnvmcap = field 18 i;
+      unvmcap = field 19 i;
+      sqes = field 20 i;
+      cqes = field 21 i;
+      nn = field 22 i;
+      oncs = field 23 i;
+      fna = field 24 i;
+      vwc = field 25 i;
+      subnqn = field 26 i;
     }

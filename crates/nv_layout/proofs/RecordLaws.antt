@@ -4,8 +4,8 @@ use Rattle.std.proofs.Common.{ap, refl, arith, List, length}
 use Rattle.std.specs.List.{AllByRecursion, before_first}
 use Rattle.nv_layout.specs.Cqe.{CqeReadsBack, bytes_of_cqe, cqe_of_bytes, cqe_parts}
 use Rattle.nv_layout.specs.CtrlList.{CtrlListReadsBack, bytes_of_ctrl_list, ctrl_list_of_bytes}
-use Rattle.nv_layout.specs.CtrlList.{ctrl_list_parts}
-use Rattle.nv_layout.specs.NsList.{bytes_of_ns_list, is_zero, ns_list_of_bytes, ns_list_parts}
+use Rattle.nv_layout.specs.CtrlList.{ctrl_list_parts, most_cntlids}
+use Rattle.nv_layout.specs.NsList.{bytes_of_ns_list, is_zero, most_nsids, ns_list_of_bytes, ns_list_parts}
 use Rattle.nv_layout.specs.Parts.{Fits, at_bits, bit, bits, is_table}
 use Rattle.nv_layout.specs.Sqe.{SqeReadsBack, bytes_of_sqe, sqe_of_bytes, sqe_parts}
 use Rattle.nv_layout.specs.Status.{StatusReadsBack, number_of_status, status_of_number}
@@ -13,7 +13,7 @@ use Rattle.nv_layout.specs.declared.cqe.Cqe.{Cqe}
 use Rattle.nv_layout.specs.declared.sqe.Sqe.{Sqe}
 use Rattle.nv_layout.specs.declared.status.Status.{Status}
 use Rattle.nv_layout.proofs.NsListLaws.{before_first-padded, length-padded, padded_fits}
-use Rattle.nv_layout.proofs.TableLaws.{length-laid_out, table_back}
+use Rattle.nv_layout.proofs.TableLaws.{field_back, length-laid_out, table_back}
 
 -- ---- flags
 
@@ -55,10 +55,7 @@ status_back s fits =
 
 pub length-bytes_of_sqe : (r : Sqe) → length (bytes_of_sqe r) ≡ 64
 unfolding bytes_of_sqe
-length-bytes_of_sqe r = length-laid_out 64 (sqe_parts r) refl (
-  tt,
-  (tt, (tt, (tt, (tt, (tt, (tt, (tt, (tt, (tt, (tt, tt)))))))))),
-)
+length-bytes_of_sqe r = length-laid_out 64 (sqe_parts r) refl assumption
 
 dword0_bits : (o f p c : ℕ) → o < 2 ^ 8 → f < 2 ^ 2 → p < 2 ^ 2 → c < 2 ^ 16
     → let n = at_bits 0 8 o + at_bits 8 2 f + at_bits 14 2 p + at_bits 16 16 c in
@@ -70,50 +67,29 @@ unfolding bytes_of_sqe sqe_of_bytes
 sqe_back r fits =
     let (small, opcode, fuse, psdt, cid) =
     dword0_bits r.opcode r.fuse r.psdt r.cid fits.opcode fits.fuse fits.psdt fits.cid in
-    let parts_fit : AllByRecursion Fits (sqe_parts r) = (
-      small,
-      (
-        fits.nsid,
-        (
-          fits.mptr,
-          (
-            fits.prp1,
-            (
-              fits.prp2,
-              (fits.cdw10, (fits.cdw11, (fits.cdw12, (fits.cdw13, (fits.cdw14, (fits.cdw15, tt)))))),
-            ),
-          ),
-        ),
-      ),
-    )
-    in
-    let (
-      dword0,
-      (nsid, (mptr, (prp1, (prp2, (cdw10, (cdw11, (cdw12, (cdw13, (cdw14, (cdw15, end)))))))))),
-    ) =
-    table_back 64 (sqe_parts r) refl parts_fit in
+    let field = field_back 64 (sqe_parts r) refl assumption in
     λ i. record {
-      opcode = (ap (bits 0 8) dword0 ∙ opcode) i;
-      fuse = (ap (bits 8 2) dword0 ∙ fuse) i;
-      psdt = (ap (bits 14 2) dword0 ∙ psdt) i;
-      cid = (ap (bits 16 16) dword0 ∙ cid) i;
-      nsid = nsid i;
-      mptr = mptr i;
-      prp1 = prp1 i;
-      prp2 = prp2 i;
-      cdw10 = cdw10 i;
-      cdw11 = cdw11 i;
-      cdw12 = cdw12 i;
-      cdw13 = cdw13 i;
-      cdw14 = cdw14 i;
-      cdw15 = cdw15 i;
+      opcode = (ap (bits 0 8) (field 0) ∙ opcode) i;
+      fuse = (ap (bits 8 2) (field 0) ∙ fuse) i;
+      psdt = (ap (bits 14 2) (field 0) ∙ psdt) i;
+      cid = (ap (bits 16 16) (field 0) ∙ cid) i;
+      nsid = field 1 i;
+      mptr = field 2 i;
+      prp1 = field 3 i;
+      prp2 = field 4 i;
+      cdw10 = field 5 i;
+      cdw11 = field 6 i;
+      cdw12 = field 7 i;
+      cdw13 = field 8 i;
+      cdw14 = field 9 i;
+      cdw15 = field 10 i;
     }
 
 -- ---- completion queue entries
 
 pub length-bytes_of_cqe : (r : Cqe) → length (bytes_of_cqe r) ≡ 16
 unfolding bytes_of_cqe
-length-bytes_of_cqe r = length-laid_out 16 (cqe_parts r) refl (tt, (tt, (tt, (tt, tt))))
+length-bytes_of_cqe r = length-laid_out 16 (cqe_parts r) refl assumption
 
 dword3_bits : (c p s : ℕ) → c < 2 ^ 16 → p < 2 → s < 2 ^ 15
     → let n = at_bits 0 16 c + at_bits 16 1 p + at_bits 17 15 s in
@@ -126,48 +102,46 @@ cqe_back r fits =
     let (small, cid, phase, status) =
     dword3_bits r.cid (bit r.phase) (number_of_status r.status)
     fits.cid (bit_below r.phase) (number_of_status_below r.status) in
-    let (specific, (sq_head, (sq_identifier, (dword3, end)))) =
-    table_back 16 (cqe_parts r) refl
-    (fits.command_specific, (fits.sq_head, (fits.sq_identifier, (small, tt)))) in
+    let field = field_back 16 (cqe_parts r) refl assumption in
     λ i. record {
-      command_specific = specific i;
-      sq_head = sq_head i;
-      sq_identifier = sq_identifier i;
-      cid = (ap (bits 0 16) dword3 ∙ cid) i;
-      phase = (ap (λ x. bits 16 1 x == 1) dword3 ∙ ap (λ x. x == 1) phase ∙ flag_back r.phase) i;
-      status = (ap (λ x. status_of_number (bits 17 15 x)) dword3
+      command_specific = field 0 i;
+      sq_head = field 1 i;
+      sq_identifier = field 2 i;
+      cid = (ap (bits 0 16) (field 3) ∙ cid) i;
+      phase = (ap (λ x. bits 16 1 x == 1) (field 3) ∙ ap (λ x. x == 1) phase ∙ flag_back r.phase) i;
+      status = (ap (λ x. status_of_number (bits 17 15 x)) (field 3)
           ∙ ap status_of_number status
           ∙ status_back r.status fits.status) i;
     }
 
 -- ---- namespace lists
 
-pub length-bytes_of_ns_list : (ids : List ℕ) → length ids ≤ 1024 → length (bytes_of_ns_list ids)
+pub length-bytes_of_ns_list : (ids : List ℕ) → length ids ≤ most_nsids → length (bytes_of_ns_list ids)
     ≡ 4096
 unfolding bytes_of_ns_list
 length-bytes_of_ns_list ids h =
-    length-laid_out 4096 (ns_list_parts ids) refl (length-padded 1024 ids h, tt)
+    length-laid_out 4096 (ns_list_parts ids) refl (length-padded most_nsids ids h, tt)
 
-pub ns_list_back : (ids : List ℕ) → length ids ≤ 1024 → AllByRecursion (λ x. (x ≢ 0)
+pub ns_list_back : (ids : List ℕ) → length ids ≤ most_nsids → AllByRecursion (λ x. (x ≢ 0)
     × (x < 2 ^ 32)) ids
     → ns_list_of_bytes (bytes_of_ns_list ids) ≡ ids
 unfolding bytes_of_ns_list ns_list_of_bytes
 ns_list_back ids h fits =
     let all = table_back 4096 (ns_list_parts ids) refl (
       (
-        length-padded 1024 ids h,
-        padded_fits 1024 ids fits,
+        length-padded most_nsids ids h,
+        padded_fits most_nsids ids fits,
       ),
       tt,
     ) in
-    ap (before_first is_zero) all.0 ∙ before_first-padded 1024 ids fits
+    ap (before_first is_zero) all.0 ∙ before_first-padded most_nsids ids fits
 
 -- ---- controller lists
 
-is_table_of_ids : (ids : List ℕ) → length ids ≤ 2047 → is_table 0 4096 (ctrl_list_parts ids) ≡ true
+is_table_of_ids : (ids : List ℕ) → length ids ≤ most_cntlids → is_table 0 4096 (ctrl_list_parts ids) ≡ true
 is_table_of_ids ids h = grind arith
 
-pub length-bytes_of_ctrl_list : (ids : List ℕ) → length ids ≤ 2047 → length (bytes_of_ctrl_list ids)
+pub length-bytes_of_ctrl_list : (ids : List ℕ) → length ids ≤ most_cntlids → length (bytes_of_ctrl_list ids)
     ≡ 4096
 unfolding bytes_of_ctrl_list
 length-bytes_of_ctrl_list ids h =
@@ -180,5 +154,5 @@ ctrl_list_back ids fits =
     (omega (arith, fits.count), ((refl, fits.numbers), tt)) in
     let (count, (each, end)) =
     table_back 4096 (ctrl_list_parts ids) (is_table_of_ids ids fits.count) parts_fit in
-    let room : nat_le (length ids) 2047 ≡ true = grind (arith, fits.count) in
+    let room : nat_le (length ids) most_cntlids ≡ true = grind (arith, fits.count) in
     rw (count, room, each)

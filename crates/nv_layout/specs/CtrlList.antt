@@ -6,6 +6,10 @@ use Rattle.nv_layout.specs.Parts.{Part, laid_out, number, number_at, numbers, nu
 use Rattle.nv_layout.specs.declared.ctrl_list.LayoutError.{LayoutError}
 use Rattle.nv_layout.specs.declared.ctrl_list.LayoutError.TheVariants.{CountTooLarge}
 
+-- the most identifiers of a list
+abbrev pub most_cntlids : ℕ
+most_cntlids = 2047
+
 abbrev pub ctrl_list_parts : List ℕ → List Part
 ctrl_list_parts ids = number 0 2 (length ids) ∷ numbers 2 2 (length ids) ids ∷ []
 
@@ -16,11 +20,11 @@ bytes_of_ctrl_list ids = laid_out 4096 (ctrl_list_parts ids)
 unfoldable pub ctrl_list_of_bytes : List ℕ → Result (List ℕ) LayoutError
 ctrl_list_of_bytes bytes =
     let count = number_at 0 2 bytes in
-    if nat_le count 2047 then Ok (numbers_at 2 2 count bytes) else Err CountTooLarge
+    if nat_le count most_cntlids then Ok (numbers_at 2 2 count bytes) else Err CountTooLarge
 
--- at most 2,047 identifiers, each of two bytes
+-- not too many identifiers, each of two bytes
 pub record CtrlListFits (ids : List ℕ) : Type 0 where
-  pub count : length ids ≤ 2047
+  pub count : length ids ≤ most_cntlids
   pub numbers : AllByRecursion (λ x. x < 2 ^ 16) ids
 
 abbrev pub CtrlListReadsBack : Type 0

@@ -4,11 +4,15 @@ use Rattle.std.specs.Prelude.{length}
 use Rattle.std.specs.List.{AllByRecursion, before_first}
 use Rattle.nv_layout.specs.Parts.{Part, laid_out, numbers, numbers_at, zeros}
 
+-- the most identifiers of a list
+abbrev pub most_nsids : ℕ
+most_nsids = 1024
+
 abbrev pub padded : ℕ → List ℕ → List ℕ
 padded size xs = xs ++ zeros (size - length xs)
 
 abbrev pub ns_list_parts : List ℕ → List Part
-ns_list_parts ids = numbers 0 4 1024 (padded 1024 ids) ∷ []
+ns_list_parts ids = numbers 0 4 most_nsids (padded most_nsids ids) ∷ []
 
 unfoldable pub bytes_of_ns_list : List ℕ → List ℕ
 bytes_of_ns_list ids = laid_out 4096 (ns_list_parts ids)
@@ -18,9 +22,9 @@ is_zero x = x == 0
 
 -- those before the first zero
 unfoldable pub ns_list_of_bytes : List ℕ → List ℕ
-ns_list_of_bytes bytes = before_first is_zero (numbers_at 0 4 1024 bytes)
+ns_list_of_bytes bytes = before_first is_zero (numbers_at 0 4 most_nsids bytes)
 
 abbrev pub NsListReadsBack : Type 0
 NsListReadsBack =
-    (ids : List ℕ) → length ids ≤ 1024 → AllByRecursion (λ x. (x ≢ 0) × (x < 2 ^ 32)) ids
+    (ids : List ℕ) → length ids ≤ most_nsids → AllByRecursion (λ x. (x ≢ 0) × (x < 2 ^ 32)) ids
     → ns_list_of_bytes (bytes_of_ns_list ids) ≡ ids

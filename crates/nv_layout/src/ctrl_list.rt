@@ -15,14 +15,17 @@ pub enum LayoutError {
     CountTooLarge,
 }
 
+/// The most identifiers of a controller list.
+pub const MOST_CNTLIDS: usize = 2047;
+
 /// Up to 2,047 controller identifiers. In the list's bytes their number comes first, and zeros
 /// follow them. Section "Controller List".
-pub type CtrlList = Few<u16, 2047>;
+pub type CtrlList = Few<u16, MOST_CNTLIDS>;
 
 /// Up to 2,047 controller identifiers that stand elsewhere. Section "Controller List".
-pub type ControllerIds<'a> = Lent<'a, u16, 2047>;
+pub type ControllerIds<'a> = Lent<'a, u16, MOST_CNTLIDS>;
 
-impl<'a> Lent<'a, u16, 2047> {
+impl<'a> Lent<'a, u16, MOST_CNTLIDS> {
     /// There are at most 2,047, and each fits its two bytes. A law: the call does nothing.
     pub fn fits(&self)
         ensures { CtrlListFits self.now }
@@ -41,7 +44,7 @@ impl<'a> Lent<'a, u16, 2047> {
     }
 }
 
-impl Few<u16, 2047> {
+impl Few<u16, MOST_CNTLIDS> {
     /// Writes the list's bytes, all 4,096 of them.
     pub fn put(&self, out: &mut [u8; 4096])
         ensures { out.new ≡ bytes_of_ctrl_list self.now }
@@ -68,7 +71,7 @@ impl Few<u16, 2047> {
         ensures err { OnErr result (self.new ≡ self.old) }
     {
         let count = u16_at(bytes, 0) as usize;
-        if count > 2047 {
+        if count > MOST_CNTLIDS {
             return Err(LayoutError::CountTooLarge);
         }
         read_u16s(bytes, 2, &mut self.items[..count]);

@@ -43,7 +43,7 @@ mod sqe;
 mod status;
 
 pub use cqe::Cqe;
-pub use ctrl_list::{ControllerIds, CtrlList, LayoutError};
+pub use ctrl_list::{ControllerIds, CtrlList, LayoutError, MOST_CNTLIDS};
 pub use error_entries::ErrorEntries;
 pub use error_entry::ErrorEntry;
 pub use feature::Feature;
@@ -51,7 +51,7 @@ pub use few::{Few, Lent};
 pub use id_ctrl::IdCtrl;
 pub use id_ns::{IdNs, Lbaf};
 pub use narrow::{Below, FourBits, ThreeBits};
-pub use ns_list::{NamespaceIds, NsList};
+pub use ns_list::{MOST_NSIDS, NamespaceIds, NsList};
 pub use parts::{bits_of, to_bits};
 pub use smart::Smart;
 pub use sqe::Sqe;

@@ -6,14 +6,17 @@ ghost use Rattle.nv_layout.specs.NsList.{bytes_of_ns_list, ns_list_of_bytes};
 use crate::few::{Few, Lent};
 use crate::parts::{clear, put_u32s, u32_at};
 
+/// The most identifiers of a namespace list.
+pub const MOST_NSIDS: usize = 1024;
+
 /// Up to 1,024 namespace identifiers. In the list's bytes they are followed by zeros, so that a 0
 /// among them ends the list. Section "Namespace List".
-pub type NsList = Few<u32, 1024>;
+pub type NsList = Few<u32, MOST_NSIDS>;
 
 /// Up to 1,024 namespace identifiers that stand elsewhere. Section "Namespace List".
-pub type NamespaceIds<'a> = Lent<'a, u32, 1024>;
+pub type NamespaceIds<'a> = Lent<'a, u32, MOST_NSIDS>;
 
-impl<'a> Lent<'a, u32, 1024> {
+impl<'a> Lent<'a, u32, MOST_NSIDS> {
     /// Writes the bytes of the list that has them, all 4,096.
     pub fn put(&self, out: &mut [u8; 4096])
         ensures { out.new ≡ bytes_of_ns_list self.now }
@@ -23,7 +26,7 @@ impl<'a> Lent<'a, u32, 1024> {
     }
 }
 
-impl Few<u32, 1024> {
+impl Few<u32, MOST_NSIDS> {
     /// Writes the list's bytes, all 4,096 of them.
     pub fn put(&self, out: &mut [u8; 4096])
         ensures { out.new ≡ bytes_of_ns_list self.now }
@@ -45,7 +48,7 @@ impl Few<u32, 1024> {
         ensures { self.new ≡ ns_list_of_bytes bytes.now }
     {
         self.clear();
-        for i in 0..1024 {
+        for i in 0..MOST_NSIDS {
             let nsid = u32_at(bytes, 4 * i);
             if nsid == 0 {
                 return;

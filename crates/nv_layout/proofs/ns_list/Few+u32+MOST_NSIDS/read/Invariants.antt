@@ -1,6 +1,6 @@
 use Rattle.std.proofs.Common.{◌≡◌, ◌≢◌, ℕ, ◌*◌, ◌<◌, get_or, length}
 use Rattle.nv_layout.specs.Parts.{number_at}
-use Rattle.nv_layout.proofs.ns_list.Few+u32+1024.read.Given as goal
+use Rattle.nv_layout.proofs.ns_list.Few+u32+MOST_NSIDS.read.Given as goal
 
 -- the list has the numbers read so far, none of them 0
 abbrev pub invariant-loop-i : goal.invariant-loop-i

@@ -1,8 +1,8 @@
 use Rattle.std.proofs.Common.{◌∙◌, ap, length}
-use Rattle.nv_layout.specs.NsList.{bytes_of_ns_list}
+use Rattle.nv_layout.specs.NsList.{bytes_of_ns_list, most_nsids}
 use Rattle.nv_layout.proofs.NsListLaws.{placed-padded}
 use Rattle.nv_layout.specs.Parts.{numbers, placed, zeros}
-use Rattle.nv_layout.proofs.ns_list.Lent+u32+1024.put.Goals as goal
+use Rattle.nv_layout.proofs.ns_list.Lent+u32+MOST_NSIDS.put.Goals as goal
 
 pub returns : goal.returns
 unfolding bytes_of_ns_list
@@ -12,4 +12,4 @@ returns c =
     let same = c.as_slice.ensures.items in
     written
     ∙ (λ i. placed ((c.clear.ensures ∙ ap (λ n. zeros n) c.told-out) i) (numbers 0 4 (length (same i)) (same i)))
-    ∙ placed-padded 1024 ids c.as_slice.ensures.within
+    ∙ placed-padded most_nsids ids c.as_slice.ensures.within
