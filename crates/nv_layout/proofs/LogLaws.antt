@@ -1,18 +1,18 @@
 -- The records of logs read back, and how many bytes they have.
-use Rattle.std.proofs.Common.{◌≡◌, ◌∙◌, ℕ, ◌==◌, ◌+◌, ◌*◌, ◌≤◌, ◌^◌, ◌<◌, ap, refl, sym, zero, suc}
-use Rattle.std.proofs.Common.{arith, lit<, List, [], ◌∷◌, length, get_or}
-use Rattle.std.specs.List.{AllByRecursion}
+use Rattle.std.proofs.Common.{◌≡◌, ◌∙◌, ℕ, ◌==◌, ◌+◌, ◌-◌, ◌*◌, ◌/◌, ◌%◌, ◌≤◌, ◌^◌, ◌<◌, ap, refl, sym, zero, suc}
+use Rattle.std.proofs.Common.{Bool, arith, lit<, List, [], ◌∷◌, ◌++◌, length, get_or, replicate, take}
 use Rattle.std.proofs.lemmas.List.{get_or-append_right, get_or-replicate, get_or_append_left}
-use Rattle.std.proofs.lemmas.List.{length-append}
+use Rattle.std.proofs.lemmas.List.{length-append, length-replicate}
+use Rattle.std.proofs.Math.Seq.{take-append_seam}
 use Rattle.nv_layout.specs.ErrorEntry.{ErrorEntryReadsBack, bytes_of_entries, bytes_of_error_entry}
 use Rattle.nv_layout.specs.ErrorEntry.{ErrorEntryFits, error_entry_of_bytes, error_entry_parts}
 use Rattle.nv_layout.specs.ErrorEntry.{no_entry}
-use Rattle.nv_layout.specs.Parts.{Fits, at_bits, bit, bits, part, placed, zeros}
-use Rattle.nv_layout.proofs.PartLaws.{same_parts}
+use Rattle.nv_layout.specs.Parts.{at_bits, bit, bits, part, placed, zeros}
+use Rattle.nv_layout.proofs.PartLaws.{get_or-past, same_parts}
 use Rattle.nv_layout.proofs.RecordLaws.{bit_below, flag_back, number_of_status_below, status_back}
 use Rattle.nv_layout.specs.Smart.{SmartReadsBack, bytes_of_smart, smart_of_bytes, smart_parts}
 use Rattle.nv_layout.specs.Status.{number_of_status, status_of_number}
-use Rattle.nv_layout.proofs.TableLaws.{length-laid_out, table_back}
+use Rattle.nv_layout.proofs.TableLaws.{field_back, length-laid_out}
 use Rattle.nv_layout.specs.declared.error_entry.ErrorEntry.{ErrorEntry}
 use Rattle.nv_layout.specs.declared.smart.Smart.{Smart}
 
@@ -20,148 +20,31 @@ use Rattle.nv_layout.specs.declared.smart.Smart.{Smart}
 
 pub length-bytes_of_smart : (r : Smart) → length r.sensors ≡ 8 → length (bytes_of_smart r) ≡ 512
 unfolding bytes_of_smart
-length-bytes_of_smart r sensors =
-    length-laid_out 512 (smart_parts r) refl (
-      tt,
-      (
-        tt,
-        (
-          tt,
-          (
-            tt,
-            (
-              tt,
-              (tt, (tt, (tt, (tt, (tt, (tt, (tt, (tt, (tt, (tt, (tt, (tt, (sensors, tt))))))))))))),
-            ),
-          ),
-        ),
-      ),
-    )
+length-bytes_of_smart r sensors = length-laid_out 512 (smart_parts r) refl assumption
 
 pub smart_back : SmartReadsBack
 unfolding bytes_of_smart smart_of_bytes
 smart_back r fits =
-    let parts_fit : AllByRecursion Fits (smart_parts r) = (
-      fits.critical_warning,
-      (
-        fits.temperature,
-        (
-          fits.avail_spare,
-          (
-            fits.spare_thresh,
-            (
-              fits.percent_used,
-              (
-                fits.data_units_read,
-                (
-                  fits.data_units_written,
-                  (
-                    fits.host_read_commands,
-                    (
-                      fits.host_write_commands,
-                      (
-                        fits.controller_busy_time,
-                        (
-                          fits.power_cycles,
-                          (
-                            fits.power_on_hours,
-                            (
-                              fits.unsafe_shutdowns,
-                              (
-                                fits.media_errors,
-                                (
-                                  fits.num_err_log_entries,
-                                  (
-                                    fits.warning_temp_time,
-                                    (
-                                      fits.critical_comp_time,
-                                      ((fits.sensor_count, fits.each_sensor), tt),
-                                    ),
-                                  ),
-                                ),
-                              ),
-                            ),
-                          ),
-                        ),
-                      ),
-                    ),
-                  ),
-                ),
-              ),
-            ),
-          ),
-        ),
-      ),
-    ) in
-    let (
-      critical_warning,
-      (
-        temperature,
-        (
-          avail_spare,
-          (
-            spare_thresh,
-            (
-              percent_used,
-              (
-                data_units_read,
-                (
-                  data_units_written,
-                  (
-                    host_read_commands,
-                    (
-                      host_write_commands,
-                      (
-                        controller_busy_time,
-                        (
-                          power_cycles,
-                          (
-                            power_on_hours,
-                            (
-                              unsafe_shutdowns,
-                              (
-                                media_errors,
-                                (
-                                  num_err_log_entries,
-                                  (
-                                    warning_temp_time,
-                                    (critical_comp_time, (sensors, end)),
-                                  ),
-                                ),
-                              ),
-                            ),
-                          ),
-                        ),
-                      ),
-                    ),
-                  ),
-                ),
-              ),
-            ),
-          ),
-        ),
-      ),
-    ) =
-    table_back 512 (smart_parts r) refl parts_fit in
+    let field = field_back 512 (smart_parts r) refl assumption in
     λ i. record {
-      critical_warning = critical_warning i;
-      temperature = temperature i;
-      avail_spare = avail_spare i;
-      spare_thresh = spare_thresh i;
-      percent_used = percent_used i;
-      data_units_read = data_units_read i;
-      data_units_written = data_units_written i;
-      host_read_commands = host_read_commands i;
-      host_write_commands = host_write_commands i;
-      controller_busy_time = controller_busy_time i;
-      power_cycles = power_cycles i;
-      power_on_hours = power_on_hours i;
-      unsafe_shutdowns = unsafe_shutdowns i;
-      media_errors = media_errors i;
-      num_err_log_entries = num_err_log_entries i;
-      warning_temp_time = warning_temp_time i;
-      critical_comp_time = critical_comp_time i;
-      sensors = sensors i;
+      critical_warning = field 0 i;
+      temperature = field 1 i;
+      avail_spare = field 2 i;
+      spare_thresh = field 3 i;
+      percent_used = field 4 i;
+      data_units_read = field 5 i;
+      data_units_written = field 6 i;
+      host_read_commands = field 7 i;
+      host_write_commands = field 8 i;
+      controller_busy_time = field 9 i;
+      power_cycles = field 10 i;
+      power_on_hours = field 11 i;
+      unsafe_shutdowns = field 12 i;
+      media_errors = field 13 i;
+      num_err_log_entries = field 14 i;
+      warning_temp_time = field 15 i;
+      critical_comp_time = field 16 i;
+      sensors = field 17 i;
     }
 
 -- ---- entries of the error log
@@ -179,13 +62,23 @@ no_entry_fits = record {
   specific = lit< tt;
 }
 
+-- whatever the phase tag is
+pub fits_with_phase : (e : ErrorEntry) (phase : Bool) → ErrorEntryFits e → ErrorEntryFits (record e { phase = phase })
+fits_with_phase e phase fits = record {
+  count = fits.count;
+  sqid = fits.sqid;
+  cid = fits.cid;
+  status = fits.status;
+  location = fits.location;
+  lba = fits.lba;
+  nsid = fits.nsid;
+  vendor = fits.vendor;
+  specific = fits.specific;
+}
+
 pub length-bytes_of_error_entry : (r : ErrorEntry) → length (bytes_of_error_entry r) ≡ 64
 unfolding bytes_of_error_entry
-length-bytes_of_error_entry r =
-    length-laid_out 64 (error_entry_parts r) refl (
-      tt,
-      (tt, (tt, (tt, (tt, (tt, (tt, (tt, (tt, tt)))))))),
-    )
+length-bytes_of_error_entry r = length-laid_out 64 (error_entry_parts r) refl assumption
 
 word_bits : (p s : ℕ) → p < 2 → s < 2 ^ 15
     → let n = at_bits 0 1 p + at_bits 1 15 s in (n < 256 ^ 2) × (bits 0 1 n ≡ p) × (bits 1 15 n ≡ s)
@@ -197,49 +90,20 @@ error_entry_back r fits =
     let (small, phase, status) =
     word_bits (bit r.phase) (number_of_status r.status) (bit_below r.phase)
     (number_of_status_below r.status) in
-    let parts_fit : AllByRecursion Fits (error_entry_parts r) = (
-      fits.count,
-      (
-        fits.sqid,
-        (
-          fits.cid,
-          (
-            small,
-            (
-              fits.location,
-              (
-                fits.lba,
-                (
-                  fits.nsid,
-                  (
-                    fits.vendor,
-                    (
-                      fits.specific,
-                      tt,
-                    ),
-                  ),
-                ),
-              ),
-            ),
-          ),
-        ),
-      ),
-    ) in
-    let (count, (sqid, (cid, (word, (location, (lba, (nsid, (vendor, (specific, end))))))))) =
-    table_back 64 (error_entry_parts r) refl parts_fit in
+    let field = field_back 64 (error_entry_parts r) refl assumption in
     λ i. record {
-      count = count i;
-      sqid = sqid i;
-      cid = cid i;
-      status = (ap (λ x. status_of_number (bits 1 15 x)) word
+      count = field 0 i;
+      sqid = field 1 i;
+      cid = field 2 i;
+      status = (ap (λ x. status_of_number (bits 1 15 x)) (field 3)
           ∙ ap status_of_number status
           ∙ status_back r.status fits.status) i;
-      phase = (ap (λ x. bits 0 1 x == 1) word ∙ ap (λ x. x == 1) phase ∙ flag_back r.phase) i;
-      location = location i;
-      lba = lba i;
-      nsid = nsid i;
-      vendor = vendor i;
-      specific = specific i;
+      phase = (ap (λ x. bits 0 1 x == 1) (field 3) ∙ ap (λ x. x == 1) phase ∙ flag_back r.phase) i;
+      location = field 4 i;
+      lba = field 5 i;
+      nsid = field 6 i;
+      vendor = field 7 i;
+      specific = field 8 i;
     }
 
 pub length-entries : (es : List ErrorEntry) → length (bytes_of_entries es) ≡ 64 * length es
@@ -281,3 +145,35 @@ part_of_entry es index skip n h =
     same_parts (bytes_of_entries es) bytes (64 * index + skip) skip n
     (λ k below. ap (λ i. get_or (bytes_of_entries es) i 0) (omega arith)
     ∙ byte_of_entry es index (skip + k) (omega arith))
+
+-- ---- entries without an error after those that a log has
+
+byte_at : (es : List ErrorEntry) (i : ℕ) → get_or (bytes_of_entries es) i 0
+    ≡ get_or (bytes_of_error_entry (get_or es (i / 64) no_entry)) (i % 64) 0
+byte_at es i =
+    ap (λ j. get_or (bytes_of_entries es) j 0) (omega arith) ∙ byte_of_entry es (i / 64) (i % 64) (omega arith)
+
+-- they are as the zeros past the end
+pub part_past_blanks : (es : List ErrorEntry) (m from n : ℕ)
+    → part (bytes_of_entries (es ++ replicate m no_entry)) from n ≡ part (bytes_of_entries es) from n
+part_past_blanks es m from n =
+    same_parts (bytes_of_entries (es ++ replicate m no_entry)) (bytes_of_entries es) from from n
+    (λ k below. byte_at (es ++ replicate m no_entry) (from + k)
+    ∙ ap (λ e. get_or (bytes_of_error_entry e) ((from + k) % 64) 0) (get_or-past es no_entry m ((from + k) / 64))
+    ∙ sym (byte_at es (from + k)))
+
+pub present_first : (newest older : List ErrorEntry) (m : ℕ)
+    → let n = length newest + length older in
+    let es = newest ++ older ++ replicate m no_entry in
+    ◌≡◌ {A = List ErrorEntry} es (take n es ++ replicate (length es - n) no_entry)
+present_first newest older m =
+    let n = length newest + length older in
+    let had = newest ++ older in
+    let blanks = replicate m no_entry in
+    let size : length had ≡ n = length-append newest older in
+    let front : take n (had ++ blanks) ≡ had =
+    ap (λ k. take k (had ++ blanks)) (sym size) ∙ take-append_seam had blanks in
+    let all = length-append had blanks in
+    let more = length-replicate m no_entry in
+    let rest : m ≡ length (had ++ blanks) - n = omega (arith, size, all, more) in
+    λ i. sym front i ++ replicate (rest i) no_entry

@@ -1,16 +1,16 @@
 -- One field over some bytes, and the reading of numbers.
 use Rattle.std.proofs.Common.{◌≡◌, ◌∙◌, ℕ, zero, suc, ◌+◌, ◌-◌, ◌*◌, ◌%◌, ◌^◌, ◌<◌, ◌≤◌, ap, inl}
 use Rattle.std.proofs.Common.{inr, refl, sym, arith, mul-zero, List, [], ◌∷◌, ◌++◌, take, drop, set}
-use Rattle.std.proofs.Common.{length, get_or, map, min, replicate}
+use Rattle.std.proofs.Common.{append-nil, length, get_or, map, min, replicate}
 use Rattle.std.specs.List.{AllByRecursion, flat_map}
 use Rattle.std.proofs.lemmas.Bool.{cases_lt}
 use Rattle.std.proofs.lemmas.Grind.{common_steps, same_number_lists}
 use Rattle.std.proofs.lemmas.List.{drop-append-le, drop-drop, drop-take, drop_min}
 use Rattle.std.proofs.lemmas.List.{get_or-append_right, get_or-drop, get_or-take}
 use Rattle.std.proofs.lemmas.List.{get_or_append_left, length-append, length-drop, length-replicate}
-use Rattle.std.proofs.lemmas.List.{length-take-le, set_split, take-append-le, take_all}
+use Rattle.std.proofs.lemmas.List.{length-take-le, set_split, take-append-le, take-replicate, take_all}
 use Rattle.std.proofs.lemmas.Nat.{mod_below, one_shl, pow_pos, shl_whole}
-use Rattle.std.proofs.Math.Seq.{drop-append_seam, take-append_seam}
+use Rattle.std.proofs.Math.Seq.{drop-append_seam, take-append-add, take-append_seam}
 use Rattle.byteorder.specs.Endian.{little_bytes, little_from, little_number}
 use Rattle.byteorder.specs.Numbers.{length-bytes_low_first, little_from-take}
 use Rattle.nv_layout.specs.Parts.{Part, at_bits, bytes_of, number, number_at, numbers, numbers_at}
@@ -289,3 +289,35 @@ part_within bytes from n h =
 pub part_whole : (bytes : List ℕ) (n : ℕ) → length bytes ≡ n → part bytes 0 n ≡ bytes
 part_whole bytes n e =
     part_within bytes 0 n (omega (arith, e)) ∙ take_all n bytes (omega (arith, e))
+
+-- ---- a part as what the bytes have of it and the zeros after that
+
+past_end : (xs : List ℕ) (rest n : ℕ) → n ≡ length xs + rest → xs ++ replicate rest 0 ≡ take n (xs ++ replicate n 0)
+past_end xs rest n e =
+    ap (λ t. xs ++ t) (sym (take-replicate {X = ℕ} rest n 0 (omega (arith, e))))
+    ∙ sym (take-append-add xs (replicate n 0) rest)
+    ∙ ap (λ m. take m (xs ++ replicate n 0)) (sym e)
+
+take_over : (xs : List ℕ) (n count : ℕ) → count ≡ min n (length xs)
+    → take count xs ++ replicate (n - count) 0 ≡ take n (xs ++ replicate n 0)
+take_over xs n count e =
+    elim (cases_lt n (length xs)) [
+      | inl below ↦
+          let all : count ≡ n = omega arith in
+          let none : n - count ≡ 0 = omega arith in
+          (λ i. take (all i) xs ++ replicate (none i) 0)
+          ∙ append-nil (take n xs)
+          ∙ sym (take-append-le n xs (replicate n 0) (omega arith))
+      | inr over ↦
+          ap (λ t. t ++ replicate (n - count) 0) (take_all count xs (omega arith))
+          ∙ past_end xs (n - count) n (omega arith)
+    ]
+
+pub part_in_two : (bytes : List ℕ) (from n at count : ℕ)
+    → at ≡ min from (length bytes) → count ≡ min n (length bytes - at)
+    → take count (drop at bytes) ++ replicate (n - count) 0 ≡ part bytes from n
+unfolding part
+part_in_two bytes from n at count e f =
+    take_over (drop at bytes) n count (f ∙ ap (min n) (sym (length-drop at bytes)))
+    ∙ ap (λ m. part bytes m n) e
+    ∙ part_past bytes from n

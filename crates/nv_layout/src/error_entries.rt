@@ -1,6 +1,7 @@
 //! The entries of an error log, where they stand.
 
-ghost use Rattle.std.specs.Prelude.{◌≡◌, ◌≤◌, ◌<◌, ◌+◌, ◌-◌, ◌++◌, List, get_or, length, replicate};
+ghost use Rattle.std.specs.Prelude.{◌≡◌, ◌≤◌, ◌<◌, ◌+◌, ◌-◌, ◌*◌, ◌++◌, List, get_or, length};
+ghost use Rattle.std.specs.Prelude.{replicate, take};
 ghost use Rattle.nv_layout.specs.ErrorEntry.{bytes_of_entries, bytes_of_error_entry, no_entry};
 ghost use Rattle.nv_layout.specs.Parts.{part};
 ghost use Rattle.nv_layout.specs.declared.error_entry.ErrorEntry.{ErrorEntry};
@@ -50,6 +51,16 @@ impl<'a> ErrorEntries<'a> {
         self.count
     }
 
+    /// How many entries the log has. Those past them hold no error.
+    pub fn present(&self) -> usize
+        ensures within { result ≤ length self.now }
+        ensures few { result ≤ 256 }
+        ensures past { self.now
+            ≡ take result self.now ++ replicate (length self.now - result) no_entry }
+    {
+        self.newest.len() + self.older.len()
+    }
+
     /// The entry at an index from the newest on. Past the last it holds no error.
     pub fn get(&self, index: usize) -> ErrorEntry
         ensures { result ≡ get_or self.now index no_entry }
@@ -68,7 +79,19 @@ impl<'a> ErrorEntries<'a> {
     pub fn fill(&self, from: usize, out: &mut [u8])
         ensures { out.new ≡ part (bytes_of_entries self.now) from (length out.old) }
     {
-        let from = from.min(64 * self.len());
+        let end = 64 * self.present();
+        let from = from.min(end);
+        let count = out.len().min(end - from);
+        let (written, past) = out.split_at_mut(count);
+        self.fill_within(from, written);
+        past.fill(0);
+    }
+
+    /// Writes their bytes from a place on, entry by entry.
+    fn fill_within(&self, from: usize, out: &mut [u8])
+        requires { from + length out.old ≤ 64 * 256 }
+        ensures { out.new ≡ part (bytes_of_entries self.now) from (length out.old) }
+    {
         let mut done = 0;
         while done < out.len() {
             let place = from + done;

@@ -1,49 +1,32 @@
-use Rattle.std.proofs.Common.{◌≡◌, ◌++◌, ◌∙◌, ◌-◌, ◌+◌, ◌*◌, ◌/◌, ◌%◌, ap, arith, drop, length, length-drop}
-use Rattle.std.proofs.Common.{length-take, min, refl, sym, take}
-use Rattle.std.proofs.lemmas.List.{take_all}
-use Rattle.std.proofs.lemmas.Slice.{take-put_mid}
-use Rattle.nv_layout.specs.ErrorEntry.{bytes_of_entries, bytes_of_error_entry}
-use Rattle.nv_layout.proofs.LogLaws.{length-entries, part_of_entry}
-use Rattle.nv_layout.proofs.PartLaws.{part-append, part_past}
+use Rattle.std.proofs.Common.{◌≡◌, ◌∙◌, ℕ, ◌-◌, ◌*◌, ◌++◌, ap, arith, drop, length, min, replicate, sym, take}
+use Rattle.std.proofs.lemmas.List.{length-take-le}
+use Rattle.nv_layout.specs.ErrorEntry.{bytes_of_entries}
+use Rattle.nv_layout.proofs.LogLaws.{length-entries, part_past_blanks}
+use Rattle.nv_layout.proofs.PartLaws.{part_in_two, part_within}
 use Rattle.nv_layout.specs.Parts.{part}
 use Rattle.nv_layout.proofs.error_entries.ErrorEntries.fill.Goals as goal
 
-pub loop-done-init : goal.loop-done-init
-unfolding part
-loop-done-init c = record { within = omega arith; written = refl }
-
-pub loop-done-preserved : goal.loop-done-preserved
-loop-done-preserved c =
-    let now = c.loop-done.invariant in
-    let entries = c.args.self.now in
-    let from = c.min-from.result in
-    let done = c.loop-done.done in
-    let more = c.min.result in
-    let place = from + done in
-    let bytes = bytes_of_entries entries in
-    let size : length c.put_part.new.out ≡ more = omega arith in
-    let split : 64 * (place / 64) + place % 64 ≡ place = omega arith in
-    let room : length (take (done + more - done) (drop done c.loop-done.out)) ≡ more =
-    simp (length-take, length-drop) (omega arith) in
-    let this : c.put_part.new.out ≡ part bytes place more =
-    c.put_part.ensures
-    ∙ (λ i. part (bytes_of_error_entry (c.get.ensures i)) (place % 64) (room i))
-    ∙ sym (part_of_entry entries (place / 64) (place % 64) more (omega arith))
-    ∙ ap (λ p. part bytes p more) split in
-    record {
-      within = omega arith;
-      written = take-put_mid done (done + more - done) c.loop-done.out c.put_part.new.out (done + more)
-          (omega (arith, size)) (omega arith)
-          ∙ (λ i. now.written i ++ this i)
-          ∙ part-append bytes from done more;
-    }
-
 pub returns : goal.returns
 returns c =
-    let bytes = bytes_of_entries c.args.self.now in
-    let all : c.loop-done.done ≡ length c.args.out.now = omega arith in
-    sym (take_all c.loop-done.done c.loop-done.out (omega arith))
-    ∙ c.loop-done.invariant.written
-    ∙ (λ i. part bytes (c.min-from.ensures i) (all i))
-    ∙ ap (λ n. part bytes (min c.args.from n) (length c.args.out.now)) (omega (arith, length-entries c.args.self.now))
-    ∙ part_past bytes c.args.from (length c.args.out.now)
+    let es = c.args.self.now in
+    let n = length c.args.out.now in
+    let at = c.min-from.result in
+    let count = c.min-count.result in
+    let had = take c.present-end.result es in
+    let bytes = bytes_of_entries had in
+    let same = λ (from n : ℕ). ap (λ xs. part (bytes_of_entries xs) from n) c.present-end.ensures.past
+    ∙ part_past_blanks had (length es - c.present-end.result) from n in
+    let end : length bytes ≡ 64 * c.present-end.result =
+    length-entries had ∙ ap (λ m. 64 * m) (length-take-le c.present-end.result es c.present-end.ensures.within) in
+    let within = part_within bytes at count (omega (arith, end)) in
+    let room = c.split_at_mut-written.ensures.front_len in
+    let rest : length c.split_at_mut-written.result.1.now ≡ n - count =
+    omega (arith, c.split_at_mut-written.ensures.back_len) in
+    let written : c.fill_within.new.out ≡ take count (drop at bytes) =
+    c.fill_within.ensures ∙ ap (part (bytes_of_entries es) at) room ∙ same at count ∙ within in
+    let past : c.fill.new.self ≡ replicate (n - count) 0 =
+    c.fill.ensures.after (λ y e. e) ∙ ap (λ m. replicate m 0) rest in
+    (λ i. written i ++ past i)
+    ∙ part_in_two bytes c.args.from n at count (c.min-from.ensures ∙ ap (min c.args.from) (sym end))
+    (c.min-count.ensures ∙ ap (λ m. min n (m - at)) (sym end))
+    ∙ sym (same c.args.from n)

@@ -1,7 +1,7 @@
 use Rattle.std.proofs.Common.{◌≡◌, ◌-◌, ◌≤◌, length, take}
 use Rattle.nv_layout.specs.ErrorEntry.{bytes_of_entries}
 use Rattle.nv_layout.specs.Parts.{part}
-use Rattle.nv_layout.proofs.error_entries.ErrorEntries.fill.Given as goal
+use Rattle.nv_layout.proofs.error_entries.ErrorEntries.fill_within.Given as goal
 
 -- the first bytes are written
 abbrev pub invariant-loop-done : goal.invariant-loop-done
