@@ -8,6 +8,7 @@ use Rattle.nv_host.specs.Pages.{HasPage, IsPageSize}
 use Rattle.nv_host.proofs.PageLaws.{page_size_bounds}
 use Rattle.nv_prp.specs.Buffer.{IsBuffer, buffer_place, buffer_places}
 use Rattle.nv_prp.specs.Place.{LieIn, places, span_places, table}
+use Rattle.nv_prp.specs.Transfer.{most_bytes}
 use Rattle.nv_prp.proofs.PageLaws.{page_times}
 use Rattle.nv_prp.proofs.PlaceLaws.{length-table, table-append, table-same}
 use Rattle.nv_prp.specs.declared.spans.Span.{Span}
@@ -94,7 +95,7 @@ next_page_begins page_size start from n len some whole few =
     omega (arith, next, few)
 
 -- so there are no more spans than pages
-pub few_spans : (page_size start from n : ℕ) → IsPageSize page_size → start < page_size → from < 1048576
+pub few_spans : (page_size start from n : ℕ) → IsPageSize page_size → start < page_size → from < most_bytes
     → n ≤ (start + from) / page_size → n < 257
 few_spans page_size start from n is low below few =
     let bounds = page_size_bounds page_size is in

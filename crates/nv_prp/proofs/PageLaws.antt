@@ -13,7 +13,7 @@ use Rattle.nv_prp.specs.Place.{places, span_places, table}
 use Rattle.nv_prp.proofs.PlaceLaws.{length-table, table-append, table-more, table-same}
 use Rattle.nv_prp.specs.declared.spans.Span.{Span}
 use Rattle.nv_prp.specs.Transfer.{PrpTransfer, data_pages, first_byte, offset, page_base, place_of, span_of, spans_of}
-use Rattle.nv_prp.specs.Transfer.{transfer_places}
+use Rattle.nv_prp.specs.Transfer.{most_bytes, transfer_places}
 
 -- the last data page holds a byte, and no byte lies behind it
 pub pages_span : (t : PrpTransfer) → 0 < t.page_size
@@ -27,7 +27,8 @@ page_begins t j some below = grind (arith, nat_tests)
 pub at_least_one : (t : PrpTransfer) → 0 < t.page_size → 0 < t.len → 0 < data_pages t
 at_least_one t some bytes = let span = pages_span t some in grind arith
 
-pub at_most_257 : (rest len size : ℕ) → IsPageSize size → rest < size → len ≤ 1048576 → div_ceil (rest + len) size ≤ 257
+pub at_most_257 : (rest len size : ℕ) → IsPageSize size → rest < size → len ≤ most_bytes
+    → div_ceil (rest + len) size ≤ 257
 at_most_257 rest len size is below limit =
     let bounds = page_size_bounds size is in
     let span = div_ceil_times (rest + len) size (omega arith) in

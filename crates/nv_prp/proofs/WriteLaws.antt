@@ -110,7 +110,8 @@ pub one_named : (old new : List ℕ) (size space start first second : ℕ) (page
     → HasNamed old size space start second pages count j
     → qword new at ≡ get_or pages j 0 * size → ChangesOnly at 8 old new
     → HasNamed new size space start second pages count (j + 1)
-one_named old new size space start first second pages count j behind at lies few later below second_is at_is named here others k after before =
+one_named old new size space start first second pages count j _ at lies few later below next is_at named here others =
+    λ k after before.
     let is : at ≡ naming_place space start second count j = cc in
     elim (cases_lt k j) [
       | inl less ↦ qword_kept at 8 (naming_place space start second count k) old new others (grind (arith, nat_tests))

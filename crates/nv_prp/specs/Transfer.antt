@@ -12,6 +12,10 @@ use Rattle.nv_prp.specs.declared.error.PrpError.TheVariants.{Offset, Outside}
 use Rattle.nv_prp.specs.declared.pointer.DataPointer.{DataPointer}
 use Rattle.nv_prp.specs.declared.spans.Span.{Span}
 
+-- the most bytes of a transfer: 1 MiB
+abbrev pub most_bytes : ℕ
+most_bytes = 1048576
+
 pub record PrpTransfer : Type 0 where
   pub page_size : ℕ
   pub bytes : List ℕ

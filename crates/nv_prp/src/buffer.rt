@@ -4,6 +4,7 @@ ghost use Rattle.std.specs.Prelude.{◌≡◌, ◌+◌, ◌-◌, ◌%◌, ◌<�
 ghost use Rattle.nv_host.specs.Pages.{IsPageSize};
 ghost use Rattle.nv_prp.specs.Buffer.{IsBuffer, buffer_place, buffer_places};
 ghost use Rattle.nv_prp.specs.Place.{LieIn, places};
+ghost use Rattle.nv_prp.specs.Transfer.{most_bytes};
 
 use crate::pointer::page_address;
 use crate::{Span, Spans};
@@ -24,7 +25,7 @@ impl Buffer<'_> {
     #[tactic(auto, using(crate::proofs::BufferSpanLaws::one_span))]
     fn span<M: HostMemory>(&self, mem: &M, from: u32, most: u32) -> Span
         requires some { 0 < most }
-        requires limit { from + most ≤ 1048576 }
+        requires limit { from + most ≤ most_bytes }
         requires buffer { IsBuffer (M.bytes mem.now)
             (M.page_len mem.now) self.now.pages.now self.now.offset (from + most) }
         ensures address { result.address ≡ buffer_place
@@ -50,7 +51,7 @@ impl Buffer<'_> {
     /// The pages lie in the memory, and hold so many bytes from the buffer's offset on.
     #[tactic(auto, using(crate::proofs::BufferSpanLaws::spans))]
     pub fn spans<M: HostMemory>(&self, mem: &M, len: u32, spans: &mut Spans)
-        requires limit { len ≤ 1048576 }
+        requires limit { len ≤ most_bytes }
         requires buffer { IsBuffer (M.bytes mem.now)
             (M.page_len mem.now) self.now.pages.now self.now.offset len }
         ensures places { places spans.new ≡ buffer_places

@@ -4,7 +4,8 @@ ghost use Rattle.std.specs.Prelude.{◌≡◌, ◌≢◌, ℕ, ◌+◌, ◌-◌,
 ghost use Rattle.nv_prp.specs.Buffer.{IsBuffer, IsListPlace, KeepsOutside, NamesPages, StaysFor};
 ghost use Rattle.nv_prp.specs.Buffer.{buffer_place};
 ghost use Rattle.nv_prp.specs.Place.{AreDistinct};
-ghost use Rattle.nv_prp.specs.Transfer.{IsLegal, data_pages as pages_of, place_of, transfer};
+ghost use Rattle.nv_prp.specs.Transfer.{IsLegal, data_pages as pages_of, most_bytes, place_of};
+ghost use Rattle.nv_prp.specs.Transfer.{transfer};
 
 use crate::buffer::Buffer;
 use crate::list_shape::ListShape;
@@ -35,7 +36,7 @@ pub struct ListPlace {
 /// and the pages hold `len` bytes from the buffer's offset on.
 pub fn build<M: HostMemory>(mem: &mut M, buffer: &Buffer, list: &ListPlace, len: u32) -> (u64, u64)
     requires some { 0 < len }
-    requires limit { len ≤ 1048576 }
+    requires limit { len ≤ most_bytes }
     requires buffer { IsBuffer (M.bytes mem.old)
         (M.page_len mem.old) buffer.now.pages.now buffer.now.offset len }
     requires list { IsListPlace (M.bytes mem.old)

@@ -3,7 +3,7 @@
 ghost use Rattle.std.specs.Prelude.{◌≡◌, ◌+◌, ◌-◌, ◌%◌, ◌*◌, ◌/◌, ◌<◌, ◌≤◌, ◌^◌, length, min};
 ghost use Rattle.std.specs.Int.{div_ceil};
 ghost use Rattle.nv_host.specs.Pages.{IsPageSize};
-ghost use Rattle.nv_prp.specs.Transfer.{first_byte, transfer_of};
+ghost use Rattle.nv_prp.specs.Transfer.{first_byte, most_bytes, transfer_of};
 
 use crate::Span;
 use nv_host::{HostMemory, PageNo};
@@ -52,7 +52,7 @@ impl DataPointer {
     /// In how many pages the bytes lie.
     #[tactic(auto, using(crate::proofs::PageLaws::page_counts))]
     pub(crate) fn data_pages<M: HostMemory>(self, mem: &M) -> u32
-        requires { self.len ≤ 1048576 }
+        requires { self.len ≤ most_bytes }
         ensures value { result ≡ div_ceil (self.prp1 % M.page_len mem.now + self.len)
             (M.page_len mem.now) }
         ensures few { result ≤ 257 }

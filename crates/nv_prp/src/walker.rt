@@ -6,8 +6,8 @@ ghost use Rattle.nv_host.specs.Pages.{IsPageSize};
 ghost use Rattle.nv_prp.specs.ListWalk.{Comes, IsList, ListTurn};
 ghost use Rattle.nv_prp.specs.Place.{LieIn, places, table};
 ghost use Rattle.nv_prp.specs.Transfer.{HasWalked, IsLegal, data_pages as pages_of};
-ghost use Rattle.nv_prp.specs.Transfer.{fault_after_prp1, first_fault, room, span_of, spans_of};
-ghost use Rattle.nv_prp.specs.Transfer.{transfer, transfer_of, transfer_places};
+ghost use Rattle.nv_prp.specs.Transfer.{fault_after_prp1, first_fault, most_bytes, room, span_of};
+ghost use Rattle.nv_prp.specs.Transfer.{spans_of, transfer, transfer_of, transfer_places};
 
 use crate::list_shape::ListShape;
 use crate::pointer::{DataPointer, qwords_in_page};
@@ -33,7 +33,7 @@ pub fn walk<M: HostMemory>(
     spans: &mut Spans,
 ) -> Result<(), PrpError>
     requires some { 0 < len }
-    requires limit { len ≤ 1048576 }
+    requires limit { len ≤ most_bytes }
     ensures legal { let t = transfer (M.page_len mem.now) (M.bytes mem.now) prp1 prp2 len in
         IsOk result ↔ IsLegal t }
     ensures fault { let t = transfer (M.page_len mem.now) (M.bytes mem.now) prp1 prp2 len in
@@ -64,7 +64,7 @@ fn walk_entries<M: HostMemory>(
     spans: &mut Spans,
 ) -> Result<(), PrpError>
     requires some { 0 < pointer.len }
-    requires limit { pointer.len ≤ 1048576 }
+    requires limit { pointer.len ≤ most_bytes }
     requires empty { spans.old ≡ [] }
     ensures size { OnOk result (IsPageSize (M.page_len mem.now)) }
     ensures walked { let t = transfer_of (M.page_len mem.now) (M.bytes mem.now) pointer in

@@ -6,8 +6,10 @@ use Rattle.nv_prp.proofs.builder.write_list.Goals as goal
 pub loop-page-init : goal.loop-page-init
 loop-page-init g c =
     let list = c.args.list.now in
+    let room = c.qwords_in_page.result in
+    let size = c.page_address.ensures.size in
     record {
-      lies = lies_at _ _ list.first list.second list.offset _ c.qwords_in_page.result c.page_address.ensures.size c.requires.list c.requires.apart
+      lies = lies_at _ _ list.first list.second list.offset _ room size c.requires.list c.requires.apart
           (λ i. c.page_address.ensures.value i + c.from.ensures i) c.qwords_in_page.ensures.value;
       named = λ j later below. absurd (omega arith);
       others = λ from n _ _. refl;
@@ -41,9 +43,11 @@ returns-then-has_second_page-clause-names g c =
     let size = g.M.HostMemory.page_len c.args.mem.now in
     let now = c.loop-page.invariant in
     let start = c.page_address.result + c.from.result in
+    let room = c.qwords_in_page.result in
+    let more = c.if-has_second_page.ensures in
     subst (λ r. NamesPages (g.M.HostMemory.bytes c.store_qword-then-has_second_page.new.mem) size r start
     (c.args.list.now.second * size) c.args.pages.now c.args.count) c.qwords_in_page.ensures.value
-    (chain_names _ _ size c.qwords_in_page.result start _ _ c.args.pages.now c.args.count _ _ now.lies c.requires.few c.if-has_second_page.ensures
+    (chain_names _ _ size room start _ _ c.args.pages.now c.args.count _ _ now.lies c.requires.few more
     (ap (λ n. start + 8 * n) c.from-then-has_second_page.ensures) (omega arith) now.named
     (c.store_qword-then-has_second_page.ensures.value
     ∙ c.page_address-second.ensures.value) c.store_qword-then-has_second_page.ensures.others)
