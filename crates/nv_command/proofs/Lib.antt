@@ -1,4 +1,3 @@
-pub mod PartLaws
 pub mod StatusNames
 pub mod EntryLaws
 pub mod FeatureLaws
@@ -10,3 +9,4 @@ pub mod ReplyLaws
 pub mod ManagementLaws
 pub mod RefusalLaws
 pub mod TravelLaws
+pub mod RoomLaws

@@ -8,7 +8,7 @@ use Rattle.std.proofs.lemmas.List.{drop-drop, get_or-take, length-append, length
 use Rattle.std.proofs.lemmas.List.{length-replicate, length-take-le}
 use Rattle.nv_layout.specs.ErrorEntry.{ErrorEntryFits, bytes_of_entries, bytes_of_error_entry}
 use Rattle.nv_layout.specs.ErrorEntry.{no_entry, without_phase}
-use Rattle.nv_layout.proofs.LogLaws.{error_entry_back, length-bytes_of_error_entry}
+use Rattle.nv_layout.proofs.LogLaws.{error_entry_back, fits_with_phase, length-bytes_of_error_entry}
 use Rattle.nv_layout.proofs.LogLaws.{length-bytes_of_smart, no_entry_fits, part_of_entry, smart_back}
 use Rattle.nv_layout.proofs.PartLaws.{get_or-past, length-part, map_read, part-part, part_whole}
 use Rattle.nv_layout.specs.Parts.{at_bits, bits, part}
@@ -155,21 +155,7 @@ is_reply-without_phases k r is = sym (kind-without_phases r) ∙ is
 entries_fit : (es : List ErrorEntry) → AllByRecursion ErrorEntryFits (map without_phase es)
     → AllByRecursion ErrorEntryFits es
 entries_fit [] fits = tt
-entries_fit (e ∷ es) fits =
-    let one = fits.0 in (
-      record {
-        count = one.count;
-        sqid = one.sqid;
-        cid = one.cid;
-        status = one.status;
-        location = one.location;
-        lba = one.lba;
-        nsid = one.nsid;
-        vendor = one.vendor;
-        specific = one.specific;
-      },
-      entries_fit es fits.1,
-    )
+entries_fit (e ∷ es) fits = (fits_with_phase (without_phase e) e.phase fits.0, entries_fit es fits.1)
 
 pub fits-without_phases : (r : Reply) → FitsRecord (without_phases r) → FitsRecord r
 fits-without_phases (reply.Errors es) fits =

@@ -5,7 +5,7 @@ use Rattle.std.specs.List.{AllByRecursion}
 use Rattle.nv_layout.specs.ErrorEntry.{ErrorEntryFits, bytes_of_entries}
 use Rattle.nv_layout.specs.IdCtrl.{IdCtrlFits, bytes_of_id_ctrl}
 use Rattle.nv_layout.specs.IdNs.{IdNsFits, bytes_of_id_ns}
-use Rattle.nv_layout.specs.NsList.{bytes_of_ns_list}
+use Rattle.nv_layout.specs.NsList.{bytes_of_ns_list, most_nsids}
 use Rattle.nv_layout.specs.Parts.{part}
 use Rattle.nv_layout.specs.Smart.{SmartFits, bytes_of_smart}
 use Rattle.nv_layout.specs.declared.error_entry.ErrorEntry.{ErrorEntry}
@@ -72,9 +72,9 @@ kind_of (reply.Smart r) = kind.Smart
 abbrev pub IsReplyTo : Command → Reply → Type 0
 IsReplyTo k r = kind_of r ≡ (form_of k).reply
 
--- at most 1,024 NSIDs, none of them 0
+-- NSIDs for which a list has room, none of them 0
 pub record IsNsidList (ids : List ℕ) : Type 0 where
-  pub count : length ids ≤ 1024
+  pub count : length ids ≤ most_nsids
   pub numbers : AllByRecursion (λ n. (n ≢ 0) × (n < 2 ^ 32)) ids
 
 -- from 1 to 256 entries, each of which fits its bits

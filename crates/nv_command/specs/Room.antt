@@ -1,5 +1,6 @@
 -- The reply that is kept in a room.
-use Rattle.std.specs.Prelude.{◌≡◌, ℕ, ◌/◌, ◌≤◌, List, take}
+use Rattle.std.specs.Prelude.{◌≡◌, ℕ, ◌-◌, ◌/◌, ◌≤◌, List, ◌++◌, replicate, take}
+use Rattle.nv_layout.specs.ErrorEntry.{no_entry}
 use Rattle.nv_layout.specs.declared.error_entry.ErrorEntry.{ErrorEntry}
 use Rattle.nv_command.specs.declared.form.ReplyKind.{ReplyKind}
 use Rattle.nv_command.specs.declared.form.ReplyKind.TheVariants as kind
@@ -8,6 +9,10 @@ use Rattle.nv_command.specs.declared.reply.Reply.TheVariants as reply
 use Rattle.nv_command.specs.declared.reply_room.Held.{Held}
 use Rattle.nv_command.specs.declared.reply_room.Held.TheVariants as held
 
+-- the entries of a log of which the first so many stand: the others hold no error
+abbrev pub entries_held : ℕ → ℕ → List ErrorEntry → List ErrorEntry
+entries_held count present es = take present es ++ replicate (count - present) no_entry
+
 -- what is held, with the list and the entries beside it
 abbrev pub reply_held : Held → List ℕ → List ErrorEntry → Reply
 reply_held (held.Controller r) ids es = reply.Controller r
@@ -15,12 +20,12 @@ reply_held (held.Namespace r) ids es = reply.Namespace r
 reply_held held.List ids es = reply.List ids
 reply_held (held.Number n) ids es = reply.Number n
 reply_held held.Done ids es = reply.Done
-reply_held (held.Errors count) ids es = reply.Errors (take count es)
+reply_held (held.Errors count present) ids es = reply.Errors (entries_held count present es)
 reply_held (held.Smart r) ids es = reply.Smart r
 
 -- there is room for 256 entries
 abbrev pub IsRoom : Held → Type 0
-IsRoom (held.Errors count) = count ≤ 256
+IsRoom (held.Errors count present) = (present ≤ count) × (count ≤ 256)
 IsRoom h = Unit {0}
 
 -- the bytes of a page that a reply of a kind has, where it is no log

@@ -1,12 +1,14 @@
 //! Room for one reply, with what it borrows.
 
-ghost use Rattle.std.specs.Prelude.{◌≡◌, ◌≤◌, List, length, map, take};
+ghost use Rattle.std.specs.Prelude.{◌≡◌, ◌-◌, ◌≤◌, List, drop, length, map, replicate};
 ghost use Rattle.std.specs.Simd.{first_chunks};
+ghost use Rattle.nv_layout.specs.ErrorEntry.{no_entry};
+ghost use Rattle.nv_layout.specs.NsList.{most_nsids};
 ghost use Rattle.nv_layout.specs.declared.error_entry.ErrorEntry.{ErrorEntry};
 ghost use Rattle.nv_command.specs.Command.{bytes_to_host, transfer_by};
 ghost use Rattle.nv_command.specs.Logs.{IsSendable, entry_received};
 ghost use Rattle.nv_command.specs.Reply.{reply_by, reply_in};
-ghost use Rattle.nv_command.specs.Room.{IsSizeOf};
+ghost use Rattle.nv_command.specs.Room.{IsSizeOf, entries_held};
 ghost use Rattle.nv_command.specs.declared.reply.Reply.TheVariants.{Done};
 
 use crate::command::Command;
@@ -23,8 +25,8 @@ enum Held {
     List,
     Number(u32),
     Done,
-    /// So many entries of the error log.
-    Errors(usize),
+    /// So many entries of the error log, of which the first ones stand; the others hold no error.
+    Errors { count: usize, present: usize },
     Smart(Smart),
 }
 
@@ -70,8 +72,8 @@ impl ReplyRoom {
             Held::List => Reply::List(self.list.ids()),
             Held::Number(number) => Reply::Number(number),
             Held::Done => Reply::Done,
-            Held::Errors(count) => {
-                let entries = &self.entries[..count];
+            Held::Errors { count, present } => {
+                let entries = &self.entries[..present];
                 Reply::Errors(ErrorEntries::new(entries, &[], count))
             }
             Held::Smart(smart) => Reply::Smart(smart),
@@ -92,8 +94,11 @@ impl ReplyRoom {
             Reply::Number(number) => Held::Number(*number),
             Reply::Done => Held::Done,
             Reply::Errors(entries) => {
-                keep_entries(entries, &mut self.entries);
-                Held::Errors(entries.len())
+                let present = keep_entries(entries, &mut self.entries);
+                Held::Errors {
+                    count: entries.len(),
+                    present,
+                }
             }
             Reply::Smart(smart) => Held::Smart(*smart),
         };
@@ -126,8 +131,11 @@ impl ReplyRoom {
             ReplyKind::Done => Held::Done,
             ReplyKind::Errors => {
                 let (chunks, _) = bytes.as_chunks();
-                read_entries(chunks, &mut self.entries);
-                Held::Errors(chunks.len())
+                let present = read_entries(chunks, &mut self.entries);
+                Held::Errors {
+                    count: chunks.len(),
+                    present,
+                }
             }
             ReplyKind::Smart => Held::Smart(Smart::get(part_of(bytes))),
         };
@@ -144,7 +152,7 @@ fn part_of<const N: usize>(bytes: &[u8]) -> &[u8; N]
 
 /// Copies identifiers to a list, in place of what it had.
 fn keep_ids(ids: &[u32], list: &mut NsList)
-    requires { length ids.now ≤ 1024 }
+    requires { length ids.now ≤ most_nsids }
     ensures { list.new ≡ ids.now }
 {
     list.clear();
@@ -153,24 +161,45 @@ fn keep_ids(ids: &[u32], list: &mut NsList)
     }
 }
 
-/// Copies entries to the front of those that are kept.
-fn keep_entries(entries: &ErrorEntries, out: &mut [ErrorEntry; 256])
-    ensures { take (length entries.now) out.new ≡ entries.now }
+/// Copies the entries that a log has to the front of those that are kept, and tells how many.
+fn keep_entries(entries: &ErrorEntries, out: &mut [ErrorEntry; 256]) -> usize
+    ensures within { result ≤ length entries.now }
+    ensures kept { entries_held (length entries.now) result out.new ≡ entries.now }
 {
-    for index in 0..entries.len() {
+    let present = entries.present();
+    for index in 0..present {
         out[index] = entries.get(index);
     }
+    present
 }
 
-/// Reads entries to the front of those that are kept, without their phase tags.
-fn read_entries(chunks: &[[u8; 64]], out: &mut [ErrorEntry; 256])
-    requires { length chunks.now ≤ 256 }
-    ensures { take (length chunks.now) out.new ≡ map entry_received chunks.now }
+/// How many entries there are up to the last one that isn't all zeros.
+fn written_count(chunks: &[[u8; 64]]) -> usize
+    ensures within { result ≤ length chunks.now }
+    ensures others { map entry_received (drop result chunks.now)
+        ≡ replicate (length chunks.now - result) no_entry }
 {
-    for (index, chunk) in chunks.iter().enumerate() {
+    let mut count = chunks.len();
+    while count > 0 && chunks[count - 1] == [0; 64] {
+        count -= 1;
+    }
+    count
+}
+
+/// Reads entries to the front of those that are kept, without their phase tags, up to the last one
+/// that isn't all zeros, and tells how many those are.
+fn read_entries(chunks: &[[u8; 64]], out: &mut [ErrorEntry; 256]) -> usize
+    requires { length chunks.now ≤ 256 }
+    ensures within { result ≤ length chunks.now }
+    ensures read { entries_held (length chunks.now) result out.new
+        ≡ map entry_received chunks.now }
+{
+    let count = written_count(chunks);
+    for (index, chunk) in chunks[..count].iter().enumerate() {
         out[index] = ErrorEntry {
             phase: false,
             ..ErrorEntry::get(chunk)
         };
     }
+    count
 }

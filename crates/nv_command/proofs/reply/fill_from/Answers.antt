@@ -1,5 +1,5 @@
 use Rattle.std.proofs.Common.{◌≡◌, ◌∙◌, ◌+◌, ◌-◌, ◌++◌, ap, arith, drop, length, replicate, take}
-use Rattle.nv_command.proofs.PartLaws.{part_in_two}
+use Rattle.nv_layout.proofs.PartLaws.{part_in_two}
 use Rattle.nv_command.proofs.reply.fill_from.Goals as goal
 
 pub returns : goal.returns
