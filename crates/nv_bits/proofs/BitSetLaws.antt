@@ -1,15 +1,15 @@
 -- Sets of numbers as bits.
-use Rattle.std.proofs.Common.{◌≡◌, ◌≢◌, ◌∙◌, ℕ, zero, suc, ◌+◌, ◌-◌, ◌*◌, ◌/◌, ◌%◌, ◌^◌, ◌<◌, ◌≤◌, ◌==◌, Bool, true}
-use Rattle.std.proofs.Common.{false, not, cond, List, length, get_or, set, length-set, Option, Some, None, is_some}
-use Rattle.std.proofs.Common.{refl, sym, ap, subst, arith, inl, inr, min, get_or-set_other, replicate}
+use Rattle.std.proofs.Common.{◌≡◌, ◌≢◌, ◌∙◌, ℕ, ◌+◌, ◌-◌, ◌*◌, ◌/◌, ◌%◌, ◌^◌, ◌<◌, ◌≤◌, ◌==◌, Bool, true}
+use Rattle.std.proofs.Common.{false, not, cond, List, length, get_or, set, length-set, is_some}
+use Rattle.std.proofs.Common.{refl, sym, ap, arith, inl, inr, min, get_or-set_other, replicate}
 use Rattle.std.proofs.lemmas.List.{get_or-replicate, length-replicate}
-use Rattle.std.proofs.lemmas.Bool.{cases_eq, cases_lt, eq-eqb, false_from_ne_true, ne_eqb, true≢false}
+use Rattle.std.proofs.lemmas.Bool.{cases_eq, cases_lt, false_from_ne_true, ne_eqb, true≢false}
 use mir.Val.{bool_byte}
 use Rattle.std.specs.FinMap as map
-use Rattle.std.specs.FinMap.{get, get-empty, len-empty, len-insert, len-remove}
+use Rattle.std.specs.FinMap.{get-empty, len-empty, len-insert, len-remove}
 use Rattle.std.specs.Cmp.{nat_cmp_total}
 use Rattle.std.specs.Ordering.{nat_cmp}
-use Rattle.nv_bits.specs.Numbers.{IsLowest, IsNext, IsOf, NumberSet, all_of, as_member, by_place, insert}
+use Rattle.nv_bits.specs.Numbers.{IsLowest, IsNext, IsOf, NumberSet, all_of, as_member, insert}
 use Rattle.nv_bits.proofs.NumberLaws.{by_place-insert, by_place-remove, by_place_is, get_at, get_outside, len-all_of}
 use Rattle.nv_bits.proofs.NumberLaws.{len_within}
 use Rattle.nv_bits.specs.Words.{ChangesBit, IsLeastFrom, bit_of}

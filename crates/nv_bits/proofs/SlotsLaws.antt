@@ -1,5 +1,5 @@
 -- Slots that are written.
-use Rattle.std.proofs.Common.{◌≡◌, ◌≢◌, ◌∙◌, ℕ, ◌+◌, ◌-◌, ◌<◌, ◌≤◌, ◌==◌, Bool, true, false, not, cond, List, [], ◌∷◌}
+use Rattle.std.proofs.Common.{◌≡◌, ◌∙◌, ℕ, ◌+◌, ◌-◌, ◌<◌, ◌==◌, Bool, true, false, not, cond, List, [], ◌∷◌}
 use Rattle.std.proofs.Common.{length, get_or, set, Option, Some, None, is_some, IfSome, MatchOption, refl, sym, ap}
 use Rattle.std.proofs.Common.{arith, inl, inr, get_or-set_same, get_or-set_other}
 use Rattle.std.proofs.lemmas.Bool.{cases_eq, eq-eqb, ne_eqb, not-false, not-true}
@@ -9,7 +9,7 @@ use Rattle.std.specs.FinMap as map
 use Rattle.std.specs.FinMap.{len-empty, len-insert, len-remove}
 use Rattle.nv_bits.specs.BitSet.{RangeSet}
 use Rattle.nv_bits.proofs.NumberLaws.{above_next, above_none, by_place-insert, by_place-remove, by_place_is}
-use Rattle.nv_bits.proofs.NumberLaws.{contains-insert, contains-remove, get_at, get_outside, len-all_of}
+use Rattle.nv_bits.proofs.NumberLaws.{contains-insert, contains-remove, get_at}
 use Rattle.nv_bits.specs.Numbers.{IsLowest, IsNext, IsOf, NumberMap, above, all_of, as_member, insert}
 use Rattle.nv_bits.specs.Slots.{AreSlots, IsLowestFree, RangeMap, values_of}
 

@@ -1,6 +1,6 @@
 -- Bits of words that are written.
-use Rattle.std.proofs.Common.{◌≡◌, ◌≢◌, ◌∙◌, ℕ, ◌+◌, ◌-◌, ◌*◌, ◌/◌, ◌%◌, ◌^◌, ◌<◌, ◌≤◌, ◌==◌, ◌||◌, ◌&&◌, Bool, true}
-use Rattle.std.proofs.Common.{false, not, cond, List, length, get_or, set, w64, refl, sym, ap, arith, inl, inr}
+use Rattle.std.proofs.Common.{◌≡◌, ◌≢◌, ◌∙◌, ℕ, ◌+◌, ◌-◌, ◌*◌, ◌/◌, ◌%◌, ◌^◌, ◌<◌, ◌≤◌, ◌==◌, true}
+use Rattle.std.proofs.Common.{false, List, length, get_or, set, w64, refl, arith, inl, inr}
 use Rattle.std.proofs.Common.{get_or-set_same, get_or-set_other, bit_and, bit_or, length-set, replicate}
 use Rattle.std.proofs.lemmas.Bool.{cases_eq, cases_lt, eq-eqb, ne_eqb}
 use Rattle.std.proofs.Math.Nat.{div-div-eq-div-mul, div-le_self, div-one, pow-zero}

@@ -1,5 +1,5 @@
 -- What the numbers of a range have, and the slots that stand for it.
-use Rattle.std.specs.Prelude.{◌≡◌, ℕ, ◌<◌, false, true, not, List, Option, None, length, refl}
+use Rattle.std.specs.Prelude.{◌≡◌, ℕ, ◌<◌, false, true, not, List, Option, None, refl}
 use Rattle.std.specs.Prelude.{slice_index_or}
 use Rattle.std.specs.Coded.{Coded, code_by, coded×, coded_ℕ}
 use Rattle.std.specs.FinMap as map

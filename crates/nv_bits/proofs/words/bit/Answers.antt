@@ -1,4 +1,4 @@
-use Rattle.std.proofs.Common.{arith, tests, ◌%◌, ◌/◌, ◌<◌, slice_index}
+use Rattle.std.proofs.Common.{arith, ◌%◌, ◌/◌, slice_index}
 use Rattle.std.proofs.lemmas.Nat.{one_shl, pow_pos}
 use Rattle.std.proofs.lemmas.Nat.Bits.{and_pow, bit_at-lt}
 use Rattle.std.proofs.lemmas.Bool.Decides.{nat_tests}

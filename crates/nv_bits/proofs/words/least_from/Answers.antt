@@ -16,7 +16,8 @@ returns-then-word-words c k from = none_past c.args.words.now k (omega arith)
 
 pub returns-then-next-words : goal.returns-then-next-words
 returns-then-next-words c =
-    none_found c.args.words.now c.args.at c.next_word-next.result c.if-next-words.true c.if-rest-ne0.false c.next_word-next.ensures.zeros
+    let next = c.next_word-next.result in
+    none_found c.args.words.now c.args.at next c.if-next-words.true c.if-rest-ne0.false c.next_word-next.ensures.zeros
 
 pub overflow_mul-result : goal.overflow_mul-result
 overflow_mul-result c = omega arith

@@ -1,4 +1,4 @@
-use Rattle.std.proofs.Common.{◌+◌, ◌/◌, ◌≡◌, ◌∙◌, ℕ, List, ap, length, replicate, sym}
+use Rattle.std.proofs.Common.{◌+◌, ◌/◌, ◌≡◌, ◌∙◌, ℕ, ap, length, replicate}
 use Rattle.nv_bits.specs.BitSet.{RangeSet}
 use Rattle.nv_bits.proofs.WordLaws.{bit_of-zeros}
 use Rattle.nv_bits.proofs.BitSetLaws.{are-empty, members-empty}

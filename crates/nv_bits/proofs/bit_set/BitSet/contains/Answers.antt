@@ -1,4 +1,4 @@
-use Rattle.std.proofs.Common.{◌≡◌, ◌+◌, ◌-◌, ◌∙◌, arith, sym}
+use Rattle.std.proofs.Common.{◌≡◌, ◌+◌, ◌-◌, arith, sym}
 use Rattle.std.proofs.lemmas.Bool.{le-ltb}
 use Rattle.nv_bits.proofs.BitSetLaws.{contains_at, not_member}
 use Rattle.nv_bits.proofs.bit_set.BitSet.contains.Goals as goal

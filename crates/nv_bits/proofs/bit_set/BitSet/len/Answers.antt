@@ -1,4 +1,3 @@
-use Rattle.std.proofs.Common.{arith}
 use Rattle.nv_bits.proofs.BitSetLaws.{len_in_range}
 use Rattle.nv_bits.proofs.bit_set.BitSet.len.Goals as goal
 

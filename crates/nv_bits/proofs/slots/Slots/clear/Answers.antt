@@ -1,4 +1,4 @@
-use Rattle.std.proofs.Common.{◌≡◌, ◌∙◌, ap, sym}
+use Rattle.std.proofs.Common.{◌∙◌, ap}
 use Rattle.std.proofs.lemmas.List.{with_items_is}
 use Rattle.nv_bits.specs.Slots.{RangeMap}
 use Rattle.nv_bits.proofs.SlotsLaws.{slots-empty, values-empty}
