@@ -4,7 +4,7 @@ use Rattle.std.proofs.Common.{List, [], ◌∷◌, ◌++◌, get_or, length, map
 use Rattle.std.proofs.lemmas.List.{get_or-map, length-map, map-append, take-map}
 use Rattle.std.proofs.lemmas.List.Elements.{All-map}
 use Rattle.std.specs.FinMap as map_of
-use Rattle.std.specs.List.{list_all}
+use Rattle.std.specs.List.{All, list_all}
 use Rattle.std.specs.Option.{option_map_or}
 use Rattle.std.specs.Prelude.{if◌then◌else◌, nat_le, nat_lt, replicate, slice_get}
 use Rattle.nv_command.specs.Logs.{is_error_log, without_phases}
@@ -26,6 +26,7 @@ use Rattle.nv_command.specs.declared.status_code.StatusCode.TheVariants.{Namespa
 use Rattle.nv_command.specs.declared.status_code.StatusCode.TheVariants.{NamespaceIsPrivate}
 use Rattle.nv_command.specs.declared.status_code.StatusCode.TheVariants.{NamespaceNotAttached}
 use Rattle.nv_layout.specs.ErrorEntry.{ErrorEntryFits, no_entry, without_phase}
+use Rattle.nv_layout.proofs.LogLaws.{fits_with_phase}
 use Rattle.nv_layout.specs.declared.error_entry.ErrorEntry.{ErrorEntry}
 use Rattle.nv_layout.specs.declared.feature.Feature.{Feature}
 use Rattle.nv_layout.specs.declared.id_ctrl.IdCtrl.{IdCtrl}
@@ -347,59 +348,33 @@ settled_untagged s c k origin o is =
 
 -- ---- well-formedness
 
-entry_keeps : (e : ErrorEntry) → ErrorEntryFits e → ErrorEntryFits (without_phase e)
-entry_keeps e fits = record {
-  count = fits.count;
-  sqid = fits.sqid;
-  cid = fits.cid;
-  status = fits.status;
-  location = fits.location;
-  lba = fits.lba;
-  nsid = fits.nsid;
-  vendor = fits.vendor;
-  specific = fits.specific;
-}
-
-entry_back : (e : ErrorEntry) → ErrorEntryFits (without_phase e) → ErrorEntryFits e
-entry_back e fits = record {
-  count = fits.count;
-  sqid = fits.sqid;
-  cid = fits.cid;
-  status = fits.status;
-  location = fits.location;
-  lba = fits.lba;
-  nsid = fits.nsid;
-  vendor = fits.vendor;
-  specific = fits.specific;
+-- a controller with another log, as long and of entries that fit
+with_log : (ns : Namespaces) (x : Controller) (log : List ErrorEntry) → length log ≡ length x.log
+    → All ErrorEntryFits log → IsController ns x → IsController ns (record x { log = log })
+with_log ns x log same fit is = record {
+  identity = is.identity;
+  rules = is.rules;
+  smart = is.smart;
+  log = same ∙ is.log;
+  entries = fit;
+  refusals = is.refusals;
+  commands = is.commands;
+  attached = is.attached;
+  values = is.values;
 }
 
 controller_keeps : (ns : Namespaces) (x : Controller) → IsController ns x → IsController ns (untagged_log x)
-controller_keeps ns x is = record {
-  identity = is.identity;
-  rules = is.rules;
-  smart = is.smart;
-  log = length-map x.log without_phase ∙ is.log;
-  entries = All-map ErrorEntryFits without_phase x.log (λ k d h. entry_keeps (get_or x.log k d) (is.entries k d h));
-  refusals = is.refusals;
-  commands = is.commands;
-  attached = is.attached;
-  values = is.values;
-}
+controller_keeps ns x is = with_log ns x (map without_phase x.log) (length-map x.log without_phase)
+    (All-map ErrorEntryFits without_phase x.log
+    (λ k d h. fits_with_phase (get_or x.log k d) false (is.entries k d h))) is
 
 controller_back : (ns : Namespaces) (x : Controller) → IsController ns (untagged_log x) → IsController ns x
-controller_back ns x is = record {
-  identity = is.identity;
-  rules = is.rules;
-  smart = is.smart;
-  log = sym (length-map x.log without_phase) ∙ is.log;
-  entries = λ k d h. entry_back (get_or x.log k d)
-      (subst ErrorEntryFits (get_or-map without_phase x.log k d (without_phase d) h)
-      (is.entries k (without_phase d) (omega (arith, length-map x.log without_phase))));
-  refusals = is.refusals;
-  commands = is.commands;
-  attached = is.attached;
-  values = is.values;
-}
+controller_back ns x is = with_log ns (untagged_log x) x.log (sym (length-map x.log without_phase))
+    (λ k d h.
+    let e = get_or x.log k d in
+    fits_with_phase (without_phase e) e.phase
+    (subst ErrorEntryFits (get_or-map without_phase x.log k d (without_phase d) h)
+    (is.entries k (without_phase d) (omega (arith, length-map x.log without_phase))))) is
 
 module _ (s : State) where
   len : length (map untagged_log s.controllers) ≡ length s.controllers
