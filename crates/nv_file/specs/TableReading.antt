@@ -17,6 +17,7 @@ use Rattle.nv_model.specs.declared.smart_base.SmartBase.{SmartBase}
 use Rattle.nv_model.specs.declared.identity.IdentityNumbers.{IdentityNumbers}
 use Rattle.nv_model.specs.Formats.{may_extend}
 use Rattle.nv_model.specs.Identity.{Identity}
+use Rattle.nv_model.specs.Logs.{zero_smart}
 use Rattle.nv_model.specs.Numbers.{greatest_integer}
 use Rattle.nv_file.specs.declared.error.SubsystemError.{SubsystemError}
 use Rattle.nv_file.specs.declared.error.SubsystemError.TheVariants.{Range, Repeated}
@@ -122,30 +123,7 @@ smart_of members = do
     sensors = eight sensors;
   })
 
--- a health log whose table is missing
-abbrev pub zero_smart : SmartBase
-zero_smart = record {
-  critical_warning = 0;
-  temperature = 0;
-  avail_spare = 0;
-  spare_thresh = 0;
-  percent_used = 0;
-  counters = record {
-    data_units_read = 0;
-    data_units_written = 0;
-    host_read_commands = 0;
-    host_write_commands = 0;
-    controller_busy_time = 0;
-    power_cycles = 0;
-    power_on_hours = 0;
-    unsafe_shutdowns = 0;
-    media_errors = 0;
-  };
-  warning_temp_time = 0;
-  critical_comp_time = 0;
-  sensors = eight [];
-}
-
+-- a health log whose table is missing is all zeros
 abbrev pub smart_or_zero : Option Members → Result SmartBase SubsystemError
 smart_or_zero None = Ok zero_smart
 smart_or_zero (Some members) = smart_of members

@@ -3,7 +3,8 @@ ghost use Rattle.std.specs.Prelude.{◌≡◌, ◌≤◌, All, IfOk, option_map,
 ghost use Rattle.toml.specs.View.{table_view};
 ghost use Rattle.nv_file.specs.Fault.{IsUnlessMemory};
 ghost use Rattle.nv_file.specs.TableChecks.{eight};
-ghost use Rattle.nv_file.specs.TableReading.{counters_of, smart_of, zero_smart, smart_or_zero};
+ghost use Rattle.nv_file.specs.TableReading.{counters_of, smart_of, smart_or_zero};
+ghost use Rattle.nv_model.specs.Logs.{zero_smart};
 ghost use Rattle.nv_model.specs.Ranges.{IsCounters, IsSmart};
 
 use crate::error::SubsystemError;

@@ -1,5 +1,5 @@
 -- The refusals of a Get Log Page have a status, and the logs fit their records.
-use Rattle.std.proofs.Common.{rules, ◌≡◌, ℕ, zero, suc, ◌+◌, ◌-◌, ◌^◌, refl, arith, lit<, List, []}
+use Rattle.std.proofs.Common.{rules, ◌≡◌, ℕ, zero, suc, ◌+◌, ◌-◌, ◌^◌, ◌<◌, refl, arith, lit<, List, []}
 use Rattle.std.proofs.Common.{◌∷◌, ◌++◌, length, get_or, Option, Some, None}
 use Rattle.std.specs.Prelude.{All, replicate}
 use Rattle.std.specs.List.{AllByRecursion}
@@ -12,7 +12,9 @@ use Rattle.nv_layout.specs.Smart.{SmartFits}
 use Rattle.nv_layout.specs.declared.error_entry.ErrorEntry.{ErrorEntry}
 use Rattle.nv_command.proofs.RefusalLaws.{is_refusal-refusal_by}
 use Rattle.nv_command.specs.Reply.{IsEntryList}
-use Rattle.nv_model.specs.Logs.{errors_of, log_rows, no_health, smart_of}
+use Rattle.nv_model.specs.Logs.{errors_of, health_of, log_rows, no_health, smart_of, zero_smart}
+use Rattle.nv_model.specs.Ranges.{IsSmart}
+use Rattle.nv_model.specs.declared.smart_base.SmartBase.{SmartBase}
 use Rattle.nv_model.proofs.ManagementLaws.{AllRefuse}
 use Rattle.nv_model.specs.State.{Controller, Namespaces, State}
 use Rattle.nv_model.specs.WellFormed.{IsController}
@@ -31,6 +33,36 @@ entries_fit (e ∷ es) n all = (
       all (suc k) d (omega arith) in later),
 )
 
+-- each number of a health log fits its bits
+health_fits : (base : SmartBase) (refusals : ℕ) → IsSmart base → refusals < 2 ^ 64
+    → SmartFits (health_of base refusals)
+health_fits base refusals s few =
+    let n = s.counters in
+    record {
+      critical_warning = omega (arith, s.critical_warning);
+      temperature = omega (arith, s.temperature);
+      avail_spare = omega (arith, s.avail_spare);
+      spare_thresh = omega (arith, s.spare_thresh);
+      percent_used = omega (arith, s.percent_used);
+      data_units_read = omega (arith, n.data_units_read);
+      data_units_written = omega (arith, n.data_units_written);
+      host_read_commands = omega (arith, n.host_read_commands);
+      host_write_commands = omega (arith, n.host_write_commands);
+      controller_busy_time = omega (arith, n.controller_busy_time);
+      power_cycles = omega (arith, n.power_cycles);
+      power_on_hours = omega (arith, n.power_on_hours);
+      unsafe_shutdowns = omega (arith, n.unsafe_shutdowns);
+      media_errors = omega (arith, n.media_errors);
+      num_err_log_entries = omega (arith, few);
+      warning_temp_time = omega (arith, s.warning_temp_time);
+      critical_comp_time = omega (arith, s.critical_comp_time);
+      sensor_count = s.sensors.0;
+      each_sensor = all_below (2 ^ 16) base.sensors (λ k h. let low = s.sensors.1 k 0 h in omega (arith, low));
+    }
+
+zero_is_smart : IsSmart zero_smart
+zero_is_smart = search rules
+
 module _ (ns : Namespaces) where
   pub errors_fit : (o : Option Controller) → ((x : Controller) → o ≡ Some x → IsController ns x)
       → IsEntryList (option_map_or errors_of o (no_entry ∷ []))
@@ -48,50 +80,7 @@ module _ (ns : Namespaces) where
 
   pub smart_fits : (o : Option Controller) → ((x : Controller) → o ≡ Some x → IsController ns x)
       → SmartFits (option_map_or smart_of o no_health)
-  smart_fits None is = record {
-    critical_warning = lit< tt;
-    temperature = lit< tt;
-    avail_spare = lit< tt;
-    spare_thresh = lit< tt;
-    percent_used = lit< tt;
-    data_units_read = lit< tt;
-    data_units_written = lit< tt;
-    host_read_commands = lit< tt;
-    host_write_commands = lit< tt;
-    controller_busy_time = lit< tt;
-    power_cycles = lit< tt;
-    power_on_hours = lit< tt;
-    unsafe_shutdowns = lit< tt;
-    media_errors = lit< tt;
-    num_err_log_entries = lit< tt;
-    warning_temp_time = lit< tt;
-    critical_comp_time = lit< tt;
-    sensor_count = refl;
-    each_sensor = search rules;
-  }
+  smart_fits None is = health_fits zero_smart 0 zero_is_smart (lit< tt)
   smart_fits (Some x) is =
       let c = is x refl in
-      let s = c.smart in
-      let n = s.counters in
-      record {
-        critical_warning = omega (arith, s.critical_warning);
-        temperature = omega (arith, s.temperature);
-        avail_spare = omega (arith, s.avail_spare);
-        spare_thresh = omega (arith, s.spare_thresh);
-        percent_used = omega (arith, s.percent_used);
-        data_units_read = omega (arith, n.data_units_read);
-        data_units_written = omega (arith, n.data_units_written);
-        host_read_commands = omega (arith, n.host_read_commands);
-        host_write_commands = omega (arith, n.host_write_commands);
-        controller_busy_time = omega (arith, n.controller_busy_time);
-        power_cycles = omega (arith, n.power_cycles);
-        power_on_hours = omega (arith, n.power_on_hours);
-        unsafe_shutdowns = omega (arith, n.unsafe_shutdowns);
-        media_errors = omega (arith, n.media_errors);
-        num_err_log_entries = omega (arith, c.refusals);
-        warning_temp_time = omega (arith, s.warning_temp_time);
-        critical_comp_time = omega (arith, s.critical_comp_time);
-        sensor_count = s.sensors.0;
-        each_sensor = all_below (2 ^ 16) x.smart.sensors
-            (λ k h. let few = s.sensors.1 k 0 h in omega (arith, few));
-      }
+      health_fits x.smart x.refusals c.smart (omega (arith, c.refusals))

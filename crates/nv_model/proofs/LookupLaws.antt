@@ -1,5 +1,5 @@
 -- The commands of `list` are accepted, and change nothing but how many commands a controller took.
-use Rattle.std.proofs.Common.{◌≡◌, ◌∙◌, ℕ, zero, suc, ◌≤◌, arith, ap, subst, refl, Bool, true, List, []}
+use Rattle.std.proofs.Common.{◌≡◌, ◌∙◌, ℕ, zero, suc, ◌≤◌, arith, ap, subst, refl, true, List, []}
 use Rattle.std.proofs.Common.{◌∷◌, Option, Some, None, Ok, is_some}
 use Rattle.std.specs.Prelude.{All, nat_le, ◌&&◌, ◌||◌, ◌==◌, not, slice_get}
 use Rattle.std.specs.Option.{option_map_or}

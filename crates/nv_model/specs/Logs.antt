@@ -15,6 +15,7 @@ use Rattle.nv_model.specs.Limit.{limit_of}
 use Rattle.nv_model.specs.Row.{row}
 use Rattle.nv_model.specs.State.{Controller, State, controller_at}
 use Rattle.nv_model.specs.declared.row.Row.{Row}
+use Rattle.nv_model.specs.declared.smart_base.SmartBase.{SmartBase}
 
 -- ---- refusals
 
@@ -46,51 +47,59 @@ log_rows s c lid n offset dwords =
 abbrev pub errors_of : Controller → List ErrorEntry
 errors_of x = x.log ++ replicate (x.identity.numbers.elpe + 1 - length x.log) no_entry
 
--- its health: what the file gives, and how many commands it refused
-abbrev pub smart_of : Controller → Smart
-smart_of x = record {
-  critical_warning = x.smart.critical_warning;
-  temperature = x.smart.temperature;
-  avail_spare = x.smart.avail_spare;
-  spare_thresh = x.smart.spare_thresh;
-  percent_used = x.smart.percent_used;
-  data_units_read = x.smart.counters.data_units_read;
-  data_units_written = x.smart.counters.data_units_written;
-  host_read_commands = x.smart.counters.host_read_commands;
-  host_write_commands = x.smart.counters.host_write_commands;
-  controller_busy_time = x.smart.counters.controller_busy_time;
-  power_cycles = x.smart.counters.power_cycles;
-  power_on_hours = x.smart.counters.power_on_hours;
-  unsafe_shutdowns = x.smart.counters.unsafe_shutdowns;
-  media_errors = x.smart.counters.media_errors;
-  num_err_log_entries = x.refusals;
-  warning_temp_time = x.smart.warning_temp_time;
-  critical_comp_time = x.smart.critical_comp_time;
-  sensors = x.smart.sensors;
+-- a health log: what the file gives, and how many commands were refused
+abbrev pub health_of : SmartBase → ℕ → Smart
+health_of base refusals = record {
+  critical_warning = base.critical_warning;
+  temperature = base.temperature;
+  avail_spare = base.avail_spare;
+  spare_thresh = base.spare_thresh;
+  percent_used = base.percent_used;
+  data_units_read = base.counters.data_units_read;
+  data_units_written = base.counters.data_units_written;
+  host_read_commands = base.counters.host_read_commands;
+  host_write_commands = base.counters.host_write_commands;
+  controller_busy_time = base.counters.controller_busy_time;
+  power_cycles = base.counters.power_cycles;
+  power_on_hours = base.counters.power_on_hours;
+  unsafe_shutdowns = base.counters.unsafe_shutdowns;
+  media_errors = base.counters.media_errors;
+  num_err_log_entries = refusals;
+  warning_temp_time = base.warning_temp_time;
+  critical_comp_time = base.critical_comp_time;
+  sensors = base.sensors;
 }
 
--- of a controller that isn't there
-abbrev pub no_health : Smart
-no_health = record {
+abbrev pub smart_of : Controller → Smart
+smart_of x = health_of x.smart x.refusals
+
+-- what a file gives that says nothing of it
+abbrev pub zero_smart : SmartBase
+zero_smart = record {
   critical_warning = 0;
   temperature = 0;
   avail_spare = 0;
   spare_thresh = 0;
   percent_used = 0;
-  data_units_read = 0;
-  data_units_written = 0;
-  host_read_commands = 0;
-  host_write_commands = 0;
-  controller_busy_time = 0;
-  power_cycles = 0;
-  power_on_hours = 0;
-  unsafe_shutdowns = 0;
-  media_errors = 0;
-  num_err_log_entries = 0;
+  counters = record {
+    data_units_read = 0;
+    data_units_written = 0;
+    host_read_commands = 0;
+    host_write_commands = 0;
+    controller_busy_time = 0;
+    power_cycles = 0;
+    power_on_hours = 0;
+    unsafe_shutdowns = 0;
+    media_errors = 0;
+  };
   warning_temp_time = 0;
   critical_comp_time = 0;
   sensors = replicate 8 0;
 }
+
+-- of a controller that isn't there
+abbrev pub no_health : Smart
+no_health = health_of zero_smart 0
 
 abbrev pub errors_at : State → ℕ → List ErrorEntry
 errors_at s c = option_map_or errors_of (controller_at s c) (no_entry ∷ [])
