@@ -19,7 +19,7 @@ use Rattle.nv_command.specs.declared.transfer.Transfer.{Transfer}
 use Rattle.nv_command.specs.declared.transfer.Transfer.TheVariants.{FromHost, NoData, ToHost}
 use Rattle.nv_prp.specs.Place.{LieIn, places}
 use Rattle.nv_prp.specs.Transfer.{IsLegal, PrpTransfer, fault_after_prp1, first_fault}
-use Rattle.nv_prp.specs.Transfer.{first_qword_fault, qword_fault, qwords, transfer_places}
+use Rattle.nv_prp.specs.Transfer.{first_qword_fault, most_bytes, qword_fault, qwords, transfer_places}
 use Rattle.nv_prp.specs.declared.error.PrpError.{PrpError}
 use Rattle.nv_bus.specs.Call.{HasRoom, data_places, length_of, places_of, places_unless}
 use Rattle.nv_bus.specs.Call.{prp_status, within}
@@ -94,7 +94,7 @@ some_by_opcode : (r : Result Opcode StatusCode) (e : Sqe) → SomeIf (r >>= (λ 
 some_by_opcode (Ok o) e = some_as o e
 some_by_opcode (Err code) e = tt
 
-room_within : (limit : ℕ) (t : Transfer) → limit ≤ 1048576 → HasSome t → length_of t ≤ limit
+room_within : (limit : ℕ) (t : Transfer) → limit ≤ most_bytes → HasSome t → length_of t ≤ limit
     → HasRoom t
 room_within limit NoData low some few = tt
 room_within limit (ToHost n) low some few = (some, omega arith)
@@ -121,7 +121,7 @@ within_few limit asked few =
     let no : nat_lt limit (length_of asked) ≡ false = grind (arith, nat_tests) in
     ap (λ b. if b then Err InvalidFieldInCommand else Ok asked) no
 
-pub has_room : (limit : ℕ) (e : Sqe) (asked t : Transfer) → limit ≤ 1048576 → transfer_of e ≡ Ok asked
+pub has_room : (limit : ℕ) (e : Sqe) (asked t : Transfer) → limit ≤ most_bytes → transfer_of e ≡ Ok asked
     → within limit asked ≡ Ok t → HasRoom t
 has_room limit e asked t low h w =
     let both = within_limit limit asked t w in

@@ -32,7 +32,7 @@ places_of t = places_unless (prp.first_fault t) (prp.transfer_places t)
 -- a length that a data pointer can have; what the host sends is a page of 4,096 bytes at most
 abbrev pub HasRoom : Transfer → Type 0
 HasRoom NoData = Unit {0}
-HasRoom (ToHost n) = (0 < n) × (n ≤ 1048576)
+HasRoom (ToHost n) = (0 < n) × (n ≤ prp.most_bytes)
 HasRoom (FromHost n) = (0 < n) × (n ≤ 4096)
 
 -- how many bytes a transfer has

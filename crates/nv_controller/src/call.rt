@@ -4,7 +4,7 @@ ghost use Rattle.std.specs.Prelude.{◌≡◌, ◌<◌, ◌≤◌, [], Ok, Err, 
 ghost use Rattle.nv_command.specs.Command.{transfer_by};
 ghost use Rattle.nv_command.specs.Decoding.{command_of};
 ghost use Rattle.nv_prp.specs.Place.{LieIn, places};
-ghost use Rattle.nv_prp.specs.Transfer.{transfer};
+ghost use Rattle.nv_prp.specs.Transfer.{most_bytes, transfer};
 ghost use Rattle.nv_bus.specs.Call.{HasRoom, call_of, data_places, length_of, places_of};
 ghost use Rattle.nv_bus.specs.Call.{within};
 ghost use Rattle.nv_bus.specs.Call.{prp_status, sent_from};
@@ -34,7 +34,7 @@ fn walk_data<M: HostMemory>(
     spans: &mut Spans,
 ) -> Result<(), StatusCode>
     requires some { 0 < len }
-    requires limit { len ≤ 1048576 }
+    requires limit { len ≤ most_bytes }
     ensures found { let bytes = M.bytes mem.now in
         let t = transfer (M.page_len mem.now) bytes entry.now.prp1 entry.now.prp2 len in
         MatchResult result (λ _. places_of t ≡ Ok (places spans.new))
@@ -61,7 +61,7 @@ fn find_data<M: HostMemory>(
         MatchResult result (λ _. found ≡ Ok (places spans.new)) (λ code. found ≡ Err code) }
     ensures inside { OnOk result (LieIn (length (M.bytes mem.now)) spans.new) }
     ensures len { OnOk result (length (places spans.new) ≡ length_of moves) }
-    ensures few { OnOk result (length (places spans.new) ≤ 1048576) }
+    ensures few { OnOk result (length (places spans.new) ≤ most_bytes) }
 {
     match moves {
         Transfer::NoData => {
@@ -112,8 +112,8 @@ fn check_length(moves: Transfer, limit: u64) -> Result<Transfer, StatusCode>
 }
 
 /// The command of an entry, or the status of the first rule that the entry or its data breaks. The
-/// data has at most so many bytes; `entry_data` gets where it lies and what the host sends, and `listed`
-/// the controllers that it lists.
+/// data has at most so many bytes; `entry_data` gets where it lies and what the host sends, and
+/// `listed` the controllers that it lists.
 pub(crate) fn read_call<'a, M: HostMemory>(
     mem: &M,
     entry: &Sqe,
@@ -121,7 +121,7 @@ pub(crate) fn read_call<'a, M: HostMemory>(
     entry_data: &mut EntryData,
     listed: &'a mut CtrlList,
 ) -> Result<Command<'a>, StatusCode>
-    requires { limit ≤ 1048576 }
+    requires { limit ≤ most_bytes }
     ensures found { let found = call_of (M.page_len mem.now) limit (M.bytes mem.now) entry.now in
         MatchResult result
         (λ command. found ≡ Ok (record { command = command; places = places entry_data.new.spans }))
@@ -129,7 +129,7 @@ pub(crate) fn read_call<'a, M: HostMemory>(
     ensures inside { OnOk result (LieIn (length (M.bytes mem.now)) entry_data.new.spans) }
     ensures len { IfOk result
         (λ command. length (places entry_data.new.spans) ≡ length_of (transfer_by command)) }
-    ensures few { OnOk result (length (places entry_data.new.spans) ≤ 1048576) }
+    ensures few { OnOk result (length (places entry_data.new.spans) ≤ most_bytes) }
 {
     let asked = Transfer::of(entry)?;
     let moves = check_length(asked, limit)?;

@@ -5,6 +5,7 @@ ghost use Rattle.nv_layout.specs.Parts.{part};
 ghost use Rattle.nv_command.specs.Command.{transfer_by};
 ghost use Rattle.nv_command.specs.Reply.{FitsRecord, IsReplyTo, data_of, log_of, page_of};
 ghost use Rattle.nv_prp.specs.Place.{LieIn, places, written_at};
+ghost use Rattle.nv_prp.specs.Transfer.{most_bytes};
 ghost use Rattle.nv_model.specs.Refusal.{refusal_of};
 ghost use Rattle.nv_model.specs.Step.{step};
 ghost use Rattle.nv_model.specs.WellFormed.{IsWellFormed};
@@ -83,7 +84,7 @@ fn deliver_log<M: HostMemory>(mem: &mut M, spans: &Spans, reply: &Reply, offset:
     requires inside { LieIn (length (M.bytes mem.old)) spans.now }
     requires len { length (places spans.now) ≡ len }
     requires short { length (log_of reply.now) ≤ 16384 }
-    requires few { len ≤ 1048576 }
+    requires few { len ≤ most_bytes }
     ensures bytes { M.bytes mem.new ≡ written_at (M.bytes mem.old) (places spans.now)
         (part (log_of reply.now) offset len) }
     ensures len { length (M.bytes mem.new) ≡ length (M.bytes mem.old) }
@@ -105,11 +106,11 @@ fn send<M: HostMemory>(
     requires inside { LieIn (length (M.bytes mem.old)) entry_data.old.spans }
     requires to_host { transfer_by command.now ≡ Transfer.ToHost len }
     requires len { length (places entry_data.old.spans) ≡ len }
-    requires few { len ≤ 1048576 }
+    requires few { len ≤ most_bytes }
     requires is_reply { IsReplyTo command.now reply.now }
     requires fits { FitsRecord reply.now }
-    ensures bytes { M.bytes mem.new
-        ≡ written_at (M.bytes mem.old) (places entry_data.old.spans) (data_of command.now reply.now) }
+    ensures bytes { M.bytes mem.new ≡ written_at (M.bytes mem.old) (places entry_data.old.spans)
+        (data_of command.now reply.now) }
     ensures len { length (M.bytes mem.new) ≡ length (M.bytes mem.old) }
     ensures page_len { M.page_len mem.new ≡ M.page_len mem.old }
 {
@@ -125,11 +126,11 @@ fn send<M: HostMemory>(
 fn deliver<M: HostMemory>(mem: &mut M, entry_data: &mut EntryData, command: &Command, reply: &Reply)
     requires inside { LieIn (length (M.bytes mem.old)) entry_data.old.spans }
     requires len { length (places entry_data.old.spans) ≡ length_of (transfer_by command.now) }
-    requires few { length (places entry_data.old.spans) ≤ 1048576 }
+    requires few { length (places entry_data.old.spans) ≤ most_bytes }
     requires is_reply { IsReplyTo command.now reply.now }
     requires fits { FitsRecord reply.now }
-    ensures bytes { M.bytes mem.new
-        ≡ written_at (M.bytes mem.old) (places entry_data.old.spans) (data_of command.now reply.now) }
+    ensures bytes { M.bytes mem.new ≡ written_at (M.bytes mem.old) (places entry_data.old.spans)
+        (data_of command.now reply.now) }
     ensures len { length (M.bytes mem.new) ≡ length (M.bytes mem.old) }
     ensures page_len { M.page_len mem.new ≡ M.page_len mem.old }
 {
@@ -153,7 +154,7 @@ fn execute<M: HostMemory>(
     requires well_formed { IsWellFormed subsystem.old }
     requires inside { LieIn (length (M.bytes mem.old)) entry_data.old.spans }
     requires len { length (places entry_data.old.spans) ≡ length_of (transfer_by command.now) }
-    requires few { length (places entry_data.old.spans) ≤ 1048576 }
+    requires few { length (places entry_data.old.spans) ≤ most_bytes }
     ensures told { result
         ≡ told_by (step (untagged subsystem.old) ctrl command.now origin.cid).answer }
     ensures state { untagged subsystem.new

@@ -9,7 +9,7 @@ ghost use Rattle.nv_subsystem.specs.Tagged.{booked, settled, untagged};
 ghost use Rattle.nv_file.specs.IsFile.{IsFile};
 ghost use Rattle.nv_model.specs.Effect.{effect_of};
 ghost use Rattle.nv_model.specs.Fits.{RepliesFit};
-ghost use Rattle.nv_model.specs.Limit.{limit_of, mdts_of};
+ghost use Rattle.nv_model.specs.Limit.{greatest_limit, limit_of, mdts_of};
 ghost use Rattle.nv_model.specs.Nsid.{is_valid};
 ghost use Rattle.nv_model.specs.Refusal.{refusal_of, rows_of};
 ghost use Rattle.nv_model.specs.Reply.{reply_of};
@@ -134,11 +134,11 @@ impl Subsystem {
 
     /// How many bytes of data a command of a controller has at most. Section "Identify Controller
     /// data structure (CNS 01h)", Maximum Data Transfer Size.
-    #[tactic(auto, using(nv_model::proofs::LimitLaws::greatest_limit))]
+    #[tactic(auto, using(nv_model::proofs::LimitLaws::limit_within))]
     pub fn limit(&self, ctrl: u16) -> u64
         requires { ctrl < length self.now.controllers }
         ensures limit { result ≡ limit_of self.now ctrl }
-        ensures most { result ≤ 1048576 }
+        ensures most { result ≤ greatest_limit }
     {
         4096 * (1 << self.mdts(ctrl))
     }
