@@ -5,13 +5,14 @@ use Rattle.std.proofs.Common.{length-append, option_and_then, option_map}
 use Rattle.std.proofs.lemmas.List.{at_drop_all, at_drop_more}
 use Rattle.std.specs.List.{slice_split}
 use Rattle.clap.specs.Words.{Text}
+use Rattle.nv_layout.specs.CtrlList.{most_cntlids}
 use Rattle.nv_line.specs.ControllerList.{identifiers_in, is_comma, list_in}
 use Rattle.nv_line.specs.Number.{number_in}
 
 -- the identifiers of the first n pieces, before those of the rest
 pub record IsReadTo (pieces : List Text) (ids : List ℕ) (n : ℕ) : Type 0 where
   pub count : length ids ≡ n
-  pub room : n ≤ 2047
+  pub room : n ≤ most_cntlids
   pub rest : identifiers_in pieces ≡ option_map (λ ns. ids ++ ns) (identifiers_in (drop n pieces))
 
 same_option : (o : Option (List ℕ)) → o ≡ option_map (λ ns. [] ++ ns) o
@@ -42,7 +43,7 @@ one_more ids x (Some ns) = ap Some (sym (append_assoc ids (x ∷ []) ns))
 one_more ids x None = refl
 
 pub piece_read : (pieces : List Text) (ids : List ℕ) (n : ℕ) (p : Text) (x : ℕ)
-    → IsReadTo pieces ids n → n < 2047
+    → IsReadTo pieces ids n → n < most_cntlids
     → (n < length pieces) × (p ≡ get_or pieces n p) → number_in 0 65535 p ≡ Some x
     → IsReadTo pieces (ids ++ x ∷ []) (n + 1)
 piece_read pieces ids n p x so room turn number = record {
@@ -56,11 +57,11 @@ piece_read pieces ids n p x so room turn number = record {
 
 -- ---- the three ends
 
-listed : (text : Text) → length (slice_split is_comma text) ≤ 2047
+listed : (text : Text) → length (slice_split is_comma text) ≤ most_cntlids
     → list_in text ≡ identifiers_in (slice_split is_comma text)
 unfolding list_in
 listed text h =
-    let room : nat_le (length (slice_split is_comma text)) 2047 ≡ true = grind (arith, h) in rw room refl
+    let room : nat_le (length (slice_split is_comma text)) most_cntlids ≡ true = grind (arith, h) in rw room refl
 
 pub all_read : (text : Text) (ids : List ℕ) (n : ℕ) → IsReadTo (slice_split is_comma text) ids n
     → length (slice_split is_comma text) ≤ n → Some ids ≡ list_in text
@@ -72,15 +73,15 @@ all_read text ids n so end =
     ∙ ap (option_map (λ ns. ids ++ ns)) (at_drop_all identifiers_in pieces n end)
     ∙ ap Some (append-nil ids))
 
-pub too_many : (text : Text) → 2047 < length (slice_split is_comma text) → None ≡ list_in text
+pub too_many : (text : Text) → most_cntlids < length (slice_split is_comma text) → None ≡ list_in text
 unfolding list_in
 too_many text h =
-    let none : nat_le (length (slice_split is_comma text)) 2047 ≡ false = grind (arith, h) in rw none refl
+    let none : nat_le (length (slice_split is_comma text)) most_cntlids ≡ false = grind (arith, h) in rw none refl
 
 either_none : (text : Text)
     → identifiers_in (slice_split is_comma text) ≡ None → None ≡ list_in text
 unfolding list_in
-either_none text none = elim (nat_le (length (slice_split is_comma text)) 2047) as
+either_none text none = elim (nat_le (length (slice_split is_comma text)) most_cntlids) as
     (λ b. None ≡ (if b then identifiers_in (slice_split is_comma text) else None)) [
       | true ↦ sym none
       | false ↦ refl

@@ -4,7 +4,7 @@ ghost use Rattle.std.specs.Prelude.{◌≡◌};
 ghost use Rattle.nv_line.specs.ControllerList.{list_in};
 
 use crate::number::parse_number;
-use nv_layout::{ControllerIds, CtrlList};
+use nv_layout::{ControllerIds, CtrlList, MOST_CNTLIDS};
 
 /// The identifiers that a text lists: at most 2,047 numbers of 16 bits, with commas between them.
 /// They are put in the place, which is of no account before. Section "Controller List".
@@ -13,7 +13,7 @@ pub(crate) fn parse_list<'a>(text: &str, place: &'a mut CtrlList) -> Option<Cont
 {
     place.clear();
     for piece in text.split(',') {
-        if place.len() == 2047 {
+        if place.len() == MOST_CNTLIDS {
             return None;
         }
         let Some(identifier) = parse_number(piece, 0, u16::MAX as u64) else {

@@ -5,8 +5,8 @@
 //!
 //! `read_line(alloc, b"list-ns /dev/nvme0 -n 2", 1, place)` is `Ok(Line::Request(Request { query,
 //! format }))` where `query` is `Query::One(Question { controller: 0, ask: Ask::Do(Act::Send(
-//! Command::ActiveList { after: 1 })) })` and `format` is `OutputFormat::Normal`; with no controller
-//! it is `Err(LineFault::Device)`.
+//! Command::ActiveList { after: 1 })) })` and `format` is `OutputFormat::Normal`; with no
+//! controller it is `Err(LineFault::Device)`.
 #![tactic(auto)]
 
 mod clap_rule;

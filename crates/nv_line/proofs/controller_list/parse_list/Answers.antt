@@ -7,8 +7,8 @@ use Rattle.nv_line.specs.ControllerList.{is_comma}
 use Rattle.nv_line.proofs.ListReading.{all_read, no_number, piece_read, too_many}
 use Rattle.nv_line.proofs.controller_list.parse_list.Goals as goal
 
-pub returns-then-len-eq2047 : goal.returns-then-len-eq2047
-returns-then-len-eq2047 c =
+pub returns-then-len-eq-MOST_CNTLIDS : goal.returns-then-len-eq-MOST_CNTLIDS
+returns-then-len-eq-MOST_CNTLIDS c =
     let t = YieldsList-turn (YieldsList-from_str_split 44 c.args.text.now (lit< tt) (cc) (cc) (cc))
     c.loop-piece.yielded _ c.loop-piece.yielded_by
     _ _ c.in-Some.piece c.in-Some.is c.next.ensures.steps in
