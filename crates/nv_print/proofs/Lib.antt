@@ -16,3 +16,4 @@ pub mod ShownFacts
 pub mod DeviceLengths
 pub mod Bounds
 pub mod SentenceLengths
+pub mod PresentEntries

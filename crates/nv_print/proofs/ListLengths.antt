@@ -8,6 +8,7 @@ use Rattle.std.proofs.lemmas.List.{length-take}
 use Rattle.serde_json.specs.Data.{Data, array, no_members, number, unsigned}
 use Rattle.serde_json.specs.View.{items_of}
 use Rattle.serde_json.specs.Written.{compact_text}
+use Rattle.nv_layout.specs.NsList.{most_nsids}
 use Rattle.nv_layout.specs.declared.error_entry.ErrorEntry.{ErrorEntry}
 use Rattle.nv_layout.specs.declared.id_ns.IdNs.{IdNs}
 use Rattle.nv_layout.specs.declared.id_ns.Lbaf.{Lbaf}
@@ -47,12 +48,12 @@ nsid_line_length i nsid hi hn = omega (
   length-append (hexadecimal nsid) (10 ∷ []),
 )
 
-pub nsids_text_length : (nsids : List ℕ) → length nsids ≤ 1024 → All (λ n. n < 2 ^ 64) nsids
+pub nsids_text_length : (nsids : List ℕ) → length nsids ≤ most_nsids → All (λ n. n < 2 ^ 64) nsids
     → length (nsids_text nsids) ≤ 65536
 nsids_text_length nsids few fit =
     omega (arith, lines_length nsid_line (λ n. n < 2 ^ 64) (2 ^ 64) 42 nsid_line_length 0 nsids (omega arith) fit)
 
-pub nsids_json_length : (nsids : List ℕ) → length nsids ≤ 1024 → All (λ n. n < 2 ^ 64) nsids
+pub nsids_json_length : (nsids : List ℕ) → length nsids ≤ most_nsids → All (λ n. n < 2 ^ 64) nsids
     → length (compact_text (nsids_data nsids)) ≤ 65000
 nsids_json_length nsids few fit =
     omega (

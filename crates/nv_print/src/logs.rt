@@ -39,7 +39,7 @@ pub(crate) fn entries_text(alloc: Global, entries: &ErrorEntries<'_>) -> Result<
     ensures { IfOk result (λ t. string_bytes t ≡ entries_text entries.now) }
 {
     let mut text = String::new(alloc);
-    for index in 0..entries.len() {
+    for index in 0..entries.present() {
         push_entry(&mut text, index, &entries.get(index))?;
     }
     Ok(text)
@@ -50,7 +50,7 @@ fn errors_count(entries: &ErrorEntries<'_>) -> usize
     ensures { result ≡ length (filter holds_error entries.now) }
 {
     let mut count = 0;
-    for index in 0..entries.len() {
+    for index in 0..entries.present() {
         if holds_error(&entries.get(index)) {
             count += 1;
         }
@@ -82,7 +82,7 @@ pub(crate) fn send_entries<S: Serializer>(
     out.begin_map(Some(1))?;
     out.key("errors")?;
     out.begin_seq(Some(errors_count(entries)))?;
-    for index in 0..entries.len() {
+    for index in 0..entries.present() {
         send_error(&entries.get(index), alloc, out)?;
     }
     out.end_seq()?;

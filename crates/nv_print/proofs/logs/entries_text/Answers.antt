@@ -1,7 +1,8 @@
-use Rattle.std.proofs.Common.{◌∙◌, ◌++◌, ◌<◌, ap, get_or, string_bytes, subst, sym}
+use Rattle.std.proofs.Common.{◌∙◌, ◌++◌, ap, arith, get_or, string_bytes, sym}
 use Rattle.nv_layout.specs.ErrorEntry.{no_entry}
 use Rattle.nv_print.specs.Logs.{entry_text}
 use Rattle.nv_print.proofs.NumberedLines.{lines_of_next}
+use Rattle.nv_print.proofs.PresentEntries.{text_present}
 use Rattle.nv_print.proofs.logs.entries_text.Goals as goal
 
 pub loop-index-preserved : goal.loop-index-preserved
@@ -12,4 +13,10 @@ loop-index-preserved c =
     ∙ ap (λ e. string_bytes c.loop-index.text ++ entry_text i e) c.get.ensures
     ∙ ap (λ t. t ++ entry_text i (get_or entries i no_entry)) c.loop-index.invariant
     ∙ sym (lines_of_next entry_text entries i no_entry
-    (subst (λ n. i < n) c.len-index-end.ensures.count c.loop-index-test.true))
+    (omega (arith, c.present-index-end.ensures.within)))
+
+pub returns : goal.returns
+returns c =
+    c.loop-index.invariant
+    ∙ text_present c.args.entries.now c.present-index-end.result c.present-index-end.ensures.past c.loop-index.index
+    (omega arith)
