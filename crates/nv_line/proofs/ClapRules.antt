@@ -1,12 +1,20 @@
 -- What clap's contract says of each command.
-use Rattle.std.proofs.Common.{◌≡◌, ◌⊎◌, ◌∙◌, ap, refl, sym, inl, inr, rules, true, false, List, [], ◌∷◌, Ok, Err}
+use Rattle.std.proofs.Common.{◌≡◌, ◌⊎◌, ◌∙◌, ap, ap₂, refl, subst, sym, inl, inr, rules, true, false, Bool, List}
+use Rattle.std.proofs.Common.{[], ◌∷◌, ◌++◌, All, Result, Ok, Err, drop, if◌then◌else◌}
+use Rattle.std.proofs.lemmas.List.Elements.{All-push}
 use Rattle.clap.proofs.WalkLemmas.{both}
-use Rattle.clap.specs.Walk.{is_empty}
-use Rattle.clap.specs.Words.{App, IsAmong, Kinds, Row, Text, fault_of, is_simple, is_simple_and_free, matches_of}
+use Rattle.clap.specs.Faults.{built_fault}
+use Rattle.clap.specs.Simple.{names_of}
+use Rattle.clap.specs.Walk.{is_empty, nothing_held, rows_after}
+use Rattle.clap.specs.declared.builder.command.Command.{Command}
+use Rattle.clap.specs.Words.{App, BuildsOrBreaks, IsAmong, Kinds, Row, Text, app_of, built, fault_of, is_broken}
+use Rattle.clap.specs.Words.{is_buildable, is_simple, is_simple_and_free, matches_of}
 use Rattle.clap.specs.declared.error.kind.ErrorKind.{ErrorKind}
 use Rattle.clap.specs.declared.error.kind.ErrorKind.TheVariants as kind
 use Rattle.nv_line.specs.LineFault.{IsUnlessMemory}
-use Rattle.nv_line.specs.ClapRule.{app_for, clap_rows, is_taken, rows_of_words}
+use Rattle.nv_line.specs.ClapRule.{IsAppOf, IsMade, app_for, clap_rows, is_taken, rows_of_words}
+use Rattle.nv_line.specs.declared.clap_rule.MadeCommand.{MadeCommand}
+use Rattle.nv_line.specs.declared.fault.LineFault.{LineFault}
 use Rattle.nv_line.specs.declared.fault.LineFault.TheVariants as fault
 use Rattle.nv_line.specs.declared.verb.Verb.{Verb}
 use Rattle.nv_line.specs.declared.verb.Verb.TheVariants.{Of, List as ListAll}
@@ -14,27 +22,79 @@ use Rattle.nv_line.specs.declared.verb.DeviceVerb.TheVariants.{IdCtrl, IdNs, Lis
 use Rattle.nv_line.specs.declared.verb.DeviceVerb.TheVariants.{AttachNs, DetachNs, DeleteNs, Format}
 use Rattle.nv_line.specs.declared.verb.DeviceVerb.TheVariants.{GetFeature, SetFeature, SmartLog, ErrorLog, Reset}
 
-each_is_simple : (v : Verb) → is_simple_and_free (app_for v) ≡ true
-each_is_simple (Of IdCtrl) = refl
-each_is_simple (Of IdNs) = refl
-each_is_simple (Of ListNs) = refl
-each_is_simple (Of CreateNs) = refl
-each_is_simple (Of AttachNs) = refl
-each_is_simple (Of DetachNs) = refl
-each_is_simple (Of DeleteNs) = refl
-each_is_simple (Of Format) = refl
-each_is_simple (Of GetFeature) = refl
-each_is_simple (Of SetFeature) = refl
-each_is_simple (Of SmartLog) = refl
-each_is_simple (Of ErrorLog) = refl
-each_is_simple (Of Reset) = refl
-each_is_simple ListAll = refl
+-- an application that clap builds at its first use, and takes as it is at each later one
+record IsReusable (p : App) : Type 0 where
+  simple : is_simple_and_free p ≡ true
+  still : is_simple_and_free (built p) ≡ true
+  once : (built p).top.is_built ≡ true
+  words : (built p).top.no_binary_name ≡ p.top.no_binary_name
 
-pub simple_as : (v : Verb) (a : App) → a ≡ app_for v → is_simple_and_free a ≡ true
-simple_as v a e = ap is_simple_and_free e ∙ each_is_simple v
+each_is_reusable : (v : Verb) → IsReusable (app_for v)
+each_is_reusable (Of IdCtrl) = record { simple = refl; still = refl; once = refl; words = refl }
+each_is_reusable (Of IdNs) = record { simple = refl; still = refl; once = refl; words = refl }
+each_is_reusable (Of ListNs) = record { simple = refl; still = refl; once = refl; words = refl }
+each_is_reusable (Of CreateNs) = record { simple = refl; still = refl; once = refl; words = refl }
+each_is_reusable (Of AttachNs) = record { simple = refl; still = refl; once = refl; words = refl }
+each_is_reusable (Of DetachNs) = record { simple = refl; still = refl; once = refl; words = refl }
+each_is_reusable (Of DeleteNs) = record { simple = refl; still = refl; once = refl; words = refl }
+each_is_reusable (Of Format) = record { simple = refl; still = refl; once = refl; words = refl }
+each_is_reusable (Of GetFeature) = record { simple = refl; still = refl; once = refl; words = refl }
+each_is_reusable (Of SetFeature) = record { simple = refl; still = refl; once = refl; words = refl }
+each_is_reusable (Of SmartLog) = record { simple = refl; still = refl; once = refl; words = refl }
+each_is_reusable (Of ErrorLog) = record { simple = refl; still = refl; once = refl; words = refl }
+each_is_reusable (Of Reset) = record { simple = refl; still = refl; once = refl; words = refl }
+each_is_reusable ListAll = record { simple = refl; still = refl; once = refl; words = refl }
 
-pub matches_as : (v : Verb) (a : App) → a ≡ app_for v → is_simple a ≡ true
+-- an application that answers as p does
+pub record AnswersAs (p a : App) : Type 0 where
+  pub simple : is_simple_and_free a ≡ true
+  pub faults : (ws : List Text) → fault_of a ws ≡ fault_of p ws
+  pub matches : (ws : List Text) → matches_of a ws ≡ matches_of p ws
+  pub built_as : built a ≡ built p
+
+answers_itself : (p : App) → is_simple_and_free p ≡ true → AnswersAs p p
+answers_itself p simple = record {
+  simple = simple;
+  faults = λ ws. refl;
+  matches = λ ws. refl;
+  built_as = refl;
+}
+
+built_again : (p : App) → (built p).top.is_built ≡ true → built (built p) ≡ built p
+built_again p h = rw h refl
+
+answers_built : (p : App) → IsReusable p → AnswersAs p (built p)
+answers_built p reusable =
+    let again = built_again p reusable.once in
+    let words = λ (ws : List Text). ap (λ (n : Bool). if n then ws else drop 1 ws) reusable.words in
+    record {
+      simple = reusable.still;
+      faults = λ ws. ap₂ (λ (a : App) (w : List Text). built_fault a nothing_held w) again (words ws);
+      matches = λ ws. ap₂ (λ (a : App) (w : List Text). rows_after a.top.rules (names_of a) w) again (words ws);
+      built_as = again;
+    }
+
+pub answers_as : (v : Verb) (a : App) → IsAppOf v a → AnswersAs (app_for v) a
+answers_as v a (inl e) =
+    subst (AnswersAs (app_for v)) (sym e) (answers_itself (app_for v) (each_is_reusable v).simple)
+answers_as v a (inr e) = subst (AnswersAs (app_for v)) (sym e) (answers_built (app_for v) (each_is_reusable v))
+
+pub simple_as : (v : Verb) (a : App) → IsAppOf v a → is_simple_and_free a ≡ true
+simple_as v a e = (answers_as v a e).simple
+
+pub matches_as : (v : Verb) (a : App) → IsAppOf v a → is_simple a ≡ true
 matches_as v a e = (both _ _ (simple_as v a e)).0
+
+buildable_as : (v : Verb) (a : App) → IsAppOf v a → is_buildable a ≡ true
+buildable_as v a e = (both _ _ (matches_as v a e)).0
+
+-- a command stays one of its word where it isn't broken
+pub stays_made : (v : Verb) (old new : Command) → IsAppOf v (app_of old) → BuildsOrBreaks old new
+    → (is_broken new ≡ true) ⊎ IsAppOf v (app_of new)
+stays_made v old new e (inl broken) = inl broken
+stays_made v old new e (inr (builds, keeps, inl same)) = inr (subst (IsAppOf v) (sym same) e)
+stays_made v old new e (inr (builds, keeps, inr grows)) =
+    inr (inr (grows (buildable_as v (app_of old) e) ∙ (answers_as v (app_of old) e).built_as))
 
 none_taken : (ks : Kinds) → ks ≡ [] → is_empty ks ≡ true
 none_taken ks e = ap (λ (x : Kinds). is_empty x) e
@@ -62,16 +122,27 @@ taken_rows v ws h = rw h refl
 refused_rows : (v : Verb) (ws : List Text) → is_taken v ws ≡ false → rows_of_words v ws ≡ Err fault.Usage
 refused_rows v ws h = rw h refl
 
-pub taken : (v : Verb) (ws : List Text) (a : App) (rows : List Row) → a ≡ app_for v
+pub taken : (v : Verb) (ws : List Text) (a : App) (rows : List Row) → IsAppOf v a
     → fault_of a ws ≡ [] → rows ≡ matches_of a ws → IsUnlessMemory (rows_of_words v ws) (Ok rows)
 unfolding is_taken clap_rows
 taken v ws a rows e f r =
-    let found = without_fault (app_for v) a ws rows e f r in
+    let same = answers_as v a e in
+    let found = without_fault (app_for v) (app_for v) ws rows refl (sym (same.faults ws) ∙ f)
+    (r ∙ same.matches ws) in
     inr (ap Ok found.1 ∙ sym (taken_rows v ws found.0))
 
-pub refused : (v : Verb) (ws : List Text) (a : App) (k : ErrorKind) → a ≡ app_for v
+pub refused : (v : Verb) (ws : List Text) (a : App) (k : ErrorKind) → IsAppOf v a
     → (k ≡ kind.OutOfMemory) ⊎ IsAmong k (fault_of a ws) → (k ≡ kind.OutOfMemory → ⊥)
     → IsUnlessMemory {T = List Row} (rows_of_words v ws) (Err fault.Usage)
 unfolding is_taken
 refused v ws a k e (inl m) n = absurd (n m)
-refused v ws a k e (inr among) n = inr (sym (refused_rows v ws (with_fault (app_for v) a ws k e among)))
+refused v ws a k e (inr among) n =
+    let told = subst (IsAmong k) ((answers_as v a e).faults ws) among in
+    inr (sym (refused_rows v ws (with_fault (app_for v) (app_for v) ws k refl told)))
+
+pub made_more : (xs : List MadeCommand) (x : MadeCommand) → All IsMade xs → IsMade x → All IsMade (xs ++ x ∷ [])
+made_more xs x h m = All-push IsMade xs x h m
+
+pub rows_by : (v w : Verb) (ws : List Text) (r : Result (List Row) LineFault) → v ≡ w
+    → IsUnlessMemory (rows_of_words v ws) r → IsUnlessMemory (rows_of_words w ws) r
+rows_by v w ws r e h = subst (λ x. IsUnlessMemory (rows_of_words x ws) r) e h

@@ -1,14 +1,15 @@
 -- The commands as clap is told of them, and what it finds in a command line.
-use Rattle.std.specs.Prelude.{ℕ, Bool, true, false, List, fold, Some, Result, Ok, Err, codes}
+use Rattle.std.specs.Prelude.{◌≡◌, ◌⊎◌, ℕ, Bool, true, false, List, fold, Some, Result, Ok, Err, codes}
 use Rattle.std.specs.Prelude.{if◌then◌else◌}
-use Rattle.clap.specs.Words.{App, Row, Rule, Text, fault_of, matches_of, new_app, new_rule}
-use Rattle.clap.specs.Words.{with_rule}
+use Rattle.clap.specs.Words.{App, Row, Rule, Text, app_of, built, fault_of, is_broken, matches_of}
+use Rattle.clap.specs.Words.{new_app, new_rule, with_rule}
 use Rattle.clap.specs.Walk.{is_empty}
 use Rattle.clap.specs.declared.builder.ArgAction.{ArgAction}
 use Rattle.clap.specs.declared.builder.ArgAction.TheVariants.{Set, SetTrue}
 use Rattle.nv_line.specs.NumberOption.{is_required}
 use Rattle.nv_line.specs.OptionName.{name_of}
 use Rattle.nv_line.specs.Verb.{options_of, word_of}
+use Rattle.nv_line.specs.declared.clap_rule.MadeCommand.{MadeCommand}
 use Rattle.nv_line.specs.declared.fault.LineFault.{LineFault}
 use Rattle.nv_line.specs.declared.fault.LineFault.TheVariants.{Usage}
 use Rattle.nv_line.specs.declared.option.CommandOption.{CommandOption}
@@ -52,6 +53,14 @@ with_options app options = fold (λ a o. with_rule a (option_rule o)) app option
 
 abbrev pub app_for : Verb → App
 app_for v = with_options (bare_app v) (options_of v)
+
+-- what clap was told of a command word, before its first use or after
+abbrev pub IsAppOf : Verb → App → Type 0
+IsAppOf v a = (a ≡ app_for v) ⊎ (a ≡ built (app_for v))
+
+-- memory was refused, and will be from then on, or clap was told of the word
+abbrev pub IsMade : MadeCommand → Type 0
+IsMade c = (is_broken c.command ≡ true) ⊎ IsAppOf c.verb (app_of c.command)
 
 -- clap finds no fault in the words, of which the first is the command word
 unfoldable pub is_taken : Verb → List Text → Bool

@@ -2,7 +2,8 @@
 
 ghost use Rattle.std.specs.Prelude.{◌≡◌, IfOk, map, option_map, false};
 ghost use Rattle.clap.specs.Words.{app_of, first_of, found_of, rows_of, rule_of};
-ghost use Rattle.nv_line.specs.ClapRule.{app_for, bare_app, option_rule, rows_of_words, rule_for};
+ghost use Rattle.nv_line.specs.ClapRule.{IsMade, app_for, bare_app, option_rule, rows_of_words};
+ghost use Rattle.nv_line.specs.ClapRule.{rule_for};
 ghost use Rattle.nv_line.specs.LineFault.{IsUnlessMemory, ok_map};
 
 use crate::fault::LineFault;
@@ -69,22 +70,38 @@ fn clap_command<'a>(alloc: Global, verb: Verb) -> Result<Command<'a>, AllocError
     Ok(command)
 }
 
-/// What `clap` finds in the words, of which the first is the command word.
-pub(crate) fn clap_matches<'a>(
-    alloc: Global,
-    verb: Verb,
-    words: &'a [&'a str],
-) -> Result<ArgMatches<'a>, LineFault>
-    ensures { IsUnlessMemory (rows_of_words verb (map (λ w. w.now) words.entry.now))
-        (ok_map (λ m. rows_of (found_of m)) result) }
-{
-    let command = clap_command(alloc, verb)?;
-    match command.try_get_matches_from(words) {
-        Ok(matches) => Ok(matches),
-        Err(error) => match error.kind() {
-            ErrorKind::OutOfMemory => Err(LineFault::Memory),
-            _ => Err(LineFault::Usage),
-        },
+/// The `clap` command of a command word, which can be asked again and again.
+#[derive(Drop)]
+pub struct MadeCommand<'a> {
+    pub verb: Verb,
+    command: Command<'a>,
+}
+
+impl<'a> MadeCommand<'a> {
+    pub(crate) fn new(alloc: Global, verb: Verb) -> Result<MadeCommand<'a>, AllocError>
+        ensures verb { IfOk result (λ c. c.verb ≡ verb) }
+        ensures made { IfOk result IsMade }
+    {
+        let command = clap_command(alloc, verb)?;
+        Ok(MadeCommand { verb, command })
+    }
+
+    /// What `clap` finds in the words, of which the first is the command word. Once memory was
+    /// refused it is refused from then on.
+    pub(crate) fn matches(&mut self, words: &'a [&'a str]) -> Result<ArgMatches<'a>, LineFault>
+        requires made { IsMade self.old }
+        ensures value { IsUnlessMemory
+            (rows_of_words self.old.verb (map (λ w. w.now) words.entry.now))
+            (ok_map (λ m. rows_of (found_of m)) result) }
+        ensures made { IsMade self.new }
+    {
+        match self.command.try_get_matches_from_mut(words) {
+            Ok(matches) => Ok(matches),
+            Err(error) => match error.kind() {
+                ErrorKind::OutOfMemory => Err(LineFault::Memory),
+                _ => Err(LineFault::Usage),
+            },
+        }
     }
 }
 

@@ -17,7 +17,9 @@ mod features;
 mod format;
 mod identify;
 mod line;
+mod line_reader;
 mod logs;
+mod made_commands;
 mod management;
 mod number;
 mod option;
@@ -29,6 +31,7 @@ mod word;
 
 pub use fault::LineFault;
 pub use line::{LINE_LIMIT, Line, read_line};
+pub use line_reader::LineReader;
 pub use number::parse_number;
 pub use nv_layout::CtrlList;
 pub use option::OptionName;

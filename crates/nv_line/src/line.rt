@@ -5,8 +5,9 @@ ghost use Rattle.nv_line.specs.Line.{IsKnown, reading};
 ghost use Rattle.nv_line.specs.LineFault.{IsUnlessMemory};
 
 use crate::fault::LineFault;
-use crate::request::{Request, read_request};
-use crate::word::{is_skipped_line, split_words, without_program};
+use crate::line_reader::LineReader;
+use crate::request::Request;
+use bumpalo::Bump;
 use nv_layout::CtrlList;
 use std::alloc::Global;
 
@@ -35,16 +36,6 @@ pub fn read_line<'a>(
     ensures exact { IsUnlessMemory (reading line.now controllers) result }
     ensures known { IfOk result (IsKnown controllers) }
 {
-    if line.len() > LINE_LIMIT {
-        return Err(LineFault::TooLong);
-    }
-    if is_skipped_line(line) {
-        return Ok(Line::Skipped);
-    }
-    let Ok(text) = str::from_utf8(line) else {
-        return Err(LineFault::NotText);
-    };
-    let words = split_words(alloc, text)?;
-    let request = read_request(alloc, without_program(words.as_slice()), controllers, place)?;
-    Ok(Line::Request(request))
+    let room = Bump::new(alloc);
+    LineReader::new(alloc, &room).read(line, controllers, place)
 }

@@ -6,13 +6,14 @@ ghost use Rattle.nv_line.specs.Ask.{IsAskable};
 ghost use Rattle.nv_line.specs.LineFault.{IsUnlessMemory};
 ghost use Rattle.nv_line.specs.Request.{IsQueryKnown, ask_of, device_in, query_of, request_of};
 
-use crate::clap_rule::{clap_matches, text_of};
+use crate::clap_rule::text_of;
 use crate::device::{Device, read_device};
 use crate::fault::LineFault;
 use crate::features::{get_feature, set_feature};
 use crate::format::format;
 use crate::identify::{id_ns, list_ns};
 use crate::logs::{error_log, smart_log};
+use crate::made_commands::MadeCommands;
 use crate::management::{attachment, create_ns, delete_ns};
 use crate::option_value::read_format;
 use crate::output_format::OutputFormat;
@@ -20,7 +21,6 @@ use crate::verb::{DeviceVerb, OUTPUT_FORMAT, Verb};
 use clap::ArgMatches;
 use nv_command::Command;
 use nv_layout::CtrlList;
-use std::alloc::Global;
 
 /// What is done at a controller.
 #[derive(Debug, Drop, PartialEq, Eq)]
@@ -128,7 +128,7 @@ fn read_query<'a>(
 /// What the words of a command line ask for. Listed controllers are put in the place, which is of
 /// no account before.
 pub(crate) fn read_request<'w, 'a>(
-    alloc: Global,
+    commands: &mut MadeCommands<'w>,
     words: &'w [&'w str],
     controllers: u16,
     place: &'a mut CtrlList,
@@ -140,7 +140,7 @@ pub(crate) fn read_request<'w, 'a>(
         return Err(LineFault::Usage);
     }
     let verb = Verb::of(words[0]).ok_or(LineFault::Usage)?;
-    let matches = clap_matches(alloc, verb, words)?;
+    let matches = commands.matches(verb, words)?;
     let format = read_format(&matches, OUTPUT_FORMAT)?;
     let query = read_query(&matches, verb, controllers, place)?;
     Ok(Request { query, format })

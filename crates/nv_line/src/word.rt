@@ -3,7 +3,8 @@
 ghost use Rattle.std.specs.Prelude.{◌≡◌, IfOk, map};
 ghost use Rattle.nv_line.specs.Word.{is_skipped, without_nvme, words_of};
 
-use std::alloc::{AllocError, Global};
+use bumpalo::Bump;
+use std::alloc::AllocError;
 
 /// Whether a line is blank, or begins with # after its spaces and tabs.
 pub(crate) fn is_skipped_line(line: &[u8]) -> bool
@@ -15,14 +16,17 @@ pub(crate) fn is_skipped_line(line: &[u8]) -> bool
     }
 }
 
-/// The words of a line, between spaces and tabs.
-pub(crate) fn split_words<'a>(alloc: Global, text: &'a str) -> Result<Vec<&'a str>, AllocError>
+/// The words of a line, between spaces and tabs, in the room.
+pub(crate) fn split_words<'a>(
+    room: &'a Bump,
+    text: &'a str,
+) -> Result<Vec<&'a str, &'a Bump>, AllocError>
     ensures { IfOk result (λ v. map (λ w. w.now) v.items ≡ words_of text.now) }
 {
     text.split(' ')
         .flat_map(|part| part.split('\t'))
         .filter(|word| !word.is_empty())
-        .collect(alloc)
+        .collect(room)
 }
 
 /// The words without a first word `nvme`.

@@ -4,7 +4,7 @@ use Rattle.std.proofs.Common.{sym, ap, subst, ◌∙◌, append_assoc, append-ni
 use Rattle.std.proofs.Math.Seq.{take-append-add}
 use Rattle.std.proofs.lemmas.Bool.Decides.{nat_tests}
 use Rattle.std.proofs.lemmas.List.{get_or-append-add, get_or-take, length-append, length-take-le}
-use Rattle.std.specs.Prelude.{Option, Some, None}
+use Rattle.std.specs.Prelude.{Option, Some}
 use Rattle.memchr.specs.Find.{IsFirstByte, is_byte}
 use Rattle.nv_model.specs.State.{State}
 use Rattle.nv_script.specs.Cuts.{IsCutIn, Left}

@@ -1,7 +1,7 @@
 -- What a new driver and its commands make of serials and register banks.
 use Rattle.std.proofs.Common.{◌≡◌, ◌∙◌, ℕ, ◌+◌, ◌<◌, zero, suc, arith, zero-add, List, [], ◌∷◌, ◌++◌, ap, sym, subst}
-use Rattle.std.proofs.Common.{refl, true, false, length, map, get_or, set, Result, Ok}
-use Rattle.std.specs.Prelude.{All, replicate}
+use Rattle.std.proofs.Common.{refl, true, length, map, get_or, set, Result, Ok}
+use Rattle.std.specs.Prelude.{replicate}
 use Rattle.std.proofs.lemmas.List.{get_or-map, length-map, length-replicate, length-set, map-append, map-set}
 use Rattle.std.proofs.lemmas.List.{replicate_more}
 use Rattle.std.proofs.lemmas.List.FromFn.{map-range_with_len_more}
@@ -10,13 +10,12 @@ use Rattle.nv_command.specs.Logs.{answer_received}
 use Rattle.nv_command.specs.declared.reply.Reply.{Reply}
 use Rattle.nv_model.specs.Reset.{reset}
 use Rattle.nv_model.specs.Step.{next_serial, step}
-use Rattle.nv_model.specs.State.{State}
 use Rattle.nv_bus.specs.Bus.{BusValue, enabled_in}
 use Rattle.nv_driver.specs.Driver.{after_command, after_reset, pair_at, new_driver, no_pair}
 use Rattle.nv_driver.specs.Exchange.{after_one}
 use Rattle.nv_driver.specs.QueuePair.{QueuePair, idle_bank, renewed_pair}
 use Rattle.nv_driver.specs.Layout.{pair_of, pairs_of}
-use Rattle.nv_driver.specs.Registers.{mps_of, banks_of}
+use Rattle.nv_driver.specs.Registers.{mps_of}
 use Rattle.nv_driver.specs.Settled.{DriverValue}
 use Rattle.nv_driver.specs.declared.geometry.Geometry.{Geometry}
 use Rattle.nv_command.specs.declared.command.Command.{Command}

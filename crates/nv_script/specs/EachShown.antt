@@ -1,5 +1,5 @@
 -- What is accepted is shown.
-use Rattle.std.specs.Prelude.{◌≡◌, ℕ, List, [], ◌∷◌, None, Ok, IsSome, flat_map, length, map}
+use Rattle.std.specs.Prelude.{◌≡◌, ℕ, List, None, Ok, IsSome, flat_map, length, map}
 use Rattle.std.specs.List.{range_with_len}
 use Rattle.nv_bits.specs.Numbers.{above}
 use Rattle.nv_line.specs.declared.request.Query.{Query}

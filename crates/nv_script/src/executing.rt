@@ -16,7 +16,7 @@ use crate::performing::{Stop, perform};
 use crate::session::Session;
 use crate::streams::Sink;
 use nv_bus::Bus;
-use nv_line::{CtrlList, Line, LineFault, read_line};
+use nv_line::{CtrlList, Line, LineFault, LineReader};
 use nv_print::{Fault, FaultCause, message};
 use std::alloc::{AllocError, Global};
 
@@ -57,7 +57,7 @@ fn print<S: Sink>(sink: &mut S, text: Result<String, AllocError>, fault: Cut) ->
 
 /// What a line says, as far as there was room for it. Listed controllers are put in the place.
 fn read_buffer<'a>(
-    alloc: Global,
+    reader: &mut LineReader<'_>,
     line: Option<&[u8]>,
     controllers: u16,
     place: &'a mut CtrlList,
@@ -68,7 +68,7 @@ fn read_buffer<'a>(
 {
     match line {
         None => Err(LineFault::TooLong),
-        Some(line) => read_line(alloc, line, controllers, place),
+        Some(line) => reader.read(line, controllers, place),
     }
 }
 
@@ -79,6 +79,7 @@ pub(crate) fn execute_line<B: Bus, O: Sink, M: Sink>(
     session: &mut Session,
     out: &mut O,
     messages: &mut M,
+    reader: &mut LineReader<'_>,
     line: Option<&[u8]>,
 ) -> Result<(), Cut>
     requires out_ready { (O.state out.old).has_failed ≡ false }
@@ -100,7 +101,7 @@ pub(crate) fn execute_line<B: Bus, O: Sink, M: Sink>(
     ensures number { session.new.number ≡ session.old.number + 1 }
 {
     session.number += 1;
-    let said = match read_buffer(alloc, line, bus.controllers(), &mut session.listed) {
+    let said = match read_buffer(reader, line, bus.controllers(), &mut session.listed) {
         Ok(said) => said,
         Err(fault) => match fault {
             LineFault::Memory => return Err(Cut::Memory),

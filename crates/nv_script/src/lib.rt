@@ -18,8 +18,8 @@ pub use ends::RunEnd;
 pub use in_order::{Held, OverHeld, SinkAfter, SourceAfter};
 pub use nv_driver::{Geometry, GeometryField};
 pub use nv_line::{
-    Act, Ask, CtrlList, LINE_LIMIT, Line, LineFault, OptionName, OutputFormat, Query, Question,
-    Request, parse_number, read_line,
+    Act, Ask, CtrlList, LINE_LIMIT, Line, LineFault, LineReader, OptionName, OutputFormat, Query,
+    Question, Request, parse_number, read_line,
 };
 pub use retrying::Retrying;
 pub use running::{READ_LIMIT, run, run_within};

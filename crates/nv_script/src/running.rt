@@ -18,9 +18,11 @@ use crate::executing::execute_line;
 use crate::line_buffer::LineBuffer;
 use crate::session::Session;
 use crate::streams::{READ_SIZE, Sink, Source};
+use bumpalo::Bump;
 use memchr::memchr;
 use nv_bus::Bus;
 use nv_driver::Geometry;
+use nv_line::LineReader;
 use std::alloc::Global;
 
 /// Executes the lines that a piece of a script ends, and holds what follows its last newline.
@@ -50,10 +52,12 @@ fn feed<B: Bus, O: Sink, M: Sink>(
     ensures linked { IsLinked (B.meaning bus.new) session.new.driver }
     ensures number { OnOk result (session.new.number ≤ session.old.number + length piece.now) }
 {
+    let room = Bump::new(alloc);
+    let mut reader = LineReader::new(alloc, &room);
     let mut rest = piece;
     while let Some(end) = memchr(b'\n', rest) {
         line.extend(&rest[..end]);
-        execute_line(alloc, bus, session, out, messages, line.line())?;
+        execute_line(alloc, bus, session, out, messages, &mut reader, line.line())?;
         line.clear();
         rest = &rest[end + 1..];
     }
@@ -86,8 +90,10 @@ fn finish<B: Bus, O: Sink, M: Sink>(
         (O.state out.new).has_failed (M.state messages.new).has_failed }
     ensures linked { IsLinked (B.meaning bus.new) session.new.driver }
 {
+    let room = Bump::new(alloc);
+    let mut reader = LineReader::new(alloc, &room);
     if !line.is_empty() {
-        execute_line(alloc, bus, session, out, messages, line.line())?;
+        execute_line(alloc, bus, session, out, messages, &mut reader, line.line())?;
     }
     Ok(session.status)
 }

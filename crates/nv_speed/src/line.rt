@@ -7,9 +7,10 @@ use crate::line_kind::{LineKind, MOST_COMMANDS};
 use crate::line_times::{LINES, LineTimes};
 use crate::machines::{ORIGIN, demo, machine_of};
 use crate::script_run::{Written, time_run};
+use bumpalo::Bump;
 use nv_command::{Command, ReplyRoom};
 use nv_driver::{AnswerSlot, Driver, Geometry};
-use nv_script::{CtrlList, read_line};
+use nv_script::{CtrlList, LineReader};
 use std::io::{self, ErrorKind};
 use std::time::{Duration, Instant};
 
@@ -64,13 +65,15 @@ fn time_lines(
     time_run(rt, subsystem, geometry, script)
 }
 
-/// What it takes to read a line so many times.
+/// What it takes a reader to read a line so many times.
 fn time_readings(rt: &HostRuntime, line: &str) -> io::Result<Duration> {
     let line = line.trim_end().as_bytes();
+    let room = Bump::new(rt.alloc());
+    let mut reader = LineReader::new(rt.alloc(), &room);
     let mut place = CtrlList::new();
     let start = Instant::now(rt)?;
     for round in 0..LINES {
-        let _ = read_line(rt.alloc(), line, CONTROLLERS, &mut place);
+        let _ = reader.read(line, CONTROLLERS, &mut place);
     }
     start.elapsed(rt)
 }

@@ -13,7 +13,7 @@ pub struct LineTimes {
     pub run: Duration,
     /// A run of no line.
     pub empty_run: Duration,
-    /// `read_line` alone.
+    /// `LineReader::read` alone.
     pub reading: Duration,
     /// `Driver::admin` alone, with the commands in it.
     pub admin: Duration,
