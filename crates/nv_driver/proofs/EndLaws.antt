@@ -3,7 +3,6 @@ use Rattle.std.specs.Prelude.{slice_set}
 use Rattle.std.proofs.Common.{◌≡◌, ◌∙◌, ℕ, ◌≤◌, All, List, [], ap, arith, drop, length, refl, subst, sym, take}
 use Rattle.std.proofs.Math.Seq.{drop-length, take-length}
 use Rattle.std.proofs.lemmas.List.{set-get_or}
-use Rattle.nv_queue.specs.Slots.{HoldsTags}
 use Rattle.nv_command.specs.declared.command.Command.{Command}
 use Rattle.nv_register.specs.RegisterBank.{new_bank}
 use Rattle.nv_bus.specs.Bus.{BusValue, bank_at}
@@ -11,7 +10,7 @@ use Rattle.nv_driver.specs.Batch.{answers_of, from_serial, state_after}
 use Rattle.nv_driver.specs.CommandPages.{without}
 use Rattle.nv_driver.specs.Exchange.{IsReady, KeepsOthers}
 use Rattle.nv_driver.specs.Quiet.{pair_value}
-use Rattle.nv_driver.specs.Schedule.{Answer, CanBeSent, collect_ring, device_rings, number, bank_with, submit_ring}
+use Rattle.nv_driver.specs.Schedule.{Answer, CanBeSent, collect_ring, device_rings, bank_with, submit_ring}
 use Rattle.nv_driver.specs.UnderWay.{HasAnswers, IsBusOf, IsUnderWay, Run, pages_of_all, run_of, setting, setting_of}
 use Rattle.nv_driver.specs.declared.batch.Batch.{Batch}
 use Rattle.nv_driver.specs.declared.geometry.Geometry.{Geometry}
@@ -82,29 +81,18 @@ ends_all {g} {c} {old} {bus} {l} {l'} {now} {bytes} {mem} {commands} {r} {b} is 
     at_end u of =
         let t = setting g c (pair_value l) in
         let n = b.collected in
-        let none : drop n u.world.sent ≡ [] = ap (λ i. drop i u.world.sent) (sym (u.sent ∙ sent))
-        ∙ drop-length u.world.sent in
+        let none : drop n u.course.sent ≡ [] = ap (λ i. drop i u.course.sent) (sym (u.sent ∙ sent))
+        ∙ drop-length u.course.sent in
         let pages = ap (λ (x : QueuePairFields). x.pages) u.pair
         ∙ ap (λ xs. without l.pages (pages_of_all xs)) none ∙ (taken_none l.pages).1 in
         let submission = ap (λ (x : QueuePairFields). x.submission) u.pair ∙ ap (λ i. submit_ring t i n) sent in
         let completion = ap (λ (x : QueuePairFields). x.completion) u.pair ∙ ap (λ i. collect_ring t n i) told
-        ∙ ap (λ e. record {
-          base = t.cq;
-          depth = t.depth;
-          collected = number t n;
-          told = number t n;
-          untold = e;
-        }) (sym (none_untold n)) in
-        let bank = of.bank ∙ ap (λ i. bank_with t (device_rings t i n b.told)) sent
-        ∙ ap (λ i. bank_with t (device_rings t n n i)) told in
+        ∙ ap (λ e. record (collect_ring t n n) { untold = e }) (sym (none_untold n)) in
         record {
           ready = pair_after n u.begun u.page_size u.size submission completion (serial_below u) pages
-              (subst (λ m. HoldsTags m t.cq t.depth (number t n)) u.mem
-              (subst (λ i. HoldsTags u.world.mem t.cq t.depth (number t i)) u.done u.keeps.tags))
-              (has_bank u of) of.bus bank;
+              u.keeps.tags (has_bank u of) of.bus (rw (sent, told) at of.bank);
           banks = of.banks;
-          others = subst (KeepsOthers g.page_size (pair_value l) bytes) u.mem
-              (others_kept u.begun u.others (λ i d h. u.own i d (omega (arith, u.sent))));
+          others = others_kept u.begun u.others (λ i d h. u.own i d (omega (arith, u.sent)));
         }
 
 -- all were collected
