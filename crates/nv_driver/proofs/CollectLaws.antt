@@ -34,6 +34,7 @@ use Rattle.nv_driver.proofs.BatchLaws.{answers_are, distance_is}
 use Rattle.nv_driver.proofs.CountLaws.{number_next}
 use Rattle.nv_driver.proofs.KeptLaws.{collect_keeps, is_found}
 use Rattle.nv_driver.proofs.OthersLaws.{collect_others}
+use Rattle.nv_driver.proofs.PointerLaws.{seven_pages}
 use Rattle.nv_driver.proofs.SerialLaws.{length-answers}
 use Rattle.nv_driver.proofs.SubmittingLaws.{buffer_as, of_set, pages_are, places_as}
 use Rattle.nv_driver.proofs.TurnLaws.{no_command}
@@ -61,6 +62,19 @@ is_one r found o x k is =
       pages = ap all_pages (sym same) ∙ pages_are k.one k.seven ∙ ap own_pages (sym k.sent);
     }
 
+-- completion q is that of the awaited command n
+pub record IsNext (r : Run) (turns : ℕ) (b : Batch) (bytes : List ℕ) (q : Cqe) (n : ℕ) : Type 0 where
+  pub more : b.collected < turns
+  pub completion : q ≡ completion_at bytes (setting_of r).cq (slot (setting_of r) b.collected)
+  pub at : n ≡ b.collected
+
+-- the pages of a command can be given back to a set
+pub record CanGive (s : Pages) (o : CommandPages) : Type 0 where
+  pub few : o.data_pages ≤ 5
+  pub own : All (λ p. IsOf s.first s.count p) (all_pages o)
+  pub none : All (λ p. set.contains s.members p ≡ false) (all_pages o)
+  pub distinct : AllPairs (λ p q. p ≢ q) (all_pages o)
+
 -- more was collected than was told
 above_told : (h k : ℕ) → h ≤ k → true ≡ not (h == k + 1)
 above_told h k low = grind (arith, nat_tests)
@@ -81,40 +95,35 @@ module _ {r : Run} {bells turns : ℕ} {b : Batch} {l : QueuePairFields} {now : 
   is_there more = subst (IsAwaitedThere bytes) (ap (λ n. collect_ring (setting_of r) n b.told) u.collected
       ∙ ap (λ (q : QueuePairFields). q.completion) (sym u.pair)) (there more)
 
-  -- it has its place in the window
-  pub is_some : b.collected < turns → {found : Option CommandPages} → kept_at b.outstanding b.collected ≡ found → IsSome found
-  is_some more same = let k = u.kept b.collected no_command (omega arith) (omega (arith, no_more, more)) in
-      subst IsSome (sym k.is_one ∙ same) refl
+  held_here : b.collected < turns → Holds (setting_of r) r.bus.state (world u) b.collected next_one
+  held_here more = u.keeps.held b.collected no_command (omega (arith, u.collected)) more
+
+  head_is : {q : Cqe} → b.collected < turns → q ≡ completion_at bytes (setting_of r).cq (slot (setting_of r) b.collected)
+      → q.sq_head ≡ slot (setting_of r) (b.collected + 1)
+  head_is more is = ap (λ (c : Cqe). c.sq_head) is ∙ (held_here more).head
 
   module _ (more : b.collected < turns) {found : Option Cqe} {q : Cqe} (some : found ≡ Some q)
       (value : IfSome found (λ c. c ≡ awaited_completion bytes l.completion)) where
-    pub completion_is : q ≡ completion_at bytes (setting_of r).cq (slot (setting_of r) b.collected)
+    completion_is : q ≡ completion_at bytes (setting_of r).cq (slot (setting_of r) b.collected)
     completion_is =
         subst (λ (o : Option Cqe). IfSome o (λ c. c ≡ awaited_completion bytes l.completion)) some value
         ∙ ap (λ (o : QueuePairFields). awaited_completion bytes o.completion) u.pair
 
-    held_here : Holds (setting_of r) r.bus.state (world u) b.collected next_one
-    held_here = u.keeps.held b.collected no_command (omega (arith, u.collected)) more
-
-    pub cid_is : q.cid ≡ serial_at r b.collected
-    cid_is = ap (λ (c : Cqe). c.cid) completion_is ∙ held_here.cid
+    cid_is : q.cid ≡ serial_at r b.collected
+    cid_is = ap (λ (c : Cqe). c.cid) completion_is ∙ (held_here more).cid
         ∙ ap (λ (x : Numbered). x.cid) (command_of u b.collected no_command.command (omega (arith, no_more, more)))
-
-    pub head_is : q.sq_head ≡ slot (setting_of r) (b.collected + 1)
-    head_is = ap (λ (c : Cqe). c.sq_head) completion_is ∙ held_here.head
 
     pub cid_below : q.cid < 65535
     cid_below = let below = mod_below (r.pair.serial + b.collected) 65535 (omega arith) in omega (arith, cid_is, below)
 
     -- by its command identifier it is the awaited one
-    pub distance_to : (n : ℕ) → n ≡ (l.serial + 65535 - q.cid) % 65535 → n ≡ b.sent - b.collected
-    distance_to n is =
+    pub is_next : {n : ℕ} → n ≡ (l.serial + 65535 - q.cid) % 65535 → (n ≤ b.sent) × IsNext r turns b bytes q (b.sent - n)
+    is_next {n} is =
+        let to : n ≡ b.sent - b.collected =
         is ∙ ap (λ c. (l.serial + 65535 - c) % 65535) cid_is
         ∙ ap (λ (o : QueuePairFields). (o.serial + 65535 - serial_at r b.collected) % 65535) u.pair
-        ∙ distance_is r.pair.serial b.collected b.sent (no_more.0) (omega (arith, u.window, u.begun.geometry.window.1))
-
-    pub number_is : {n : ℕ} → n ≡ (l.serial + 65535 - q.cid) % 65535 → b.sent - n ≡ b.collected
-    number_is {n} is = omega (arith, distance_to n is, no_more)
+        ∙ distance_is r.pair.serial b.collected b.sent (no_more.0) (omega (arith, u.window, u.begun.geometry.window.1)) in
+        (omega arith, record { more = more; completion = completion_is; at = omega (arith, no_more) })
 
     pub freed_between : IsSlotBetween l.submission.depth l.submission.known l.submission.submitted q.sq_head
     freed_between =
@@ -122,58 +131,70 @@ module _ {r : Run} {bells turns : ℕ} {b : Batch} {l : QueuePairFields} {now : 
         let window = u.begun.geometry.window in
         subst (λ (o : QueuePairFields). IsSlotBetween o.submission.depth o.submission.known
         o.submission.submitted q.sq_head) (sym u.pair)
-        (subst (IsSlotBetween t.depth (number t b.collected) (number t b.sent)) (sym head_is)
+        (subst (IsSlotBetween t.depth (number t b.collected) (number t b.sent)) (sym (head_is more completion_is))
         (between_kept t.depth (t.start + b.collected) 1 (b.sent - b.collected)
         (t.start + (b.collected + 1)) (t.start + b.sent)
         (omega (arith, no_more, more)) (omega (arith, u.window, window.2, u.begun.depth))
         (omega arith) (omega (arith, no_more))))
 
-    freed_to : first_in_slot (setting_of r).depth (number (setting_of r) b.collected) q.sq_head ≡
-        number (setting_of r) (b.collected + 1)
+  module _ {q : Cqe} {n : ℕ} (e : IsNext r turns b bytes q n) where
+    -- it has its place in the window
+    kept_here : IsKept r (kept_at b.outstanding n) next_one
+    kept_here = subst (λ i. IsKept r (kept_at b.outstanding i) next_one) (sym e.at)
+        (u.kept b.collected no_command (omega arith) (omega (arith, no_more, e.more)))
+
+    pub has_place : {found : Option CommandPages} → kept_at b.outstanding n ≡ found → IsSome found
+    has_place same = subst IsSome (sym kept_here.is_one ∙ same) refl
+
+    pub number_inside : n < length r.commands
+    number_inside = omega (arith, e.at, e.more, no_more, u.some)
+
+    freed_to : first_in_slot (setting_of r).depth (number (setting_of r) b.collected) q.sq_head
+        ≡ number (setting_of r) (b.collected + 1)
     freed_to =
         let t = setting_of r in
         let deep = u.keeps.placed.deep in
-        ap (first_in_slot t.depth (number t b.collected)) head_is
+        ap (first_in_slot t.depth (number t b.collected)) (head_is e.more e.completion)
         ∙ first_kept t.depth (t.start + (b.collected + 1)) (t.start + b.collected) 1 (omega arith)
         (omega (arith, deep.0))
 
     -- ---- its pages
 
     held_is : held u ≡ own_pages next_one ++ pages_of_all (drop (b.collected + 1) u.course.sent)
-    held_is = ap pages_of_all (drop-cons u.course.sent b.collected no_command (omega (arith, no_more, more, u.sent)))
+    held_is = ap pages_of_all (drop-cons u.course.sent b.collected no_command (omega (arith, no_more, e.more, u.sent)))
         ∙ ap (λ n. own_pages next_one ++ pages_of_all (drop n u.course.sent)) (sym (add-one b.collected))
 
-    module _ {kept : Option CommandPages} {o : CommandPages} (place : kept_at b.outstanding b.collected ≡ kept)
-        (here : kept ≡ Some o) where
-      pub one_is : IsOne r o next_one
-      one_is = is_one r (kept_at b.outstanding b.collected) o next_one
-          (u.kept b.collected no_command (omega arith) (omega (arith, no_more, more))) (place ∙ here)
+    module _ {o : CommandPages} (here : kept_at b.outstanding n ≡ Some o) where
+      one_is : IsOne r o next_one
+      one_is = is_one r (kept_at b.outstanding n) o next_one kept_here here
+
+      pub few_data : o.data_pages ≤ 5
+      few_data = omega (arith, one_is.few, seven_pages _ u.begun.geometry.page_size)
 
       all_is : held u ≡ all_pages o ++ pages_of_all (drop (b.collected + 1) u.course.sent)
       all_is = held_is ∙ ap (λ ps. ps ++ pages_of_all (drop (b.collected + 1) u.course.sent)) (sym one_is.pages)
 
-      pub give_own : All (λ p. IsOf l.pages.first l.pages.count p) (all_pages o)
-      give_own =
-          subst (λ (s : Pages). All (λ p. IsOf s.first s.count p) (all_pages o)) (sym (pages_left u))
-          (taken_first r.pair.pages (all_pages o) _ (subst (AreTaken r.pair.pages) all_is u.taken)).own
+      taken_all : AreTaken r.pair.pages (all_pages o ++ pages_of_all (drop (b.collected + 1) u.course.sent))
+      taken_all = subst (AreTaken r.pair.pages) all_is u.taken
 
-      pub give_none : All (λ p. set.contains l.pages.members p ≡ false) (all_pages o)
-      give_none =
-          subst (λ (s : Pages). All (λ p. set.contains s.members p ≡ false) (all_pages o))
-          (sym (pages_left u ∙ ap (without r.pair.pages) all_is))
-          (λ i d h. gone r.pair.pages (all_pages o) (pages_of_all (drop (b.collected + 1) u.course.sent)) i d h)
-
-      pub give_distinct : AllPairs (λ p q. p ≢ q) (all_pages o)
-      give_distinct = (taken_first r.pair.pages (all_pages o) _ (subst (AreTaken r.pair.pages) all_is u.taken)).distinct
+      pub can_give : CanGive l.pages o
+      can_give =
+          let first = taken_first r.pair.pages (all_pages o) _ taken_all in
+          subst (λ s. CanGive s o) (sym (pages_left u ∙ ap (without r.pair.pages) all_is)) (record {
+            few = few_data;
+            own = first.own;
+            none = λ i d h. gone r.pair.pages (all_pages o) (pages_of_all (drop (b.collected + 1) u.course.sent)) i d h;
+            distinct = first.distinct;
+          })
 
       taken_left : AreTaken r.pair.pages (pages_of_all (drop (b.collected + 1) u.course.sent))
-      taken_left = taken_rest r.pair.pages (all_pages o) _ (subst (AreTaken r.pair.pages) all_is u.taken)
+      taken_left = taken_rest r.pair.pages (all_pages o) _ taken_all
 
       pages_back : with_pages l.pages (all_pages o) ≡ without r.pair.pages
           (pages_of_all (drop (b.collected + 1) u.course.sent))
       pages_back = ap (λ s. with_pages s (all_pages o)) (pages_left u ∙ ap (without r.pair.pages) all_is)
           ∙ given_back r.pair.pages (all_pages o) (pages_of_all
-          (drop (b.collected + 1) u.course.sent)) (subst (AreTaken r.pair.pages) all_is u.taken)
+          (drop (b.collected + 1) u.course.sent)) taken_all
 
       -- ---- what is left
 
@@ -202,7 +223,7 @@ module _ {r : Run} {bells turns : ℕ} {b : Batch} {l : QueuePairFields} {now : 
           let w = world u in
           let a = answer_awaited t w (get_or w.sent (length w.answers) no_command) in
           let w' = record w { answers = w.answers ++ a ∷ [] } in
-          let happens : Happens t Collect w w' = inl (there more, no_command, refl) in
+          let happens : Happens t Collect w w' = inl (there e.more, no_command, refl) in
           record {
             running = u.running;
             course = record u.course { answers = w'.answers };
@@ -229,7 +250,7 @@ module _ {r : Run} {bells turns : ℕ} {b : Batch} {l : QueuePairFields} {now : 
           let x = next_one in
           let size = r.geometry.page_size in
           let own = u.keeps.own b.collected no_command (omega (arith, u.collected))
-          (omega (arith, no_more, more, u.sent)) in
+          (omega (arith, no_more, e.more, u.sent)) in
           subst (λ ps. IsBuffer bytes size ps r.geometry.offset (data_length x)) one_is.of_data
           (record {
             below = u.begun.geometry.offset.1;
@@ -237,14 +258,18 @@ module _ {r : Run} {bells turns : ℕ} {b : Batch} {l : QueuePairFields} {now : 
             enough = subst (λ from. from + data_length x ≤ length x.pages * size) one_is.offset own.enough;
             inside = λ i d h. of_set r.pair.pages bytes size (get_or x.pages i d)
                 (omega (arith, u.begun.laid.inside, u.size))
-                (u.own b.collected no_command (omega (arith, no_more, more)) (suc (suc i)) d (omega arith));
+                (u.own b.collected no_command (omega (arith, no_more, e.more)) (suc (suc i)) d (omega arith));
           })
 
-      module _ {k : Command} (same : k ≡ next_one.command) where
+      module _ {k : Command} {ks : List Command} (of_run : ks ≡ r.commands) (is : k ≡ get_or ks n k) where
+        same : k ≡ next_one.command
+        same = is ∙ ap (λ xs. get_or xs n k) of_run ∙ ap (λ i. get_or r.commands i k) e.at ∙ ap
+            (λ (x : Numbered). x.command) (sym (command_of u b.collected k (omega (arith, no_more, e.more))))
+
         pub answer_sends : IsSendable k
         answer_sends =
             subst IsSendable (sym same) (u.keeps.own b.collected no_command
-            (omega (arith, u.collected)) (omega (arith, no_more, more, u.sent))).can.sends
+            (omega (arith, u.collected)) (omega (arith, no_more, e.more, u.sent))).can.sends
 
         module _ {pages : List ℕ} {from : ℕ} (of_data : pages ≡ data_pages o)
             (begins : from ≡ b.geometry.offset) where
@@ -267,14 +292,13 @@ module _ {r : Run} {bells turns : ℕ} {b : Batch} {l : QueuePairFields} {now : 
               let size = r.geometry.page_size in
               ap (λ at. answer_from k q (received_from (transfer_by k) bytes at)) places_are
               ∙ ap (λ c. answer_from c q (received_from (transfer_by c) bytes (places size next_one))) same
-              ∙ ap (answer_read size next_one bytes) completion_is ∙ held_here.answer d
+              ∙ ap (answer_read size next_one bytes) e.completion ∙ (held_here e.more).answer d
 
-          pub answers_more : {answers : List Answer} {a : Answer} {n : ℕ}
-              → n ≡ b.collected → HasAnswers r b.collected answers
+          pub answers_more : {answers : List Answer} {a : Answer} → HasAnswers r b.collected answers
               → a ≡ answer_from k q
               (received_from (transfer_by k) bytes (buffer_places now pages from (length_of (transfer_by k))))
               → HasAnswers r (b.collected + 1) (set answers n a)
-          answers_more {answers} {a} {n} at has is =
+          answers_more {answers} {a} has is =
               let c = r.controller in
               let s = r.bus.state in
               let xs = u.course.sent in
@@ -283,18 +307,10 @@ module _ {r : Run} {bells turns : ℕ} {b : Batch} {l : QueuePairFields} {now : 
               let all = answers_are r.pair.serial r.commands xs b.sent u.commands c s in
               record {
                 len = length-set answers n a ∙ has.len;
-                first = ap (λ i. take (b.collected + 1) (set answers i a)) at
-                    ∙ take_more_set answers b.collected a (omega (arith, has.len, few, more, u.some))
+                first = ap (λ i. take (b.collected + 1) (set answers i a)) e.at
+                    ∙ take_more_set answers b.collected a (omega (arith, has.len, few, e.more, u.some))
                     ∙ ap (λ ys. ys ++ a ∷ []) (has.first ∙ sym (all b.collected (omega (arith, few))))
                     ∙ ap (λ y. take b.collected (answers_to c s xs) ++ y ∷ []) (is ∙ answer_is a)
-                    ∙ sym (take_more (answers_to c s xs) b.collected a (omega (arith, size, u.sent, few, more)))
-                    ∙ all (b.collected + 1) (omega (arith, few, more));
+                    ∙ sym (take_more (answers_to c s xs) b.collected a (omega (arith, size, u.sent, few, e.more)))
+                    ∙ all (b.collected + 1) (omega (arith, few, e.more));
               }
-
-  -- the command by its number
-  pub command_at : {k : Command} {ks : List Command} {n : ℕ} (e : Command) → b.collected < b.sent
-      → n ≡ b.collected → ks ≡ r.commands → k ≡ get_or ks n e
-      → k ≡ next_one.command
-  command_at {k} {ks} {n} e more at same is =
-      is ∙ ap (λ xs. get_or xs n e) same ∙ ap (λ i. get_or r.commands i e) at ∙ ap
-      (λ (x : Numbered). x.command) (sym (command_of u b.collected e more))
