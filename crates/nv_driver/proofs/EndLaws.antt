@@ -10,15 +10,15 @@ use Rattle.nv_driver.specs.Batch.{answers_of, from_serial, state_after}
 use Rattle.nv_driver.specs.CommandPages.{without}
 use Rattle.nv_driver.specs.Exchange.{IsReady, KeepsOthers}
 use Rattle.nv_driver.specs.Quiet.{pair_value}
-use Rattle.nv_driver.specs.Schedule.{Answer, CanBeSent, collect_ring, device_rings, bank_with, submit_ring}
-use Rattle.nv_driver.specs.UnderWay.{HasAnswers, IsBusOf, IsUnderWay, Run, pages_of_all, run_of, setting, setting_of}
+use Rattle.nv_driver.specs.Schedule.{Answer, CanBeSent, collect_ring, device_rings, bank_with}
+use Rattle.nv_driver.specs.UnderWay.{HasAnswers, IsBusOf, IsUnderWay, Run, pages_of_all, run_of, setting_of}
 use Rattle.nv_driver.specs.declared.batch.Batch.{Batch}
 use Rattle.nv_driver.specs.declared.geometry.Geometry.{Geometry}
 use Rattle.nv_driver.specs.declared.queue_pair.QueuePair.{QueuePair as QueuePairFields}
 use Rattle.nv_driver.proofs.BatchLaws.{length-from_serial}
 use Rattle.nv_driver.proofs.CollectLaws.{no_more}
 use Rattle.nv_driver.proofs.QuietLaws.{is_idle, pair_after, others_kept}
-use Rattle.nv_driver.proofs.RoundLaws.{has_bank, none_untold}
+use Rattle.nv_driver.proofs.RoundLaws.{IsTold, has_bank, none_untold, tells_on}
 use Rattle.nv_driver.proofs.SerialLaws.{length-answers_of_all}
 use Rattle.nv_driver.proofs.UnderWayLaws.{begins, serial_below}
 use Rattle.nv_driver.proofs.WindowPageLaws.{taken_none}
@@ -59,42 +59,6 @@ begins_all {g} {c} {bus} {l} {now} {bytes} {commands} {answers} {r} {b} is ready
 
 -- ---- the end
 
--- what holds where all were sent, collected and told
-pub record HasEnded (g : Geometry) (c : ℕ) (old : BusValue) (l : QueuePairFields) (bytes : List ℕ)
-    (bus : BusValue) (l' : QueuePairFields) (now : ℕ) (mem : List ℕ) : Type 0 where
-  pub ready : IsReady g bus c l' now mem
-  pub banks : bus.banks ≡ slice_set old.banks c (bank_at bus.banks c)
-  pub others : KeepsOthers g.page_size (pair_value l) bytes mem
-
-pub ends_all : {g : Geometry} {c : ℕ} {old bus : BusValue} {l l' : QueuePairFields} {now : ℕ}
-    {bytes mem : List ℕ} {commands : List Command} {r : Run} {b : Batch}
-    → r ≡ run_of g c old l bytes commands → (u : IsUnderWay r b.sent b.collected b l' now mem)
-    → IsBusOf r b.sent b.collected b.told bus
-    → b.sent ≡ b.collected → b.told ≡ b.collected → HasEnded g c old l bytes bus l' now mem
-ends_all {g} {c} {old} {bus} {l} {l'} {now} {bytes} {mem} {commands} {r} {b} is under_way bus_is sent told =
-    at_end (subst (λ x. IsUnderWay x b.sent b.collected b l' now mem) is under_way)
-    (subst (λ x. IsBusOf x b.sent b.collected b.told bus) is bus_is)
-  where
-    at_end : (u : IsUnderWay (run_of g c old l bytes commands) b.sent b.collected b l' now mem)
-        → IsBusOf (run_of g c old l bytes commands) b.sent b.collected b.told bus
-        → HasEnded g c old l bytes bus l' now mem
-    at_end u of =
-        let t = setting g c (pair_value l) in
-        let n = b.collected in
-        let none : drop n u.course.sent ≡ [] = ap (λ i. drop i u.course.sent) (sym (u.sent ∙ sent))
-        ∙ drop-length u.course.sent in
-        let pages = ap (λ (x : QueuePairFields). x.pages) u.pair
-        ∙ ap (λ xs. without l.pages (pages_of_all xs)) none ∙ (taken_none l.pages).1 in
-        let submission = ap (λ (x : QueuePairFields). x.submission) u.pair ∙ ap (λ i. submit_ring t i n) sent in
-        let completion = ap (λ (x : QueuePairFields). x.completion) u.pair ∙ ap (λ i. collect_ring t n i) told
-        ∙ ap (λ e. record (collect_ring t n n) { untold = e }) (sym (none_untold n)) in
-        record {
-          ready = pair_after n u.begun u.page_size u.size submission completion (serial_below u) pages
-              u.keeps.tags (has_bank u of) of.bus (rw (sent, told) at of.bank);
-          banks = of.banks;
-          others = others_kept u.begun u.others (λ i d h. u.own i d (omega (arith, u.sent)));
-        }
-
 -- all were collected
 pub all_collected : {g : Geometry} {c : ℕ} {old : BusValue} {l l' : QueuePairFields} {now : ℕ}
     {bytes mem : List ℕ} {commands : List Command} {r : Run} {b : Batch}
@@ -105,6 +69,41 @@ all_collected is u enough =
     let order = no_more u in
     let same = ap (λ (x : Run). length x.commands) is
     in (omega (arith, order, u.some, same), omega (arith, order, u.some, same))
+
+-- what holds where all were sent, collected and told
+pub record HasEnded (r : Run) (bus : BusValue) (l' : QueuePairFields) (now : ℕ) (mem : List ℕ) : Type 0 where
+  pub ready : IsReady r.geometry bus r.controller l' now mem
+  pub banks : bus.banks ≡ slice_set r.bus.banks r.controller (bank_at bus.banks r.controller)
+  pub others : KeepsOthers r.geometry.page_size (pair_value r.pair) r.bytes mem
+
+at_end : {r : Run} {n : ℕ} {b : Batch} {l : QueuePairFields} {now : ℕ} {mem : List ℕ} {bus : BusValue}
+    → (u : IsUnderWay r n n b l now mem) → IsBusOf r n n n bus → b.sent ≡ n → b.collected ≡ n → b.told ≡ n
+    → HasEnded r bus l now mem
+at_end {r} {n} u of sent collected told =
+    let is = rw (sent, collected, told) at u.pair in
+    let none : drop n u.course.sent ≡ [] = ap (λ i. drop i u.course.sent) (sym (u.sent ∙ sent))
+    ∙ drop-length u.course.sent in
+    let pages = ap (λ (x : QueuePairFields). x.pages) is
+    ∙ ap (λ xs. without r.pair.pages (pages_of_all xs)) none ∙ (taken_none r.pair.pages).1 in
+    let completion = ap (λ (x : QueuePairFields). x.completion) is
+    ∙ ap (λ e. record (collect_ring (setting_of r) n n) { untold = e }) (sym (none_untold n)) in
+    record {
+      ready = pair_after n u.begun u.page_size u.size (ap (λ (x : QueuePairFields). x.submission) is) completion
+          (serial_below u) pages u.keeps.tags (has_bank u of) of.bus of.bank;
+      banks = of.banks;
+      others = others_kept u.begun u.others (λ i d h. u.own i d (omega (arith, u.sent)));
+    }
+
+pub ends_all : {g : Geometry} {c : ℕ} {old bus bus' : BusValue} {l l4 l' : QueuePairFields} {now : ℕ}
+    {bytes mem : List ℕ} {commands : List Command} {r : Run} {b b' : Batch}
+    → r ≡ run_of g c old l bytes commands → IsUnderWay r b.sent b.collected b l4 now mem
+    → IsBusOf r b.sent b.collected b.told bus → length commands ≤ b.collected → IsTold b l4 bus b' l' bus'
+    → HasEnded (run_of g c old l bytes commands) bus' l' now mem
+ends_all {bus' = bus'} {l' = l'} {now = now} {mem = mem} {b = b} is u of enough t =
+    let all = all_collected is u enough in
+    let told = tells_on u of t in
+    subst (λ x. HasEnded x bus' l' now mem) is
+    (at_end (rw all.0 at told.0) (rw all.0 at told.1) refl refl refl)
 
 pub answers_all : {g : Geometry} {c : ℕ} {old : BusValue} {l : QueuePairFields} {bytes : List ℕ}
     {commands : List Command} {r : Run} {n : ℕ} {answers : List Answer}

@@ -165,19 +165,19 @@ pub record HasTurned (r : Run) (bells turns : ℕ) (b : Batch) (l : QueuePairFie
   pub number_is : count ≡ min most (min (bells - turns) (r.pair.submission.depth - 1 - (turns - b.told)))
 
 pub turns_on : {r : Run} {bells turns : ℕ} {b : Batch} {l : QueuePairFields} {now now' : ℕ}
-    {bytes mem : List ℕ} {bus bus' : BusValue} {c most count : ℕ}
+    {bytes mem : List ℕ} {bus bus' : BusValue} {asked most count : ℕ}
     (u : IsUnderWay r bells turns b l now bytes) → IsBusOf r bells turns b.told bus
-    → c ≡ r.controller → T.Turn now c most count bus bytes bus' mem
+    → T.Turn now b.ctrl asked count bus bytes bus' mem → asked ≡ most
     → IsBus bus' → length mem ≡ length bytes → now' ≡ now → HasTurned r bells turns b l now' mem bus' most count
-turns_on {r} {bells} {turns} {b} {l} {now} {now'} {bytes} {mem} {bus} {bus'} {c} {most} {count} u is
-    same turn lawful size page =
+turns_on {r} {bells} {turns} {b} {l} {now} {now'} {bytes} {mem} {bus} {bus'} {asked} {most} {count} u is
+    turn pace lawful size page =
     let t = setting_of r in
     let w = world u in
     let course : Course = record u.course { state = bus'.state; bank = bank_at bus'.banks r.controller } in
     let w' = world_at course bells (turns + count) b.told mem in
     let there : BankTurn t.page_size t.controller most count (site w.state w.bank bytes)
     (site w'.state w'.bank mem) =
-    rw (u.page_size, same, is.state ∙ sym (state_on u), is.bank ∙ sym u.keeps.bank) at turn.own in
+    rw (u.page_size, u.controller, pace, is.state ∙ sym (state_on u), is.bank ∙ sym u.keeps.bank) at turn.own in
     let happens : Happens t (Turn most) w w' = (count, there, refl) in
     let next : IsUnderWay r bells (turns + count) b l now' mem = record {
       running = assumption (page ∙ u.page_size, size ∙ u.size, u.running);
@@ -195,28 +195,32 @@ turns_on {r} {bells} {turns} {b} {l} {now} {now'} {bytes} {mem} {bus} {bus'} {c}
         state = state_on next;
         bank = next.keeps.bank;
         banks = set_again r.bus.banks bus.banks bus'.banks r.controller _ _ u.begun.controller is.banks
-            (subst (λ i. bus'.banks ≡ slice_set bus.banks i (bank_at bus'.banks i)) same turn.others);
+            (subst (λ i. bus'.banks ≡ slice_set bus.banks i (bank_at bus'.banks i)) u.controller turn.others);
       };
       number_is = omega (arith, turn_takes t r.bus.state most w w' u.keeps happens);
     }
 
 -- ---- the head was told
 
-pub tells_on : {r : Run} {turns : ℕ} {b b' : Batch} {l l' : QueuePairFields} {now : ℕ}
+-- what a batch ensures that tells the head
+abbrev pub IsTold : Batch → QueuePairFields → BusValue → Batch → QueuePairFields → BusValue → Type 0
+IsTold b l m b' l' m' = record {
+  batch : b' ≡ record b { told = b.collected };
+  pair : l' ≡ record l { completion = told_all l.completion };
+  state : m'.state ≡ m.state;
+  bus : IsBus m → IsBus m';
+  told : l.completion.untold ≡ true → m'.banks ≡ slice_set m.banks b.ctrl
+      (with_register_at (bank_at m.banks b.ctrl) 0x1004 (slot_of l.completion.depth l.completion.collected));
+  silent : l.completion.untold ≡ false → m'.banks ≡ m.banks;
+}
+
+pub tells_on : {r : Run} {bells turns : ℕ} {b b' : Batch} {l l' : QueuePairFields} {now : ℕ}
     {bytes : List ℕ} {bus bus' : BusValue}
-    (u : IsUnderWay r b.sent turns b l now bytes) → IsBusOf r b.sent turns b.told bus
-    → b' ≡ record b { told = b.collected }
-    → l' ≡ record l { completion = told_all l.completion } → bus'.state ≡ bus.state → (IsBus bus → IsBus bus')
-    → (l.completion.untold ≡ true
-    → bus'.banks ≡ slice_set bus.banks b.ctrl (with_register_at (bank_at bus.banks b.ctrl) 0x1004
-    (slot_of l.completion.depth l.completion.collected)))
-    → (l.completion.untold ≡ false → bus'.banks ≡ bus.banks)
-    → IsUnderWay r b'.sent turns b' l' now bytes × IsBusOf r b'.sent turns b'.told bus'
-tells_on {r} {turns} {b} {b'} {l} {l'} {now} {bytes} {bus} {bus'} u is batch pair state lawful told silent = (
-  subst (λ (x : Batch). IsUnderWay r x.sent turns x l' now bytes) (sym batch)
-      (subst (λ x. IsUnderWay r b.sent turns (record b { told = b.collected }) x now bytes) (sym pair) (tells u)),
-  subst (λ (x : Batch). IsBusOf r x.sent turns x.told bus') (sym batch)
-      (bus_tells u is u.controller state lawful told silent),
+    (u : IsUnderWay r bells turns b l now bytes) → IsBusOf r bells turns b.told bus → IsTold b l bus b' l' bus'
+    → IsUnderWay r bells turns (record b { told = b.collected }) l' now bytes × IsBusOf r bells turns b.collected bus'
+tells_on {r} {bells} {turns} {b} {now = now} {bytes = bytes} u is t = (
+  subst (λ x. IsUnderWay r bells turns (record b { told = b.collected }) x now bytes) (sym t.pair) (tells u),
+  bus_tells u is u.controller t.state t.bus t.told t.silent,
 )
 
 -- a turn that takes none while a command waits finds no free slot
