@@ -4,6 +4,7 @@ use Rattle.std.proofs.Common.{◌≡◌, ◌≢◌, ◌∙◌, ℕ, ◌+◌, ◌
 use Rattle.std.proofs.Common.{get_or, length, length-append, length-drop, refl, subst, sym, take, true, inl}
 use Rattle.std.proofs.Math.ListN.{length-set}
 use Rattle.std.proofs.Math.Nat.{mul-le-mul_right}
+use Rattle.std.proofs.lemmas.Bool.{both_ways}
 use Rattle.std.proofs.lemmas.List.{drop-append-le, get_or-drop, get_or-map, get_or-set_other, get_or-set_same}
 use Rattle.std.proofs.lemmas.List.{get_or-take, get_or_default, map_push, take_more}
 use Rattle.std.proofs.lemmas.Nat.{mod_below}
@@ -38,7 +39,7 @@ use Rattle.nv_driver.proofs.OthersLaws.{others_now, submit_others}
 use Rattle.nv_driver.proofs.SubmitLaws.{each_more, submit_keeps}
 use Rattle.nv_driver.proofs.SubmittingLaws.{Has, buffer_of, distinct_of, list_of, pages_are, length-data_pages}
 use Rattle.nv_driver.proofs.TurnLaws.{no_command}
-use Rattle.nv_driver.proofs.WindowPageLaws.{differ, few_pages, fresh, page_of_one, pages-append, taken_also, taken_len}
+use Rattle.nv_driver.proofs.WindowPageLaws.{few_pages, fresh, page_of_one, pages-append, taken_also, taken_len}
 use Rattle.nv_driver.proofs.WindowPageLaws.{taken_none, without_also}
 
 -- ---- the beginning
@@ -226,8 +227,8 @@ module _ {r : Run} {bells turns : ℕ} {b : Batch} {l l' : QueuePairFields} {now
             (in_of (own_pages (get_or xs n d)) i e p h refl) in
             let there = page_of_one (drop b.collected xs) (n - b.collected) d p
             (omega (arith, length-drop b.collected xs, from, below, u.collected)) one in
-            differ (is_in (held u) p) there (ap (is_in (held u)) same
-            ∙ fresh r.pair.pages (held u) (own_pages new_one) taken_new j f low);
+            both_ways (is_in (held u) p) (ap (is_in (held u)) same
+            ∙ fresh r.pair.pages (held u) (own_pages new_one) taken_new j f low) there;
       }
 
   submitted : CanBeSent k → Happens (setting_of r) (Submit new_one) (world u)
