@@ -3,7 +3,7 @@ use Rattle.std.specs.Prelude.{slice_set}
 use Rattle.std.proofs.Common.{◌≡◌, ◌≢◌, ◌∙◌, ◌⊎◌, ℕ, ◌+◌, ◌-◌, ◌*◌, ◌/◌, ◌^◌, ◌<◌, ◌≤◌, List, ap, arith, get_or, inl}
 use Rattle.std.proofs.Common.{inr, length, map, refl, subst, sym}
 use Rattle.std.proofs.Math.ListN.{length-set}
-use Rattle.std.proofs.Math.Nat.{mul-le-mul_left, mul-le-mul_right}
+use Rattle.std.proofs.Math.Nat.{mul-le-mul_right}
 use Rattle.std.proofs.lemmas.Bool.{cases_eq, cases_lt}
 use Rattle.std.proofs.lemmas.List.{get_or-map, get_or-set_other, get_or-set_same, get_or_default, length-map, map-set}
 use Rattle.std.proofs.lemmas.List.Elements.{All-set}
@@ -97,8 +97,6 @@ pub slots_stay : (page_size : ℕ) (old new : List ℕ) (v u : QueuePair) → Ke
     → (end_of page_size u ≤ v.sq) ⊎ (end_of page_size v ≤ u.sq)
     → HoldsTags old u.cq u.depth u.number → HoldsTags new u.cq u.depth u.number
 slots_stay page_size old new v u keeps laid own apart tags s below =
-    let top : s + 1 ≤ u.depth = omega arith in
-    let room = mul-le-mul_left 16 top in
     let least : u.first_page ≤ u.first_page + u.page_count = omega arith in
     let ends = mul-le-mul_right page_size least in
     let own_least : v.first_page ≤ v.first_page + v.page_count = omega arith in

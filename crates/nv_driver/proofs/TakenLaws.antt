@@ -1,7 +1,6 @@
 -- What taking one entry keeps of a schedule.
 use Rattle.std.proofs.Common.{◌≡◌, ◌∙◌, ℕ, ◌+◌, ◌-◌, ◌*◌, ◌<◌, ◌≤◌, true, Err, List, Ok, Result, ap, arith, get_or, inl}
 use Rattle.std.proofs.Common.{inr, length, refl, subst, sym}
-use Rattle.std.proofs.Math.Nat.{mul-le-mul_left}
 use Rattle.std.proofs.lemmas.Bool.{cases_lt}
 use Rattle.nv_host.specs.Bytes.{bytes_at}
 use Rattle.nv_layout.specs.Cqe.{cqe_of_bytes}
@@ -133,8 +132,6 @@ pub moved_slot : (t : Setting) (x : Sent) (a : Answer) (old moved : List ℕ) (s
     → AreOutside t.page_size x t.cq (16 * t.depth) → s < t.depth
     → completion_at moved t.cq s ≡ completion_at old t.cq s
 moved_slot t x a old moved s some enough moves outside below =
-    let top : s + 1 ≤ t.depth = omega arith in
-    let room = mul-le-mul_left 16 top in
     ap cqe_of_bytes (moved_keeps t x a old moved (t.cq + 16 * s) 16 some enough moves
     (outside_part t x t.cq (16 * t.depth) (t.cq + 16 * s) 16 outside (omega arith) (omega arith)))
 
