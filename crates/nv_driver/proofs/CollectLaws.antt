@@ -36,9 +36,9 @@ use Rattle.nv_driver.proofs.KeptLaws.{collect_keeps, is_found}
 use Rattle.nv_driver.proofs.OthersLaws.{collect_others}
 use Rattle.nv_driver.proofs.PointerLaws.{seven_pages}
 use Rattle.nv_driver.proofs.SerialLaws.{length-answers}
-use Rattle.nv_driver.proofs.SubmittingLaws.{buffer_as, of_set, pages_are, places_as}
+use Rattle.nv_driver.proofs.SubmittingLaws.{buffer_as, of_set, pages_are, pair_by, pairs_same, places_as}
 use Rattle.nv_driver.proofs.TurnLaws.{no_command}
-use Rattle.nv_driver.proofs.UnderWayLaws.{command_of, counts, held, pages_left, pair_by, pairs_same, world}
+use Rattle.nv_driver.proofs.UnderWayLaws.{command_of, counts, held, pages_left, world}
 use Rattle.nv_driver.proofs.WindowPageLaws.{given_back, gone, taken_first, taken_rest}
 
 pub in_some : {X : Type 0} {P : Type 0} (o : Option X) (x : X) → o ≡ Some x → OnSome o P → P

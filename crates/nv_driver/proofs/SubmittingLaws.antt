@@ -6,6 +6,7 @@ use Rattle.nv_host.specs.PageSets.{IsOf, Pages}
 use Rattle.nv_host.specs.Pages.{HasPage, IsPageSize}
 use Rattle.nv_host.specs.Bytes.{bytes_at}
 use Rattle.nv_host.proofs.PageLaws.{page_size_bounds}
+use Rattle.nv_queue.specs.Rings.{CollectNumbers, SubmitNumbers}
 use Rattle.nv_prp.proofs.PlaceLaws.{length-written_at}
 use Rattle.nv_prp.specs.Buffer.{IsBuffer, IsListPlace, IsOutside, KeepsList, KeepsOutside, StaysFor, buffer_places}
 use Rattle.nv_prp.proofs.BufferLaws.{rest_distinct}
@@ -18,6 +19,7 @@ use Rattle.nv_bus.specs.Call.{sent_from}
 use Rattle.nv_driver.specs.Schedule.{AreOutside, IsPrepared, Sent, StaysNamed, data_length, own_pages, places, pointed}
 use Rattle.nv_driver.specs.declared.command_pages.CommandPages.{CommandPages}
 use Rattle.nv_driver.specs.declared.geometry.Geometry.{Geometry}
+use Rattle.nv_driver.specs.declared.queue_pair.QueuePair.{QueuePair as QueuePairFields}
 use Rattle.nv_driver.proofs.DataLaws.{ArePlaces, length-host_data, sent_back}
 use Rattle.nv_driver.proofs.ListPageLaws.{written_list}
 use Rattle.nv_driver.proofs.PointerLaws.{stays_in}
@@ -53,6 +55,10 @@ pub record Has (s : Pages) (p : CommandPages) (page_size size : ℕ) : Type 0 wh
   pub few : p.data_pages ≤ 5
   pub taken : AreTaken s (all_pages p)
   pub inside : (s.first + s.count) * page_size ≤ size
+
+pub has_taken : {s : Pages} {p : CommandPages} {n page_size size : ℕ} → p.data_pages ≡ n → n ≤ 5
+    → length p.numbers ≡ 7 → AreTaken s (all_pages p) → (s.first + s.count) * page_size ≤ size → Has s p page_size size
+has_taken count few seven taken inside = record { seven = seven; few = rw count few; taken = taken; inside = inside }
 
 each_inside : (s : Pages) (p : CommandPages) (page_size : ℕ) (bytes : List ℕ) → Has s p page_size (length bytes)
     → All (λ page. HasPage bytes page_size page) (slice_index p.numbers 0 ∷ slice_index p.numbers 1 ∷ data_pages p)
@@ -162,6 +168,14 @@ prepared_by page_size x old built new is fits buffer distinct b put =
           (subst (KeepsList (pointed page_size x built) x.first x.second) (sym put)
           (written_list page_size x built xs some buffer.enough distinct)) b.stays;
     }
+
+-- queue pairs of the same parts
+abbrev pub pair_by : SubmitNumbers → CollectNumbers → ℕ → Pages → QueuePairFields
+pair_by a c n p = record { submission = a; completion = c; serial = n; pages = p }
+
+pub pairs_same : {a a' : SubmitNumbers} {c c' : CollectNumbers} {n n' : ℕ} {p p' : Pages} → a ≡ a'
+    → c ≡ c' → n ≡ n' → p ≡ p' → pair_by a c n p ≡ pair_by a' c' n' p'
+pairs_same e f g h = cc
 
 pub on_ok : {X E : Type 0} {P : Type 0} (r : Result X E) (x : X) → r ≡ Ok x → OnOk r P → P
 on_ok {P = P} r x is all = subst (λ q. OnOk q P) is all

@@ -12,7 +12,7 @@ use Rattle.std.specs.FinSet as set
 use Rattle.nv_host.specs.PageSets.{IsOf, Pages}
 use Rattle.nv_queue.proofs.KeptLaws.{slots_apart}
 use Rattle.nv_queue.specs.Numbers.{next, slot_of}
-use Rattle.nv_queue.specs.Rings.{CollectNumbers, IsSubmitFull, SubmitNumbers, submitted_one}
+use Rattle.nv_queue.specs.Rings.{IsSubmitFull, submitted_one}
 use Rattle.nv_queue.specs.Slots.{with_submission}
 use Rattle.nv_command.specs.declared.command.Command.{Command}
 use Rattle.nv_model.specs.Step.{next_serial}
@@ -37,19 +37,13 @@ use Rattle.nv_driver.proofs.PointerLaws.{seven_pages}
 use Rattle.nv_driver.proofs.QuietLaws.{beginning, collect_ring_is, is_idle, submit_ring_is}
 use Rattle.nv_driver.proofs.OthersLaws.{others_now, submit_others}
 use Rattle.nv_driver.proofs.SubmitLaws.{each_more, submit_keeps}
-use Rattle.nv_driver.proofs.SubmittingLaws.{Has, buffer_of, distinct_of, list_of, pages_are, length-data_pages}
+use Rattle.nv_driver.proofs.SubmittingLaws.{Has, buffer_of, distinct_of, has_taken, list_of, pages_are, pairs_same}
+use Rattle.nv_driver.proofs.SubmittingLaws.{length-data_pages}
 use Rattle.nv_driver.proofs.TurnLaws.{no_command}
 use Rattle.nv_driver.proofs.WindowPageLaws.{few_pages, fresh, page_of_one, pages-append, taken_also, taken_len}
 use Rattle.nv_driver.proofs.WindowPageLaws.{taken_none, without_also}
 
 -- ---- the beginning
-
-abbrev pub pair_by : SubmitNumbers → CollectNumbers → ℕ → Pages → QueuePairFields
-pair_by a c n p = record { submission = a; completion = c; serial = n; pages = p }
-
-pub pairs_same : {a a' : SubmitNumbers} {c c' : CollectNumbers} {n n' : ℕ} {p p' : Pages} → a ≡ a'
-    → c ≡ c' → n ≡ n' → p ≡ p' → pair_by a c n p ≡ pair_by a' c' n' p'
-pairs_same e f g h = cc
 
 pub begins : (r : Run) (b : Batch) (now : ℕ) → IsReady r.geometry r.bus r.controller r.pair r.geometry.page_size r.bytes
     → All CanBeSent r.commands → b.geometry ≡ r.geometry → b.ctrl ≡ r.controller
@@ -201,12 +195,8 @@ module _ {r : Run} {bells turns : ℕ} {b : Batch} {l l' : QueuePairFields} {now
       let g = r.geometry in
       let laid = u.begun.laid in
       let c = counts u in
-      let has : Has l.pages o g.page_size (length bytes) = record {
-        seven = sub.seven;
-        few = omega (arith, sub.few, seven_pages g.page_size u.begun.geometry.page_size);
-        taken = sub.taken;
-        inside = still_inside u;
-      } in
+      let has : Has l.pages o g.page_size (length bytes) = has_taken refl (omega (arith, sub.few, seven_pages g.page_size u.begun.geometry.page_size)) sub.seven
+      sub.taken (still_inside u) in
       record {
         free = omega (arith, more, u.sent, u.collected, u.begun.geometry.window.2, u.begun.depth);
         can = can;
