@@ -3,7 +3,6 @@ use Rattle.std.specs.Prelude.{slice_set}
 use Rattle.std.proofs.Common.{◌≡◌, ◌≢◌, ◌∙◌, ◌⊎◌, ℕ, ◌+◌, ◌-◌, ◌*◌, ◌/◌, ◌^◌, ◌<◌, ◌≤◌, List, ap, arith, get_or, inl}
 use Rattle.std.proofs.Common.{inr, length, map, refl, subst, sym}
 use Rattle.std.proofs.Math.ListN.{length-set}
-use Rattle.std.proofs.Math.Nat.{mul-le-mul_right}
 use Rattle.std.proofs.lemmas.Bool.{cases_eq, cases_lt}
 use Rattle.std.proofs.lemmas.List.{get_or-map, get_or-set_other, get_or-set_same, get_or_default, length-map, map-set}
 use Rattle.std.proofs.lemmas.List.Elements.{All-set}
@@ -97,14 +96,10 @@ pub slots_stay : (page_size : ℕ) (old new : List ℕ) (v u : QueuePair) → Ke
     → (end_of page_size u ≤ v.sq) ⊎ (end_of page_size v ≤ u.sq)
     → HoldsTags old u.cq u.depth u.number → HoldsTags new u.cq u.depth u.number
 slots_stay page_size old new v u keeps laid own apart tags s below =
-    let least : u.first_page ≤ u.first_page + u.page_count = omega arith in
-    let ends = mul-le-mul_right page_size least in
-    let own_least : v.first_page ≤ v.first_page + v.page_count = omega arith in
-    let own_ends = mul-le-mul_right page_size own_least in
     let slot = u.cq + 16 * s in
     let aside : IsApart v.sq (end_of page_size v - v.sq) slot 16 = elim apart [
-      | inl before ↦ inl (omega (arith, laid.pages, ends))
-      | inr behind ↦ inr (omega (arith, laid.rings, own.rings, own.pages, own_ends))
+      | inl before ↦ inl (omega (arith, laid.pages))
+      | inr behind ↦ inr (omega (arith, laid.rings, own.rings, own.pages))
     ] in
     ap (λ (q : Cqe). q.phase) (ap cqe_of_bytes (keeps slot 16 aside)) ∙ tags s below
 
@@ -123,9 +118,7 @@ settled_after page_size old new vs c v u s below here size keeps laid tags sq fi
           (beside i d h differ) (s.tags i d h)) tags;
       apart = λ i j d before inside.
           let many = length-set vs c u in
-          subst (λ n. n ≤ (get_or (slice_set vs c u) j d).sq) (sym (end_at i d (omega arith)))
-          (subst (λ n. end_of page_size (get_or vs i d) ≤ n) (sym (sq_at j d (omega arith)))
-          (s.apart i j d before (omega arith)));
+          rw ((same_place i d (omega arith)).1, (same_place j d inside).0) (s.apart i j d before (omega arith));
     }
   where
     same_one : (d : QueuePair) → get_or vs c d ≡ v
@@ -135,27 +128,18 @@ settled_after page_size old new vs c v u s below here size keeps laid tags sq fi
         ⊎ (end_of page_size v ≤ (get_or vs i d).sq)
     beside i d h differ =
         elim (cases_lt i c) [
-          | inl l ↦ inl (subst (λ (q : QueuePair). end_of page_size (get_or vs i d) ≤ q.sq) (same_one d)
-              (s.apart i c d l below))
-          | inr g ↦ inr (subst (λ (q : QueuePair). end_of page_size q ≤ (get_or vs i d).sq) (same_one d)
-              (s.apart c i d (omega (arith, differ)) h))
+          | inl l ↦ inl (rw (same_one d) at (s.apart i c d l below))
+          | inr g ↦ inr (rw (same_one d) at (s.apart c i d (omega (arith, differ)) h))
         ]
 
-    end_at : (i : ℕ) (d : QueuePair) → i < length (slice_set vs c u)
-        → end_of page_size (get_or (slice_set vs c u) i d) ≡ end_of page_size (get_or vs i d)
-    end_at i d h =
-        set_each (λ j q. end_of page_size q ≡ end_of page_size (get_or vs j d)) vs c u
-        (λ j e low differ. ap (end_of page_size) (get_or_default vs j e d low))
-        (ap (λ n. (n + u.page_count) * page_size) first
-        ∙ ap (λ n. (v.first_page + n) * page_size) count
-        ∙ sym (ap (end_of page_size) (same_one d))) i d h
-
-    sq_at : (i : ℕ) (d : QueuePair) → i < length (slice_set vs c u)
-        → (get_or (slice_set vs c u) i d).sq ≡ (get_or vs i d).sq
-    sq_at i d h =
-        set_each (λ j q. q.sq ≡ (get_or vs j d).sq) vs c u
-        (λ j e low differ. ap (λ (q : QueuePair). q.sq) (get_or_default vs j e d low))
-        (sq ∙ sym (ap (λ (q : QueuePair). q.sq) (same_one d))) i d h
+    same_place : (i : ℕ) (d : QueuePair) → i < length (slice_set vs c u)
+        → ((get_or (slice_set vs c u) i d).sq ≡ (get_or vs i d).sq)
+        × (end_of page_size (get_or (slice_set vs c u) i d) ≡ end_of page_size (get_or vs i d))
+    same_place i d h =
+        set_each (λ j q. (q.sq ≡ (get_or vs j d).sq) × (end_of page_size q ≡ end_of page_size (get_or vs j d))) vs c u
+        (λ j e low differ. let is = get_or_default vs j e d low in
+        (ap (λ (q : QueuePair). q.sq) is, ap (end_of page_size) is))
+        (rw (same_one d) (sq, rw (first, count) refl)) i d h
 
 -- the values of the queue pairs
 values_set : (ls : List QueuePairFields) (c : ℕ) (l : QueuePairFields) (v : QueuePair) → pair_value l ≡ v

@@ -1,26 +1,29 @@
 -- A list of commands from its beginning to its end, over a quiet queue pair.
 use Rattle.std.specs.Prelude.{slice_set}
-use Rattle.std.proofs.Common.{◌≡◌, ◌∙◌, ℕ, ◌≤◌, All, List, [], ap, arith, drop, length, refl, subst, sym, take}
+use Rattle.std.proofs.Common.{◌≡◌, ◌∙◌, ℕ, ◌+◌, ◌<◌, ◌≤◌, All, List, [], ap, arith, drop, length, refl, subst, sym, take}
 use Rattle.std.proofs.Math.Seq.{drop-length, take-length}
 use Rattle.std.proofs.lemmas.List.{set-get_or}
+use Rattle.std.proofs.lemmas.Nat.{mod_below}
+use Rattle.nv_host.specs.PageSets.{Pages}
+use Rattle.nv_queue.specs.Slots.{HoldsTags}
 use Rattle.nv_command.specs.declared.command.Command.{Command}
 use Rattle.nv_register.specs.RegisterBank.{new_bank}
-use Rattle.nv_bus.specs.Bus.{BusValue, bank_at}
+use Rattle.nv_bus.specs.Bus.{BusValue, IsBus, bank_at}
 use Rattle.nv_driver.specs.Batch.{answers_of, from_serial, state_after}
-use Rattle.nv_driver.specs.CommandPages.{without}
 use Rattle.nv_driver.specs.Exchange.{IsReady, KeepsOthers}
 use Rattle.nv_driver.specs.Quiet.{pair_value}
-use Rattle.nv_driver.specs.Schedule.{Answer, CanBeSent, collect_ring, device_rings, bank_with}
-use Rattle.nv_driver.specs.UnderWay.{HasAnswers, IsBusOf, IsUnderWay, Run, pages_of_all, run_of, setting_of}
+use Rattle.nv_driver.specs.Schedule.{number, Answer, CanBeSent, device_rings, bank_with}
+use Rattle.nv_driver.specs.UnderWay.{HasAnswers, IsBusOf, IsUnderWay, Run, pair_at, run_of, setting_of}
 use Rattle.nv_driver.specs.declared.batch.Batch.{Batch}
 use Rattle.nv_driver.specs.declared.geometry.Geometry.{Geometry}
 use Rattle.nv_driver.specs.declared.queue_pair.QueuePair.{QueuePair as QueuePairFields}
 use Rattle.nv_driver.proofs.BatchLaws.{length-from_serial}
 use Rattle.nv_driver.proofs.CollectLaws.{no_more}
-use Rattle.nv_driver.proofs.QuietLaws.{is_idle, pair_after, others_kept}
+use Rattle.nv_driver.proofs.CountLaws.{number_below}
+use Rattle.nv_driver.proofs.QuietLaws.{is_idle, others_kept}
 use Rattle.nv_driver.proofs.RoundLaws.{IsTold, has_bank, none_untold, tells_on}
 use Rattle.nv_driver.proofs.SerialLaws.{length-answers_of_all}
-use Rattle.nv_driver.proofs.UnderWayLaws.{begins, serial_below}
+use Rattle.nv_driver.proofs.UnderWayLaws.{begins}
 use Rattle.nv_driver.proofs.WindowPageLaws.{taken_none}
 
 -- ---- the beginning
@@ -76,20 +79,53 @@ pub record HasEnded (r : Run) (bus : BusValue) (l' : QueuePairFields) (now : ℕ
   pub banks : bus.banks ≡ slice_set r.bus.banks r.controller (bank_at bus.banks r.controller)
   pub others : KeepsOthers r.geometry.page_size (pair_value r.pair) r.bytes mem
 
+-- the queue pair and its controller after n commands
+ready_after : (r : Run) (n : ℕ) {l : QueuePairFields} {now : ℕ} {mem : List ℕ} {bus : BusValue}
+    → IsReady r.geometry r.bus r.controller r.pair r.geometry.page_size r.bytes → l ≡ pair_at r n n n []
+    → now ≡ r.geometry.page_size → length mem ≡ length r.bytes
+    → HoldsTags mem r.pair.completion.base r.pair.submission.depth (number (setting_of r) n)
+    → r.controller < length bus.banks → IsBus bus
+    → bank_at bus.banks r.controller ≡ bank_with (setting_of r) (device_rings (setting_of r) n n n)
+    → IsReady r.geometry bus r.controller l now mem
+ready_after r n {l} {now} {mem} {bus} begun is page size tags below lawful bank =
+    let laid = begun.laid in
+    let deep = laid.deep in
+    subst (λ q. IsReady r.geometry bus r.controller q now mem) (sym is) (record {
+      geometry = begun.geometry;
+      page_size = page;
+      depth = begun.depth;
+      room = begun.room;
+      quiet = record {
+        depth = refl;
+        known = refl;
+        collected = refl;
+        told = refl;
+        untold = sym (none_untold n);
+        free = ap (λ (p : Pages). p.members) (taken_none r.pair.pages).1 ∙ begun.quiet.free;
+      };
+      laid = record {
+        deep = deep;
+        number = number_below (setting_of r) n (omega (arith, deep.0));
+        serial = mod_below (r.pair.serial + n) 65535 (omega arith);
+        rings = laid.rings;
+        pages = laid.pages;
+        inside = omega (arith, laid.inside, size);
+      };
+      tags = tags;
+      controller = below;
+      bus = lawful;
+      bank = bank;
+    })
+
 at_end : {r : Run} {n : ℕ} {b : Batch} {l : QueuePairFields} {now : ℕ} {mem : List ℕ} {bus : BusValue}
     → (u : IsUnderWay r n n b l now mem) → IsBusOf r n n n bus → b.sent ≡ n → b.collected ≡ n → b.told ≡ n
     → HasEnded r bus l now mem
 at_end {r} {n} u of sent collected told =
-    let is = rw (sent, collected, told) at u.pair in
     let none : drop n u.course.sent ≡ [] = ap (λ i. drop i u.course.sent) (sym (u.sent ∙ sent))
     ∙ drop-length u.course.sent in
-    let pages = ap (λ (x : QueuePairFields). x.pages) is
-    ∙ ap (λ xs. without r.pair.pages (pages_of_all xs)) none ∙ (taken_none r.pair.pages).1 in
-    let completion = ap (λ (x : QueuePairFields). x.completion) is
-    ∙ ap (λ e. record (collect_ring (setting_of r) n n) { untold = e }) (sym (none_untold n)) in
     record {
-      ready = pair_after n u.begun u.page_size u.size (ap (λ (x : QueuePairFields). x.submission) is) completion
-          (serial_below u) pages u.keeps.tags (has_bank u of) of.bus of.bank;
+      ready = ready_after r n u.begun (rw (sent, collected, told, none) at u.pair) u.page_size u.size u.keeps.tags
+          (has_bank u of) of.bus of.bank;
       banks = of.banks;
       others = others_kept u.begun u.others (λ i d h. u.own i d (omega (arith, u.sent)));
     }
