@@ -28,10 +28,8 @@ both_stay page_size x old new len same = record {
 whole_page : (page_size p q : ℕ) → p ≢ q → IsOutside page_size q (p * page_size) page_size
 whole_page page_size p q differ =
     elim (cases_lt p q) [
-      | inl l ↦ let before : p + 1 ≤ q = omega arith in let near =
-          mul-le-mul_right page_size before in inl (omega arith)
-      | inr g ↦ let after : q + 1 ≤ p = omega (arith, differ) in let near =
-          mul-le-mul_right page_size after in inr (omega arith)
+      | inl l ↦ inl (omega (arith, mul-le-mul_right page_size l))
+      | inr g ↦ let after : q + 1 ≤ p = omega (arith, differ) in inr (omega (arith, mul-le-mul_right page_size after))
     ]
 
 -- where the command's own data is written

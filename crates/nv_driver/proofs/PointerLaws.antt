@@ -43,20 +43,13 @@ enough_pages from len size pages is low most same =
     few m whole less =
         elim (cases_lt pages (m + 2)) [
           | inl l ↦ omega arith
-          | inr g ↦ let times = mul-le-mul_right size g in absurd (omega arith)
+          | inr g ↦ absurd (omega (arith, mul-le-mul_right size g))
         ]
 
 pub seven_pages : (size : ℕ) → IsPageSize size → pages_of_command size ≤ 7
 seven_pages size is =
     let bounds = page_size_bounds size is in
-    few (div_ceil 16384 size) (div_ceil_times 16384 size (omega (arith, bounds))).1 bounds.0
-  where
-    few : (m : ℕ) → m * size < 16384 + size → 4096 ≤ size → m + 3 ≤ 7
-    few m less large =
-        elim (cases_lt m 5) [
-          | inl l ↦ omega arith
-          | inr g ↦ let times = mul-le-mul_right size g in absurd (omega arith)
-        ]
+    let whole = (div_ceil_times 16384 size (omega (arith, bounds))).1 in grind (arith, bounds, whole)
 
 -- ---- the data pointer of a command
 

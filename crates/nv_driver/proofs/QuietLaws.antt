@@ -80,8 +80,7 @@ outside_pair : (s : Pages) (x : Sent) (page_size sq from n : ℕ)
     → sq ≤ s.first * page_size → sq ≤ (s.first + s.count) * page_size
     → IsApart sq ((s.first + s.count) * page_size - sq) from n → AreOutside page_size x from n
 outside_pair s x page_size sq from n own low high (inl before) i d h =
-    let first : s.first ≤ get_or (own_pages x) i d = (own i d h).0 in
-    let times = mul-le-mul_right page_size first in inl (omega arith)
+    inl (omega (arith, mul-le-mul_right page_size (own i d h).0))
 outside_pair s x page_size sq from n own low high (inr behind) i d h =
     let last : get_or (own_pages x) i d + 1 ≤ s.first + s.count = omega (arith, (own i d h).1) in
     let times = mul-le-mul_right page_size last in inr (omega arith)

@@ -75,12 +75,8 @@ pub other_page : (page_size p q place : ℕ) → p ≢ q → p * page_size ≤ p
     → place < p * page_size + page_size → IsOutside page_size q place 1
 other_page page_size p q place differ low high =
     elim (cases_lt p q) [
-      | inl l ↦
-          let before : p + 1 ≤ q = omega arith in
-          let near = mul-le-mul_right page_size before in inl (omega arith)
-      | inr g ↦
-          let after : q + 1 ≤ p = omega (arith, differ) in
-          let near = mul-le-mul_right page_size after in inr (omega arith)
+      | inl l ↦ inl (omega (arith, mul-le-mul_right page_size l))
+      | inr g ↦ let after : q + 1 ≤ p = omega (arith, differ) in inr (omega (arith, mul-le-mul_right page_size after))
     ]
 
 -- where two commands have no page in common, the pages of the one are outside of each byte of the other's data

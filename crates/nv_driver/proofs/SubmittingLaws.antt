@@ -46,8 +46,7 @@ pub of_set : (s : Pages) (bytes : List ℕ) (page_size page : ℕ)
     → (s.first + s.count) * page_size ≤ length bytes → IsOf s.first s.count page
     → HasPage bytes page_size page
 of_set s bytes page_size page inside own =
-    let most : page + 1 ≤ s.first + s.count = omega (arith, own.1) in
-    let times = mul-le-mul_right page_size most in omega arith
+    let most : page + 1 ≤ s.first + s.count = omega (arith, own.1) in omega (arith, mul-le-mul_right page_size most)
 
 -- the pages of a set that a command took
 pub record Has (s : Pages) (p : CommandPages) (page_size size : ℕ) : Type 0 where

@@ -164,9 +164,7 @@ tail_after {r} {bells} {turns} {b} u n tail sent is =
 -- a part before a set's pages
 before_pages : (s : Pages) (x : Sent) (page_size from n : ℕ) → All (λ p. IsOf s.first s.count p) (own_pages x)
     → from + n ≤ s.first * page_size → AreOutside page_size x from n
-before_pages s x page_size from n own low i d h =
-    let first : s.first ≤ get_or (own_pages x) i d = (own i d h).0 in
-    let times = mul-le-mul_right page_size first in inl (omega arith)
+before_pages s x page_size from n own low i d h = inl (omega (arith, mul-le-mul_right page_size (own i d h).0))
 
 -- the pages of the outstanding commands, with one command more
 held_more : (xs : List Sent) (x : Sent) (n : ℕ) → n ≤ length xs
