@@ -97,10 +97,8 @@ pub slots_stay : (page_size : ℕ) (old new : List ℕ) (v u : QueuePair) → Ke
     → HoldsTags old u.cq u.depth u.number → HoldsTags new u.cq u.depth u.number
 slots_stay page_size old new v u keeps laid own apart tags s below =
     let slot = u.cq + 16 * s in
-    let aside : IsApart v.sq (end_of page_size v - v.sq) slot 16 = elim apart [
-      | inl before ↦ inl (omega (arith, laid.pages))
-      | inr behind ↦ inr (omega (arith, laid.rings, own.rings, own.pages))
-    ] in
+    let aside : IsApart v.sq (end_of page_size v - v.sq) slot 16 =
+    grind (arith, apart, laid.pages, laid.rings, own.rings, own.pages) in
     ap (λ (q : Cqe). q.phase) (ap cqe_of_bytes (keeps slot 16 aside)) ∙ tags s below
 
 pub settled_after : (page_size : ℕ) (old new : List ℕ) (vs : List QueuePair) (c : ℕ) (v u : QueuePair)

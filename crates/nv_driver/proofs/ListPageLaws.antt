@@ -44,15 +44,14 @@ written_list page_size x bytes written some enough distinct =
     let at = get_or (places page_size x) k 0 in
     let one = place_page page_size x.pages x.offset (data_length x) k some enough (omega arith) in
     let inside = one.is_one in
-    elim (other_page page_size (get_or x.pages one.index 0) page at
-    (λ same. distinct i (suc (suc one.index)) 0 (omega arith) (omega arith) (sym same)) one.from one.to) [
-      | inl before ↦ inl (omega arith)
-      | inr behind ↦ inr behind
-    ]))
+    grind (
+      arith,
+      other_page page_size (get_or x.pages one.index 0) page at
+          (λ same. distinct i (suc (suc one.index)) 0 (omega arith) (omega arith) (sym same)) one.from one.to,
+    )))
 
 beside : (page_size page base n : ℕ) → IsOutside page_size page base n → IsApart base n (page * page_size) page_size
-beside page_size page base n (inl before) = inr before
-beside page_size page base n (inr behind) = inl behind
+beside page_size page base n outside = grind arith
 
 -- where only bytes that its pages are outside of are other ones
 list_beside : (t : Setting) (x : Sent) (base n : ℕ) (old new : List ℕ) → length new ≡ length old

@@ -105,8 +105,4 @@ others_kept {g} {b} {c} {l} {now} {bytes} {w} r others own from n apart =
   where
     aside : (base size : ℕ) → base + size ≤ (l.pages.first + l.pages.count) * g.page_size
         → l.submission.base ≤ base → IsApart base size from n
-    aside base size high low =
-        elim apart [
-          | inl before ↦ inl (omega arith)
-          | inr behind ↦ inr (omega (arith, r.laid.rings, r.laid.pages))
-        ]
+    aside base size high low = let laid = r.laid in grind (arith, apart, laid.rings, laid.pages)

@@ -52,23 +52,14 @@ place_page page_size pages offset len k some enough below =
 abbrev IsBeside : ℕ → ℕ → ℕ → Type 0
 IsBeside place from n = (place < from) ⊎ (from + n ≤ place)
 
-beside_page : (page_size page place from n : ℕ) → page * page_size ≤ place → place < page * page_size + page_size
-    → IsOutside page_size page from n → IsBeside place from n
-beside_page page_size page place from n low high outside =
-    elim outside [
-      | inl before ↦ inr (omega arith)
-      | inr behind ↦ inl (omega arith)
-    ]
-
 -- a place of a command's data is beside each part that its pages are outside of
 pub place_beside : (page_size : ℕ) (x : Sent) (from n k : ℕ) → 0 < page_size
     → x.offset + data_length x ≤ length x.pages * page_size → AreOutside page_size x from n
     → k < data_length x → IsBeside (get_or (places page_size x) k 0) from n
 place_beside page_size x from n k some enough outside below =
-    let at = get_or (places page_size x) k 0 in
     let page = place_page page_size x.pages x.offset (data_length x) k some enough below in
-    beside_page page_size (get_or x.pages page.index 0) at from n page.from page.to
-    (outside (suc (suc page.index)) 0 (let h = page.is_one in omega arith))
+    let one = page.is_one in
+    grind (arith, page.from, page.to, outside (suc (suc page.index)) 0 (omega arith))
 
 -- two pages that aren't one share no byte
 pub other_page : (page_size p q place : ℕ) → p ≢ q → p * page_size ≤ place
@@ -173,8 +164,7 @@ read_keeps old new at same =
     ∙ sym (get_or-map (λ p. get_or old p 0) at k 0 0 below))
 
 place_apart : (place from n : ℕ) → IsBeside place from n → IsApart from n place 1
-place_apart place from n (inl before) = inl (omega arith)
-place_apart place from n (inr behind) = inr behind
+place_apart place from n beside = grind arith
 
 -- the data of a command stays where only bytes that its pages are outside of are other ones
 pub data_beside : (t : Setting) (x : Sent) (base n : ℕ) (old new : List ℕ) → 0 < t.page_size
@@ -194,11 +184,7 @@ data_beside t x base n old new some enough outside only =
 -- a part of what the pages are outside of
 pub outside_part : (t : Setting) (x : Sent) (from n a k : ℕ) → AreOutside t.page_size x from n
     → from ≤ a → a + k ≤ from + n → AreOutside t.page_size x a k
-outside_part t x from n a k outside low high i d h =
-    elim (outside i d h) [
-      | inl before ↦ inl (omega arith)
-      | inr behind ↦ inr (omega arith)
-    ]
+outside_part t x from n a k outside low high i d h = grind (arith, outside i d h)
 
 -- only the pages of x and the n bytes from `base` on are other ones
 abbrev pub ChangesOnlyAt : Setting → Sent → ℕ → ℕ → List ℕ → List ℕ → Type 0
@@ -212,7 +198,7 @@ pub completion_stays : (t : Setting) (x : Sent) (old new : List ℕ) (s : ℕ)
     → completion_at new t.cq s ≡ completion_at old t.cq s
 completion_stays t x old new s only outside rings below =
     ap cqe_of_bytes (only (t.cq + 16 * s) 16 (outside_part t x t.cq (16 * t.depth) (t.cq + 16 * s)
-    16 outside (omega arith) (omega arith)) (elim rings [ inl before ↦ inl (omega arith) | inr behind ↦ inr (omega arith) ]))
+    16 outside (omega arith) (omega arith)) (grind (arith, rings)))
 
 pub submission_stays : (t : Setting) (x : Sent) (old new : List ℕ) (s : ℕ)
     → ChangesOnlyAt t x t.cq (16 * t.depth) old new → AreOutside t.page_size x t.sq (64 * t.depth)
@@ -220,7 +206,7 @@ pub submission_stays : (t : Setting) (x : Sent) (old new : List ℕ) (s : ℕ)
     → submission_at new t.sq s ≡ submission_at old t.sq s
 submission_stays t x old new s only outside rings below =
     ap sqe_of_bytes (only (t.sq + 64 * s) 64 (outside_part t x t.sq (64 * t.depth) (t.sq + 64 * s)
-    64 outside (omega arith) (omega arith)) (elim rings [ inl before ↦ inr (omega arith) | inr behind ↦ inl (omega arith) ]))
+    64 outside (omega arith) (omega arith)) (grind (arith, rings)))
 
 -- the data of another command stays
 pub data_stays : (t : Setting) (x y : Sent) (base n : ℕ) (old new : List ℕ) → 0 < t.page_size
