@@ -51,10 +51,7 @@ begins_all {g} {c} {bus} {l} {now} {bytes} {commands} {answers} {r} {b} is ready
       bus_is = record {
         bus = ready.bus;
         state = ap (λ n. state_after c bus.state l.serial (take n commands)) (sym collected);
-        bank = ready.bank ∙ (is_idle g bus c l now bytes ready).bank
-            ∙ ap (λ n. bank_with t (device_rings t n 0 0)) (sym sent)
-            ∙ ap (λ n. bank_with t (device_rings t b.sent n 0)) (sym collected)
-            ∙ ap (λ n. bank_with t (device_rings t b.sent b.collected n)) (sym told);
+        bank = ready.bank ∙ rw (sent, collected, told) (is_idle g bus c l now bytes ready).bank;
         banks = sym (set-get_or bus.banks c new_bank);
       };
       answers_are = record { len = size; first = rw collected refl };

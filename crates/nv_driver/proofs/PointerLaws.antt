@@ -1,5 +1,5 @@
 -- A command whose pages were made ready: what a controller finds of its entry.
-use Rattle.std.proofs.Common.{subst, ◌≡◌, ◌∙◌, ◌^◌, ℕ, refl, inl, inr, ◌+◌, ◌*◌, ◌<◌, ◌≤◌, List, Ok, ap, arith, length}
+use Rattle.std.proofs.Common.{◌≡◌, ◌∙◌, ◌^◌, ℕ, refl, inl, inr, ◌+◌, ◌*◌, ◌<◌, ◌≤◌, List, Ok, ap, arith, length}
 use Rattle.std.proofs.Common.{sym}
 use Rattle.std.proofs.Math.Nat.{mul-le-mul_right}
 use Rattle.std.proofs.lemmas.Bool.{cases_lt}
@@ -35,8 +35,8 @@ enough_pages from len size pages is low most same =
     let some : 0 < size = omega (arith, page_size_bounds size is) in
     let all = div_ceil_times (from + len) size some in
     let least = div_ceil_times 16384 size some in (
-      subst (λ n. from + len ≤ n * size) (sym same) all.0,
-      few (div_ceil 16384 size) least.0 (subst (λ n. n * size < from + len + size) (sym same) all.1),
+      rw same all.0,
+      few (div_ceil 16384 size) least.0 (rw same all.1),
     )
   where
     few : (m : ℕ) → 16384 ≤ m * size → pages * size < from + len + size → pages + 2 ≤ m + 3

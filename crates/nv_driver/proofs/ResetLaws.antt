@@ -73,14 +73,8 @@ ready_again {g} {b} {b'} {c} {l} {l'} {now} {page} {bytes} {mem} r placed same q
         pages = laid.pages;
         inside = omega (arith, laid.inside, size);
       });
-      tags = subst (λ (v : QueuePair). HoldsTags mem v.cq v.depth v.number) (sym is)
-          (subst (λ d. HoldsTags mem l.completion.base d 0) r.quiet.depth tags);
-      controller = omega (
-        arith,
-        r.controller,
-        ap (λ (x : List RegisterBank). length x) banks,
-        length-set b.banks c (idle (pair_of g c)),
-      );
+      tags = subst (λ (v : QueuePair). HoldsTags mem v.cq v.depth v.number) (sym is) (rw (r.quiet.depth) at tags);
+      controller = rw banks (simp length-set r.controller);
       bus = bus;
       bank = ap (λ x. bank_at x c) banks ∙ get_or-set_same b.banks c (idle (pair_of g c)) new_bank r.controller
           ∙ sym (ap idle (is ∙ ap renewed_pair placed));

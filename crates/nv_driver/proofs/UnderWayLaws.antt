@@ -87,12 +87,8 @@ pub own_length : (r : Run) (o : List (Option CommandPages)) (n : ℕ) (x : Sent)
     → IsReady r.geometry r.bus r.controller r.pair r.geometry.page_size r.bytes
     → IsKept r (kept_at o n) x → length (own_pages x) ≤ pages_of_command r.geometry.page_size
 own_length r o n x ready k =
-    let size = length-data_pages k.one k.seven (omega (
-      arith,
-      k.few,
-      seven_pages r.geometry.page_size ready.geometry.page_size,
-    )) in
-    let same = ap (λ (y : Sent). length (own_pages y)) k.sent in omega (arith, size, same, k.few)
+    let seven = seven_pages r.geometry.page_size ready.geometry.page_size in
+    rw (k.sent) (omega (arith, length-data_pages k.one k.seven (omega (arith, k.few)), k.few))
 
 module _ {r : Run} {bells turns : ℕ} {b : Batch} {l : QueuePairFields} {now : ℕ} {bytes : List ℕ}
     (u : IsUnderWay r bells turns b l now bytes) where
