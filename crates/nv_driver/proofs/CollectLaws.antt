@@ -1,6 +1,6 @@
 -- A list of commands on its way: its answers are collected.
 use Rattle.std.specs.Prelude.{IfSome, IsSome, OnSome, Option, Some, set}
-use Rattle.std.proofs.Common.{◌≡◌, ◌∙◌, ℕ, ◌+◌, ◌-◌, ◌*◌, ◌%◌, ◌<◌, ◌≤◌, All, AllPairs, List, [], ◌∷◌, ◌++◌, add-one}
+use Rattle.std.proofs.Common.{◌≡◌, ◌∙◌, ℕ, ◌+◌, ◌-◌, ◌%◌, ◌<◌, ◌≤◌, All, AllPairs, List, [], ◌∷◌, ◌++◌, add-one}
 use Rattle.std.proofs.Common.{ap, arith, drop, false, get_or, inl, length, length-append, not, refl, subst, suc, sym}
 use Rattle.std.proofs.Common.{take, true, ◌==◌, ◌≢◌}
 use Rattle.std.proofs.Math.Seq.{drop-cons}
@@ -129,9 +129,7 @@ module _ {r : Run} {bells turns : ℕ} {b : Batch} {l : QueuePairFields} {now : 
     freed_between =
         let t = setting_of r in
         let window = u.begun.geometry.window in
-        subst (λ (o : QueuePairFields). IsSlotBetween o.submission.depth o.submission.known
-        o.submission.submitted q.sq_head) (sym u.pair)
-        (subst (IsSlotBetween t.depth (number t b.collected) (number t b.sent)) (sym (head_is more completion_is))
+        rw (ap (λ (o : QueuePairFields). o.submission) u.pair, head_is more completion_is) (
         (between_kept t.depth (t.start + b.collected) 1 (b.sent - b.collected)
         (t.start + (b.collected + 1)) (t.start + b.sent)
         (omega (arith, no_more, more)) (omega (arith, u.window, window.2, u.begun.depth))
@@ -251,11 +249,10 @@ module _ {r : Run} {bells turns : ℕ} {b : Batch} {l : QueuePairFields} {now : 
           let size = r.geometry.page_size in
           let own = u.keeps.own b.collected no_command (omega (arith, u.collected))
           (omega (arith, no_more, e.more, u.sent)) in
-          subst (λ ps. IsBuffer bytes size ps r.geometry.offset (data_length x)) one_is.of_data
-          (record {
+          rw (← one_is.of_data) (record {
             below = u.begun.geometry.offset.1;
             aligned = u.begun.geometry.offset.0;
-            enough = subst (λ from. from + data_length x ≤ length x.pages * size) one_is.offset own.enough;
+            enough = rw (one_is.offset) at own.enough;
             inside = λ i d h. of_set r.pair.pages bytes size (get_or x.pages i d)
                 (omega (arith, u.begun.laid.inside, u.size))
                 (u.own b.collected no_command (omega (arith, no_more, e.more)) (suc (suc i)) d (omega arith));

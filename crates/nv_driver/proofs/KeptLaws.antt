@@ -73,14 +73,7 @@ bell_keeps t s w w' k happens =
     let m = length w.sent in
     subst (Keeps t s) (sym happens)
     (told_otherwise t s w m w.told _ k
-    (record {
-      told = c.told;
-      collected = c.collected;
-      done = omega (arith, c.done, c.rung);
-      rung = omega arith;
-      few = c.few;
-      free = c.free;
-    })
+    (let done : w.done ≤ m = omega (arith, c.done, c.rung) in let rung : m ≤ m = omega arith in assumption (done, rung, c))
     (ap (λ p. with_register_at p 0x1000 (slot t m)) k.bank
     ∙ tail_rung t w.rung w.done w.told m (omega (arith, c.done, c.rung)) (omega (arith, c.few, c.collected))))
 
@@ -90,14 +83,8 @@ tell_keeps t s w w' k happens =
     let n = length w.answers in
     subst (Keeps t s) (sym happens)
     (told_otherwise t s w w.rung n _ k
-    (record {
-      told = omega arith;
-      collected = c.collected;
-      done = c.done;
-      rung = c.rung;
-      few = c.few;
-      free = omega (arith, c.few, c.done, c.rung);
-    })
+    (let told : n ≤ n = omega arith in let free : w.done < n + t.depth = omega (arith, c.few, c.done, c.rung) in
+    assumption (told, free, c))
     (ap (λ p. with_register_at p 0x1004 (slot t n)) k.bank
     ∙ head_told t w.rung w.done w.told n c.told c.collected c.free))
 

@@ -10,7 +10,7 @@ use Rattle.nv_bus.specs.Bus.{BusValue}
 use Rattle.nv_driver.specs.Exchange.{IsReady, KeepsOthers}
 use Rattle.nv_driver.specs.Keeping.{OthersStay}
 use Rattle.nv_driver.specs.Quiet.{IsQuiet, pair_value}
-use Rattle.nv_driver.specs.Schedule.{AreOutside, IsIdle, Sent, Setting, World, collect_ring}
+use Rattle.nv_driver.specs.Schedule.{bank_with, device_rings, AreOutside, IsIdle, Sent, Setting, World, collect_ring}
 use Rattle.nv_driver.specs.Schedule.{own_pages, submit_ring}
 use Rattle.nv_driver.specs.UnderWay.{setting}
 use Rattle.nv_driver.specs.declared.geometry.Geometry.{Geometry}
@@ -37,23 +37,11 @@ pub is_idle : (g : Geometry) (b : BusValue) (c : ℕ) (l : QueuePairFields) (now
 is_idle g b c l now bytes r =
     let laid = r.laid in
     let t = setting g c (pair_value l) in
-    record {
-      page_size = r.geometry.page_size;
-      deep = laid.deep;
-      start = laid.number;
-      rings = inr laid.rings;
-      submissions = omega (arith, laid.rings, laid.pages, laid.inside);
-      completions = omega (arith, laid.pages, laid.inside);
-      tags = r.tags;
-      bank = rw (← number_zero t laid.number) refl;
-      state = r.bus.state;
-      controller = omega (arith, r.controller, r.bus.banks);
-      sent = refl;
-      rung = refl;
-      done = refl;
-      told = refl;
-      answers = refl;
-    }
+    let rings : IsApart t.sq (64 * t.depth) t.cq (16 * t.depth) = inr laid.rings in
+    let submissions : t.sq + 64 * t.depth ≤ length bytes = omega (arith, laid.rings, laid.pages, laid.inside) in
+    let completions : t.cq + 16 * t.depth ≤ length bytes = omega (arith, laid.pages, laid.inside) in
+    let bank : t.bank ≡ bank_with t (device_rings t 0 0 0) = rw (← number_zero t laid.number) refl in
+    let controller : c < length b.state.controllers = omega (arith, r.controller, r.bus.banks) in assumption
 
 -- the host's rings of a quiet queue pair are those of a schedule that begins
 pub submit_ring_is : (g : Geometry) (c : ℕ) (bytes : List ℕ) (l : QueuePairFields) → IsQuiet l

@@ -14,7 +14,7 @@ use Rattle.nv_model.specs.State.{State}
 use Rattle.nv_bus.specs.Bus.{BusValue, IsBus, enabled_in, bank_at}
 use Rattle.nv_driver.specs.Driver.{IsPlaced}
 use Rattle.nv_driver.specs.Exchange.{IsReady}
-use Rattle.nv_driver.specs.QueuePair.{IsLaid, QueuePair, idle_bank, renewed_pair}
+use Rattle.nv_driver.specs.QueuePair.{QueuePair, idle_bank, renewed_pair}
 use Rattle.nv_driver.specs.Layout.{pair_of}
 use Rattle.nv_driver.specs.Quiet.{IsQuiet, pair_value}
 use Rattle.nv_driver.specs.Registers.{mps_of}
@@ -65,7 +65,7 @@ ready_again {g} {b} {b'} {c} {l} {l'} {now} {page} {bytes} {mem} r placed same q
       depth = ap (λ (v : QueuePair). v.depth) is ∙ r.depth;
       room = omega (arith, r.room, ap (λ (v : QueuePair). v.page_count) is);
       quiet = quiet;
-      laid = subst (IsLaid g.page_size (length mem)) (sym is) (record {
+      laid = rw is (record {
         deep = deep;
         number = omega (arith, deep.0);
         serial = laid.serial;

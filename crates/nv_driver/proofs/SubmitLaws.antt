@@ -50,23 +50,7 @@ slot_stays t x old ready s prepared outside below =
 entry_fits : (t : Setting) (w : World) (x : Sent) (ready : List ℕ) → MaySubmit t w x
     → IsPrepared t.page_size x w.mem ready → SqeFits (entry x)
 entry_fits t w x ready may prepared =
-    let f = (commands_travel x.command x.cid may.can.fits may.cid).fits in
-    record {
-      opcode = f.opcode;
-      fuse = f.fuse;
-      psdt = f.psdt;
-      cid = f.cid;
-      nsid = f.nsid;
-      mptr = f.mptr;
-      prp1 = prepared.prp1;
-      prp2 = prepared.prp2;
-      cdw10 = f.cdw10;
-      cdw11 = f.cdw11;
-      cdw12 = f.cdw12;
-      cdw13 = f.cdw13;
-      cdw14 = f.cdw14;
-      cdw15 = f.cdw15;
-    }
+    assumption (prepared.prp1, prepared.prp2, (commands_travel x.command x.cid may.can.fits may.cid).fits)
 
 own_of : (t : Setting) (s : State) (w : World) (x : Sent) → Keeps t s w → MaySubmit t w x → IsOwn t (length w.mem) x
 own_of t s w x k may =

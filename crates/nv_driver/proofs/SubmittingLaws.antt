@@ -8,7 +8,7 @@ use Rattle.nv_host.specs.Bytes.{bytes_at}
 use Rattle.nv_host.proofs.PageLaws.{page_size_bounds}
 use Rattle.nv_queue.specs.Rings.{CollectNumbers, SubmitNumbers}
 use Rattle.nv_prp.proofs.PlaceLaws.{length-written_at}
-use Rattle.nv_prp.specs.Buffer.{IsBuffer, IsListPlace, IsOutside, KeepsList, KeepsOutside, StaysFor, buffer_places}
+use Rattle.nv_prp.specs.Buffer.{IsBuffer, IsListPlace, KeepsList, KeepsOutside, StaysFor, buffer_places}
 use Rattle.nv_prp.proofs.BufferLaws.{rest_distinct}
 use Rattle.nv_prp.specs.Place.{AreDistinct, written_at}
 use Rattle.nv_prp.specs.Transfer.{transfer}
@@ -72,8 +72,7 @@ buffer_of g s p bytes page_size len is page h enough =
     subst (λ size. IsBuffer bytes size (data_pages p) g.offset len) (sym page) (record {
       below = is.offset.1;
       aligned = is.offset.0;
-      enough = subst (λ n. g.offset + len ≤ n * g.page_size)
-          (sym (length-data_pages p h.seven h.few)) enough;
+      enough = rw (length-data_pages p h.seven h.few) enough;
       inside = λ i d below. each_inside s p g.page_size bytes h (suc (suc i)) d (omega arith);
     })
 
@@ -126,16 +125,13 @@ pub built_by : (g : Geometry) (x : Sent) (old built : List ℕ) (page_size now l
     → KeepsOutside page_size x.first x.second old built → length built ≡ length old
     → IsBuilt g.page_size x old built
 built_by g x old built page_size now len page after is_len first second stays others size =
-    let Stays : ℕ → ℕ → Type 0 = λ p n.
-    0 < n → StaysFor (transfer p built x.prp1 x.prp2 n) x.pages x.offset x.first x.second in
     record {
-      others = λ from n outside. others from n
-          (subst (λ p. IsOutside p x.first from n) (sym page) (outside 0 0 (omega arith)))
-          (subst (λ p. IsOutside p x.second from n) (sym page) (outside 1 0 (omega arith)));
+      others = λ from n outside.
+          others from n (rw page (outside 0 0 (omega arith))) (rw page (outside 1 0 (omega arith)));
       len = size;
       prp1 = first;
       prp2 = second;
-      stays = subst (Stays g.page_size) is_len (subst (λ p. Stays p len) (after ∙ page) stays);
+      stays = rw (after ∙ page, is_len) at stays;
     }
 
 -- and where what the host sends was written, the command is prepared
