@@ -1,9 +1,8 @@
 -- Commands of a driver or a reset, over the queue pairs of its controllers.
 use Rattle.std.specs.Prelude.{slice_set}
-use Rattle.std.proofs.Common.{◌≡◌, ◌≢◌, ◌∙◌, ◌⊎◌, ℕ, ◌+◌, ◌-◌, ◌*◌, ◌/◌, ◌^◌, ◌<◌, ◌≤◌, List, ap, arith, get_or, inl}
+use Rattle.std.proofs.Common.{◌≡◌, ◌≢◌, ◌∙◌, ◌⊎◌, ℕ, ◌+◌, ◌-◌, ◌*◌, ◌/◌, ◌<◌, ◌≤◌, List, ap, arith, get_or, inl}
 use Rattle.std.proofs.Common.{inr, length, map, refl, subst, sym}
 use Rattle.std.proofs.Math.ListN.{length-set}
-use Rattle.std.proofs.Math.Nat.{mul-le-mul_left, mul-le-mul_right}
 use Rattle.std.proofs.lemmas.Bool.{cases_eq, cases_lt}
 use Rattle.std.proofs.lemmas.List.{get_or-map, get_or-set_other, get_or-set_same, get_or_default, length-map, map-set}
 use Rattle.std.proofs.lemmas.List.Elements.{All-set}
@@ -51,18 +50,11 @@ ready_at {g} {mem} {ls} {b} {c} {l} is bus banks below here =
       geometry = is.geometry;
       page_size = is.page_size;
       depth = ap (λ (v : QueuePair). v.depth) (sym at ∙ is.placed c no_pair below);
-      room = subst (λ n. g.window * pages_of_command g.page_size ≤ n)
-          (sym (ap (λ (v : QueuePair). v.page_count) (sym at ∙ is.placed c no_pair below))) (set_room g);
+      room = rw (ap (λ (v : QueuePair). v.page_count) (sym at ∙ is.placed c no_pair below)) (set_room g);
       quiet = subst IsQuiet (sym here) (is.quiet c l below);
-      laid = subst (λ p. IsLaid p (length mem.bytes) (pair_value l)) is.page_size
-          (subst (IsLaid mem.page_size (length mem.bytes)) at (settled.laid c no_pair (omega arith)));
-      tags = subst (λ (v : QueuePair). HoldsTags mem.bytes v.cq v.depth v.number) at
-          (settled.tags c no_pair (omega arith));
-      controller = omega (
-        arith,
-        ap (λ (p : List RegisterBank). length p) banks,
-        length-map (map pair_value ls) (idle_bank (mps_of g.page_size) g.page_size),
-      );
+      laid = rw (is.page_size, at) at (settled.laid c no_pair (omega arith));
+      tags = rw at at (settled.tags c no_pair (omega arith));
+      controller = rw banks (simp length-map below);
       bus = bus;
       bank = ap (λ p. bank_at p c) banks
           ∙ get_or-map (idle_bank (mps_of g.page_size) g.page_size) (map pair_value ls) c no_pair new_bank (omega arith)
@@ -85,9 +77,7 @@ set_each : (P : ℕ → QueuePair → Type 0) (vs : List QueuePair) (c : ℕ) (v
 set_each P vs c v others own i d below =
     let many = length-set vs c v in
     elim (cases_eq i c) [
-      | inl same ↦
-          subst (P i) (sym (ap (λ j. get_or (slice_set vs c v) j d) same ∙ get_or-set_same vs c v d (omega arith)))
-          (subst (λ j. P j v) (sym same) own)
+      | inl same ↦ rw (same, get_or-set_same vs c v d (omega arith)) own
       | inr differ ↦ subst (P i) (sym (get_or-set_other vs c i v d differ)) (others i d (omega arith) differ)
     ]
 
@@ -97,17 +87,9 @@ pub slots_stay : (page_size : ℕ) (old new : List ℕ) (v u : QueuePair) → Ke
     → (end_of page_size u ≤ v.sq) ⊎ (end_of page_size v ≤ u.sq)
     → HoldsTags old u.cq u.depth u.number → HoldsTags new u.cq u.depth u.number
 slots_stay page_size old new v u keeps laid own apart tags s below =
-    let top : s + 1 ≤ u.depth = omega arith in
-    let room = mul-le-mul_left 16 top in
-    let least : u.first_page ≤ u.first_page + u.page_count = omega arith in
-    let ends = mul-le-mul_right page_size least in
-    let own_least : v.first_page ≤ v.first_page + v.page_count = omega arith in
-    let own_ends = mul-le-mul_right page_size own_least in
     let slot = u.cq + 16 * s in
-    let aside : IsApart v.sq (end_of page_size v - v.sq) slot 16 = elim apart [
-      | inl before ↦ inl (omega (arith, laid.pages, ends))
-      | inr behind ↦ inr (omega (arith, laid.rings, own.rings, own.pages, own_ends))
-    ] in
+    let aside : IsApart v.sq (end_of page_size v - v.sq) slot 16 =
+    grind (arith, apart, laid.pages, laid.rings, own.rings, own.pages) in
     ap (λ (q : Cqe). q.phase) (ap cqe_of_bytes (keeps slot 16 aside)) ∙ tags s below
 
 pub settled_after : (page_size : ℕ) (old new : List ℕ) (vs : List QueuePair) (c : ℕ) (v u : QueuePair)
@@ -119,15 +101,13 @@ settled_after page_size old new vs c v u s below here size keeps laid tags sq fi
     let own = subst (IsLaid page_size (length old)) (sym here) (s.laid c v below) in
     record {
       laid = set_each (λ _ q. IsLaid page_size (length new) q) vs c u
-          (λ i d h differ. subst (λ n. IsLaid page_size n (get_or vs i d)) (sym size) (s.laid i d h)) laid;
+          (λ i d h differ. rw size (s.laid i d h)) laid;
       tags = set_each (λ _ q. HoldsTags new q.cq q.depth q.number) vs c u
           (λ i d h differ. slots_stay page_size old new v (get_or vs i d) keeps (s.laid i d h) own
           (beside i d h differ) (s.tags i d h)) tags;
       apart = λ i j d before inside.
           let many = length-set vs c u in
-          subst (λ n. n ≤ (get_or (slice_set vs c u) j d).sq) (sym (end_at i d (omega arith)))
-          (subst (λ n. end_of page_size (get_or vs i d) ≤ n) (sym (sq_at j d (omega arith)))
-          (s.apart i j d before (omega arith)));
+          rw ((same_place i d (omega arith)).1, (same_place j d inside).0) (s.apart i j d before (omega arith));
     }
   where
     same_one : (d : QueuePair) → get_or vs c d ≡ v
@@ -137,27 +117,18 @@ settled_after page_size old new vs c v u s below here size keeps laid tags sq fi
         ⊎ (end_of page_size v ≤ (get_or vs i d).sq)
     beside i d h differ =
         elim (cases_lt i c) [
-          | inl l ↦ inl (subst (λ (q : QueuePair). end_of page_size (get_or vs i d) ≤ q.sq) (same_one d)
-              (s.apart i c d l below))
-          | inr g ↦ inr (subst (λ (q : QueuePair). end_of page_size q ≤ (get_or vs i d).sq) (same_one d)
-              (s.apart c i d (omega (arith, differ)) h))
+          | inl l ↦ inl (rw (same_one d) at (s.apart i c d l below))
+          | inr g ↦ inr (rw (same_one d) at (s.apart c i d (omega (arith, differ)) h))
         ]
 
-    end_at : (i : ℕ) (d : QueuePair) → i < length (slice_set vs c u)
-        → end_of page_size (get_or (slice_set vs c u) i d) ≡ end_of page_size (get_or vs i d)
-    end_at i d h =
-        set_each (λ j q. end_of page_size q ≡ end_of page_size (get_or vs j d)) vs c u
-        (λ j e low differ. ap (end_of page_size) (get_or_default vs j e d low))
-        (ap (λ n. (n + u.page_count) * page_size) first
-        ∙ ap (λ n. (v.first_page + n) * page_size) count
-        ∙ sym (ap (end_of page_size) (same_one d))) i d h
-
-    sq_at : (i : ℕ) (d : QueuePair) → i < length (slice_set vs c u)
-        → (get_or (slice_set vs c u) i d).sq ≡ (get_or vs i d).sq
-    sq_at i d h =
-        set_each (λ j q. q.sq ≡ (get_or vs j d).sq) vs c u
-        (λ j e low differ. ap (λ (q : QueuePair). q.sq) (get_or_default vs j e d low))
-        (sq ∙ sym (ap (λ (q : QueuePair). q.sq) (same_one d))) i d h
+    same_place : (i : ℕ) (d : QueuePair) → i < length (slice_set vs c u)
+        → ((get_or (slice_set vs c u) i d).sq ≡ (get_or vs i d).sq)
+        × (end_of page_size (get_or (slice_set vs c u) i d) ≡ end_of page_size (get_or vs i d))
+    same_place i d h =
+        set_each (λ j q. (q.sq ≡ (get_or vs j d).sq) × (end_of page_size q ≡ end_of page_size (get_or vs j d))) vs c u
+        (λ j e low differ. let is = get_or_default vs j e d low in
+        (ap (λ (q : QueuePair). q.sq) is, ap (end_of page_size) is))
+        (rw (same_one d) (sq, rw (first, count) refl)) i d h
 
 -- the values of the queue pairs
 values_set : (ls : List QueuePairFields) (c : ℕ) (l : QueuePairFields) (v : QueuePair) → pair_value l ≡ v
@@ -184,7 +155,7 @@ driver_after {g} {mem} {new} {ls} {b} {c} {l} {l'} {n} {serial} is below here re
       geometry = is.geometry;
       page_size = page ∙ is.page_size;
       whole = ap (λ n. n * new.page_size) pages ∙ ap (λ p. page_count mem * p) page ∙ is.whole ∙ sym size;
-      numbered = subst (λ n. n < 2 ^ 32) (sym pages) is.numbered;
+      numbered = rw pages is.numbered;
       quiet = All-set IsQuiet ls c l' ready.quiet is.quiet;
       placed = λ i d inside.
           subst (λ xs. IsPlaced g i (get_or xs i d)) (sym change)
@@ -194,10 +165,8 @@ driver_after {g} {mem} {new} {ls} {b} {c} {l} {l'} {n} {serial} is below here re
           (let longer = length-set ls c l' in let values = length-set vs c (pair_value l') in omega arith));
       settled = subst (IsSettled new.page_size new.bytes) (sym change)
           (settled_after new.page_size mem.bytes new.bytes vs c (pair_value l) (pair_value l')
-          (subst (λ p. IsSettled p mem.bytes vs) (sym page) is.settled) (omega arith) at size
-          (subst (λ p. KeepsOthers p (pair_value l) mem.bytes new.bytes) (sym (page ∙ is.page_size)) keeps)
-          (subst (λ p. IsLaid p (length new.bytes) (pair_value l')) (sym ready.page_size) ready.laid)
-          (subst (λ d. HoldsTags new.bytes l'.completion.base d l'.submission.submitted) refl ready.tags)
+          (rw page is.settled) (omega arith) at size (rw (page ∙ is.page_size) keeps) (rw (ready.page_size) ready.laid)
+          ready.tags
           (ap (λ (v : QueuePair). v.sq) next) (ap (λ (v : QueuePair). v.first_page) next)
           (ap (λ (v : QueuePair). v.page_count) next));
     }

@@ -1,5 +1,5 @@
 -- What an answer is, and that it is read as it is where its completion and its data lie.
-use Rattle.std.proofs.Common.{◌≡◌, ℕ, ◌<◌, ◌^◌, ◌==◌, ◌&&◌, false, Err, List, None, Ok, Option, Some, ap, arith, lit<}
+use Rattle.std.proofs.Common.{◌≡◌, ℕ, ◌<◌, ◌^◌, false, Err, List, None, Ok, Option, Some, ap, arith, lit<}
 use Rattle.std.proofs.Common.{refl, sym, ◌∙◌}
 use Rattle.std.proofs.lemmas.Bool.Decides.{nat_tests}
 use Rattle.nv_layout.specs.Cqe.{CqeFits}
@@ -31,10 +31,7 @@ IsAnswerTo k (Ok r) = IsReplyTo k r × FitsRecord r
 IsAnswerTo k (Err status) = StatusFits status × (is_success status ≡ false)
 
 no_success : (status : Status) → ((status.sct ≡ 0) × (status.sc ≡ 0) → ⊥) → is_success status ≡ false
-no_success status fails = no_zeros status.sct status.sc fails
-  where
-    no_zeros : (a b : ℕ) → ((a ≡ 0) × (b ≡ 0) → ⊥) → (a == 0 && b == 0) ≡ false
-    no_zeros a b fails = grind (arith, nat_tests, fails)
+no_success status fails = grind (arith, nat_tests, fails)
 
 answer_by : (o : Option Refusal) (s : State) (c : ℕ) (k : Command) (cid : ℕ) → IsWellFormed s
     → ((r : Refusal) → o ≡ Some r → IsRefusal r)

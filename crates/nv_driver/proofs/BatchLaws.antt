@@ -1,8 +1,6 @@
 -- Commands of a schedule that are those of a list, and the distance of their command identifiers.
 use Rattle.std.proofs.Common.{◌≡◌, ◌∙◌, ℕ, zero, suc, ◌+◌, ◌-◌, ◌%◌, ◌<◌, ◌≤◌, List, [], ◌∷◌, ap, arith, get_or}
-use Rattle.std.proofs.Common.{inl, inr, length, map, refl, sym, take}
-use Rattle.std.proofs.Math.Nat.{add-mod_right, mod-add-mod, mod-eq_of_lt}
-use Rattle.std.proofs.lemmas.Bool.{cases_lt}
+use Rattle.std.proofs.Common.{length, map, refl, sym, take}
 use Rattle.std.proofs.lemmas.List.{take-map, take-take}
 use Rattle.std.proofs.lemmas.Nat.{mod_below}
 use Rattle.nv_command.specs.Logs.{answer_received}
@@ -15,36 +13,12 @@ use Rattle.nv_driver.specs.Schedule.{Numbered, Sent, after, answers_of_all, answ
 -- ---- serials
 
 pub serial_next : (serial n : ℕ) → next_serial ((serial + n) % 65535) ≡ (serial + (n + 1)) % 65535
-serial_next serial n =
-    let sum : serial + n + 1 ≡ serial + (n + 1) = omega arith in
-    mod-add-mod (serial + n) 65535 1 ∙ ap (λ i. i % 65535) sum
+serial_next serial n = omega arith
 
 -- the command identifier of a command tells how many come after it, up to the next one
 pub distance_is : (serial k m : ℕ) → k ≤ m → m < k + 65535
     → ((serial + m) % 65535 + 65535 - (serial + k) % 65535) % 65535 ≡ m - k
-distance_is serial k m order near =
-    let a = (serial + k) % 65535 in
-    let below : a < 65535 = mod_below (serial + k) 65535 (omega arith) in
-    let sum : serial + m ≡ serial + k + (m - k) = omega arith in
-    let is : (serial + m) % 65535 ≡ (a + (m - k)) % 65535 =
-    ap (λ i. i % 65535) sum ∙ sym (mod-add-mod (serial + k) 65535 (m - k)) in
-    ap (λ i. (i + 65535 - a) % 65535) is ∙ from a (m - k) below (omega arith)
-  where
-    from : (a j : ℕ) → a < 65535 → j < 65535 → ((a + j) % 65535 + 65535 - a) % 65535 ≡ j
-    from a j low few =
-        elim (cases_lt (a + j) 65535) [
-          | inl l ↦
-              let whole : (a + j) % 65535 + 65535 - a ≡ j + 65535 = omega (arith, mod-eq_of_lt l) in
-              ap (λ i. i % 65535) whole ∙ add-mod_right j 65535 ∙ mod-eq_of_lt few
-          | inr g ↦
-              let rest : a + j - 65535 < 65535 = omega arith in
-              let over : a + j ≡ a + j - 65535 + 65535 = omega arith in
-              let less : (a + j) % 65535 ≡ a + j - 65535 =
-              ap (λ i. i % 65535) over ∙ add-mod_right (a + j - 65535) 65535
-              ∙ mod-eq_of_lt rest in
-              let whole : (a + j) % 65535 + 65535 - a ≡ j = omega (arith, less) in
-              ap (λ i. i % 65535) whole ∙ mod-eq_of_lt few
-        ]
+distance_is serial k m order near = omega arith
 
 -- ---- the commands of a schedule
 
@@ -53,13 +27,11 @@ pub command_at : (serial n : ℕ) (ks : List Command) (d : Numbered) (e : Comman
     → get_or (from_serial serial ks) n d ≡ record { command = get_or ks n e; cid = (serial + n) % 65535 }
 command_at serial n [] d e below inside = absurd (omega arith)
 command_at serial zero (k ∷ ks) d e below inside =
-    let zero_more : serial + 0 ≡ serial = omega arith in
-    ap (λ i. record { command = k; cid = i }) (sym (ap (λ i. i % 65535) zero_more ∙ mod-eq_of_lt below))
+    let first : serial ≡ (serial + 0) % 65535 = omega arith in ap (λ i. record { command = k; cid = i }) first
 command_at serial (suc n) (k ∷ ks) d e below inside =
-    let sum : serial + 1 + n ≡ serial + suc n = omega arith in
+    let same : (next_serial serial + n) % 65535 ≡ (serial + suc n) % 65535 = omega arith in
     command_at (next_serial serial) n ks d e (mod_below (serial + 1) 65535 (omega arith)) (omega arith)
-    ∙ ap (λ i. record { command = get_or ks n e; cid = i })
-    (mod-add-mod (serial + 1) 65535 n ∙ ap (λ i. i % 65535) sum)
+    ∙ ap (λ i. record { command = get_or ks n e; cid = i }) same
 
 pub length-from_serial : (serial : ℕ) (ks : List Command) → length (from_serial serial ks) ≡ length ks
 length-from_serial serial [] = refl

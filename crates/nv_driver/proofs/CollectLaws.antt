@@ -1,6 +1,6 @@
 -- A list of commands on its way: its answers are collected.
 use Rattle.std.specs.Prelude.{IfSome, IsSome, OnSome, Option, Some, set}
-use Rattle.std.proofs.Common.{◌≡◌, ◌∙◌, ℕ, ◌+◌, ◌-◌, ◌*◌, ◌%◌, ◌<◌, ◌≤◌, All, AllPairs, List, [], ◌∷◌, ◌++◌, add-one}
+use Rattle.std.proofs.Common.{◌≡◌, ◌∙◌, ℕ, ◌+◌, ◌-◌, ◌%◌, ◌<◌, ◌≤◌, All, AllPairs, List, [], ◌∷◌, ◌++◌, add-one}
 use Rattle.std.proofs.Common.{ap, arith, drop, false, get_or, inl, length, length-append, not, refl, subst, suc, sym}
 use Rattle.std.proofs.Common.{take, true, ◌==◌, ◌≢◌}
 use Rattle.std.proofs.Math.Seq.{drop-cons}
@@ -21,8 +21,8 @@ use Rattle.nv_command.specs.Logs.{IsSendable}
 use Rattle.nv_command.specs.declared.command.Command.{Command}
 use Rattle.nv_bus.specs.Call.{length_of}
 use Rattle.nv_driver.specs.CommandPages.{AreTaken, all_pages, data_pages, with_pages, without}
-use Rattle.nv_driver.specs.Schedule.{Answer, Collect, Happens, Numbered, Sent, World, answer_from, answer_read}
-use Rattle.nv_driver.specs.Schedule.{answers_to, awaited, collect_ring, data_length, number, own_pages, places}
+use Rattle.nv_driver.specs.Schedule.{Answer, Collect, Happens, Holds, Numbered, Sent, answer_awaited, answer_from}
+use Rattle.nv_driver.specs.Schedule.{answer_read, answers_to, awaited, collect_ring, data_length, number, own_pages, places}
 use Rattle.nv_driver.specs.Schedule.{received_from, slot, submit_ring}
 use Rattle.nv_driver.specs.Layout.{pages_of_command}
 use Rattle.nv_driver.specs.UnderWay.{HasAnswers, IsKept, IsUnderWay, Run, kept_at, pages_of_all, serial_at, setting_of}
@@ -34,10 +34,11 @@ use Rattle.nv_driver.proofs.BatchLaws.{answers_are, distance_is}
 use Rattle.nv_driver.proofs.CountLaws.{number_next}
 use Rattle.nv_driver.proofs.KeptLaws.{collect_keeps, is_found}
 use Rattle.nv_driver.proofs.OthersLaws.{collect_others}
+use Rattle.nv_driver.proofs.PointerLaws.{seven_pages}
 use Rattle.nv_driver.proofs.SerialLaws.{length-answers}
-use Rattle.nv_driver.proofs.SubmittingLaws.{buffer_as, of_set, pages_are, places_as}
+use Rattle.nv_driver.proofs.SubmittingLaws.{buffer_as, of_set, pages_are, pair_by, pairs_same, places_as}
 use Rattle.nv_driver.proofs.TurnLaws.{no_command}
-use Rattle.nv_driver.proofs.UnderWayLaws.{command_of, held, pages_left}
+use Rattle.nv_driver.proofs.UnderWayLaws.{command_of, counts, held, pages_left, world}
 use Rattle.nv_driver.proofs.WindowPageLaws.{given_back, gone, taken_first, taken_rest}
 
 pub in_some : {X : Type 0} {P : Type 0} (o : Option X) (x : X) → o ≡ Some x → OnSome o P → P
@@ -61,137 +62,137 @@ is_one r found o x k is =
       pages = ap all_pages (sym same) ∙ pages_are k.one k.seven ∙ ap own_pages (sym k.sent);
     }
 
+-- completion q is that of the awaited command n
+pub record IsNext (r : Run) (turns : ℕ) (b : Batch) (bytes : List ℕ) (q : Cqe) (n : ℕ) : Type 0 where
+  pub more : b.collected < turns
+  pub completion : q ≡ completion_at bytes (setting_of r).cq (slot (setting_of r) b.collected)
+  pub at : n ≡ b.collected
+
+-- the pages of a command can be given back to a set
+pub record CanGive (s : Pages) (o : CommandPages) : Type 0 where
+  pub few : o.data_pages ≤ 5
+  pub own : All (λ p. IsOf s.first s.count p) (all_pages o)
+  pub none : All (λ p. set.contains s.members p ≡ false) (all_pages o)
+  pub distinct : AllPairs (λ p q. p ≢ q) (all_pages o)
+
 -- more was collected than was told
 above_told : (h k : ℕ) → h ≤ k → true ≡ not (h == k + 1)
 above_told h k low = grind (arith, nat_tests)
 
-abbrev pair_by : SubmitNumbers → CollectNumbers → ℕ → Pages → QueuePairFields
-pair_by a c n p = record { submission = a; completion = c; serial = n; pages = p }
-
-pairs_same : {a a' : SubmitNumbers} {c c' : CollectNumbers} {n n' : ℕ} {p p' : Pages} → a ≡ a'
-    → c ≡ c' → n ≡ n' → p ≡ p' → pair_by a c n p ≡ pair_by a' c' n' p'
-pairs_same e f g h = cc
-
 module _ {r : Run} {bells turns : ℕ} {b : Batch} {l : QueuePairFields} {now : ℕ} {bytes : List ℕ}
     (u : IsUnderWay r bells turns b l now bytes) where
   pub no_more : (b.collected ≤ b.sent) × (turns ≤ b.sent)
-  no_more =
-      let c = u.keeps.counts in
-      (omega (arith, c.collected, c.done, c.rung, u.sent, u.collected), omega (arith, c.done, c.rung, u.sent, u.done))
+  no_more = let c = counts u in (omega (arith, c.collected, c.done, c.rung), omega (arith, c.done, c.rung))
 
   -- the command whose answer is awaited
   abbrev pub next_one : Sent
-  next_one = get_or u.world.sent b.collected no_command
+  next_one = get_or u.course.sent b.collected no_command
 
-  there : b.collected < turns → IsAwaitedThere u.world.mem (awaited (setting_of r) u.world)
-  there more = (is_found (setting_of r) r.bus.state u.world u.keeps).1 (omega (arith, more, u.collected, u.done))
-
-  ring_is : awaited (setting_of r) u.world ≡ l.completion
-  ring_is =
-      ap (λ n. collect_ring (setting_of r) n u.world.told) u.collected
-      ∙ ap (collect_ring (setting_of r) b.collected) u.told
-      ∙ ap (λ (q : QueuePairFields). q.completion) (sym u.pair)
+  there : b.collected < turns → IsAwaitedThere bytes (awaited (setting_of r) (world u))
+  there more = (is_found (setting_of r) r.bus.state (world u) u.keeps).1 (omega (arith, more, u.collected))
 
   pub is_there : b.collected < turns → IsAwaitedThere bytes l.completion
-  is_there more = subst (λ q. IsAwaitedThere bytes q) ring_is
-      (subst (λ m. IsAwaitedThere m (awaited (setting_of r) u.world)) u.mem (there more))
+  is_there more = subst (IsAwaitedThere bytes) (ap (λ n. collect_ring (setting_of r) n b.told) u.collected
+      ∙ ap (λ (q : QueuePairFields). q.completion) (sym u.pair)) (there more)
 
-  -- it has its place in the window
-  pub is_some : b.collected < turns → {found : Option CommandPages} → kept_at b b.collected ≡ found → IsSome found
-  is_some more same = let k = u.kept b.collected no_command (omega arith) (omega (arith, no_more, more)) in
-      subst IsSome (sym k.is_one ∙ same) refl
+  held_here : b.collected < turns → Holds (setting_of r) r.bus.state (world u) b.collected next_one
+  held_here more = u.keeps.held b.collected no_command (omega (arith, u.collected)) more
+
+  head_is : {q : Cqe} → b.collected < turns → q ≡ completion_at bytes (setting_of r).cq (slot (setting_of r) b.collected)
+      → q.sq_head ≡ slot (setting_of r) (b.collected + 1)
+  head_is more is = ap (λ (c : Cqe). c.sq_head) is ∙ (held_here more).head
 
   module _ (more : b.collected < turns) {found : Option Cqe} {q : Cqe} (some : found ≡ Some q)
       (value : IfSome found (λ c. c ≡ awaited_completion bytes l.completion)) where
-    pub completion_is : q ≡ completion_at u.world.mem (setting_of r).cq (slot (setting_of r) b.collected)
+    completion_is : q ≡ completion_at bytes (setting_of r).cq (slot (setting_of r) b.collected)
     completion_is =
         subst (λ (o : Option Cqe). IfSome o (λ c. c ≡ awaited_completion bytes l.completion)) some value
-        ∙ ap (awaited_completion bytes) (ap (λ (o : QueuePairFields). o.completion) u.pair)
-        ∙ ap (λ m. completion_at m (setting_of r).cq (slot (setting_of r) b.collected)) (sym u.mem)
+        ∙ ap (λ (o : QueuePairFields). awaited_completion bytes o.completion) u.pair
 
-    pub cid_is : q.cid ≡ serial_at r b.collected
-    cid_is =
-        let held = u.keeps.held b.collected no_command (omega (arith, u.collected)) (omega (arith, more, u.done)) in
-        ap (λ (c : Cqe). c.cid) completion_is
-        ∙ held.cid ∙ ap (λ (x : Numbered). x.cid) (command_of u b.collected no_command.command
-        (omega (arith, no_more, more)))
-
-    pub head_is : q.sq_head ≡ slot (setting_of r) (b.collected + 1)
-    head_is =
-        let held = u.keeps.held b.collected no_command (omega (arith, u.collected)) (omega (arith, more, u.done)) in
-        ap (λ (c : Cqe). c.sq_head) completion_is ∙ held.head
+    cid_is : q.cid ≡ serial_at r b.collected
+    cid_is = ap (λ (c : Cqe). c.cid) completion_is ∙ (held_here more).cid
+        ∙ ap (λ (x : Numbered). x.cid) (command_of u b.collected no_command.command (omega (arith, no_more, more)))
 
     pub cid_below : q.cid < 65535
     cid_below = let below = mod_below (r.pair.serial + b.collected) 65535 (omega arith) in omega (arith, cid_is, below)
 
     -- by its command identifier it is the awaited one
-    pub distance_to : (n : ℕ) → n ≡ (l.serial + 65535 - q.cid) % 65535 → n ≡ b.sent - b.collected
-    distance_to n is =
+    pub is_next : {n : ℕ} → n ≡ (l.serial + 65535 - q.cid) % 65535 → (n ≤ b.sent) × IsNext r turns b bytes q (b.sent - n)
+    is_next {n} is =
+        let to : n ≡ b.sent - b.collected =
         is ∙ ap (λ c. (l.serial + 65535 - c) % 65535) cid_is
         ∙ ap (λ (o : QueuePairFields). (o.serial + 65535 - serial_at r b.collected) % 65535) u.pair
-        ∙ distance_is r.pair.serial b.collected b.sent (no_more.0) (omega (arith, u.window, u.begun.geometry.window.1))
-
-    pub number_is : {n : ℕ} → n ≡ (l.serial + 65535 - q.cid) % 65535 → b.sent - n ≡ b.collected
-    number_is {n} is = omega (arith, distance_to n is, no_more)
+        ∙ distance_is r.pair.serial b.collected b.sent (no_more.0) (omega (arith, u.window, u.begun.geometry.window.1)) in
+        (omega arith, record { more = more; completion = completion_is; at = omega (arith, no_more) })
 
     pub freed_between : IsSlotBetween l.submission.depth l.submission.known l.submission.submitted q.sq_head
     freed_between =
         let t = setting_of r in
         let window = u.begun.geometry.window in
-        subst (λ (o : QueuePairFields). IsSlotBetween o.submission.depth o.submission.known
-        o.submission.submitted q.sq_head) (sym u.pair)
-        (subst (IsSlotBetween t.depth (number t b.collected) (number t b.sent)) (sym head_is)
+        rw (ap (λ (o : QueuePairFields). o.submission) u.pair, head_is more completion_is) (
         (between_kept t.depth (t.start + b.collected) 1 (b.sent - b.collected)
         (t.start + (b.collected + 1)) (t.start + b.sent)
         (omega (arith, no_more, more)) (omega (arith, u.window, window.2, u.begun.depth))
         (omega arith) (omega (arith, no_more))))
 
-    freed_to : first_in_slot (setting_of r).depth (number (setting_of r) b.collected) q.sq_head ≡
-        number (setting_of r) (b.collected + 1)
+  module _ {q : Cqe} {n : ℕ} (e : IsNext r turns b bytes q n) where
+    -- it has its place in the window
+    kept_here : IsKept r (kept_at b.outstanding n) next_one
+    kept_here = subst (λ i. IsKept r (kept_at b.outstanding i) next_one) (sym e.at)
+        (u.kept b.collected no_command (omega arith) (omega (arith, no_more, e.more)))
+
+    pub has_place : {found : Option CommandPages} → kept_at b.outstanding n ≡ found → IsSome found
+    has_place same = subst IsSome (sym kept_here.is_one ∙ same) refl
+
+    pub number_inside : n < length r.commands
+    number_inside = omega (arith, e.at, e.more, no_more, u.some)
+
+    freed_to : first_in_slot (setting_of r).depth (number (setting_of r) b.collected) q.sq_head
+        ≡ number (setting_of r) (b.collected + 1)
     freed_to =
         let t = setting_of r in
         let deep = u.keeps.placed.deep in
-        ap (first_in_slot t.depth (number t b.collected)) head_is
+        ap (first_in_slot t.depth (number t b.collected)) (head_is e.more e.completion)
         ∙ first_kept t.depth (t.start + (b.collected + 1)) (t.start + b.collected) 1 (omega arith)
         (omega (arith, deep.0))
 
     -- ---- its pages
 
-    held_is : held u ≡ own_pages next_one ++ pages_of_all (drop (b.collected + 1) u.world.sent)
-    held_is = ap pages_of_all (drop-cons u.world.sent b.collected no_command (omega (arith, no_more, more, u.sent)))
-        ∙ ap (λ n. own_pages next_one ++ pages_of_all (drop n u.world.sent)) (sym (add-one b.collected))
+    held_is : held u ≡ own_pages next_one ++ pages_of_all (drop (b.collected + 1) u.course.sent)
+    held_is = ap pages_of_all (drop-cons u.course.sent b.collected no_command (omega (arith, no_more, e.more, u.sent)))
+        ∙ ap (λ n. own_pages next_one ++ pages_of_all (drop n u.course.sent)) (sym (add-one b.collected))
 
-    module _ {kept : Option CommandPages} {o : CommandPages} (place : kept_at b b.collected ≡ kept)
-        (here : kept ≡ Some o) where
-      pub one_is : IsOne r o next_one
-      one_is = is_one r (kept_at b b.collected) o next_one
-          (u.kept b.collected no_command (omega arith) (omega (arith, no_more, more))) (place ∙ here)
+    module _ {o : CommandPages} (here : kept_at b.outstanding n ≡ Some o) where
+      one_is : IsOne r o next_one
+      one_is = is_one r (kept_at b.outstanding n) o next_one kept_here here
 
-      all_is : held u ≡ all_pages o ++ pages_of_all (drop (b.collected + 1) u.world.sent)
-      all_is = held_is ∙ ap (λ ps. ps ++ pages_of_all (drop (b.collected + 1) u.world.sent)) (sym one_is.pages)
+      pub few_data : o.data_pages ≤ 5
+      few_data = omega (arith, one_is.few, seven_pages _ u.begun.geometry.page_size)
 
-      pub give_own : All (λ p. IsOf l.pages.first l.pages.count p) (all_pages o)
-      give_own =
-          subst (λ (s : Pages). All (λ p. IsOf s.first s.count p) (all_pages o)) (sym (pages_left u))
-          (taken_first r.pair.pages (all_pages o) _ (subst (AreTaken r.pair.pages) all_is u.taken)).own
+      all_is : held u ≡ all_pages o ++ pages_of_all (drop (b.collected + 1) u.course.sent)
+      all_is = held_is ∙ ap (λ ps. ps ++ pages_of_all (drop (b.collected + 1) u.course.sent)) (sym one_is.pages)
 
-      pub give_none : All (λ p. set.contains l.pages.members p ≡ false) (all_pages o)
-      give_none =
-          subst (λ (s : Pages). All (λ p. set.contains s.members p ≡ false) (all_pages o))
-          (sym (pages_left u ∙ ap (without r.pair.pages) all_is))
-          (λ i d h. gone r.pair.pages (all_pages o) (pages_of_all (drop (b.collected + 1) u.world.sent)) i d h)
+      taken_all : AreTaken r.pair.pages (all_pages o ++ pages_of_all (drop (b.collected + 1) u.course.sent))
+      taken_all = subst (AreTaken r.pair.pages) all_is u.taken
 
-      pub give_distinct : AllPairs (λ p q. p ≢ q) (all_pages o)
-      give_distinct = (taken_first r.pair.pages (all_pages o) _ (subst (AreTaken r.pair.pages) all_is u.taken)).distinct
+      pub can_give : CanGive l.pages o
+      can_give =
+          let first = taken_first r.pair.pages (all_pages o) _ taken_all in
+          subst (λ s. CanGive s o) (sym (pages_left u ∙ ap (without r.pair.pages) all_is)) (record {
+            few = few_data;
+            own = first.own;
+            none = λ i d h. gone r.pair.pages (all_pages o) (pages_of_all (drop (b.collected + 1) u.course.sent)) i d h;
+            distinct = first.distinct;
+          })
 
-      taken_left : AreTaken r.pair.pages (pages_of_all (drop (b.collected + 1) u.world.sent))
-      taken_left = taken_rest r.pair.pages (all_pages o) _ (subst (AreTaken r.pair.pages) all_is u.taken)
+      taken_left : AreTaken r.pair.pages (pages_of_all (drop (b.collected + 1) u.course.sent))
+      taken_left = taken_rest r.pair.pages (all_pages o) _ taken_all
 
       pages_back : with_pages l.pages (all_pages o) ≡ without r.pair.pages
-          (pages_of_all (drop (b.collected + 1) u.world.sent))
+          (pages_of_all (drop (b.collected + 1) u.course.sent))
       pages_back = ap (λ s. with_pages s (all_pages o)) (pages_left u ∙ ap (without r.pair.pages) all_is)
           ∙ given_back r.pair.pages (all_pages o) (pages_of_all
-          (drop (b.collected + 1) u.world.sent)) (subst (AreTaken r.pair.pages) all_is u.taken)
+          (drop (b.collected + 1) u.course.sent)) taken_all
 
       -- ---- what is left
 
@@ -199,33 +200,17 @@ module _ {r : Run} {bells turns : ℕ} {b : Batch} {l : QueuePairFields} {now : 
           (with_pages l.pages (all_pages o))
           ≡ pair_by (submit_ring (setting_of r) b.sent (b.collected + 1))
           (collect_ring (setting_of r) (b.collected + 1) b.told)
-          (serial_at r b.sent) (without r.pair.pages (pages_of_all (drop (b.collected + 1) u.world.sent)))
+          (serial_at r b.sent) (without r.pair.pages (pages_of_all (drop (b.collected + 1) u.course.sent)))
       pair_left =
           let t = setting_of r in
-          let c = u.keeps.counts in
-          let serial = ap (λ (x : QueuePairFields). x.serial) u.pair in
-          let untold : true ≡ not (b.told == b.collected + 1) =
-          above_told b.told b.collected (omega (arith, c.told, u.told, u.collected)) in
+          let c = counts u in
           let submission : known_to l.submission q.sq_head ≡ submit_ring t b.sent (b.collected + 1) =
           ap (λ (x : QueuePairFields). known_to x.submission q.sq_head) u.pair
-          ∙ ap (λ n. record { base = t.sq; depth = t.depth; submitted = number t b.sent; known = n }) freed_to in
+          ∙ ap (λ n. record (submit_ring t b.sent b.collected) { known = n }) freed_to in
           let completion : collected_one l.completion ≡ collect_ring t (b.collected + 1) b.told =
           ap (λ (x : QueuePairFields). collected_one x.completion) u.pair
-          ∙ ap (λ n. record {
-            base = t.cq;
-            depth = t.depth;
-            collected = n;
-            told = number t b.told;
-            untold = true;
-          }) (number_next t b.collected)
-          ∙ ap (λ a. record {
-            base = t.cq;
-            depth = t.depth;
-            collected = number t (b.collected + 1);
-            told = number t b.told;
-            untold = a;
-          }) untold in
-          pairs_same submission completion serial pages_back
+          ∙ cc (number_next t b.collected, above_told b.told b.collected c.told) in
+          pairs_same submission completion (ap (λ (x : QueuePairFields). x.serial) u.pair) pages_back
 
       pub collects : {a : SubmitNumbers} {p : CollectNumbers} {s : Pages}
           → a ≡ known_to l.submission q.sq_head → p ≡ collected_one l.completion
@@ -233,43 +218,26 @@ module _ {r : Run} {bells turns : ℕ} {b : Batch} {l : QueuePairFields} {now : 
           (record b { collected = b.collected + 1 }) (pair_by a p l.serial s) now bytes
       collects submission completion pages =
           let t = setting_of r in
-          let w = u.world in
-          let a = answer_read t.page_size next_one w.mem (awaited_completion w.mem (awaited t w)) in
-          let at : get_or w.sent (length w.answers) no_command ≡ next_one =
-          ap (λ n. get_or w.sent n no_command) u.collected in
-          let w' : World = record w { answers = w.answers ++ a ∷ [] } in
-          let happens : Happens t Collect w w' = inl (
-            there more,
-            no_command,
-            ap (λ y. record w {
-              answers = w.answers ++ answer_read t.page_size y w.mem
-                  (awaited_completion w.mem (awaited t w)) ∷ [];
-            }) (sym at),
-          ) in
+          let w = world u in
+          let a = answer_awaited t w (get_or w.sent (length w.answers) no_command) in
+          let w' = record w { answers = w.answers ++ a ∷ [] } in
+          let happens : Happens t Collect w w' = inl (there e.more, no_command, refl) in
           record {
-            begun = u.begun;
-            can = u.can;
-            geometry = u.geometry;
-            controller = u.controller;
-            page_size = u.page_size;
-            size = u.size;
-            window = omega (arith, u.window);
-            some = u.some;
-            room = u.room;
-            world = w';
+            running = u.running;
+            course = record u.course { answers = w'.answers };
+            has = record {
+              window = omega (arith, u.window);
+              some = u.some;
+              sent = u.sent;
+              commands = u.commands;
+              kept = λ n d from h. u.kept n d (omega (arith, from)) h;
+              taken = taken_left;
+              own = u.own;
+            };
             keeps = collect_keeps t r.bus.state w w' u.keeps happens;
             others = collect_others t 0 r.bytes w w' u.others happens;
-            mem = u.mem;
-            rung = u.rung;
-            done = u.done;
-            told = u.told;
-            sent = u.sent;
             collected = length-append w.answers (a ∷ []) ∙ ap (λ n. n + 1) u.collected;
-            commands = u.commands;
-            kept = λ n d from h. u.kept n d (omega (arith, from)) h;
             pair = pairs_same submission completion refl pages ∙ pair_left;
-            taken = taken_left;
-            own = u.own;
           }
 
       -- ---- the answer
@@ -280,22 +248,25 @@ module _ {r : Run} {bells turns : ℕ} {b : Batch} {l : QueuePairFields} {now : 
           let x = next_one in
           let size = r.geometry.page_size in
           let own = u.keeps.own b.collected no_command (omega (arith, u.collected))
-          (omega (arith, no_more, more, u.sent)) in
-          subst (λ ps. IsBuffer bytes size ps r.geometry.offset (data_length x)) one_is.of_data
-          (record {
+          (omega (arith, no_more, e.more, u.sent)) in
+          rw (← one_is.of_data) (record {
             below = u.begun.geometry.offset.1;
             aligned = u.begun.geometry.offset.0;
-            enough = subst (λ from. from + data_length x ≤ length x.pages * size) one_is.offset own.enough;
+            enough = rw (one_is.offset) at own.enough;
             inside = λ i d h. of_set r.pair.pages bytes size (get_or x.pages i d)
                 (omega (arith, u.begun.laid.inside, u.size))
-                (u.own b.collected no_command (omega (arith, no_more, more)) (suc (suc i)) d (omega arith));
+                (u.own b.collected no_command (omega (arith, no_more, e.more)) (suc (suc i)) d (omega arith));
           })
 
-      module _ {k : Command} (same : k ≡ next_one.command) where
+      module _ {k : Command} {ks : List Command} (of_run : ks ≡ r.commands) (is : k ≡ get_or ks n k) where
+        same : k ≡ next_one.command
+        same = is ∙ ap (λ xs. get_or xs n k) of_run ∙ ap (λ i. get_or r.commands i k) e.at ∙ ap
+            (λ (x : Numbered). x.command) (sym (command_of u b.collected k (omega (arith, no_more, e.more))))
+
         pub answer_sends : IsSendable k
         answer_sends =
             subst IsSendable (sym same) (u.keeps.own b.collected no_command
-            (omega (arith, u.collected)) (omega (arith, no_more, more, u.sent))).can.sends
+            (omega (arith, u.collected)) (omega (arith, no_more, e.more, u.sent))).can.sends
 
         module _ {pages : List ℕ} {from : ℕ} (of_data : pages ≡ data_pages o)
             (begins : from ≡ b.geometry.offset) where
@@ -313,43 +284,30 @@ module _ {r : Run} {bells turns : ℕ} {b : Batch} {l : QueuePairFields} {now : 
           answer_is : (d : Answer)
               → answer_from k q
               (received_from (transfer_by k) bytes (buffer_places now pages from (length_of (transfer_by k))))
-              ≡ get_or (answers_to r.controller r.bus.state u.world.sent) b.collected d
+              ≡ get_or (answers_to r.controller r.bus.state u.course.sent) b.collected d
           answer_is d =
-              let t = setting_of r in
-              let held = u.keeps.held b.collected no_command (omega (arith, u.collected))
-              (omega (arith, more, u.done)) in
+              let size = r.geometry.page_size in
               ap (λ at. answer_from k q (received_from (transfer_by k) bytes at)) places_are
-              ∙ ap (λ c. answer_from c q (received_from (transfer_by c) bytes (places t.page_size next_one))) same
-              ∙ ap (λ m. answer_read t.page_size next_one m q) (sym u.mem)
-              ∙ ap (answer_read t.page_size next_one u.world.mem) completion_is
-              ∙ held.answer d
+              ∙ ap (λ c. answer_from c q (received_from (transfer_by c) bytes (places size next_one))) same
+              ∙ ap (answer_read size next_one bytes) e.completion ∙ (held_here e.more).answer d
 
-          pub answers_more : {answers : List Answer} {a : Answer} {n : ℕ}
-              → n ≡ b.collected → HasAnswers r b.collected answers
+          pub answers_more : {answers : List Answer} {a : Answer} → HasAnswers r b.collected answers
               → a ≡ answer_from k q
               (received_from (transfer_by k) bytes (buffer_places now pages from (length_of (transfer_by k))))
               → HasAnswers r (b.collected + 1) (set answers n a)
-          answers_more {answers} {a} {n} at has is =
+          answers_more {answers} {a} has is =
               let c = r.controller in
               let s = r.bus.state in
-              let xs = u.world.sent in
+              let xs = u.course.sent in
               let size = length-answers c s xs in
               let few = no_more in
               let all = answers_are r.pair.serial r.commands xs b.sent u.commands c s in
               record {
                 len = length-set answers n a ∙ has.len;
-                first = ap (λ i. take (b.collected + 1) (set answers i a)) at
-                    ∙ take_more_set answers b.collected a (omega (arith, has.len, few, more, u.some))
+                first = ap (λ i. take (b.collected + 1) (set answers i a)) e.at
+                    ∙ take_more_set answers b.collected a (omega (arith, has.len, few, e.more, u.some))
                     ∙ ap (λ ys. ys ++ a ∷ []) (has.first ∙ sym (all b.collected (omega (arith, few))))
                     ∙ ap (λ y. take b.collected (answers_to c s xs) ++ y ∷ []) (is ∙ answer_is a)
-                    ∙ sym (take_more (answers_to c s xs) b.collected a (omega (arith, size, u.sent, few, more)))
-                    ∙ all (b.collected + 1) (omega (arith, few, more));
+                    ∙ sym (take_more (answers_to c s xs) b.collected a (omega (arith, size, u.sent, few, e.more)))
+                    ∙ all (b.collected + 1) (omega (arith, few, e.more));
               }
-
-  -- the command by its number
-  pub command_at : {k : Command} {ks : List Command} {n : ℕ} (e : Command) → b.collected < b.sent
-      → n ≡ b.collected → ks ≡ r.commands → k ≡ get_or ks n e
-      → k ≡ next_one.command
-  command_at {k} {ks} {n} e more at same is =
-      is ∙ ap (λ xs. get_or xs n e) same ∙ ap (λ i. get_or r.commands i e) at ∙ ap
-      (λ (x : Numbered). x.command) (sym (command_of u b.collected e more))

@@ -1,27 +1,29 @@
 -- A list of commands from its beginning to its end, over a quiet queue pair.
 use Rattle.std.specs.Prelude.{slice_set}
-use Rattle.std.proofs.Common.{◌≡◌, ◌∙◌, ℕ, ◌≤◌, All, List, [], ap, arith, drop, length, refl, subst, sym, take}
+use Rattle.std.proofs.Common.{◌≡◌, ◌∙◌, ℕ, ◌+◌, ◌<◌, ◌≤◌, All, List, [], ap, arith, drop, length, refl, subst, sym, take}
 use Rattle.std.proofs.Math.Seq.{drop-length, take-length}
 use Rattle.std.proofs.lemmas.List.{set-get_or}
+use Rattle.std.proofs.lemmas.Nat.{mod_below}
+use Rattle.nv_host.specs.PageSets.{Pages}
 use Rattle.nv_queue.specs.Slots.{HoldsTags}
 use Rattle.nv_command.specs.declared.command.Command.{Command}
 use Rattle.nv_register.specs.RegisterBank.{new_bank}
-use Rattle.nv_bus.specs.Bus.{BusValue, bank_at}
+use Rattle.nv_bus.specs.Bus.{BusValue, IsBus, bank_at}
 use Rattle.nv_driver.specs.Batch.{answers_of, from_serial, state_after}
-use Rattle.nv_driver.specs.CommandPages.{without}
 use Rattle.nv_driver.specs.Exchange.{IsReady, KeepsOthers}
 use Rattle.nv_driver.specs.Quiet.{pair_value}
-use Rattle.nv_driver.specs.Schedule.{Answer, CanBeSent, collect_ring, device_rings, number, bank_with, submit_ring}
-use Rattle.nv_driver.specs.UnderWay.{HasAnswers, IsBusOf, IsUnderWay, Run, pages_of_all, run_of, setting, setting_of}
+use Rattle.nv_driver.specs.Schedule.{number, Answer, CanBeSent, device_rings, bank_with}
+use Rattle.nv_driver.specs.UnderWay.{HasAnswers, IsBusOf, IsUnderWay, Run, pair_at, run_of, setting_of}
 use Rattle.nv_driver.specs.declared.batch.Batch.{Batch}
 use Rattle.nv_driver.specs.declared.geometry.Geometry.{Geometry}
 use Rattle.nv_driver.specs.declared.queue_pair.QueuePair.{QueuePair as QueuePairFields}
 use Rattle.nv_driver.proofs.BatchLaws.{length-from_serial}
 use Rattle.nv_driver.proofs.CollectLaws.{no_more}
-use Rattle.nv_driver.proofs.QuietLaws.{is_idle, pair_after, others_kept}
-use Rattle.nv_driver.proofs.RoundLaws.{has_bank, none_untold}
+use Rattle.nv_driver.proofs.CountLaws.{number_below}
+use Rattle.nv_driver.proofs.QuietLaws.{is_idle, others_kept}
+use Rattle.nv_driver.proofs.RoundLaws.{IsTold, has_bank, none_untold, tells_on}
 use Rattle.nv_driver.proofs.SerialLaws.{length-answers_of_all}
-use Rattle.nv_driver.proofs.UnderWayLaws.{begins, serial_below}
+use Rattle.nv_driver.proofs.UnderWayLaws.{begins}
 use Rattle.nv_driver.proofs.WindowPageLaws.{taken_none}
 
 -- ---- the beginning
@@ -49,63 +51,13 @@ begins_all {g} {c} {bus} {l} {now} {bytes} {commands} {answers} {r} {b} is ready
       bus_is = record {
         bus = ready.bus;
         state = ap (λ n. state_after c bus.state l.serial (take n commands)) (sym collected);
-        bank = ready.bank ∙ (is_idle g bus c l now bytes ready).bank
-            ∙ ap (λ n. bank_with t (device_rings t n 0 0)) (sym sent)
-            ∙ ap (λ n. bank_with t (device_rings t b.sent n 0)) (sym collected)
-            ∙ ap (λ n. bank_with t (device_rings t b.sent b.collected n)) (sym told);
+        bank = ready.bank ∙ rw (sent, collected, told) (is_idle g bus c l now bytes ready).bank;
         banks = sym (set-get_or bus.banks c new_bank);
       };
       answers_are = record { len = size; first = rw collected refl };
     })
 
 -- ---- the end
-
--- what holds where all were sent, collected and told
-pub record HasEnded (g : Geometry) (c : ℕ) (old : BusValue) (l : QueuePairFields) (bytes : List ℕ)
-    (bus : BusValue) (l' : QueuePairFields) (now : ℕ) (mem : List ℕ) : Type 0 where
-  pub ready : IsReady g bus c l' now mem
-  pub banks : bus.banks ≡ slice_set old.banks c (bank_at bus.banks c)
-  pub others : KeepsOthers g.page_size (pair_value l) bytes mem
-
-pub ends_all : {g : Geometry} {c : ℕ} {old bus : BusValue} {l l' : QueuePairFields} {now : ℕ}
-    {bytes mem : List ℕ} {commands : List Command} {r : Run} {b : Batch}
-    → r ≡ run_of g c old l bytes commands → (u : IsUnderWay r b.sent b.collected b l' now mem)
-    → IsBusOf r b.sent b.collected b.told bus
-    → b.sent ≡ b.collected → b.told ≡ b.collected → HasEnded g c old l bytes bus l' now mem
-ends_all {g} {c} {old} {bus} {l} {l'} {now} {bytes} {mem} {commands} {r} {b} is under_way bus_is sent told =
-    at_end (subst (λ x. IsUnderWay x b.sent b.collected b l' now mem) is under_way)
-    (subst (λ x. IsBusOf x b.sent b.collected b.told bus) is bus_is)
-  where
-    at_end : (u : IsUnderWay (run_of g c old l bytes commands) b.sent b.collected b l' now mem)
-        → IsBusOf (run_of g c old l bytes commands) b.sent b.collected b.told bus
-        → HasEnded g c old l bytes bus l' now mem
-    at_end u of =
-        let t = setting g c (pair_value l) in
-        let n = b.collected in
-        let none : drop n u.world.sent ≡ [] = ap (λ i. drop i u.world.sent) (sym (u.sent ∙ sent))
-        ∙ drop-length u.world.sent in
-        let pages = ap (λ (x : QueuePairFields). x.pages) u.pair
-        ∙ ap (λ xs. without l.pages (pages_of_all xs)) none ∙ (taken_none l.pages).1 in
-        let submission = ap (λ (x : QueuePairFields). x.submission) u.pair ∙ ap (λ i. submit_ring t i n) sent in
-        let completion = ap (λ (x : QueuePairFields). x.completion) u.pair ∙ ap (λ i. collect_ring t n i) told
-        ∙ ap (λ e. record {
-          base = t.cq;
-          depth = t.depth;
-          collected = number t n;
-          told = number t n;
-          untold = e;
-        }) (sym (none_untold n)) in
-        let bank = of.bank ∙ ap (λ i. bank_with t (device_rings t i n b.told)) sent
-        ∙ ap (λ i. bank_with t (device_rings t n n i)) told in
-        record {
-          ready = pair_after n u.begun u.page_size u.size submission completion (serial_below u) pages
-              (subst (λ m. HoldsTags m t.cq t.depth (number t n)) u.mem
-              (subst (λ i. HoldsTags u.world.mem t.cq t.depth (number t i)) u.done u.keeps.tags))
-              (has_bank u of) of.bus bank;
-          banks = of.banks;
-          others = subst (KeepsOthers g.page_size (pair_value l) bytes) u.mem
-              (others_kept u.begun u.others (λ i d h. u.own i d (omega (arith, u.sent))));
-        }
 
 -- all were collected
 pub all_collected : {g : Geometry} {c : ℕ} {old : BusValue} {l l' : QueuePairFields} {now : ℕ}
@@ -117,6 +69,74 @@ all_collected is u enough =
     let order = no_more u in
     let same = ap (λ (x : Run). length x.commands) is
     in (omega (arith, order, u.some, same), omega (arith, order, u.some, same))
+
+-- what holds where all were sent, collected and told
+pub record HasEnded (r : Run) (bus : BusValue) (l' : QueuePairFields) (now : ℕ) (mem : List ℕ) : Type 0 where
+  pub ready : IsReady r.geometry bus r.controller l' now mem
+  pub banks : bus.banks ≡ slice_set r.bus.banks r.controller (bank_at bus.banks r.controller)
+  pub others : KeepsOthers r.geometry.page_size (pair_value r.pair) r.bytes mem
+
+-- the queue pair and its controller after n commands
+ready_after : (r : Run) (n : ℕ) {l : QueuePairFields} {now : ℕ} {mem : List ℕ} {bus : BusValue}
+    → IsReady r.geometry r.bus r.controller r.pair r.geometry.page_size r.bytes → l ≡ pair_at r n n n []
+    → now ≡ r.geometry.page_size → length mem ≡ length r.bytes
+    → HoldsTags mem r.pair.completion.base r.pair.submission.depth (number (setting_of r) n)
+    → r.controller < length bus.banks → IsBus bus
+    → bank_at bus.banks r.controller ≡ bank_with (setting_of r) (device_rings (setting_of r) n n n)
+    → IsReady r.geometry bus r.controller l now mem
+ready_after r n {l} {now} {mem} {bus} begun is page size tags below lawful bank =
+    let laid = begun.laid in
+    let deep = laid.deep in
+    subst (λ q. IsReady r.geometry bus r.controller q now mem) (sym is) (record {
+      geometry = begun.geometry;
+      page_size = page;
+      depth = begun.depth;
+      room = begun.room;
+      quiet = record {
+        depth = refl;
+        known = refl;
+        collected = refl;
+        told = refl;
+        untold = sym (none_untold n);
+        free = ap (λ (p : Pages). p.members) (taken_none r.pair.pages).1 ∙ begun.quiet.free;
+      };
+      laid = record {
+        deep = deep;
+        number = number_below (setting_of r) n (omega (arith, deep.0));
+        serial = mod_below (r.pair.serial + n) 65535 (omega arith);
+        rings = laid.rings;
+        pages = laid.pages;
+        inside = omega (arith, laid.inside, size);
+      };
+      tags = tags;
+      controller = below;
+      bus = lawful;
+      bank = bank;
+    })
+
+at_end : {r : Run} {n : ℕ} {b : Batch} {l : QueuePairFields} {now : ℕ} {mem : List ℕ} {bus : BusValue}
+    → (u : IsUnderWay r n n b l now mem) → IsBusOf r n n n bus → b.sent ≡ n → b.collected ≡ n → b.told ≡ n
+    → HasEnded r bus l now mem
+at_end {r} {n} u of sent collected told =
+    let none : drop n u.course.sent ≡ [] = ap (λ i. drop i u.course.sent) (sym (u.sent ∙ sent))
+    ∙ drop-length u.course.sent in
+    record {
+      ready = ready_after r n u.begun (rw (sent, collected, told, none) at u.pair) u.page_size u.size u.keeps.tags
+          (has_bank u of) of.bus of.bank;
+      banks = of.banks;
+      others = others_kept u.begun u.others (λ i d h. u.own i d (omega (arith, u.sent)));
+    }
+
+pub ends_all : {g : Geometry} {c : ℕ} {old bus bus' : BusValue} {l l4 l' : QueuePairFields} {now : ℕ}
+    {bytes mem : List ℕ} {commands : List Command} {r : Run} {b b' : Batch}
+    → r ≡ run_of g c old l bytes commands → IsUnderWay r b.sent b.collected b l4 now mem
+    → IsBusOf r b.sent b.collected b.told bus → length commands ≤ b.collected → IsTold b l4 bus b' l' bus'
+    → HasEnded (run_of g c old l bytes commands) bus' l' now mem
+ends_all {bus' = bus'} {l' = l'} {now = now} {mem = mem} {b = b} is u of enough t =
+    let all = all_collected is u enough in
+    let told = tells_on u of t in
+    subst (λ x. HasEnded x bus' l' now mem) is
+    (at_end (rw all.0 at told.0) (rw all.0 at told.1) refl refl refl)
 
 pub answers_all : {g : Geometry} {c : ℕ} {old : BusValue} {l : QueuePairFields} {bytes : List ℕ}
     {commands : List Command} {r : Run} {n : ℕ} {answers : List Answer}

@@ -13,9 +13,10 @@ use Rattle.nv_register.specs.RegisterBank.{with_register_at}
 use Rattle.nv_register.specs.declared.register_bank.RegisterBank.{RegisterBank}
 use Rattle.nv_driver.specs.Schedule.{Happens, IsIdle, Sent, Setting, World, answer_awaited, answers_to, awaited}
 use Rattle.nv_driver.specs.Schedule.{device_rings, number, bank_with, slot}
-use Rattle.nv_driver.specs.Schedule.{Bell, Collect, Tell}
+use Rattle.nv_driver.specs.Schedule.{Bell, Collect, Holds, Tell}
 use Rattle.nv_driver.proofs.CountLaws.{head_told, number_above, number_below, numbers_differ, slot_inside, tail_rung}
 use Rattle.nv_driver.specs.Keeping.{AreInOrder, Keeps}
+use Rattle.nv_driver.proofs.HeldLaws.{holds_on}
 use Rattle.nv_driver.proofs.SerialLaws.{length-answers}
 
 -- ---- the beginning
@@ -31,13 +32,7 @@ idle_keeps t w i =
     let no_answers = ap (λ xs. length xs) i.answers in
     let deep = i.deep in
     record {
-      placed = record {
-        page_size = i.page_size;
-        deep = i.deep;
-        rings = i.rings;
-        submissions = i.submissions;
-        completions = i.completions;
-      };
+      placed = assumption i;
       counts = record {
         told = omega (arith, i.told);
         collected = omega (arith, no_answers);
@@ -66,22 +61,11 @@ told_otherwise : (t : Setting) (s : State) (w : World) (rung told : ℕ) (bank :
     → AreInOrder t.depth (length w.answers) w.done rung (length w.sent) told
     → bank ≡ bank_with t (device_rings t rung w.done told)
     → Keeps t s (record w { bank = bank; rung = rung; told = told })
-told_otherwise t s w rung told bank k counts is = record {
-  placed = k.placed;
-  counts = counts;
-  bank = is;
-  state = k.state;
-  well_formed = k.well_formed;
-  controller = k.controller;
-  own = k.own;
-  apart = k.apart;
-  named = k.named;
-  waiting = k.waiting;
-  to_send = k.to_send;
-  held = λ n d from below. let h = k.held n d from below in record { answer = h.answer; cid = h.cid; head = h.head };
-  tags = k.tags;
-  answers = k.answers;
-}
+told_otherwise t s w rung told bank k counts is =
+    let v = record w { bank = bank; rung = rung; told = told } in
+    let held : (n : ℕ) (d : Sent) → length w.answers ≤ n → n < w.done → Holds t s v n (get_or w.sent n d) =
+    λ n d from below. holds_on t s w v n (get_or w.sent n d) refl refl (λ b. refl) (k.held n d from below) in
+    assumption (counts, is, held)
 
 pub bell_keeps : (t : Setting) (s : State) (w w' : World) → Keeps t s w → Happens t Bell w w' → Keeps t s w'
 bell_keeps t s w w' k happens =
@@ -89,14 +73,7 @@ bell_keeps t s w w' k happens =
     let m = length w.sent in
     subst (Keeps t s) (sym happens)
     (told_otherwise t s w m w.told _ k
-    (record {
-      told = c.told;
-      collected = c.collected;
-      done = omega (arith, c.done, c.rung);
-      rung = omega arith;
-      few = c.few;
-      free = c.free;
-    })
+    (let done : w.done ≤ m = omega (arith, c.done, c.rung) in let rung : m ≤ m = omega arith in assumption (done, rung, c))
     (ap (λ p. with_register_at p 0x1000 (slot t m)) k.bank
     ∙ tail_rung t w.rung w.done w.told m (omega (arith, c.done, c.rung)) (omega (arith, c.few, c.collected))))
 
@@ -106,14 +83,8 @@ tell_keeps t s w w' k happens =
     let n = length w.answers in
     subst (Keeps t s) (sym happens)
     (told_otherwise t s w w.rung n _ k
-    (record {
-      told = omega arith;
-      collected = c.collected;
-      done = c.done;
-      rung = c.rung;
-      few = c.few;
-      free = omega (arith, c.few, c.done, c.rung);
-    })
+    (let told : n ≤ n = omega arith in let free : w.done < n + t.depth = omega (arith, c.few, c.done, c.rung) in
+    assumption (told, free, c))
     (ap (λ p. with_register_at p 0x1004 (slot t n)) k.bank
     ∙ head_told t w.rung w.done w.told n c.told c.collected c.free))
 
@@ -183,8 +154,7 @@ collected_one t s w d k below =
       named = λ i e from high. k.named i e (omega arith) high;
       waiting = k.waiting;
       to_send = k.to_send;
-      held = λ i e from high. let h = k.held i e (omega arith) high
-          in record { answer = h.answer; cid = h.cid; head = h.head };
+      held = λ i e from high. holds_on t s w _ i _ refl refl (λ b. refl) (k.held i e (omega arith) high);
       tags = k.tags;
       answers = ap (λ xs. xs ++ a ∷ []) k.answers ∙ ap (λ x. take n all ++ x ∷ []) is
           ∙ sym (take_more all n a (omega (arith, c.done, c.rung)))

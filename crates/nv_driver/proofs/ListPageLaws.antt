@@ -4,19 +4,19 @@ use Rattle.std.proofs.Math.Nat.{mul-le-mul_right}
 use Rattle.std.proofs.lemmas.Bool.{cases_lt}
 use Rattle.nv_host.specs.Bytes.{bytes_at}
 use Rattle.nv_prp.specs.Buffer.{ChangesOnly, IsApart, IsOutside, KeepsList}
-use Rattle.nv_prp.specs.Place.{AreDistinct, written_at}
+use Rattle.nv_prp.specs.Place.{AreDistinct, read_at, written_at}
 use Rattle.nv_prp.proofs.PlaceLaws.{length-written_at, part_stays}
 use Rattle.nv_driver.specs.Schedule.{AreApart, AreOutside, Sent, Setting, data_length, own_pages, places, pointed}
-use Rattle.nv_driver.proofs.RegionLaws.{ChangesOnlyAt, length-places, other_page, place_page}
+use Rattle.nv_driver.proofs.RegionLaws.{ChangesOnlyAt, data_beside, data_stays, length-places, other_page, place_page}
 
 -- a page of the list stays
-abbrev Stays : ℕ → Sent → List ℕ → List ℕ → ℕ → Type 0
-Stays page_size x old new i =
+abbrev PageStays : ℕ → Sent → List ℕ → List ℕ → ℕ → Type 0
+PageStays page_size x old new i =
     bytes_at new (get_or (own_pages x) i 0 * page_size) page_size ≡ bytes_at old
     (get_or (own_pages x) i 0 * page_size) page_size
 
 both_stay : (page_size : ℕ) (x : Sent) (old new : List ℕ) → length new ≡ length old
-    → ((i : ℕ) → i < 2 → Stays page_size x old new i)
+    → ((i : ℕ) → i < 2 → PageStays page_size x old new i)
     → KeepsList (pointed page_size x old) x.first x.second new
 both_stay page_size x old new len same = record {
   len = len;
@@ -28,10 +28,8 @@ both_stay page_size x old new len same = record {
 whole_page : (page_size p q : ℕ) → p ≢ q → IsOutside page_size q (p * page_size) page_size
 whole_page page_size p q differ =
     elim (cases_lt p q) [
-      | inl l ↦ let before : p + 1 ≤ q = omega arith in let near =
-          mul-le-mul_right page_size before in inl (omega arith)
-      | inr g ↦ let after : q + 1 ≤ p = omega (arith, differ) in let near =
-          mul-le-mul_right page_size after in inr (omega arith)
+      | inl l ↦ inl (omega (arith, mul-le-mul_right page_size l))
+      | inr g ↦ let after : q + 1 ≤ p = omega (arith, differ) in inr (omega (arith, mul-le-mul_right page_size after))
     ]
 
 -- where the command's own data is written
@@ -46,18 +44,17 @@ written_list page_size x bytes written some enough distinct =
     let at = get_or (places page_size x) k 0 in
     let one = place_page page_size x.pages x.offset (data_length x) k some enough (omega arith) in
     let inside = one.is_one in
-    elim (other_page page_size (get_or x.pages one.index 0) page at
-    (λ same. distinct i (suc (suc one.index)) 0 (omega arith) (omega arith) (sym same)) one.from one.to) [
-      | inl before ↦ inl (omega arith)
-      | inr behind ↦ inr behind
-    ]))
+    grind (
+      arith,
+      other_page page_size (get_or x.pages one.index 0) page at
+          (λ same. distinct i (suc (suc one.index)) 0 (omega arith) (omega arith) (sym same)) one.from one.to,
+    )))
 
 beside : (page_size page base n : ℕ) → IsOutside page_size page base n → IsApart base n (page * page_size) page_size
-beside page_size page base n (inl before) = inr before
-beside page_size page base n (inr behind) = inl behind
+beside page_size page base n outside = grind arith
 
 -- where only bytes that its pages are outside of are other ones
-pub list_beside : (t : Setting) (x : Sent) (base n : ℕ) (old new : List ℕ) → length new ≡ length old
+list_beside : (t : Setting) (x : Sent) (base n : ℕ) (old new : List ℕ) → length new ≡ length old
     → AreOutside t.page_size x base n → ChangesOnly base n old new
     → KeepsList (pointed t.page_size x old) x.first x.second new
 list_beside t x base n old new len outside only =
@@ -66,7 +63,7 @@ list_beside t x base n old new len outside only =
     only (page * t.page_size) t.page_size (beside t.page_size page base n (outside i 0 (omega arith))))
 
 -- where another command's pages change
-pub list_stays : (t : Setting) (x y : Sent) (base n : ℕ) (old new : List ℕ) → length new ≡ length old
+list_stays : (t : Setting) (x y : Sent) (base n : ℕ) (old new : List ℕ) → length new ≡ length old
     → ChangesOnlyAt t x base n old new → AreApart y x → AreOutside t.page_size y base n
     → KeepsList (pointed t.page_size y old) y.first y.second new
 list_stays t x y base n old new len only apart outside =
@@ -75,3 +72,28 @@ list_stays t x y base n old new len only apart outside =
     only (page * t.page_size) t.page_size
     (λ j d h. whole_page t.page_size page (get_or (own_pages x) j d) (apart i 0 (omega arith) j d h))
     (beside t.page_size page base n (outside i 0 (omega arith))))
+
+-- ---- a command's list and its data
+
+pub record Stays (t : Setting) (x : Sent) (old new : List ℕ) : Type 0 where
+  pub list : KeepsList (pointed t.page_size x old) x.first x.second new
+  pub read : read_at new (places t.page_size x) ≡ read_at old (places t.page_size x)
+
+-- where only bytes that its pages are outside of are other ones
+pub stays_beside : (t : Setting) (x : Sent) (base n : ℕ) (old new : List ℕ) → 0 < t.page_size
+    → length new ≡ length old → x.offset + data_length x ≤ length x.pages * t.page_size
+    → AreOutside t.page_size x base n → ChangesOnly base n old new → Stays t x old new
+stays_beside t x base n old new some len enough outside only = record {
+  list = list_beside t x base n old new len outside only;
+  read = data_beside t x base n old new some enough outside only;
+}
+
+-- where another command's pages change too
+pub stays_apart : (t : Setting) (x y : Sent) (base n : ℕ) (old new : List ℕ) → 0 < t.page_size
+    → length new ≡ length old → ChangesOnlyAt t x base n old new
+    → y.offset + data_length y ≤ length y.pages * t.page_size → AreApart y x → AreOutside t.page_size y base n
+    → Stays t y old new
+stays_apart t x y base n old new some len only enough apart outside = record {
+  list = list_stays t x y base n old new len only apart outside;
+  read = data_stays t x y base n old new some enough only apart outside;
+}

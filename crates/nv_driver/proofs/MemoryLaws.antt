@@ -35,10 +35,8 @@ after x s p n h = omega arith
 -- queue pair i ends before queue pair j
 pair_ends : (g : Geometry) (i j : ℕ) → i < j → end_of g.page_size (pair_of g i) ≤ j * pair_pages g * g.page_size
 pair_ends g i j h =
-    let one : i + 1 ≤ j = omega arith in
     let pages : i * pair_pages g + submission_pages g + completion_pages g + set_pages g ≤ j * pair_pages g =
-    omega (arith, mul-le-mul_right (pair_pages g) one) in
-    mul-le-mul_right g.page_size pages
+    omega (arith, mul-le-mul_right (pair_pages g) h) in mul-le-mul_right g.page_size pages
 
 pair_laid : (g : Geometry) (n i size : ℕ) → IsGeometry g → i < n → size ≡ pages_of g n * g.page_size
     → IsLaid g.page_size size (pair_of g i)

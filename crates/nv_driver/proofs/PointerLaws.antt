@@ -1,5 +1,5 @@
 -- A command whose pages were made ready: what a controller finds of its entry.
-use Rattle.std.proofs.Common.{subst, ◌≡◌, ◌∙◌, ◌^◌, ℕ, refl, inl, inr, ◌+◌, ◌*◌, ◌<◌, ◌≤◌, List, Ok, ap, arith, length}
+use Rattle.std.proofs.Common.{◌≡◌, ◌∙◌, ◌^◌, ℕ, refl, inl, inr, ◌+◌, ◌*◌, ◌<◌, ◌≤◌, List, Ok, ap, arith, length}
 use Rattle.std.proofs.Common.{sym}
 use Rattle.std.proofs.Math.Nat.{mul-le-mul_right}
 use Rattle.std.proofs.lemmas.Bool.{cases_lt}
@@ -35,28 +35,21 @@ enough_pages from len size pages is low most same =
     let some : 0 < size = omega (arith, page_size_bounds size is) in
     let all = div_ceil_times (from + len) size some in
     let least = div_ceil_times 16384 size some in (
-      subst (λ n. from + len ≤ n * size) (sym same) all.0,
-      few (div_ceil 16384 size) least.0 (subst (λ n. n * size < from + len + size) (sym same) all.1),
+      rw same all.0,
+      few (div_ceil 16384 size) least.0 (rw same all.1),
     )
   where
     few : (m : ℕ) → 16384 ≤ m * size → pages * size < from + len + size → pages + 2 ≤ m + 3
     few m whole less =
         elim (cases_lt pages (m + 2)) [
           | inl l ↦ omega arith
-          | inr g ↦ let times = mul-le-mul_right size g in absurd (omega arith)
+          | inr g ↦ absurd (omega (arith, mul-le-mul_right size g))
         ]
 
 pub seven_pages : (size : ℕ) → IsPageSize size → pages_of_command size ≤ 7
 seven_pages size is =
     let bounds = page_size_bounds size is in
-    few (div_ceil 16384 size) (div_ceil_times 16384 size (omega (arith, bounds))).1 bounds.0
-  where
-    few : (m : ℕ) → m * size < 16384 + size → 4096 ≤ size → m + 3 ≤ 7
-    few m less large =
-        elim (cases_lt m 5) [
-          | inl l ↦ omega arith
-          | inr g ↦ let times = mul-le-mul_right size g in absurd (omega arith)
-        ]
+    let whole = (div_ceil_times 16384 size (omega (arith, bounds))).1 in grind (arith, bounds, whole)
 
 -- ---- the data pointer of a command
 

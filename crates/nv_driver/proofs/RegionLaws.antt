@@ -1,16 +1,16 @@
 -- Parts of the memory that a command's pages, or a slot of a ring, do not reach.
 use Rattle.std.proofs.Common.{◌≡◌, ◌≢◌, ◌∙◌, ◌⊎◌, ℕ, suc, ◌+◌, ◌*◌, ◌/◌, ◌<◌, ◌≤◌, List, ap, arith, get_or, inl, inr}
 use Rattle.std.proofs.Common.{length, sym}
-use Rattle.std.proofs.Math.Nat.{mul-le-mul_left, mul-le-mul_right}
+use Rattle.std.proofs.Math.Nat.{mul-le-mul_right}
 use Rattle.std.proofs.lemmas.Bool.{cases_lt}
 use Rattle.std.proofs.lemmas.Grind.{same_number_lists}
 use Rattle.std.proofs.lemmas.List.{get_or-map}
 use Rattle.std.proofs.lemmas.Nat.{div_below, mod_below}
 use Rattle.nv_host.specs.Bytes.{bytes_at}
 use Rattle.nv_host.proofs.BytesLaws.{bytes_at-with_after, bytes_at-with_before}
-use Rattle.nv_layout.specs.Cqe.{bytes_of_cqe}
+use Rattle.nv_layout.specs.Cqe.{bytes_of_cqe, cqe_of_bytes}
 use Rattle.nv_layout.proofs.RecordLaws.{length-bytes_of_cqe, length-bytes_of_sqe}
-use Rattle.nv_layout.specs.Sqe.{bytes_of_sqe}
+use Rattle.nv_layout.specs.Sqe.{bytes_of_sqe, sqe_of_bytes}
 use Rattle.nv_layout.specs.declared.cqe.Cqe.{Cqe}
 use Rattle.nv_layout.specs.declared.sqe.Sqe.{Sqe}
 use Rattle.nv_prp.specs.Buffer.{ChangesOnly, IsApart, IsBuffer, IsOutside, buffer_place, buffer_places}
@@ -18,7 +18,7 @@ use Rattle.nv_prp.proofs.BufferLaws.{buffer_distinct}
 use Rattle.nv_prp.specs.Place.{AreDistinct, read_at, written_at}
 use Rattle.nv_prp.proofs.PlaceLaws.{get_or-bytes_at, get_or-table, length-read_at, length-table, part_stays}
 use Rattle.nv_queue.specs.Rings.{PostNumbers, SubmitNumbers}
-use Rattle.nv_queue.specs.Slots.{completion_place, put_as, submission_place, with_completion, with_submission}
+use Rattle.nv_queue.specs.Slots.{completion_at, completion_place, put_as, submission_at, submission_place, with_completion, with_submission}
 use Rattle.nv_queue.proofs.SlotLaws.{slot_within}
 use Rattle.nv_command.specs.Command.{transfer_by}
 use Rattle.nv_driver.specs.Schedule.{AreApart, AreOutside, HoldsSent, Sent, Setting, data_length, own_pages, places}
@@ -52,35 +52,22 @@ place_page page_size pages offset len k some enough below =
 abbrev IsBeside : ℕ → ℕ → ℕ → Type 0
 IsBeside place from n = (place < from) ⊎ (from + n ≤ place)
 
-beside_page : (page_size page place from n : ℕ) → page * page_size ≤ place → place < page * page_size + page_size
-    → IsOutside page_size page from n → IsBeside place from n
-beside_page page_size page place from n low high outside =
-    elim outside [
-      | inl before ↦ inr (omega arith)
-      | inr behind ↦ inl (omega arith)
-    ]
-
 -- a place of a command's data is beside each part that its pages are outside of
 pub place_beside : (page_size : ℕ) (x : Sent) (from n k : ℕ) → 0 < page_size
     → x.offset + data_length x ≤ length x.pages * page_size → AreOutside page_size x from n
     → k < data_length x → IsBeside (get_or (places page_size x) k 0) from n
 place_beside page_size x from n k some enough outside below =
-    let at = get_or (places page_size x) k 0 in
     let page = place_page page_size x.pages x.offset (data_length x) k some enough below in
-    beside_page page_size (get_or x.pages page.index 0) at from n page.from page.to
-    (outside (suc (suc page.index)) 0 (let h = page.is_one in omega arith))
+    let one = page.is_one in
+    grind (arith, page.from, page.to, outside (suc (suc page.index)) 0 (omega arith))
 
 -- two pages that aren't one share no byte
 pub other_page : (page_size p q place : ℕ) → p ≢ q → p * page_size ≤ place
     → place < p * page_size + page_size → IsOutside page_size q place 1
 other_page page_size p q place differ low high =
     elim (cases_lt p q) [
-      | inl l ↦
-          let before : p + 1 ≤ q = omega arith in
-          let near = mul-le-mul_right page_size before in inl (omega arith)
-      | inr g ↦
-          let after : q + 1 ≤ p = omega (arith, differ) in
-          let near = mul-le-mul_right page_size after in inr (omega arith)
+      | inl l ↦ inl (omega (arith, mul-le-mul_right page_size l))
+      | inr g ↦ let after : q + 1 ≤ p = omega (arith, differ) in inr (omega (arith, mul-le-mul_right page_size after))
     ]
 
 -- where two commands have no page in common, the pages of the one are outside of each byte of the other's data
@@ -177,8 +164,7 @@ read_keeps old new at same =
     ∙ sym (get_or-map (λ p. get_or old p 0) at k 0 0 below))
 
 place_apart : (place from n : ℕ) → IsBeside place from n → IsApart from n place 1
-place_apart place from n (inl before) = inl (omega arith)
-place_apart place from n (inr behind) = inr behind
+place_apart place from n beside = grind arith
 
 -- the data of a command stays where only bytes that its pages are outside of are other ones
 pub data_beside : (t : Setting) (x : Sent) (base n : ℕ) (old new : List ℕ) → 0 < t.page_size
@@ -198,37 +184,29 @@ data_beside t x base n old new some enough outside only =
 -- a part of what the pages are outside of
 pub outside_part : (t : Setting) (x : Sent) (from n a k : ℕ) → AreOutside t.page_size x from n
     → from ≤ a → a + k ≤ from + n → AreOutside t.page_size x a k
-outside_part t x from n a k outside low high i d h =
-    elim (outside i d h) [
-      | inl before ↦ inl (omega arith)
-      | inr behind ↦ inr (omega arith)
-    ]
-
--- a slot of the completion ring shares no byte with the submission ring, and the other way round
-pub completion_aside : (t : Setting) (s : ℕ) → IsApart t.sq (64 * t.depth) t.cq (16 * t.depth) → s < t.depth
-    → IsApart t.sq (64 * t.depth) (t.cq + 16 * s) 16
-completion_aside t s rings below =
-    let top : s + 1 ≤ t.depth = omega arith in
-    let room = mul-le-mul_left 16 top in
-    elim rings [
-      | inl before ↦ inl (omega arith)
-      | inr behind ↦ inr (omega arith)
-    ]
-
-pub submission_aside : (t : Setting) (s : ℕ) → IsApart t.sq (64 * t.depth) t.cq (16 * t.depth) → s < t.depth
-    → IsApart t.cq (16 * t.depth) (t.sq + 64 * s) 64
-submission_aside t s rings below =
-    let top : s + 1 ≤ t.depth = omega arith in
-    let room = mul-le-mul_left 64 top in
-    elim rings [
-      | inl before ↦ inr (omega arith)
-      | inr behind ↦ inl (omega arith)
-    ]
+outside_part t x from n a k outside low high i d h = grind (arith, outside i d h)
 
 -- only the pages of x and the n bytes from `base` on are other ones
 abbrev pub ChangesOnlyAt : Setting → Sent → ℕ → ℕ → List ℕ → List ℕ → Type 0
 ChangesOnlyAt t x base n old new =
     (from k : ℕ) → AreOutside t.page_size x from k → IsApart base n from k → bytes_at new from k ≡ bytes_at old from k
+
+-- a slot of the one ring stays where only the other ring and pages outside of both are other ones
+pub completion_stays : (t : Setting) (x : Sent) (old new : List ℕ) (s : ℕ)
+    → ChangesOnlyAt t x t.sq (64 * t.depth) old new → AreOutside t.page_size x t.cq (16 * t.depth)
+    → IsApart t.sq (64 * t.depth) t.cq (16 * t.depth) → s < t.depth
+    → completion_at new t.cq s ≡ completion_at old t.cq s
+completion_stays t x old new s only outside rings below =
+    ap cqe_of_bytes (only (t.cq + 16 * s) 16 (outside_part t x t.cq (16 * t.depth) (t.cq + 16 * s)
+    16 outside (omega arith) (omega arith)) (grind (arith, rings)))
+
+pub submission_stays : (t : Setting) (x : Sent) (old new : List ℕ) (s : ℕ)
+    → ChangesOnlyAt t x t.cq (16 * t.depth) old new → AreOutside t.page_size x t.sq (64 * t.depth)
+    → IsApart t.sq (64 * t.depth) t.cq (16 * t.depth) → s < t.depth
+    → submission_at new t.sq s ≡ submission_at old t.sq s
+submission_stays t x old new s only outside rings below =
+    ap sqe_of_bytes (only (t.sq + 64 * s) 64 (outside_part t x t.sq (64 * t.depth) (t.sq + 64 * s)
+    64 outside (omega arith) (omega arith)) (grind (arith, rings)))
 
 -- the data of another command stays
 pub data_stays : (t : Setting) (x y : Sent) (base n : ℕ) (old new : List ℕ) → 0 < t.page_size

@@ -1,5 +1,5 @@
 -- The registers of a controller as it is enabled.
-use Rattle.std.proofs.Common.{◌≡◌, ◌∙◌, ℕ, zero, suc, ◌+◌, ◌-◌, ◌*◌, ◌/◌, ◌%◌, ◌^◌, ◌<◌, ◌≤◌, ◌⊎◌, inl, inr, ap, sym}
+use Rattle.std.proofs.Common.{◌≡◌, ◌∙◌, ℕ, zero, suc, ◌+◌, ◌-◌, ◌*◌, ◌/◌, ◌%◌, ◌^◌, ◌<◌, ◌≤◌, ap, sym}
 use Rattle.std.proofs.Common.{refl, below_more, arith}
 use Rattle.std.proofs.Common.{true, false, List, length, map, slice_set}
 use Rattle.std.specs.Prelude.{◌≢◌, if◌then◌else◌, IsOk, MatchResult, Result, Ok, Err}
@@ -14,10 +14,8 @@ use Rattle.nv_register.specs.Dwords.{aqa_of_dword, cc_of_dword}
 use Rattle.nv_register.specs.RegisterBank.{can_start, new_bank, new_rings, with_cc, with_high, with_low}
 use Rattle.nv_register.specs.RegisterBank.{with_register_at}
 use Rattle.nv_register.specs.Readiness.{is_ready}
-use Rattle.nv_register.specs.declared.admin_queue_attributes.AdminQueueAttributes.{AdminQueueAttributes}
 use Rattle.nv_register.specs.declared.controller_configuration.Sizes.{Sizes}
 use Rattle.nv_register.specs.declared.register_bank.RegisterBank.{RegisterBank}
-use Rattle.nv_register.specs.declared.readiness.Readiness.{Readiness}
 use Rattle.nv_register.specs.declared.readiness.Readiness.TheVariants.{Off, Failed, Ready}
 use Rattle.nv_bus.specs.Bus.{bank_at}
 use Rattle.nv_driver.specs.Geometry.{IsGeometry}
@@ -53,35 +51,16 @@ cc_written (suc (suc (suc zero))) h = refl
 cc_written (suc (suc (suc (suc zero)))) h = refl
 cc_written (suc (suc (suc (suc (suc n))))) h = absurd (omega arith)
 
-one_of_five : (size : ℕ) → IsPageSize size
-    → (size ≡ 4096) ⊎ ((size ≡ 8192) ⊎ ((size ≡ 16384) ⊎ ((size ≡ 32768) ⊎ (size ≡ 65536))))
-unfolding IsPageSize
-one_of_five size h = grind (arith, nat_tests, h)
-
 pub page_size_of_mps : (size : ℕ) → IsPageSize size → (2 ^ (12 + mps_of size) ≡ size) × (mps_of size ≤ 4)
-page_size_of_mps size h =
-    elim (one_of_five size h) [
-      | inl e ↦ rw e (refl, omega arith)
-      | inr f ↦ elim f [
-        | inl e ↦ rw e (refl, omega arith)
-        | inr g ↦ elim g [
-          | inl e ↦ rw e (refl, omega arith)
-          | inr k ↦ elim k [
-            | inl e ↦ rw e (refl, omega arith)
-            | inr e ↦ rw e (refl, omega arith)
-          ]
-        ]
-      ]
-    ]
+unfolding IsPageSize
+page_size_of_mps size h = (grind (arith, nat_tests, h), grind (arith, nat_tests, h))
 
 -- ---- the queues are set
 
 queues_read : (m : ℕ) → m ≤ 4095 → aqa_of_dword (m * 65536 + m) ≡ record { asqs = m; acqs = m }
 queues_read m h =
     let first : bits 0 12 (m * 65536 + m) ≡ m = omega arith in
-    let second : bits 16 12 (m * 65536 + m) ≡ m = omega arith in
-    ap (λ n. record { asqs = n; acqs = bits 16 12 (m * 65536 + m) }) first
-    ∙ ap (λ n. record { asqs = m; acqs = n }) second
+    let second : bits 16 12 (m * 65536 + m) ≡ m = omega arith in cc
 
 -- an address by its two dwords
 address_read : (old address : ℕ) → with_high (with_low old (address % 2 ^ 32)) (address / 2 ^ 32) ≡ address
@@ -92,20 +71,7 @@ queues_by : (p : RegisterBank) (m sq cq : ℕ) → p.readiness ≡ Off → m ≤
     → with_register_at (with_register_at (with_register_at (with_register_at (with_register_at p 0x24 (m * 65536 + m))
     0x28 (sq % 2 ^ 32)) 0x2c (sq / 2 ^ 32)) 0x30 (cq % 2 ^ 32)) 0x34 (cq / 2 ^ 32)
     ≡ with_queues p m sq cq
-queues_by p m sq cq off deep =
-    let q : RegisterBank = record p { readiness = Off } in
-    let set = λ (a : AdminQueueAttributes) (s c : ℕ). record q { aqa = a; asq = s; acq = c } in
-    let attributes : AdminQueueAttributes = record { asqs = m; acqs = m } in
-    let high = with_high (with_low p.asq (sq % 2 ^ 32)) (sq / 2 ^ 32) in
-    let behind = with_high (with_low p.acq (cq % 2 ^ 32)) (cq / 2 ^ 32) in
-    ap (λ (r : Readiness). with_register_at (with_register_at
-    (with_register_at (with_register_at (with_register_at (record p { readiness = r }) 0x24
-    (m * 65536 + m))
-    0x28 (sq % 2 ^ 32)) 0x2c (sq / 2 ^ 32)) 0x30 (cq % 2 ^ 32)) 0x34 (cq / 2 ^ 32)) off
-    ∙ ap (λ a. set a high behind) (queues_read m deep)
-    ∙ ap (λ n. set attributes n behind) (address_read p.asq sq)
-    ∙ ap (λ n. set attributes sq n) (address_read p.acq cq)
-    ∙ ap (λ (r : Readiness). record (with_queues p m sq cq) { readiness = r }) (sym off)
+queues_by p m sq cq off deep = rw (off, queues_read m deep, address_read p.asq sq, address_read p.acq cq) refl
 
 pub queues_written : (a b d e f k : List RegisterBank) (c m sq cq x s1 s2 q1 q2 : ℕ) → c < length a
     → (bank_at a c).readiness ≡ Off → m ≤ 4095
@@ -131,10 +97,6 @@ queues_written a b d e f k c m sq cq x s1 s2 q1 q2 h off deep is low high behind
 
 -- ---- EN is set
 
-starts : (p : RegisterBank) (m l : ℕ) → p.sizes.mps ≡ m → m ≤ 4 → p.aqa.asqs ≡ l → p.aqa.acqs ≡ l → 1 ≤ l → l ≤ 4095
-    → p.asq % 2 ^ (12 + m) ≡ 0 → p.acq % 2 ^ (12 + m) ≡ 0 → can_start p ≡ true
-starts p m l is h sq cq low high at behind = rw (is, sq, cq, at, behind) (grind (arith, nat_tests))
-
 in_pages : (n p m : ℕ) → 2 ^ (12 + m) ≡ p → (n * p) % 2 ^ (12 + m) ≡ 0
 in_pages n p m e = rw e (mul-mod_left n p)
 
@@ -150,15 +112,14 @@ off_bank sizes l = record {
 
 is_off_bank : (p : RegisterBank) (l : QueuePair) → HasQueues l p → p ≡ off_bank p.sizes l
 is_off_bank p l has =
-    ap (λ r. record p { readiness = r }) has.off
-    ∙ ap (λ q. record p { readiness = Off; aqa = q }) has.aqa
-    ∙ ap (λ n. record p { readiness = Off; aqa = record { asqs = l.depth - 1; acqs = l.depth - 1 }; asq = n }) has.asq
-    ∙ ap (λ n. record p {
-      readiness = Off;
-      aqa = record { asqs = l.depth - 1; acqs = l.depth - 1 };
-      asq = l.sq;
-      acq = n;
-    }) has.acq
+    let all : RegisterBank = record {
+      sizes = p.sizes;
+      readiness = p.readiness;
+      aqa = p.aqa;
+      asq = p.asq;
+      acq = p.acq;
+    } in
+    let is : all ≡ off_bank p.sizes l = cc in is
 
 started_bank : (p : RegisterBank) (g : Geometry) (i x : ℕ) → HasQueues (pair_of g i) p → IsGeometry g
     → x ≡ 0x00460001 + mps_of g.page_size * 128
@@ -171,8 +132,7 @@ started_bank p g i x has is e =
     let behind = in_pages (i * pair_pages g + submission_pages g) g.page_size m size.0 in
     let back : g.depth - 1 + 1 ≡ g.depth = omega arith in
     let q = off_bank (record { mps = m; iosqes = 6; iocqes = 4 }) (pair_of g i) in
-    let can : can_start q ≡ true = starts q m (g.depth - 1) refl size.1 refl refl (omega arith)
-    (omega arith) at behind in
+    let can : can_start q ≡ true = rw (at, behind) (grind (arith, nat_tests, size.1)) in
     ap (λ v. with_register_at v 0x14 x) (is_off_bank p (pair_of g i) has)
     ∙ ap (with_cc (off_bank p.sizes (pair_of g i))) (ap cc_of_dword e ∙ cc_written m size.1)
     ∙ ap (λ b. record q { readiness = if b then Ready (new_rings q) false else Failed }) can

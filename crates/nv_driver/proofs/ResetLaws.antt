@@ -14,7 +14,7 @@ use Rattle.nv_model.specs.State.{State}
 use Rattle.nv_bus.specs.Bus.{BusValue, IsBus, enabled_in, bank_at}
 use Rattle.nv_driver.specs.Driver.{IsPlaced}
 use Rattle.nv_driver.specs.Exchange.{IsReady}
-use Rattle.nv_driver.specs.QueuePair.{IsLaid, QueuePair, idle_bank, renewed_pair}
+use Rattle.nv_driver.specs.QueuePair.{QueuePair, idle_bank, renewed_pair}
 use Rattle.nv_driver.specs.Layout.{pair_of}
 use Rattle.nv_driver.specs.Quiet.{IsQuiet, pair_value}
 use Rattle.nv_driver.specs.Registers.{mps_of}
@@ -65,7 +65,7 @@ ready_again {g} {b} {b'} {c} {l} {l'} {now} {page} {bytes} {mem} r placed same q
       depth = ap (λ (v : QueuePair). v.depth) is ∙ r.depth;
       room = omega (arith, r.room, ap (λ (v : QueuePair). v.page_count) is);
       quiet = quiet;
-      laid = subst (IsLaid g.page_size (length mem)) (sym is) (record {
+      laid = rw is (record {
         deep = deep;
         number = omega (arith, deep.0);
         serial = laid.serial;
@@ -73,14 +73,8 @@ ready_again {g} {b} {b'} {c} {l} {l'} {now} {page} {bytes} {mem} r placed same q
         pages = laid.pages;
         inside = omega (arith, laid.inside, size);
       });
-      tags = subst (λ (v : QueuePair). HoldsTags mem v.cq v.depth v.number) (sym is)
-          (subst (λ d. HoldsTags mem l.completion.base d 0) r.quiet.depth tags);
-      controller = omega (
-        arith,
-        r.controller,
-        ap (λ (x : List RegisterBank). length x) banks,
-        length-set b.banks c (idle (pair_of g c)),
-      );
+      tags = subst (λ (v : QueuePair). HoldsTags mem v.cq v.depth v.number) (sym is) (rw (r.quiet.depth) at tags);
+      controller = rw banks (simp length-set r.controller);
       bus = bus;
       bank = ap (λ x. bank_at x c) banks ∙ get_or-set_same b.banks c (idle (pair_of g c)) new_bank r.controller
           ∙ sym (ap idle (is ∙ ap renewed_pair placed));

@@ -7,22 +7,24 @@ use Rattle.std.proofs.lemmas.Bool.{cases_eq}
 use Rattle.std.proofs.lemmas.Bool.Decides.{nat_tests}
 use Rattle.std.proofs.lemmas.List.{get_or-set_same, set-set}
 use Rattle.nv_queue.specs.Numbers.{slot_of}
-use Rattle.nv_queue.specs.Rings.{CollectNumbers, told_all}
+use Rattle.nv_queue.specs.Rings.{told_all}
 use Rattle.nv_register.specs.RegisterBank.{new_bank, with_register_at}
 use Rattle.nv_register.specs.declared.register_bank.RegisterBank.{RegisterBank}
 use Rattle.nv_bus.specs.Bus.{BusValue, IsBus, bank_at}
 use Rattle.nv_bus.specs.Turn as T
 use Rattle.nv_bus.specs.Turn.{BankTurn, site}
 use Rattle.nv_driver.specs.Batch.{state_after}
-use Rattle.nv_driver.specs.Schedule.{Setting, World, after, collect_ring, device_rings, number, bank_with, slot}
-use Rattle.nv_driver.specs.UnderWay.{IsBusOf, IsUnderWay, Run, left_of, setting_of}
+use Rattle.nv_driver.specs.Schedule.{Bell, Happens, Tell, Turn, bank_with, collect_ring, device_rings, slot}
+use Rattle.nv_driver.specs.UnderWay.{Course, IsBusOf, IsUnderWay, Run, left_of, setting_of, world_at}
 use Rattle.nv_driver.specs.declared.batch.Batch.{Batch}
 use Rattle.nv_driver.specs.declared.queue_pair.QueuePair.{QueuePair as QueuePairFields}
 use Rattle.nv_driver.proofs.BatchLaws.{state_is}
 use Rattle.nv_driver.proofs.CountLaws.{head_told, tail_rung}
 use Rattle.nv_driver.proofs.KeptLaws.{bell_keeps, tell_keeps}
 use Rattle.nv_driver.proofs.OthersLaws.{bell_others, tell_others, turn_others}
+use Rattle.nv_driver.proofs.SubmittingLaws.{pairs_same}
 use Rattle.nv_driver.proofs.TurnLaws.{turn_keeps, turn_takes}
+use Rattle.nv_driver.proofs.UnderWayLaws.{counts, world}
 
 -- ---- register banks
 
@@ -44,6 +46,28 @@ set_again banks one two c p q below first second =
     let at : bank_at two c ≡ q = ap (λ x. bank_at x c) all ∙ bank_set banks c q below in
     all ∙ ap (slice_set banks c) (sym at)
 
+-- a register of the run's controller was written
+written : {r : Run} {bells turns told bells' told' c value new : ℕ} {bus bus' : BusValue} (offset : ℕ)
+    → IsBusOf r bells turns told bus → r.controller < length r.bus.banks → c ≡ r.controller → value ≡ new
+    → bus'.state ≡ bus.state → (IsBus bus → IsBus bus')
+    → bus'.banks ≡ slice_set bus.banks c (with_register_at (bank_at bus.banks c) offset value)
+    → with_register_at (bank_with (setting_of r) (device_rings (setting_of r) bells turns told)) offset new
+    ≡ bank_with (setting_of r) (device_rings (setting_of r) bells' turns told')
+    → IsBusOf r bells' turns told' bus'
+written {r} {c = c} {value = value} {new = new} {bus = bus} {bus' = bus'} offset is below same put state
+    lawful banks change =
+    let own = subst (λ v. bus'.banks ≡ slice_set bus.banks r.controller
+    (with_register_at (bank_at bus.banks r.controller) offset v)) put
+    (subst (λ i. bus'.banks ≡ slice_set bus.banks i (with_register_at (bank_at bus.banks i) offset value)) same banks) in
+    record {
+      bus = lawful is.bus;
+      state = state ∙ is.state;
+      bank = ap (λ ps. bank_at ps r.controller) own
+          ∙ bank_set bus.banks r.controller _ (banks_long r.bus.banks bus.banks r.controller _ below is.banks)
+          ∙ ap (λ p. with_register_at p offset new) is.bank ∙ change;
+      banks = set_again r.bus.banks bus.banks bus'.banks r.controller _ _ below is.banks own;
+    }
+
 pub none_untold : (n : ℕ) → false ≡ not (n == n)
 none_untold n = grind (arith, nat_tests)
 
@@ -56,36 +80,18 @@ module _ {r : Run} {bells turns : ℕ} {b : Batch} {l : QueuePairFields} {now : 
 
   pub rings : IsUnderWay r b.sent turns b l now bytes
   rings =
-      let w = u.world in
-      let w' : World = record w {
-        bank = with_register_at w.bank 0x1000
-            (slot (setting_of r) (length w.sent));
-        rung = length w.sent;
-      } in
+      let t = setting_of r in
+      let w = world u in
+      let ring = λ (n : ℕ). record w { bank = with_register_at w.bank 0x1000 (slot t n); rung = n } in
+      let happens : Happens t Bell w (ring b.sent) = ap ring (sym u.sent) in
       record {
-        begun = u.begun;
-        can = u.can;
-        geometry = u.geometry;
-        controller = u.controller;
-        page_size = u.page_size;
-        size = u.size;
-        window = u.window;
-        some = u.some;
-        room = u.room;
-        world = w';
-        keeps = bell_keeps (setting_of r) r.bus.state w w' u.keeps refl;
-        others = bell_others (setting_of r) 0 r.bytes w w' u.others refl;
-        mem = u.mem;
-        rung = u.sent;
-        done = u.done;
-        told = u.told;
-        sent = u.sent;
+        running = u.running;
+        course = record u.course { bank = with_register_at w.bank 0x1000 (slot t b.sent) };
+        has = u.has;
+        keeps = bell_keeps t r.bus.state w (ring b.sent) u.keeps happens;
+        others = bell_others t 0 r.bytes w (ring b.sent) u.others happens;
         collected = u.collected;
-        commands = u.commands;
-        kept = u.kept;
         pair = u.pair;
-        taken = u.taken;
-        own = u.own;
       }
 
   pub bus_rings : {bus bus' : BusValue} {told c value tail : ℕ} → IsBusOf r bells turns told bus
@@ -93,23 +99,11 @@ module _ {r : Run} {bells turns : ℕ} {b : Batch} {l : QueuePairFields} {now : 
       → tail ≡ slot (setting_of r) b.sent → bus'.state ≡ bus.state
       → bus'.banks ≡ slice_set bus.banks c (with_register_at (bank_at bus.banks c) 0x1000 value)
       → (IsBus bus → IsBus bus') → IsBusOf r b.sent turns told bus'
-  bus_rings {bus} {bus'} {told} {c} {value} {tail} is same sent at state banks lawful =
-      let t = setting_of r in
-      let k = u.keeps.counts in
-      let own : bus'.banks ≡ slice_set bus.banks r.controller
-      (with_register_at (bank_at bus.banks r.controller) 0x1000 (slot t b.sent)) =
-      banks ∙ ap (λ i. slice_set bus.banks i (with_register_at (bank_at bus.banks i) 0x1000 value)) same
-      ∙ ap (λ v. slice_set bus.banks r.controller
-      (with_register_at (bank_at bus.banks r.controller) 0x1000 v)) (sent ∙ at) in
-      record {
-        bus = lawful is.bus;
-        state = state ∙ is.state;
-        bank = ap (λ ps. bank_at ps r.controller) own ∙ bank_set bus.banks r.controller _ (has_bank is)
-            ∙ ap (λ p. with_register_at p 0x1000 (slot t b.sent)) is.bank
-            ∙ tail_rung t bells turns told b.sent (omega (arith, k.done, k.rung, u.sent, u.done))
-            (omega (arith, k.few, k.collected, u.sent, u.done));
-        banks = set_again r.bus.banks bus.banks bus'.banks r.controller _ _ u.begun.controller is.banks own;
-      }
+  bus_rings {told = told} is same sent at state banks lawful =
+      let c = counts u in
+      written 0x1000 is u.begun.controller same (sent ∙ at) state lawful banks
+      (tail_rung (setting_of r) bells turns told b.sent (omega (arith, c.done, c.rung))
+      (omega (arith, c.few, c.collected)))
 
   -- ---- the head doorbell
 
@@ -117,49 +111,20 @@ module _ {r : Run} {bells turns : ℕ} {b : Batch} {l : QueuePairFields} {now : 
       (record l { completion = told_all l.completion }) now bytes
   tells =
       let t = setting_of r in
-      let w = u.world in
-      let w' : World = record w {
-        bank = with_register_at w.bank 0x1004 (slot t (length w.answers));
-        told = length w.answers;
-      } in
-      let ring : told_all l.completion ≡ collect_ring t b.collected b.collected =
-      ap (λ (o : QueuePairFields). told_all o.completion) u.pair
-      ∙ ap (λ e. record {
-        base = t.cq;
-        depth = t.depth;
-        collected = number t b.collected;
-        told = number t b.collected;
-        untold = e;
-      }) (none_untold b.collected) in
+      let w = world u in
+      let tell = λ (n : ℕ). record w { bank = with_register_at w.bank 0x1004 (slot t n); told = n } in
+      let happens : Happens t Tell w (tell b.collected) = ap tell (sym u.collected) in
       record {
-        begun = u.begun;
-        can = u.can;
-        geometry = u.geometry;
-        controller = u.controller;
-        page_size = u.page_size;
-        size = u.size;
-        window = u.window;
-        some = u.some;
-        room = u.room;
-        world = w';
-        keeps = tell_keeps t r.bus.state w w' u.keeps refl;
-        others = tell_others t 0 r.bytes w w' u.others refl;
-        mem = u.mem;
-        rung = u.rung;
-        done = u.done;
-        told = u.collected;
-        sent = u.sent;
+        running = u.running;
+        course = record u.course { bank = with_register_at w.bank 0x1004 (slot t b.collected) };
+        has = u.has;
+        keeps = tell_keeps t r.bus.state w (tell b.collected) u.keeps happens;
+        others = tell_others t 0 r.bytes w (tell b.collected) u.others happens;
         collected = u.collected;
-        commands = u.commands;
-        kept = u.kept;
-        pair = ap (λ (q : CollectNumbers). record l { completion = q }) ring
-            ∙ ap (λ (o : QueuePairFields). record o { completion = collect_ring t b.collected b.collected }) u.pair;
-        taken = u.taken;
-        own = u.own;
+        pair = ap (λ (o : QueuePairFields). record o { completion = told_all o.completion }) u.pair
+            ∙ pairs_same refl (ap (λ e. record (collect_ring t b.collected b.collected) { untold = e })
+            (none_untold b.collected)) refl refl;
       }
-
-  untold_is : (e : Bool) → l.completion.untold ≡ e → e ≡ not (b.told == b.collected)
-  untold_is e is = sym is ∙ ap (λ (o : QueuePairFields). o.completion.untold) u.pair
 
   pub bus_tells : {bus bus' : BusValue} {c : ℕ} → IsBusOf r bells turns b.told bus
       → c ≡ r.controller → bus'.state ≡ bus.state → (IsBus bus → IsBus bus')
@@ -169,50 +134,29 @@ module _ {r : Run} {bells turns : ℕ} {b : Batch} {l : QueuePairFields} {now : 
       → (l.completion.untold ≡ false → bus'.banks ≡ bus.banks) → IsBusOf r bells turns b.collected bus'
   bus_tells {bus} {bus'} {c} is same state lawful told silent = by_untold l.completion.untold refl
     where
-      t : Setting
-      t = setting_of r
-
       by_untold : (e : Bool) → l.completion.untold ≡ e → IsBusOf r bells turns b.collected bus'
       by_untold false e =
-          let all : b.told ≡ b.collected = grind (arith, nat_tests, untold_is false e) in
-          let banks = silent e in
+          let untold = sym e ∙ ap (λ (o : QueuePairFields). o.completion.untold) u.pair in
+          let all : b.told ≡ b.collected = grind (arith, nat_tests, untold) in
           record {
             bus = lawful is.bus;
             state = state ∙ is.state;
-            bank = ap (λ ps. bank_at ps r.controller) banks ∙ is.bank
-                ∙ ap (λ n. bank_with t (device_rings t bells turns n)) all;
-            banks = banks ∙ is.banks ∙ ap (λ ps. slice_set r.bus.banks r.controller
-                (bank_at ps r.controller)) (sym banks);
+            bank = rw (silent e, ← all) is.bank;
+            banks = rw (silent e) is.banks;
           }
       by_untold true e =
-          let k = u.keeps.counts in
-          let slot_is = ap (λ (o : QueuePairFields). slot_of o.completion.depth o.completion.collected) u.pair in
-          let own : bus'.banks ≡ slice_set bus.banks r.controller
-          (with_register_at (bank_at bus.banks r.controller) 0x1004 (slot t b.collected)) =
-          told e ∙ ap (λ i. slice_set bus.banks i (with_register_at (bank_at bus.banks i) 0x1004
-          (slot_of l.completion.depth l.completion.collected))) same
-          ∙ ap (λ v. slice_set bus.banks r.controller
-          (with_register_at (bank_at bus.banks r.controller) 0x1004 v)) slot_is in
-          record {
-            bus = lawful is.bus;
-            state = state ∙ is.state;
-            bank = ap (λ ps. bank_at ps r.controller) own ∙ bank_set bus.banks r.controller _ (has_bank is)
-                ∙ ap (λ p. with_register_at p 0x1004 (slot t b.collected)) is.bank
-                ∙ head_told t bells turns b.told b.collected
-                (omega (arith, k.told, u.told, u.collected))
-                (omega (arith, k.collected, u.collected, u.done))
-                (omega (arith, k.free, u.told, u.done));
-            banks = set_again r.bus.banks bus.banks bus'.banks r.controller _ _ u.begun.controller is.banks own;
-          }
+          let k = counts u in
+          written 0x1004 is u.begun.controller same
+          (ap (λ (o : QueuePairFields). slot_of o.completion.depth o.completion.collected) u.pair) state lawful (told e)
+          (head_told (setting_of r) bells turns b.told b.collected k.told k.collected k.free)
 
   -- ---- a turn
 
-  state_on : u.world.state ≡ state_after r.controller r.bus.state r.pair.serial (take turns r.commands)
+  state_on : u.course.state ≡ state_after r.controller r.bus.state r.pair.serial (take turns r.commands)
   state_on =
-      let k = u.keeps.counts in
-      u.keeps.state ∙ ap (λ n. after r.controller r.bus.state (take n u.world.sent)) u.done
-      ∙ state_is r.pair.serial r.commands u.world.sent b.sent u.commands r.controller r.bus.state turns
-      (omega (arith, k.done, k.rung, u.done, u.sent))
+      let k = counts u in
+      u.keeps.state ∙ state_is r.pair.serial r.commands u.course.sent b.sent u.commands r.controller r.bus.state turns
+      (omega (arith, k.done, k.rung))
 
 -- what a turn leaves, and how many entries it takes
 pub record HasTurned (r : Run) (bells turns : ℕ) (b : Batch) (l : QueuePairFields) (now : ℕ)
@@ -222,105 +166,62 @@ pub record HasTurned (r : Run) (bells turns : ℕ) (b : Batch) (l : QueuePairFie
   pub number_is : count ≡ min most (min (bells - turns) (r.pair.submission.depth - 1 - (turns - b.told)))
 
 pub turns_on : {r : Run} {bells turns : ℕ} {b : Batch} {l : QueuePairFields} {now now' : ℕ}
-    {bytes mem : List ℕ} {bus bus' : BusValue} {c most count : ℕ}
+    {bytes mem : List ℕ} {bus bus' : BusValue} {asked most count : ℕ}
     (u : IsUnderWay r bells turns b l now bytes) → IsBusOf r bells turns b.told bus
-    → c ≡ r.controller → T.Turn now c most count bus bytes bus' mem
+    → T.Turn now b.ctrl asked count bus bytes bus' mem → asked ≡ most
     → IsBus bus' → length mem ≡ length bytes → now' ≡ now → HasTurned r bells turns b l now' mem bus' most count
-turns_on {r} {bells} {turns} {b} {l} {now} {now'} {bytes} {mem} {bus} {bus'} {c} {most} {count} u is
-    same turn lawful size page =
+turns_on {r} {bells} {turns} {b} {l} {now} {now'} {bytes} {mem} {bus} {bus'} {asked} {most} {count} u is
+    turn pace lawful size page =
     let t = setting_of r in
-    let w = u.world in
-    let w' : World = record w {
-      mem = mem;
-      state = bus'.state;
-      bank = bank_at bus'.banks r.controller;
-      done = w.done + count;
-    } in
-    let bank_is : w.bank ≡ bank_at bus.banks r.controller =
-    u.keeps.bank ∙ ap (λ n. bank_with t (device_rings t n w.done w.told)) u.rung
-    ∙ ap (λ n. bank_with t (device_rings t bells n w.told)) u.done
-    ∙ ap (λ n. bank_with t (device_rings t bells turns n)) u.told ∙ sym is.bank in
-    let own = subst (λ p. BankTurn p r.controller most count
-    (site bus.state (bank_at bus.banks r.controller) bytes)
-    (site bus'.state (bank_at bus'.banks r.controller) mem)) u.page_size
-    (subst (λ i. BankTurn now i most count (site bus.state (bank_at bus.banks i) bytes)
-    (site bus'.state (bank_at bus'.banks i) mem)) same turn.own) in
-    let there : BankTurn t.page_size t.controller most count (site w.state w.bank w.mem)
-    (site w'.state w'.bank w'.mem) =
-    subst (λ s. BankTurn t.page_size t.controller most count (site s w.bank w.mem)
-    (site w'.state w'.bank w'.mem)) (is.state ∙ sym (state_on u))
-    (subst (λ p. BankTurn t.page_size t.controller most count (site bus.state p w.mem)
-    (site w'.state w'.bank w'.mem)) (sym bank_is)
-    (subst (λ m. BankTurn t.page_size t.controller most count
-    (site bus.state (bank_at bus.banks r.controller) m) (site w'.state w'.bank w'.mem))
-    (sym u.mem) own)) in
-    let takes = turn_takes t r.bus.state most w w' u.keeps (count, there, refl) in
-    let done_is : w'.done ≡ turns + count = ap (λ n. n + count) u.done in
+    let w = world u in
+    let course : Course = record u.course { state = bus'.state; bank = bank_at bus'.banks r.controller } in
+    let w' = world_at course bells (turns + count) b.told mem in
+    let there : BankTurn t.page_size t.controller most count (site w.state w.bank bytes)
+    (site w'.state w'.bank mem) =
+    rw (u.page_size, u.controller, pace, is.state ∙ sym (state_on u), is.bank ∙ sym u.keeps.bank) at turn.own in
+    let happens : Happens t (Turn most) w w' = (count, there, refl) in
     let next : IsUnderWay r bells (turns + count) b l now' mem = record {
-      begun = u.begun;
-      can = u.can;
-      geometry = u.geometry;
-      controller = u.controller;
-      page_size = page ∙ u.page_size;
-      size = size ∙ u.size;
-      window = u.window;
-      some = u.some;
-      room = u.room;
-      world = w';
-      keeps = turn_keeps t r.bus.state most w w' u.keeps (count, there, refl);
-      others = turn_others t r.bus.state 0 r.bytes most w w' u.keeps u.others (count, there, refl);
-      mem = refl;
-      rung = u.rung;
-      done = done_is;
-      told = u.told;
-      sent = u.sent;
+      running = assumption (page ∙ u.page_size, size ∙ u.size, u.running);
+      course = course;
+      has = u.has;
+      keeps = turn_keeps t r.bus.state most w w' u.keeps happens;
+      others = turn_others t r.bus.state 0 r.bytes most w w' u.keeps u.others happens;
       collected = u.collected;
-      commands = u.commands;
-      kept = u.kept;
       pair = u.pair;
-      taken = u.taken;
-      own = u.own;
     } in
     record {
       under_way = next;
       bus_is = record {
         bus = lawful;
         state = state_on next;
-        bank = next.keeps.bank ∙ ap (λ n. bank_with t (device_rings t n w'.done w'.told)) u.rung
-            ∙ ap (λ n. bank_with t (device_rings t bells n w'.told)) done_is
-            ∙ ap (λ n. bank_with t (device_rings t bells (turns + count) n)) u.told;
+        bank = next.keeps.bank;
         banks = set_again r.bus.banks bus.banks bus'.banks r.controller _ _ u.begun.controller is.banks
-            (subst (λ i. bus'.banks ≡ slice_set bus.banks i (bank_at bus'.banks i)) same turn.others);
+            (subst (λ i. bus'.banks ≡ slice_set bus.banks i (bank_at bus'.banks i)) u.controller turn.others);
       };
-      number_is = taken w.rung w.done w.told takes u.rung u.done u.told;
+      number_is = omega (arith, turn_takes t r.bus.state most w w' u.keeps happens);
     }
-  where
-    taken : (m d h : ℕ) → d + count ≡ d + min most
-        (min (m - d) (r.pair.submission.depth - 1 - (d - h))) → m ≡ bells → d ≡ turns → h ≡ b.told
-        → count ≡ min most (min (bells - turns) (r.pair.submission.depth - 1 - (turns - b.told)))
-    taken m d h sum rung done told =
-        let alone : count ≡ min most (min (m - d) (r.pair.submission.depth - 1 - (d - h))) = omega (arith, sum) in
-        alone ∙ ap (λ n. min most (min (n - d) (r.pair.submission.depth - 1 - (d - h)))) rung
-        ∙ ap (λ n. min most (min (bells - n) (r.pair.submission.depth - 1 - (n - h)))) done
-        ∙ ap (λ n. min most (min (bells - turns) (r.pair.submission.depth - 1 - (turns - n)))) told
 
 -- ---- the head was told
 
-pub tells_on : {r : Run} {turns : ℕ} {b b' : Batch} {l l' : QueuePairFields} {now : ℕ}
+-- what a batch ensures that tells the head
+abbrev pub IsTold : Batch → QueuePairFields → BusValue → Batch → QueuePairFields → BusValue → Type 0
+IsTold b l m b' l' m' = record {
+  batch : b' ≡ record b { told = b.collected };
+  pair : l' ≡ record l { completion = told_all l.completion };
+  state : m'.state ≡ m.state;
+  bus : IsBus m → IsBus m';
+  told : l.completion.untold ≡ true → m'.banks ≡ slice_set m.banks b.ctrl
+      (with_register_at (bank_at m.banks b.ctrl) 0x1004 (slot_of l.completion.depth l.completion.collected));
+  silent : l.completion.untold ≡ false → m'.banks ≡ m.banks;
+}
+
+pub tells_on : {r : Run} {bells turns : ℕ} {b b' : Batch} {l l' : QueuePairFields} {now : ℕ}
     {bytes : List ℕ} {bus bus' : BusValue}
-    (u : IsUnderWay r b.sent turns b l now bytes) → IsBusOf r b.sent turns b.told bus
-    → b' ≡ record b { told = b.collected }
-    → l' ≡ record l { completion = told_all l.completion } → bus'.state ≡ bus.state → (IsBus bus → IsBus bus')
-    → (l.completion.untold ≡ true
-    → bus'.banks ≡ slice_set bus.banks b.ctrl (with_register_at (bank_at bus.banks b.ctrl) 0x1004
-    (slot_of l.completion.depth l.completion.collected)))
-    → (l.completion.untold ≡ false → bus'.banks ≡ bus.banks)
-    → IsUnderWay r b'.sent turns b' l' now bytes × IsBusOf r b'.sent turns b'.told bus'
-tells_on {r} {turns} {b} {b'} {l} {l'} {now} {bytes} {bus} {bus'} u is batch pair state lawful told silent = (
-  subst (λ (x : Batch). IsUnderWay r x.sent turns x l' now bytes) (sym batch)
-      (subst (λ x. IsUnderWay r b.sent turns (record b { told = b.collected }) x now bytes) (sym pair) (tells u)),
-  subst (λ (x : Batch). IsBusOf r x.sent turns x.told bus') (sym batch)
-      (bus_tells u is u.controller state lawful told silent),
+    (u : IsUnderWay r bells turns b l now bytes) → IsBusOf r bells turns b.told bus → IsTold b l bus b' l' bus'
+    → IsUnderWay r bells turns (record b { told = b.collected }) l' now bytes × IsBusOf r bells turns b.collected bus'
+tells_on {r} {bells} {turns} {b} {now = now} {bytes = bytes} u is t = (
+  subst (λ x. IsUnderWay r bells turns (record b { told = b.collected }) x now bytes) (sym t.pair) (tells u),
+  bus_tells u is u.controller t.state t.bus t.told t.silent,
 )
 
 -- a turn that takes none while a command waits finds no free slot

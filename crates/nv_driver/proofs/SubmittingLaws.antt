@@ -6,8 +6,9 @@ use Rattle.nv_host.specs.PageSets.{IsOf, Pages}
 use Rattle.nv_host.specs.Pages.{HasPage, IsPageSize}
 use Rattle.nv_host.specs.Bytes.{bytes_at}
 use Rattle.nv_host.proofs.PageLaws.{page_size_bounds}
+use Rattle.nv_queue.specs.Rings.{CollectNumbers, SubmitNumbers}
 use Rattle.nv_prp.proofs.PlaceLaws.{length-written_at}
-use Rattle.nv_prp.specs.Buffer.{IsBuffer, IsListPlace, IsOutside, KeepsList, KeepsOutside, StaysFor, buffer_places}
+use Rattle.nv_prp.specs.Buffer.{IsBuffer, IsListPlace, KeepsList, KeepsOutside, StaysFor, buffer_places}
 use Rattle.nv_prp.proofs.BufferLaws.{rest_distinct}
 use Rattle.nv_prp.specs.Place.{AreDistinct, written_at}
 use Rattle.nv_prp.specs.Transfer.{transfer}
@@ -18,6 +19,7 @@ use Rattle.nv_bus.specs.Call.{sent_from}
 use Rattle.nv_driver.specs.Schedule.{AreOutside, IsPrepared, Sent, StaysNamed, data_length, own_pages, places, pointed}
 use Rattle.nv_driver.specs.declared.command_pages.CommandPages.{CommandPages}
 use Rattle.nv_driver.specs.declared.geometry.Geometry.{Geometry}
+use Rattle.nv_driver.specs.declared.queue_pair.QueuePair.{QueuePair as QueuePairFields}
 use Rattle.nv_driver.proofs.DataLaws.{ArePlaces, length-host_data, sent_back}
 use Rattle.nv_driver.proofs.ListPageLaws.{written_list}
 use Rattle.nv_driver.proofs.PointerLaws.{stays_in}
@@ -44,8 +46,7 @@ pub of_set : (s : Pages) (bytes : List ℕ) (page_size page : ℕ)
     → (s.first + s.count) * page_size ≤ length bytes → IsOf s.first s.count page
     → HasPage bytes page_size page
 of_set s bytes page_size page inside own =
-    let most : page + 1 ≤ s.first + s.count = omega (arith, own.1) in
-    let times = mul-le-mul_right page_size most in omega arith
+    let most : page + 1 ≤ s.first + s.count = omega (arith, own.1) in omega (arith, mul-le-mul_right page_size most)
 
 -- the pages of a set that a command took
 pub record Has (s : Pages) (p : CommandPages) (page_size size : ℕ) : Type 0 where
@@ -53,6 +54,10 @@ pub record Has (s : Pages) (p : CommandPages) (page_size size : ℕ) : Type 0 wh
   pub few : p.data_pages ≤ 5
   pub taken : AreTaken s (all_pages p)
   pub inside : (s.first + s.count) * page_size ≤ size
+
+pub has_taken : {s : Pages} {p : CommandPages} {n page_size size : ℕ} → p.data_pages ≡ n → n ≤ 5
+    → length p.numbers ≡ 7 → AreTaken s (all_pages p) → (s.first + s.count) * page_size ≤ size → Has s p page_size size
+has_taken count few seven taken inside = record { seven = seven; few = rw count few; taken = taken; inside = inside }
 
 each_inside : (s : Pages) (p : CommandPages) (page_size : ℕ) (bytes : List ℕ) → Has s p page_size (length bytes)
     → All (λ page. HasPage bytes page_size page) (slice_index p.numbers 0 ∷ slice_index p.numbers 1 ∷ data_pages p)
@@ -67,8 +72,7 @@ buffer_of g s p bytes page_size len is page h enough =
     subst (λ size. IsBuffer bytes size (data_pages p) g.offset len) (sym page) (record {
       below = is.offset.1;
       aligned = is.offset.0;
-      enough = subst (λ n. g.offset + len ≤ n * g.page_size)
-          (sym (length-data_pages p h.seven h.few)) enough;
+      enough = rw (length-data_pages p h.seven h.few) enough;
       inside = λ i d below. each_inside s p g.page_size bytes h (suc (suc i)) d (omega arith);
     })
 
@@ -121,16 +125,13 @@ pub built_by : (g : Geometry) (x : Sent) (old built : List ℕ) (page_size now l
     → KeepsOutside page_size x.first x.second old built → length built ≡ length old
     → IsBuilt g.page_size x old built
 built_by g x old built page_size now len page after is_len first second stays others size =
-    let Stays : ℕ → ℕ → Type 0 = λ p n.
-    0 < n → StaysFor (transfer p built x.prp1 x.prp2 n) x.pages x.offset x.first x.second in
     record {
-      others = λ from n outside. others from n
-          (subst (λ p. IsOutside p x.first from n) (sym page) (outside 0 0 (omega arith)))
-          (subst (λ p. IsOutside p x.second from n) (sym page) (outside 1 0 (omega arith)));
+      others = λ from n outside.
+          others from n (rw page (outside 0 0 (omega arith))) (rw page (outside 1 0 (omega arith)));
       len = size;
       prp1 = first;
       prp2 = second;
-      stays = subst (Stays g.page_size) is_len (subst (λ p. Stays p len) (after ∙ page) stays);
+      stays = rw (after ∙ page, is_len) at stays;
     }
 
 -- and where what the host sends was written, the command is prepared
@@ -162,6 +163,14 @@ prepared_by page_size x old built new is fits buffer distinct b put =
           (subst (KeepsList (pointed page_size x built) x.first x.second) (sym put)
           (written_list page_size x built xs some buffer.enough distinct)) b.stays;
     }
+
+-- queue pairs of the same parts
+abbrev pub pair_by : SubmitNumbers → CollectNumbers → ℕ → Pages → QueuePairFields
+pair_by a c n p = record { submission = a; completion = c; serial = n; pages = p }
+
+pub pairs_same : {a a' : SubmitNumbers} {c c' : CollectNumbers} {n n' : ℕ} {p p' : Pages} → a ≡ a'
+    → c ≡ c' → n ≡ n' → p ≡ p' → pair_by a c n p ≡ pair_by a' c' n' p'
+pairs_same e f g h = cc
 
 pub on_ok : {X E : Type 0} {P : Type 0} (r : Result X E) (x : X) → r ≡ Ok x → OnOk r P → P
 on_ok {P = P} r x is all = subst (λ q. OnOk q P) is all

@@ -1,14 +1,13 @@
 -- What taking one entry keeps of a schedule.
 use Rattle.std.proofs.Common.{◌≡◌, ◌∙◌, ℕ, ◌+◌, ◌-◌, ◌*◌, ◌<◌, ◌≤◌, true, Err, List, Ok, Result, ap, arith, get_or, inl}
 use Rattle.std.proofs.Common.{inr, length, refl, subst, sym}
-use Rattle.std.proofs.Math.Nat.{mul-le-mul_left}
 use Rattle.std.proofs.lemmas.Bool.{cases_lt}
 use Rattle.nv_host.specs.Bytes.{bytes_at}
 use Rattle.nv_layout.specs.Cqe.{cqe_of_bytes}
 use Rattle.nv_layout.specs.declared.sqe.Sqe.{Sqe}
 use Rattle.nv_prp.specs.Buffer.{KeepsList}
 use Rattle.nv_prp.specs.Place.{AreDistinct, read_at}
-use Rattle.nv_queue.specs.Numbers.{above, slot_of}
+use Rattle.nv_queue.specs.Numbers.{above}
 use Rattle.nv_queue.specs.Slots.{completion_at, with_completion}
 use Rattle.nv_command.specs.Command.{transfer_by}
 use Rattle.nv_command.specs.Reply.{data_of}
@@ -16,9 +15,9 @@ use Rattle.nv_command.proofs.TravelLaws.{replies_fit}
 use Rattle.nv_command.specs.declared.status_code.StatusCode.{StatusCode}
 use Rattle.nv_register.specs.declared.rings.Rings.{Rings}
 use Rattle.nv_model.specs.State.{State}
-use Rattle.nv_model.specs.Step.{Step, step}
+use Rattle.nv_model.specs.Step.{step}
 use Rattle.nv_bus.specs.Call.{Call, call_of}
-use Rattle.nv_bus.specs.Entry.{Moves, MovesBy, One, Scene, completion_with, entry_in, entry_step, scene, step_unless}
+use Rattle.nv_bus.specs.Entry.{Moves, MovesBy, One, Scene, completion_with, entry_in, scene, step_unless}
 use Rattle.nv_bus.proofs.TagLaws.{tagged}
 use Rattle.nv_bus.proofs.TurnLaws.{can_means}
 use Rattle.nv_model.specs.Limit.{limit_of}
@@ -76,20 +75,12 @@ done_by : (t : Setting) (w : World) (x : Sent) (y : Scene) (e : Sqe) (found : Re
     (step_unless found w.state t.controller e).answer)
     → IsDone t w x y
 done_by t w x y e found is call state rings moved moves bytes =
-    let both : step_unless found w.state t.controller e ≡ step w.state t.controller x.command x.cid =
-    ap (λ (f : Result Call StatusCode). step_unless f w.state t.controller e) call
-    ∙ ap (λ (q : Sqe). step w.state t.controller x.command q.cid) is in
     record {
-      state = state ∙ ap (λ (p : Step). p.state) both;
+      state = rw (call, is) at state;
       rings = rings;
       moved = moved;
-      moves = subst (λ (p : Step). Moves x.command (places t.page_size x) p.answer w.mem moved) both
-          (subst (λ (f : Result Call StatusCode). MovesBy f
-          (step_unless found w.state t.controller e).answer w.mem moved) call moves);
-      bytes = bytes ∙ ap (λ (p : Step). with_completion moved (now t w).completion
-          (completion_with e.cid (slot t (w.done + 1)) p.answer)) both
-          ∙ ap (λ (q : Sqe). with_completion moved (now t w).completion
-          (completion_with q.cid (slot t (w.done + 1)) (step w.state t.controller x.command x.cid).answer)) is;
+      moves = rw (call, is) at moves;
+      bytes = rw (call, is) at bytes;
     }
 
 pub is_done : (t : Setting) (s : State) (w : World) (y : Scene) (d : Sent) → Keeps t s w → w.done < length w.sent
@@ -105,15 +96,7 @@ is_done t s w y d k below one =
     ∙ entry_call t (get_or w.sent w.done d) limit w.mem
     (limit_bounds w.state t.controller k.well_formed k.controller).0 own.can own.cid
     (k.named w.done d k.counts.collected below) (k.to_send w.done d (omega arith) below))
-    one.state
-    (one.rings ∙ ap (λ n. record (now t w) {
-      submission = record (now t w).submission { fetched = n };
-      completion = record (now t w).completion { posted = n };
-    }) next_one)
-    one.bytes.0 one.bytes.1
-    (one.bytes.2 ∙ ap (λ n. with_completion one.bytes.0 (now t w).completion
-    (completion_with (entry_in (scene w.state (now t w) w.mem)).cid (slot_of t.depth n)
-    (entry_step t.controller (scene w.state (now t w) w.mem)).answer)) next_one)
+    one.state (rw next_one at one.rings) one.bytes.0 one.bytes.1 (rw next_one at one.bytes.2)
 
 -- ---- the memory
 
@@ -133,8 +116,6 @@ pub moved_slot : (t : Setting) (x : Sent) (a : Answer) (old moved : List ℕ) (s
     → AreOutside t.page_size x t.cq (16 * t.depth) → s < t.depth
     → completion_at moved t.cq s ≡ completion_at old t.cq s
 moved_slot t x a old moved s some enough moves outside below =
-    let top : s + 1 ≤ t.depth = omega arith in
-    let room = mul-le-mul_left 16 top in
     ap cqe_of_bytes (moved_keeps t x a old moved (t.cq + 16 * s) 16 some enough moves
     (outside_part t x t.cq (16 * t.depth) (t.cq + 16 * s) 16 outside (omega arith) (omega arith)))
 

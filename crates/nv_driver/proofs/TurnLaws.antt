@@ -28,14 +28,17 @@ no_command = record {
   prp2 = 0;
 }
 
--- the schedule after so many entries
-abbrev pub world_with : Setting → World → ℕ → Scene → World
-world_with t w count y = record w {
+-- the schedule with so many entries done, and after so many more
+abbrev world_done : Setting → World → ℕ → Scene → World
+world_done t w n y = record w {
   mem = y.bytes;
   state = y.state;
-  bank = bank_with t (device_rings t w.rung (w.done + count) w.told);
-  done = w.done + count;
+  bank = bank_with t (device_rings t w.rung n w.told);
+  done = n;
 }
+
+abbrev pub world_with : Setting → World → ℕ → Scene → World
+world_with t w count y = world_done t w (w.done + count) y
 
 -- the schedule holds, the scene has its rings, and other bytes stay
 pub record Reaches (t : Setting) (s : State) (w : World) (count : ℕ) (y : Scene) : Type 0 where
@@ -44,33 +47,11 @@ pub record Reaches (t : Setting) (s : State) (w : World) (count : ℕ) (y : Scen
   pub others : (from n : ℕ) → AreOthers t (length w.answers) w.sent from n
       → bytes_at y.bytes from n ≡ bytes_at w.mem from n
 
--- the same where the done entries are counted otherwise
-counted : (t : Setting) (s : State) (w : World) (y : Scene) (n m : ℕ) → n ≡ m
-    → Keeps t s (record w {
-      mem = y.bytes;
-      state = y.state;
-      bank = bank_with t (device_rings t w.rung n w.told);
-      done = n;
-    })
-    → Keeps t s (record w {
-      mem = y.bytes;
-      state = y.state;
-      bank = bank_with t (device_rings t w.rung m w.told);
-      done = m;
-    })
-counted t s w y n m same =
-    subst (λ i. Keeps t s (record w {
-      mem = y.bytes;
-      state = y.state;
-      bank = bank_with t (device_rings t w.rung i w.told);
-      done = i;
-    })) same
-
 none_taken : (t : Setting) (s : State) (w : World) → Keeps t s w → Reaches t s w 0 (scene w.state (now t w) w.mem)
 none_taken t s w k =
     let zero_more : w.done ≡ w.done + 0 = omega arith in
     record {
-      keeps = counted t s w (scene w.state (now t w) w.mem) w.done (w.done + 0) zero_more
+      keeps = subst (λ n. Keeps t s (world_done t w n (scene w.state (now t w) w.mem))) zero_more
           (subst (λ p. Keeps t s (record w { bank = p })) k.bank k);
       rings = ap (λ n. device_rings t w.rung n w.told) zero_more;
       others = λ from n apart. refl;
@@ -82,7 +63,7 @@ one_further : (t : Setting) (s : State) (w : World) (mid y : Scene) (count : ℕ
 one_further t s w mid y count k takes r =
     let sum : w.done + 1 + count ≡ w.done + suc count = omega arith in
     record {
-      keeps = counted t s w y (w.done + 1 + count) (w.done + suc count) sum r.keeps;
+      keeps = subst (λ n. Keeps t s (world_done t w n y)) sum r.keeps;
       rings = r.rings ∙ ap (λ n. device_rings t w.rung n w.told) sum;
       others = λ from n apart. r.others from n (record {
         submissions = apart.submissions;
@@ -164,15 +145,9 @@ turn_keeps t s most w w' k happens =
     let count = happens.0 in
     let r = is_turn t s w most count (site w'.state w'.bank w'.mem) k happens.1 in
     let last = r.last in
-    subst (Keeps t s)
-    (sym (happens.2 ∙ ap (λ (z : Site). record w
+    subst (Keeps t s) (sym (happens.2 ∙ ap (λ (z : Site). record w
     { mem = z.bytes; state = z.state; bank = z.bank; done = w.done + count }) r.left
-    ∙ ap (λ rings. record w {
-      mem = last.bytes;
-      state = last.state;
-      bank = bank_with t rings;
-      done = w.done + count;
-    }) r.reached.rings))
+    ∙ ap (λ rings. record (world_with t w count last) { bank = bank_with t rings }) r.reached.rings))
     r.reached.keeps
 
 -- other bytes stay

@@ -1,7 +1,6 @@
 -- A queue pair's completion ring is zeroed.
 use Rattle.std.specs.Prelude.{replicate}
 use Rattle.std.proofs.Common.{◌≡◌, ◌∙◌, ℕ, ◌+◌, ◌*◌, ◌≤◌, List, ap, arith, inl, inr, length}
-use Rattle.std.proofs.Math.Nat.{mul-le-mul_right}
 use Rattle.std.proofs.lemmas.List.{length-replicate}
 use Rattle.nv_host.specs.Bytes.{bytes_at, with_bytes}
 use Rattle.nv_host.proofs.BytesLaws.{bytes_at-with_after, bytes_at-with_before, length-with_bytes}
@@ -26,12 +25,10 @@ ring_lies {page_size} {size} {l} {v} quiet is laid =
     let cq = ap (λ (u : QueuePair). u.cq) is in
     let depth = quiet.depth ∙ ap (λ (u : QueuePair). u.depth) is in
     let many = length-replicate {A = ℕ} (16 * l.completion.depth) 0 in
-    let least : v.first_page ≤ v.first_page + v.page_count = omega arith in
-    let pages = mul-le-mul_right page_size least in
     record {
       low = omega (arith, laid.rings, cq);
-      high = omega (arith, laid.pages, cq, depth, many, pages);
-      inside = omega (arith, laid.pages, laid.inside, cq, depth, many, pages);
+      high = omega (arith, laid.pages, cq, depth, many);
+      inside = omega (arith, laid.pages, laid.inside, cq, depth, many);
     }
 
 pub zeroed_length : {page_size : ℕ} {l : QueuePairFields} {v : QueuePair} (old new : List ℕ) → IsQuiet l

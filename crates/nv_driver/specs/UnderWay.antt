@@ -4,7 +4,9 @@ use Rattle.std.specs.Prelude.{Option, None, Some, drop, length, map, min, slice_
 use Rattle.std.specs.Prelude.{slice_set, take}
 use Rattle.nv_host.specs.PageSets.{IsOf}
 use Rattle.nv_command.specs.declared.command.Command.{Command}
+use Rattle.nv_register.specs.declared.register_bank.RegisterBank.{RegisterBank}
 use Rattle.nv_model.specs.Numbers.{serial_count}
+use Rattle.nv_model.specs.State.{State}
 use Rattle.nv_bus.specs.Bus.{BusValue, IsBus, bank_at}
 use Rattle.nv_driver.specs.Batch.{answers_of, from_serial, state_after}
 use Rattle.nv_driver.specs.CommandPages.{AreTaken, without}
@@ -72,43 +74,72 @@ pub record IsKept (r : Run) (o : Option CommandPages) (x : Sent) : Type 0 where
   pub seven : length one.numbers ≡ 7
 
 -- the places of the window, by the numbers of the commands modulo 16
-abbrev pub kept_at : Batch → ℕ → Option CommandPages
-kept_at b n = slice_index_or b.outstanding (n % 16) None
+abbrev pub kept_at : List (Option CommandPages) → ℕ → Option CommandPages
+kept_at places n = slice_index_or places (n % 16) None
+
+-- what stays as the run began: its geometry, its controller, the memory's sizes, the window's places
+pub record IsRunning (r : Run) (g : Geometry) (c places now length_now : ℕ) : Type 0 where
+  pub begun : IsReady r.geometry r.bus r.controller r.pair r.geometry.page_size r.bytes
+  pub can : All CanBeSent r.commands
+  pub geometry : g ≡ r.geometry
+  pub controller : c ≡ r.controller
+  pub page_size : now ≡ r.geometry.page_size
+  pub size : length_now ≡ length r.bytes
+  pub room : places ≡ 16
+
+-- the run's first m commands were sent, and those from k on have their places and pages
+pub record HasSent (r : Run) (m k : ℕ) (places : List (Option CommandPages)) (xs : List Sent)
+    : Type 0 where
+  pub window : m ≤ k + r.geometry.window
+  pub some : m ≤ length r.commands
+  pub sent : length xs ≡ m
+  pub commands : map numbered xs ≡ take m (numbered_of r)
+  pub kept : (n : ℕ) (d : Sent) → k ≤ n → n < m
+      → IsKept r (kept_at places n) (slice_index_or xs n d)
+  pub taken : AreTaken r.pair.pages (pages_of_all (drop k xs))
+  pub own : (n : ℕ) (d : Sent) → n < m
+      → All (λ p. IsOf r.pair.pages.first r.pair.pages.count p) (own_pages (slice_index_or xs n d))
+
+-- what of a schedule the batch doesn't count
+pub record Course : Type 0 where
+  pub state : State
+  pub bank : RegisterBank
+  pub sent : List Sent
+  pub answers : List Answer
+
+abbrev pub world_at : Course → (bells turns told : ℕ) → List ℕ → World
+world_at course bells turns told bytes = record {
+  mem = bytes;
+  state = course.state;
+  bank = course.bank;
+  sent = course.sent;
+  rung = bells;
+  done = turns;
+  told = told;
+  answers = course.answers;
+}
+
+-- the queue pair where so many commands were sent and collected, and told, and these pages are in use
+abbrev pub pair_at : Run → (sent collected told : ℕ) → List ℕ → QueuePairFields
+pair_at r sent collected told pages = record {
+  submission = submit_ring (setting_of r) sent collected;
+  completion = collect_ring (setting_of r) collected told;
+  serial = serial_at r sent;
+  pages = without r.pair.pages pages;
+}
 
 -- of its commands so many were told by the tail doorbell, and so many were done by turns
 pub record IsUnderWay (r : Run) (bells turns : ℕ) (b : Batch) (l : QueuePairFields) (now : ℕ)
     (bytes : List ℕ) : Type 0 where
-  pub begun : IsReady r.geometry r.bus r.controller r.pair r.geometry.page_size r.bytes
-  pub can : All CanBeSent r.commands
-  pub geometry : b.geometry ≡ r.geometry
-  pub controller : b.ctrl ≡ r.controller
-  pub page_size : now ≡ r.geometry.page_size
-  pub size : length bytes ≡ length r.bytes
-  pub window : b.sent ≤ b.collected + r.geometry.window
-  pub some : b.sent ≤ length r.commands
-  pub room : length b.outstanding ≡ 16
-  pub world : World
-  pub keeps : Keeps (setting_of r) r.bus.state world
-  pub others : OthersStay (setting_of r) 0 r.bytes world
-  pub mem : world.mem ≡ bytes
-  pub rung : world.rung ≡ bells
-  pub done : world.done ≡ turns
-  pub told : world.told ≡ b.told
-  pub sent : length world.sent ≡ b.sent
-  pub collected : length world.answers ≡ b.collected
-  pub commands : map numbered world.sent ≡ take b.sent (numbered_of r)
-  pub kept : (n : ℕ) (d : Sent) → b.collected ≤ n → n < b.sent
-      → IsKept r (kept_at b n) (slice_index_or world.sent n d)
-  pub pair : l ≡ record {
-    submission = submit_ring (setting_of r) b.sent b.collected;
-    completion = collect_ring (setting_of r) b.collected b.told;
-    serial = serial_at r b.sent;
-    pages = without r.pair.pages (pages_of_all (drop b.collected world.sent));
-  }
-  pub taken : AreTaken r.pair.pages (pages_of_all (drop b.collected world.sent))
-  pub own : (n : ℕ) (d : Sent) → n < b.sent
-      → All (λ p. IsOf r.pair.pages.first r.pair.pages.count p)
-      (own_pages (slice_index_or world.sent n d))
+  pub running : IsRunning r b.geometry b.ctrl (length b.outstanding) now (length bytes)
+  pub open running use *
+  pub course : Course
+  pub has : HasSent r b.sent b.collected b.outstanding course.sent
+  pub open has use *
+  pub keeps : Keeps (setting_of r) r.bus.state (world_at course bells turns b.told bytes)
+  pub others : OthersStay (setting_of r) 0 r.bytes (world_at course bells turns b.told bytes)
+  pub collected : length course.answers ≡ b.collected
+  pub pair : l ≡ pair_at r b.sent b.collected b.told (pages_of_all (drop b.collected course.sent))
 
 -- the bus where so many commands were told, done, and told to be collected
 pub record IsBusOf (r : Run) (rung done told : ℕ) (b : BusValue) : Type 0 where

@@ -1,7 +1,6 @@
-use Rattle.std.proofs.Common.{◌≤◌, ap, arith, length, refl}
+use Rattle.std.proofs.Common.{ap, arith}
 use Rattle.nv_driver.specs.declared.geometry.Geometry.{Geometry}
 use Rattle.nv_driver.proofs.EndLaws.{all_collected, answers_all, begins_all, ends_all}
-use Rattle.nv_driver.proofs.RoundLaws.{tells_on}
 use Rattle.nv_driver.proofs.batch.exchange_all.Goals as goal
 
 pub loop-batch-init : goal.loop-batch-init
@@ -20,34 +19,18 @@ loop-batch-init g c =
 
 pub returns-clause-answers : goal.returns-clause-answers
 returns-clause-answers g c =
-    let run = c.requires.1.1.0 in
     let i = c.loop-batch.invariant in
-    let enough : length c.args.commands.now ≤ c.loop-batch.batch.collected = omega (arith, c.loop-batch-test.false) in
-    answers_all run i.answers (all_collected run i.under_way enough).1
+    let run = c.requires.1.1.0 in
+    answers_all run i.answers (all_collected run i.under_way (omega (arith, c.loop-batch-test.false))).1
 
 pub returns-clause-ready : goal.returns-clause-ready
-returns-clause-ready g c =
-    let run = c.requires.1.1.0 in
-    let i = c.loop-batch.invariant in
-    let t = c.tell.ensures in
-    let enough : length c.args.commands.now ≤ c.loop-batch.batch.collected = omega (arith, c.loop-batch-test.false) in
-    let told = tells_on i.under_way i.bus refl t.pair t.state t.bus t.told t.silent in
-    (ends_all run told.0 told.1 (all_collected run i.under_way enough).0 refl).ready
+returns-clause-ready g c = let i = c.loop-batch.invariant in
+    (ends_all c.requires.1.1.0 i.under_way i.bus (omega (arith, c.loop-batch-test.false)) c.tell.ensures).ready
 
 pub returns-clause-banks : goal.returns-clause-banks
-returns-clause-banks g c =
-    let run = c.requires.1.1.0 in
-    let i = c.loop-batch.invariant in
-    let t = c.tell.ensures in
-    let enough : length c.args.commands.now ≤ c.loop-batch.batch.collected = omega (arith, c.loop-batch-test.false) in
-    let told = tells_on i.under_way i.bus refl t.pair t.state t.bus t.told t.silent in
-    (ends_all run told.0 told.1 (all_collected run i.under_way enough).0 refl).banks
+returns-clause-banks g c = let i = c.loop-batch.invariant in
+    (ends_all c.requires.1.1.0 i.under_way i.bus (omega (arith, c.loop-batch-test.false)) c.tell.ensures).banks
 
 pub returns-clause-others : goal.returns-clause-others
-returns-clause-others g c =
-    let run = c.requires.1.1.0 in
-    let i = c.loop-batch.invariant in
-    let t = c.tell.ensures in
-    let enough : length c.args.commands.now ≤ c.loop-batch.batch.collected = omega (arith, c.loop-batch-test.false) in
-    let told = tells_on i.under_way i.bus refl t.pair t.state t.bus t.told t.silent in
-    (ends_all run told.0 told.1 (all_collected run i.under_way enough).0 refl).others
+returns-clause-others g c = let i = c.loop-batch.invariant in
+    (ends_all c.requires.1.1.0 i.under_way i.bus (omega (arith, c.loop-batch-test.false)) c.tell.ensures).others

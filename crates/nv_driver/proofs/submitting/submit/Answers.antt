@@ -1,82 +1,46 @@
-use Rattle.std.proofs.Common.{rules, ◌≡◌, ◌∙◌, ◌+◌, ◌*◌, ◌%◌, ◌≤◌, ap, arith, refl, subst, sym}
-use Rattle.std.specs.FinSet as set
+use Rattle.std.proofs.Common.{rules, ◌∙◌, ap, arith, refl, sym}
 use Rattle.nv_layout.specs.declared.sqe.Sqe.{Sqe}
-use Rattle.nv_host.specs.PageSets.{Pages}
 use Rattle.nv_prp.specs.Place.{written_at}
-use Rattle.nv_queue.specs.Rings.{SubmitNumbers, submitted_one}
 use Rattle.nv_queue.specs.Slots.{with_submission}
 use Rattle.nv_command.specs.Command.{host_data_of}
 use Rattle.nv_command.specs.Entry.{with_pointer}
-use Rattle.nv_driver.specs.Geometry.{IsGeometry}
-use Rattle.nv_driver.specs.Layout.{pages_of_command}
 use Rattle.nv_driver.specs.Submitting.{sent_by}
 use Rattle.nv_driver.specs.declared.geometry.Geometry.{Geometry}
 use Rattle.nv_driver.proofs.SubmittingLaws.{buffer_as, buffer_of, built_by, distinct_of, list_of}
-use Rattle.nv_driver.proofs.SubmittingLaws.{on_ok, places_as, prepared_by}
+use Rattle.nv_driver.proofs.SubmittingLaws.{has_taken, on_ok, pairs_same, places_as, prepared_by}
 use Rattle.nv_driver.proofs.submitting.submit.Goals as goal
 
 pub build_pointer-prp1-requires-clause-buffer : goal.build_pointer-prp1-requires-clause-buffer
 build_pointer-prp1-requires-clause-buffer g c =
     let t = c.take-pages.ensures in
-    let geometry = c.args.geometry in
-    let len = c.data_length-len.result in
-    let pages = c.args.pair.now.pages in
-    let bytes = g.M.HostMemory.bytes c.args.mem.now in
-    let is = subst IsGeometry c.geometry.view_is c.geometry.invariant in
-    let enough = subst (λ n. geometry.offset + len ≤ n * geometry.page_size)
-    (sym t.count) c.page_count.ensures.enough in
-    buffer_of geometry pages c.take-pages.result bytes _ len is c.requires.page
-    (record {
-      seven = t.seven;
-      few = omega (arith, t.count, c.page_count.ensures.five);
-      taken = t.taken;
-      inside = c.requires.inside;
-    })
-    enough
+    let is = rw (c.geometry.view_is) at c.geometry.invariant in
+    buffer_of c.args.geometry c.args.pair.now.pages c.take-pages.result _ _ _ is c.requires.page
+    (has_taken t.count c.page_count.ensures.five t.seven t.taken c.requires.inside)
+    (rw (← t.count) at c.page_count.ensures.enough)
 
 pub build_pointer-prp1-requires-clause-list : goal.build_pointer-prp1-requires-clause-list
 build_pointer-prp1-requires-clause-list g c =
     let t = c.take-pages.ensures in
-    let pages = c.args.pair.now.pages in
-    let bytes = g.M.HostMemory.bytes c.args.mem.now in
-    let is = subst IsGeometry c.geometry.view_is c.geometry.invariant in
-    list_of c.args.geometry pages c.take-pages.result bytes _ is c.requires.page
-    (record {
-      seven = t.seven;
-      few = omega (arith, t.count, c.page_count.ensures.five);
-      taken = t.taken;
-      inside = c.requires.inside;
-    })
+    let is = rw (c.geometry.view_is) at c.geometry.invariant in
+    list_of c.args.geometry c.args.pair.now.pages c.take-pages.result _ _ is c.requires.page
+    (has_taken t.count c.page_count.ensures.five t.seven t.taken c.requires.inside)
 
 pub build_pointer-prp1-requires-clause-distinct : goal.build_pointer-prp1-requires-clause-distinct
 build_pointer-prp1-requires-clause-distinct g c =
-    let t = c.take-pages.ensures in
-    distinct_of c.args.pair.now.pages c.take-pages.result t.seven t.taken
+    distinct_of c.args.pair.now.pages c.take-pages.result c.take-pages.ensures.seven c.take-pages.ensures.taken
 
 pub write_data-requires-clause-buffer : goal.write_data-requires-clause-buffer
 write_data-requires-clause-buffer g c =
     let t = c.take-pages.ensures in
     let b = c.build_pointer-prp1.ensures in
     let geometry = c.args.geometry in
-    let len = c.data_length-len.result in
-    let pair = c.args.pair.now in
-    let pages = c.take-pages.result in
-    let built = g.M.HostMemory.bytes c.build_pointer-prp1.new.mem in
-    let is = subst IsGeometry c.geometry.view_is c.geometry.invariant in
-    let enough = subst (λ n. geometry.offset + len ≤ n * geometry.page_size)
-    (sym t.count) c.page_count.ensures.enough in
+    let is = rw (c.geometry.view_is) at c.geometry.invariant in
     let offset = c.buffer.ensures.offset ∙ ap (λ (q : Geometry). q.offset) c.geometry.view_is in
     buffer_as (sym (b.page ∙ c.requires.page)) (sym c.buffer.ensures.pages) (sym offset)
     c.data_length-len.ensures.length
-    (buffer_of geometry pair.pages pages built geometry.page_size len is refl
-    (record {
-      seven = t.seven;
-      few = omega (arith, t.count, c.page_count.ensures.five);
-      taken = t.taken;
-      inside = subst (λ n. (pair.pages.first + pair.pages.count) * geometry.page_size ≤ n)
-          (sym b.len) c.requires.inside;
-    })
-    enough)
+    (buffer_of geometry c.args.pair.now.pages c.take-pages.result _ geometry.page_size _ is refl
+    (has_taken t.count c.page_count.ensures.five t.seven t.taken (rw (b.len) c.requires.inside))
+    (rw (← t.count) at c.page_count.ensures.enough))
 
 pub returns-clause-submitted : goal.returns-clause-submitted
 returns-clause-submitted g c =
@@ -93,52 +57,29 @@ returns-clause-submitted g c =
     let built = g.M.HostMemory.bytes c.build_pointer-prp1.new.mem in
     let ready = g.M.HostMemory.bytes c.write_data.new.mem in
     let len = c.data_length-len.ensures.length in
-    let is = subst IsGeometry c.geometry.view_is c.geometry.invariant in
+    let is = rw (c.geometry.view_is) at c.geometry.invariant in
     let offset = c.buffer.ensures.offset ∙ ap (λ (q : Geometry). q.offset) c.geometry.view_is in
-    let few : pages.data_pages + 2 ≤ pages_of_command geometry.page_size =
-    omega (arith, t.count, c.page_count.ensures.few) in
-    let enough = subst (λ n. geometry.offset + n ≤ pages.data_pages * geometry.page_size) len
-    (subst (λ n. geometry.offset + c.data_length-len.result ≤ n * geometry.page_size)
-    (sym t.count) c.page_count.ensures.enough) in
+    let enough = rw (← t.count, len) at c.page_count.ensures.enough in
     let buffer = buffer_of geometry pair.pages pages before geometry.page_size _ is refl
-    (record {
-      seven = t.seven;
-      few = omega (arith, t.count, c.page_count.ensures.five);
-      taken = t.taken;
-      inside = c.requires.inside;
-    })
-    enough in
-    let distinct = distinct_of pair.pages pages t.seven t.taken in
+    (has_taken t.count c.page_count.ensures.five t.seven t.taken c.requires.inside) enough in
     let is_built = built_by geometry x before built _ _ _ c.requires.page b.page len
     (search rules) (search rules) b.stays b.others b.len in
     record {
       prp1 = pointer.0;
       prp2 = pointer.1;
-      few = few;
+      few = omega (arith, t.count, c.page_count.ensures.few);
       seven = t.seven;
       taken = t.taken;
       enough = enough;
       ready = ready;
       prepared = prepared_by geometry.page_size x before built ready is.page_size
-          c.requires.can.fits buffer distinct is_built
-          (c.write_data.ensures.bytes
-          ∙ ap (λ at. written_at built at (host_data_of k))
+          c.requires.can.fits buffer (distinct_of pair.pages pages t.seven t.taken) is_built
+          (c.write_data.ensures.bytes ∙ ap (λ at. written_at built at (host_data_of k))
           (places_as (b.page ∙ c.requires.page) c.buffer.ensures.pages offset refl));
       pointer = λ none. b.none (len ∙ none);
       mem = on_ok c.push.result c.unwrap-tail.result ok c.push.ensures.bytes
           ∙ ap (λ (e : Sqe). with_submission ready pair.submission (with_pointer e pointer.0 pointer.1))
           c.entry-entry.ensures.entry;
-      pair = ap (λ (r : SubmitNumbers). record pair {
-        submission = r;
-        serial = (pair.serial + 1) % 65535;
-        pages = c.take-pages.new.free;
-      })
-          (on_ok c.push.result c.unwrap-tail.result ok c.push.ensures.submitted)
-          ∙ ap (λ (s : Pages). record pair {
-            submission = submitted_one pair.submission;
-            serial = (pair.serial + 1) % 65535;
-            pages = s;
-          }) t.set;
-      free = subst (λ n. set.len c.take-pages.new.free.members + (n + 2) ≡ set.len pair.pages.members)
-          (sym t.count) t.len;
+      pair = pairs_same (on_ok c.push.result c.unwrap-tail.result ok c.push.ensures.submitted) refl refl t.set;
+      free = rw (t.count) t.len;
     }

@@ -1,180 +1,80 @@
-use Rattle.std.proofs.Common.{◌∙◌, ◌%◌, List, None, ap, arith, length, slice_index_or, sym}
-use Rattle.nv_command.specs.declared.command.Command.{Command}
+use Rattle.std.proofs.Common.{◌∙◌, ap, arith, refl}
 use Rattle.nv_driver.specs.declared.geometry.Geometry.{Geometry}
-use Rattle.nv_driver.proofs.CollectLaws.{answer_buffer, answer_sends, answers_more, cid_below, collects, command_at}
-use Rattle.nv_driver.proofs.CollectLaws.{distance_to, freed_between, give_distinct, give_none, give_own, in_some}
-use Rattle.nv_driver.proofs.CollectLaws.{is_some, is_there, no_more, number_is, one_is}
-use Rattle.nv_driver.proofs.PointerLaws.{seven_pages}
+use Rattle.nv_driver.proofs.CollectLaws.{answer_buffer, answer_sends, answers_more, can_give, cid_below, collects}
+use Rattle.nv_driver.proofs.CollectLaws.{few_data, freed_between, has_place, in_some, is_next, is_there, number_inside}
 use Rattle.nv_driver.proofs.batch.Batch.collect_one.Goals as goal
 
 pub unwrap-completion-requires : goal.unwrap-completion-requires
-unwrap-completion-requires g c =
-    let asked = c.requires.1.1 in
-    c.poll.ensures.awaited.1 (is_there asked.0 asked.1.1)
+unwrap-completion-requires g c = let asked = c.requires.1.1 in c.poll.ensures.awaited.1 (is_there asked.0 asked.1.1)
 
 pub freed-requires : goal.freed-requires
 freed-requires g c =
-    let asked = c.requires.1.1 in
-    let u = asked.0 in
-    let more = asked.1.1 in
-    let some = c.unwrap-completion.ensures in
-    let value = c.poll.ensures.value in
-    freed_between u more some value
+    let asked = c.requires.1.1 in freed_between asked.0 asked.1.1 c.unwrap-completion.ensures c.poll.ensures.value
 
 pub distance-requires : goal.distance-requires
-distance-requires g c =
-    let asked = c.requires.1.1 in
-    let u = asked.0 in
-    let more = asked.1.1 in
-    let some = c.unwrap-completion.ensures in
-    let value = c.poll.ensures.value in
-    record { cid = cid_below u more some value }
+distance-requires g c = let asked = c.requires.1.1 in
+    record { cid = cid_below asked.0 asked.1.1 c.unwrap-completion.ensures c.poll.ensures.value }
 
 pub overflow_sub-number : goal.overflow_sub-number
-overflow_sub-number g c =
-    let asked = c.requires.1.1 in
-    let u = asked.0 in
-    let more = asked.1.1 in
-    let some = c.unwrap-completion.ensures in
-    let value = c.poll.ensures.value in
-    omega (arith, distance_to u more some value c.distance.result c.distance.ensures)
+overflow_sub-number g c = let asked = c.requires.1.1 in
+    (is_next asked.0 asked.1.1 c.unwrap-completion.ensures c.poll.ensures.value c.distance.ensures).0
 
 pub unwrap-pages-requires : goal.unwrap-pages-requires
 unwrap-pages-requires g c =
     let asked = c.requires.1.1 in
-    let u = asked.0 in
-    let more = asked.1.1 in
-    let some = c.unwrap-completion.ensures in
-    let value = c.poll.ensures.value in
-    let at = number_is u more some value c.distance.ensures in
-    let place = ap (λ n. slice_index_or c.args.self.now.outstanding (n % 16) None) (sym at) in
-    is_some u more place
+    let next = is_next asked.0 asked.1.1 c.unwrap-completion.ensures c.poll.ensures.value c.distance.ensures in
+    has_place asked.0 next.1 refl
 
-pub give-requires-clause-few : goal.give-requires-clause-few
-give-requires-clause-few g c =
+pub give-requires : goal.give-requires
+give-requires g c =
     let asked = c.requires.1.1 in
-    let u = asked.0 in
-    let more = asked.1.1 in
-    let some = c.unwrap-completion.ensures in
-    let value = c.poll.ensures.value in
-    let at = number_is u more some value c.distance.ensures in
-    let place = ap (λ n. slice_index_or c.args.self.now.outstanding (n % 16) None) (sym at) in
-    omega (arith, (one_is u more some value place c.unwrap-pages.ensures).few, seven_pages _ u.begun.geometry.page_size)
+    let next = is_next asked.0 asked.1.1 c.unwrap-completion.ensures c.poll.ensures.value c.distance.ensures in
+    let can = can_give asked.0 next.1 c.unwrap-pages.ensures in
+    record { few = can.few; own = can.own; none = can.none; distinct = can.distinct }
 
 pub buffer-buffer-requires : goal.buffer-buffer-requires
 buffer-buffer-requires g c =
     let asked = c.requires.1.1 in
-    let u = asked.0 in
-    let more = asked.1.1 in
-    let some = c.unwrap-completion.ensures in
-    let value = c.poll.ensures.value in
-    let at = number_is u more some value c.distance.ensures in
-    let place = ap (λ n. slice_index_or c.args.self.now.outstanding (n % 16) None) (sym at) in
-    let few = (one_is u more some value place c.unwrap-pages.ensures).few in
-    record { few = omega (arith, few, seven_pages _ u.begun.geometry.page_size) }
-
-pub give-requires-clause-own : goal.give-requires-clause-own
-give-requires-clause-own g c =
-    let asked = c.requires.1.1 in
-    let u = asked.0 in
-    let more = asked.1.1 in
-    let some = c.unwrap-completion.ensures in
-    let value = c.poll.ensures.value in
-    let at = number_is u more some value c.distance.ensures in
-    let place = ap (λ n. slice_index_or c.args.self.now.outstanding (n % 16) None) (sym at) in
-    give_own u more some value place c.unwrap-pages.ensures
-
-pub give-requires-clause-none : goal.give-requires-clause-none
-give-requires-clause-none g c =
-    let asked = c.requires.1.1 in
-    let u = asked.0 in
-    let more = asked.1.1 in
-    let some = c.unwrap-completion.ensures in
-    let value = c.poll.ensures.value in
-    let at = number_is u more some value c.distance.ensures in
-    let place = ap (λ n. slice_index_or c.args.self.now.outstanding (n % 16) None) (sym at) in
-    give_none u more some value place c.unwrap-pages.ensures
-
-pub give-requires-clause-distinct : goal.give-requires-clause-distinct
-give-requires-clause-distinct g c =
-    let asked = c.requires.1.1 in
-    let u = asked.0 in
-    let more = asked.1.1 in
-    let some = c.unwrap-completion.ensures in
-    let value = c.poll.ensures.value in
-    let at = number_is u more some value c.distance.ensures in
-    let place = ap (λ n. slice_index_or c.args.self.now.outstanding (n % 16) None) (sym at) in
-    give_distinct u more some value place c.unwrap-pages.ensures
+    let next = is_next asked.0 asked.1.1 c.unwrap-completion.ensures c.poll.ensures.value c.distance.ensures in
+    record { few = few_data asked.0 next.1 c.unwrap-pages.ensures }
 
 pub bounds-commands-number : goal.bounds-commands-number
 bounds-commands-number g c =
     let asked = c.requires.1.1 in
-    let u = asked.0 in
-    let more = asked.1.1 in
-    let some = c.unwrap-completion.ensures in
-    let value = c.poll.ensures.value in
-    let at = number_is u more some value c.distance.ensures in
-    omega (arith, at, more, no_more u, u.some, ap (λ (ks : List Command). length ks) c.requires.1.0)
+    let next = is_next asked.0 asked.1.1 c.unwrap-completion.ensures c.poll.ensures.value c.distance.ensures in
+    rw (c.requires.1.0) (number_inside asked.0 next.1)
 
-pub answer-requires-clause-sends : goal.answer-requires-clause-sends
-answer-requires-clause-sends g c =
+pub answer-requires : goal.answer-requires
+answer-requires g c =
     let asked = c.requires.1.1 in
-    let u = asked.0 in
-    let more = asked.1.1 in
-    let some = c.unwrap-completion.ensures in
-    let value = c.poll.ensures.value in
-    let at = number_is u more some value c.distance.ensures in
-    let place = ap (λ n. slice_index_or c.args.self.now.outstanding (n % 16) None) (sym at) in
-    let same = command_at u _ (omega (arith, more, no_more u)) at c.requires.1.0 c.index-commands-number.is in
-    answer_sends u more some value place c.unwrap-pages.ensures same
-
-pub answer-requires-clause-buffer : goal.answer-requires-clause-buffer
-answer-requires-clause-buffer g c =
-    let asked = c.requires.1.1 in
-    let u = asked.0 in
-    let more = asked.1.1 in
-    let some = c.unwrap-completion.ensures in
-    let value = c.poll.ensures.value in
-    let at = number_is u more some value c.distance.ensures in
-    let place = ap (λ n. slice_index_or c.args.self.now.outstanding (n % 16) None) (sym at) in
-    let same = command_at u _ (omega (arith, more, no_more u)) at c.requires.1.0 c.index-commands-number.is in
+    let next = is_next asked.0 asked.1.1 c.unwrap-completion.ensures c.poll.ensures.value c.distance.ensures in
+    let here = c.unwrap-pages.ensures in
+    let is = c.index-commands-number.is in
     let buffer = c.buffer-buffer.ensures in
     let offset = buffer.offset ∙ ap (λ (q : Geometry). q.offset) c.geometry.view_is in
-    answer_buffer u more some value place c.unwrap-pages.ensures same buffer.pages offset
+    record {
+      sends = answer_sends asked.0 next.1 here c.requires.1.0 is;
+      buffer = answer_buffer asked.0 next.1 here c.requires.1.0 is buffer.pages offset;
+    }
 
 pub bounds-answers-number : goal.bounds-answers-number
 bounds-answers-number g c =
     let asked = c.requires.1.1 in
-    let u = asked.0 in
-    let more = asked.1.1 in
-    let some = c.unwrap-completion.ensures in
-    let value = c.poll.ensures.value in
-    let at = number_is u more some value c.distance.ensures in
-    omega (arith, at, more, no_more u, u.some, asked.1.0.len)
+    let next = is_next asked.0 asked.1.1 c.unwrap-completion.ensures c.poll.ensures.value c.distance.ensures in
+    omega (arith, number_inside asked.0 next.1, asked.1.0.len)
 
 pub returns-clause-under_way : goal.returns-clause-under_way
 returns-clause-under_way g c =
     let asked = c.requires.1.1 in
-    let u = asked.0 in
-    let more = asked.1.1 in
-    let some = c.unwrap-completion.ensures in
-    let value = c.poll.ensures.value in
-    let at = number_is u more some value c.distance.ensures in
-    let place = ap (λ n. slice_index_or c.args.self.now.outstanding (n % 16) None) (sym at) in
-    collects u more some value place c.unwrap-pages.ensures c.freed.ensures
-    (in_some _ _ some c.poll.ensures.collected) c.give.ensures
+    let next = is_next asked.0 asked.1.1 c.unwrap-completion.ensures c.poll.ensures.value c.distance.ensures in
+    collects asked.0 next.1 c.unwrap-pages.ensures c.freed.ensures
+    (in_some _ _ c.unwrap-completion.ensures c.poll.ensures.collected) c.give.ensures
 
 pub returns-clause-answers : goal.returns-clause-answers
 returns-clause-answers g c =
     let asked = c.requires.1.1 in
-    let u = asked.0 in
-    let more = asked.1.1 in
-    let some = c.unwrap-completion.ensures in
-    let value = c.poll.ensures.value in
-    let at = number_is u more some value c.distance.ensures in
-    let place = ap (λ n. slice_index_or c.args.self.now.outstanding (n % 16) None) (sym at) in
-    let same = command_at u _ (omega (arith, more, no_more u)) at c.requires.1.0 c.index-commands-number.is in
+    let next = is_next asked.0 asked.1.1 c.unwrap-completion.ensures c.poll.ensures.value c.distance.ensures in
     let buffer = c.buffer-buffer.ensures in
     let offset = buffer.offset ∙ ap (λ (q : Geometry). q.offset) c.geometry.view_is in
-    answers_more u more some value place c.unwrap-pages.ensures same buffer.pages offset
-    at asked.1.0 c.answer.ensures
+    answers_more asked.0 next.1 c.unwrap-pages.ensures c.requires.1.0 c.index-commands-number.is buffer.pages offset
+    asked.1.0 c.answer.ensures

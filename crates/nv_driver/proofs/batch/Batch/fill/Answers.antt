@@ -1,7 +1,6 @@
-use Rattle.std.proofs.Common.{◌∙◌, ◌+◌, ◌<◌, ◌≤◌, List, ap, arith, length, subst, sym}
-use Rattle.std.specs.FinSet as set
+use Rattle.std.proofs.Common.{◌∙◌, List, ap, arith, length, sym}
+use Rattle.std.proofs.Common.{◌+◌}
 use Rattle.nv_command.specs.declared.command.Command.{Command}
-use Rattle.nv_driver.specs.Layout.{pages_of_command}
 use Rattle.nv_driver.specs.declared.geometry.Geometry.{Geometry}
 use Rattle.nv_driver.proofs.UnderWayLaws.{has_slot, set_has, submits_at, tail_after}
 use Rattle.nv_driver.proofs.batch.Batch.fill.Goals as goal
@@ -10,61 +9,29 @@ pub submit-next-requires-clause-pages : goal.submit-next-requires-clause-pages
 submit-next-requires-clause-pages g c =
     let i = c.loop-number.invariant in
     let first = c.requires.1.1 in
-    let u = i.under_way in
-    subst (λ (q : Geometry). pages_of_command q.page_size ≤ set.len c.loop-number.pair.pages.members)
-    (sym first.geometry)
-    (set_has u (omega (
-      arith,
-      i.sent,
-      i.collected,
-      c.loop-number-test.true,
-      c.min.ensures,
-      c.from.ensures,
-      first.window,
-      ap (λ (q : Geometry). q.window) (c.geometry.view_is ∙ first.geometry),
-    )))
+    let window = ap (λ (q : Geometry). q.window) (c.geometry.view_is ∙ first.geometry) in
+    rw (first.geometry) (set_has i.under_way (omega arith))
 
 pub submit-next-requires-clause-free : goal.submit-next-requires-clause-free
 submit-next-requires-clause-free g c =
     let i = c.loop-number.invariant in
     let first = c.requires.1.1 in
-    has_slot i.under_way
-    (omega (
-      arith,
-      i.sent,
-      i.collected,
-      c.loop-number-test.true,
-      c.min.ensures,
-      c.from.ensures,
-      first.window,
-      ap (λ (q : Geometry). q.window) (c.geometry.view_is ∙ first.geometry),
-    ))
+    let window = ap (λ (q : Geometry). q.window) (c.geometry.view_is ∙ first.geometry) in
+    has_slot i.under_way (omega arith)
 
 pub loop-number-preserved : goal.loop-number-preserved
 loop-number-preserved g c =
     let i = c.loop-number.invariant in
-    let u = i.under_way in
     let first = c.requires.1.1 in
-    let more : c.loop-number.self.sent < c.loop-number.self.collected + g.run.geometry.window =
-    omega (
-      arith,
-      i.sent,
-      i.collected,
-      c.loop-number-test.true,
-      c.min.ensures,
-      c.from.ensures,
-      first.window,
-      ap (λ (q : Geometry). q.window) (c.geometry.view_is ∙ first.geometry),
-    ) in
+    let window = ap (λ (q : Geometry). q.window) (c.geometry.view_is ∙ first.geometry) in
     let many = ap (λ (ks : List Command). length ks) c.requires.1.0 in
+    let next = c.submit-next.ensures in
     record {
-      under_way = submits_at u _ i.sent more first.geometry c.submit-next.ensures.submitted
-          c.requires.1.0 c.index-commands-number.is
-          (omega (arith, i.sent, c.loop-number-test.true, c.min.ensures, many, first.some))
-          c.submit-next.ensures.len c.submit-next.ensures.page;
+      under_way = submits_at i.under_way _ i.sent (omega arith) first.geometry next.submitted c.requires.1.0
+          c.index-commands-number.is (omega (arith, first.some)) next.len next.page;
       sent = ap (λ n. n + 1) i.sent;
-      from = omega (arith, i.from);
+      from = omega arith;
       collected = i.collected;
       told = i.told;
-      tail = tail_after u c.loop-number.number c.submit-next.result.1 (sym i.sent) c.submit-next.ensures.tail;
+      tail = tail_after i.under_way c.loop-number.number c.submit-next.result.1 (sym i.sent) next.tail;
     }
