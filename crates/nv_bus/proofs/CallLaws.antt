@@ -11,8 +11,7 @@ use Rattle.nv_command.specs.Management.{is_detach, page_from_host, select_of}
 use Rattle.nv_layout.specs.Steps.{◌>>=◌}
 use Rattle.nv_command.specs.declared.entry.Opcode.{Opcode}
 use Rattle.nv_command.specs.declared.entry.Opcode.TheVariants.{Identify, NamespaceManagement}
-use Rattle.nv_command.specs.declared.entry.Opcode.TheVariants.{NamespaceAttachment, FormatNvm}
-use Rattle.nv_command.specs.declared.entry.Opcode.TheVariants.{GetFeatures, SetFeatures, GetLogPage}
+use Rattle.nv_command.specs.declared.entry.Opcode.TheVariants.{NamespaceAttachment, GetLogPage}
 use Rattle.nv_command.specs.declared.status_code.StatusCode.{StatusCode}
 use Rattle.nv_command.specs.declared.status_code.StatusCode.TheVariants.{InvalidFieldInCommand}
 use Rattle.nv_command.specs.declared.transfer.Transfer.{Transfer}
@@ -85,10 +84,8 @@ some_as : (o : Opcode) (e : Sqe) → SomeIf (transfer_as o e)
 some_as Identify e = some_after (identify_command e) identify_data (lit< tt)
 some_as NamespaceManagement e = some_by_select (select_of e == 0x0) (select_of e == 0x1)
 some_as NamespaceAttachment e = some_after (is_detach e) page_from_host (lit< tt, lit≤ tt)
-some_as FormatNvm e = tt
-some_as GetFeatures e = tt
-some_as SetFeatures e = tt
 some_as GetLogPage e = omega arith
+some_as o e = tt
 
 some_by_opcode : (r : Result Opcode StatusCode) (e : Sqe) → SomeIf (r >>= (λ o. transfer_as o e))
 some_by_opcode (Ok o) e = some_as o e

@@ -14,7 +14,7 @@ use Rattle.nv_command.specs.declared.transfer.Transfer.TheVariants.{NoData, ToHo
 
 size_by_form : (k : Command) → IsSendable k
     → IsSizeOf (form_of k).reply (bytes_to_host (transfer_by k))
-size_by_form (GetLog lid n offset dwords) sends = log_size (is_error_log lid) offset dwords sends
+size_by_form (GetLog q) sends = log_size (is_error_log q.lid) q.offset q.dwords sends
 size_by_form k sends = refl
 
 -- from as many bytes as a command says its reply is read

@@ -22,17 +22,17 @@ use Rattle.nv_command.specs.Room.{IsSizeOf}
 use Rattle.nv_command.specs.Reply.{FitsRecord, IsReplyTo, dword0_of, kind_of, log_of, reply_by}
 use Rattle.nv_command.specs.declared.command.Command.{Command}
 use Rattle.nv_command.specs.declared.command.Command.TheVariants.{GetLog}
+use Rattle.nv_command.specs.declared.logs.LogQuery.{LogQuery}
 use Rattle.nv_command.specs.declared.reply.Reply.{Reply}
 use Rattle.nv_command.specs.declared.reply.Reply.TheVariants as reply
 
-pub get_log_fits : (lid offset dwords : ℕ) → offset < 2 ^ 64
-    → FieldsFit (get_log_fields lid offset dwords)
-get_log_fits lid offset dwords h = record {
+pub get_log_fits : (q : LogQuery) → GetLogFits q → FieldsFit (get_log_fields q)
+get_log_fits q fits = record {
   opcode = lit< tt;
   cdw10 = omega arith;
   cdw11 = omega arith;
   cdw12 = omega arith;
-  cdw13 = omega (arith, h);
+  cdw13 = omega (arith, fits.offset);
 }
 
 lid_back : (lid numd : ℕ) → lid < 2 ^ 8 → bits 0 8 (at_bits 0 8 lid + at_bits 16 16 numd) ≡ lid
@@ -43,12 +43,14 @@ pub dwords_back : (lid dwords : ℕ) → 0 < dwords → dwords ≤ 2 ^ 32
     + at_bits 16 16 (bits 16 16 (dwords - 1)) + 1 ≡ dwords
 dwords_back lid dwords some h = omega arith
 
-pub get_log_back : (lid n offset dwords : ℕ) → GetLogFits lid n offset dwords
-    → IsDecoded get_log_command (GetLog lid n offset dwords)
-get_log_back lid n offset dwords fits cid p q =
-    let whole : offset % 2 ^ 32 + offset / 2 ^ 32 * 2 ^ 32 ≡ offset = omega arith in
-    λ k. GetLog (lid_back lid (dwords - 1) fits.lid k) n (whole k)
-    (dwords_back lid dwords fits.some fits.dwords k)
+pub get_log_back : (q : LogQuery) → GetLogFits q → IsDecoded get_log_command (GetLog q)
+get_log_back q fits cid prp1 prp2 =
+    let whole : q.offset % 2 ^ 32 + q.offset / 2 ^ 32 * 2 ^ 32 ≡ q.offset = omega arith in
+    λ k. GetLog (record q {
+      lid = lid_back q.lid (q.dwords - 1) fits.lid k;
+      offset = whole k;
+      dwords = dwords_back q.lid q.dwords fits.some fits.dwords k;
+    })
 
 -- ---- entries in bytes
 

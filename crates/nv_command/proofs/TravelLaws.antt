@@ -86,22 +86,22 @@ commands_travel (Format n lbaf mset pi pil ses) cid fits low = record {
   command = λ p q. ap Ok (format_back n lbaf mset pi pil ses fits cid p q);
   sent = refl;
 }
-commands_travel (GetFeature fid sel n cdw11) cid fits low = record {
-  fits = entry_with_fits _ n cid (get_feature_fits fid sel cdw11 fits.cdw11) fits.nsid low;
+commands_travel (GetFeature x) cid fits low = record {
+  fits = entry_with_fits _ x.nsid cid (get_feature_fits x fits) fits.nsid low;
   transfer = λ p q. refl;
-  command = λ p q. ap Ok (get_feature_back fid sel n cdw11 fits cid p q);
+  command = λ p q. ap Ok (get_feature_back x fits cid p q);
   sent = refl;
 }
-commands_travel (SetFeature fid value save n) cid fits low = record {
-  fits = entry_with_fits _ n cid (set_feature_fits fid value save fits.value) fits.nsid low;
+commands_travel (SetFeature x) cid fits low = record {
+  fits = entry_with_fits _ x.nsid cid (set_feature_fits x fits) fits.nsid low;
   transfer = λ p q. refl;
-  command = λ p q. ap Ok (set_feature_back fid value save n fits cid p q);
+  command = λ p q. ap Ok (set_feature_back x fits cid p q);
   sent = refl;
 }
-commands_travel (GetLog lid n offset dwords) cid fits low = record {
-  fits = entry_with_fits _ n cid (get_log_fits lid offset dwords fits.offset) fits.nsid low;
-  transfer = λ p q. ap (λ d. Ok (log_data d)) (dwords_back lid dwords fits.some fits.dwords);
-  command = λ p q. ap Ok (get_log_back lid n offset dwords fits cid p q);
+commands_travel (GetLog x) cid fits low = record {
+  fits = entry_with_fits _ x.nsid cid (get_log_fits x fits) fits.nsid low;
+  transfer = λ p q. ap (λ d. Ok (log_data d)) (dwords_back x.lid x.dwords fits.some fits.dwords);
+  command = λ p q. ap Ok (get_log_back x fits cid p q);
   sent = refl;
 }
 
@@ -109,13 +109,13 @@ commands_travel (GetLog lid n offset dwords) cid fits low = record {
 
 -- of a command that gets no log the form tells how long the page of its reply is
 pub replies_fit : RepliesFit
-replies_fit (GetLog lid n offset dwords) r is fits = length-part (log_of r) offset (4 * dwords)
+replies_fit (GetLog q) r is fits = length-part (log_of r) q.offset (4 * q.dwords)
 replies_fit k r is fits = length_of_page r fits ∙ ap page_bytes is
 
 replies_arrive : (k : Command) (r : Reply) → IsReplyTo k r → FitsRecord r → IsSendable k
     → reply_in k (dword0_of r) (data_of k r) ≡ received k (without_phases r)
-replies_arrive (GetLog lid n offset dwords) r is fits sends =
-    log_arrives (is_error_log lid) r offset dwords is fits sends
+replies_arrive (GetLog q) r is fits sends =
+    log_arrives (is_error_log q.lid) r q.offset q.dwords is fits sends
 replies_arrive k r is fits sends = page_arrives (form_of k).reply r is tt fits
 
 pub replies_travel : RepliesTravel

@@ -9,7 +9,6 @@ use Rattle.nv_command.specs.Identify.{IdentifyFits}
 use Rattle.nv_command.specs.Logs.{GetLogFits}
 use Rattle.nv_command.specs.Management.{AttachmentFits, CreateFits, asked}
 use Rattle.nv_command.specs.declared.command.Command.{Command}
-use Rattle.nv_command.specs.declared.command.Command.TheVariants.{IdentifyController}
 use Rattle.nv_command.specs.declared.command.Command.TheVariants.{IdentifyNamespace}
 use Rattle.nv_command.specs.declared.command.Command.TheVariants.{AllocatedNamespace, ActiveList}
 use Rattle.nv_command.specs.declared.command.Command.TheVariants.{AllocatedList, Create, Delete}
@@ -32,9 +31,8 @@ host_data_of (Create nsze ncap flbas dps nmic) = bytes_of_id_ns (asked nsze ncap
 host_data_of (Attachment n detach ids) = bytes_of_ctrl_list ids
 host_data_of k = []
 
--- each field fits its bits
+-- each field fits its bits, where there are some
 abbrev pub CommandFits : Command → Type 0
-CommandFits IdentifyController = Unit {0}
 CommandFits (IdentifyNamespace n) = IdentifyFits n
 CommandFits (AllocatedNamespace n) = IdentifyFits n
 CommandFits (ActiveList after) = IdentifyFits after
@@ -43,9 +41,10 @@ CommandFits (Create nsze ncap flbas dps nmic) = CreateFits nsze ncap flbas dps n
 CommandFits (Delete n) = n < 2 ^ 32
 CommandFits (Attachment n detach ids) = AttachmentFits n ids
 CommandFits (Format n lbaf mset pi pil ses) = FormatFits n lbaf pi ses
-CommandFits (GetFeature fid sel n cdw11) = GetFeatureFits fid sel n cdw11
-CommandFits (SetFeature fid value save n) = SetFeatureFits fid value n
-CommandFits (GetLog lid n offset dwords) = GetLogFits lid n offset dwords
+CommandFits (GetFeature q) = GetFeatureFits q
+CommandFits (SetFeature x) = SetFeatureFits x
+CommandFits (GetLog q) = GetLogFits q
+CommandFits k = Unit {0}
 
 -- the bytes that go from the host to the controller
 abbrev pub bytes_from_host : Transfer → ℕ

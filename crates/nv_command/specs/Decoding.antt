@@ -40,14 +40,13 @@ opcode_of e = do
   opcode ← opcode_by e.opcode
   if is_plain e then Ok opcode else Err InvalidFieldInCommand
 
+-- of an opcode that has data; else there is none
 abbrev pub transfer_as : Opcode → Sqe → Result Transfer StatusCode
 transfer_as Identify e = identify_transfer e
 transfer_as NamespaceManagement e = management_transfer e
 transfer_as NamespaceAttachment e = attachment_transfer e
-transfer_as FormatNvm e = Ok NoData
-transfer_as GetFeatures e = Ok NoData
-transfer_as SetFeatures e = Ok NoData
 transfer_as GetLogPage e = Ok (get_log_transfer e)
+transfer_as o e = Ok NoData
 
 -- which way the data goes, and how many bytes
 abbrev pub transfer_of : Sqe → Result Transfer StatusCode

@@ -42,7 +42,7 @@ form_of (Delete n) = form (management_fields 0x1) n NoData kind.Done
 form_of (Attachment n detach ids) = form (attachment_fields detach) n page_from_host kind.Done
 form_of (Format n lbaf mset pi pil ses) =
     form (format_fields lbaf mset pi pil ses) n NoData kind.Done
-form_of (GetFeature fid sel n cdw11) = form (get_feature_fields fid sel cdw11) n NoData kind.Number
-form_of (SetFeature fid value save n) = form (set_feature_fields fid value save) n NoData kind.Done
-form_of (GetLog lid n offset dwords) =
-    form (get_log_fields lid offset dwords) n (log_data dwords) (log_kind (is_error_log lid))
+form_of (GetFeature q) = form (get_feature_fields q) q.nsid NoData kind.Number
+form_of (SetFeature x) = form (set_feature_fields x) x.nsid NoData kind.Done
+form_of (GetLog q) =
+    form (get_log_fields q) q.nsid (log_data q.dwords) (log_kind (is_error_log q.lid))

@@ -15,33 +15,39 @@ use Rattle.nv_command.specs.declared.command.Command.TheVariants.{GetLog}
 use Rattle.nv_command.specs.declared.entry.Fields.{Fields}
 use Rattle.nv_command.specs.declared.form.ReplyKind.{ReplyKind}
 use Rattle.nv_command.specs.declared.form.ReplyKind.TheVariants as kind
+use Rattle.nv_command.specs.declared.logs.LogQuery.{LogQuery}
 use Rattle.nv_command.specs.declared.reply.Reply.{Reply}
 use Rattle.nv_command.specs.declared.reply.Reply.TheVariants as reply
 use Rattle.nv_command.specs.declared.transfer.Transfer.{Transfer}
 use Rattle.nv_command.specs.declared.transfer.Transfer.TheVariants.{ToHost}
 
-abbrev pub get_log_fields : ℕ → ℕ → ℕ → Fields
-get_log_fields lid offset dwords = record {
+abbrev pub get_log_fields : LogQuery → Fields
+get_log_fields q = record {
   opcode = 0x02;
-  cdw10 = at_bits 0 8 lid + at_bits 16 16 (dwords - 1);
-  cdw11 = bits 16 16 (dwords - 1);
-  cdw12 = offset % 2 ^ 32;
-  cdw13 = offset / 2 ^ 32;
+  cdw10 = at_bits 0 8 q.lid + at_bits 16 16 (q.dwords - 1);
+  cdw11 = bits 16 16 (q.dwords - 1);
+  cdw12 = q.offset % 2 ^ 32;
+  cdw13 = q.offset / 2 ^ 32;
 }
 
-pub record GetLogFits (l n o d : ℕ) : Type 0 where
-  pub lid : l < 2 ^ 8
-  pub nsid : n < 2 ^ 32
-  pub offset : o < 2 ^ 64
-  pub some : 0 < d
-  pub dwords : d ≤ 2 ^ 32
+pub record GetLogFits (q : LogQuery) : Type 0 where
+  pub lid : q.lid < 2 ^ 8
+  pub nsid : q.nsid < 2 ^ 32
+  pub offset : q.offset < 2 ^ 64
+  pub some : 0 < q.dwords
+  pub dwords : q.dwords ≤ 2 ^ 32
 
 abbrev pub dwords_asked : Sqe → ℕ
 dwords_asked e = bits 16 16 e.cdw10 + at_bits 16 16 e.cdw11 + 1
 
 -- every entry asks for a log; its other bits are ignored
 abbrev pub get_log_command : Sqe → Command
-get_log_command e = GetLog (bits 0 8 e.cdw10) e.nsid (e.cdw12 + e.cdw13 * 2 ^ 32) (dwords_asked e)
+get_log_command e = GetLog (record {
+  lid = bits 0 8 e.cdw10;
+  nsid = e.nsid;
+  offset = e.cdw12 + e.cdw13 * 2 ^ 32;
+  dwords = dwords_asked e;
+})
 
 -- each answers the dwords that are asked for
 abbrev pub log_data : ℕ → Transfer
@@ -95,7 +101,7 @@ IsWhole false offset dwords = (offset ≡ 0) × (4 * dwords ≡ 512)
 
 -- a command whose reply can be read from its data
 abbrev pub IsSendable : Command → Type 0
-IsSendable (GetLog lid n offset dwords) = IsWhole (is_error_log lid) offset dwords
+IsSendable (GetLog q) = IsWhole (is_error_log q.lid) q.offset q.dwords
 IsSendable k = Unit {0}
 
 -- so many of the entries, and where there are fewer, entries without an error after them
@@ -108,7 +114,7 @@ first_of_log count r = r
 
 -- of a reply: of the error log as many entries as were asked for
 abbrev pub received : Command → Reply → Reply
-received (GetLog lid n offset dwords) r = first_of_log (dwords / 16) r
+received (GetLog q) r = first_of_log (q.dwords / 16) r
 received k r = r
 
 abbrev pub answer_received : Command → Result Reply Status → Result Reply Status

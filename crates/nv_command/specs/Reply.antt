@@ -38,7 +38,7 @@ log_of r = []
 
 -- the data to the host: of a log what was asked for, with zeros past its end
 abbrev pub data_of : Command → Reply → List ℕ
-data_of (GetLog lid n offset dwords) r = part (log_of r) offset (4 * dwords)
+data_of (GetLog q) r = part (log_of r) q.offset (4 * q.dwords)
 data_of k r = page_of r
 
 -- a page with data at its front

@@ -9,9 +9,10 @@ ghost use Rattle.nv_command.specs.Form.{form_of};
 ghost use Rattle.nv_command.specs.Reply.{with_data};
 ghost use Rattle.nv_command.specs.Travel.{Arrives};
 
-use crate::dword_count::DwordCount;
 use crate::entry::Opcode;
+use crate::features::{FeatureQuery, FeatureSetting};
 use crate::form::{Form, ReplyKind};
+use crate::logs::LogQuery;
 use crate::status_code::StatusCode;
 use crate::transfer::Transfer;
 use crate::{features, format, identify, logs, management};
@@ -70,27 +71,12 @@ pub enum Command<'a> {
         pil: bool,
         ses: ThreeBits,
     },
-    /// Get Features: the value of a feature that `sel` selects; `cdw11` is Command Dword 11.
-    GetFeature {
-        fid: u8,
-        sel: ThreeBits,
-        nsid: u32,
-        cdw11: u32,
-    },
-    /// Set Features: a feature gets a value, which is saved too where `save` says so.
-    SetFeature {
-        fid: u8,
-        value: u32,
-        save: bool,
-        nsid: u32,
-    },
-    /// Get Log Page: so many dwords of a log, from the byte at `offset` on.
-    GetLog {
-        lid: u8,
-        nsid: u32,
-        offset: u64,
-        dwords: DwordCount,
-    },
+    /// Get Features: a value of a feature.
+    GetFeature(FeatureQuery),
+    /// Set Features: a feature gets a value.
+    SetFeature(FeatureSetting),
+    /// Get Log Page: a part of a log.
+    GetLog(LogQuery),
 }
 
 /// A number of 32 bits fits them. The call does nothing.
@@ -124,24 +110,9 @@ impl<'a> Command<'a> {
                 pil,
                 ses,
             } => format::form_by(*nsid, *lbaf, *mset, *pi, *pil, *ses),
-            Command::GetFeature {
-                fid,
-                sel,
-                nsid,
-                cdw11,
-            } => features::get_form(*fid, *sel, *nsid, *cdw11),
-            Command::SetFeature {
-                fid,
-                value,
-                save,
-                nsid,
-            } => features::set_form(*fid, *value, *save, *nsid),
-            Command::GetLog {
-                lid,
-                nsid,
-                offset,
-                dwords,
-            } => logs::form_by(*lid, *nsid, *offset, *dwords),
+            Command::GetFeature(asked) => features::get_form(*asked),
+            Command::SetFeature(asked) => features::set_form(*asked),
+            Command::GetLog(asked) => logs::form_by(*asked),
         }
     }
 
@@ -186,24 +157,9 @@ impl<'a> Command<'a> {
                 ses,
                 ..
             } => format::fits(*nsid, *lbaf, *pi, *ses),
-            Command::GetFeature {
-                fid,
-                sel,
-                nsid,
-                cdw11,
-            } => features::get_fits(*fid, *sel, *nsid, *cdw11),
-            Command::SetFeature {
-                fid,
-                value,
-                nsid,
-                ..
-            } => features::set_fits(*fid, *value, *nsid),
-            Command::GetLog {
-                lid,
-                nsid,
-                offset,
-                dwords,
-            } => logs::fits(*lid, *nsid, *offset, *dwords),
+            Command::GetFeature(asked) => features::get_fits(*asked),
+            Command::SetFeature(asked) => features::set_fits(*asked),
+            Command::GetLog(asked) => logs::fits(*asked),
         }
     }
 

@@ -13,39 +13,59 @@ use crate::form::{Form, ReplyKind};
 use crate::transfer::Transfer;
 use nv_layout::{Sqe, ThreeBits, bits_of, to_bits};
 
+/// What a Get Features asks for: the value of a feature that `sel` selects; `cdw11` is Command
+/// Dword 11.
+#[derive(Clone, Copy, Debug, PartialEq, Eq)]
+pub struct FeatureQuery {
+    pub fid: u8,
+    pub sel: ThreeBits,
+    pub nsid: u32,
+    pub cdw11: u32,
+}
+
+/// What a Set Features asks for: a feature gets a value, which is saved too where `save` says so.
+#[derive(Clone, Copy, Debug, PartialEq, Eq)]
+pub struct FeatureSetting {
+    pub fid: u8,
+    pub value: u32,
+    pub save: bool,
+    pub nsid: u32,
+}
+
 /// The fields of a Get Features command.
-fn get_fields(fid: u8, sel: ThreeBits, cdw11: u32) -> Fields
-    ensures { result ≡ get_feature_fields fid sel cdw11 }
+fn get_fields(asked: FeatureQuery) -> Fields
+    ensures { result ≡ get_feature_fields asked }
 {
     Fields {
         opcode: 0x0a,
-        cdw10: to_bits(fid as u32, 0, 8) + to_bits(sel.get() as u32, 8, 3),
-        cdw11,
+        cdw10: to_bits(asked.fid as u32, 0, 8) + to_bits(asked.sel.get() as u32, 8, 3),
+        cdw11: asked.cdw11,
         cdw12: 0,
         cdw13: 0,
     }
 }
 
 /// The fields of a Set Features command.
-fn set_fields(fid: u8, value: u32, save: bool) -> Fields
-    ensures { result ≡ set_feature_fields fid value save }
+fn set_fields(asked: FeatureSetting) -> Fields
+    ensures { result ≡ set_feature_fields asked }
 {
     Fields {
         opcode: 0x09,
-        cdw10: to_bits(fid as u32, 0, 8) + to_bits(save as u32, 31, 1),
-        cdw11: value,
+        cdw10: to_bits(asked.fid as u32, 0, 8) + to_bits(asked.save as u32, 31, 1),
+        cdw11: asked.value,
         cdw12: 0,
         cdw13: 0,
     }
 }
 
 /// How a Get Features command travels. It answers the value.
-pub(crate) fn get_form(fid: u8, sel: ThreeBits, nsid: u32, cdw11: u32) -> Form
+pub(crate) fn get_form(asked: FeatureQuery) -> Form
     ensures { result
-        ≡ form (get_feature_fields fid sel cdw11) nsid Transfer.NoData ReplyKind.Number }
+        ≡ form (get_feature_fields asked) asked.nsid Transfer.NoData ReplyKind.Number }
 {
+    let nsid = asked.nsid;
     Form {
-        fields: get_fields(fid, sel, cdw11),
+        fields: get_fields(asked),
         nsid,
         transfer: Transfer::NoData,
         reply: ReplyKind::Number,
@@ -53,50 +73,49 @@ pub(crate) fn get_form(fid: u8, sel: ThreeBits, nsid: u32, cdw11: u32) -> Form
 }
 
 /// How a Set Features command travels.
-pub(crate) fn set_form(fid: u8, value: u32, save: bool, nsid: u32) -> Form
-    ensures { result
-        ≡ form (set_feature_fields fid value save) nsid Transfer.NoData ReplyKind.Done }
+pub(crate) fn set_form(asked: FeatureSetting) -> Form
+    ensures { result ≡ form (set_feature_fields asked) asked.nsid Transfer.NoData ReplyKind.Done }
 {
     Form {
-        fields: set_fields(fid, value, save),
-        nsid,
+        fields: set_fields(asked),
+        nsid: asked.nsid,
         transfer: Transfer::NoData,
         reply: ReplyKind::Done,
     }
 }
 
 /// What is asked of a feature fits its bits, as its types say. The call does nothing.
-pub(crate) fn get_fits(fid: u8, sel: ThreeBits, nsid: u32, cdw11: u32)
-    ensures { GetFeatureFits fid sel nsid cdw11 }
+pub(crate) fn get_fits(asked: FeatureQuery)
+    ensures { GetFeatureFits asked }
 {
-    sel.get();
+    asked.sel.get();
 }
 
 /// What a feature gets fits its bits, as its types say. The call does nothing.
-pub(crate) fn set_fits(fid: u8, value: u32, nsid: u32)
-    ensures { SetFeatureFits fid value nsid }
+pub(crate) fn set_fits(asked: FeatureSetting)
+    ensures { SetFeatureFits asked }
 {}
 
 /// The command of a Get Features entry.
 pub(crate) fn get_command<'a>(entry: &Sqe) -> Command<'a>
     ensures { result ≡ get_feature_command entry.now }
 {
-    Command::GetFeature {
+    Command::GetFeature(FeatureQuery {
         fid: bits_of(entry.cdw10, 0, 8) as u8,
         sel: ThreeBits::low(bits_of(entry.cdw10, 8, 3) as u8),
         nsid: entry.nsid,
         cdw11: entry.cdw11,
-    }
+    })
 }
 
 /// The command of a Set Features entry.
 pub(crate) fn set_command<'a>(entry: &Sqe) -> Command<'a>
     ensures { result ≡ set_feature_command entry.now }
 {
-    Command::SetFeature {
+    Command::SetFeature(FeatureSetting {
         fid: bits_of(entry.cdw10, 0, 8) as u8,
         value: entry.cdw11,
         save: bits_of(entry.cdw10, 31, 1) == 1,
         nsid: entry.nsid,
-    }
+    })
 }

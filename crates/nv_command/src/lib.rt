@@ -24,7 +24,8 @@ mod transfer;
 
 pub use command::{BROADCAST_NSID, Command};
 pub use dword_count::DwordCount;
-pub use logs::{ERROR_INFORMATION, HEALTH};
+pub use features::{FeatureQuery, FeatureSetting};
+pub use logs::{ERROR_INFORMATION, HEALTH, LogQuery};
 pub use refusal::Refusal;
 pub use reply::Reply;
 pub use reply_room::ReplyRoom;

@@ -18,17 +18,26 @@ pub const ERROR_INFORMATION: u8 = 0x01;
 /// SMART / Health Information, by its log page identifier.
 pub const HEALTH: u8 = 0x02;
 
+/// What a Get Log Page asks for: so many dwords of a log, from the byte at `offset` on.
+#[derive(Clone, Copy, Debug, PartialEq, Eq)]
+pub struct LogQuery {
+    pub lid: u8,
+    pub nsid: u32,
+    pub offset: u64,
+    pub dwords: DwordCount,
+}
+
 /// The fields of a Get Log Page command.
-fn fields(lid: u8, offset: u64, dwords: DwordCount) -> Fields
-    ensures { result ≡ get_log_fields lid offset dwords }
+fn fields(asked: LogQuery) -> Fields
+    ensures { result ≡ get_log_fields asked }
 {
-    let numd = dwords.zeros_based();
+    let numd = asked.dwords.zeros_based();
     Fields {
         opcode: 0x02,
-        cdw10: to_bits(lid as u32, 0, 8) + to_bits(numd, 16, 16),
+        cdw10: to_bits(asked.lid as u32, 0, 8) + to_bits(numd, 16, 16),
         cdw11: bits_of(numd, 16, 16),
-        cdw12: (offset % 0x1_0000_0000) as u32,
-        cdw13: (offset / 0x1_0000_0000) as u32,
+        cdw12: (asked.offset % 0x1_0000_0000) as u32,
+        cdw13: (asked.offset / 0x1_0000_0000) as u32,
     }
 }
 
@@ -44,12 +53,18 @@ fn kind(lid: u8) -> ReplyKind
 }
 
 /// How a Get Log Page command travels.
-pub(crate) fn form_by(lid: u8, nsid: u32, offset: u64, dwords: DwordCount) -> Form
-    ensures { result ≡ form (get_log_fields lid offset dwords) nsid (log_data dwords)
-        (log_kind (is_error_log lid)) }
+pub(crate) fn form_by(asked: LogQuery) -> Form
+    ensures { result ≡ form (get_log_fields asked) asked.nsid (log_data asked.dwords)
+        (log_kind (is_error_log asked.lid)) }
 {
+    let LogQuery {
+        lid,
+        nsid,
+        dwords,
+        ..
+    } = asked;
     Form {
-        fields: fields(lid, offset, dwords),
+        fields: fields(asked),
         nsid,
         transfer: Transfer::ToHost(dwords.bytes()),
         reply: kind(lid),
@@ -57,10 +72,10 @@ pub(crate) fn form_by(lid: u8, nsid: u32, offset: u64, dwords: DwordCount) -> Fo
 }
 
 /// What is asked of a log fits its bits, as its types say. The call does nothing.
-pub(crate) fn fits(lid: u8, nsid: u32, offset: u64, dwords: DwordCount)
-    ensures { GetLogFits lid nsid offset dwords }
+pub(crate) fn fits(asked: LogQuery)
+    ensures { GetLogFits asked }
 {
-    dwords.zeros_based();
+    asked.dwords.zeros_based();
 }
 
 /// The command of a Get Log Page entry.
@@ -68,12 +83,12 @@ pub(crate) fn command<'a>(entry: &Sqe) -> Command<'a>
     ensures { result ≡ get_log_command entry.now }
 {
     let numd = bits_of(entry.cdw10, 16, 16) + to_bits(entry.cdw11, 16, 16);
-    Command::GetLog {
+    Command::GetLog(LogQuery {
         lid: bits_of(entry.cdw10, 0, 8) as u8,
         nsid: entry.nsid,
         offset: u64::from(entry.cdw12) + u64::from(entry.cdw13) * 0x1_0000_0000,
         dwords: DwordCount::from_zeros_based(numd),
-    }
+    })
 }
 
 /// The data of a Get Log Page entry.

@@ -30,10 +30,8 @@ impl Transfer {
             Opcode::Identify => identify::transfer(entry),
             Opcode::NamespaceManagement => management::transfer(entry),
             Opcode::NamespaceAttachment => management::attachment_transfer(entry),
-            Opcode::FormatNvm => Ok(Transfer::NoData),
-            Opcode::GetFeatures => Ok(Transfer::NoData),
-            Opcode::SetFeatures => Ok(Transfer::NoData),
             Opcode::GetLogPage => Ok(logs::transfer(entry)),
+            _ => Ok(Transfer::NoData),
         }
     }
 }

@@ -8,6 +8,7 @@ use Rattle.nv_command.proofs.FormLaws.{a_page, at_most_a_page}
 use Rattle.nv_command.proofs.TravelLaws.{replies_fit}
 use Rattle.nv_command.specs.declared.command.Command.{Command}
 use Rattle.nv_command.specs.declared.command.Command.TheVariants.{GetLog}
+use Rattle.nv_command.specs.declared.logs.LogQuery.{LogQuery}
 use Rattle.nv_command.specs.declared.reply.Reply.{Reply}
 use Rattle.nv_command.specs.declared.reply.Reply.TheVariants as reply
 use Rattle.nv_command.specs.declared.transfer.Transfer.{Transfer}
@@ -16,14 +17,14 @@ use Rattle.nv_command.specs.declared.transfer.Transfer.TheVariants.{NoData, ToHo
 -- ---- pages
 
 abbrev pub IsNoLog : Command → Type 0
-IsNoLog k = (lid n offset dwords : ℕ) → k ≡ GetLog lid n offset dwords → ⊥
+IsNoLog k = (q : LogQuery) → k ≡ GetLog q → ⊥
 
 pub page_data : (k : Command) (r : Reply) → IsNoLog k → data_of k r ≡ page_of r
-page_data (GetLog lid n offset dwords) r other = absurd (other lid n offset dwords refl)
+page_data (GetLog q) r other = absurd (other q refl)
 page_data k r other = refl
 
 is_page : (k : Command) → IsNoLog k → at_most_a_page (transfer_by k) ≡ true
-is_page (GetLog lid n offset dwords) other = absurd (other lid n offset dwords refl)
+is_page (GetLog q) other = absurd (other q refl)
 is_page k other = refl
 
 -- what goes to the host and is no log is a page

@@ -115,8 +115,8 @@ fn send<M: HostMemory>(
     ensures page_len { M.page_len mem.new ≡ M.page_len mem.old }
 {
     match command {
-        Command::GetLog { offset, .. } => {
-            deliver_log(mem, &entry_data.spans, reply, *offset, len as usize)
+        Command::GetLog(asked) => {
+            deliver_log(mem, &entry_data.spans, reply, asked.offset, len as usize)
         }
         _ => deliver_page(mem, entry_data, reply),
     }

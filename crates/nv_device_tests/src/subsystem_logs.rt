@@ -41,12 +41,12 @@ fn dwords_of_log<'a>(
     room: &'a mut ReplyRoom,
 ) -> Result<Reply<'a>, Refusal> {
     assert!(rt; subsystem.controllers() == 2);
-    let command = Command::GetLog {
+    let command = Command::GetLog(LogQuery {
         lid,
         nsid: 0,
         offset: 0,
         dwords,
-    };
+    });
     let origin = Origin {
         cid: 300,
         phase: true,

@@ -18,12 +18,12 @@ fn value(subsystem: &Subsystem, ctrl: u16, fid: u8, sel: u8, nsid: u32) -> Optio
     if ctrl >= subsystem.controllers() {
         return None;
     }
-    let get = Command::GetFeature {
+    let get = Command::GetFeature(FeatureQuery {
         fid,
         sel: ThreeBits::low(sel),
         nsid,
         cdw11: 0,
-    };
+    });
     match subsystem.answer(ctrl, &get, &mut NsList::new()) {
         Ok(Reply::Number(value)) => Some(value),
         _ => None,
@@ -90,12 +90,12 @@ fn set(
     (fid, nsid): (u8, u32),
     (value, save): (u32, bool),
 ) {
-    let command = Command::SetFeature {
+    let command = Command::SetFeature(FeatureSetting {
         fid,
         value,
         save,
         nsid,
-    };
+    });
     assert!(rt; execute(rt, subsystem, ctrl, &command));
 }
 

@@ -33,7 +33,7 @@ by_page (FromHost n) is = a_page n is
 
 -- by its form there is at most a page, but for logs
 pub shape : (k : Command) → IsSendable k → HasShape (transfer_by k)
-shape (GetLog lid n offset dwords) sends = log_shape (is_error_log lid) offset dwords sends
+shape (GetLog q) sends = log_shape (is_error_log q.lid) q.offset q.dwords sends
 shape k sends = by_page (transfer_by k) refl
 
 -- ---- in general

@@ -2,7 +2,7 @@
 
 use nv_controller::Machine;
 use nv_layout::{NsList, ThreeBits};
-use nv_subsystem::{Command, Reply, Subsystem};
+use nv_subsystem::{Command, FeatureQuery, Reply, Subsystem};
 
 /// How many refusals and commands it has counted, and its write cache's current value, if there is
 /// a cache.
@@ -14,12 +14,12 @@ pub struct Kept {
 
 /// The current value of the first controller's write cache.
 fn cache_of(subsystem: &Subsystem) -> Option<u32> {
-    let get = Command::GetFeature {
+    let get = Command::GetFeature(FeatureQuery {
         fid: 6,
         sel: ThreeBits::low(0),
         nsid: 0,
         cdw11: 0,
-    };
+    });
     if subsystem.controllers() == 0 {
         return None;
     }

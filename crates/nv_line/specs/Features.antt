@@ -18,11 +18,16 @@ get_feature_of rows device = do
   fid ← number_option_in rows FEATURE_ID device
   sel ← number_option_in rows SEL device
   cdw11 ← number_option_in rows CDW11 device
-  Ok (Do (Send (GetFeature fid sel nsid cdw11)))
+  Ok (Do (Send (GetFeature (record { fid = fid; sel = sel; nsid = nsid; cdw11 = cdw11 }))))
 
 abbrev pub set_feature_of : List Row → Device → Result Ask LineFault
 set_feature_of rows device = do
   nsid ← number_option_in rows FEATURE_NSID device
   fid ← number_option_in rows FEATURE_ID device
   value ← number_option_in rows VALUE device
-  Ok (Do (Send (SetFeature fid value (flag_in rows SAVE) nsid)))
+  Ok (Do (Send (SetFeature (record {
+    fid = fid;
+    value = value;
+    save = flag_in rows SAVE;
+    nsid = nsid;
+  }))))

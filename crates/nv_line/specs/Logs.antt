@@ -14,7 +14,7 @@ use Rattle.nv_line.specs.declared.verb.TheConstants.{LOG_ENTRIES, SMART_NSID}
 abbrev pub smart_log_of : List Row → Device → Result Ask LineFault
 smart_log_of rows device = do
   nsid ← number_option_in rows SMART_NSID device
-  Ok (Do (Send (GetLog 0x02 nsid 0 128)))
+  Ok (Do (Send (GetLog (record { lid = 0x02; nsid = nsid; offset = 0; dwords = 128 }))))
 
 abbrev pub error_log_of : List Row → Device → Result Ask LineFault
 error_log_of rows device = do

@@ -11,7 +11,7 @@ use crate::option_value::{is_set, read_number};
 use crate::request::{Act, Ask};
 use crate::verb::{CDW11, FEATURE_ID, FEATURE_NSID, SAVE, SEL, VALUE};
 use clap::ArgMatches;
-use nv_command::Command;
+use nv_command::{Command, FeatureQuery, FeatureSetting};
 use nv_layout::ThreeBits;
 
 /// A value of a feature.
@@ -26,12 +26,12 @@ pub(crate) fn get_feature<'a>(
     let fid = read_number(matches, FEATURE_ID, device)? as u8;
     let sel = ThreeBits::low(read_number(matches, SEL, device)? as u8);
     let cdw11 = read_number(matches, CDW11, device)? as u32;
-    Ok(Ask::Do(Act::Send(Command::GetFeature {
+    Ok(Ask::Do(Act::Send(Command::GetFeature(FeatureQuery {
         fid,
         sel,
         nsid,
         cdw11,
-    })))
+    }))))
 }
 
 /// A value for a feature.
@@ -46,10 +46,10 @@ pub(crate) fn set_feature<'a>(
     let fid = read_number(matches, FEATURE_ID, device)? as u8;
     let value = read_number(matches, VALUE, device)? as u32;
     let save = is_set(matches, SAVE);
-    Ok(Ask::Do(Act::Send(Command::SetFeature {
+    Ok(Ask::Do(Act::Send(Command::SetFeature(FeatureSetting {
         fid,
         value,
         save,
         nsid,
-    })))
+    }))))
 }

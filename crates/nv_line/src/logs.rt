@@ -11,7 +11,7 @@ use crate::option_value::read_number;
 use crate::request::{Act, Ask};
 use crate::verb::{LOG_ENTRIES, SMART_NSID};
 use clap::ArgMatches;
-use nv_command::{Command, DwordCount, HEALTH};
+use nv_command::{Command, DwordCount, HEALTH, LogQuery};
 
 /// A SMART log.
 pub(crate) fn smart_log<'a>(matches: &ArgMatches<'_>, device: Device) -> Result<Ask<'a>, LineFault>
@@ -19,12 +19,12 @@ pub(crate) fn smart_log<'a>(matches: &ArgMatches<'_>, device: Device) -> Result<
     ensures askable { IfOk result IsAskable }
 {
     let nsid = read_number(matches, SMART_NSID, device)? as u32;
-    Ok(Ask::Do(Act::Send(Command::GetLog {
+    Ok(Ask::Do(Act::Send(Command::GetLog(LogQuery {
         lid: HEALTH,
         nsid,
         offset: 0,
         dwords: DwordCount::from_zeros_based(127),
-    })))
+    }))))
 }
 
 /// Entries of an error log.

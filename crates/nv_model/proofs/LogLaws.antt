@@ -11,6 +11,7 @@ use Rattle.nv_layout.proofs.PartLaws.{all_below}
 use Rattle.nv_layout.specs.Smart.{SmartFits}
 use Rattle.nv_layout.specs.declared.error_entry.ErrorEntry.{ErrorEntry}
 use Rattle.nv_command.proofs.RefusalLaws.{is_refusal-refusal_by}
+use Rattle.nv_command.specs.declared.logs.LogQuery.{LogQuery}
 use Rattle.nv_command.specs.Reply.{IsEntryList}
 use Rattle.nv_model.specs.Logs.{errors_of, health_of, log_rows, no_health, smart_of, zero_smart}
 use Rattle.nv_model.specs.Ranges.{IsSmart}
@@ -19,9 +20,8 @@ use Rattle.nv_model.proofs.ManagementLaws.{AllRefuse}
 use Rattle.nv_model.specs.State.{Controller, Namespaces, State}
 use Rattle.nv_model.specs.WellFormed.{IsController}
 
-pub log_rows_fit : (s : State) (c lid n offset dwords : ℕ)
-    → AllRefuse (log_rows s c lid n offset dwords)
-log_rows_fit s c lid n offset dwords = search (rules, is_refusal-refusal_by)
+pub log_rows_fit : (s : State) (c : ℕ) (q : LogQuery) → AllRefuse (log_rows s c q)
+log_rows_fit s c q = search (rules, is_refusal-refusal_by)
 
 entries_fit : (es : List ErrorEntry) (n : ℕ) → All ErrorEntryFits es
     → AllByRecursion ErrorEntryFits (es ++ replicate n no_entry)

@@ -175,24 +175,24 @@ sound (Format n lbaf mset pi pil ses) = record {
   keeps = λ s c accepted w. format_keeps s c n (new_format lbaf mset pi pil ses) w accepted;
   controllers = λ s c. refl;
 }
-sound (GetFeature fid sel n cdw11) = record {
-  rows = λ s c. get_feature_rows_fit s c fid sel n cdw11;
+sound (GetFeature q) = record {
+  rows = λ s c. get_feature_rows_fit s c q;
   is_reply = λ s c. refl;
-  fits = λ s c w. feature_number_fits s c fid sel n cdw11 w;
+  fits = λ s c w. feature_number_fits s c q w;
   keeps = λ s c accepted w. w;
   controllers = λ s c. refl;
 }
-sound (SetFeature fid value save n) = record {
-  rows = λ s c. set_feature_rows_fit s c fid value save n;
+sound (SetFeature x) = record {
+  rows = λ s c. set_feature_rows_fit s c x;
   is_reply = λ s c. refl;
   fits = λ s c w. tt;
-  keeps = λ s c accepted w. feature_keeps s c fid value save n w accepted;
-  controllers = λ s c. feature_controllers s c fid value save n;
+  keeps = λ s c accepted w. feature_keeps s c x w accepted;
+  controllers = λ s c. feature_controllers s c x;
 }
-sound (GetLog lid n offset dwords) = record {
-  rows = λ s c. log_rows_fit s c lid n offset dwords;
-  is_reply = λ s c. is_log_reply (is_error_log lid) (errors_at s c) (smart_at s c);
-  fits = λ s c w. logs_fit s c (is_error_log lid) (is_controller s c w);
+sound (GetLog q) = record {
+  rows = λ s c. log_rows_fit s c q;
+  is_reply = λ s c. is_log_reply (is_error_log q.lid) (errors_at s c) (smart_at s c);
+  fits = λ s c w. logs_fit s c (is_error_log q.lid) (is_controller s c w);
   keeps = λ s c accepted w. w;
   controllers = λ s c. refl;
 }

@@ -13,6 +13,8 @@ use Rattle.nv_layout.proofs.FeatureTableLaws.{feature_at, stored_is_value, value
 use Rattle.nv_layout.specs.declared.feature.Feature.{Feature}
 use Rattle.nv_model.specs.declared.feature_rule.FeatureRule.{FeatureRule}
 use Rattle.nv_command.proofs.RefusalLaws.{is_refusal-refusal_by}
+use Rattle.nv_command.specs.declared.features.FeatureQuery.{FeatureQuery}
+use Rattle.nv_command.specs.declared.features.FeatureSetting.{FeatureSetting}
 use Rattle.nv_model.specs.Change.{changed, changed_at}
 use Rattle.nv_model.proofs.ChangedAtLaws.{length-changed_at}
 use Rattle.nv_model.proofs.ChoiceLaws.{chosen_fits, not_false}
@@ -39,13 +41,12 @@ use Rattle.nv_model.specs.declared.row.Row.{Row}
 
 -- ---- rows
 
-get_rows_fit : (s : State) (c sel n cdw11 : ℕ) (f : Feature)
-    → AllRefuse (get_rows s c sel n cdw11 f)
-get_rows_fit s c sel n cdw11 f = search (rules, is_refusal-refusal_by)
+get_rows_fit : (s : State) (c : ℕ) (q : FeatureQuery) (f : Feature) → AllRefuse (get_rows s c q f)
+get_rows_fit s c q f = search (rules, is_refusal-refusal_by)
 
-set_rows_fit : (s : State) (c value : ℕ) (save : Bool) (n : ℕ) (f : Feature)
-    → AllRefuse (set_rows s c value save n f)
-set_rows_fit s c value save n f = search (rules, is_refusal-refusal_by)
+set_rows_fit : (s : State) (c : ℕ) (x : FeatureSetting) (f : Feature)
+    → AllRefuse (set_rows s c x f)
+set_rows_fit s c x f = search (rules, is_refusal-refusal_by)
 
 supported_rows_fit : (o : Option Feature) (rows : Feature → List Row) (others : List Row)
     → ((f : Feature) → AllRefuse (rows f)) → AllRefuse others
@@ -53,17 +54,17 @@ supported_rows_fit : (o : Option Feature) (rows : Feature → List Row) (others 
 supported_rows_fit None rows others fit other = other
 supported_rows_fit (Some f) rows others fit other = fit f
 
-pub get_feature_rows_fit : (s : State) (c fid sel n cdw11 : ℕ)
-    → AllRefuse (get_feature_rows s c fid sel n cdw11)
-get_feature_rows_fit s c fid sel n cdw11 =
-    supported_rows_fit (supported_at s c fid) (get_rows s c sel n cdw11) _
-    (get_rows_fit s c sel n cdw11) (search (rules, is_refusal-refusal_by))
+pub get_feature_rows_fit : (s : State) (c : ℕ) (q : FeatureQuery)
+    → AllRefuse (get_feature_rows s c q)
+get_feature_rows_fit s c q =
+    supported_rows_fit (supported_at s c q.fid) (get_rows s c q) _ (get_rows_fit s c q)
+    (search (rules, is_refusal-refusal_by))
 
-pub set_feature_rows_fit : (s : State) (c fid value : ℕ) (save : Bool) (n : ℕ)
-    → AllRefuse (set_feature_rows s c fid value save n)
-set_feature_rows_fit s c fid value save n =
-    supported_rows_fit (supported_at s c fid) (set_rows s c value save n) _
-    (set_rows_fit s c value save n) (search (rules, is_refusal-refusal_by))
+pub set_feature_rows_fit : (s : State) (c : ℕ) (x : FeatureSetting)
+    → AllRefuse (set_feature_rows s c x)
+set_feature_rows_fit s c x =
+    supported_rows_fit (supported_at s c x.fid) (set_rows s c x) _ (set_rows_fit s c x)
+    (search (rules, is_refusal-refusal_by))
 
 -- ---- a set
 
@@ -139,59 +140,56 @@ set_keeps f value save ns fits = record {
 }
 
 -- an accepted set has a dword that the feature accepts
-module _ (s : State) (c fid value : ℕ) (save : Bool) (n : ℕ) (f : Feature) where
-  abbrev accepted_by : Option Feature → Type 0
-  accepted_by o = first_refusal
-      (option_map_or (set_rows s c value save n) o (row true InvalidFieldInCommand ∷ [])) ≡ None
+module _ (s : State) (c : ℕ) (x : FeatureSetting) where
+  abbrev to_controller : Feature → Controller → Controller
+  to_controller f = with_values f x.value x.save (changed_nsids s c x.nsid f)
 
-  by_support : (b : Bool) (g : Feature) → accepted_by (if b then Some g else None) → g ≡ f
-      → is_accepted f value ≡ true
-  by_support true g accepted same =
-      let rows = none_holds (set_rows s c value save n g) accepted in
-      subst (λ h. is_accepted h value ≡ true) same (not_false (is_accepted g value) rows.0)
-  by_support false g accepted same = absurd (cc accepted)
+  module _ (f : Feature) where
+    abbrev accepted_by : Option Feature → Type 0
+    accepted_by o = first_refusal
+        (option_map_or (set_rows s c x) o (row true InvalidFieldInCommand ∷ [])) ≡ None
 
-  by_feature : (x : Controller) (o : Option Feature)
-      → accepted_by (option_map_or
-      (λ g. if is_supported x.rules x.identity.numbers.vwc g then Some g else None) o None)
-      → o ≡ Some f → is_accepted f value ≡ true
-  by_feature x None accepted e = absurd (cc e)
-  by_feature x (Some g) accepted e =
-      let same : g ≡ f = cc e in
-      by_support (is_supported x.rules x.identity.numbers.vwc g) g accepted same
+    by_support : (b : Bool) (g : Feature) → accepted_by (if b then Some g else None) → g ≡ f
+        → is_accepted f x.value ≡ true
+    by_support true g accepted same =
+        let rows = none_holds (set_rows s c x g) accepted in
+        subst (λ h. is_accepted h x.value ≡ true) same (not_false (is_accepted g x.value) rows.0)
+    by_support false g accepted same = absurd (cc accepted)
 
-  by_controller : (x : Option Controller)
-      → accepted_by (option_map_or (λ x. supported x.rules x.identity.numbers.vwc fid) x None)
-      → feature_of fid ≡ Some f → is_accepted f value ≡ true
-  by_controller None accepted e = absurd (cc accepted)
-  by_controller (Some x) accepted e = by_feature x (feature_of fid) accepted e
+    by_feature : (y : Controller) (o : Option Feature)
+        → accepted_by (option_map_or
+        (λ g. if is_supported y.rules y.identity.numbers.vwc g then Some g else None) o None)
+        → o ≡ Some f → is_accepted f x.value ≡ true
+    by_feature y None accepted e = absurd (cc e)
+    by_feature y (Some g) accepted e =
+        let same : g ≡ f = cc e in
+        by_support (is_supported y.rules y.identity.numbers.vwc g) g accepted same
 
-pub feature_keeps : (s : State) (c fid value : ℕ) (save : Bool) (n : ℕ) → IsWellFormed s
-    → first_refusal (set_feature_rows s c fid value save n) ≡ None
-    → IsWellFormed (with_feature s c fid value save n)
-feature_keeps s c fid value save n w accepted = by (feature_of fid) refl
-  where
-    by : (o : Option Feature) → feature_of fid ≡ o → IsWellFormed
-        (option_map_or (λ f. with_controller s c (with_values f value save (changed_nsids s c n f)))
-        o s)
-    by None e = w
-    by (Some f) e = keeps s c (with_values f value save (changed_nsids s c n f))
-        (set_keeps f value save (changed_nsids s c n f)
-        (by_controller s c fid value save n f (controller_at s c) accepted e)) w
+    by_controller : (o : Option Controller)
+        → accepted_by (option_map_or (λ y. supported y.rules y.identity.numbers.vwc x.fid) o None)
+        → feature_of x.fid ≡ Some f → is_accepted f x.value ≡ true
+    by_controller None accepted e = absurd (cc accepted)
+    by_controller (Some y) accepted e = by_feature y (feature_of x.fid) accepted e
 
-pub feature_controllers : (s : State) (c fid value : ℕ) (save : Bool) (n : ℕ)
-    → length (with_feature s c fid value save n).controllers ≡ length s.controllers
-feature_controllers s c fid value save n = by (feature_of fid)
-  where
-    by : (o : Option Feature)
-        → length
-        (option_map_or
-        (λ f. with_controller s c (with_values f value save (changed_nsids s c n f))) o
-        s).controllers
-        ≡ length s.controllers
-    by None = refl
-    by (Some f) =
-        length-changed_at (with_values f value save (changed_nsids s c n f)) s.controllers c
+  pub feature_keeps : IsWellFormed s → first_refusal (set_feature_rows s c x) ≡ None
+      → IsWellFormed (with_feature s c x)
+  feature_keeps w accepted = by (feature_of x.fid) refl
+    where
+      by : (o : Option Feature) → feature_of x.fid ≡ o
+          → IsWellFormed (option_map_or (λ f. with_controller s c (to_controller f)) o s)
+      by None e = w
+      by (Some f) e = keeps s c (to_controller f)
+          (set_keeps f x.value x.save (changed_nsids s c x.nsid f)
+          (by_controller f (controller_at s c) accepted e)) w
+
+  pub feature_controllers : length (with_feature s c x).controllers ≡ length s.controllers
+  feature_controllers = by (feature_of x.fid)
+    where
+      by : (o : Option Feature)
+          → length (option_map_or (λ f. with_controller s c (to_controller f)) o s).controllers
+          ≡ length s.controllers
+      by None = refl
+      by (Some f) = length-changed_at (to_controller f) s.controllers c
 
 -- ---- a number that is told
 
@@ -223,21 +221,22 @@ selected_fits rule f sel selector x default is =
     saved_fits (Some v) e = value_fits f v e
 
 told_fits : (s : State) (x : Controller) → IsController s.namespaces x
-    → (f : Feature) (sel n cdw11 : ℕ) → told f sel n cdw11 x < 2 ^ 32
-told_fits s x is f sel n cdw11 = chosen_fits (λ m. m < 2 ^ 32) (is_get_selector f cdw11) _ 0
-    (by (selector_in f cdw11) (map_of.get x.values (key_of f n (selector_in f cdw11))) refl)
+    → (q : FeatureQuery) (f : Feature) → told q f x < 2 ^ 32
+told_fits s x is q f = chosen_fits (λ m. m < 2 ^ 32) (is_get_selector f q.cdw11) _ 0
+    (by (selector_in f q.cdw11)
+    (map_of.get x.values (key_of f q.nsid (selector_in f q.cdw11))) refl)
     (lit< tt)
   where
-    by : (t : ℕ) (o : Option FeatureValue) → map_of.get x.values (key_of f n t) ≡ o
-        → option_map_or (selected (rule_of x.rules f) f sel t) o 0 < 2 ^ 32
+    by : (t : ℕ) (o : Option FeatureValue) → map_of.get x.values (key_of f q.nsid t) ≡ o
+        → option_map_or (selected (rule_of x.rules f) f q.sel t) o 0 < 2 ^ 32
     by t None e = lit< tt
-    by t (Some v) e = selected_fits (rule_of x.rules f) f sel t v
+    by t (Some v) e = selected_fits (rule_of x.rules f) f q.sel t v
         (default_is_sound x.rules is.rules f t)
-        (sound_value f n t v (is.values.sound (key_of f n t) v e))
+        (sound_value f q.nsid t v (is.values.sound (key_of f q.nsid t) v e))
 
-pub feature_number_fits : (s : State) (c fid sel n cdw11 : ℕ) → IsWellFormed s
-    → feature_number s c fid sel n cdw11 < 2 ^ 32
-feature_number_fits s c fid sel n cdw11 w = by_feature (feature_of fid)
+pub feature_number_fits : (s : State) (c : ℕ) (q : FeatureQuery) → IsWellFormed s
+    → feature_number s c q < 2 ^ 32
+feature_number_fits s c q w = by_feature (feature_of q.fid)
   where
     is_controller : (x : Controller) → controller_at s c ≡ Some x → IsController s.namespaces x
     is_controller x e =
@@ -245,11 +244,11 @@ feature_number_fits s c fid sel n cdw11 w = by_feature (feature_of fid)
         (w.controllers c x (slice_get_within s.controllers c x e))
 
     by_controller : (f : Feature) (o : Option Controller) → controller_at s c ≡ o
-        → option_map_or (told f sel n cdw11) o 0 < 2 ^ 32
+        → option_map_or (told q f) o 0 < 2 ^ 32
     by_controller f None e = lit< tt
-    by_controller f (Some x) e = told_fits s x (is_controller x e) f sel n cdw11
+    by_controller f (Some x) e = told_fits s x (is_controller x e) q f
 
     by_feature : (o : Option Feature)
-        → option_map_or (λ f. option_map_or (told f sel n cdw11) (controller_at s c) 0) o 0 < 2 ^ 32
+        → option_map_or (λ f. option_map_or (told q f) (controller_at s c) 0) o 0 < 2 ^ 32
     by_feature None = lit< tt
     by_feature (Some f) = by_controller f (controller_at s c) refl

@@ -9,6 +9,8 @@ use Rattle.nv_layout.specs.Feature.{selector_in, selectors_set, stored}
 use Rattle.nv_layout.specs.declared.feature.Feature.{Feature}
 use Rattle.nv_model.specs.declared.feature_rule.FeatureRule.{FeatureRule}
 use Rattle.nv_command.specs.Nsid.{broadcast_nsid}
+use Rattle.nv_command.specs.declared.features.FeatureQuery.{FeatureQuery}
+use Rattle.nv_command.specs.declared.features.FeatureSetting.{FeatureSetting}
 use Rattle.nv_command.specs.declared.status_code.StatusCode.TheVariants.{FeatureNotChangeable}
 use Rattle.nv_command.specs.declared.status_code.StatusCode.TheVariants.{FeatureNotNamespaceSpecific}
 use Rattle.nv_command.specs.declared.status_code.StatusCode.TheVariants.{FeatureIdentifierNotSaveable}
@@ -44,31 +46,31 @@ supported_rows s c fid rows =
 
 -- a select above 3; a selector that the feature doesn't have; and where each namespace has a value
 -- of its own, an NSID that is not valid, or not active
-abbrev pub get_rows : State → ℕ → ℕ → ℕ → ℕ → Feature → List Row
-get_rows s c sel n cdw11 f =
-    row (nat_lt 3 sel) InvalidFieldInCommand
-    ∷ row (not (is_get_selector f cdw11)) InvalidFieldInCommand
-    ∷ row ((row_of f).per_namespace && not (is_valid s n)) InvalidNamespaceOrFormat
-    ∷ row ((row_of f).per_namespace && not (is_active s c n)) InvalidFieldInCommand
+abbrev pub get_rows : State → ℕ → FeatureQuery → Feature → List Row
+get_rows s c q f =
+    row (nat_lt 3 q.sel) InvalidFieldInCommand
+    ∷ row (not (is_get_selector f q.cdw11)) InvalidFieldInCommand
+    ∷ row ((row_of f).per_namespace && not (is_valid s q.nsid)) InvalidNamespaceOrFormat
+    ∷ row ((row_of f).per_namespace && not (is_active s c q.nsid)) InvalidFieldInCommand
     ∷ []
 
-abbrev pub get_feature_rows : State → ℕ → ℕ → ℕ → ℕ → ℕ → List Row
-get_feature_rows s c fid sel n cdw11 = supported_rows s c fid (get_rows s c sel n cdw11)
+abbrev pub get_feature_rows : State → ℕ → FeatureQuery → List Row
+get_feature_rows s c q = supported_rows s c q.fid (get_rows s c q)
 
-abbrev pub set_rows : State → ℕ → ℕ → Bool → ℕ → Feature → List Row
-set_rows s c value save n f =
+abbrev pub set_rows : State → ℕ → FeatureSetting → Feature → List Row
+set_rows s c x f =
     let each = (row_of f).per_namespace in
-    let all = n == broadcast_nsid in
-    row (not (is_accepted f value)) InvalidFieldInCommand
-    ∷ row (each && not (is_valid s n || all)) InvalidNamespaceOrFormat
-    ∷ row (each && not (is_active s c n || all)) InvalidFieldInCommand
-    ∷ row (not each && not (n == 0 || all)) FeatureNotNamespaceSpecific
-    ∷ row (save && not (rule_at s c f).saveable) FeatureIdentifierNotSaveable
+    let all = x.nsid == broadcast_nsid in
+    row (not (is_accepted f x.value)) InvalidFieldInCommand
+    ∷ row (each && not (is_valid s x.nsid || all)) InvalidNamespaceOrFormat
+    ∷ row (each && not (is_active s c x.nsid || all)) InvalidFieldInCommand
+    ∷ row (not each && not (x.nsid == 0 || all)) FeatureNotNamespaceSpecific
+    ∷ row (x.save && not (rule_at s c f).saveable) FeatureIdentifierNotSaveable
     ∷ row (not (rule_at s c f).changeable) FeatureNotChangeable
     ∷ []
 
-abbrev pub set_feature_rows : State → ℕ → ℕ → ℕ → Bool → ℕ → List Row
-set_feature_rows s c fid value save n = supported_rows s c fid (set_rows s c value save n)
+abbrev pub set_feature_rows : State → ℕ → FeatureSetting → List Row
+set_feature_rows s c x = supported_rows s c x.fid (set_rows s c x)
 
 -- ---- replies
 
@@ -92,13 +94,13 @@ told_under selector f sel n x = option_map_or (selected (rule_of x.rules f) f se
     (map_of.get x.values (key_of f n selector)) 0
 
 -- and under that of CDW11
-abbrev pub told : Feature → ℕ → ℕ → ℕ → Controller → ℕ
-told f sel n cdw11 x =
-    if is_get_selector f cdw11 then told_under (selector_in f cdw11) f sel n x else 0
+abbrev pub told : FeatureQuery → Feature → Controller → ℕ
+told q f x =
+    if is_get_selector f q.cdw11 then told_under (selector_in f q.cdw11) f q.sel q.nsid x else 0
 
-abbrev pub feature_number : State → ℕ → ℕ → ℕ → ℕ → ℕ → ℕ
-feature_number s c fid sel n cdw11 =
-    option_map_or (λ f. option_map_or (told f sel n cdw11) (controller_at s c) 0) (feature_of fid) 0
+abbrev pub feature_number : State → ℕ → FeatureQuery → ℕ
+feature_number s c q =
+    option_map_or (λ f. option_map_or (told q f) (controller_at s c) 0) (feature_of q.fid) 0
 
 -- ---- effects
 
@@ -124,7 +126,8 @@ abbrev pub with_values : Feature → ℕ → Bool → List ℕ → Controller �
 with_values f value save ns x =
     record x { values = fold (with_value f value save) x.values ns }
 
-abbrev pub with_feature : State → ℕ → ℕ → ℕ → Bool → ℕ → State
-with_feature s c fid value save n =
-    option_map_or (λ f. with_controller s c (with_values f value save (changed_nsids s c n f)))
-    (feature_of fid) s
+abbrev pub with_feature : State → ℕ → FeatureSetting → State
+with_feature s c x =
+    option_map_or
+    (λ f. with_controller s c (with_values f x.value x.save (changed_nsids s c x.nsid f)))
+    (feature_of x.fid) s

@@ -7,6 +7,7 @@ use Rattle.nv_layout.specs.declared.error_entry.ErrorEntry.{ErrorEntry}
 use Rattle.nv_layout.specs.declared.smart.Smart.{Smart}
 use Rattle.nv_command.specs.Logs.{is_error_log}
 use Rattle.nv_command.specs.Nsid.{broadcast_nsid}
+use Rattle.nv_command.specs.declared.logs.LogQuery.{LogQuery}
 use Rattle.nv_command.specs.declared.reply.Reply.{Reply}
 use Rattle.nv_command.specs.declared.reply.Reply.TheVariants as reply
 use Rattle.nv_command.specs.declared.status_code.StatusCode.TheVariants.{InvalidFieldInCommand}
@@ -33,12 +34,12 @@ log_length s c lid = if is_error_log lid then 64 * entry_count s c else 512
 
 -- more bytes than the controller moves at a time; another log; an NSID other than 0 and the
 -- broadcast one; an offset past the end of the log, or inside a dword
-abbrev pub log_rows : State → ℕ → ℕ → ℕ → ℕ → ℕ → List Row
-log_rows s c lid n offset dwords =
-    row (nat_lt (limit_of s c) (4 * dwords)) InvalidFieldInCommand
-    ∷ row (not (is_log lid)) InvalidLogPage
-    ∷ row (not (n == 0 || n == broadcast_nsid)) InvalidFieldInCommand
-    ∷ row (nat_lt (log_length s c lid) offset || not (offset % 4 == 0)) InvalidFieldInCommand
+abbrev pub log_rows : State → ℕ → LogQuery → List Row
+log_rows s c q =
+    row (nat_lt (limit_of s c) (4 * q.dwords)) InvalidFieldInCommand
+    ∷ row (not (is_log q.lid)) InvalidLogPage
+    ∷ row (not (q.nsid == 0 || q.nsid == broadcast_nsid)) InvalidFieldInCommand
+    ∷ row (nat_lt (log_length s c q.lid) q.offset || not (q.offset % 4 == 0)) InvalidFieldInCommand
     ∷ []
 
 -- ---- replies

@@ -64,11 +64,8 @@ meaning_of (Delete n) = changing (λ s c. delete_rows s n) (λ s c. deleted s n)
 meaning_of (Attachment n detach ids) =
     changing (λ s c. attachment_rows s n detach ids) (λ s c. with_attachments s n detach ids)
 meaning_of (Format n lbaf mset pi pil ses) = formatting n (new_format lbaf mset pi pil ses)
-meaning_of (GetFeature fid sel n cdw11) =
-    telling (λ s c. get_feature_rows s c fid sel n cdw11)
-    (λ s c. Number (feature_number s c fid sel n cdw11))
-meaning_of (SetFeature fid value save n) =
-    changing (λ s c. set_feature_rows s c fid value save n)
-    (λ s c. with_feature s c fid value save n)
-meaning_of (GetLog lid n offset dwords) =
-    telling (λ s c. log_rows s c lid n offset dwords) (λ s c. log_reply s c lid)
+meaning_of (GetFeature q) =
+    telling (λ s c. get_feature_rows s c q) (λ s c. Number (feature_number s c q))
+meaning_of (SetFeature x) =
+    changing (λ s c. set_feature_rows s c x) (λ s c. with_feature s c x)
+meaning_of (GetLog q) = telling (λ s c. log_rows s c q) (λ s c. log_reply s c q.lid)

@@ -47,21 +47,21 @@ fn format(lbaf: u8, mset: bool, pi: u8, pil: bool, ses: u8) -> Command<'static> 
 }
 
 fn get(fid: u8, sel: u8, cdw11: u32) -> Command<'static> {
-    Command::GetFeature {
+    Command::GetFeature(FeatureQuery {
         fid,
         sel: ThreeBits::low(sel),
         nsid: 7,
         cdw11,
-    }
+    })
 }
 
 fn set(fid: u8, value: u32, save: bool) -> Command<'static> {
-    Command::SetFeature {
+    Command::SetFeature(FeatureSetting {
         fid,
         value,
         save,
         nsid: 7,
-    }
+    })
 }
 
 #[test]
@@ -112,20 +112,20 @@ fn their_entries_are_plain(rt: HostRuntime) {
 #[test]
 fn their_replies(rt: HostRuntime) {
     let mut room = ReplyRoom::new();
-    let get = Command::GetFeature {
+    let get = Command::GetFeature(FeatureQuery {
         fid: 6,
         sel: ThreeBits::low(0),
         nsid: 7,
         cdw11: 0,
-    };
+    });
     room.read(&get, 5, &[]);
     assert!(rt; matches!(room.reply(), Reply::Number(5)));
-    let set = Command::SetFeature {
+    let set = Command::SetFeature(FeatureSetting {
         fid: 6,
         value: 0,
         save: true,
         nsid: 7,
-    };
+    });
     room.read(&set, 5, &[]);
     assert!(rt; matches!(room.reply(), Reply::Done));
     room.keep(&Reply::Number(7));

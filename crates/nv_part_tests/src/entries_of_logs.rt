@@ -10,12 +10,12 @@ use std::process::Abort;
 
 /// A Get Log Page of NSID 7.
 fn get_log(lid: u8, offset: u64, numd: u32) -> Command<'static> {
-    Command::GetLog {
+    Command::GetLog(LogQuery {
         lid,
         nsid: 7,
         offset,
         dwords: DwordCount::from_zeros_based(numd),
-    }
+    })
 }
 
 /// The entry of a Get Log Page with these command dwords is that of the command, which is read
@@ -112,12 +112,12 @@ fn errors_by_their_bytes(rt: HostRuntime) {
     assert_eq!(rt; rest.as_slice(), &data[12..76]);
     let mut room = ReplyRoom::new();
     assert!(rt; matches!(room.reply(), Reply::Done));
-    let get_log = Command::GetLog {
+    let get_log = Command::GetLog(LogQuery {
         lid: 0x01,
         nsid: 7,
         offset: 0,
         dwords: DwordCount::from_zeros_based(63),
-    };
+    });
     room.read(&get_log, 0, &data);
     match room.reply() {
         Reply::Errors(entries) => {
@@ -153,12 +153,12 @@ fn a_room_keeps_one_reply_after_another(rt: HostRuntime) {
     let mut data = [0; 512];
     data[1] = 0x2c;
     data[2] = 1;
-    let get_log = Command::GetLog {
+    let get_log = Command::GetLog(LogQuery {
         lid: 0x02,
         nsid: 7,
         offset: 0,
         dwords: DwordCount::from_zeros_based(127),
-    };
+    });
     room.read(&get_log, 0, &data);
     match room.reply() {
         Reply::Smart(smart) => assert_eq!(rt; smart.temperature, 300),

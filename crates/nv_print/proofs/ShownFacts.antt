@@ -33,14 +33,7 @@ data_no_float (shown.Errors es) =
     (λ e. object_no_float (fields_of_entry e))
 data_no_float (shown.Devices ds) =
     list_no_float (codes "devices") (λ d. object_of (fields_of_device d)) ds (λ d. object_no_float (fields_of_device d))
-data_no_float (shown.Created nsid) = refl
-data_no_float (shown.Attached nsid) = refl
-data_no_float (shown.Detached nsid) = refl
-data_no_float (shown.Deleted nsid) = refl
-data_no_float (shown.Formatted nsid) = refl
-data_no_float (shown.FeatureValue f s v) = refl
-data_no_float (shown.FeatureSet f v s) = refl
-data_no_float shown.Reset = refl
+data_no_float s = refl
 
 -- the text of what was sent
 pub text_of_sent : (s : Shown) (log : Log) (text : List ℕ) → SendsValue (data_of s) (Some []) log → IsTextOf log text

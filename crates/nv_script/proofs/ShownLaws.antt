@@ -134,24 +134,17 @@ module _ (s : State) (serials : List ℕ) (c : ℕ) where
 
   command_is_shown : (k : Command) → refusal_of s c k ≡ None
       → IsSome (shown_by (ask.Do (Send k)) (received k (reply_of s c k)))
-  command_is_shown command.IdentifyController e = refl
-  command_is_shown (command.IdentifyNamespace n) e = refl
-  command_is_shown (command.AllocatedNamespace n) e = refl
-  command_is_shown (command.ActiveList after) e = refl
-  command_is_shown (command.AllocatedList after) e = refl
-  command_is_shown (command.Create nsze ncap flbas dps nmic) e = refl
-  command_is_shown (command.Delete n) e = refl
-  command_is_shown (command.Attachment n detach ids) e = refl
-  command_is_shown (command.Format n lbaf mset pi pil ses) e = refl
-  command_is_shown (command.GetFeature fid sel n cdw11) e =
-      let is = supported_is_feature s c fid (get_rows s c sel n cdw11) e in
-      let selects = none_holds (get_rows s c sel n cdw11 is.0) is.2 in
-      value_is_shown (feature_of fid) (select_of sel) is.0 _ is.1 (select_is_known sel (up_to_three sel selects.0))
-  command_is_shown (command.SetFeature fid value save n) e =
-      let is = supported_is_feature s c fid (set_rows s c value save n) e in
-      set_is_shown (feature_of fid) is.0 value save is.1
-  command_is_shown (command.GetLog lid n offset dwords) e =
-      log_is_shown (ask.Do (Send (command.GetLog lid n offset dwords))) (dwords / 16) (is_error_log lid) _ _
+  command_is_shown (command.GetFeature q) e =
+      let is = supported_is_feature s c q.fid (get_rows s c q) e in
+      let selects = none_holds (get_rows s c q is.0) is.2 in
+      value_is_shown (feature_of q.fid) (select_of q.sel) is.0 _ is.1
+      (select_is_known q.sel (up_to_three q.sel selects.0))
+  command_is_shown (command.SetFeature x) e =
+      let is = supported_is_feature s c x.fid (set_rows s c x) e in
+      set_is_shown (feature_of x.fid) is.0 x.value x.save is.1
+  command_is_shown (command.GetLog q) e =
+      log_is_shown (ask.Do (Send (command.GetLog q))) (q.dwords / 16) (is_error_log q.lid) _ _
+  command_is_shown k e = refl
 
   one_is_shown : (a : Ask) → IsShown s serials (query.One (record { controller = c; ask = a }))
   one_is_shown (ask.Do (Send k)) e = only_is_shown (ask.Do (Send k)) k (command_is_shown k) e

@@ -31,7 +31,12 @@ first_act (ask.ErrorLog entries) = Send IdentifyController
 -- the entries of an error log, 16 dwords each: so many, as far as a controller keeps them, and one
 -- at least
 abbrev pub errors_command : ℕ → ℕ → Command
-errors_command entries kept = GetLog 0x01 0 0 (16 * max (min entries kept) 1)
+errors_command entries kept = GetLog (record {
+  lid = 0x01;
+  nsid = 0;
+  offset = 0;
+  dwords = 16 * max (min entries kept) 1;
+})
 
 -- the command that follows on the first act, if any, at a controller that keeps so many errors
 abbrev pub second_command : ℕ → Ask → Option Command

@@ -41,8 +41,8 @@ feature_set f value save = option_map (λ f. shown.FeatureSet f value save) f
 -- what is shown by a number: the NSID of a new namespace, or the value of a feature
 abbrev pub shown_number : Ask → ℕ → Option Shown
 shown_number (ask.Do (Send (Create nsze ncap flbas dps nmic))) nsid = Some (shown.Created nsid)
-shown_number (ask.Do (Send (GetFeature fid sel nsid cdw11))) value =
-    feature_value (feature_of fid) (select_of sel) value
+shown_number (ask.Do (Send (GetFeature q))) value =
+    feature_value (feature_of q.fid) (select_of q.sel) value
 shown_number _ number = None
 
 -- what is shown where it is done
@@ -51,8 +51,7 @@ shown_done (ask.Do (Send (Attachment nsid detach ids))) =
     Some (if detach then shown.Detached nsid else shown.Attached nsid)
 shown_done (ask.Do (Send (Delete nsid))) = Some (shown.Deleted nsid)
 shown_done (ask.Do (Send (Format nsid lbaf mset pi pil ses))) = Some (shown.Formatted nsid)
-shown_done (ask.Do (Send (SetFeature fid value save nsid))) =
-    feature_set (feature_of fid) value save
+shown_done (ask.Do (Send (SetFeature x))) = feature_set (feature_of x.fid) x.value x.save
 shown_done (ask.Do Reset) = Some shown.Reset
 shown_done _ = None
 

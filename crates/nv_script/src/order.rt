@@ -4,7 +4,7 @@ ghost use Rattle.std.specs.Prelude.{◌≡◌, ◌+◌, IfSome};
 ghost use Rattle.nv_command.specs.Logs.{IsSendable};
 ghost use Rattle.nv_script.specs.Orders.{errors_command, next_command};
 
-use nv_command::{Command, DwordCount, ERROR_INFORMATION, Reply};
+use nv_command::{Command, DwordCount, ERROR_INFORMATION, LogQuery, Reply};
 use nv_line::Ask;
 use std::cmp;
 
@@ -16,12 +16,12 @@ fn errors_command<'a>(entries: u32, elpe: u8) -> Command<'a>
 {
     let kept = u32::from(elpe) + 1;
     let count = cmp::max(cmp::min(entries, kept), 1);
-    Command::GetLog {
+    Command::GetLog(LogQuery {
         lid: ERROR_INFORMATION,
         nsid: 0,
         offset: 0,
         dwords: DwordCount::from_zeros_based(16 * count - 1),
-    }
+    })
 }
 
 /// The command that follows on the reply to the first one, if any: the controller tells how many

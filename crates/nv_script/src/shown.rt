@@ -44,8 +44,8 @@ fn shown_number<'a>(ask: &Ask, number: u32) -> Option<Shown<'a>>
 {
     match ask {
         Ask::Do(Act::Send(Command::Create { .. })) => Some(Shown::Created { nsid: number }),
-        Ask::Do(Act::Send(Command::GetFeature { fid, sel, .. })) => {
-            feature_value(*fid, *sel, number)
+        Ask::Do(Act::Send(Command::GetFeature(asked))) => {
+            feature_value(asked.fid, asked.sel, number)
         }
         _ => None,
     }
@@ -65,16 +65,9 @@ fn shown_done<'a>(ask: &Ask) -> Option<Shown<'a>>
         }
         Ask::Do(Act::Send(Command::Delete { nsid })) => Some(Shown::Deleted { nsid: *nsid }),
         Ask::Do(Act::Send(Command::Format { nsid, .. })) => Some(Shown::Formatted { nsid: *nsid }),
-        Ask::Do(
-            Act::Send(
-                Command::SetFeature {
-                    fid,
-                    value,
-                    save,
-                    ..
-                },
-            ),
-        ) => feature_set(*fid, *value, *save),
+        Ask::Do(Act::Send(Command::SetFeature(asked))) => {
+            feature_set(asked.fid, asked.value, asked.save)
+        }
         Ask::Do(Act::Reset) => Some(Shown::Reset),
         _ => None,
     }

@@ -1,7 +1,7 @@
 //! What lines of features and of formats ask, and their faults.
 
 use crate::lines::{check_line, sends};
-use nv_command::Command;
+use nv_command::{Command, FeatureQuery, FeatureSetting};
 use nv_layout::{FourBits, ThreeBits};
 use nv_script::{CtrlList, LineFault, OptionName, read_line};
 use std::alloc::Global;
@@ -14,21 +14,21 @@ fn check(rt: &impl Abort, alloc: Global, line: &str, command: Command) {
 }
 
 fn get(fid: u8, sel: u8, nsid: u32, cdw11: u32) -> Command<'static> {
-    Command::GetFeature {
+    Command::GetFeature(FeatureQuery {
         fid,
         sel: ThreeBits::low(sel),
         nsid,
         cdw11,
-    }
+    })
 }
 
 fn set(fid: u8, value: u32, save: bool, nsid: u32) -> Command<'static> {
-    Command::SetFeature {
+    Command::SetFeature(FeatureSetting {
         fid,
         value,
         save,
         nsid,
-    }
+    })
 }
 
 #[test]

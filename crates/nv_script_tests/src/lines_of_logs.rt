@@ -1,7 +1,7 @@
 //! What lines of logs ask, and their faults.
 
 use crate::lines::{check_line, question};
-use nv_command::{Command, DwordCount, HEALTH};
+use nv_command::{Command, DwordCount, HEALTH, LogQuery};
 use nv_script::{Act, Ask, CtrlList, LineFault, OptionName, read_line};
 use std::alloc::Global;
 use std::process::Abort;
@@ -21,12 +21,12 @@ fn reads_logs(rt: HostRuntime) {
         ("smart-log /dev/nvme0n3 --namespace-id=0xffffffff", all),
         ("smart-log --namespace-id 1 /dev/nvme0", 1),
     ] {
-        let log = Command::GetLog {
+        let log = Command::GetLog(LogQuery {
             lid: HEALTH,
             nsid,
             offset: 0,
             dwords: DwordCount::from_zeros_based(127),
-        };
+        });
         check(&rt, rt.alloc(), line, Ask::Do(Act::Send(log)));
     }
     for (line, entries) in [

@@ -1,7 +1,7 @@
 //! Lines that say how the answer is written, and those of `id-ctrl` and `list`.
 
 use crate::lines::{check_line, question, sends};
-use nv_command::{Command, DwordCount, HEALTH};
+use nv_command::{Command, DwordCount, HEALTH, LogQuery};
 use nv_script::{
     Act, Ask, CtrlList, Line, LineFault, OptionName, OutputFormat, Query, Question, Request,
     read_line,
@@ -11,12 +11,12 @@ use std::process::Abort;
 
 /// The whole health log of all namespaces.
 fn health() -> Ask<'static> {
-    Ask::Do(Act::Send(Command::GetLog {
+    Ask::Do(Act::Send(Command::GetLog(LogQuery {
         lid: HEALTH,
         nsid: 0xffff_ffff,
         offset: 0,
         dwords: DwordCount::from_zeros_based(127),
-    }))
+    })))
 }
 
 /// A line that asks all controllers for their namespaces.

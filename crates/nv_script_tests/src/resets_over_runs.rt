@@ -6,7 +6,7 @@ use crate::harness::run_at;
 use nv_controller::Machine;
 use nv_layout::{NsList, ThreeBits};
 use nv_script::{Geometry, GeometryField, OverRead, OverWrite, RunEnd, run};
-use nv_subsystem::{Command, DEMO, Reply, Subsystem};
+use nv_subsystem::{Command, DEMO, FeatureQuery, Reply, Subsystem};
 use std::alloc::Global;
 use std::process::Abort;
 use std::test::Fail;
@@ -119,12 +119,12 @@ fn the_next_run_has_the_saved_values(rt: HostRuntime) -> Result<(), Fail> {
 
 /// The current value of the first controller's write cache is 0.
 fn expect_cache_off(rt: &impl Abort, machine: &Machine) {
-    let get = Command::GetFeature {
+    let get = Command::GetFeature(FeatureQuery {
         fid: 6,
         sel: ThreeBits::low(0),
         nsid: 0,
         cdw11: 0,
-    };
+    });
     let mut list = NsList::new();
     assert!(rt; machine.subsystem().controllers() == 2);
     assert!(rt;

@@ -4,7 +4,7 @@ ghost use Rattle.std.specs.Prelude.{IfSome};
 ghost use Rattle.nv_command.specs.Command.{CommandFits};
 ghost use Rattle.nv_command.specs.Logs.{IsSendable};
 
-use nv_command::{BROADCAST_NSID, Command, DwordCount, ERROR_INFORMATION, HEALTH};
+use nv_command::{BROADCAST_NSID, Command, DwordCount, ERROR_INFORMATION, HEALTH, LogQuery};
 
 /// A kind of line.
 #[derive(Clone, Copy)]
@@ -98,22 +98,22 @@ impl LineKind {
             (LineKind::List, _) => list_command(place),
             (LineKind::SmartLog, 0) => {
                 let dwords = DwordCount::from_zeros_based(HEALTH_DWORDS - 1);
-                Some(Command::GetLog {
+                Some(Command::GetLog(LogQuery {
                     lid: HEALTH,
                     nsid: BROADCAST_NSID,
                     offset: 0,
                     dwords,
-                })
+                }))
             }
             (LineKind::ErrorLog, 0) => Some(Command::IdentifyController),
             (LineKind::ErrorLog, 1) => {
                 let dwords = DwordCount::from_zeros_based(FOUR_ERRORS - 1);
-                Some(Command::GetLog {
+                Some(Command::GetLog(LogQuery {
                     lid: ERROR_INFORMATION,
                     nsid: 0,
                     offset: 0,
                     dwords,
-                })
+                }))
             }
             _ => None,
         }

@@ -11,11 +11,8 @@ use Rattle.nv_command.specs.Logs.{is_error_log, without_phases}
 use Rattle.nv_command.specs.Nsid.{broadcast_nsid}
 use Rattle.nv_command.specs.declared.command.Command.{Command}
 use Rattle.nv_command.specs.declared.command.Command.TheVariants.{IdentifyController}
-use Rattle.nv_command.specs.declared.command.Command.TheVariants.{IdentifyNamespace}
-use Rattle.nv_command.specs.declared.command.Command.TheVariants.{AllocatedNamespace, ActiveList}
-use Rattle.nv_command.specs.declared.command.Command.TheVariants.{AllocatedList, Create, Delete}
-use Rattle.nv_command.specs.declared.command.Command.TheVariants.{Attachment, Format, GetFeature}
-use Rattle.nv_command.specs.declared.command.Command.TheVariants.{SetFeature, GetLog}
+use Rattle.nv_command.specs.declared.command.Command.TheVariants.{Create, Delete, Attachment}
+use Rattle.nv_command.specs.declared.command.Command.TheVariants.{Format, SetFeature, GetLog}
 use Rattle.nv_command.specs.declared.refusal.Refusal.{Refusal}
 use Rattle.nv_command.specs.declared.reply.Reply.{Reply}
 use Rattle.nv_command.specs.declared.reply.Reply.TheVariants as reply
@@ -164,23 +161,10 @@ module _ (s : State) (c : ℕ) where
   abbrev rows_in : Command → List Controller → ℕ → List Row
   rows_in k xs c = rows_of (of_controllers s xs) c k
 
+  -- those of an attachment read all controllers, and all others at most their own
   rows_untagged : (k : Command) → rows_of (untagged s) c k ≡ rows_of s c k
-  rows_untagged IdentifyController = refl
-  rows_untagged (IdentifyNamespace n) = refl
-  rows_untagged (AllocatedNamespace n) = refl
-  rows_untagged (ActiveList after) = refl
-  rows_untagged (AllocatedList after) = refl
-  rows_untagged (Create nsze ncap flbas dps nmic) = refl
-  rows_untagged (Delete n) = refl
   rows_untagged (Attachment n detach ids) = attachment_same s n ids detach
-  rows_untagged (Format n lbaf mset pi pil ses) =
-      read_untagged (rows_in (Format n lbaf mset pi pil ses)) (λ x xs ys. refl) (λ x xs c. refl) s.controllers c
-  rows_untagged (GetFeature fid sel n cdw11) =
-      read_untagged (rows_in (GetFeature fid sel n cdw11)) (λ x xs ys. refl) (λ x xs c. refl) s.controllers c
-  rows_untagged (SetFeature fid value save n) =
-      read_untagged (rows_in (SetFeature fid value save n)) (λ x xs ys. refl) (λ x xs c. refl) s.controllers c
-  rows_untagged (GetLog lid n offset dwords) =
-      read_untagged (rows_in (GetLog lid n offset dwords)) (λ x xs ys. refl) (λ x xs c. refl) s.controllers c
+  rows_untagged k = read_untagged (rows_in k) (λ x xs ys. refl) (λ x xs c. refl) s.controllers c
 
   pub refusal_untagged : (k : Command) → refusal_of (untagged s) c k ≡ refusal_of s c k
   refusal_untagged k = ap first_refusal (rows_untagged k)
@@ -223,23 +207,12 @@ module _ (s : State) (c : ℕ) where
   health_untagged = read_untagged (λ xs c. option_map_or smart_of (slice_get xs c) no_health)
       (λ x xs ys. refl) (λ x xs c. refl) s.controllers c
 
+  -- a log has tags, and what the controller is counts all controllers
   pub reply_untagged : (k : Command) → without_phases (reply_of s c k) ≡ reply_of (untagged s) c k
   reply_untagged IdentifyController = ap reply.Controller (sym controller_told)
-  reply_untagged (IdentifyNamespace n) = sym
-      (read_untagged (reply_in (IdentifyNamespace n)) (λ x xs ys. refl) (λ x xs c. refl) s.controllers c)
-  reply_untagged (AllocatedNamespace n) = refl
-  reply_untagged (ActiveList after) = sym
-      (read_untagged (reply_in (ActiveList after)) (λ x xs ys. refl) (λ x xs c. refl) s.controllers c)
-  reply_untagged (AllocatedList after) = refl
-  reply_untagged (Create nsze ncap flbas dps nmic) = refl
-  reply_untagged (Delete n) = refl
-  reply_untagged (Attachment n detach ids) = refl
-  reply_untagged (Format n lbaf mset pi pil ses) = refl
-  reply_untagged (GetFeature fid sel n cdw11) = sym
-      (read_untagged (reply_in (GetFeature fid sel n cdw11)) (λ x xs ys. refl) (λ x xs c. refl) s.controllers c)
-  reply_untagged (SetFeature fid value save n) = refl
-  reply_untagged (GetLog lid n offset dwords) =
-      chosen_log (is_error_log lid) _ _ _ _ (logs_untagged s.controllers c) (sym health_untagged)
+  reply_untagged (GetLog q) =
+      chosen_log (is_error_log q.lid) _ _ _ _ (logs_untagged s.controllers c) (sym health_untagged)
+  reply_untagged k = sym (read_untagged (reply_in k) (λ x xs ys. refl) (λ x xs c. refl) s.controllers c)
 
 answer_by_untagged : (o : Option Refusal) (r : Reply)
     → answer_without_phases (answer_by o r) ≡ answer_by o (without_phases r)
@@ -284,11 +257,6 @@ module _ (s : State) (c : ℕ) where
       (λ x xs ys. refl) (λ x xs c. refl) s.controllers c
 
   pub effect_untagged : (k : Command) → untagged (effect_of s c k) ≡ effect_of (untagged s) c k
-  effect_untagged IdentifyController = refl
-  effect_untagged (IdentifyNamespace n) = refl
-  effect_untagged (AllocatedNamespace n) = refl
-  effect_untagged (ActiveList after) = refl
-  effect_untagged (AllocatedList after) = refl
   effect_untagged (Create nsze ncap flbas dps nmic) =
       let w = wanted nsze ncap flbas dps nmic in
       mapped_untagged _
@@ -302,13 +270,12 @@ module _ (s : State) (c : ℕ) where
   effect_untagged (Format n lbaf mset pi pil ses) =
       ap (λ ns. record (untagged s) { namespaces = changed_at_keys ns (in_format lbaf mset) s.namespaces })
       (sym (concerned_untagged n))
-  effect_untagged (GetFeature fid sel n cdw11) = refl
-  effect_untagged (SetFeature fid value save n) = mapped_untagged _
-      (λ f. with_controller (untagged s) c (with_values f value save (changed_nsids (untagged s) c n f)))
-      s (λ f. with_untagged _ (with_values f value save (changed_nsids s c n f)) (λ x. refl) s c
-      ∙ ap (λ ns. with_controller (untagged s) c (with_values f value save ns)) (sym (nsids_untagged n f)))
-      (feature_of fid)
-  effect_untagged (GetLog lid n offset dwords) = refl
+  effect_untagged (SetFeature k) = mapped_untagged _
+      (λ f. with_controller (untagged s) c (with_values f k.value k.save (changed_nsids (untagged s) c k.nsid f)))
+      s (λ f. with_untagged _ (with_values f k.value k.save (changed_nsids s c k.nsid f)) (λ x. refl) s c
+      ∙ ap (λ ns. with_controller (untagged s) c (with_values f k.value k.save ns)) (sym (nsids_untagged k.nsid f)))
+      (feature_of k.fid)
+  effect_untagged k = refl
 
 -- ---- refusals that are booked, and the step
 

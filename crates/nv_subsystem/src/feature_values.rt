@@ -13,8 +13,8 @@ ghost use Rattle.nv_subsystem.specs.ValueTable.{key_at, slot_of};
 
 use crate::controller::{rule_for, rule_of};
 use crate::feature_value::default_of;
-use crate::features::NewValue;
 use nv_bits::Slots;
+use nv_command::FeatureSetting;
 use nv_layout::Feature;
 use nv_model::{FeatureRule, FeatureValue};
 use std::alloc::{AllocError, Global};
@@ -115,7 +115,7 @@ impl FeatureValues {
 
     /// Writes over the value of a feature under a selector, where it is there and the Set is for
     /// it.
-    pub(crate) fn write(&mut self, feature: Feature, nsid: u32, selector: u8, asked: NewValue)
+    pub(crate) fn write(&mut self, feature: Feature, nsid: u32, selector: u8, asked: FeatureSetting)
         requires { is_selector feature selector ≡ true }
         ensures { self.new ≡ record self.old {
           values = changed_at (write feature asked.value asked.save) self.old.values

@@ -20,26 +20,9 @@ use crate::feature_value::{default_of, is_supported};
 use crate::feature_values::FeatureValues;
 use crate::row::check;
 use crate::subsystem::Subsystem;
-use nv_command::{BROADCAST_NSID, Refusal, StatusCode};
+use nv_command::{BROADCAST_NSID, FeatureQuery, FeatureSetting, Refusal, StatusCode};
 use nv_layout::{Feature, ThreeBits};
 use nv_model::{FeatureRule, FeatureValue, Row};
-
-/// What a host asks of a feature: another value, which is saved too where `save` says so. Section
-/// "Set Features command".
-#[derive(Clone, Copy, Debug, PartialEq, Eq)]
-pub struct NewValue {
-    pub value: u32,
-    pub save: bool,
-}
-
-impl NewValue {
-    /// The fields of a Set Features.
-    pub(crate) fn new(value: u32, save: bool) -> NewValue
-        ensures { result ≡ record { value = value; save = save } }
-    {
-        NewValue { value, save }
-    }
-}
 
 /// What can be done with a feature: bit 0 save it, bit 1 give each namespace a value of its own,
 /// bit 2 change it.
@@ -75,7 +58,7 @@ fn selected(
 fn write_selectors(
     values: &mut FeatureValues,
     feature: Feature,
-    asked: NewValue,
+    asked: FeatureSetting,
     nsid: u32,
     selectors: &[u8],
 )
@@ -91,7 +74,7 @@ fn write_selectors(
 }
 
 /// Writes over a feature's values for some namespaces, where they are there.
-fn write_each(values: &mut FeatureValues, feature: Feature, asked: NewValue, nsids: &[u32])
+fn write_each(values: &mut FeatureValues, feature: Feature, asked: FeatureSetting, nsids: &[u32])
     ensures { values.new ≡ record values.old {
       values = fold (with_value feature asked.value asked.save) values.old.values nsids.now;
     } }
@@ -103,22 +86,22 @@ fn write_each(values: &mut FeatureValues, feature: Feature, asked: NewValue, nsi
 
 impl Controller {
     /// What a Get Features answers.
-    fn told(&self, feature: Feature, sel: ThreeBits, nsid: u32, cdw11: u32) -> u32
-        ensures { result ≡ told feature sel nsid cdw11 (controller_view self.now) }
+    fn told(&self, asked: FeatureQuery, feature: Feature) -> u32
+        ensures { result ≡ told asked feature (controller_view self.now) }
     {
-        let selector = feature.selector_in(cdw11);
+        let selector = feature.selector_in(asked.cdw11);
         if !feature.has_selector(selector) {
             return 0;
         }
         let rule = rule_of(&self.rules, feature);
-        match self.values.get(feature, nsid, selector) {
-            Some(value) => selected(rule, feature, sel, selector, value),
+        match self.values.get(feature, asked.nsid, selector) {
+            Some(value) => selected(rule, feature, asked.sel, selector, value),
             None => 0,
         }
     }
 
     /// Writes over a feature's values for some namespaces, where they are there.
-    fn write(&mut self, feature: Feature, asked: NewValue, nsids: &[u32])
+    fn write(&mut self, feature: Feature, asked: FeatureSetting, nsids: &[u32])
         ensures view { controller_view self.new
             ≡ with_values feature asked.value asked.save nsids.now (controller_view self.old) }
         ensures sized { (nn : ℕ) → IsSized nn self.old → IsSized nn self.new }
@@ -151,65 +134,46 @@ impl Subsystem {
 
     /// Why a Get Features of a supported feature is refused. The conditions go in the order of the
     /// rows.
-    fn check_get(
-        &self,
-        ctrl: u16,
-        sel: ThreeBits,
-        nsid: u32,
-        cdw11: u32,
-        feature: Feature,
-    ) -> Result<(), Refusal>
+    fn check_get(&self, ctrl: u16, asked: FeatureQuery, feature: Feature) -> Result<(), Refusal>
         requires { ctrl < length self.now.controllers }
-        ensures { Checks (get_rows self.now ctrl sel nsid cdw11 feature) result }
+        ensures { Checks (get_rows self.now ctrl asked feature) result }
     {
         let of_namespaces = feature.is_per_namespace();
         check(&[
-            Row::new(sel.get() > 3, StatusCode::InvalidFieldInCommand),
+            Row::new(asked.sel.get() > 3, StatusCode::InvalidFieldInCommand),
             Row::new(
-                !feature.has_selector(feature.selector_in(cdw11)),
+                !feature.has_selector(feature.selector_in(asked.cdw11)),
                 StatusCode::InvalidFieldInCommand,
             ),
             Row::new(
-                of_namespaces && !self.is_valid(nsid),
+                of_namespaces && !self.is_valid(asked.nsid),
                 StatusCode::InvalidNamespaceOrFormat,
             ),
             Row::new(
-                of_namespaces && !self.is_active(ctrl, nsid),
+                of_namespaces && !self.is_active(ctrl, asked.nsid),
                 StatusCode::InvalidFieldInCommand,
             ),
         ])
     }
 
     /// Why a Get Features is refused.
-    pub(crate) fn check_get_feature(
-        &self,
-        ctrl: u16,
-        fid: u8,
-        sel: ThreeBits,
-        nsid: u32,
-        cdw11: u32,
-    ) -> Result<(), Refusal>
+    pub(crate) fn check_get_feature(&self, ctrl: u16, asked: FeatureQuery) -> Result<(), Refusal>
         requires { ctrl < length self.now.controllers }
-        ensures { Checks (get_feature_rows self.now ctrl fid sel nsid cdw11) result }
+        ensures { Checks (get_feature_rows self.now ctrl asked) result }
     {
-        match self.supported(ctrl, fid) {
-            Some(feature) => self.check_get(ctrl, sel, nsid, cdw11, feature),
+        match self.supported(ctrl, asked.fid) {
+            Some(feature) => self.check_get(ctrl, asked, feature),
             None => Err(Refusal::from(StatusCode::InvalidFieldInCommand)),
         }
     }
 
     /// Why a Set Features of a supported feature is refused. The conditions go in the order of the
     /// rows.
-    fn check_set(
-        &self,
-        ctrl: u16,
-        asked: NewValue,
-        nsid: u32,
-        feature: Feature,
-    ) -> Result<(), Refusal>
+    fn check_set(&self, ctrl: u16, asked: FeatureSetting, feature: Feature) -> Result<(), Refusal>
         requires { ctrl < length self.now.controllers }
-        ensures { Checks (set_rows self.now ctrl asked.value asked.save nsid feature) result }
+        ensures { Checks (set_rows self.now ctrl asked feature) result }
     {
+        let nsid = asked.nsid;
         let rule = self.rule(ctrl, feature);
         let of_namespaces = feature.is_per_namespace();
         let all = nsid == BROADCAST_NSID;
@@ -239,42 +203,29 @@ impl Subsystem {
     }
 
     /// Why a Set Features is refused.
-    pub(crate) fn check_set_feature(
-        &self,
-        ctrl: u16,
-        fid: u8,
-        asked: NewValue,
-        nsid: u32,
-    ) -> Result<(), Refusal>
+    pub(crate) fn check_set_feature(&self, ctrl: u16, asked: FeatureSetting) -> Result<(), Refusal>
         requires { ctrl < length self.now.controllers }
-        ensures { Checks (set_feature_rows self.now ctrl fid asked.value asked.save nsid) result }
+        ensures { Checks (set_feature_rows self.now ctrl asked) result }
     {
-        match self.supported(ctrl, fid) {
-            Some(feature) => self.check_set(ctrl, asked, nsid, feature),
+        match self.supported(ctrl, asked.fid) {
+            Some(feature) => self.check_set(ctrl, asked, feature),
             None => Err(Refusal::from(StatusCode::InvalidFieldInCommand)),
         }
     }
 
     /// The number that a Get Features answers.
-    pub(crate) fn feature_number(
-        &self,
-        ctrl: u16,
-        fid: u8,
-        sel: ThreeBits,
-        nsid: u32,
-        cdw11: u32,
-    ) -> u32
+    pub(crate) fn feature_number(&self, ctrl: u16, asked: FeatureQuery) -> u32
         requires { ctrl < length self.now.controllers }
-        ensures { result ≡ feature_number self.now ctrl fid sel nsid cdw11 }
+        ensures { result ≡ feature_number self.now ctrl asked }
     {
-        match Feature::of(fid) {
-            Some(feature) => self.controllers[ctrl as usize].told(feature, sel, nsid, cdw11),
+        match Feature::of(asked.fid) {
+            Some(feature) => self.controllers[ctrl as usize].told(asked, feature),
             None => 0,
         }
     }
 
     /// Writes over a feature's values for some namespaces.
-    fn write_values(&mut self, ctrl: u16, feature: Feature, asked: NewValue, nsids: &[u32])
+    fn write_values(&mut self, ctrl: u16, feature: Feature, asked: FeatureSetting, nsids: &[u32])
         requires { ctrl < length self.old.controllers }
         ensures { self.new ≡ with_controller self.old ctrl
             (with_values feature asked.value asked.save nsids.now) }
@@ -285,15 +236,15 @@ impl Subsystem {
 
     /// Gives a feature another value: for the namespace, or for all active ones, where each has one
     /// of its own.
-    pub(crate) fn set_feature(&mut self, ctrl: u16, fid: u8, asked: NewValue, nsid: u32)
+    pub(crate) fn set_feature(&mut self, ctrl: u16, asked: FeatureSetting)
         requires { ctrl < length self.old.controllers }
-        ensures { self.new ≡ with_feature self.old ctrl fid asked.value asked.save nsid }
+        ensures { self.new ≡ with_feature self.old ctrl asked }
     {
-        let Some(feature) = Feature::of(fid) else {
+        let Some(feature) = Feature::of(asked.fid) else {
             return;
         };
         if feature.is_per_namespace() {
-            let concerned = self.concerned(ctrl, nsid);
+            let concerned = self.concerned(ctrl, asked.nsid);
             self.write_values(ctrl, feature, asked, concerned.as_slice());
         } else {
             self.write_values(ctrl, feature, asked, &[0]);

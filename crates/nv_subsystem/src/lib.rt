@@ -20,7 +20,10 @@ mod reset;
 mod row;
 mod subsystem;
 
-pub use nv_command::{Command, ERROR_INFORMATION, HEALTH, Refusal, Reply, StatusCode};
+pub use nv_command::{
+    Command, ERROR_INFORMATION, FeatureQuery, FeatureSetting, HEALTH, LogQuery, Refusal, Reply,
+    StatusCode,
+};
 pub use nv_file::{DEMO, Key, SubsystemError, TableName};
 pub use nv_model::{
     Counters, Defaults, FeatureRule, Format, Identity, IdentityNumbers, Namespace, Origin, SERIALS,

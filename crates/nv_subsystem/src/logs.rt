@@ -10,9 +10,7 @@ ghost use Rattle.nv_model.specs.Row.{Checks};
 use crate::controller::Controller;
 use crate::row::check;
 use crate::subsystem::Subsystem;
-use nv_command::{
-    BROADCAST_NSID, DwordCount, ERROR_INFORMATION, HEALTH, Refusal, Reply, StatusCode,
-};
+use nv_command::{BROADCAST_NSID, ERROR_INFORMATION, HEALTH, LogQuery, Refusal, Reply, StatusCode};
 use nv_layout::{ErrorEntries, Smart};
 use nv_model::Row;
 
@@ -70,17 +68,16 @@ impl Subsystem {
     }
 
     /// Why a log is refused. The conditions go in the order of the rows.
-    pub(crate) fn check_log(
-        &self,
-        ctrl: u16,
-        lid: u8,
-        nsid: u32,
-        offset: u64,
-        dwords: DwordCount,
-    ) -> Result<(), Refusal>
+    pub(crate) fn check_log(&self, ctrl: u16, asked: LogQuery) -> Result<(), Refusal>
         requires { ctrl < length self.now.controllers }
-        ensures { Checks (log_rows self.now ctrl lid nsid offset dwords) result }
+        ensures { Checks (log_rows self.now ctrl asked) result }
     {
+        let LogQuery {
+            lid,
+            nsid,
+            offset,
+            dwords,
+        } = asked;
         check(&[
             Row::new(
                 self.limit(ctrl) < dwords.bytes(),

@@ -20,7 +20,6 @@ ghost use Rattle.nv_model.specs.WellFormed.{IsWellFormed};
 ghost use Rattle.nv_command.specs.Refusal.{IsRefusal};
 
 use crate::controller::Controller;
-use crate::features::NewValue;
 use crate::from_file::{controllers, slots, unallocated};
 use crate::identify::check_list;
 use nv_bits::Slots;
@@ -189,24 +188,9 @@ impl Subsystem {
                 pil,
                 ses,
             } => self.check_format(ctrl, *nsid, &NewFormat::new(*lbaf, *mset, *pi, *pil, *ses)),
-            Command::GetFeature {
-                fid,
-                sel,
-                nsid,
-                cdw11,
-            } => self.check_get_feature(ctrl, *fid, *sel, *nsid, *cdw11),
-            Command::SetFeature {
-                fid,
-                value,
-                save,
-                nsid,
-            } => self.check_set_feature(ctrl, *fid, NewValue::new(*value, *save), *nsid),
-            Command::GetLog {
-                lid,
-                nsid,
-                offset,
-                dwords,
-            } => self.check_log(ctrl, *lid, *nsid, *offset, *dwords),
+            Command::GetFeature(asked) => self.check_get_feature(ctrl, *asked),
+            Command::SetFeature(asked) => self.check_set_feature(ctrl, *asked),
+            Command::GetLog(asked) => self.check_log(ctrl, *asked),
         }
     }
 
@@ -226,14 +210,9 @@ impl Subsystem {
             Command::Delete { nsid: _ } => Reply::Done,
             Command::Attachment { .. } => Reply::Done,
             Command::Format { .. } => Reply::Done,
-            Command::GetFeature {
-                fid,
-                sel,
-                nsid,
-                cdw11,
-            } => Reply::Number(self.feature_number(ctrl, *fid, *sel, *nsid, *cdw11)),
-            Command::SetFeature { .. } => Reply::Done,
-            Command::GetLog { lid, .. } => self.log_reply(ctrl, *lid),
+            Command::GetFeature(asked) => Reply::Number(self.feature_number(ctrl, *asked)),
+            Command::SetFeature(_) => Reply::Done,
+            Command::GetLog(asked) => self.log_reply(ctrl, asked.lid),
         }
     }
 
@@ -268,14 +247,9 @@ impl Subsystem {
                 pil,
                 ses,
             } => self.format(ctrl, *nsid, &NewFormat::new(*lbaf, *mset, *pi, *pil, *ses)),
-            Command::GetFeature { .. } => {}
-            Command::SetFeature {
-                fid,
-                value,
-                save,
-                nsid,
-            } => self.set_feature(ctrl, *fid, NewValue::new(*value, *save), *nsid),
-            Command::GetLog { .. } => {}
+            Command::GetFeature(_) => {}
+            Command::SetFeature(asked) => self.set_feature(ctrl, *asked),
+            Command::GetLog(_) => {}
         }
     }
 
