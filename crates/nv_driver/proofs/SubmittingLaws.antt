@@ -97,7 +97,7 @@ pub list_of : (g : Geometry) (s : Pages) (p : CommandPages) (bytes : List ℕ) (
 list_of g s p bytes page_size is page h =
     let first = slice_index p.numbers 0 in
     let second = slice_index p.numbers 1 in
-    subst (λ size. IsListPlace bytes size first second g.list_offset) (sym page) (record {
+    rw page (record {
       below = is.list_offset.1;
       aligned = is.list_offset.0;
       has_first = each_inside s p g.page_size bytes h 0 0 (omega arith);
