@@ -22,7 +22,7 @@ use Rattle.nv_driver.proofs.CollectLaws.{no_more}
 use Rattle.nv_driver.proofs.CountLaws.{number_below}
 use Rattle.nv_driver.proofs.QuietLaws.{is_idle, others_kept}
 use Rattle.nv_driver.proofs.RoundLaws.{IsTold, has_bank, none_untold, tells_on}
-use Rattle.nv_driver.proofs.SerialLaws.{length-answers_of_all}
+use Rattle.nv_driver.proofs.BatchLaws.{length-answers_of_all}
 use Rattle.nv_driver.proofs.UnderWayLaws.{begins}
 use Rattle.nv_driver.proofs.WindowPageLaws.{taken_none}
 

@@ -21,7 +21,7 @@ use Rattle.nv_driver.specs.declared.command_pages.CommandPages.{CommandPages}
 use Rattle.nv_driver.specs.declared.geometry.Geometry.{Geometry}
 use Rattle.nv_driver.specs.declared.queue_pair.QueuePair.{QueuePair as QueuePairFields}
 use Rattle.nv_driver.proofs.DataLaws.{ArePlaces, length-host_data, sent_back}
-use Rattle.nv_driver.proofs.ListPageLaws.{written_list}
+use Rattle.nv_driver.proofs.RegionLaws.{written_list}
 use Rattle.nv_driver.proofs.PointerLaws.{stays_in}
 use Rattle.nv_driver.proofs.RegionLaws.{buffer_data, data_keeps}
 

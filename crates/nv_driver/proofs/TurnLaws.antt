@@ -11,7 +11,7 @@ use Rattle.nv_driver.specs.Schedule.{bank_with}
 use Rattle.nv_driver.proofs.CountLaws.{number_above, number_below}
 use Rattle.nv_driver.proofs.EntryLaws.{entry_keeps, entry_others, world_after}
 use Rattle.nv_driver.specs.Keeping.{Keeps}
-use Rattle.nv_driver.proofs.TakenLaws.{is_done, can_go, now}
+use Rattle.nv_driver.proofs.EntryLaws.{is_done, can_go, now}
 
 -- a command that stands for none
 abbrev pub no_command : Sent

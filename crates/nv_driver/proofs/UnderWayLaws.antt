@@ -35,7 +35,7 @@ use Rattle.nv_driver.proofs.KeptLaws.{idle_keeps}
 use Rattle.nv_driver.proofs.PageSetLaws.{full_length, in_of, is_in}
 use Rattle.nv_driver.proofs.PointerLaws.{seven_pages}
 use Rattle.nv_driver.proofs.QuietLaws.{beginning, collect_ring_is, is_idle, submit_ring_is}
-use Rattle.nv_driver.proofs.OthersLaws.{others_now, submit_others}
+use Rattle.nv_driver.proofs.ScheduleLaws.{others_now, submit_others}
 use Rattle.nv_driver.proofs.SubmitLaws.{each_more, submit_keeps}
 use Rattle.nv_driver.proofs.SubmittingLaws.{Has, buffer_of, distinct_of, has_taken, list_of, pages_are, pairs_same}
 use Rattle.nv_driver.proofs.SubmittingLaws.{length-data_pages}
