@@ -315,14 +315,8 @@ module _ (t : Setting) (s : State) (w : World) (y : Scene) (d : Sent) (k : Keeps
       let p = k.placed in
       record {
         placed = subst (HasRings t) (sym len) p;
-        counts = record {
-          told = c.told;
-          collected = omega (arith, c.collected);
-          done = omega arith;
-          rung = c.rung;
-          few = c.few;
-          free = free;
-        };
+        counts = let collected : length w.answers ≤ w.done + 1 = omega (arith, c.collected) in
+            let done : w.done + 1 ≤ w.rung = omega arith in assumption (collected, done, free, c);
         bank = refl;
         state = one.state ∙ ap (λ (q : State). (step q t.controller x.command x.cid).state) k.state
             ∙ sym (after_more t.controller s w.sent w.done d below);

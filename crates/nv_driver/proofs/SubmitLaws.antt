@@ -166,14 +166,9 @@ module _ (t : Setting) (s : State) (x : Sent) (w : World) (ready : List ℕ) (k 
       let more = length-append w.sent (x ∷ []) in
       record {
         placed = subst (HasRings t) (sym len) k.placed;
-        counts = record {
-          told = c.told;
-          collected = c.collected;
-          done = c.done;
-          rung = omega (arith, c.rung, more);
-          few = omega (arith, may.free, more);
-          free = c.free;
-        };
+        counts = let rung : w.rung ≤ length next.sent = omega (arith, c.rung, more) in
+            let few : length next.sent < length w.answers + t.depth = omega (arith, may.free, more) in
+            assumption (rung, few, c);
         bank = k.bank;
         state = k.state ∙ ap (after t.controller s)
             (sym (take-append-le w.done w.sent (x ∷ []) (omega (arith, c.done, c.rung))));

@@ -125,14 +125,9 @@ pub built_by : (g : Geometry) (x : Sent) (old built : List ℕ) (page_size now l
     → KeepsOutside page_size x.first x.second old built → length built ≡ length old
     → IsBuilt g.page_size x old built
 built_by g x old built page_size now len page after is_len first second stays others size =
-    record {
-      others = λ from n outside.
-          others from n (rw page (outside 0 0 (omega arith))) (rw page (outside 1 0 (omega arith)));
-      len = size;
-      prp1 = first;
-      prp2 = second;
-      stays = rw (after ∙ page, is_len) at stays;
-    }
+    let others_stay : (from n : ℕ) → AreOutside g.page_size x from n → bytes_at built from n ≡ bytes_at old from n =
+    λ from n outside. others from n (rw page (outside 0 0 (omega arith))) (rw page (outside 1 0 (omega arith))) in
+    let named : StaysNamed g.page_size x built = rw (after ∙ page, is_len) at stays in assumption
 
 -- and where what the host sends was written, the command is prepared
 pub prepared_by : (page_size : ℕ) (x : Sent) (old built new : List ℕ) → IsPageSize page_size
