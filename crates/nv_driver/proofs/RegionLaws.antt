@@ -65,13 +65,17 @@ place_beside page_size x from n k some enough outside below =
     grind (arith, page.from, page.to, outside (suc (suc page.index)) 0 (omega arith))
 
 -- two pages that aren't one share no byte
-pub other_page : (page_size p q place : ℕ) → p ≢ q → p * page_size ≤ place
-    → place < p * page_size + page_size → IsOutside page_size q place 1
-other_page page_size p q place differ low high =
+pages_apart : (page_size p q : ℕ) → p ≢ q
+    → (p * page_size + page_size ≤ q * page_size) ⊎ (q * page_size + page_size ≤ p * page_size)
+pages_apart page_size p q differ =
     elim (cases_lt p q) [
       | inl l ↦ inl (omega (arith, mul-le-mul_right page_size l))
       | inr g ↦ let after : q + 1 ≤ p = omega (arith, differ) in inr (omega (arith, mul-le-mul_right page_size after))
     ]
+
+other_page : (page_size p q place : ℕ) → p ≢ q → p * page_size ≤ place
+    → place < p * page_size + page_size → IsOutside page_size q place 1
+other_page page_size p q place differ low high = grind (arith, pages_apart page_size p q differ)
 
 -- where two commands have no page in common, the pages of the one are outside of each byte of the other's data
 pub place_outside : (t : Setting) (x y : Sent) (k : ℕ) → 0 < t.page_size
@@ -250,11 +254,7 @@ both_stay page_size x old new len same = record {
 
 -- another page's bytes are outside of a page
 whole_page : (page_size p q : ℕ) → p ≢ q → IsOutside page_size q (p * page_size) page_size
-whole_page page_size p q differ =
-    elim (cases_lt p q) [
-      | inl l ↦ inl (omega (arith, mul-le-mul_right page_size l))
-      | inr g ↦ let after : q + 1 ≤ p = omega (arith, differ) in inr (omega (arith, mul-le-mul_right page_size after))
-    ]
+whole_page page_size p q differ = grind (arith, pages_apart page_size p q differ)
 
 -- where the command's own data is written
 pub written_list : (page_size : ℕ) (x : Sent) (bytes written : List ℕ) → 0 < page_size
