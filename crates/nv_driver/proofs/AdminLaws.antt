@@ -1,6 +1,6 @@
 -- Commands of a driver or a reset, over the queue pairs of its controllers.
 use Rattle.std.specs.Prelude.{slice_set}
-use Rattle.std.proofs.Common.{◌≡◌, ◌≢◌, ◌∙◌, ◌⊎◌, ℕ, ◌+◌, ◌-◌, ◌*◌, ◌/◌, ◌<◌, ◌≤◌, List, ap, arith, get_or, inl}
+use Rattle.std.proofs.Common.{◌≡◌, ◌≢◌, ◌∙◌, ◌⊎◌, ℕ, ◌+◌, ◌-◌, ◌*◌, ◌<◌, ◌≤◌, List, ap, arith, get_or, inl}
 use Rattle.std.proofs.Common.{inr, length, map, refl, subst, sym}
 use Rattle.std.proofs.Math.ListN.{length-set}
 use Rattle.std.proofs.lemmas.Bool.{cases_eq, cases_lt}
@@ -16,7 +16,6 @@ use Rattle.nv_register.specs.RegisterBank.{new_bank}
 use Rattle.nv_register.specs.declared.register_bank.RegisterBank.{RegisterBank}
 use Rattle.nv_bus.specs.Bus.{BusValue, IsBus, bank_at}
 use Rattle.nv_driver.specs.Driver.{IsDriver, IsPlaced, after_command, after_commands, driver_value, pair_at, no_pair}
-use Rattle.nv_driver.specs.Driver.{page_count}
 use Rattle.nv_driver.specs.Exchange.{IsReady, KeepsOthers}
 use Rattle.nv_driver.specs.QueuePair.{IsLaid, QueuePair, idle_bank}
 use Rattle.nv_driver.specs.Layout.{pages_of_command, set_pages}
@@ -130,11 +129,6 @@ settled_after page_size old new vs c v u s below here size keeps laid tags sq fi
         (ap (λ (q : QueuePair). q.sq) is, ap (end_of page_size) is))
         (rw (same_one d) (sq, rw (first, count) refl)) i d h
 
--- the values of the queue pairs
-values_set : (ls : List QueuePairFields) (c : ℕ) (l : QueuePairFields) (v : QueuePair) → pair_value l ≡ v
-    → map pair_value (slice_set ls c l) ≡ slice_set (map pair_value ls) c v
-values_set ls c l v is = map-set pair_value ls c l ∙ ap (slice_set (map pair_value ls) c) is
-
 -- where the number and the serial of a queue pair change
 pub driver_after : {g : Geometry} {mem new : PagedBytes} {ls : List QueuePairFields} {b : BusValue}
     {c : ℕ} {l l' : QueuePairFields} {n serial : ℕ} → IsDriver g mem ls
@@ -148,20 +142,17 @@ driver_after {g} {mem} {new} {ls} {b} {c} {l} {l'} {n} {serial} is below here re
     let vs = map pair_value ls in
     let at : pair_value l ≡ get_or vs c (pair_value l) =
     sym (value_at ls c l (pair_value l) below ∙ ap pair_value (sym here)) in
-    let pages : page_count new ≡ page_count mem =
-    ap (λ n. n / new.page_size) size ∙ ap (λ p. length mem.bytes / p) page in
-    let change = values_set ls c l' (pair_value l') refl in
+    let change = map-set pair_value ls c l' in
     record {
       geometry = is.geometry;
       page_size = page ∙ is.page_size;
-      whole = ap (λ n. n * new.page_size) pages ∙ ap (λ p. page_count mem * p) page ∙ is.whole ∙ sym size;
-      numbered = rw pages is.numbered;
+      whole = rw (size, page) (is.whole);
+      numbered = rw (size, page) (is.numbered);
       quiet = All-set IsQuiet ls c l' ready.quiet is.quiet;
       placed = λ i d inside.
-          subst (λ xs. IsPlaced g i (get_or xs i d)) (sym change)
-          (set_each (λ j v. IsPlaced g j v) vs c (pair_value l') (λ j e low differ. is.placed j e (omega arith))
+          rw change (set_each (λ j v. IsPlaced g j v) vs c (pair_value l') (λ j e low differ. is.placed j e (omega arith))
           (stays_placed g c (pair_value l) (pair_value l')
-          (subst (IsPlaced g c) (sym at) (is.placed c (pair_value l) below)) next) i d
+          (rw (← at) at (is.placed c (pair_value l) below)) next) i d
           (let longer = length-set ls c l' in let values = length-set vs c (pair_value l') in omega arith));
       settled = subst (IsSettled new.page_size new.bytes) (sym change)
           (settled_after new.page_size mem.bytes new.bytes vs c (pair_value l) (pair_value l')
@@ -183,13 +174,9 @@ pub value_after : (f : QueuePair → QueuePair) (g : Geometry) (mem new : PagedB
     → driver_value g new (slice_set ls c l') ≡ record (driver_value g mem ls)
     { pairs = slice_set (map pair_value ls) c (f (pair_at (map pair_value ls) c)) }
 value_after f g mem new ls c l l' below here next size page =
-    let pages : page_count new ≡ page_count mem =
-    ap (λ n. n / new.page_size) size ∙ ap (λ p. length mem.bytes / p) page in
     let at : pair_value l ≡ pair_at (map pair_value ls) c =
     sym (value_at ls c l no_pair below ∙ ap pair_value (sym here)) in
-    let pairs = values_set ls c l' (f (pair_at (map pair_value ls) c)) (next ∙ ap f at) in
-    ap (λ n. record { geometry = g; pages = n; pairs = map pair_value (slice_set ls c l') }) pages
-    ∙ ap (λ vs. record { geometry = g; pages = page_count mem; pairs = vs }) pairs
+    rw (size, page, map-set pair_value ls c l', next ∙ ap f at) refl
 
 -- one command is a list of one
 pub after_first : (d : DriverValue) (c : ℕ) → after_commands d c 1 ≡ after_command d c
@@ -203,9 +190,8 @@ pub banks_left : (g : Geometry) (ls : List QueuePairFields) (c : ℕ) (l' : Queu
     g.page_size (pair_value l')
     → new ≡ idle_banks g.page_size (map pair_value (slice_set ls c l'))
 banks_left g ls c l' banks new is change bank =
-    let f = idle_bank (mps_of g.page_size) g.page_size in
-    change ∙ ap (slice_set banks c) bank ∙ ap (λ x. slice_set x c (f (pair_value l'))) is
-    ∙ sym (map-set f (map pair_value ls) c (pair_value l')) ∙ ap (map f) (sym (values_set ls c l' (pair_value l') refl))
+    change ∙ rw (bank, is, map-set pair_value ls c l')
+    (sym (map-set (idle_bank (mps_of g.page_size) g.page_size) (map pair_value ls) c (pair_value l')))
 
 -- each controller has a queue pair
 pub inside_of : (g : Geometry) (mem : PagedBytes) (ls : List QueuePairFields) (d : DriverValue) (c : ℕ)

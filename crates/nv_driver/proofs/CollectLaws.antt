@@ -33,9 +33,9 @@ use Rattle.nv_driver.specs.declared.queue_pair.QueuePair.{QueuePair as QueuePair
 use Rattle.nv_driver.proofs.BatchLaws.{answers_are, distance_is}
 use Rattle.nv_driver.proofs.CountLaws.{number_next}
 use Rattle.nv_driver.proofs.KeptLaws.{collect_keeps, is_found}
-use Rattle.nv_driver.proofs.OthersLaws.{collect_others}
+use Rattle.nv_driver.proofs.ScheduleLaws.{collect_others}
 use Rattle.nv_driver.proofs.PointerLaws.{seven_pages}
-use Rattle.nv_driver.proofs.SerialLaws.{length-answers}
+use Rattle.nv_driver.proofs.BatchLaws.{length-answers}
 use Rattle.nv_driver.proofs.SubmittingLaws.{buffer_as, of_set, pages_are, pair_by, pairs_same, places_as}
 use Rattle.nv_driver.proofs.TurnLaws.{no_command}
 use Rattle.nv_driver.proofs.UnderWayLaws.{command_of, counts, held, pages_left, world}

@@ -13,17 +13,19 @@ use Rattle.nv_driver.specs.Batch.{answers_of, from_serial, state_after}
 use Rattle.nv_driver.specs.Exchange.{IsReady, KeepsOthers}
 use Rattle.nv_driver.specs.Quiet.{pair_value}
 use Rattle.nv_driver.specs.Schedule.{number, Answer, CanBeSent, device_rings, bank_with}
-use Rattle.nv_driver.specs.UnderWay.{HasAnswers, IsBusOf, IsUnderWay, Run, pair_at, run_of, setting_of}
+use Rattle.nv_driver.specs.UnderWay.{HasAnswers, IsBusOf, IsUnderWay, Run, pair_at, run_of, serial_at, setting_of}
 use Rattle.nv_driver.specs.declared.batch.Batch.{Batch}
 use Rattle.nv_driver.specs.declared.geometry.Geometry.{Geometry}
 use Rattle.nv_driver.specs.declared.queue_pair.QueuePair.{QueuePair as QueuePairFields}
 use Rattle.nv_driver.proofs.BatchLaws.{length-from_serial}
 use Rattle.nv_driver.proofs.CollectLaws.{no_more}
 use Rattle.nv_driver.proofs.CountLaws.{number_below}
-use Rattle.nv_driver.proofs.QuietLaws.{is_idle, others_kept}
+use Rattle.nv_driver.proofs.QuietLaws.{beginning, collect_ring_is, is_idle, others_kept, submit_ring_is}
+use Rattle.nv_driver.proofs.KeptLaws.{idle_keeps}
+use Rattle.nv_driver.proofs.ScheduleLaws.{others_now}
+use Rattle.nv_driver.proofs.SubmittingLaws.{pairs_same}
 use Rattle.nv_driver.proofs.RoundLaws.{IsTold, has_bank, none_untold, tells_on}
-use Rattle.nv_driver.proofs.SerialLaws.{length-answers_of_all}
-use Rattle.nv_driver.proofs.UnderWayLaws.{begins}
+use Rattle.nv_driver.proofs.BatchLaws.{length-answers_of_all}
 use Rattle.nv_driver.proofs.WindowPageLaws.{taken_none}
 
 -- ---- the beginning
@@ -46,12 +48,32 @@ begins_all {g} {c} {bus} {l} {now} {bytes} {commands} {answers} {r} {b} is ready
     let q = run_of g c bus l bytes commands in
     let t = setting_of q in
     let ready_at = subst (λ n. IsReady g bus c l n bytes) ready.page_size ready in
+    let idle = is_idle g bus c l now bytes ready in
+    let none = taken_none l.pages in
+    let serial : l.serial ≡ serial_at q 0 = omega (arith, ready.laid.serial) in
     subst (λ x. HasBegun x b l now bytes bus answers) (sym is) (record {
-      under_way = begins q b now ready_at can geometry ctrl ready.page_size room sent collected told;
+      under_way = record {
+        running = assumption (ready_at, can, geometry, ctrl, ready.page_size, room);
+        course = record { state = bus.state; bank = t.bank; sent = []; answers = [] };
+        has = record {
+          window = omega arith;
+          some = omega arith;
+          sent = sym sent;
+          commands = rw sent refl;
+          kept = λ n d from h. absurd (omega arith);
+          taken = rw collected none.0;
+          own = λ n d h. absurd (omega arith);
+        };
+        keeps = rw (sent, collected, told) (idle_keeps t (beginning t bytes bus.state) idle);
+        others = rw (sent, collected, told) (others_now t (beginning t bytes bus.state));
+        collected = sym collected;
+        pair = rw (sent, collected, told) (pairs_same (submit_ring_is g c bytes l ready.quiet ready.laid.number)
+            (collect_ring_is g c bytes l ready.quiet ready.laid.number) serial (sym none.1));
+      };
       bus_is = record {
         bus = ready.bus;
         state = ap (λ n. state_after c bus.state l.serial (take n commands)) (sym collected);
-        bank = ready.bank ∙ rw (sent, collected, told) (is_idle g bus c l now bytes ready).bank;
+        bank = ready.bank ∙ rw (sent, collected, told) idle.bank;
         banks = sym (set-get_or bus.banks c new_bank);
       };
       answers_are = record { len = size; first = rw collected refl };

@@ -1,38 +1,174 @@
--- What one entry of a turn keeps.
-use Rattle.std.proofs.Common.{◌≡◌, ◌∙◌, ℕ, ◌+◌, ◌*◌, ◌<◌, ◌≤◌, ◌^◌, List, ap, arith, get_or, inl, inr, length, lit<}
-use Rattle.std.proofs.Common.{refl, subst, sym, ◌≢◌}
-use Rattle.std.proofs.lemmas.Bool.{cases_eq, cases_lt}
+-- What taking one entry of a turn does and keeps.
+use Rattle.std.proofs.Common.{◌≡◌, ◌∙◌, ℕ, ◌+◌, ◌-◌, ◌*◌, ◌<◌, ◌≤◌, true, Err, List, Ok, Result, ap, arith, get_or}
+use Rattle.std.proofs.Common.{inl, inr, length, refl, subst, sym, ◌^◌, lit<, ◌≢◌}
+use Rattle.std.proofs.lemmas.Bool.{cases_lt, cases_eq}
 use Rattle.std.proofs.lemmas.List.{get_or_default}
 use Rattle.nv_host.specs.Bytes.{bytes_at}
 use Rattle.nv_host.proofs.PageLaws.{page_size_bounds}
-use Rattle.nv_layout.specs.Cqe.{CqeFits}
+use Rattle.nv_layout.specs.Cqe.{cqe_of_bytes, CqeFits}
+use Rattle.nv_layout.specs.declared.sqe.Sqe.{Sqe}
 use Rattle.nv_layout.specs.declared.cqe.Cqe.{Cqe}
-use Rattle.nv_prp.specs.Buffer.{ChangesOnly, KeepsList}
+use Rattle.nv_prp.specs.Buffer.{KeepsList, ChangesOnly}
+use Rattle.nv_prp.specs.Place.{AreDistinct, read_at}
+use Rattle.nv_queue.specs.Numbers.{above}
+use Rattle.nv_queue.specs.Slots.{completion_at, with_completion, HoldsTags, WritesCompletion, posted_as}
 use Rattle.nv_queue.proofs.SlotLaws.{length-with_completion, put_written}
-use Rattle.nv_queue.specs.Slots.{HoldsTags, WritesCompletion, completion_at, posted_as}
 use Rattle.nv_queue.proofs.TagLaws.{tags_after}
-use Rattle.nv_command.specs.Command.{CommandFits, namespace_of}
+use Rattle.nv_command.specs.Command.{transfer_by, CommandFits, namespace_of}
+use Rattle.nv_command.specs.Reply.{data_of}
+use Rattle.nv_command.proofs.TravelLaws.{replies_fit, commands_travel}
+use Rattle.nv_command.specs.declared.status_code.StatusCode.{StatusCode}
 use Rattle.nv_command.specs.declared.command.Command.{Command}
 use Rattle.nv_command.specs.Logs.{answer_received}
-use Rattle.nv_command.proofs.TravelLaws.{commands_travel}
-use Rattle.nv_model.specs.WellFormed.{IsWellFormed}
+use Rattle.nv_register.specs.declared.rings.Rings.{Rings}
 use Rattle.nv_model.specs.State.{State}
 use Rattle.nv_model.specs.Step.{step}
+use Rattle.nv_model.specs.Limit.{limit_of}
+use Rattle.nv_model.proofs.LimitLaws.{limit_bounds}
+use Rattle.nv_model.specs.WellFormed.{IsWellFormed}
 use Rattle.nv_model.proofs.StepLaws.{step_controllers, step_keeps}
-use Rattle.nv_bus.specs.Entry.{Scene, completion_with, scene}
-use Rattle.nv_bus.specs.Turn.{Takes}
-use Rattle.nv_bus.proofs.TurnLaws.{length_moved}
-use Rattle.nv_driver.specs.Schedule.{Answer, AreApart, AreOthers, Holds, Sent, Setting, World, answer_read}
-use Rattle.nv_driver.specs.Schedule.{StaysNamed, device_rings, number, places, pointed, bank_with, slot}
-use Rattle.nv_driver.proofs.AnswerLaws.{IsAnswerTo, answer_back, answer_sound, completion_fits}
-use Rattle.nv_driver.proofs.CountLaws.{number_below, number_next, slot_inside, slots_differ}
+use Rattle.nv_bus.specs.Call.{Call, call_of}
+use Rattle.nv_bus.specs.Entry.{Moves, MovesBy, One, Scene, completion_with, entry_in, scene, step_unless}
+use Rattle.nv_bus.proofs.TagLaws.{tagged}
+use Rattle.nv_bus.proofs.TurnLaws.{can_means, length_moved}
+use Rattle.nv_bus.specs.Turn.{can_take, Takes}
+use Rattle.nv_driver.specs.Schedule.{Answer, AreOutside, Sent, Setting, World, data_length, device_rings, entry}
+use Rattle.nv_driver.specs.Schedule.{number, own_pages, places, pointed, received_from, slot, AreApart, AreOthers}
+use Rattle.nv_driver.specs.Schedule.{Holds, answer_read, StaysNamed, bank_with}
+use Rattle.nv_driver.specs.Keeping.{IsOwn, Keeps, HasRings}
+use Rattle.nv_driver.proofs.AnswerLaws.{Delivers, IsAnswerTo, answer_back, answer_sound, completion_fits}
+use Rattle.nv_driver.proofs.DataLaws.{ArePlaces, received_back, received_same}
+use Rattle.nv_driver.proofs.CountLaws.{number_above, number_next, number_below, slot_inside, slots_differ}
+use Rattle.nv_driver.proofs.RegionLaws.{written_list, Stays, stays_apart, stays_beside}
+use Rattle.nv_driver.proofs.PointerLaws.{entry_call, stays_in}
+use Rattle.nv_driver.proofs.RegionLaws.{data_keeps, length-places, outside_part, ChangesOnlyAt, apart-sym}
+use Rattle.nv_driver.proofs.RegionLaws.{completion_keeps, holds_sent_on, submission_stays}
 use Rattle.nv_driver.proofs.HeldLaws.{holds_on}
-use Rattle.nv_driver.specs.Keeping.{HasRings, IsOwn, Keeps}
-use Rattle.nv_driver.proofs.ListPageLaws.{Stays, stays_apart, stays_beside}
-use Rattle.nv_driver.proofs.PointerLaws.{stays_in}
-use Rattle.nv_driver.proofs.RegionLaws.{ChangesOnlyAt, apart-sym, completion_keeps, holds_sent_on, submission_stays}
-use Rattle.nv_driver.proofs.SerialLaws.{after_more, answer_at}
-use Rattle.nv_driver.proofs.TakenLaws.{IsDone, can_go, delivered, is_done, moved_keeps, moved_list, moved_slot, now}
+use Rattle.nv_driver.proofs.BatchLaws.{after_more, answer_at}
+
+-- ---- which entry is taken
+
+abbrev pub now : Setting → World → Rings
+now t w = device_rings t w.rung w.done w.told
+
+pub can_go : (t : Setting) (s : State) (w : World) → Keeps t s w → can_take (now t w) ≡ true
+    → (w.done < w.rung) × (w.done + 1 < w.told + t.depth)
+can_go t s w k can =
+    let c = k.counts in
+    let deep = k.placed.deep in
+    let far = can_means (number t w.done) (number t w.rung)
+    (above t.depth (number t w.done) (number t w.told)) (t.depth - 1) can in
+    let distance = number_above t w.told w.done (omega (arith, deep.0))
+    (omega (arith, c.told, c.collected)) (omega (arith, c.free)) in (
+      elim (cases_lt w.done w.rung) [
+        | inl l ↦ l
+        | inr g ↦ let same : w.done ≡ w.rung = omega (arith, c.done) in absurd (far.0 (ap (number t) same))
+      ],
+      omega (arith, far.1, distance, c.free, deep.0),
+    )
+
+-- ---- what taking it does
+
+-- command x was done
+pub record IsDone (t : Setting) (w : World) (x : Sent) (y : Scene) : Type 0 where
+  pub state : y.state ≡ (step w.state t.controller x.command x.cid).state
+  pub rings : y.rings ≡ device_rings t w.rung (w.done + 1) w.told
+  pub moved : List ℕ
+  pub moves : Moves x.command (places t.page_size x) (step w.state t.controller x.command x.cid).answer w.mem moved
+  pub bytes : y.bytes ≡ with_completion moved (now t w).completion
+      (completion_with x.cid (slot t (w.done + 1)) (step w.state t.controller x.command x.cid).answer)
+
+done_by : (t : Setting) (w : World) (x : Sent) (y : Scene) (e : Sqe) (found : Result Call StatusCode) → e ≡ entry x
+    → found ≡ Ok (record { command = x.command; places = places t.page_size x })
+    → y.state ≡ (step_unless found w.state t.controller e).state
+    → y.rings ≡ device_rings t w.rung (w.done + 1) w.told
+    → (moved : List ℕ) → MovesBy found (step_unless found w.state t.controller e).answer w.mem moved
+    → y.bytes ≡ with_completion moved (now t w).completion
+    (completion_with e.cid (slot t (w.done + 1))
+    (step_unless found w.state t.controller e).answer)
+    → IsDone t w x y
+done_by t w x y e found is call state rings moved moves bytes =
+    record {
+      state = rw (call, is) at state;
+      rings = rings;
+      moved = moved;
+      moves = rw (call, is) at moves;
+      bytes = rw (call, is) at bytes;
+    }
+
+pub is_done : (t : Setting) (s : State) (w : World) (y : Scene) (d : Sent) → Keeps t s w → w.done < length w.sent
+    → One t.controller (scene w.state (now t w) w.mem) y → IsDone t w (get_or w.sent w.done d) y
+is_done t s w y d k below one =
+    let own = k.own w.done d k.counts.collected below in
+    let is = k.waiting w.done d (omega arith) below in
+    let next_one = number_next t w.done in
+    let limit = limit_of w.state t.controller in
+    done_by t w (get_or w.sent w.done d) y (entry_in (scene w.state (now t w) w.mem))
+    (call_of t.page_size limit w.mem (entry_in (scene w.state (now t w) w.mem))) is
+    (ap (call_of t.page_size limit w.mem) is
+    ∙ entry_call t (get_or w.sent w.done d) limit w.mem
+    (limit_bounds w.state t.controller k.well_formed k.controller).0 own.can own.cid
+    (k.named w.done d k.counts.collected below) (k.to_send w.done d (omega arith) below))
+    one.state (rw next_one at one.rings) one.bytes.0 one.bytes.1 (rw next_one at one.bytes.2)
+
+-- ---- the memory
+
+-- the places of a command's data, and what is moved there
+pub moved_keeps : (t : Setting) (x : Sent) (a : Answer) (old moved : List ℕ) (from n : ℕ) → 0 < t.page_size
+    → x.offset + data_length x ≤ length x.pages * t.page_size
+    → Moves x.command (places t.page_size x) a old moved → AreOutside t.page_size x from n
+    → bytes_at moved from n ≡ bytes_at old from n
+moved_keeps t x (Ok reply) old moved from n some enough moves outside =
+    ap (λ m. bytes_at m from n) moves.2 ∙ data_keeps t.page_size x old (data_of x.command moves.0)
+    from n some enough outside
+moved_keeps t x (Err status) old moved from n some enough moves outside = ap (λ m. bytes_at m from n) moves
+
+pub moved_slot : (t : Setting) (x : Sent) (a : Answer) (old moved : List ℕ) (s : ℕ) → 0 < t.page_size
+    → x.offset + data_length x ≤ length x.pages * t.page_size
+    → Moves x.command (places t.page_size x) a old moved
+    → AreOutside t.page_size x t.cq (16 * t.depth) → s < t.depth
+    → completion_at moved t.cq s ≡ completion_at old t.cq s
+moved_slot t x a old moved s some enough moves outside below =
+    ap cqe_of_bytes (moved_keeps t x a old moved (t.cq + 16 * s) 16 some enough moves
+    (outside_part t x t.cq (16 * t.depth) (t.cq + 16 * s) 16 outside (omega arith) (omega arith)))
+
+pub moved_list : (t : Setting) (x : Sent) (a : Answer) (old moved : List ℕ) → 0 < t.page_size
+    → x.offset + data_length x ≤ length x.pages * t.page_size → AreDistinct (own_pages x)
+    → Moves x.command (places t.page_size x) a old moved
+    → KeepsList (pointed t.page_size x old) x.first x.second moved
+moved_list t x (Ok reply) old moved some enough distinct moves =
+    subst (KeepsList (pointed t.page_size x old) x.first x.second) (sym moves.2)
+    (written_list t.page_size x old (data_of x.command moves.0) some enough distinct)
+moved_list t x (Err status) old moved some enough distinct moves =
+    subst (KeepsList (pointed t.page_size x old) x.first x.second) (sym moves)
+    (record { len = refl; in_first = λ many. refl; in_second = λ many. refl })
+
+-- a command's places are for its data
+are_places : (t : Setting) (x : Sent) (old : List ℕ) → IsOwn t (length old) x
+    → ArePlaces (transfer_by x.command) (length old) (places t.page_size x)
+are_places t x old own =
+    let size = length-places t.page_size x in
+    record { size = size; inside = λ i below. own.inside i (omega arith); distinct = own.distinct }
+
+-- the data of a command's reply is received, also after its completion was put
+pub delivered : (t : Setting) (x : Sent) (a : Answer) (old moved new : List ℕ)
+    → IsAnswerTo x.command a → Moves x.command (places t.page_size x) a old moved
+    → IsOwn t (length old) x → read_at new (places t.page_size x) ≡ read_at moved
+    (places t.page_size x) → Delivers t x new a
+delivered t x (Ok reply) old moved new is moves own same =
+    let k = x.command in
+    let m = transfer_by k in
+    let at = places t.page_size x in
+    let r = moves.0 in
+    let with_tags = tagged k r reply moves.1 is in (
+      r,
+      moves.1,
+      received_same m moved new at same ∙ ap (λ mem. received_from m mem at) moves.2
+          ∙ received_back m old at (data_of k r) (are_places t x old own) (replies_fit k r with_tags.0 with_tags.1),
+    )
+delivered t x (Err status) old moved new is moves own same = tt
+
+-- ---- what the entry keeps
 
 nsid_fits : (k : Command) → CommandFits k → namespace_of k < 2 ^ 32
 nsid_fits k fits = (commands_travel k 0 fits (lit< tt)).fits.nsid
@@ -179,14 +315,8 @@ module _ (t : Setting) (s : State) (w : World) (y : Scene) (d : Sent) (k : Keeps
       let p = k.placed in
       record {
         placed = subst (HasRings t) (sym len) p;
-        counts = record {
-          told = c.told;
-          collected = omega (arith, c.collected);
-          done = omega arith;
-          rung = c.rung;
-          few = c.few;
-          free = free;
-        };
+        counts = let collected : length w.answers ≤ w.done + 1 = omega (arith, c.collected) in
+            let done : w.done + 1 ≤ w.rung = omega arith in assumption (collected, done, free, c);
         bank = refl;
         state = one.state ∙ ap (λ (q : State). (step q t.controller x.command x.cid).state) k.state
             ∙ sym (after_more t.controller s w.sent w.done d below);

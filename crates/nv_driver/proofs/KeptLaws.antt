@@ -17,7 +17,7 @@ use Rattle.nv_driver.specs.Schedule.{Bell, Collect, Holds, Tell}
 use Rattle.nv_driver.proofs.CountLaws.{head_told, number_above, number_below, numbers_differ, slot_inside, tail_rung}
 use Rattle.nv_driver.specs.Keeping.{AreInOrder, Keeps}
 use Rattle.nv_driver.proofs.HeldLaws.{holds_on}
-use Rattle.nv_driver.proofs.SerialLaws.{length-answers}
+use Rattle.nv_driver.proofs.BatchLaws.{length-answers}
 
 -- ---- the beginning
 
@@ -137,14 +137,8 @@ collected_one t s w d k below =
     let is : a ≡ get_or all n a = (k.held n d (omega arith) below).answer a in
     record {
       placed = k.placed;
-      counts = record {
-        told = omega (arith, c.told);
-        collected = omega arith;
-        done = c.done;
-        rung = c.rung;
-        few = omega (arith, c.few);
-        free = c.free;
-      };
+      counts = rw more (let told : w.told ≤ n + 1 = omega (arith, c.told) in let collected : n + 1 ≤ w.done = omega arith in
+          let few : length w.sent < n + 1 + t.depth = omega (arith, c.few) in assumption (told, collected, few, c));
       bank = k.bank;
       state = k.state;
       well_formed = k.well_formed;

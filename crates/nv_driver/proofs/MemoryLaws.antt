@@ -1,6 +1,6 @@
 -- The memory of a new driver, with a queue pair for each controller.
 use Rattle.std.specs.Prelude.{replicate, slice_index_or}
-use Rattle.std.proofs.Common.{◌≡◌, ◌∙◌, ℕ, ◌+◌, ◌*◌, ◌/◌, ◌<◌, ◌≤◌, ◌^◌, All, List, ap, arith, below_more, inl, length}
+use Rattle.std.proofs.Common.{◌≡◌, ◌∙◌, ℕ, ◌+◌, ◌*◌, ◌<◌, ◌≤◌, ◌^◌, All, List, ap, arith, below_more, inl, length}
 use Rattle.std.proofs.Common.{map, refl, subst, sym}
 use Rattle.std.proofs.Math.Nat.{mul-div_cancel, mul-le-mul_right, zero-add}
 use Rattle.std.proofs.lemmas.Grind.{div_ceil_times}
@@ -63,7 +63,7 @@ pub pair_is : (g : Geometry) (n i : ℕ) (ls : List QueuePairFields) (l : QueueP
     → l ≡ slice_index_or ls i l → pair_value l ≡ pair_of g i
 pair_is g n i ls l are h below here =
     ap pair_value here ∙ sym (get_or-map pair_value ls i l (pair_value l) below)
-    ∙ ap (λ (vs : List QueuePair). slice_index_or vs i (pair_value l)) are ∙ pair_at g n i (pair_value l) h
+    ∙ rw are (pair_at g n i (pair_value l) h)
 
 pub pair_count : (g : Geometry) (n : ℕ) (ls : List QueuePairFields) → map pair_value ls ≡ pairs_of g n → length ls ≡ n
 pair_count g n ls are =
@@ -116,15 +116,13 @@ pub memory_size : (g : Geometry) (n m pages : ℕ) (mem : PagedBytes) → pages 
     → mem ≡ record { page_size = g.page_size; bytes = replicate (pages * g.page_size) 0 }
     → length mem.bytes ≡ pages_of g n * g.page_size
 memory_size g n m pages mem are same made =
-    ap (λ (x : PagedBytes). length x.bytes) made ∙ length-replicate (pages * g.page_size) 0
-    ∙ ap (λ x. x * g.page_size) (are ∙ ap (pages_of g) same)
+    rw (made, are, same) (length-replicate (pages_of g n * g.page_size) 0)
 
 page_count_is : (g : Geometry) (n : ℕ) (mem : PagedBytes) → IsGeometry g → mem.page_size ≡ g.page_size
     → length mem.bytes ≡ pages_of g n * g.page_size → page_count mem ≡ pages_of g n
 page_count_is g n mem is page size =
     let bounds = page_size_bounds g.page_size is.page_size in
-    ap (λ x. x / mem.page_size) size ∙ ap (λ x. pages_of g n * g.page_size / x) page
-    ∙ mul-div_cancel (pages_of g n) (omega arith)
+    rw (size, page) (mul-div_cancel (pages_of g n) (omega arith))
 
 -- a driver of n controllers
 pub record IsFirst (g : Geometry) (n : ℕ) (mem : PagedBytes) (pairs : List QueuePairFields) : Type 0 where
@@ -148,8 +146,8 @@ driver_at_first g n m pages made mem pairs is same are few zeros keeps_page keep
       driver = record {
         geometry = is;
         page_size = page;
-        whole = ap (λ x. x * mem.page_size) count ∙ ap (λ x. pages_of g n * x) page ∙ sym size;
-        numbered = subst (λ x. x < 2 ^ 32) (are ∙ ap (pages_of g) same ∙ sym count) few;
+        whole = rw (count, page) (sym size);
+        numbered = rw (count, ← same, ← are) few;
         quiet = quiet;
         placed = λ i d h. rw (each, pair_at g n i d (omega arith)) refl;
         settled = rw (page, each) settled;

@@ -121,12 +121,8 @@ pub taking_next : (s now new : Pages) (ps : List ℕ) (r : Option ℕ) (p : ℕ)
     (λ q. (set.contains now.members q ≡ true) × (new ≡ record now { members = set.remove now.members q }))
     → IfSome r (λ q. IsOf now.first now.count q) → Taking s new (ps ++ p ∷ [])
 taking_next s now new ps r p t is found own =
-    let one = subst (λ (o : Option ℕ). MatchOption o ((now.members ≡ set.empty) × (new ≡ now))
-    (λ q. (set.contains now.members q ≡ true) × (new ≡ record now { members = set.remove now.members q }))) is found in
-    let of_now : IsOf now.first now.count p = subst
-    (λ (o : Option ℕ). IfSome o (λ q. IsOf now.first now.count q)) is own in
-    let of_all : IsOf s.first s.count p = subst (λ (x : Pages). IsOf x.first x.count p) t.left of_now in
-    taking_more s now new ps p t one.0 of_all one.1
+    let one = rw is at found in
+    taking_more s now new ps p t one.0 (subst (λ (x : Pages). IsOf x.first x.count p) t.left (rw is at own)) one.1
 
 -- ---- giving back
 

@@ -1,6 +1,6 @@
 -- A quiet queue pair: the schedule that begins there, and what a schedule leaves of it that came to an end.
 use Rattle.std.proofs.Common.{◌≡◌, ℕ, ◌+◌, ◌-◌, ◌*◌, ◌<◌, ◌≤◌, All, Bool, List, [], ap, arith, false, get_or}
-use Rattle.std.proofs.Common.{inl, inr, length, refl}
+use Rattle.std.proofs.Common.{inr, length, refl}
 use Rattle.std.proofs.Math.Nat.{mul-le-mul_right}
 use Rattle.nv_host.specs.PageSets.{IsOf, Pages}
 use Rattle.nv_prp.specs.Buffer.{IsApart}
@@ -67,11 +67,9 @@ outside_pair : (s : Pages) (x : Sent) (page_size sq from n : ℕ)
     → ((i d : ℕ) → i < length (own_pages x) → IsOf s.first s.count (get_or (own_pages x) i d))
     → sq ≤ s.first * page_size → sq ≤ (s.first + s.count) * page_size
     → IsApart sq ((s.first + s.count) * page_size - sq) from n → AreOutside page_size x from n
-outside_pair s x page_size sq from n own low high (inl before) i d h =
-    inl (omega (arith, mul-le-mul_right page_size (own i d h).0))
-outside_pair s x page_size sq from n own low high (inr behind) i d h =
+outside_pair s x page_size sq from n own low high apart i d h =
     let last : get_or (own_pages x) i d + 1 ≤ s.first + s.count = omega (arith, (own i d h).1) in
-    let times = mul-le-mul_right page_size last in inr (omega arith)
+    grind (arith, apart, low, mul-le-mul_right page_size (own i d h).0, mul-le-mul_right page_size last)
 
 -- where each command's pages were of the queue pair's set
 pub others_kept : {g : Geometry} {b : BusValue} {c : ℕ} {l : QueuePairFields} {now : ℕ} {bytes : List ℕ}

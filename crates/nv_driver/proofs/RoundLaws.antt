@@ -21,7 +21,7 @@ use Rattle.nv_driver.specs.declared.queue_pair.QueuePair.{QueuePair as QueuePair
 use Rattle.nv_driver.proofs.BatchLaws.{state_is}
 use Rattle.nv_driver.proofs.CountLaws.{head_told, tail_rung}
 use Rattle.nv_driver.proofs.KeptLaws.{bell_keeps, tell_keeps}
-use Rattle.nv_driver.proofs.OthersLaws.{bell_others, tell_others, turn_others}
+use Rattle.nv_driver.proofs.ScheduleLaws.{bell_others, tell_others, turn_others}
 use Rattle.nv_driver.proofs.SubmittingLaws.{pairs_same}
 use Rattle.nv_driver.proofs.TurnLaws.{turn_keeps, turn_takes}
 use Rattle.nv_driver.proofs.UnderWayLaws.{counts, world}

@@ -1,15 +1,178 @@
--- Every schedule.
-use Rattle.std.proofs.Common.{◌≢◌, ℕ, suc, All, List, [], ◌∷◌, arith, length, refl, subst, sym}
+-- Bytes that stay, writes elsewhere, and every schedule.
+use Rattle.std.proofs.Common.{◌≡◌, ◌∙◌, ℕ, ◌+◌, ◌≤◌, List, [], ◌∷◌, ◌++◌, arith, get_or, inl, inr, length}
+use Rattle.std.proofs.Common.{length-append, refl, subst, sym, suc, ◌-◌, ◌*◌, ◌<◌, ap, ◌≢◌, All}
+use Rattle.std.proofs.lemmas.List.{get_or_append_left, get_or_push}
+use Rattle.nv_host.specs.Bytes.{bytes_at}
+use Rattle.nv_host.proofs.BytesLaws.{bytes_at-bytes_at}
+use Rattle.nv_host.proofs.PageLaws.{page_size_bounds}
+use Rattle.nv_layout.specs.Cqe.{cqe_of_bytes}
+use Rattle.nv_layout.specs.Sqe.{sqe_of_bytes}
+use Rattle.nv_layout.specs.declared.cqe.Cqe.{Cqe}
+use Rattle.nv_queue.specs.Slots.{completion_at, submission_at}
 use Rattle.nv_model.specs.State.{State}
-use Rattle.nv_driver.specs.Schedule.{Event, Submit, Bell, Turn, Collect, Tell, Elsewhere, EveryScheduleIsSerial}
-use Rattle.nv_driver.specs.Schedule.{Happens, IsSerial, Runs, Setting, World}
-use Rattle.nv_driver.specs.Keeping.{Keeps, OthersStay}
+use Rattle.nv_driver.specs.Schedule.{AreOthers, AreOutside, Bell, Collect, Happens, IsPrepared, Sent, Setting, Submit}
+use Rattle.nv_driver.specs.Schedule.{Tell, Turn, World, answer_awaited, Elsewhere, LeavesOutstanding, PagesStay}
+use Rattle.nv_driver.specs.Schedule.{data_length, places, slot, Event, EveryScheduleIsSerial, IsSerial, Runs}
+use Rattle.nv_driver.specs.Keeping.{Keeps, OthersStay, HasRings}
+use Rattle.nv_driver.proofs.SubmitLaws.{changes_only, mem_after, submit_keeps}
+use Rattle.nv_driver.proofs.TurnLaws.{turn_leaves, turn_keeps, turn_takes}
+use Rattle.nv_driver.proofs.CountLaws.{slot_inside}
+use Rattle.nv_driver.proofs.HeldLaws.{holds_on}
+use Rattle.nv_driver.proofs.RegionLaws.{Stays}
+use Rattle.nv_driver.proofs.PointerLaws.{stays_in}
+use Rattle.nv_driver.proofs.RegionLaws.{holds_sent_on, length-places, place_page, read_keeps}
 use Rattle.nv_driver.proofs.KeptLaws.{bell_keeps, collect_keeps, idle_keeps, is_found, tell_keeps}
-use Rattle.nv_driver.proofs.ElsewhereLaws.{elsewhere_keeps}
-use Rattle.nv_driver.proofs.OthersLaws.{bell_others, collect_others, others_now, submit_others, tell_others}
-use Rattle.nv_driver.proofs.OthersLaws.{turn_others}
-use Rattle.nv_driver.proofs.SubmitLaws.{submit_keeps}
-use Rattle.nv_driver.proofs.TurnLaws.{turn_keeps, turn_takes}
+
+-- ---- bytes that stay as long as the host doesn't write elsewhere
+
+pub others_now : (t : Setting) (w : World) → OthersStay t (length w.answers) w.mem w
+others_now t w = record { since = omega arith; same = λ from n apart. refl }
+
+-- what lies in no page of the commands from one on lies in no page of those from a later one on
+later_others : (t : Setting) (first later : ℕ) (sent : List Sent) (from n : ℕ) → first ≤ later
+    → AreOthers t first sent from n → AreOthers t later sent from n
+later_others t first later sent from n order apart = record {
+  submissions = apart.submissions;
+  completions = apart.completions;
+  pages = λ i d low high. apart.pages i d (omega (arith, order, low)) high;
+}
+
+pub bell_others : (t : Setting) (first : ℕ) (old : List ℕ) (w w' : World) → OthersStay t first old w
+    → Happens t Bell w w' → OthersStay t first old w'
+bell_others t first old w w' stay happens =
+    subst (OthersStay t first old) (sym happens) (record { since = stay.since; same = stay.same })
+
+pub tell_others : (t : Setting) (first : ℕ) (old : List ℕ) (w w' : World) → OthersStay t first old w
+    → Happens t Tell w w' → OthersStay t first old w'
+tell_others t first old w w' stay happens =
+    subst (OthersStay t first old) (sym happens) (record { since = stay.since; same = stay.same })
+
+pub collect_others : (t : Setting) (first : ℕ) (old : List ℕ) (w w' : World) → OthersStay t first old w
+    → Happens t Collect w w' → OthersStay t first old w'
+collect_others t first old w w' stay (inl there) =
+    let a = answer_awaited t w (get_or w.sent (length w.answers) there.1) in
+    let more : length (w.answers ++ a ∷ []) ≡ length w.answers + 1 = length-append w.answers (a ∷ []) in
+    subst (OthersStay t first old) (sym there.2) (record { since = omega (arith, stay.since, more); same = stay.same })
+collect_others t first old w w' stay (inr none) = subst (OthersStay t first old) (sym none.1) stay
+
+pub turn_others : (t : Setting) (s : State) (first : ℕ) (old : List ℕ) (most : ℕ) (w w' : World) → Keeps t s w
+    → OthersStay t first old w → Happens t (Turn most) w w' → OthersStay t first old w'
+turn_others t s first old most w w' keeps stay happens =
+    subst (OthersStay t first old) (sym happens.2) (record {
+      since = stay.since;
+      same = λ from n apart.
+          turn_leaves t s most w w' keeps happens from n
+          (later_others t first (length w.answers) w.sent from n stay.since apart)
+          ∙ stay.same from n apart;
+    })
+
+submitted : (t : Setting) (s : State) (first : ℕ) (old : List ℕ) (x : Sent) (w : World) (ready : List ℕ) → Keeps t s w
+    → OthersStay t first old w → IsPrepared t.page_size x w.mem ready
+    → OthersStay t first old (record w { mem = mem_after t w x ready; sent = w.sent ++ x ∷ [] })
+submitted t s first old x w ready keeps stay prepared =
+    let p = keeps.placed in
+    let c = keeps.counts in
+    let deep = p.deep in
+    let m = length w.sent in
+    let more : length (w.sent ++ x ∷ []) ≡ m + 1 = length-append w.sent (x ∷ []) in
+    let only = changes_only t w x ready (omega (arith, deep.0)) (omega (arith, p.submissions, prepared.len)) prepared in
+    record {
+      since = stay.since;
+      same = λ from n apart.
+          only from n
+          (subst (λ y. AreOutside t.page_size y from n) (get_or_push w.sent x x m refl)
+          (apart.pages m x (omega (arith, stay.since, c.collected, c.done, c.rung)) (omega (arith, more))))
+          apart.submissions
+          ∙ stay.same from n (record {
+            submissions = apart.submissions;
+            completions = apart.completions;
+            pages = λ i d low high.
+                subst (λ y. AreOutside t.page_size y from n) (get_or_append_left w.sent (x ∷ []) d i high)
+                (apart.pages i d low (omega (arith, more, high)));
+          });
+    }
+
+pub submit_others : (t : Setting) (s : State) (first : ℕ) (old : List ℕ) (x : Sent) (w w' : World) → Keeps t s w
+    → OthersStay t first old w → Happens t (Submit x) w w' → OthersStay t first old w'
+submit_others t s first old x w w' keeps stay happens =
+    subst (OthersStay t first old) (sym happens.3) (submitted t s first old x w happens.1 keeps stay happens.2)
+
+-- ---- the host writes elsewhere
+
+-- a part of bytes that stay
+part_same : (old new : List ℕ) (from n part k : ℕ) → bytes_at new from n ≡ bytes_at old from n → from ≤ part
+    → part + k ≤ from + n → bytes_at new part k ≡ bytes_at old part k
+part_same old new from n part k same low high =
+    let at : from + (part - from) ≡ part = omega arith in
+    let inside : part - from + k ≤ n = omega arith in
+    ap (λ i. bytes_at new i k) (sym at) ∙ sym (bytes_at-bytes_at new from n (part - from) k inside)
+    ∙ ap (λ m. bytes_at m (part - from) k) same
+    ∙ bytes_at-bytes_at old from n (part - from) k inside ∙ ap (λ i. bytes_at old i k) at
+
+-- the data of a command, and its list
+same_stays : (t : Setting) (x : Sent) (old new : List ℕ) → 0 < t.page_size → length new ≡ length old
+    → x.offset + data_length x ≤ length x.pages * t.page_size → PagesStay t.page_size x old new → Stays t x old new
+same_stays t x old new some len enough same = record {
+  list = record { len = len; in_first = λ many. same 0 0 (omega arith); in_second = λ many. same 1 0 (omega arith) };
+  read = read_keeps old new (places t.page_size x) (λ k below.
+      let size = length-places t.page_size x in
+      let page = place_page t.page_size x.pages x.offset (data_length x) k some enough (omega arith) in
+      let inside = page.is_one in
+      part_same old new (get_or x.pages page.index 0 * t.page_size) t.page_size (get_or (places t.page_size x) k 0) 1
+      (same (suc (suc page.index)) 0 (omega arith)) page.from (omega (arith, page.to)));
+}
+
+-- the slots
+submission_same : (t : Setting) (w : World) (new : List ℕ) (s : ℕ) → LeavesOutstanding t w new → s < t.depth
+    → submission_at new t.sq s ≡ submission_at w.mem t.sq s
+submission_same t w new s leaves below =
+    ap sqe_of_bytes
+    (part_same w.mem new t.sq (64 * t.depth) (t.sq + 64 * s) 64 leaves.submissions (omega arith) (omega arith))
+
+completion_same : (t : Setting) (w : World) (new : List ℕ) (s : ℕ) → LeavesOutstanding t w new → s < t.depth
+    → completion_at new t.cq s ≡ completion_at w.mem t.cq s
+completion_same t w new s leaves below =
+    ap cqe_of_bytes
+    (part_same w.mem new t.cq (16 * t.depth) (t.cq + 16 * s) 16 leaves.completions (omega arith) (omega arith))
+
+written : (t : Setting) (s : State) (w : World) (new : List ℕ) → Keeps t s w → LeavesOutstanding t w new
+    → Keeps t s (record w { mem = new })
+written t s w new k leaves =
+    let c = k.counts in
+    let p = k.placed in
+    let deep = p.deep in
+    let some : 0 < t.page_size = omega (arith, page_size_bounds t.page_size p.page_size) in
+    let some_slots : 0 < t.depth = omega (arith, deep.0) in
+    let stays = λ (n : ℕ) (d : Sent) (from : length w.answers ≤ n) (below : n < length w.sent).
+    same_stays t (get_or w.sent n d) w.mem new some leaves.len (k.own n d from below).enough (leaves.pages n d from below) in
+    record {
+      placed = subst (HasRings t) (sym leaves.len) p;
+      counts = k.counts;
+      bank = k.bank;
+      state = k.state;
+      well_formed = k.well_formed;
+      controller = k.controller;
+      own = rw (leaves.len) (k.own);
+      apart = k.apart;
+      named = λ n d from below.
+          stays_in t.page_size (get_or w.sent n d) w.mem new (stays n d from below).list (k.named n d from below);
+      waiting = λ n d from below.
+          submission_same t w new (slot t n) leaves (slot_inside t n some_slots) ∙ k.waiting n d from below;
+      to_send = λ n d from below.
+          holds_sent_on t (get_or w.sent n d) w.mem new (stays n d (omega (arith, c.collected)) below).read
+          (k.to_send n d from below);
+      held = λ n d from below.
+          holds_on t s w (record w { mem = new }) n (get_or w.sent n d)
+          (completion_same t w new (slot t n) leaves (slot_inside t n some_slots))
+          (stays n d from (omega (arith, c.done, c.rung))).read (λ b. refl) (k.held n d from below);
+      tags = λ slot below. ap (λ (e : Cqe). e.phase) (completion_same t w new slot leaves below) ∙ k.tags slot below;
+      answers = k.answers;
+    }
+
+pub elsewhere_keeps : (t : Setting) (s : State) (w w' : World) → Keeps t s w → Happens t Elsewhere w w' → Keeps t s w'
+elsewhere_keeps t s w w' k happens = subst (Keeps t s) (sym happens.1) (written t s w w'.mem k happens.0)
+
+-- ---- every schedule
 
 event_keeps : (t : Setting) (s : State) (e : Event) (w w' : World) → Keeps t s w → Happens t e w w' → Keeps t s w'
 event_keeps t s (Submit x) w w' keeps happens = submit_keeps t s x w w' keeps happens
@@ -24,8 +187,6 @@ runs_keep : (t : Setting) (s : State) (events : List Event) (w w' : World) → K
 runs_keep t s [] w w' keeps runs = subst (Keeps t s) (sym runs) keeps
 runs_keep t s (e ∷ events) w w' keeps runs = runs_keep t s events runs.0 w'
     (event_keeps t s e w runs.0 keeps runs.1) runs.2
-
--- ---- bytes that stay
 
 event_others : (t : Setting) (s : State) (first : ℕ) (old : List ℕ) (e : Event) (w w' : World) → e ≢ Elsewhere
     → Keeps t s w → OthersStay t first old w → Happens t e w w' → OthersStay t first old w'

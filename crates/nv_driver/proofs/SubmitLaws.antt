@@ -15,11 +15,11 @@ use Rattle.nv_driver.specs.Schedule.{Setting, StaysNamed, Submit, World, after, 
 use Rattle.nv_driver.proofs.CountLaws.{slot_inside, slots_differ}
 use Rattle.nv_driver.proofs.HeldLaws.{holds_on}
 use Rattle.nv_driver.specs.Keeping.{HasRings, IsOwn, Keeps}
-use Rattle.nv_driver.proofs.ListPageLaws.{Stays, stays_apart, stays_beside}
+use Rattle.nv_driver.proofs.RegionLaws.{Stays, stays_apart, stays_beside}
 use Rattle.nv_driver.proofs.PointerLaws.{stays_in}
 use Rattle.nv_driver.proofs.RegionLaws.{ChangesOnlyAt, buffer_data, completion_stays, holds_sent_on, outside_part}
 use Rattle.nv_driver.proofs.RegionLaws.{submission_keeps}
-use Rattle.nv_driver.proofs.SerialLaws.{answers-append, length-answers}
+use Rattle.nv_driver.proofs.BatchLaws.{answers-append, length-answers}
 
 -- the memory after a submission
 abbrev pub mem_after : Setting → World → Sent → List ℕ → List ℕ
@@ -166,14 +166,9 @@ module _ (t : Setting) (s : State) (x : Sent) (w : World) (ready : List ℕ) (k 
       let more = length-append w.sent (x ∷ []) in
       record {
         placed = subst (HasRings t) (sym len) k.placed;
-        counts = record {
-          told = c.told;
-          collected = c.collected;
-          done = c.done;
-          rung = omega (arith, c.rung, more);
-          few = omega (arith, may.free, more);
-          free = c.free;
-        };
+        counts = let rung : w.rung ≤ length next.sent = omega (arith, c.rung, more) in
+            let few : length next.sent < length w.answers + t.depth = omega (arith, may.free, more) in
+            assumption (rung, few, c);
         bank = k.bank;
         state = k.state ∙ ap (after t.controller s)
             (sym (take-append-le w.done w.sent (x ∷ []) (omega (arith, c.done, c.rung))));

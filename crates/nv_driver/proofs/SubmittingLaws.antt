@@ -21,7 +21,7 @@ use Rattle.nv_driver.specs.declared.command_pages.CommandPages.{CommandPages}
 use Rattle.nv_driver.specs.declared.geometry.Geometry.{Geometry}
 use Rattle.nv_driver.specs.declared.queue_pair.QueuePair.{QueuePair as QueuePairFields}
 use Rattle.nv_driver.proofs.DataLaws.{ArePlaces, length-host_data, sent_back}
-use Rattle.nv_driver.proofs.ListPageLaws.{written_list}
+use Rattle.nv_driver.proofs.RegionLaws.{written_list}
 use Rattle.nv_driver.proofs.PointerLaws.{stays_in}
 use Rattle.nv_driver.proofs.RegionLaws.{buffer_data, data_keeps}
 
@@ -97,7 +97,7 @@ pub list_of : (g : Geometry) (s : Pages) (p : CommandPages) (bytes : List ℕ) (
 list_of g s p bytes page_size is page h =
     let first = slice_index p.numbers 0 in
     let second = slice_index p.numbers 1 in
-    subst (λ size. IsListPlace bytes size first second g.list_offset) (sym page) (record {
+    rw page (record {
       below = is.list_offset.1;
       aligned = is.list_offset.0;
       has_first = each_inside s p g.page_size bytes h 0 0 (omega arith);
@@ -125,14 +125,9 @@ pub built_by : (g : Geometry) (x : Sent) (old built : List ℕ) (page_size now l
     → KeepsOutside page_size x.first x.second old built → length built ≡ length old
     → IsBuilt g.page_size x old built
 built_by g x old built page_size now len page after is_len first second stays others size =
-    record {
-      others = λ from n outside.
-          others from n (rw page (outside 0 0 (omega arith))) (rw page (outside 1 0 (omega arith)));
-      len = size;
-      prp1 = first;
-      prp2 = second;
-      stays = rw (after ∙ page, is_len) at stays;
-    }
+    let others_stay : (from n : ℕ) → AreOutside g.page_size x from n → bytes_at built from n ≡ bytes_at old from n =
+    λ from n outside. others from n (rw page (outside 0 0 (omega arith))) (rw page (outside 1 0 (omega arith))) in
+    let named : StaysNamed g.page_size x built = rw (after ∙ page, is_len) at stays in assumption
 
 -- and where what the host sends was written, the command is prepared
 pub prepared_by : (page_size : ℕ) (x : Sent) (old built new : List ℕ) → IsPageSize page_size

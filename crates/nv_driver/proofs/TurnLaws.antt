@@ -1,18 +1,17 @@
 -- What a turn keeps.
-use Rattle.std.proofs.Common.{◌≡◌, ◌∙◌, ℕ, zero, suc, ◌+◌, ◌-◌, ◌<◌, [], ap, arith, length, min, refl, subst, sym}
+use Rattle.std.proofs.Common.{◌≡◌, ◌∙◌, ℕ, zero, suc, ◌+◌, ◌<◌, [], ap, arith, length, refl, subst, sym}
 use Rattle.nv_host.specs.Bytes.{bytes_at}
-use Rattle.nv_queue.specs.Numbers.{above}
 use Rattle.nv_command.specs.declared.command.Command.TheVariants.{ActiveList}
 use Rattle.nv_model.specs.State.{State}
 use Rattle.nv_bus.specs.Entry.{Scene, scene}
 use Rattle.nv_bus.proofs.TurnLaws.{turn_count_is}
 use Rattle.nv_bus.specs.Turn.{BankTurn, RingsLie, Site, Taken, Takes, ready_bank, turn_count, site}
-use Rattle.nv_driver.specs.Schedule.{AreOthers, Happens, Sent, Setting, Turn, World, device_rings, least, number}
+use Rattle.nv_driver.specs.Schedule.{AreOthers, Happens, Sent, Setting, Turn, World, device_rings, least}
 use Rattle.nv_driver.specs.Schedule.{bank_with}
 use Rattle.nv_driver.proofs.CountLaws.{number_above, number_below}
 use Rattle.nv_driver.proofs.EntryLaws.{entry_keeps, entry_others, world_after}
 use Rattle.nv_driver.specs.Keeping.{Keeps}
-use Rattle.nv_driver.proofs.TakenLaws.{is_done, can_go, now}
+use Rattle.nv_driver.proofs.EntryLaws.{is_done, can_go, now}
 
 -- a command that stands for none
 abbrev pub no_command : Sent
@@ -166,6 +165,4 @@ turn_takes t s most w w' k happens =
     let some : 0 < t.depth = let deep = k.placed.deep in omega (arith, deep.0) in
     let wait = number_above t w.done w.rung some c.done (omega (arith, c.rung, c.few, c.collected)) in
     let held = number_above t w.told w.done some (omega (arith, c.told, c.collected)) (omega (arith, c.free)) in
-    ap (λ (v : World). v.done) happens.2 ∙ ap (λ n. w.done + n) (r.number
-    ∙ ap (λ n. min most (min n (t.depth - 1 - above t.depth (number t w.done) (number t w.told)))) wait
-    ∙ ap (λ n. min most (min (w.rung - w.done) (t.depth - 1 - n))) held)
+    ap (λ (v : World). v.done) happens.2 ∙ ap (λ n. w.done + n) (rw (wait, held) at r.number)

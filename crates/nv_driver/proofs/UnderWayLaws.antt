@@ -1,4 +1,4 @@
--- A list of commands on its way: its beginning and submissions.
+-- A list of commands on its way: what is known of it, and submissions.
 use Rattle.std.specs.Prelude.{None, Option, Some, set}
 use Rattle.std.proofs.Common.{◌≡◌, ◌≢◌, ◌∙◌, ℕ, ◌+◌, ◌-◌, ◌*◌, ◌%◌, ◌<◌, ◌≤◌, All, List, [], ◌∷◌, ◌++◌, ap, arith, drop}
 use Rattle.std.proofs.Common.{get_or, length, length-append, length-drop, refl, subst, sym, take, true, inl}
@@ -31,50 +31,15 @@ use Rattle.nv_driver.specs.declared.geometry.Geometry.{Geometry}
 use Rattle.nv_driver.specs.declared.queue_pair.QueuePair.{QueuePair as QueuePairFields}
 use Rattle.nv_driver.proofs.BatchLaws.{command_at, length-from_serial, serial_next}
 use Rattle.nv_driver.proofs.CountLaws.{number_above, number_next}
-use Rattle.nv_driver.proofs.KeptLaws.{idle_keeps}
 use Rattle.nv_driver.proofs.PageSetLaws.{full_length, in_of, is_in}
 use Rattle.nv_driver.proofs.PointerLaws.{seven_pages}
-use Rattle.nv_driver.proofs.QuietLaws.{beginning, collect_ring_is, is_idle, submit_ring_is}
-use Rattle.nv_driver.proofs.OthersLaws.{others_now, submit_others}
+use Rattle.nv_driver.proofs.ScheduleLaws.{submit_others}
 use Rattle.nv_driver.proofs.SubmitLaws.{each_more, submit_keeps}
 use Rattle.nv_driver.proofs.SubmittingLaws.{Has, buffer_of, distinct_of, has_taken, list_of, pages_are, pairs_same}
 use Rattle.nv_driver.proofs.SubmittingLaws.{length-data_pages}
 use Rattle.nv_driver.proofs.TurnLaws.{no_command}
 use Rattle.nv_driver.proofs.WindowPageLaws.{few_pages, fresh, page_of_one, pages-append, taken_also, taken_len}
-use Rattle.nv_driver.proofs.WindowPageLaws.{taken_none, without_also}
-
--- ---- the beginning
-
-pub begins : (r : Run) (b : Batch) (now : ℕ) → IsReady r.geometry r.bus r.controller r.pair r.geometry.page_size r.bytes
-    → All CanBeSent r.commands → b.geometry ≡ r.geometry → b.ctrl ≡ r.controller
-    → now ≡ r.geometry.page_size → length b.outstanding ≡ 16
-    → b.sent ≡ 0 → b.collected ≡ 0 → b.told ≡ 0 → IsUnderWay r b.sent b.collected b r.pair now r.bytes
-begins r b now ready can geometry controller page room sent collected told =
-    let t = setting_of r in
-    let w = beginning t r.bytes r.bus.state in
-    let none = taken_none r.pair.pages in
-    let below = ready.laid.number in
-    let serial : r.pair.serial ≡ serial_at r 0 = omega (arith, ready.laid.serial) in
-    record {
-      running = assumption (ready, can, geometry, controller, page, room);
-      course = record { state = w.state; bank = w.bank; sent = []; answers = [] };
-      has = record {
-        window = omega arith;
-        some = omega arith;
-        sent = sym sent;
-        commands = rw sent refl;
-        kept = λ n d from h. absurd (omega arith);
-        taken = rw collected none.0;
-        own = λ n d h. absurd (omega arith);
-      };
-      keeps = rw (sent, collected, told)
-          (idle_keeps t w (is_idle r.geometry r.bus r.controller r.pair r.geometry.page_size r.bytes ready));
-      others = rw (sent, collected, told) (others_now t w);
-      collected = sym collected;
-      pair = rw (sent, collected, told) (pairs_same
-          (submit_ring_is r.geometry r.controller r.bytes r.pair ready.quiet below)
-          (collect_ring_is r.geometry r.controller r.bytes r.pair ready.quiet below) serial (sym none.1));
-    }
+use Rattle.nv_driver.proofs.WindowPageLaws.{without_also}
 
 -- ---- what is known on the way
 

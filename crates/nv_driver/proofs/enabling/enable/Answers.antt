@@ -1,7 +1,7 @@
 use Rattle.std.proofs.Common.{ap}
 use Rattle.nv_driver.specs.declared.geometry.Geometry.{Geometry}
 use Rattle.nv_driver.proofs.RegisterLaws.{enabled_banks}
-use Rattle.nv_driver.proofs.ZeroLaws.{zeroed_length, zeroed_others}
+use Rattle.nv_driver.proofs.ResetLaws.{zeroed_length, zeroed_others}
 use Rattle.nv_driver.proofs.enabling.enable.Goals as goal
 
 pub returns-clause-banks : goal.returns-clause-banks

@@ -1,6 +1,4 @@
-use Rattle.std.proofs.Common.{◌∙◌, All, arith, length, rules, subst, sym}
-use Rattle.nv_driver.specs.Layout.{pairs_of}
-use Rattle.nv_driver.specs.QueuePair.{IsLaid}
+use Rattle.std.proofs.Common.{◌∙◌, arith, length, rules, subst, sym}
 use Rattle.nv_driver.specs.Quiet.{IsQuiet}
 use Rattle.nv_driver.proofs.MemoryLaws.{laid_in, pair_count, pair_is, settled_at_first, tags_more}
 use Rattle.nv_driver.proofs.RegisterLaws.{above_set, all_enabled, below_set}
@@ -27,22 +25,22 @@ enable-requires-clause-laid g c =
     laid_in c.args.geometry _ c.loop-ctrl.ctrl _ c.loop-ctrl.invariant.laid (omega arith)
 
 pub loop-ctrl-preserved : goal.loop-ctrl-preserved
-loop-ctrl-preserved g c = record {
-  bus = search rules;
-  state = states_more _ _ (g.B.Bus.meaning c.args.bus.now).state _ _ c.loop-ctrl.ctrl (omega arith) (omega arith)
-      (c.loop-ctrl.invariant.above c.loop-ctrl.ctrl (omega arith)) c.loop-ctrl.invariant.state c.enable.ensures.state;
-  len = search rules;
-  below = below_set _ _ c.loop-ctrl.ctrl _ (omega arith) c.enable.ensures.banks c.loop-ctrl.invariant.below;
-  above = above_set _ _ _ c.loop-ctrl.ctrl _ c.enable.ensures.banks c.loop-ctrl.invariant.above;
-  tags = tags_more c.args.geometry (length (g.B.Bus.meaning c.args.bus.now).banks) c.loop-ctrl.ctrl
-      _ _ c.loop-ctrl.invariant.laid (omega arith) c.enable.ensures.others c.enable.ensures.tags
-      c.loop-ctrl.invariant.tags;
-  laid = subst (λ n. All (IsLaid c.args.geometry.page_size n)
-      (pairs_of c.args.geometry (length (g.B.Bus.meaning c.args.bus.now).banks)))
-      (sym c.enable.ensures.len) c.loop-ctrl.invariant.laid;
-  size = c.enable.ensures.len ∙ c.loop-ctrl.invariant.size;
-  page = c.enable.ensures.page ∙ c.loop-ctrl.invariant.page;
-}
+loop-ctrl-preserved g c =
+    let i = c.loop-ctrl.invariant in
+    let e = c.enable.ensures in
+    let ctrl = c.loop-ctrl.ctrl in
+    record {
+      bus = search rules;
+      state = states_more _ _ (g.B.Bus.meaning c.args.bus.now).state _ _ ctrl (omega arith) (omega arith)
+          (i.above ctrl (omega arith)) i.state e.state;
+      len = search rules;
+      below = below_set _ _ ctrl _ (omega arith) e.banks i.below;
+      above = above_set _ _ _ ctrl _ e.banks i.above;
+      tags = tags_more c.args.geometry _ ctrl _ _ i.laid (omega arith) e.others e.tags i.tags;
+      laid = rw (e.len) (i.laid);
+      size = e.len ∙ i.size;
+      page = e.page ∙ i.page;
+    }
 
 pub returns-clause-banks : goal.returns-clause-banks
 returns-clause-banks g c =
@@ -51,8 +49,7 @@ returns-clause-banks g c =
 
 pub returns-clause-settled : goal.returns-clause-settled
 returns-clause-settled g c =
-    settled_at_first c.args.geometry (length (g.B.Bus.meaning c.args.bus.now).banks) _
-    c.loop-ctrl.invariant.laid (λ k h. c.loop-ctrl.invariant.tags k (omega arith))
+    let i = c.loop-ctrl.invariant in settled_at_first c.args.geometry _ _ i.laid (λ k h. i.tags k (omega arith))
 
 pub returns-clause-state : goal.returns-clause-state
 returns-clause-state g c =
