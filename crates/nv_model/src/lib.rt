@@ -1,5 +1,5 @@
-//! An NVM subsystem as a value: what a controller says of itself, namespaces, features and logs, and
-//! what each command answers and changes. Its definitions are what the crates above it promise.
+//! An NVM subsystem as a value: what a controller says of itself, namespaces, features and logs,
+//! and what each command answers and changes. Its definitions are what the crates above it promise.
 #![tactic(auto)]
 
 mod defaults;

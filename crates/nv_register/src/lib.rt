@@ -1,8 +1,8 @@
 //! The registers of a controller, by dword, and the rings that they make of the admin queue pair.
 //!
-//! A [`RegisterBank`] is what a host sees of one controller: dwords at offsets, of which each is read and
-//! written by a rule of its own. Setting EN with valid values makes both rings new, clearing it
-//! takes them away:
+//! A [`RegisterBank`] is what a host sees of one controller: dwords at offsets, of which each is
+//! read and written by a rule of its own. Setting EN with valid values makes both rings new,
+//! clearing it takes them away:
 //!
 //! ```
 //! let mut register bank = RegisterBank::new();

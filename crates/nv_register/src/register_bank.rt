@@ -1,8 +1,9 @@
 //! What a host reads and writes of one controller.
 
 ghost use Rattle.std.specs.Prelude.{◌≡◌, ◌≤◌, true};
-ghost use Rattle.nv_register.specs.RegisterBank.{can_start, cc_of, is_queue, new_bank, new_rings, start};
-ghost use Rattle.nv_register.specs.RegisterBank.{stop, stops_at, stops_by, value_at, value_of, with_cc};
+ghost use Rattle.nv_register.specs.RegisterBank.{can_start, cc_of, is_queue, new_bank, new_rings};
+ghost use Rattle.nv_register.specs.RegisterBank.{start, stop, stops_at, stops_by, value_at};
+ghost use Rattle.nv_register.specs.RegisterBank.{value_of, with_cc};
 ghost use Rattle.nv_register.specs.RegisterBank.{with_head, with_high, with_low, with_register};
 ghost use Rattle.nv_register.specs.RegisterBank.{with_register_at, with_tail};
 ghost use Rattle.nv_register.specs.Readiness.{is_enabled, with_rings};

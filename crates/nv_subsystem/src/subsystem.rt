@@ -321,9 +321,9 @@ impl Subsystem {
         }
     }
 
-    /// Executes a command of a controller, and keeps its reply in the room, of which after a refusal
-    /// the content is of no account. A refusal books itself in that controller's error log; the
-    /// controller counts the command in both cases.
+    /// Executes a command of a controller, and keeps its reply in the room, of which after a
+    /// refusal the content is of no account. A refusal books itself in that controller's error log;
+    /// the controller counts the command in both cases.
     pub fn execute<'a>(
         &mut self,
         ctrl: u16,

@@ -8,6 +8,12 @@ returns-clause-left g c w is =
     let ns = c.args.nsids.now in
     let are = commands_are c.commands_for-commands.result ns (omega arith) c.commands_for-commands.ensures in
     let done = c.admin_all.ensures in
-    batch_leaves w c.args.ctrl s c.args.driver.now c.args.listing.now is c.requires.controller ns _ are c.tell_all.result _ _ _ _ c.requires.some done.state done.driver
-    (batch_answers w c.args.ctrl s c.args.driver.now c.args.listing.now is c.requires.controller ns _ are c.admin_all.new.answers (drop (length ns) c.args.batch.now) done.answers)
+    let ctrl = c.args.ctrl in
+    let driver = c.args.driver.now in
+    let listing = c.args.listing.now in
+    let there = c.requires.controller in
+    let rest = drop (length ns) c.args.batch.now in
+    let answers = batch_answers w ctrl s driver listing is there ns _ are c.admin_all.new.answers rest done.answers in
+    batch_leaves w ctrl s driver listing is there ns _ are c.tell_all.result _ _ _ _ c.requires.some done.state
+    done.driver answers
     c.tell_all.ensures.told c.tell_all.ensures.refused

@@ -7,9 +7,10 @@ use Rattle.nv_script.proofs.running.run_session.Goals as goal
 
 pub returns-in-Ok-clause-runs : goal.returns-in-Ok-clause-runs
 returns-in-Ok-clause-runs g c =
+    let some = c.in-Some.ensures in
     let run = c.loop-call.invariant.run in
     let read =
-    read_none _ _ _ run.0 c.read.new.buf c.in-Some.count run.1 c.in-Some.ensures.bytes.0 c.if-count-eq0.true c.in-Some.ensures.count in
+    read_none _ _ _ run.0 c.read.new.buf c.in-Some.count run.1 some.bytes.0 c.if-count-eq0.true some.count in
     record {
       bytes = run.0;
       was_read = read;
@@ -33,10 +34,11 @@ returns-in-Ok-clause-runs g c =
 
 pub returns-in-Err-clause-runs : goal.returns-in-Err-clause-runs
 returns-in-Err-clause-runs g c =
+    let some = c.in-Some.ensures in
     let run = c.loop-call.invariant.run in
     let s = (g.B.Bus.meaning c.args.bus.now).state in
     let read =
-    read_none _ _ _ run.0 c.read.new.buf c.in-Some.count run.1 c.in-Some.ensures.bytes.0 c.if-count-eq0.true c.in-Some.ensures.count in
+    read_none _ _ _ run.0 c.read.new.buf c.in-Some.count run.1 some.bytes.0 c.if-count-eq0.true some.count in
     record {
       bytes = run.0;
       was_read = read;
@@ -47,6 +49,7 @@ returns-in-Err-clause-runs g c =
 
 pub returns-in-Err-feed-clause-runs : goal.returns-in-Err-feed-clause-runs
 returns-in-Err-feed-clause-runs g c =
+    let some = c.in-Some.ensures in
     let run = c.loop-call.invariant.run in
     let s = (g.B.Bus.meaning c.args.bus.now).state in
     let piece = take c.in-Some.count c.read.new.buf in
@@ -64,7 +67,7 @@ returns-in-Err-feed-clause-runs g c =
     record {
       bytes = run.0 ++ piece;
       was_read =
-          read_more _ _ _ run.0 c.read.new.buf c.in-Some.count run.1 c.in-Some.ensures.bytes.0 c.in-Some.ensures.bound c.in-Some.ensures.count;
+          read_more _ _ _ run.0 c.read.new.buf c.in-Some.count run.1 some.bytes.0 some.bound some.count;
       left = cut;
       end_of = c.in-Err-feed.ensures.failure;
       calls = omega (arith, c.in-Some.ensures.call, c.loop-call.invariant.calls, c.loop-call-test.true);
@@ -72,6 +75,7 @@ returns-in-Err-feed-clause-runs g c =
 
 pub loop-call-preserved : goal.loop-call-preserved
 loop-call-preserved g c =
+    let some = c.in-Some.ensures in
     let inv = c.loop-call.invariant in
     let run = inv.run in
     let piece = take c.in-Some.count c.read.new.buf in
@@ -95,7 +99,7 @@ loop-call-preserved g c =
       linked = c.feed.ensures.linked;
       run = (
         run.0 ++ piece,
-        read_more _ _ _ run.0 c.read.new.buf c.in-Some.count run.1 c.in-Some.ensures.bytes.0 c.in-Some.ensures.bound c.in-Some.ensures.count,
+        read_more _ _ _ run.0 c.read.new.buf c.in-Some.count run.1 some.bytes.0 some.bound some.count,
         fed.0,
         fed.1,
       );
