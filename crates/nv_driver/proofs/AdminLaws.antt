@@ -150,7 +150,8 @@ driver_after {g} {mem} {new} {ls} {b} {c} {l} {l'} {n} {serial} is below here re
       numbered = rw (size, page) (is.numbered);
       quiet = All-set IsQuiet ls c l' ready.quiet is.quiet;
       placed = λ i d inside.
-          rw change (set_each (λ j v. IsPlaced g j v) vs c (pair_value l') (λ j e low differ. is.placed j e (omega arith))
+          rw change (set_each (λ j v. IsPlaced g j v) vs c (pair_value l') (λ j e low differ. is.placed j e
+          (omega arith))
           (stays_placed g c (pair_value l) (pair_value l')
           (rw (← at) at (is.placed c (pair_value l) below)) next) i d
           (let longer = length-set ls c l' in let values = length-set vs c (pair_value l') in omega arith));

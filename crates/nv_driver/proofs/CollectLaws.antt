@@ -22,7 +22,8 @@ use Rattle.nv_command.specs.declared.command.Command.{Command}
 use Rattle.nv_bus.specs.Call.{length_of}
 use Rattle.nv_driver.specs.CommandPages.{AreTaken, all_pages, data_pages, with_pages, without}
 use Rattle.nv_driver.specs.Schedule.{Answer, Collect, Happens, Holds, Numbered, Sent, answer_awaited, answer_from}
-use Rattle.nv_driver.specs.Schedule.{answer_read, answers_to, awaited, collect_ring, data_length, number, own_pages, places}
+use Rattle.nv_driver.specs.Schedule.{answer_read, answers_to, awaited, collect_ring}
+use Rattle.nv_driver.specs.Schedule.{data_length, number, own_pages, places}
 use Rattle.nv_driver.specs.Schedule.{received_from, slot, submit_ring}
 use Rattle.nv_driver.specs.Layout.{pages_of_command}
 use Rattle.nv_driver.specs.UnderWay.{HasAnswers, IsKept, IsUnderWay, Run, kept_at, pages_of_all, serial_at, setting_of}
@@ -98,7 +99,8 @@ module _ {r : Run} {bells turns : ℕ} {b : Batch} {l : QueuePairFields} {now : 
   held_here : b.collected < turns → Holds (setting_of r) r.bus.state (world u) b.collected next_one
   held_here more = u.keeps.held b.collected no_command (omega (arith, u.collected)) more
 
-  head_is : {q : Cqe} → b.collected < turns → q ≡ completion_at bytes (setting_of r).cq (slot (setting_of r) b.collected)
+  head_is : {q : Cqe} → b.collected < turns → q ≡ completion_at bytes (setting_of r).cq (slot
+      (setting_of r) b.collected)
       → q.sq_head ≡ slot (setting_of r) (b.collected + 1)
   head_is more is = ap (λ (c : Cqe). c.sq_head) is ∙ (held_here more).head
 
@@ -117,12 +119,14 @@ module _ {r : Run} {bells turns : ℕ} {b : Batch} {l : QueuePairFields} {now : 
     cid_below = let below = mod_below (r.pair.serial + b.collected) 65535 (omega arith) in omega (arith, cid_is, below)
 
     -- by its command identifier it is the awaited one
-    pub is_next : {n : ℕ} → n ≡ (l.serial + 65535 - q.cid) % 65535 → (n ≤ b.sent) × IsNext r turns b bytes q (b.sent - n)
+    pub is_next : {n : ℕ} → n ≡ (l.serial + 65535 - q.cid) % 65535 → (n ≤ b.sent) × IsNext r turns b bytes q
+        (b.sent - n)
     is_next {n} is =
         let to : n ≡ b.sent - b.collected =
         is ∙ ap (λ c. (l.serial + 65535 - c) % 65535) cid_is
         ∙ ap (λ (o : QueuePairFields). (o.serial + 65535 - serial_at r b.collected) % 65535) u.pair
-        ∙ distance_is r.pair.serial b.collected b.sent (no_more.0) (omega (arith, u.window, u.begun.geometry.window.1)) in
+        ∙ distance_is r.pair.serial b.collected b.sent (no_more.0) (omega
+        (arith, u.window, u.begun.geometry.window.1)) in
         (omega arith, record { more = more; completion = completion_is; at = omega (arith, no_more) })
 
     pub freed_between : IsSlotBetween l.submission.depth l.submission.known l.submission.submitted q.sq_head

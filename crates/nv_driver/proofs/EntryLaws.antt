@@ -222,7 +222,8 @@ module _ (t : Setting) (s : State) (w : World) (y : Scene) (d : Sent) (k : Keeps
       let head = slot_inside t (w.done + 1) some_slots.0 in
       let fits : CqeFits posted = completion_fits x.command x.cid (slot t (w.done + 1)) answer own.cid
       (omega (arith, some_slots)) sound in
-      subst (λ m. WritesCompletion one.moved m t.cq t.depth (slot t w.done) (posted_as t.depth (number t w.done) posted))
+      subst (λ m. WritesCompletion one.moved m t.cq t.depth (slot t w.done) (posted_as t.depth
+      (number t w.done) posted))
       (sym one.bytes) (put_written one.moved (now t w).completion posted some_slots.0 inside fits)
 
   -- it changes the pages of its command and the completion ring
@@ -236,7 +237,8 @@ module _ (t : Setting) (s : State) (w : World) (y : Scene) (d : Sent) (k : Keeps
 
   -- its own list and data, and those of others
   own_stays : Stays t x one.moved y.bytes
-  own_stays = stays_beside t x t.cq (16 * t.depth) one.moved y.bytes some (len ∙ sym size) own.enough own.completions beside
+  own_stays = stays_beside t x t.cq (16 * t.depth) one.moved y.bytes some (len
+      ∙ sym size) own.enough own.completions beside
 
   own_list : KeepsList (pointed t.page_size x w.mem) x.first x.second y.bytes
   own_list =
@@ -248,7 +250,8 @@ module _ (t : Setting) (s : State) (w : World) (y : Scene) (d : Sent) (k : Keeps
         in_second = λ many. rest.in_second many ∙ moved.in_second many;
       }
 
-  apart_from : (i : ℕ) (e : Sent) → length w.answers ≤ i → i < length w.sent → i ≢ w.done → AreApart (get_or w.sent i e) x
+  apart_from : (i : ℕ) (e : Sent) → length w.answers ≤ i → i < length w.sent → i ≢ w.done
+      → AreApart (get_or w.sent i e) x
   apart_from i e from high differ =
       let z = get_or w.sent i e in
       let is = get_or_default w.sent w.done e d below in
@@ -301,7 +304,8 @@ module _ (t : Setting) (s : State) (w : World) (y : Scene) (d : Sent) (k : Keeps
             holds_on t s w (world_after t w y) i (get_or w.sent i e)
             (written.others (slot t i) low (λ same. slots_differ t i w.done earlier
             (omega (arith, below, c.few)) (sym same)) ∙ slots_keep (slot t i) low)
-            (other_stays i e from (omega arith) (λ same. absurd (omega arith))).read (λ b. refl) (k.held i e from earlier)
+            (other_stays i e from (omega arith) (λ same. absurd (omega arith))).read (λ b. refl)
+            (k.held i e from earlier)
         | inr later ↦
             let is : i ≡ w.done = omega arith in
             let same = ap (λ j. get_or w.sent j e) is ∙ get_or_default w.sent w.done e d below in
@@ -335,7 +339,8 @@ module _ (t : Setting) (s : State) (w : World) (y : Scene) (d : Sent) (k : Keeps
             (k.to_send i e (omega arith) high);
         held = held_on;
         tags = subst (HoldsTags y.bytes t.cq t.depth) (number_next t w.done)
-            (tags_after one.moved y.bytes t.cq t.depth (number t w.done) posted (number_below t w.done some_slots.0) written
+            (tags_after one.moved y.bytes t.cq t.depth (number t w.done) posted
+            (number_below t w.done some_slots.0) written
             (λ j low. ap (λ (q : Cqe). q.phase) (slots_keep j low) ∙ k.tags j low));
         answers = k.answers;
       }

@@ -73,7 +73,8 @@ bell_keeps t s w w' k happens =
     let m = length w.sent in
     subst (Keeps t s) (sym happens)
     (told_otherwise t s w m w.told _ k
-    (let done : w.done ≤ m = omega (arith, c.done, c.rung) in let rung : m ≤ m = omega arith in assumption (done, rung, c))
+    (let done : w.done ≤ m = omega (arith, c.done, c.rung) in let rung : m ≤ m = omega arith in assumption
+    (done, rung, c))
     (ap (λ p. with_register_at p 0x1000 (slot t m)) k.bank
     ∙ tail_rung t w.rung w.done w.told m (omega (arith, c.done, c.rung)) (omega (arith, c.few, c.collected))))
 
@@ -137,7 +138,8 @@ collected_one t s w d k below =
     let is : a ≡ get_or all n a = (k.held n d (omega arith) below).answer a in
     record {
       placed = k.placed;
-      counts = rw more (let told : w.told ≤ n + 1 = omega (arith, c.told) in let collected : n + 1 ≤ w.done = omega arith in
+      counts = rw more (let told : w.told ≤ n + 1 = omega (arith, c.told) in let collected : n + 1 ≤ w.done = omega
+          arith in
           let few : length w.sent < n + 1 + t.depth = omega (arith, c.few) in assumption (told, collected, few, c));
       bank = k.bank;
       state = k.state;

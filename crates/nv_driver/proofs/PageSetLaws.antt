@@ -143,7 +143,8 @@ pub not_given : (s now : Pages) (pages : List ℕ) (at : ℕ) → now ≡ with_p
 not_given s now pages at is below none distinct =
     let p = get_or pages at 0 in
     ap (λ (x : Pages). set.contains x.members p) is ∙ union_in s.members (take at pages) p
-    ∙ or_from (set.contains s.members p) (is_in (take at pages) p) (none at 0 below) (not_before pages at below distinct)
+    ∙ or_from (set.contains s.members p) (is_in (take at pages) p) (none at 0 below)
+    (not_before pages at below distinct)
 
 -- ---- a full set, of which pages were taken and given back
 
@@ -163,7 +164,13 @@ full_length first (suc count) =
     ap (λ (m : Numbers). set.len m) (set.from_list_push nat_cmp_total nat_cmp-IsAntisymmetric
     (consecutive first count) (first + count))
     ∙ set.len-insert nat_cmp_total (set.from_list (consecutive first count)) (first + count)
-    ∙ grind (arith, set.contains-from_list_nat (consecutive first count) (first + count), full_length first count, outside)
+    ∙ grind (
+      arith,
+      set.contains-from_list_nat (consecutive first count)
+          (first + count),
+      full_length first count,
+      outside,
+    )
   where
     outside : is_in (consecutive first count) (first + count) ≡ false
     outside = false_from_ne_true _ (λ e. let h = in_consecutive first count (first + count) e in omega (arith, h.1))

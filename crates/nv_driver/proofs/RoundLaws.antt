@@ -58,7 +58,8 @@ written {r} {c = c} {value = value} {new = new} {bus = bus} {bus' = bus'} offset
     lawful banks change =
     let own = subst (λ v. bus'.banks ≡ slice_set bus.banks r.controller
     (with_register_at (bank_at bus.banks r.controller) offset v)) put
-    (subst (λ i. bus'.banks ≡ slice_set bus.banks i (with_register_at (bank_at bus.banks i) offset value)) same banks) in
+    (subst (λ i. bus'.banks ≡ slice_set bus.banks i (with_register_at (bank_at bus.banks i) offset value)) same
+    banks) in
     record {
       bus = lawful is.bus;
       state = state ∙ is.state;

@@ -144,7 +144,8 @@ written t s w new k leaves =
     let some : 0 < t.page_size = omega (arith, page_size_bounds t.page_size p.page_size) in
     let some_slots : 0 < t.depth = omega (arith, deep.0) in
     let stays = λ (n : ℕ) (d : Sent) (from : length w.answers ≤ n) (below : n < length w.sent).
-    same_stays t (get_or w.sent n d) w.mem new some leaves.len (k.own n d from below).enough (leaves.pages n d from below) in
+    same_stays t (get_or w.sent n d) w.mem new some leaves.len (k.own n d from below).enough
+    (leaves.pages n d from below) in
     record {
       placed = subst (HasRings t) (sym leaves.len) p;
       counts = k.counts;

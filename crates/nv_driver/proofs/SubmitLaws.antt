@@ -126,7 +126,8 @@ module _ (t : Setting) (s : State) (x : Sent) (w : World) (ready : List ℕ) (k 
       may.buffer.enough may.submissions (λ from i apart. submission_keeps ready
       (submit_ring t (length w.sent) (length w.answers)) (entry x) from i some_slots inside apart)
 
-  other_stays : (n : ℕ) (d : Sent) → length w.answers ≤ n → n < length w.sent → Stays t (get_or w.sent n d) w.mem next.mem
+  other_stays : (n : ℕ) (d : Sent) → length w.answers ≤ n → n < length w.sent
+      → Stays t (get_or w.sent n d) w.mem next.mem
   other_stays n d from below =
       let other = k.own n d from below in
       stays_apart t x (get_or w.sent n d) t.sq (64 * t.depth) w.mem next.mem some len only other.enough
@@ -174,7 +175,8 @@ module _ (t : Setting) (s : State) (x : Sent) (w : World) (ready : List ℕ) (k 
             (sym (take-append-le w.done w.sent (x ∷ []) (omega (arith, c.done, c.rung))));
         well_formed = k.well_formed;
         controller = k.controller;
-        own = rw len (each_more (λ _ y. IsOwn t (length w.mem) y) (length w.answers) w.sent x k.own (own_of t s w x k may));
+        own = rw len (each_more (λ _ y. IsOwn t (length w.mem) y) (length w.answers) w.sent x k.own
+            (own_of t s w x k may));
         apart = λ n j d from later below. apart_more t (length w.answers) w.sent x k.apart may.apart n
             j d from later below;
         named = each_more (λ n y. StaysNamed t.page_size y next.mem) (length w.answers) w.sent x

@@ -98,7 +98,8 @@ module _ {r : Run} {bells turns : ℕ} {b : Batch} {l : QueuePairFields} {now : 
       omega (arith, all, rest, now_has, few, times, u.begun.room)
 
   pub serial_below : l.serial < 65535
-  serial_below = rw (ap (λ (q : QueuePairFields). q.serial) u.pair) (mod_below (r.pair.serial + b.sent) 65535 (omega arith))
+  serial_below = rw (ap (λ (q : QueuePairFields). q.serial) u.pair) (mod_below (r.pair.serial + b.sent) 65535
+      (omega arith))
 
   pub has_slot : b.sent < b.collected + r.geometry.window → ¬ IsSubmitFull l.submission
   has_slot more full =
@@ -154,7 +155,8 @@ module _ {r : Run} {bells turns : ℕ} {b : Batch} {l l' : QueuePairFields} {now
       let g = r.geometry in
       let laid = u.begun.laid in
       let c = counts u in
-      let has : Has l.pages o g.page_size (length bytes) = has_taken refl (omega (arith, sub.few, seven_pages g.page_size u.begun.geometry.page_size)) sub.seven
+      let has : Has l.pages o g.page_size (length bytes) = has_taken refl (omega
+      (arith, sub.few, seven_pages g.page_size u.begun.geometry.page_size)) sub.seven
       sub.taken (still_inside u) in
       record {
         free = omega (arith, more, u.sent, u.collected, u.begun.geometry.window.2, u.begun.depth);
@@ -213,7 +215,8 @@ module _ {r : Run} {bells turns : ℕ} {b : Batch} {l l' : QueuePairFields} {now
       n d from (omega (arith, below, u.sent, length-append u.course.sent (new_one ∷ [])))
 
   all_held : pages_of_all (drop b.collected (u.course.sent ++ new_one ∷ [])) ≡ held u ++ own_pages new_one
-  all_held = let c = counts u in held_more u.course.sent new_one b.collected (omega (arith, c.collected, c.done, c.rung, u.sent))
+  all_held = let c = counts u in held_more u.course.sent new_one b.collected (omega
+      (arith, c.collected, c.done, c.rung, u.sent))
 
   pair_new : l' ≡ pair_at r (b.sent + 1) b.collected b.told
       (pages_of_all (drop b.collected (u.course.sent ++ new_one ∷ [])))
@@ -250,7 +253,12 @@ module _ {r : Run} {bells turns : ℕ} {b : Batch} {l l' : QueuePairFields} {now
       let can = subst CanBeSent (sym (is k)) (u.can b.sent k below) in
       let more_sent = length-append xs (new_one ∷ []) in
       record {
-        running = assumption (page ∙ u.page_size, size ∙ u.size, length-set b.outstanding (b.sent % 16) (Some o) ∙ u.room);
+        running = assumption (
+          page ∙ u.page_size,
+          size ∙ u.size,
+          length-set b.outstanding (b.sent % 16) (Some o)
+              ∙ u.room,
+        );
         course = record u.course { sent = xs ++ new_one ∷ [] };
         has = record {
           window = omega (arith, more);

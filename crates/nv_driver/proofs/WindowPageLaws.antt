@@ -1,6 +1,7 @@
 -- The pages of several outstanding commands.
 use Rattle.std.proofs.Common.{◌≡◌, ◌≢◌, ◌∙◌, ℕ, zero, suc, ◌+◌, ◌*◌, ◌<◌, ◌≤◌, ◌&&◌, ◌||◌, not, All}
-use Rattle.std.proofs.Common.{AllPairs, Bool, true, false, List, [], ◌∷◌, ◌++◌, add-one, ap, append-nil, append_assoc, arith, get_or, length}
+use Rattle.std.proofs.Common.{AllPairs, Bool, true, false, List, [], ◌∷◌}
+use Rattle.std.proofs.Common.{◌++◌, add-one, ap, append-nil, append_assoc, arith, get_or, length}
 use Rattle.std.proofs.Common.{length-append, nat_eq, refl, subst, sym, take}
 use Rattle.std.proofs.Math.Seq.{take-length}
 use Rattle.std.proofs.lemmas.Bool.{both_ways, or_parts}
@@ -114,16 +115,22 @@ taken_rest s qs ps t = record {
 
 pub gone : (s : Pages) (qs ps : List ℕ) (i d : ℕ) → i < length qs
     → set.contains (without s (qs ++ ps)).members (get_or qs i d) ≡ false
-gone s qs ps i d h = all_left (λ p. set.contains (without s (qs ++ ps)).members p ≡ false) qs ps (without_none s (qs ++ ps)) i d h
+gone s qs ps i d h = all_left (λ p. set.contains (without s (qs ++ ps)).members p ≡ false) qs ps (without_none s
+    (qs ++ ps)) i d h
 
 -- the first pages are given back
 pub given_back : (s : Pages) (qs ps : List ℕ) → AreTaken s (qs ++ ps)
     → with_pages (without s (qs ++ ps)) qs ≡ without s ps
-given_back s qs ps t = same_pages s _ _ (λ q. by_parts q (difference_in s.members (qs ++ ps) q) (difference_in s.members ps q)
+given_back s qs ps t = same_pages s _ _ (λ q. by_parts q (difference_in s.members (qs ++ ps) q)
+    (difference_in s.members ps q)
     (union_in (set.difference s.members (set.from_list (qs ++ ps))) qs q))
   where
     had : (q : ℕ) → is_in qs q ≡ true → (set.contains s.members q ≡ true) × (is_in ps q ≡ false)
-    had q e = (in_all (λ p. set.contains s.members p ≡ true) qs q (taken_first s qs ps t).had e, apart_in qs ps t.distinct q e)
+    had q e = (
+      in_all (λ p. set.contains s.members p ≡ true) qs q (taken_first s qs ps t).had e,
+      apart_in qs ps
+          t.distinct q e,
+    )
 
     by_parts : (q : ℕ) {a b c : Bool} → a ≡ (set.contains s.members q && not (is_in (qs ++ ps) q))
         → b ≡ (set.contains s.members q && not (is_in ps q)) → c ≡ (a || is_in qs q) → c ≡ b
