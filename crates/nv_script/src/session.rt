@@ -30,8 +30,8 @@ impl Answers {
 }
 
 /// Where a run stands between two lines: the driver of its bus, room for answers and for the
-/// controllers that a line lists, how many lines there were, and the status of the last one that has
-/// one.
+/// controllers that a line lists, how many lines there were, and the status of the last one that
+/// has one.
 #[derive(Drop)]
 pub struct Session {
     pub driver: Driver,

@@ -63,13 +63,14 @@ returns-in-Err-Refused-clause-left g c text p o m is stands =
     } in
     let same = result_asked p text r s serials n here stands.holds.reached stands.next stands.number
     ∙ ap (λ x. answer_result x (n + 1) s r come) left.0 in
+    let printed = c.print-in-Err-Refused.ensures in
     message_leaves p text lr (length (orders_of s r.query))
     (left_at o (g.O.Sink.state c.args.out.now).taken m (g.M.Sink.state c.args.messages.now).taken s)
     (g.B.Bus.meaning c.perform.new.bus).state _
     same stands.holds left.1.subsystem left.1.next (ap (λ n. n + 1) stands.number) refl
     (amid-all p text r s serials here stands.holds.reached stands.next)
     c.print-in-Err-Refused.result c.message-in-Err-Refused.result
-    (g.M.Sink.state c.print-in-Err-Refused.new.sink).taken _ refl c.message-in-Err-Refused.ensures.exact c.print-in-Err-Refused.ensures
+    (g.M.Sink.state c.print-in-Err-Refused.new.sink).taken _ refl c.message-in-Err-Refused.ensures.exact printed
 
 pub returns-in-Err-Memory-clause-left : goal.returns-in-Err-Memory-clause-left
 returns-in-Err-Memory-clause-left g c text p o m is stands =

@@ -13,11 +13,13 @@ use Rattle.nv_script.proofs.listing.list_controller.Goals as goal
 pub returns-in_err-tell-clause-left : goal.returns-in_err-tell-clause-left
 returns-in_err-tell-clause-left g c w is =
     let ctrl = c.args.ctrl in
+    let driver = c.args.driver.now in
+    let mid = g.B.Bus.meaning c.admin.new.bus in
     let first = c.admin.ensures in
     let e = err_from_is_err_and c.from_residual.result c.from_residual.ensures.1 in
     rw (e.1, e.2)
     (stopped_there w (g.B.Bus.meaning c.args.bus.now)
-    (g.B.Bus.meaning c.admin.new.bus) c.args.driver.now c.admin.new.self c.args.listing.now ctrl IdentifyController c.admin.result is
+    mid driver c.admin.new.self c.args.listing.now ctrl IdentifyController c.admin.result is
     c.requires.controller first.answer first.state first.driver (Unit {0}) c.in_err-tell.field-0.0
     (order_of ctrl (ActiveList 0) ∷ namespace_orders ctrl (above 0 (active_nsids w.state ctrl))) c.tell.new.self
     c.in_err-tell.ensures.refused)
@@ -36,11 +38,15 @@ returns-clause-left g c w is =
     let ns = c.nsids_in.result.now in
     let first = c.admin.ensures in
     let then = c.in_ok-attached.ensures in
+    let reply = c.admin.result in
+    let there = c.requires.controller in
+    let shown = c.in_ok-tell.ensures.told in
     leaves_after w (order_of ctrl IdentifyController ∷ order_of ctrl (ActiveList 0) ∷ [])
     (orders_of_controller w.state ctrl) c.list_namespaces.result (namespace_orders ctrl ns)
     (g.B.Bus.meaning c.list_namespaces.new.bus).state
     (serials_of c.list_namespaces.new.driver) c.list_namespaces.new.listing
-    (greeted_orders w ctrl b mid last d second after listing told c.admin.result _ is c.requires.controller first.answer first.state first.driver c.in_ok-tell.ensures.told then.answer then.state then.driver
-    _ ns refl c.nsids_in.ensures)
+    (greeted_orders w ctrl b mid last d second after listing told reply _ is there first.answer first.state
+    first.driver shown then.answer then.state then.driver _ ns refl c.nsids_in.ensures)
     (c.list_namespaces.ensures.left _
-    (greeted_listed w ctrl b mid last d second after listing told c.admin.result _ is c.requires.controller first.answer first.state first.driver c.in_ok-tell.ensures.told then.answer then.state then.driver))
+    (greeted_listed w ctrl b mid last d second after listing told reply _ is there first.answer first.state
+    first.driver shown then.answer then.state then.driver))
