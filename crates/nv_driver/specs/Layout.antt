@@ -18,6 +18,10 @@ completion_pages g = div_ceil (16 * g.depth) g.page_size
 abbrev pub most_bytes : ℕ
 most_bytes = 16384
 
+-- in how many pages they lie at most
+abbrev pub most_data_pages : ℕ
+most_data_pages = 5
+
 -- the most pages of one command: those of its data, one more where they begin inside a page, and
 -- two of a PRP list that begins inside a page
 abbrev pub pages_of_command : ℕ → ℕ

@@ -5,6 +5,7 @@ ghost use Rattle.std.specs.FinSet as set;
 ghost use Rattle.nv_host.specs.PageSets.{IsOf};
 ghost use Rattle.nv_driver.specs.CommandPages.{AreTaken, all_pages, data_pages};
 ghost use Rattle.nv_driver.specs.CommandPages.{with_pages, without};
+ghost use Rattle.nv_driver.specs.Layout.{most_data_pages};
 
 use nv_host::{PageNo, PageSet};
 use nv_prp::{Buffer, ListPlace};
@@ -24,7 +25,7 @@ impl CommandPages {
     /// Takes the pages of a command out of a set, in its order: two for a list, and so many for its
     /// data, at most five.
     pub(crate) fn take(free: &mut PageSet, data_pages: usize) -> CommandPages
-        requires few { data_pages ≤ 5 }
+        requires few { data_pages ≤ most_data_pages }
         requires enough { data_pages + 2 ≤ set.len free.old.members }
         ensures count { result.data_pages ≡ data_pages }
         ensures seven { length result.numbers ≡ 7 }
@@ -44,7 +45,7 @@ impl CommandPages {
 
     /// Gives the pages back to their set, which has none of them.
     pub(crate) fn give(&self, free: &mut PageSet)
-        requires few { self.now.data_pages ≤ 5 }
+        requires few { self.now.data_pages ≤ most_data_pages }
         requires own { All (λ p. IsOf free.old.first free.old.count p) (all_pages self.now) }
         requires none { All (λ p. set.contains free.old.members p ≡ false) (all_pages self.now) }
         requires distinct { AllPairs (λ p q. p ≢ q) (all_pages self.now) }
@@ -58,7 +59,7 @@ impl CommandPages {
 
     /// The pages of the data, which begins at an offset in bytes.
     pub(crate) fn buffer(&self, offset: u32) -> Buffer<'_>
-        requires few { self.now.data_pages ≤ 5 }
+        requires few { self.now.data_pages ≤ most_data_pages }
         ensures pages { result.pages.now ≡ data_pages self.now }
         ensures offset { result.offset ≡ offset }
     {

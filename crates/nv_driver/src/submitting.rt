@@ -13,7 +13,7 @@ ghost use Rattle.nv_queue.specs.Numbers.{next, slot_of};
 ghost use Rattle.nv_queue.specs.Rings.{IsSubmitFull};
 ghost use Rattle.nv_model.specs.Numbers.{serial_count};
 ghost use Rattle.nv_driver.specs.CommandPages.{data_pages};
-ghost use Rattle.nv_driver.specs.Layout.{most_bytes, pages_of_command};
+ghost use Rattle.nv_driver.specs.Layout.{most_bytes, most_data_pages, pages_of_command};
 ghost use Rattle.nv_driver.specs.Schedule.{CanBeSent};
 ghost use Rattle.nv_driver.specs.Submitting.{IsSubmitted};
 
@@ -45,7 +45,7 @@ fn page_count(geometry: CheckedGeometry, len: u32) -> usize
     requires len { len ≤ most_bytes }
     ensures enough { geometry.offset + len ≤ result * geometry.page_size }
     ensures few { result + 2 ≤ pages_of_command geometry.page_size }
-    ensures five { result ≤ 5 }
+    ensures most { result ≤ most_data_pages }
 {
     (geometry.offset + len).div_ceil(geometry.page_size) as usize
 }
@@ -58,7 +58,7 @@ fn build_pointer<M: HostMemory>(
     pages: &CommandPages,
     len: u32,
 ) -> (u64, u64)
-    requires few { pages.now.data_pages ≤ 5 }
+    requires few { pages.now.data_pages ≤ most_data_pages }
     requires limit { len ≤ most_bytes }
     requires buffer { IsBuffer (M.bytes mem.old) (M.page_len mem.old)
         (data_pages pages.now) geometry.offset len }

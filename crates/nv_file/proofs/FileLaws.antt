@@ -19,6 +19,7 @@ use Rattle.nv_file.proofs.CheckLaws.{step, done, ensure_law, readings_law}
 use Rattle.nv_file.proofs.KeyLaws.{integer_law, integer_or_law, text_law, tables_law}
 use Rattle.nv_file.proofs.KeyLaws.{tables_or_none_law, only_law}
 use Rattle.nv_file.proofs.TableLaws.{format_law, controller_law, namespace_law}
+use Rattle.nv_layout.specs.NsList.{most_nsids}
 
 abbrev top_value : Members → Top
 top_value m = record {
@@ -36,7 +37,7 @@ top_law : (m : Members) → top_of m ≡ checked (top_checks m) (top_value m)
 unfolding top_of top_checks
 top_law m =
     step _ _ _ _ (integer_law table.Top key.Version 1 2 m)
-    (step _ _ _ _ (integer_law table.Top key.Nn 1 1024 m)
+    (step _ _ _ _ (integer_law table.Top key.Nn 1 most_nsids m)
     (step _ _ _ _ (integer_law table.Top key.Tnvmcap 0 greatest_integer m)
     (step _ _ _ _ (integer_or_law table.Top key.Mc 0 0 3 m)
     (step _ _ _ _ (text_law table.Top key.Subnqn 223 m)

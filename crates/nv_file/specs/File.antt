@@ -22,6 +22,7 @@ use Rattle.nv_file.specs.KeyChecks.{no_other, each, number_at, text_at, tables_a
 use Rattle.nv_file.specs.Names.{keys_of}
 use Rattle.nv_file.specs.TableChecks.{format_checks, format_value, controller_checks}
 use Rattle.nv_file.specs.TableChecks.{controller_value, namespace_checks, namespace_value}
+use Rattle.nv_layout.specs.NsList.{most_nsids}
 
 -- ---- the top table
 
@@ -33,7 +34,7 @@ top_checks m =
     needed table.Top key.Version m
     ++ integer table.Top key.Version 1 2 m
     ++ needed table.Top key.Nn m
-    ++ integer table.Top key.Nn 1 1024 m
+    ++ integer table.Top key.Nn 1 most_nsids m
     ++ needed table.Top key.Tnvmcap m
     ++ integer table.Top key.Tnvmcap 0 greatest_integer m
     ++ integer table.Top key.Mc 0 3 m

@@ -14,6 +14,7 @@ use Rattle.nv_file.specs.FileValue.{FileValue}
 use Rattle.nv_file.specs.KeyReading.{integer, integer_or, text, tables, tables_or_none, only_known}
 use Rattle.nv_file.specs.KeyReading.{readings}
 use Rattle.nv_file.specs.TableReading.{format_of, controller_entry_of, namespace_entry_of}
+use Rattle.nv_layout.specs.NsList.{most_nsids}
 
 -- what the top table holds, before the tables in it are read
 pub record Top : Type 0 where
@@ -29,7 +30,7 @@ pub record Top : Type 0 where
 unfoldable pub top_of : Members → Result Top SubsystemError
 top_of members = do
   version ← integer table.Top key.Version 1 2 members
-  nn ← integer table.Top key.Nn 1 1024 members
+  nn ← integer table.Top key.Nn 1 most_nsids members
   tnvmcap ← integer table.Top key.Tnvmcap 0 greatest_integer members
   mc ← integer_or table.Top key.Mc 0 0 3 members
   subnqn ← text table.Top key.Subnqn 223 members

@@ -14,6 +14,7 @@ use Rattle.std.proofs.lemmas.List.{length-map}
 use Rattle.std.proofs.lemmas.List.Sums.{count_by-le-length, length-filter}
 use Rattle.nv_command.specs.Reply.{IsNsidList}
 use Rattle.nv_bits.specs.Numbers.{above}
+use Rattle.nv_layout.specs.NsList.{most_nsids}
 
 first : (a b : Bool) → T (a && b) → T a
 first true b p = tt
@@ -100,7 +101,7 @@ module _ {X : Type 0} where
         ∙ or-true (eq_by_cmp nat_cmp n e.0))),
   )
 
-  above_in : (after nn : ℕ) (es : List (ℕ × X)) → nn ≤ 1024 → AllByRecursion (λ e. (1 ≤ e.0)
+  above_in : (after nn : ℕ) (es : List (ℕ × X)) → nn ≤ most_nsids → AllByRecursion (λ e. (1 ≤ e.0)
       × (e.0 ≤ nn)) es → AllByRecursion (λ n. (n ≢ 0) × (n < 2 ^ 32))
       (above after (map (λ e. e.0) es))
   above_in after nn [] h a = tt
@@ -113,7 +114,7 @@ module _ {X : Type 0} where
       ]
 
   -- the keys of a map above a number, where each key is from 1 to nn
-  pub keys_fit : (after nn : ℕ) (m : map_of.FinMap nat_cmp X) → nn ≤ 1024
+  pub keys_fit : (after nn : ℕ) (m : map_of.FinMap nat_cmp X) → nn ≤ most_nsids
       → ((n : ℕ) → map_of.contains_key m n ≡ true → (1 ≤ n) × (n ≤ nn))
       → IsNsidList (above after (map_of.keys m))
   keys_fit after nn m h inside =

@@ -39,6 +39,7 @@ use Rattle.nv_model.proofs.UsedLaws.{used-empty, used-insert, used-remove}
 use Rattle.nv_model.specs.WellFormed.{AreValues, IsController, IsNamespace, IsWellFormed}
 use Rattle.nv_model.specs.declared.new_namespace.NewNamespace.{NewNamespace}
 use Rattle.nv_model.specs.declared.row.Row.{Row}
+use Rattle.nv_layout.specs.NsList.{most_nsids}
 
 -- ---- rows
 
@@ -96,7 +97,7 @@ free_is s n e =
     not_true true h = absurd (cc h)
     not_true false h = refl
 
-pub created_nsid_fits : (s : State) → s.nn ≤ 1024 → created_nsid s < 2 ^ 32
+pub created_nsid_fits : (s : State) → s.nn ≤ most_nsids → created_nsid s < 2 ^ 32
 created_nsid_fits s h = by (free_nsid s) refl
   where
     by : (o : Option ℕ) → free_nsid s ≡ o → unwrap_or o 0 < 2 ^ 32

@@ -12,6 +12,7 @@ use Rattle.nv_model.specs.Numbers.{greatest_integer}
 use Rattle.nv_layout.specs.Feature.{feature_of, is_value}
 use Rattle.nv_model.specs.Defaults.{AreDefaults, default_at}
 use Rattle.nv_model.specs.Identity.{Identity}
+use Rattle.nv_layout.specs.NsList.{most_nsids}
 
 -- 1 to most bytes, each 20h to 7Eh and the last one not a space
 abbrev pub is_text : ℕ → List ℕ → Bool
@@ -21,7 +22,7 @@ is_text most s =
 
 -- The greatest NSID, the capacity in bytes, where metadata can lie, and the name of the subsystem.
 pub record AreTopKeys (last_nsid capacity metadata : ℕ) (name : List ℕ) : Type 0 where
-  pub nn : (1 ≤ last_nsid) × (last_nsid ≤ 1024)
+  pub nn : (1 ≤ last_nsid) × (last_nsid ≤ most_nsids)
   pub tnvmcap : capacity ≤ greatest_integer
   pub mc : metadata ≤ 3
   pub subnqn : is_text 223 name ≡ true

@@ -25,6 +25,7 @@ use Rattle.nv_file.specs.declared.namespace.NamespaceEntry.{NamespaceEntry}
 use Rattle.nv_model.specs.declared.namespace.Namespace.{Namespace}
 use Rattle.nv_subsystem.proofs.FileStates.{state_ok}
 use Rattle.nv_model.proofs.InFormatLaws.{format_below}
+use Rattle.nv_layout.specs.NsList.{most_nsids}
 
 pub nsids_within : (f : File) → IsFile (file_view f) → (k : ℕ) (d : NamespaceEntry)
     → k < length f.namespaces.items → IsOf 1 f.nn (get_or f.namespaces.items k d).nsid
@@ -66,7 +67,7 @@ is_sound f slots cs h is views sized =
     ∙ length-map entries (controller_of (map namespace_entry_view f.namespaces.items)) in
     record {
       first = ap (λ m. m.first) is;
-      count = subst (λ (m : RangeMap Namespace). m.count ≤ 1024) (sym is) h.keys.nn.1;
+      count = subst (λ (m : RangeMap Namespace). m.count ≤ most_nsids) (sym is) h.keys.nn.1;
       formats = h.format_count;
       block_sizes = All-weaker IsFormat (λ x. x.lbads ≤ 16)
           (λ x is. is.lbads.1) f.formats.items h.formats;

@@ -5,6 +5,7 @@ use Rattle.nv_bits.specs.Slots.{RangeMap}
 use Rattle.nv_subsystem.specs.declared.controller.Controller.{Controller}
 use Rattle.nv_model.specs.declared.format.Format.{Format}
 use Rattle.nv_model.specs.declared.namespace.Namespace.{Namespace}
+use Rattle.nv_layout.specs.NsList.{most_nsids}
 
 -- a bit for each NSID, room for a value of each, room for ELPE + 1 log entries, and a greatest
 -- transfer within its limit
@@ -19,7 +20,7 @@ pub record IsSized (nn : ℕ) (x : Controller) : Type 0 where
 pub record IsSound (slots : RangeMap Namespace) (table : List Format) (cs : List Controller)
     : Type 0 where
   pub first : slots.first ≡ 1
-  pub count : slots.count ≤ 1024
+  pub count : slots.count ≤ most_nsids
   pub formats : (1 ≤ length table) × (length table ≤ 16)
   pub block_sizes : All (λ f. f.lbads ≤ 16) table
   pub in_formats : (n : ℕ) (x : Namespace) → map_of.get slots.values n ≡ Some x → x.format < 16

@@ -10,6 +10,7 @@ ghost use Rattle.nv_model.specs.Features.{write};
 ghost use Rattle.nv_model.specs.Reset.{all_restored};
 ghost use Rattle.nv_model.specs.ValueKey.{is_alone, key_of, recovery_key};
 ghost use Rattle.nv_subsystem.specs.ValueTable.{key_at, slot_of};
+ghost use Rattle.nv_layout.specs.NsList.{most_nsids};
 
 use crate::controller::{rule_for, rule_of};
 use crate::feature_value::default_of;
@@ -79,7 +80,7 @@ fn default_in(rules: &Slots<FeatureRule>, number: u32) -> u32
 impl FeatureValues {
     /// No values, with room for those of NSIDs from 1 to NN.
     pub(crate) fn new(alloc: Global, nn: u32) -> Result<FeatureValues, AllocError>
-        requires { nn ≤ 1024 }
+        requires { nn ≤ most_nsids }
         ensures { IfOk result (λ s. s ≡ record { nn = nn; values = map_of.empty }) }
     {
         let slots = Slots::new(alloc, 0, SLOTS_ALONE + nn)?;

@@ -14,6 +14,7 @@ ghost use Rattle.nv_subsystem.specs.FromFile.{controller_of, defaults_of, fill, 
 ghost use Rattle.nv_subsystem.specs.FromFile.{with_attachment, with_default, with_namespace};
 ghost use Rattle.nv_subsystem.specs.FromFile.{with_recovery, with_rule};
 ghost use Rattle.nv_subsystem.specs.Sound.{IsSized};
+ghost use Rattle.nv_layout.specs.NsList.{most_nsids};
 
 use crate::controller::{Controller, rule_of};
 use crate::error_log::ErrorLog;
@@ -52,7 +53,7 @@ pub(crate) fn slots(
     nn: u32,
     entries: &[NamespaceEntry],
 ) -> Result<Slots<Namespace>, SubsystemError>
-    requires count { nn ≤ 1024 }
+    requires count { nn ≤ most_nsids }
     requires nsids { All (λ n. IsOf 1 nn n.nsid) entries.now }
     ensures value { IfOk result (λ slots. slots ≡ record {
       first = 1;
@@ -184,7 +185,7 @@ fn feature_values(
     identity: &Identity,
     namespaces: &[NamespaceEntry],
 ) -> Result<FeatureValues, SubsystemError>
-    requires count { nn ≤ 1024 }
+    requires count { nn ≤ most_nsids }
     requires nsids { All (λ n. IsOf 1 nn n.nsid) namespaces.now }
     ensures value { IfOk result (λ values. values ≡ record {
       nn = nn;
@@ -207,7 +208,7 @@ fn controller(
     entry: ControllerEntry,
     namespaces: &[NamespaceEntry],
 ) -> Result<Controller, SubsystemError>
-    requires count { nn ≤ 1024 }
+    requires count { nn ≤ most_nsids }
     requires nsids { All (λ n. IsOf 1 nn n.nsid) namespaces.now }
     requires rules { All IsFeatureRule entry.rules.items }
     requires mdts { entry.identity.numbers.mdts ≤ 8 }
@@ -240,7 +241,7 @@ pub(crate) fn controllers(
     entries: Vec<ControllerEntry>,
     namespaces: &[NamespaceEntry],
 ) -> Result<Vec<Controller>, SubsystemError>
-    requires count { nn ≤ 1024 }
+    requires count { nn ≤ most_nsids }
     requires nsids { All (λ n. IsOf 1 nn n.nsid) namespaces.now }
     requires rules { All (λ e. All IsFeatureRule e.rules.items) entries.items }
     requires mdts { All (λ e. e.identity.numbers.mdts ≤ 8) entries.items }

@@ -5,6 +5,7 @@ ghost use Rattle.std.specs.FinMap as map_of;
 ghost use Rattle.nv_bits.specs.Numbers.{above};
 ghost use Rattle.nv_model.specs.Nsid.{concerned};
 ghost use Rattle.nv_model.specs.State.{ascending};
+ghost use Rattle.nv_layout.specs.NsList.{most_nsids};
 
 use crate::subsystem::Subsystem;
 use nv_bits::{BitSet, Slots};
@@ -14,7 +15,7 @@ use nv_model::Namespace;
 
 /// The attached NSIDs above one.
 pub(crate) fn attached_above(attached: &BitSet, after: u32, list: &mut NsList)
-    requires { attached.now.count ≤ 1024 }
+    requires { attached.now.count ≤ most_nsids }
     ensures { list.new ≡ above after (ascending attached.now.members) }
 {
     list.clear();
@@ -30,7 +31,7 @@ pub(crate) fn attached_above(attached: &BitSet, after: u32, list: &mut NsList)
 
 /// The allocated NSIDs above one.
 pub(crate) fn allocated_above(slots: &Slots<Namespace>, after: u32, list: &mut NsList)
-    requires { slots.now.count ≤ 1024 }
+    requires { slots.now.count ≤ most_nsids }
     ensures { list.new ≡ above after (map_of.keys slots.now.values) }
 {
     list.clear();

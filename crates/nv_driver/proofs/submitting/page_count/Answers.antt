@@ -23,8 +23,8 @@ returns-clause-few c =
     rw (← c.geometry.view_is) (enough_pages fields.offset c.args.len fields.page_size c.div_ceil.result
     g.page_size g.offset.1 c.requires.len c.div_ceil.ensures).1
 
-pub returns-clause-five : goal.returns-clause-five
-returns-clause-five c =
+pub returns-clause-most : goal.returns-clause-most
+returns-clause-most c =
     let g = c.geometry.invariant in
     let fields = c.geometry.inside in
     let few = (enough_pages fields.offset c.args.len fields.page_size c.div_ceil.result

@@ -15,7 +15,7 @@ build_pointer-prp1-requires-clause-buffer g c =
     let t = c.take-pages.ensures in
     let is = rw (c.geometry.view_is) at c.geometry.invariant in
     buffer_of c.args.geometry c.args.pair.now.pages c.take-pages.result _ _ _ is c.requires.page
-    (has_taken t.count c.page_count.ensures.five t.seven t.taken c.requires.inside)
+    (has_taken t.count c.page_count.ensures.most t.seven t.taken c.requires.inside)
     (rw (← t.count) at c.page_count.ensures.enough)
 
 pub build_pointer-prp1-requires-clause-list : goal.build_pointer-prp1-requires-clause-list
@@ -23,7 +23,7 @@ build_pointer-prp1-requires-clause-list g c =
     let t = c.take-pages.ensures in
     let is = rw (c.geometry.view_is) at c.geometry.invariant in
     list_of c.args.geometry c.args.pair.now.pages c.take-pages.result _ _ is c.requires.page
-    (has_taken t.count c.page_count.ensures.five t.seven t.taken c.requires.inside)
+    (has_taken t.count c.page_count.ensures.most t.seven t.taken c.requires.inside)
 
 pub build_pointer-prp1-requires-clause-distinct : goal.build_pointer-prp1-requires-clause-distinct
 build_pointer-prp1-requires-clause-distinct g c =
@@ -39,7 +39,7 @@ write_data-requires-clause-buffer g c =
     buffer_as (sym (b.page ∙ c.requires.page)) (sym c.buffer.ensures.pages) (sym offset)
     c.data_length-len.ensures.length
     (buffer_of geometry c.args.pair.now.pages c.take-pages.result _ geometry.page_size _ is refl
-    (has_taken t.count c.page_count.ensures.five t.seven t.taken (rw (b.len) c.requires.inside))
+    (has_taken t.count c.page_count.ensures.most t.seven t.taken (rw (b.len) c.requires.inside))
     (rw (← t.count) at c.page_count.ensures.enough))
 
 pub returns-clause-submitted : goal.returns-clause-submitted
@@ -61,7 +61,7 @@ returns-clause-submitted g c =
     let offset = c.buffer.ensures.offset ∙ ap (λ (q : Geometry). q.offset) c.geometry.view_is in
     let enough = rw (← t.count, len) at c.page_count.ensures.enough in
     let buffer = buffer_of geometry pair.pages pages before geometry.page_size _ is refl
-    (has_taken t.count c.page_count.ensures.five t.seven t.taken c.requires.inside) enough in
+    (has_taken t.count c.page_count.ensures.most t.seven t.taken c.requires.inside) enough in
     let is_built = built_by geometry x before built _ _ _ c.requires.page b.page len
     (search rules) (search rules) b.stays b.others b.len in
     record {
