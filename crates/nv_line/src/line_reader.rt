@@ -14,8 +14,8 @@ use bumpalo::collections::into_bump_slice;
 use nv_layout::CtrlList;
 use std::alloc::Global;
 
-/// Reads one line after another. What `clap` is told of a command is made where its word first comes
-/// up. Copies of the lines and their words stay in the room that it was given, which grows by each.
+/// Reads one line after another. What `clap` is told of a command is made where its word first
+/// comes up. Copies of the lines and their words stay in the room that it was given.
 #[derive(Drop)]
 pub struct LineReader<'a> {
     room: &'a Bump,

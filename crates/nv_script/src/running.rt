@@ -25,6 +25,18 @@ use nv_driver::Geometry;
 use nv_line::LineReader;
 use std::alloc::Global;
 
+/// Room for the lines that one piece of a script ends, and their words. It is had at once, so that
+/// a run of many lines holds no more than one of a few.
+const LINE_ROOM: usize = 32_768;
+
+/// Room for lines and their words, which grows where they need more than is had at once.
+fn line_room(alloc: Global) -> Bump {
+    match Bump::try_with_capacity(alloc, LINE_ROOM) {
+        Ok(room) => room,
+        Err(_) => Bump::new(alloc),
+    }
+}
+
 /// Executes the lines that a piece of a script ends, and holds what follows its last newline.
 fn feed<B: Bus, O: Sink, M: Sink>(
     alloc: Global,
@@ -52,7 +64,7 @@ fn feed<B: Bus, O: Sink, M: Sink>(
     ensures linked { IsLinked (B.meaning bus.new) session.new.driver }
     ensures number { OnOk result (session.new.number ≤ session.old.number + length piece.now) }
 {
-    let room = Bump::new(alloc);
+    let room = line_room(alloc);
     let mut reader = LineReader::new(alloc, &room);
     let mut rest = piece;
     while let Some(end) = memchr(b'\n', rest) {
@@ -90,7 +102,7 @@ fn finish<B: Bus, O: Sink, M: Sink>(
         (O.state out.new).has_failed (M.state messages.new).has_failed }
     ensures linked { IsLinked (B.meaning bus.new) session.new.driver }
 {
-    let room = Bump::new(alloc);
+    let room = line_room(alloc);
     let mut reader = LineReader::new(alloc, &room);
     if !line.is_empty() {
         execute_line(alloc, bus, session, out, messages, &mut reader, line.line())?;

@@ -9,7 +9,8 @@ use Rattle.nv_line.proofs.made_commands.MadeCommands.matches.Goals as goal
 
 pub invariant_of-self : goal.invariant_of-self
 invariant_of-self c =
-    All-set IsMade c.self.inside.made.items c.in_ok-place.place c.matches.new.self c.matches.ensures.made c.self.invariant
+    let items = c.self.inside.made.items in
+    All-set IsMade items c.in_ok-place.place c.matches.new.self c.matches.ensures.made c.self.invariant
 
 pub returns : goal.returns
 returns c =
