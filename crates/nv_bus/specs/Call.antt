@@ -45,6 +45,17 @@ length_of (FromHost n) = n
 abbrev pub within : ℕ → Transfer → Result Transfer StatusCode
 within limit moves = if nat_lt limit (length_of moves) then Err InvalidFieldInCommand else Ok moves
 
+-- which way the data of an entry goes, by the rules before that of its data pointer
+abbrev pub moves_of : ℕ → Sqe → Result Transfer StatusCode
+moves_of limit e = transfer_of e >>= within limit
+
+-- what an entry asks for with what the host sends, wherever that lies: a command, or the status of
+-- the first rule that it breaks
+abbrev pub asked_by : ℕ → Sqe → List ℕ → Result Command StatusCode
+asked_by limit e «data» = do
+  moves ← moves_of limit e
+  command_of e «data»
+
 -- where the data of an entry lies in the host's memory; an entry without data has no use for its
 -- data pointer
 abbrev pub data_places : ℕ → List ℕ → Sqe → Transfer → Result (List ℕ) StatusCode
@@ -63,6 +74,10 @@ sent_from (FromHost n) bytes places = read_at bytes places
 pub record Call : Type 0 where
   pub command : Command
   pub places : List ℕ
+
+abbrev pub command_in : Result Call StatusCode → Result Command StatusCode
+command_in (Ok call) = Ok call.command
+command_in (Err code) = Err code
 
 -- the rules in order: those of the entry alone, that of how much data it moves, those of its data
 -- pointer, those of the data that the host sends

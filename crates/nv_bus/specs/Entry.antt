@@ -17,7 +17,7 @@ use Rattle.nv_command.specs.declared.status_code.StatusCode.{StatusCode}
 use Rattle.nv_model.specs.State.{State}
 use Rattle.nv_model.specs.Step.{Step, refused, step, with_command}
 use Rattle.nv_register.specs.declared.rings.Rings.{Rings}
-use Rattle.nv_bus.specs.Call.{Call, call_of}
+use Rattle.nv_bus.specs.Call.{Call, call_of, command_in}
 use Rattle.nv_model.specs.Limit.{limit_of}
 use Rattle.nv_bus.specs.declared.told.Told.{Told}
 
@@ -39,13 +39,16 @@ call_in c x = call_of x.rings.page_size (limit_of x.state c) x.bytes (entry_in x
 
 -- an entry that breaks a rule is refused and booked with its own NSID; any other does its command's
 -- step
-abbrev pub step_unless : Result Call StatusCode → State → ℕ → Sqe → Step
-step_unless (Err code) s c e =
+abbrev pub asked_step : Result Command StatusCode → State → ℕ → (nsid cid : ℕ) → Step
+asked_step (Err code) s c nsid cid =
     record {
       answer = Err (status_of_code code);
-      state = with_command (refused s c e.nsid e.cid (refusal_by code)) c;
+      state = with_command (refused s c nsid cid (refusal_by code)) c;
     }
-step_unless (Ok call) s c e = step s c call.command e.cid
+asked_step (Ok k) s c nsid cid = step s c k cid
+
+abbrev pub step_unless : Result Call StatusCode → State → ℕ → Sqe → Step
+step_unless found s c e = asked_step (command_in found) s c e.nsid e.cid
 
 abbrev pub entry_step : ℕ → Scene → Step
 entry_step c x = step_unless (call_in c x) x.state c (entry_in x)

@@ -1,46 +1,20 @@
--- What an answer is, and that it is read as it is where its completion and its data lie.
-use Rattle.std.proofs.Common.{◌≡◌, ℕ, ◌<◌, ◌^◌, false, Err, List, None, Ok, Option, Some, ap, arith, lit<}
+-- An answer is read as it is where its completion and its data lie.
+use Rattle.std.proofs.Common.{◌≡◌, ℕ, ◌<◌, ◌^◌, Err, List, Ok, ap, lit<}
 use Rattle.std.proofs.Common.{refl, sym, ◌∙◌}
-use Rattle.std.proofs.lemmas.Bool.Decides.{nat_tests}
 use Rattle.nv_layout.specs.Cqe.{CqeFits}
-use Rattle.nv_layout.specs.Status.{StatusFits}
-use Rattle.nv_layout.specs.declared.status.Status.{Status}
-use Rattle.nv_command.specs.Refusal.{IsRefusal}
-use Rattle.nv_command.specs.Logs.{IsSendable, answer_received, received, without_phases}
-use Rattle.nv_command.specs.Reply.{FitsRecord, IsReplyTo, data_of, dword0_of, reply_in}
+use Rattle.nv_layout.specs.declared.cqe.Cqe.{Cqe}
+use Rattle.nv_command.specs.Logs.{received, without_phases}
+use Rattle.nv_command.specs.Reply.{FitsRecord, data_of, dword0_of, reply_in}
 use Rattle.nv_command.proofs.TravelLaws.{replies_travel}
-use Rattle.nv_command.specs.declared.command.Command.{Command}
-use Rattle.nv_command.specs.declared.refusal.Refusal.{Refusal}
 use Rattle.nv_command.specs.declared.reply.Reply.{Reply}
 use Rattle.nv_command.specs.declared.reply.Reply.TheVariants as reply
-use Rattle.nv_model.specs.Refusal.{refusal_of}
-use Rattle.nv_model.proofs.ReplyLaws.{reply_fits}
-use Rattle.nv_model.specs.State.{State}
-use Rattle.nv_model.specs.Step.{step, step_by}
-use Rattle.nv_model.proofs.StepLaws.{refusal_fits}
-use Rattle.nv_model.specs.WellFormed.{IsWellFormed}
 use Rattle.nv_bus.specs.Entry.{completion_with}
 use Rattle.nv_bus.proofs.TagLaws.{dword0_tagged, tagged}
-use Rattle.nv_command.specs.Command.{transfer_by}
 use Rattle.nv_queue.specs.Slots.{posted_as}
-use Rattle.nv_driver.specs.Schedule.{Answer, Sent, Setting, answer_read, is_success, places, received_from}
-
--- a reply that its command can have and its record holds, or a status that is no success
-abbrev pub IsAnswerTo : Command → Answer → Type 0
-IsAnswerTo k (Ok r) = IsReplyTo k r × FitsRecord r
-IsAnswerTo k (Err status) = StatusFits status × (is_success status ≡ false)
-
-no_success : (status : Status) → ((status.sct ≡ 0) × (status.sc ≡ 0) → ⊥) → is_success status ≡ false
-no_success status fails = grind (arith, nat_tests, fails)
-
-answer_by : (o : Option Refusal) (s : State) (c : ℕ) (k : Command) (cid : ℕ) → IsWellFormed s
-    → ((r : Refusal) → o ≡ Some r → IsRefusal r)
-    → IsAnswerTo k (step_by o s c k cid).answer
-answer_by None s c k cid w fits = let f = reply_fits s c k w in (f.is_reply, f.fits)
-answer_by (Some r) s c k cid w fits = let f = fits r refl in (f.status, no_success r.status f.fails)
-
-pub answer_sound : (s : State) (c : ℕ) (k : Command) (cid : ℕ) → IsWellFormed s → IsAnswerTo k (step s c k cid).answer
-answer_sound s c k cid w = answer_by (refusal_of s c k) s c k cid w (refusal_fits s c k)
+use Rattle.nv_driver.specs.Answer.{Answer}
+use Rattle.nv_driver.specs.Request.{Asked, IsReadable, received_as}
+use Rattle.nv_driver.specs.Schedule.{Delivers, IsAnswered, Sent, answer_to, bytes_read}
+use Rattle.nv_driver.proofs.AskedLaws.{IsAnswerTo}
 
 -- ---- completions
 
@@ -53,16 +27,20 @@ dword0_fits reply.Done fits = lit< tt
 dword0_fits (reply.Errors es) fits = lit< tt
 dword0_fits (reply.Smart r) fits = lit< tt
 
-pub completion_fits : (k : Command) (cid head : ℕ) (a : Answer) → cid < 2 ^ 16 → head < 2 ^ 16
-    → IsAnswerTo k a → CqeFits (completion_with cid head a)
-completion_fits k cid head (Ok r) low below is = record {
-  command_specific = dword0_fits r is.1;
+reply_fits : (asked : Asked) (r : Reply) → IsAnswerTo asked (Ok r) → FitsRecord r
+reply_fits (Ok k) r is = is.1
+reply_fits (Err code) r is = absurd is
+
+pub completion_fits : (asked : Asked) (cid head : ℕ) (a : Answer) → cid < 2 ^ 16 → head < 2 ^ 16
+    → IsAnswerTo asked a → CqeFits (completion_with cid head a)
+completion_fits asked cid head (Ok r) low below is = record {
+  command_specific = dword0_fits r (reply_fits asked r is);
   sq_head = below;
   sq_identifier = lit< tt;
   cid = low;
   status = record { sc = lit< tt; sct = lit< tt; crd = lit< tt };
 }
-completion_fits k cid head (Err status) low below is = record {
+completion_fits asked cid head (Err status) low below is = record {
   command_specific = lit< tt;
   sq_head = below;
   sq_identifier = lit< tt;
@@ -70,23 +48,29 @@ completion_fits k cid head (Err status) low below is = record {
   status = is.0;
 }
 
--- what a reply's command receives is the data of the reply, but for phase tags
-abbrev pub Delivers : Setting → Sent → List ℕ → Answer → Type 0
-Delivers t x mem (Ok reply) =
-    (r : Reply) × (without_phases r ≡ reply)
-    × (received_from (transfer_by x.command) mem (places t.page_size x) ≡ data_of x.command r)
-Delivers t x mem (Err status) = Unit {0}
+-- ---- what its completion and its data say
 
-pub answer_back : (t : Setting) (x : Sent) (mem : List ℕ) (depth n cid head : ℕ) (a : Answer)
-    → IsSendable x.command → IsAnswerTo x.command a
-    → Delivers t x mem a → answer_read t.page_size x mem
-    (posted_as depth n (completion_with cid head a)) ≡ answer_received x.command a
-answer_back t x mem depth n cid head (Ok reply) sends is delivered =
-    let k = x.command in
+reads_back : (asked : Asked) (bytes : List ℕ) (depth n cid head : ℕ) (a : Answer) → IsReadable asked
+    → IsAnswerTo asked a → Delivers asked a bytes
+    → answer_to asked (posted_as depth n (completion_with cid head a)) bytes ≡ received_as asked a
+reads_back (Ok k) bytes depth n cid head (Ok reply) sends is delivered =
     let r = delivered.0 in
     let same : without_phases r ≡ reply = delivered.1 in
     let with_tags = tagged k r reply same is in
     let back = (replies_travel k r with_tags.0 with_tags.1 sends).reply in
     rw delivered.2 (ap Ok (ap (λ (q : Reply). reply_in k (dword0_of q) (data_of k r)) (sym same)
     ∙ ap (λ d. reply_in k d (data_of k r)) (dword0_tagged r) ∙ back ∙ ap (received k) same))
-answer_back t x mem depth n cid head (Err status) sends is delivered = rw (is.1) refl
+reads_back (Ok k) bytes depth n cid head (Err status) sends is delivered = rw (is.1) refl
+reads_back (Err code) bytes depth n cid head (Ok reply) sends is delivered = absurd is
+reads_back (Err code) bytes depth n cid head (Err status) sends is delivered = refl
+
+pub answered : (page_size : ℕ) (x : Sent) (mem : List ℕ) (c : Cqe) (depth n cid head : ℕ) (a : Answer)
+    → c ≡ posted_as depth n (completion_with cid head a) → IsAnswerTo x.request.asked a
+    → Delivers x.request.asked a (bytes_read page_size x mem) → IsAnswered page_size x mem c a
+answered page_size x mem c depth n cid head a here is delivered = record {
+  dword0 = ap (λ (q : Cqe). q.command_specific) here;
+  status = ap (λ (q : Cqe). q.status) here;
+  bytes = delivered;
+  reads = λ can. ap (λ q. answer_to x.request.asked q (bytes_read page_size x mem)) here
+      ∙ reads_back x.request.asked (bytes_read page_size x mem) depth n cid head a can is delivered;
+}

@@ -3,23 +3,20 @@ use Rattle.std.proofs.Common.{◌≡◌, ◌∙◌, ℕ, zero, suc, ◌+◌, ◌
 use Rattle.std.proofs.Common.{length, map, refl, take, ◌-◌, ◌%◌, ◌≤◌, sym}
 use Rattle.std.proofs.lemmas.List.{length-map, take-map, take-take}
 use Rattle.std.proofs.lemmas.Nat.{mod_below}
-use Rattle.nv_command.specs.Logs.{answer_received}
 use Rattle.nv_command.specs.declared.command.Command.{Command}
 use Rattle.nv_model.specs.State.{State}
-use Rattle.nv_model.specs.Step.{Step, step, next_serial}
-use Rattle.nv_driver.specs.Schedule.{Answer, Numbered, Sent, after, answers_of_all, answers_to, numbered}
-use Rattle.nv_driver.specs.Schedule.{state_after_all}
-use Rattle.nv_driver.specs.Batch.{answers_of, from_serial, state_after}
+use Rattle.nv_model.specs.Step.{next_serial}
+use Rattle.nv_driver.specs.Answer.{Answer}
+use Rattle.nv_driver.specs.Request.{received_as}
+use Rattle.nv_driver.specs.Schedule.{Numbered, Sent, after, answers_of_all, answers_to, numbered}
+use Rattle.nv_driver.specs.Schedule.{state_after_all, step_after, step_of}
+use Rattle.nv_driver.specs.Batch.{answers_of, from_serial, numbered_command, state_after}
 
 -- ---- commands that were sent
 
--- what command x does after the first n of some commands
-abbrev pub step_after : ℕ → State → List Sent → ℕ → Sent → Step
-step_after c s xs n x = step (after c s (take n xs)) c x.command x.cid
-
 pub length-answers_of_all : (c : ℕ) (s : State) (xs : List Numbered) → length (answers_of_all c s xs) ≡ length xs
 length-answers_of_all c s [] = refl
-length-answers_of_all c s (x ∷ xs) = ap suc (length-answers_of_all c (step s c x.command x.cid).state xs)
+length-answers_of_all c s (x ∷ xs) = ap suc (length-answers_of_all c (step_of c s x).state xs)
 
 pub length-answers : (c : ℕ) (s : State) (xs : List Sent) → length (answers_to c s xs) ≡ length xs
 length-answers c s xs = length-answers_of_all c s (map numbered xs) ∙ length-map xs numbered
@@ -27,9 +24,9 @@ length-answers c s xs = length-answers_of_all c s (map numbered xs) ∙ length-m
 pub answers-append : (c : ℕ) (s : State) (xs ys : List Sent)
     → answers_to c s (xs ++ ys) ≡ answers_to c s xs ++ answers_to c (after c s xs) ys
 answers-append c s [] ys = refl
-answers-append c s (x ∷ xs) ys = ap (λ rest. answer_received x.command
-    (step s c x.command x.cid).answer ∷ rest) (answers-append c (step s c x.command x.cid).state xs
-    ys)
+answers-append c s (x ∷ xs) ys =
+    let one = step_of c s (numbered x) in
+    ap (λ rest. received_as x.request.asked one.answer ∷ rest) (answers-append c one.state xs ys)
 
 -- the state after one more
 after-suc : (c : ℕ) (s : State) (xs : List Sent) (n : ℕ) (d : Sent) → n < length xs
@@ -37,7 +34,7 @@ after-suc : (c : ℕ) (s : State) (xs : List Sent) (n : ℕ) (d : Sent) → n < 
 after-suc c s [] n d h = absurd (omega arith)
 after-suc c s (x ∷ []) zero d h = refl
 after-suc c s (x ∷ (y ∷ xs)) zero d h = refl
-after-suc c s (x ∷ xs) (suc n) d h = after-suc c (step s c x.command x.cid).state xs n d (omega arith)
+after-suc c s (x ∷ xs) (suc n) d h = after-suc c (step_of c s (numbered x)).state xs n d (omega arith)
 
 pub after_more : (c : ℕ) (s : State) (xs : List Sent) (n : ℕ) (d : Sent) → n < length xs
     → after c s (take (n + 1) xs) ≡ (step_after c s xs n (get_or xs n d)).state
@@ -45,11 +42,11 @@ after_more c s xs n d h = ap (λ k. after c s (take k xs)) (add-one n) ∙ after
 
 -- the answer to command n
 pub answer_at : (c : ℕ) (s : State) (xs : List Sent) (n : ℕ) (d : Sent) (e : Answer) → n < length xs
-    → get_or (answers_to c s xs) n e ≡ answer_received (get_or xs n d).command
+    → get_or (answers_to c s xs) n e ≡ received_as (get_or xs n d).request.asked
     (step_after c s xs n (get_or xs n d)).answer
 answer_at c s [] n d e h = absurd (omega arith)
 answer_at c s (x ∷ xs) zero d e h = refl
-answer_at c s (x ∷ xs) (suc n) d e h = answer_at c (step s c x.command x.cid).state xs n d e (omega arith)
+answer_at c s (x ∷ xs) (suc n) d e h = answer_at c (step_of c s (numbered x)).state xs n d e (omega arith)
 
 -- ---- serials
 
@@ -65,14 +62,14 @@ distance_is serial k m order near = omega arith
 
 -- command n of a list under its command identifier
 pub command_at : (serial n : ℕ) (ks : List Command) (d : Numbered) (e : Command) → serial < 65535 → n < length ks
-    → get_or (from_serial serial ks) n d ≡ record { command = get_or ks n e; cid = (serial + n) % 65535 }
+    → get_or (from_serial serial ks) n d ≡ numbered_command (get_or ks n e) ((serial + n) % 65535)
 command_at serial n [] d e below inside = absurd (omega arith)
 command_at serial zero (k ∷ ks) d e below inside =
-    let first : serial ≡ (serial + 0) % 65535 = omega arith in ap (λ i. record { command = k; cid = i }) first
+    let first : serial ≡ (serial + 0) % 65535 = omega arith in ap (numbered_command k) first
 command_at serial (suc n) (k ∷ ks) d e below inside =
     let same : (next_serial serial + n) % 65535 ≡ (serial + suc n) % 65535 = omega arith in
     command_at (next_serial serial) n ks d e (mod_below (serial + 1) 65535 (omega arith)) (omega arith)
-    ∙ ap (λ i. record { command = get_or ks n e; cid = i }) same
+    ∙ ap (numbered_command (get_or ks n e)) same
 
 pub length-from_serial : (serial : ℕ) (ks : List Command) → length (from_serial serial ks) ≡ length ks
 length-from_serial serial [] = refl
@@ -82,15 +79,14 @@ take-from_serial : (n serial : ℕ) (ks : List Command) → take n (from_serial 
 take-from_serial zero serial ks = refl
 take-from_serial (suc n) serial [] = refl
 take-from_serial (suc n) serial (k ∷ ks) =
-    ap (λ xs. record { command = k; cid = serial } ∷ xs) (take-from_serial n (next_serial serial) ks)
+    ap (λ xs. numbered_command k serial ∷ xs) (take-from_serial n (next_serial serial) ks)
 
 take-answers : (n c : ℕ) (s : State) (xs : List Numbered)
     → take n (answers_of_all c s xs) ≡ answers_of_all c s (take n xs)
 take-answers zero c s xs = refl
 take-answers (suc n) c s [] = refl
 take-answers (suc n) c s (x ∷ xs) =
-    ap (λ ys. answer_received x.command (step s c x.command x.cid).answer ∷ ys)
-    (take-answers n c (step s c x.command x.cid).state xs)
+    ap (λ ys. received_as x.asked (step_of c s x).answer ∷ ys) (take-answers n c (step_of c s x).state xs)
 
 -- where they are the first m of a list
 module _ (serial : ℕ) (ks : List Command) (xs : List Sent) (m : ℕ)

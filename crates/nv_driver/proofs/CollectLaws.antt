@@ -2,7 +2,7 @@
 use Rattle.std.specs.Prelude.{IfSome, IsSome, OnSome, Option, Some, set}
 use Rattle.std.proofs.Common.{◌≡◌, ◌∙◌, ℕ, ◌+◌, ◌-◌, ◌%◌, ◌<◌, ◌≤◌, All, AllPairs, List, [], ◌∷◌, ◌++◌, add-one}
 use Rattle.std.proofs.Common.{ap, arith, drop, false, get_or, inl, length, length-append, not, refl, subst, suc, sym}
-use Rattle.std.proofs.Common.{take, true, ◌==◌, ◌≢◌}
+use Rattle.std.proofs.Common.{Ok, take, true, ◌==◌, ◌≢◌}
 use Rattle.std.proofs.Math.Seq.{drop-cons}
 use Rattle.std.proofs.Math.ListN.{length-set}
 use Rattle.std.proofs.lemmas.List.{take_more, take_more_set}
@@ -19,10 +19,13 @@ use Rattle.nv_queue.specs.Slots.{IsAwaitedThere, awaited_completion, completion_
 use Rattle.nv_command.specs.Command.{transfer_by}
 use Rattle.nv_command.specs.Logs.{IsSendable}
 use Rattle.nv_command.specs.declared.command.Command.{Command}
+use Rattle.nv_command.specs.declared.command.Command.TheVariants.{ActiveList}
 use Rattle.nv_bus.specs.Call.{length_of}
 use Rattle.nv_driver.specs.CommandPages.{AreTaken, all_pages, data_pages, with_pages, without}
-use Rattle.nv_driver.specs.Schedule.{Answer, Collect, Happens, Holds, Numbered, Sent, answer_awaited, answer_from}
-use Rattle.nv_driver.specs.Schedule.{answer_read, answers_to, awaited, collect_ring}
+use Rattle.nv_driver.specs.Answer.{Answer}
+use Rattle.nv_driver.specs.Request.{Asked, IsReadable, Request, request_of}
+use Rattle.nv_driver.specs.Schedule.{Collect, Happens, Holds, Numbered, Sent, answer_awaited, answer_from}
+use Rattle.nv_driver.specs.Schedule.{answer_read, answer_to, answers_to, awaited, collect_ring}
 use Rattle.nv_driver.specs.Schedule.{data_length, number, own_pages, places}
 use Rattle.nv_driver.specs.Schedule.{received_from, slot, submit_ring}
 use Rattle.nv_driver.specs.Layout.{pages_of_command}
@@ -31,7 +34,7 @@ use Rattle.nv_driver.specs.declared.batch.Batch.{Batch}
 use Rattle.nv_driver.specs.declared.command_pages.CommandPages.{CommandPages}
 use Rattle.nv_driver.specs.declared.geometry.Geometry.{Geometry}
 use Rattle.nv_driver.specs.declared.queue_pair.QueuePair.{QueuePair as QueuePairFields}
-use Rattle.nv_driver.proofs.BatchLaws.{answers_are, distance_is}
+use Rattle.nv_driver.proofs.BatchLaws.{answer_at, answers_are, distance_is}
 use Rattle.nv_driver.proofs.CountLaws.{number_next}
 use Rattle.nv_driver.proofs.KeptLaws.{collect_keeps, is_found}
 use Rattle.nv_driver.proofs.ScheduleLaws.{collect_others}
@@ -41,6 +44,10 @@ use Rattle.nv_driver.proofs.SubmittingLaws.{buffer_as, of_set, pages_are, pair_b
 use Rattle.nv_driver.proofs.TurnLaws.{no_command}
 use Rattle.nv_driver.proofs.UnderWayLaws.{command_of, counts, held, pages_left, world}
 use Rattle.nv_driver.proofs.WindowPageLaws.{given_back, gone, taken_first, taken_rest}
+
+-- what was asked for is one command
+one_command : (asked : Asked) (k e : Command) → asked ≡ Ok k → asked ≡ Ok e → k ≡ e
+one_command asked k e is other = cc
 
 pub in_some : {X : Type 0} {P : Type 0} (o : Option X) (x : X) → o ≡ Some x → OnSome o P → P
 in_some {P = P} o x is all = subst (λ q. OnSome q P) is all
@@ -113,7 +120,7 @@ module _ {r : Run} {bells turns : ℕ} {b : Batch} {l : QueuePairFields} {now : 
 
     cid_is : q.cid ≡ serial_at r b.collected
     cid_is = ap (λ (c : Cqe). c.cid) completion_is ∙ (held_here more).cid
-        ∙ ap (λ (x : Numbered). x.cid) (command_of u b.collected no_command.command (omega (arith, no_more, more)))
+        ∙ ap (λ (x : Numbered). x.cid) (command_of u b.collected (ActiveList 0) (omega (arith, no_more, more)))
 
     pub cid_below : q.cid < 65535
     cid_below = let below = mod_below (r.pair.serial + b.collected) 65535 (omega arith) in omega (arith, cid_is, below)
@@ -263,14 +270,21 @@ module _ {r : Run} {bells turns : ℕ} {b : Batch} {l : QueuePairFields} {now : 
           })
 
       module _ {k : Command} {ks : List Command} (of_run : ks ≡ r.commands) (is : k ≡ get_or ks n k) where
-        same : k ≡ next_one.command
-        same = is ∙ ap (λ xs. get_or xs n k) of_run ∙ ap (λ i. get_or r.commands i k) e.at ∙ ap
-            (λ (x : Numbered). x.command) (sym (command_of u b.collected k (omega (arith, no_more, e.more))))
+        at_next : k ≡ get_or r.commands b.collected k
+        at_next = is ∙ ap (λ xs. get_or xs n k) of_run ∙ ap (λ i. get_or r.commands i k) e.at
+
+        -- it is what was sent
+        same : next_one.request ≡ request_of k
+        same =
+            let kept = kept_here in
+            let asked = ap (λ (x : Numbered). x.asked) (command_of u b.collected k (omega (arith, no_more, e.more))) in
+            ap (λ (x : Sent). x.request) kept.sent
+            ∙ ap request_of (one_command next_one.request.asked kept.command k
+            (ap (λ (x : Sent). x.request.asked) kept.sent) (asked ∙ ap Ok (sym at_next)))
 
         pub answer_sends : IsSendable k
         answer_sends =
-            subst IsSendable (sym same) (u.keeps.own b.collected no_command
-            (omega (arith, u.collected)) (omega (arith, no_more, e.more, u.sent))).can.sends
+            subst IsSendable (sym at_next) (u.can b.collected k (omega (arith, no_more, e.more, u.some))).sends
 
         module _ {pages : List ℕ} {from : ℕ} (of_data : pages ≡ data_pages o)
             (begins : from ≡ b.geometry.offset) where
@@ -279,11 +293,11 @@ module _ {r : Run} {bells turns : ℕ} {b : Batch} {l : QueuePairFields} {now : 
 
           pub answer_buffer : IsBuffer bytes now pages from (length_of (transfer_by k))
           answer_buffer = buffer_as (sym u.page_size) (sym of_data) (sym offset_is)
-              (ap (λ c. length_of (transfer_by c)) (sym same)) own_buffer
+              (ap (λ (q : Request). length_of q.transfer) same) own_buffer
 
           places_are : buffer_places now pages from (length_of (transfer_by k)) ≡ places r.geometry.page_size next_one
           places_are = places_as u.page_size (of_data ∙ sym one_is.of_data) (offset_is ∙ sym one_is.offset)
-              (ap (λ c. length_of (transfer_by c)) same)
+              (ap (λ (q : Request). length_of q.transfer) (sym same))
 
           answer_is : (d : Answer)
               → answer_from k q
@@ -292,8 +306,11 @@ module _ {r : Run} {bells turns : ℕ} {b : Batch} {l : QueuePairFields} {now : 
           answer_is d =
               let size = r.geometry.page_size in
               ap (λ at. answer_from k q (received_from (transfer_by k) bytes at)) places_are
-              ∙ ap (λ c. answer_from c q (received_from (transfer_by c) bytes (places size next_one))) same
-              ∙ ap (answer_read size next_one bytes) e.completion ∙ (held_here e.more).answer d
+              ∙ ap (λ (p : Request). answer_to p.asked q (received_from p.transfer bytes (places size next_one))) (sym same)
+              ∙ ap (answer_read size next_one bytes) e.completion
+              ∙ (held_here e.more).answer.reads (subst (λ (p : Request). IsReadable p.asked) (sym same) answer_sends)
+              ∙ sym (answer_at r.controller r.bus.state u.course.sent b.collected no_command d
+              (omega (arith, no_more, e.more, u.sent)))
 
           pub answers_more : {answers : List Answer} {a : Answer} → HasAnswers r b.collected answers
               → a ≡ answer_from k q

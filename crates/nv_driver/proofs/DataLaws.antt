@@ -13,7 +13,8 @@ use Rattle.nv_command.specs.declared.command.Command.TheVariants.{GetLog}
 use Rattle.nv_command.specs.declared.transfer.Transfer.{Transfer}
 use Rattle.nv_command.specs.declared.transfer.Transfer.TheVariants.{NoData, ToHost, FromHost}
 use Rattle.nv_bus.specs.Call.{length_of, sent_from}
-use Rattle.nv_driver.specs.Schedule.{CanBeSent, received_from}
+use Rattle.nv_driver.specs.Request.{CanBeSent}
+use Rattle.nv_driver.specs.Schedule.{received_from}
 
 -- ---- by commands
 

@@ -9,11 +9,14 @@ use Rattle.nv_host.specs.PageSets.{Pages}
 use Rattle.nv_queue.specs.Slots.{HoldsTags}
 use Rattle.nv_command.specs.declared.command.Command.{Command}
 use Rattle.nv_register.specs.RegisterBank.{new_bank}
+use Rattle.nv_model.specs.Limit.{limit_of}
 use Rattle.nv_bus.specs.Bus.{BusValue, IsBus, bank_at}
 use Rattle.nv_driver.specs.Batch.{answers_of, from_serial, state_after}
 use Rattle.nv_driver.specs.Exchange.{IsReady, KeepsOthers}
 use Rattle.nv_driver.specs.Quiet.{pair_value}
-use Rattle.nv_driver.specs.Schedule.{number, Answer, CanBeSent, device_rings, bank_with}
+use Rattle.nv_driver.specs.Answer.{Answer}
+use Rattle.nv_driver.specs.Request.{CanBeSent}
+use Rattle.nv_driver.specs.Schedule.{number, device_rings, bank_with}
 use Rattle.nv_driver.specs.UnderWay.{HasAnswers, IsBusOf, IsUnderWay, Run, pair_at, run_of, serial_at, setting_of}
 use Rattle.nv_driver.specs.declared.batch.Batch.{Batch}
 use Rattle.nv_driver.specs.declared.geometry.Geometry.{Geometry}
@@ -68,8 +71,8 @@ begins_all {g} {c} {bus} {l} {now} {bytes} {commands} {answers} {r} {b} is ready
         keeps = rw (sent, collected, told) (idle_keeps t (beginning t bytes bus.state) idle);
         others = rw (sent, collected, told) (others_now t (beginning t bytes bus.state));
         collected = sym collected;
-        pair = rw (sent, collected, told) (pairs_same (submit_ring_is g c bytes l ready.quiet ready.laid.number)
-            (collect_ring_is g c bytes l ready.quiet ready.laid.number) serial (sym none.1));
+        pair = rw (sent, collected, told) (pairs_same (submit_ring_is g c (limit_of bus.state c) bytes l ready.quiet ready.laid.number)
+            (collect_ring_is g c (limit_of bus.state c) bytes l ready.quiet ready.laid.number) serial (sym none.1));
       };
       bus_is = record {
         bus = ready.bus;

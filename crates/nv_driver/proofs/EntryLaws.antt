@@ -1,6 +1,6 @@
 -- What taking one entry of a turn does and keeps.
 use Rattle.std.proofs.Common.{◌≡◌, ◌∙◌, ℕ, ◌+◌, ◌-◌, ◌*◌, ◌<◌, ◌≤◌, true, Err, List, Ok, Result, ap, arith, get_or}
-use Rattle.std.proofs.Common.{inl, inr, length, refl, subst, sym, ◌^◌, lit<, ◌≢◌}
+use Rattle.std.proofs.Common.{◌⊎◌, inl, inr, length, refl, subst, sym, ◌^◌, lit<, ◌≢◌}
 use Rattle.std.proofs.lemmas.Bool.{cases_lt, cases_eq}
 use Rattle.std.proofs.lemmas.List.{get_or_default}
 use Rattle.nv_host.specs.Bytes.{bytes_at}
@@ -9,42 +9,44 @@ use Rattle.nv_layout.specs.Cqe.{cqe_of_bytes, CqeFits}
 use Rattle.nv_layout.specs.declared.sqe.Sqe.{Sqe}
 use Rattle.nv_layout.specs.declared.cqe.Cqe.{Cqe}
 use Rattle.nv_prp.specs.Buffer.{KeepsList, ChangesOnly}
-use Rattle.nv_prp.specs.Place.{AreDistinct, read_at}
+use Rattle.nv_prp.specs.Place.{AreDistinct, read_at, written_at}
+use Rattle.nv_prp.proofs.PlaceLaws.{length-written_at}
 use Rattle.nv_queue.specs.Numbers.{above}
 use Rattle.nv_queue.specs.Slots.{completion_at, with_completion, HoldsTags, WritesCompletion, posted_as}
 use Rattle.nv_queue.proofs.SlotLaws.{length-with_completion, put_written}
 use Rattle.nv_queue.proofs.TagLaws.{tags_after}
-use Rattle.nv_command.specs.Command.{transfer_by, CommandFits, namespace_of}
+use Rattle.nv_command.specs.Command.{bytes_to_host}
 use Rattle.nv_command.specs.Reply.{data_of}
-use Rattle.nv_command.proofs.TravelLaws.{replies_fit, commands_travel}
+use Rattle.nv_command.proofs.TravelLaws.{replies_fit}
 use Rattle.nv_command.specs.declared.status_code.StatusCode.{StatusCode}
-use Rattle.nv_command.specs.declared.command.Command.{Command}
-use Rattle.nv_command.specs.Logs.{answer_received}
+use Rattle.nv_command.specs.declared.transfer.Transfer.{Transfer}
 use Rattle.nv_register.specs.declared.rings.Rings.{Rings}
 use Rattle.nv_model.specs.State.{State}
-use Rattle.nv_model.specs.Step.{step}
+use Rattle.nv_model.specs.Step.{Step}
 use Rattle.nv_model.specs.Limit.{limit_of}
-use Rattle.nv_model.proofs.LimitLaws.{limit_bounds}
 use Rattle.nv_model.specs.WellFormed.{IsWellFormed}
-use Rattle.nv_model.proofs.StepLaws.{step_controllers, step_keeps}
-use Rattle.nv_bus.specs.Call.{Call, call_of}
-use Rattle.nv_bus.specs.Entry.{Moves, MovesBy, One, Scene, completion_with, entry_in, scene, step_unless}
+use Rattle.nv_bus.specs.Call.{Call, call_of, command_in}
+use Rattle.nv_bus.specs.Entry.{MovesBy, One, asked_step, Scene, completion_with, entry_in, scene, step_unless}
 use Rattle.nv_bus.proofs.TagLaws.{tagged}
-use Rattle.nv_bus.proofs.TurnLaws.{can_means, length_moved}
+use Rattle.nv_bus.proofs.TurnLaws.{can_means}
 use Rattle.nv_bus.specs.Turn.{can_take, Takes}
-use Rattle.nv_driver.specs.Schedule.{Answer, AreOutside, Sent, Setting, World, data_length, device_rings, entry}
+use Rattle.nv_driver.specs.Answer.{Answer}
+use Rattle.nv_driver.specs.Schedule.{AreOutside, Sent, Setting, World, data_length, device_rings, entry}
 use Rattle.nv_driver.specs.Schedule.{number, own_pages, places, pointed, received_from, slot, AreApart, AreOthers}
-use Rattle.nv_driver.specs.Schedule.{Holds, answer_read, StaysNamed, bank_with}
+use Rattle.nv_driver.specs.Request.{Asked, GoesBy}
+use Rattle.nv_driver.specs.Schedule.{Delivers, Holds, IsAnswered, StaysNamed, bank_with, numbered, step_of}
 use Rattle.nv_driver.specs.Keeping.{IsOwn, Keeps, HasRings}
-use Rattle.nv_driver.proofs.AnswerLaws.{Delivers, IsAnswerTo, answer_back, answer_sound, completion_fits}
+use Rattle.nv_driver.proofs.AnswerLaws.{answered, completion_fits}
+use Rattle.nv_driver.proofs.AskedLaws.{IsAnswerTo, answer_sound, asked_controllers, asked_keeps}
+use Rattle.nv_driver.proofs.AskedLaws.{asked_limit}
 use Rattle.nv_driver.proofs.DataLaws.{ArePlaces, received_back, received_same}
 use Rattle.nv_driver.proofs.CountLaws.{number_above, number_next, number_below, slot_inside, slots_differ}
 use Rattle.nv_driver.proofs.RegionLaws.{written_list, Stays, stays_apart, stays_beside}
-use Rattle.nv_driver.proofs.PointerLaws.{entry_call, stays_in}
+use Rattle.nv_driver.proofs.PointerLaws.{call_at, entry_call, stays_in}
 use Rattle.nv_driver.proofs.RegionLaws.{data_keeps, length-places, outside_part, ChangesOnlyAt, apart-sym}
 use Rattle.nv_driver.proofs.RegionLaws.{completion_keeps, holds_sent_on, submission_stays}
 use Rattle.nv_driver.proofs.HeldLaws.{holds_on}
-use Rattle.nv_driver.proofs.BatchLaws.{after_more, answer_at}
+use Rattle.nv_driver.proofs.BatchLaws.{after_more}
 
 -- ---- which entry is taken
 
@@ -69,17 +71,28 @@ can_go t s w k can =
 
 -- ---- what taking it does
 
--- command x was done
+-- request x was done
 pub record IsDone (t : Setting) (w : World) (x : Sent) (y : Scene) : Type 0 where
-  pub state : y.state ≡ (step w.state t.controller x.command x.cid).state
+  pub state : y.state ≡ (step_of t.controller w.state (numbered x)).state
   pub rings : y.rings ≡ device_rings t w.rung (w.done + 1) w.told
   pub moved : List ℕ
-  pub moves : Moves x.command (places t.page_size x) (step w.state t.controller x.command x.cid).answer w.mem moved
+  pub moves : MovesBy (call_at (places t.page_size x) x.request.asked)
+      (step_of t.controller w.state (numbered x)).answer w.mem moved
   pub bytes : y.bytes ≡ with_completion moved (now t w).completion
-      (completion_with x.cid (slot t (w.done + 1)) (step w.state t.controller x.command x.cid).answer)
+      (completion_with x.cid (slot t (w.done + 1)) (step_of t.controller w.state (numbered x)).answer)
+
+asked_there : (at : List ℕ) (asked : Asked) → command_in (call_at at asked) ≡ asked
+asked_there at (Ok k) = refl
+asked_there at (Err code) = refl
+
+step_found : (s : State) (c : ℕ) (x : Sent) (at : List ℕ) (e : Sqe) (found : Result Call StatusCode) → e ≡ entry x
+    → found ≡ call_at at x.request.asked → step_unless found s c e ≡ step_of c s (numbered x)
+step_found s c x at e found is call =
+    ap (λ q. step_unless found s c q) is ∙ ap (λ f. step_unless f s c (entry x)) call
+    ∙ ap (λ asked. asked_step asked s c x.request.entry.nsid x.cid) (asked_there at x.request.asked)
 
 done_by : (t : Setting) (w : World) (x : Sent) (y : Scene) (e : Sqe) (found : Result Call StatusCode) → e ≡ entry x
-    → found ≡ Ok (record { command = x.command; places = places t.page_size x })
+    → found ≡ call_at (places t.page_size x) x.request.asked
     → y.state ≡ (step_unless found w.state t.controller e).state
     → y.rings ≡ device_rings t w.rung (w.done + 1) w.told
     → (moved : List ℕ) → MovesBy found (step_unless found w.state t.controller e).answer w.mem moved
@@ -88,12 +101,19 @@ done_by : (t : Setting) (w : World) (x : Sent) (y : Scene) (e : Sqe) (found : Re
     (step_unless found w.state t.controller e).answer)
     → IsDone t w x y
 done_by t w x y e found is call state rings moved moves bytes =
+    let at = places t.page_size x in
+    let step = step_found w.state t.controller x at e found is call in
     record {
-      state = rw (call, is) at state;
+      state = state ∙ ap (λ (q : Step). q.state) step;
       rings = rings;
       moved = moved;
-      moves = rw (call, is) at moves;
-      bytes = rw (call, is) at bytes;
+      moves = subst (λ f. MovesBy f (step_of t.controller w.state (numbered x)).answer w.mem moved) call
+          (subst (λ (q : Step). MovesBy found q.answer w.mem moved) step moves);
+      bytes = bytes
+          ∙ ap (λ (q : Sqe). with_completion moved (now t w).completion (completion_with q.cid (slot t (w.done + 1))
+          (step_unless found w.state t.controller e).answer)) is
+          ∙ ap (λ (q : Step). with_completion moved (now t w).completion
+          (completion_with x.cid (slot t (w.done + 1)) q.answer)) step;
     }
 
 pub is_done : (t : Setting) (s : State) (w : World) (y : Scene) (d : Sent) → Keeps t s w → w.done < length w.sent
@@ -106,72 +126,73 @@ is_done t s w y d k below one =
     done_by t w (get_or w.sent w.done d) y (entry_in (scene w.state (now t w) w.mem))
     (call_of t.page_size limit w.mem (entry_in (scene w.state (now t w) w.mem))) is
     (ap (call_of t.page_size limit w.mem) is
-    ∙ entry_call t (get_or w.sent w.done d) limit w.mem
-    (limit_bounds w.state t.controller k.well_formed k.controller).0 own.can own.cid
+    ∙ ap (λ n. call_of t.page_size n w.mem (entry (get_or w.sent w.done d))) k.limit
+    ∙ entry_call t (get_or w.sent w.done d) w.mem own.can own.cid
     (k.named w.done d k.counts.collected below) (k.to_send w.done d (omega arith) below))
     one.state (rw next_one at one.rings) one.bytes.0 one.bytes.1 (rw next_one at one.bytes.2)
 
 -- ---- the memory
 
--- the places of a command's data, and what is moved there
-pub moved_keeps : (t : Setting) (x : Sent) (a : Answer) (old moved : List ℕ) (from n : ℕ) → 0 < t.page_size
-    → x.offset + data_length x ≤ length x.pages * t.page_size
-    → Moves x.command (places t.page_size x) a old moved → AreOutside t.page_size x from n
-    → bytes_at moved from n ≡ bytes_at old from n
-moved_keeps t x (Ok reply) old moved from n some enough moves outside =
-    ap (λ m. bytes_at m from n) moves.2 ∙ data_keeps t.page_size x old (data_of x.command moves.0)
-    from n some enough outside
-moved_keeps t x (Err status) old moved from n some enough moves outside = ap (λ m. bytes_at m from n) moves
+-- what is moved goes to the places of the data, if anything is
+moves_there : (asked : Asked) (at : List ℕ) (a : Answer) (old moved : List ℕ) → MovesBy (call_at at asked) a old moved
+    → (moved ≡ old) ⊎ ((xs : List ℕ) × (moved ≡ written_at old at xs))
+moves_there (Ok k) at (Ok reply) old moved moves = inr (data_of k moves.0, moves.2)
+moves_there (Ok k) at (Err status) old moved moves = inl moves
+moves_there (Err code) at a old moved moves = inl moves
 
-pub moved_slot : (t : Setting) (x : Sent) (a : Answer) (old moved : List ℕ) (s : ℕ) → 0 < t.page_size
-    → x.offset + data_length x ≤ length x.pages * t.page_size
-    → Moves x.command (places t.page_size x) a old moved
-    → AreOutside t.page_size x t.cq (16 * t.depth) → s < t.depth
-    → completion_at moved t.cq s ≡ completion_at old t.cq s
-moved_slot t x a old moved s some enough moves outside below =
-    ap cqe_of_bytes (moved_keeps t x a old moved (t.cq + 16 * s) 16 some enough moves
-    (outside_part t x t.cq (16 * t.depth) (t.cq + 16 * s) 16 outside (omega arith) (omega arith)))
+module _ (t : Setting) (x : Sent) (a : Answer) (old moved : List ℕ) (some : 0 < t.page_size)
+    (enough : x.offset + data_length x ≤ length x.pages * t.page_size)
+    (moves : MovesBy (call_at (places t.page_size x) x.request.asked) a old moved) where
+  pub length-moves : length moved ≡ length old
+  length-moves = elim (moves_there x.request.asked (places t.page_size x) a old moved moves) [
+    | inl same ↦ ap (λ (m : List ℕ). length m) same
+    | inr put ↦ ap (λ (m : List ℕ). length m) put.1 ∙ length-written_at old (places t.page_size x) put.0
+  ]
 
-pub moved_list : (t : Setting) (x : Sent) (a : Answer) (old moved : List ℕ) → 0 < t.page_size
-    → x.offset + data_length x ≤ length x.pages * t.page_size → AreDistinct (own_pages x)
-    → Moves x.command (places t.page_size x) a old moved
-    → KeepsList (pointed t.page_size x old) x.first x.second moved
-moved_list t x (Ok reply) old moved some enough distinct moves =
-    subst (KeepsList (pointed t.page_size x old) x.first x.second) (sym moves.2)
-    (written_list t.page_size x old (data_of x.command moves.0) some enough distinct)
-moved_list t x (Err status) old moved some enough distinct moves =
-    subst (KeepsList (pointed t.page_size x old) x.first x.second) (sym moves)
-    (record { len = refl; in_first = λ many. refl; in_second = λ many. refl })
+  pub moved_keeps : (from n : ℕ) → AreOutside t.page_size x from n → bytes_at moved from n ≡ bytes_at old from n
+  moved_keeps from n outside = elim (moves_there x.request.asked (places t.page_size x) a old moved moves) [
+    | inl same ↦ ap (λ m. bytes_at m from n) same
+    | inr put ↦ ap (λ m. bytes_at m from n) put.1 ∙ data_keeps t.page_size x old put.0 from n some enough outside
+  ]
+
+  pub moved_slot : (s : ℕ) → AreOutside t.page_size x t.cq (16 * t.depth) → s < t.depth
+      → completion_at moved t.cq s ≡ completion_at old t.cq s
+  moved_slot s outside below =
+      ap cqe_of_bytes (moved_keeps (t.cq + 16 * s) 16
+      (outside_part t x t.cq (16 * t.depth) (t.cq + 16 * s) 16 outside (omega arith) (omega arith)))
+
+  pub moved_list : AreDistinct (own_pages x) → KeepsList (pointed t.page_size x old) x.first x.second moved
+  moved_list distinct = elim (moves_there x.request.asked (places t.page_size x) a old moved moves) [
+    | inl same ↦ subst (KeepsList (pointed t.page_size x old) x.first x.second) (sym same)
+        (record { len = refl; in_first = λ many. refl; in_second = λ many. refl })
+    | inr put ↦ subst (KeepsList (pointed t.page_size x old) x.first x.second) (sym put.1)
+        (written_list t.page_size x old put.0 some enough distinct)
+  ]
 
 -- a command's places are for its data
 are_places : (t : Setting) (x : Sent) (old : List ℕ) → IsOwn t (length old) x
-    → ArePlaces (transfer_by x.command) (length old) (places t.page_size x)
+    → ArePlaces x.request.transfer (length old) (places t.page_size x)
 are_places t x old own =
     let size = length-places t.page_size x in
     record { size = size; inside = λ i below. own.inside i (omega arith); distinct = own.distinct }
 
--- the data of a command's reply is received, also after its completion was put
-pub delivered : (t : Setting) (x : Sent) (a : Answer) (old moved new : List ℕ)
-    → IsAnswerTo x.command a → Moves x.command (places t.page_size x) a old moved
-    → IsOwn t (length old) x → read_at new (places t.page_size x) ≡ read_at moved
-    (places t.page_size x) → Delivers t x new a
-delivered t x (Ok reply) old moved new is moves own same =
-    let k = x.command in
-    let m = transfer_by k in
-    let at = places t.page_size x in
+-- the data of a reply is received, also after its completion was put
+delivered_by : (asked : Asked) (a : Answer) (m : Transfer) (at old moved new : List ℕ)
+    → IsAnswerTo asked a → GoesBy asked m → MovesBy (call_at at asked) a old moved
+    → ArePlaces m (length old) at → read_at new at ≡ read_at moved at → Delivers asked a (received_from m new at)
+delivered_by (Ok k) (Ok reply) m at old moved new is goes moves are same =
     let r = moves.0 in
     let with_tags = tagged k r reply moves.1 is in (
       r,
       moves.1,
       received_same m moved new at same ∙ ap (λ mem. received_from m mem at) moves.2
-          ∙ received_back m old at (data_of k r) (are_places t x old own) (replies_fit k r with_tags.0 with_tags.1),
+          ∙ received_back m old at (data_of k r) are
+          (replies_fit k r with_tags.0 with_tags.1 ∙ ap bytes_to_host goes.0),
     )
-delivered t x (Err status) old moved new is moves own same = tt
+delivered_by (Ok k) (Err status) m at old moved new is goes moves are same = tt
+delivered_by (Err code) a m at old moved new is goes moves are same = tt
 
 -- ---- what the entry keeps
-
-nsid_fits : (k : Command) → CommandFits k → namespace_of k < 2 ^ 32
-nsid_fits k fits = (commands_travel k 0 fits (lit< tt)).fits.nsid
 
 -- the schedule after one entry
 abbrev pub world_after : Setting → World → Scene → World
@@ -189,7 +210,7 @@ module _ (t : Setting) (s : State) (w : World) (y : Scene) (d : Sent) (k : Keeps
   x = get_or w.sent w.done d
 
   abbrev answer : Answer
-  answer = (step w.state t.controller x.command x.cid).answer
+  answer = (step_of t.controller w.state (numbered x)).answer
 
   abbrev posted : Cqe
   posted = completion_with x.cid (slot t (w.done + 1)) answer
@@ -203,11 +224,11 @@ module _ (t : Setting) (s : State) (w : World) (y : Scene) (d : Sent) (k : Keeps
   some_slots : (0 < t.depth) × (t.depth ≤ 4096)
   some_slots = let deep = k.placed.deep in (omega (arith, deep.0), deep.1)
 
-  sound : IsAnswerTo x.command answer
-  sound = answer_sound w.state t.controller x.command x.cid k.well_formed
+  sound : IsAnswerTo x.request.asked answer
+  sound = answer_sound x.request.asked w.state t.controller x.request.entry.nsid x.cid k.well_formed
 
   size : length one.moved ≡ length w.mem
-  size = length_moved x.command (places t.page_size x) answer w.mem one.moved one.moves
+  size = length-moves t x answer w.mem one.moved some own.enough one.moves
 
   inside : t.cq + 16 * t.depth ≤ length one.moved
   inside = omega (arith, size, k.placed.completions)
@@ -220,7 +241,7 @@ module _ (t : Setting) (s : State) (w : World) (y : Scene) (d : Sent) (k : Keeps
       (posted_as t.depth (number t w.done) posted)
   written =
       let head = slot_inside t (w.done + 1) some_slots.0 in
-      let fits : CqeFits posted = completion_fits x.command x.cid (slot t (w.done + 1)) answer own.cid
+      let fits : CqeFits posted = completion_fits x.request.asked x.cid (slot t (w.done + 1)) answer own.cid
       (omega (arith, some_slots)) sound in
       subst (λ m. WritesCompletion one.moved m t.cq t.depth (slot t w.done) (posted_as t.depth
       (number t w.done) posted))
@@ -233,7 +254,7 @@ module _ (t : Setting) (s : State) (w : World) (y : Scene) (d : Sent) (k : Keeps
 
   only : ChangesOnlyAt t x t.cq (16 * t.depth) w.mem y.bytes
   only from i outside apart =
-      beside from i apart ∙ moved_keeps t x answer w.mem one.moved from i some own.enough one.moves outside
+      beside from i apart ∙ moved_keeps t x answer w.mem one.moved some own.enough one.moves from i outside
 
   -- its own list and data, and those of others
   own_stays : Stays t x one.moved y.bytes
@@ -242,7 +263,7 @@ module _ (t : Setting) (s : State) (w : World) (y : Scene) (d : Sent) (k : Keeps
 
   own_list : KeepsList (pointed t.page_size x w.mem) x.first x.second y.bytes
   own_list =
-      let moved = moved_list t x answer w.mem one.moved some own.enough own.pages one.moves in
+      let moved = moved_list t x answer w.mem one.moved some own.enough one.moves own.pages in
       let rest = own_stays.list in
       record {
         len = rest.len ∙ moved.len;
@@ -282,17 +303,18 @@ module _ (t : Setting) (s : State) (w : World) (y : Scene) (d : Sent) (k : Keeps
   -- its answer, and those that were held
   held_now : Holds t s (world_after t w y) w.done x
   held_now = record {
-    answer = λ b. ap (answer_read t.page_size x y.bytes) written.here
-        ∙ answer_back t x y.bytes t.depth (number t w.done) x.cid (slot t (w.done + 1)) answer own.can.sends sound
-        (delivered t x answer w.mem one.moved y.bytes sound one.moves own own_stays.read)
-        ∙ sym (answer_at t.controller s w.sent w.done d b below ∙ ap
-        (λ (q : State). answer_received x.command (step q t.controller x.command x.cid).answer) (sym k.state));
+    answer = subst (λ (q : State). IsAnswered t.page_size x y.bytes (completion_at y.bytes t.cq (slot t w.done))
+        (step_of t.controller q (numbered x)).answer) k.state
+        (answered t.page_size x y.bytes (completion_at y.bytes t.cq (slot t w.done)) t.depth (number t w.done) x.cid
+        (slot t (w.done + 1)) answer written.here sound
+        (delivered_by x.request.asked answer x.request.transfer (places t.page_size x) w.mem one.moved y.bytes sound
+        own.can.command one.moves (are_places t x w.mem own) own_stays.read));
     cid = ap (λ (q : Cqe). q.cid) written.here;
     head = ap (λ (q : Cqe). q.sq_head) written.here;
   }
 
   slots_keep : (j : ℕ) → j < t.depth → completion_at one.moved t.cq j ≡ completion_at w.mem t.cq j
-  slots_keep j low = moved_slot t x answer w.mem one.moved j some own.enough one.moves own.completions low
+  slots_keep j low = moved_slot t x answer w.mem one.moved some own.enough one.moves j own.completions low
 
   held_on : (i : ℕ) (e : Sent) → length w.answers ≤ i → i < w.done + 1
       → Holds t s (world_after t w y) i (get_or w.sent i e)
@@ -304,7 +326,7 @@ module _ (t : Setting) (s : State) (w : World) (y : Scene) (d : Sent) (k : Keeps
             holds_on t s w (world_after t w y) i (get_or w.sent i e)
             (written.others (slot t i) low (λ same. slots_differ t i w.done earlier
             (omega (arith, below, c.few)) (sym same)) ∙ slots_keep (slot t i) low)
-            (other_stays i e from (omega arith) (λ same. absurd (omega arith))).read (λ b. refl)
+            (other_stays i e from (omega arith) (λ same. absurd (omega arith))).read refl
             (k.held i e from earlier)
         | inr later ↦
             let is : i ≡ w.done = omega arith in
@@ -322,11 +344,15 @@ module _ (t : Setting) (s : State) (w : World) (y : Scene) (d : Sent) (k : Keeps
         counts = let collected : length w.answers ≤ w.done + 1 = omega (arith, c.collected) in
             let done : w.done + 1 ≤ w.rung = omega arith in assumption (collected, done, free, c);
         bank = refl;
-        state = one.state ∙ ap (λ (q : State). (step q t.controller x.command x.cid).state) k.state
+        state = one.state ∙ ap (λ (q : State). (step_of t.controller q (numbered x)).state) k.state
             ∙ sym (after_more t.controller s w.sent w.done d below);
         well_formed = subst IsWellFormed (sym one.state)
-            (step_keeps w.state t.controller x.command x.cid (nsid_fits x.command own.can.fits) own.cid k.well_formed);
-        controller = rw (one.state, step_controllers w.state t.controller x.command x.cid) (k.controller);
+            (asked_keeps x.request.asked x.request.transfer w.state t.controller x.request.entry.nsid x.cid own.can.command
+            own.can.fits.nsid own.cid k.well_formed);
+        controller = rw (one.state, asked_controllers x.request.asked w.state t.controller x.request.entry.nsid x.cid)
+            (k.controller);
+        limit = ap (λ (q : State). limit_of q t.controller) one.state
+            ∙ asked_limit x.request.asked w.state t.controller x.request.entry.nsid x.cid t.controller ∙ k.limit;
         own = λ i e from high. subst (λ j. IsOwn t j (get_or w.sent i e)) (sym len) (k.own i e from high);
         apart = k.apart;
         named = named_on;

@@ -3,7 +3,7 @@ use Rattle.std.proofs.Common.{◌≡◌, ◌↔◌, ◌∙◌, ℕ, ◌+◌, ◌
 use Rattle.std.proofs.Common.{get_or, inl, inr, length, refl, subst, sym, take}
 use Rattle.std.proofs.Math.Nat.{mod-eq_of_lt}
 use Rattle.std.proofs.lemmas.Bool.{cases_lt}
-use Rattle.std.proofs.lemmas.List.{take_more}
+use Rattle.std.proofs.lemmas.List.{get_or_append_left, get_or_default, get_or_push}
 use Rattle.nv_queue.specs.Numbers.{kept_number, phase_of}
 use Rattle.nv_queue.proofs.SlotLaws.{not_own}
 use Rattle.nv_queue.specs.Slots.{HoldsTags, IsAwaitedThere, completion_at}
@@ -11,13 +11,14 @@ use Rattle.nv_queue.proofs.TagLaws.{tag_below_here, tag_there}
 use Rattle.nv_model.specs.State.{State}
 use Rattle.nv_register.specs.RegisterBank.{with_register_at}
 use Rattle.nv_register.specs.declared.register_bank.RegisterBank.{RegisterBank}
+use Rattle.nv_driver.specs.Request.{IsReadable}
 use Rattle.nv_driver.specs.Schedule.{Happens, IsIdle, Sent, Setting, World, answer_awaited, answers_to, awaited}
 use Rattle.nv_driver.specs.Schedule.{device_rings, number, bank_with, slot}
 use Rattle.nv_driver.specs.Schedule.{Bell, Collect, Holds, Tell}
 use Rattle.nv_driver.proofs.CountLaws.{head_told, number_above, number_below, numbers_differ, slot_inside, tail_rung}
 use Rattle.nv_driver.specs.Keeping.{AreInOrder, Keeps}
 use Rattle.nv_driver.proofs.HeldLaws.{holds_on}
-use Rattle.nv_driver.proofs.BatchLaws.{length-answers}
+use Rattle.nv_driver.proofs.BatchLaws.{answer_at}
 
 -- ---- the beginning
 
@@ -45,6 +46,7 @@ idle_keeps t w i =
       state = rw (i.done) refl;
       well_formed = i.state;
       controller = i.controller;
+      limit = i.limit;
       own = λ n d from below. absurd (omega (arith, no_sent));
       apart = λ n m d from later below. absurd (omega (arith, no_sent));
       named = λ n d from below. absurd (omega (arith, no_sent));
@@ -52,7 +54,7 @@ idle_keeps t w i =
       to_send = λ n d from below. absurd (omega (arith, no_sent));
       held = λ n d from below. absurd (omega (arith, i.done));
       tags = subst (HoldsTags w.mem t.cq t.depth) (number_zero t i.start ∙ ap (number t) (sym i.done)) i.tags;
-      answers = rw (i.answers) refl;
+      answers = λ n below. absurd (omega (arith, no_answers));
     }
 
 -- ---- doorbells change a count and the registers
@@ -64,7 +66,7 @@ told_otherwise : (t : Setting) (s : State) (w : World) (rung told : ℕ) (bank :
 told_otherwise t s w rung told bank k counts is =
     let v = record w { bank = bank; rung = rung; told = told } in
     let held : (n : ℕ) (d : Sent) → length w.answers ≤ n → n < w.done → Holds t s v n (get_or w.sent n d) =
-    λ n d from below. holds_on t s w v n (get_or w.sent n d) refl refl (λ b. refl) (k.held n d from below) in
+    λ n d from below. holds_on t s w v n (get_or w.sent n d) refl refl refl (k.held n d from below) in
     assumption (counts, is, held)
 
 pub bell_keeps : (t : Setting) (s : State) (w w' : World) → Keeps t s w → Happens t Bell w w' → Keeps t s w'
@@ -132,10 +134,7 @@ collected_one t s w d k below =
     let c = k.counts in
     let n = length w.answers in
     let a = answer_awaited t w (get_or w.sent n d) in
-    let all = answers_to t.controller s w.sent in
     let more : length (w.answers ++ a ∷ []) ≡ n + 1 = length-append w.answers (a ∷ []) in
-    let many : length all ≡ length w.sent = length-answers t.controller s w.sent in
-    let is : a ≡ get_or all n a = (k.held n d (omega arith) below).answer a in
     record {
       placed = k.placed;
       counts = rw more (let told : w.told ≤ n + 1 = omega (arith, c.told) in let collected : n + 1 ≤ w.done = omega
@@ -145,16 +144,26 @@ collected_one t s w d k below =
       state = k.state;
       well_formed = k.well_formed;
       controller = k.controller;
+      limit = k.limit;
       own = λ i e from high. k.own i e (omega arith) high;
       apart = λ i j e from later high. k.apart i j e (omega arith) later high;
       named = λ i e from high. k.named i e (omega arith) high;
       waiting = k.waiting;
       to_send = k.to_send;
-      held = λ i e from high. holds_on t s w _ i _ refl refl (λ b. refl) (k.held i e (omega arith) high);
+      held = λ i e from high. holds_on t s w _ i _ refl refl refl (k.held i e (omega arith) high);
       tags = k.tags;
-      answers = ap (λ xs. xs ++ a ∷ []) k.answers ∙ ap (λ x. take n all ++ x ∷ []) is
-          ∙ sym (take_more all n a (omega (arith, c.done, c.rung)))
-          ∙ ap (λ i. take i all) (sym more);
+      answers = λ i low x e can. elim (cases_lt i n) [
+        | inl l ↦ get_or_append_left w.answers (a ∷ []) e i l ∙ k.answers i l x e can
+        | inr g ↦
+            let last : i ≡ n = omega arith in
+            let inside : n < length w.sent = omega (arith, c.done, c.rung) in
+            let same : get_or w.sent i x ≡ get_or w.sent n d =
+            ap (λ j. get_or w.sent j x) last ∙ get_or_default w.sent n x d inside in
+            get_or_push w.answers a e i (sym last)
+            ∙ (k.held n d (omega arith) below).answer.reads (subst (λ (y : Sent). IsReadable y.request.asked) same can)
+            ∙ sym (answer_at t.controller s w.sent n d e inside)
+            ∙ ap (λ j. get_or (answers_to t.controller s w.sent) j e) (sym last)
+      ];
     }
 
 pub collect_keeps : (t : Setting) (s : State) (w w' : World) → Keeps t s w → Happens t Collect w w' → Keeps t s w'

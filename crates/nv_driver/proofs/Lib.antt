@@ -13,6 +13,8 @@ pub mod RegionLaws
 pub mod DataLaws
 pub mod PointerLaws
 pub mod KeptLaws
+pub mod AskedLaws
+pub mod RequestLaws
 pub mod AnswerLaws
 pub mod HeldLaws
 pub mod SubmitLaws

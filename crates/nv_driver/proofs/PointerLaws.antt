@@ -1,5 +1,5 @@
 -- A command whose pages were made ready: what a controller finds of its entry.
-use Rattle.std.proofs.Common.{◌≡◌, ◌∙◌, ◌^◌, ℕ, refl, inl, inr, ◌+◌, ◌*◌, ◌<◌, ◌≤◌, List, Ok, ap, arith, length}
+use Rattle.std.proofs.Common.{◌≡◌, ◌∙◌, ◌^◌, ℕ, refl, inl, inr, ◌+◌, ◌*◌, ◌<◌, ◌≤◌, List, Err, Ok, Result, ap, arith, length}
 use Rattle.std.proofs.Common.{sym}
 use Rattle.std.proofs.Math.Nat.{mul-le-mul_right}
 use Rattle.std.proofs.lemmas.Bool.{cases_lt}
@@ -10,19 +10,19 @@ use Rattle.nv_host.proofs.PageLaws.{page_size_bounds}
 use Rattle.nv_prp.specs.Buffer.{IsFor, KeepsList, buffer_place, buffer_places}
 use Rattle.nv_prp.proofs.PlaceLaws.{table-same}
 use Rattle.nv_prp.specs.Transfer.{IsLegal, PrpTransfer, place_of, transfer, transfer_places}
-use Rattle.nv_command.specs.Command.{transfer_by}
 use Rattle.nv_layout.specs.declared.sqe.Sqe.{Sqe}
 use Rattle.nv_command.specs.Decoding.{command_of, transfer_of}
-use Rattle.nv_command.proofs.TravelLaws.{commands_travel}
-use Rattle.nv_command.specs.declared.command.Command.{Command}
+use Rattle.nv_command.specs.declared.status_code.StatusCode.{StatusCode}
 use Rattle.nv_command.specs.declared.transfer.Transfer.{Transfer}
 use Rattle.nv_command.specs.declared.transfer.Transfer.TheVariants.{FromHost, NoData, ToHost}
-use Rattle.nv_bus.specs.Call.{call_of, data_places, length_of, places_of, sent_from, within}
-use Rattle.nv_bus.proofs.CallLaws.{legal_places, no_places, within_few}
+use Rattle.nv_layout.specs.Steps.{◌>>=◌}
+use Rattle.nv_bus.specs.Call.{Call, HasRoom, call_of, data_places, length_of, moves_of, places_of, sent_from, within}
+use Rattle.nv_bus.proofs.CallLaws.{legal_places, no_places}
 use Rattle.nv_driver.specs.Layout.{pages_of_command}
-use Rattle.nv_driver.specs.Schedule.{CanBeSent, HoldsSent, Sent, Setting, StaysNamed, data_length, entry, places}
+use Rattle.nv_driver.specs.Request.{Asked, IsRequest, moved_by}
+use Rattle.nv_driver.specs.Schedule.{HoldsSent, Sent, Setting, StaysNamed, data_length, entry, places}
 use Rattle.nv_driver.specs.Schedule.{pointed}
-use Rattle.nv_driver.proofs.DataLaws.{HasShape, most, nothing, shape}
+use Rattle.nv_driver.proofs.DataLaws.{nothing}
 use Rattle.nv_driver.proofs.RegionLaws.{length-places}
 
 -- ---- how many pages a command has
@@ -83,38 +83,65 @@ stays_in page_size x mem later keep stays some last next =
       in_second = λ many. next.in_second many ∙ keep.in_second many;
     })
 
--- ---- the command of the entry
+-- ---- what is found of the entry
 
-places_by : (m : Transfer) (page_size : ℕ) (mem : List ℕ) (e : Sqe) (at : List ℕ) → HasShape m
+-- a call with its data at these places, or the status of the first rule that was broken
+abbrev pub call_at : List ℕ → Asked → Result Call StatusCode
+call_at at (Ok k) = Ok (record { command = k; places = at })
+call_at at (Err code) = Err code
+
+places_by : (m : Transfer) (page_size : ℕ) (mem : List ℕ) (e : Sqe) (at : List ℕ) → HasRoom m
     → length at ≡ length_of m
     → (0 < length_of m → places_of (transfer page_size mem e.prp1 e.prp2 (length_of m)) ≡ Ok at)
     → data_places page_size mem e m ≡ Ok at
 places_by NoData page_size mem e at is size found =
     no_places page_size mem e NoData at refl (nothing at size)
 places_by (ToHost n) page_size mem e at is size found = found is.0
-places_by (FromHost n) page_size mem e at is size found = found (omega (arith, is))
+places_by (FromHost n) page_size mem e at is size found = found is.0
 
-call_by : (e : Sqe) (at : List ℕ) (k : Command) (page_size limit : ℕ) (mem : List ℕ) (m : Transfer)
-    → transfer_of e ≡ Ok m → within limit m ≡ Ok m → data_places page_size mem e m ≡ Ok at
-    → command_of e (sent_from m mem at) ≡ Ok k
-    → call_of page_size limit mem e ≡ Ok (record { command = k; places = at })
-call_by e at k page_size limit mem m moves few page command = rw (moves, few, page, command) refl
+-- the rules after those that come before the data pointer's
+abbrev call_with : ℕ → List ℕ → Sqe → Transfer → Result Call StatusCode
+call_with page_size mem e m = do
+  places ← data_places page_size mem e m
+  command ← command_of e (sent_from m mem places)
+  Ok (record { command = command; places = places })
 
--- The entry decodes to its command, whose data lies in its pages.
-pub entry_call : (t : Setting) (x : Sent) (limit : ℕ) (mem : List ℕ) → 16384 ≤ limit
-    → CanBeSent x.command → x.cid < 2 ^ 16
+in_order : (r : Result Transfer StatusCode) (limit page_size : ℕ) (mem : List ℕ) (e : Sqe)
+    → (r >>= (λ asked. within limit asked >>= call_with page_size mem e))
+    ≡ ((r >>= within limit) >>= call_with page_size mem e)
+in_order (Ok asked) limit page_size mem e = refl
+in_order (Err code) limit page_size mem e = refl
+
+call_ends : (found : Asked) (at : List ℕ)
+    → (found >>= (λ command. Ok (record { command = command; places = at }))) ≡ call_at at found
+call_ends (Ok k) at = refl
+call_ends (Err code) at = refl
+
+call_by : (r : Result Transfer StatusCode) (e : Sqe) (at sends : List ℕ) (page_size : ℕ) (mem : List ℕ) (asked : Asked)
+    → ((m : Transfer) → r ≡ Ok m
+    → (data_places page_size mem e m ≡ Ok at) × (sent_from m mem at ≡ sends))
+    → (r >>= (λ m. command_of e sends)) ≡ asked
+    → (r >>= call_with page_size mem e) ≡ call_at at asked
+call_by (Ok m) e at sends page_size mem asked lies is =
+    let h = lies m refl in
+    ap (λ (p : Result (List ℕ) StatusCode). p >>= (λ places. command_of e (sent_from m mem places)
+    >>= (λ command. Ok (record { command = command; places = places })))) h.0
+    ∙ ap (λ xs. command_of e xs >>= (λ command. Ok (record { command = command; places = at }))) h.1
+    ∙ ap (λ (q : Asked). q >>= (λ command. Ok (record { command = command; places = at }))) is
+    ∙ call_ends asked at
+call_by (Err code) e at sends page_size mem asked lies is = ap (call_at at) is
+
+-- The entry asks for what is said, with its data in its pages.
+pub entry_call : (t : Setting) (x : Sent) (mem : List ℕ) → IsRequest t.limit x.request → x.cid < 2 ^ 16
     → StaysNamed t.page_size x mem → HoldsSent t.page_size x mem
-    → call_of t.page_size limit mem (entry x)
-    ≡ Ok (record { command = x.command; places = places t.page_size x })
-entry_call t x limit mem enough can cid stays holds =
-    let k = x.command in
+    → call_of t.page_size t.limit mem (entry x) ≡ call_at (places t.page_size x) x.request.asked
+entry_call t x mem can cid stays holds =
     let at = places t.page_size x in
-    let arrives = commands_travel k x.cid can.fits cid in
     let names = names_in t.page_size x mem stays in
-    let few = most (transfer_by k) (shape k can.sends) in
-    let found = places_by (transfer_by k) t.page_size mem (entry x) at (shape k can.sends)
-    (length-places t.page_size x)
+    let found = places_by x.request.transfer t.page_size mem (entry x) at can.room (length-places t.page_size x)
     (λ some. legal_places (pointed t.page_size x mem) at (names.0 some) (sym names.1)) in
-    call_by (entry x) at k t.page_size limit mem (transfer_by k) (arrives.transfer x.prp1 x.prp2)
-    (within_few limit (transfer_by k) (omega arith)) found
-    (ap (command_of (entry x)) holds ∙ arrives.command x.prp1 x.prp2)
+    in_order (transfer_of (entry x)) t.limit t.page_size mem (entry x)
+    ∙ call_by (moves_of t.limit (entry x)) (entry x) at x.request.sends t.page_size mem x.request.asked
+    (λ m is. let same : m ≡ x.request.transfer = ap moved_by (sym is) ∙ can.transfer x.cid x.prp1 x.prp2 cid in
+    rw same (found, holds))
+    (can.asked x.cid x.prp1 x.prp2 cid)

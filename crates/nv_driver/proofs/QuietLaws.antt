@@ -5,6 +5,7 @@ use Rattle.std.proofs.Math.Nat.{mul-le-mul_right}
 use Rattle.nv_host.specs.PageSets.{IsOf, Pages}
 use Rattle.nv_prp.specs.Buffer.{IsApart}
 use Rattle.nv_queue.specs.Rings.{CollectNumbers}
+use Rattle.nv_model.specs.Limit.{limit_of}
 use Rattle.nv_model.specs.State.{State}
 use Rattle.nv_bus.specs.Bus.{BusValue}
 use Rattle.nv_driver.specs.Exchange.{IsReady, KeepsOthers}
@@ -33,32 +34,33 @@ beginning t bytes s = record {
 
 pub is_idle : (g : Geometry) (b : BusValue) (c : ℕ) (l : QueuePairFields) (now : ℕ) (bytes : List ℕ)
     → IsReady g b c l now bytes
-    → IsIdle (setting g c (pair_value l)) (beginning (setting g c (pair_value l)) bytes b.state)
+    → let t = setting g c (limit_of b.state c) (pair_value l) in IsIdle t (beginning t bytes b.state)
 is_idle g b c l now bytes r =
     let laid = r.laid in
-    let t = setting g c (pair_value l) in
+    let t = setting g c (limit_of b.state c) (pair_value l) in
     let rings : IsApart t.sq (64 * t.depth) t.cq (16 * t.depth) = inr laid.rings in
     let submissions : t.sq + 64 * t.depth ≤ length bytes = omega (arith, laid.rings, laid.pages, laid.inside) in
     let completions : t.cq + 16 * t.depth ≤ length bytes = omega (arith, laid.pages, laid.inside) in
     let bank : t.bank ≡ bank_with t (device_rings t 0 0 0) = rw (← number_zero t laid.number) refl in
-    let controller : c < length b.state.controllers = omega (arith, r.controller, r.bus.banks) in assumption
+    let controller : c < length b.state.controllers = omega (arith, r.controller, r.bus.banks) in
+    let limit : limit_of b.state c ≡ t.limit = refl in assumption
 
 -- the host's rings of a quiet queue pair are those of a schedule that begins
-pub submit_ring_is : (g : Geometry) (c : ℕ) (bytes : List ℕ) (l : QueuePairFields) → IsQuiet l
+pub submit_ring_is : (g : Geometry) (c limit : ℕ) (bytes : List ℕ) (l : QueuePairFields) → IsQuiet l
     → l.submission.submitted < 2 * l.submission.depth
-    → l.submission ≡ submit_ring (setting g c (pair_value l)) 0 0
-submit_ring_is g c bytes l quiet below =
-    rw (← number_zero (setting g c (pair_value l)) below) (ap (λ n. record l.submission { known = n }) quiet.known)
+    → l.submission ≡ submit_ring (setting g c limit (pair_value l)) 0 0
+submit_ring_is g c limit bytes l quiet below =
+    rw (← number_zero (setting g c limit (pair_value l)) below) (ap (λ n. record l.submission { known = n }) quiet.known)
 
-pub collect_ring_is : (g : Geometry) (c : ℕ) (bytes : List ℕ) (l : QueuePairFields) → IsQuiet l
+pub collect_ring_is : (g : Geometry) (c limit : ℕ) (bytes : List ℕ) (l : QueuePairFields) → IsQuiet l
     → l.submission.submitted < 2 * l.submission.depth
-    → l.completion ≡ collect_ring (setting g c (pair_value l)) 0 0
-collect_ring_is g c bytes l quiet below =
+    → l.completion ≡ collect_ring (setting g c limit (pair_value l)) 0 0
+collect_ring_is g c limit bytes l quiet below =
     let ring : ℕ → ℕ → ℕ → Bool → CollectNumbers = λ d n told untold.
     record { base = l.completion.base; depth = d; collected = n; told = told; untold = untold } in
     let all : ring l.completion.depth l.completion.collected l.completion.told l.completion.untold
     ≡ ring l.submission.depth l.submission.submitted l.submission.submitted false = cc in
-    rw (← number_zero (setting g c (pair_value l)) below) all
+    rw (← number_zero (setting g c limit (pair_value l)) below) all
 
 -- ---- the end
 
@@ -72,12 +74,12 @@ outside_pair s x page_size sq from n own low high apart i d h =
     grind (arith, apart, low, mul-le-mul_right page_size (own i d h).0, mul-le-mul_right page_size last)
 
 -- where each command's pages were of the queue pair's set
-pub others_kept : {g : Geometry} {b : BusValue} {c : ℕ} {l : QueuePairFields} {now : ℕ} {bytes : List ℕ}
-    {w : World} → IsReady g b c l now bytes → OthersStay (setting g c (pair_value l)) 0 bytes w
+pub others_kept : {g : Geometry} {b : BusValue} {c limit : ℕ} {l : QueuePairFields} {now : ℕ} {bytes : List ℕ}
+    {w : World} → IsReady g b c l now bytes → OthersStay (setting g c limit (pair_value l)) 0 bytes w
     → ((i : ℕ) (d : Sent) → i < length w.sent
     → All (λ p. IsOf l.pages.first l.pages.count p) (own_pages (get_or w.sent i d)))
     → KeepsOthers g.page_size (pair_value l) bytes w.mem
-others_kept {g} {b} {c} {l} {now} {bytes} {w} r others own from n apart =
+others_kept {g} {b} {c} {limit} {l} {now} {bytes} {w} r others own from n apart =
     let laid = r.laid in
     others.same from n (record {
       submissions = aside l.submission.base (64 * l.submission.depth)

@@ -22,7 +22,6 @@ use Rattle.nv_queue.specs.Rings.{PostNumbers, SubmitNumbers}
 use Rattle.nv_queue.specs.Slots.{completion_at, completion_place, put_as, submission_at, submission_place}
 use Rattle.nv_queue.specs.Slots.{with_completion, with_submission}
 use Rattle.nv_queue.proofs.SlotLaws.{slot_within}
-use Rattle.nv_command.specs.Command.{transfer_by}
 use Rattle.nv_driver.specs.Schedule.{AreApart, AreOutside, HoldsSent, Sent, Setting, data_length, own_pages, places}
 use Rattle.nv_driver.specs.Schedule.{pointed}
 use Rattle.nv_driver.proofs.DataLaws.{ArePlaces, sent_same}
@@ -98,7 +97,7 @@ length-places page_size x = length-table (data_length x) (buffer_place page_size
 -- the places of a command whose pages lie in the memory, no two of them one
 pub buffer_data : (page_size : ℕ) (x : Sent) (mem : List ℕ) → 0 < page_size
     → IsBuffer mem page_size x.pages x.offset (data_length x)
-    → AreDistinct x.pages → ArePlaces (transfer_by x.command) (length mem) (places page_size x)
+    → AreDistinct x.pages → ArePlaces x.request.transfer (length mem) (places page_size x)
 buffer_data page_size x mem some buffer distinct =
     let size = length-places page_size x in
     record {
@@ -233,7 +232,7 @@ pub holds_sent_on : (t : Setting) (x : Sent) (old new : List ℕ)
     → read_at new (places t.page_size x) ≡ read_at old (places t.page_size x)
     → HoldsSent t.page_size x old → HoldsSent t.page_size x new
 holds_sent_on t x old new same holds =
-    sent_same (transfer_by x.command) old new (places t.page_size x) same ∙ holds
+    sent_same x.request.transfer old new (places t.page_size x) same ∙ holds
 
 -- ---- the pages of a command's list
 

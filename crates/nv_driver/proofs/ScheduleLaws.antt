@@ -153,6 +153,7 @@ written t s w new k leaves =
       state = k.state;
       well_formed = k.well_formed;
       controller = k.controller;
+      limit = k.limit;
       own = rw (leaves.len) (k.own);
       apart = k.apart;
       named = λ n d from below.
@@ -165,7 +166,7 @@ written t s w new k leaves =
       held = λ n d from below.
           holds_on t s w (record w { mem = new }) n (get_or w.sent n d)
           (completion_same t w new (slot t n) leaves (slot_inside t n some_slots))
-          (stays n d from (omega (arith, c.done, c.rung))).read (λ b. refl) (k.held n d from below);
+          (stays n d from (omega (arith, c.done, c.rung))).read refl (k.held n d from below);
       tags = λ slot below. ap (λ (e : Cqe). e.phase) (completion_same t w new slot leaves below) ∙ k.tags slot below;
       answers = k.answers;
     }

@@ -8,8 +8,8 @@ use Rattle.nv_layout.specs.Sqe.{SqeFits, sqe_of_bytes}
 use Rattle.nv_prp.proofs.BufferLaws.{rest_distinct}
 use Rattle.nv_queue.proofs.SlotLaws.{length-with_submission, push_written}
 use Rattle.nv_queue.specs.Slots.{submission_at, with_submission}
-use Rattle.nv_command.proofs.TravelLaws.{commands_travel}
 use Rattle.nv_model.specs.State.{State}
+use Rattle.nv_driver.specs.Request.{IsReadable}
 use Rattle.nv_driver.specs.Schedule.{AreApart, AreOutside, Happens, Holds, HoldsSent, IsPrepared, MaySubmit, Sent}
 use Rattle.nv_driver.specs.Schedule.{Setting, StaysNamed, Submit, World, after, answers_to, entry, slot, submit_ring}
 use Rattle.nv_driver.proofs.CountLaws.{slot_inside, slots_differ}
@@ -49,8 +49,7 @@ slot_stays t x old ready s prepared outside below =
 
 entry_fits : (t : Setting) (w : World) (x : Sent) (ready : List ℕ) → MaySubmit t w x
     → IsPrepared t.page_size x w.mem ready → SqeFits (entry x)
-entry_fits t w x ready may prepared =
-    assumption (prepared.prp1, prepared.prp2, (commands_travel x.command x.cid may.can.fits may.cid).fits)
+entry_fits t w x ready may prepared = assumption (prepared.prp1, prepared.prp2, may.cid, may.can.fits)
 
 own_of : (t : Setting) (s : State) (w : World) (x : Sent) → Keeps t s w → MaySubmit t w x → IsOwn t (length w.mem) x
 own_of t s w x k may =
@@ -152,13 +151,11 @@ module _ (t : Setting) (s : State) (x : Sent) (w : World) (ready : List ℕ) (k 
       let c = k.counts in
       let y = get_or w.sent n d in
       let early : n < length w.sent = omega (arith, c.done, c.rung) in
-      let all = answers_to t.controller s w.sent in
       subst (Holds t s next n) (sym (get_or_append_left w.sent (x ∷ []) d n early))
       (holds_on t s w next n y (completion_stays t x w.mem next.mem (slot t n) only may.completions
       k.placed.rings (slot_inside t n some_slots))
       (other_stays n d from early).read
-      (λ e. ap (λ as_one. get_or as_one n e) (answers-append t.controller s w.sent (x ∷ []))
-      ∙ get_or_append_left all _ e n (omega (arith, length-answers t.controller s w.sent)))
+      (take-append-le n w.sent (x ∷ []) (omega arith))
       (k.held n d from below))
 
   submitted : Keeps t s next
@@ -175,6 +172,7 @@ module _ (t : Setting) (s : State) (x : Sent) (w : World) (ready : List ℕ) (k 
             (sym (take-append-le w.done w.sent (x ∷ []) (omega (arith, c.done, c.rung))));
         well_formed = k.well_formed;
         controller = k.controller;
+        limit = k.limit;
         own = rw len (each_more (λ _ y. IsOwn t (length w.mem) y) (length w.answers) w.sent x k.own
             (own_of t s w x k may));
         apart = λ n j d from later below. apart_more t (length w.answers) w.sent x k.apart may.apart n
@@ -191,9 +189,13 @@ module _ (t : Setting) (s : State) (x : Sent) (w : World) (ready : List ℕ) (k 
         held = held_still;
         tags = λ slot below. ap (λ e. e.phase) (completion_stays t x w.mem next.mem slot only
             may.completions k.placed.rings below) ∙ k.tags slot below;
-        answers = k.answers ∙ sym (ap (take (length w.answers)) (answers-append t.controller s w.sent (x ∷ []))
-            ∙ take-append-le (length w.answers) (answers_to t.controller s w.sent) _
-            (omega (arith, c.collected, c.done, c.rung, length-answers t.controller s w.sent)));
+        answers = λ n below d e can.
+            let all = answers_to t.controller s w.sent in
+            let early : n < length w.sent = omega (arith, c.collected, c.done, c.rung) in
+            k.answers n below d e (subst (λ (y : Sent). IsReadable y.request.asked)
+            (get_or_append_left w.sent (x ∷ []) d n early) can)
+            ∙ sym (ap (λ as_one. get_or as_one n e) (answers-append t.controller s w.sent (x ∷ []))
+            ∙ get_or_append_left all _ e n (omega (arith, length-answers t.controller s w.sent)));
       }
 
 pub submit_keeps : (t : Setting) (s : State) (x : Sent) (w w' : World) → Keeps t s w

@@ -12,7 +12,7 @@ use Rattle.nv_prp.specs.Buffer.{IsBuffer, IsListPlace, KeepsList, KeepsOutside, 
 use Rattle.nv_prp.proofs.BufferLaws.{rest_distinct}
 use Rattle.nv_prp.specs.Place.{AreDistinct, written_at}
 use Rattle.nv_prp.specs.Transfer.{transfer}
-use Rattle.nv_command.specs.Command.{CommandFits, host_data_of, transfer_by}
+use Rattle.nv_command.specs.Command.{bytes_from_host}
 use Rattle.nv_driver.specs.CommandPages.{AreTaken, all_pages, data_pages}
 use Rattle.nv_driver.specs.Geometry.{IsGeometry}
 use Rattle.nv_bus.specs.Call.{sent_from}
@@ -20,7 +20,7 @@ use Rattle.nv_driver.specs.Schedule.{AreOutside, IsPrepared, Sent, StaysNamed, d
 use Rattle.nv_driver.specs.declared.command_pages.CommandPages.{CommandPages}
 use Rattle.nv_driver.specs.declared.geometry.Geometry.{Geometry}
 use Rattle.nv_driver.specs.declared.queue_pair.QueuePair.{QueuePair as QueuePairFields}
-use Rattle.nv_driver.proofs.DataLaws.{ArePlaces, length-host_data, sent_back}
+use Rattle.nv_driver.proofs.DataLaws.{ArePlaces, sent_back}
 use Rattle.nv_driver.proofs.RegionLaws.{written_list}
 use Rattle.nv_driver.proofs.PointerLaws.{stays_in}
 use Rattle.nv_driver.proofs.RegionLaws.{buffer_data, data_keeps}
@@ -131,15 +131,15 @@ built_by g x old built page_size now len page after is_len first second stays ot
 
 -- and where what the host sends was written, the command is prepared
 pub prepared_by : (page_size : ℕ) (x : Sent) (old built new : List ℕ) → IsPageSize page_size
-    → CommandFits x.command → IsBuffer old page_size x.pages x.offset (data_length x)
+    → length x.request.sends ≡ bytes_from_host x.request.transfer → IsBuffer old page_size x.pages x.offset (data_length x)
     → AreDistinct (own_pages x) → IsBuilt page_size x old built
-    → new ≡ written_at built (places page_size x) (host_data_of x.command)
+    → new ≡ written_at built (places page_size x) x.request.sends
     → IsPrepared page_size x old new
-prepared_by page_size x old built new is fits buffer distinct b put =
+prepared_by page_size x old built new is sends buffer distinct b put =
     let some : 0 < page_size = omega (arith, page_size_bounds page_size is) in
-    let m = transfer_by x.command in
+    let m = x.request.transfer in
     let at = places page_size x in
-    let xs = host_data_of x.command in
+    let xs = x.request.sends in
     let size : length new ≡ length built =
     ap (λ (q : List ℕ). length q) put ∙ length-written_at built at xs in
     let theirs = subst (λ n. ArePlaces m n at) (sym b.len)
@@ -153,7 +153,7 @@ prepared_by page_size x old built new is fits buffer distinct b put =
       prp1 = b.prp1;
       prp2 = b.prp2;
       sent = ap (λ q. sent_from m q at) put
-          ∙ sent_back m built at xs theirs (length-host_data x.command fits);
+          ∙ sent_back m built at xs theirs sends;
       stays = stays_in page_size x built new
           (subst (KeepsList (pointed page_size x built) x.first x.second) (sym put)
           (written_list page_size x built xs some buffer.enough distinct)) b.stays;

@@ -6,6 +6,7 @@ use Rattle.nv_model.specs.State.{State}
 use Rattle.nv_bus.specs.Entry.{Scene, scene}
 use Rattle.nv_bus.proofs.TurnLaws.{turn_count_is}
 use Rattle.nv_bus.specs.Turn.{BankTurn, RingsLie, Site, Taken, Takes, ready_bank, turn_count, site}
+use Rattle.nv_driver.specs.Request.{request_of}
 use Rattle.nv_driver.specs.Schedule.{AreOthers, Happens, Sent, Setting, Turn, World, device_rings, least}
 use Rattle.nv_driver.specs.Schedule.{bank_with}
 use Rattle.nv_driver.proofs.CountLaws.{number_above, number_below}
@@ -16,7 +17,7 @@ use Rattle.nv_driver.proofs.EntryLaws.{is_done, can_go, now}
 -- a command that stands for none
 abbrev pub no_command : Sent
 no_command = record {
-  command = ActiveList 0;
+  request = request_of (ActiveList 0);
   cid = 0;
   pages = [];
   offset = 0;

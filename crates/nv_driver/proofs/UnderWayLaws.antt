@@ -16,11 +16,15 @@ use Rattle.nv_queue.specs.Rings.{IsSubmitFull, submitted_one}
 use Rattle.nv_queue.specs.Slots.{with_submission}
 use Rattle.nv_command.specs.declared.command.Command.{Command}
 use Rattle.nv_model.specs.Step.{next_serial}
+use Rattle.nv_model.specs.Limit.{limit_of}
+use Rattle.nv_model.proofs.LimitLaws.{limit_bounds}
+use Rattle.nv_driver.specs.Batch.{numbered_command}
 use Rattle.nv_driver.specs.CommandPages.{AreTaken, all_pages, without}
 use Rattle.nv_driver.specs.Exchange.{IsReady}
 use Rattle.nv_driver.specs.Keeping.{AreInOrder}
 use Rattle.nv_driver.specs.Layout.{pages_of_command}
-use Rattle.nv_driver.specs.Schedule.{AreOutside, CanBeSent, Happens, MaySubmit, Sent, Submit, World}
+use Rattle.nv_driver.specs.Request.{CanBeSent}
+use Rattle.nv_driver.specs.Schedule.{AreOutside, Happens, MaySubmit, Sent, Submit, World}
 use Rattle.nv_driver.specs.Schedule.{entry, numbered, own_pages, slot, submit_ring}
 use Rattle.nv_driver.specs.Submitting.{IsSubmitted, sent_by}
 use Rattle.nv_driver.specs.UnderWay.{IsKept, IsUnderWay, Run, kept_at, numbered_of, pages_of_all, pair_at, serial_at}
@@ -33,6 +37,7 @@ use Rattle.nv_driver.proofs.BatchLaws.{command_at, length-from_serial, serial_ne
 use Rattle.nv_driver.proofs.CountLaws.{number_above, number_next}
 use Rattle.nv_driver.proofs.PageSetLaws.{full_length, in_of, is_in}
 use Rattle.nv_driver.proofs.PointerLaws.{seven_pages}
+use Rattle.nv_driver.proofs.RequestLaws.{is_request}
 use Rattle.nv_driver.proofs.ScheduleLaws.{submit_others}
 use Rattle.nv_driver.proofs.SubmitLaws.{each_more, submit_keeps}
 use Rattle.nv_driver.proofs.SubmittingLaws.{Has, buffer_of, distinct_of, has_taken, list_of, pages_are, pairs_same}
@@ -65,7 +70,7 @@ module _ {r : Run} {bells turns : ℕ} {b : Batch} {l : QueuePairFields} {now : 
 
   -- command n under its command identifier
   pub command_of : (n : ℕ) (e : Command) → n < b.sent
-      → numbered (get_or u.course.sent n no_command) ≡ record { command = get_or r.commands n e; cid = serial_at r n }
+      → numbered (get_or u.course.sent n no_command) ≡ numbered_command (get_or r.commands n e) (serial_at r n)
   command_of n e below =
       sym (get_or-map numbered u.course.sent n no_command (numbered no_command) (omega (arith, u.sent)))
       ∙ ap (λ xs. get_or xs n (numbered no_command)) u.commands
@@ -160,7 +165,8 @@ module _ {r : Run} {bells turns : ℕ} {b : Batch} {l l' : QueuePairFields} {now
       sub.taken (still_inside u) in
       record {
         free = omega (arith, more, u.sent, u.collected, u.begun.geometry.window.2, u.begun.depth);
-        can = can;
+        can = is_request (limit_of r.bus.state r.controller) k (limit_bounds r.bus.state r.controller
+            u.begun.bus.state (omega (arith, u.begun.controller, u.begun.bus.banks))).0 can;
         cid = omega (arith, serial_below u);
         buffer = buffer_of g l.pages o bytes g.page_size _ u.begun.geometry refl has sub.enough;
         list = list_of g l.pages o bytes g.page_size u.begun.geometry refl has;
@@ -208,6 +214,7 @@ module _ {r : Run} {bells turns : ℕ} {b : Batch} {l l' : QueuePairFields} {now
         is_one = ap (λ i. get_or places (i % 16) None) u.sent
             ∙ get_or-set_same b.outstanding (b.sent % 16) (Some o) None
             (omega (arith, u.room, mod_below b.sent 16 (omega arith)));
+        command = k;
         sent = refl;
         few = sub.few;
         seven = sub.seven;
@@ -237,8 +244,8 @@ module _ {r : Run} {bells turns : ℕ} {b : Batch} {l l' : QueuePairFields} {now
   next_numbered : b.sent < length r.commands → ((d : Command) → k ≡ get_or r.commands b.sent d)
       → numbered new_one ≡ get_or (numbered_of r) b.sent (numbered new_one)
   next_numbered below is =
-      ap (λ q. record { command = q; cid = l.serial }) (is k)
-      ∙ ap (λ (q : QueuePairFields). record { command = get_or r.commands b.sent k; cid = q.serial }) u.pair
+      ap (λ q. numbered_command q l.serial) (is k)
+      ∙ ap (λ (q : QueuePairFields). numbered_command (get_or r.commands b.sent k) q.serial) u.pair
       ∙ sym (command_at r.pair.serial b.sent r.commands (numbered new_one) k u.begun.laid.serial below)
 
   pub submits : (now' : ℕ) → b.sent < length r.commands

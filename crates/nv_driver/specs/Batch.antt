@@ -1,16 +1,21 @@
 -- A list of commands of one controller, one at a time.
-use Rattle.std.specs.Prelude.{ℕ, List, [], ◌∷◌}
+use Rattle.std.specs.Prelude.{ℕ, List, [], ◌∷◌, Ok}
+use Rattle.nv_command.specs.Command.{namespace_of}
 use Rattle.nv_command.specs.declared.command.Command.{Command}
 use Rattle.nv_model.specs.State.{State}
 use Rattle.nv_model.specs.Step.{next_serial}
-use Rattle.nv_driver.specs.Schedule.{Answer, Numbered, answers_of_all, state_after_all}
+use Rattle.nv_driver.specs.Answer.{Answer}
+use Rattle.nv_driver.specs.Schedule.{Numbered, answers_of_all, state_after_all}
+
+-- a command under a command identifier
+abbrev pub numbered_command : Command → ℕ → Numbered
+numbered_command k cid = record { asked = Ok k; nsid = namespace_of k; cid = cid }
 
 -- commands of which the first one has this serial as its command identifier, and each other one the
 -- serial after that of the one before
 abbrev pub from_serial : ℕ → List Command → List Numbered
 from_serial serial [] = []
-from_serial serial (k ∷ ks) =
-    record { command = k; cid = serial } ∷ from_serial (next_serial serial) ks
+from_serial serial (k ∷ ks) = numbered_command k serial ∷ from_serial (next_serial serial) ks
 
 -- what is received of their answers of controller c in state s
 abbrev pub answers_of : ℕ → State → ℕ → List Command → List Answer

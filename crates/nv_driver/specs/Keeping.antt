@@ -6,10 +6,12 @@ use Rattle.nv_prp.specs.Buffer.{IsApart}
 use Rattle.nv_prp.specs.Place.{AreDistinct}
 use Rattle.nv_queue.specs.Numbers.{IsDepth}
 use Rattle.nv_queue.specs.Slots.{HoldsTags, submission_at}
+use Rattle.nv_model.specs.Limit.{limit_of}
 use Rattle.nv_model.specs.State.{State}
 use Rattle.nv_model.specs.WellFormed.{IsWellFormed}
-use Rattle.nv_driver.specs.Schedule.{AreApart, AreOthers, AreOutside, CanBeSent, Holds, HoldsSent}
-use Rattle.nv_driver.specs.Schedule.{Sent, Setting, StaysNamed, World, after, answers_to}
+use Rattle.nv_driver.specs.Request.{IsRequest}
+use Rattle.nv_driver.specs.Schedule.{AreApart, AreOthers, AreOutside, Holds, HoldsSent, IsCollected}
+use Rattle.nv_driver.specs.Schedule.{Sent, Setting, StaysNamed, World, after}
 use Rattle.nv_driver.specs.Schedule.{data_length, device_rings, entry, number, own_pages, places}
 use Rattle.nv_driver.specs.Schedule.{bank_with, slot}
 
@@ -23,7 +25,7 @@ pub record HasRings (t : Setting) (size : ℕ) : Type 0 where
 
 -- a command in the memory, whose data and list lie in pages of its own
 pub record IsOwn (t : Setting) (size : ℕ) (x : Sent) : Type 0 where
-  pub can : CanBeSent x.command
+  pub can : IsRequest t.limit x.request
   pub cid : x.cid < 2 ^ 16
   pub enough : x.offset + data_length x ≤ length x.pages * t.page_size
   pub inside : (k : ℕ) → k < data_length x → get_or (places t.page_size x) k 0 < size
@@ -49,6 +51,7 @@ pub record Keeps (t : Setting) (s : State) (w : World) : Type 0 where
   pub state : w.state ≡ after t.controller s (take w.done w.sent)
   pub well_formed : IsWellFormed w.state
   pub controller : t.controller < length w.state.controllers
+  pub limit : limit_of w.state t.controller ≡ t.limit
   pub own : (n : ℕ) (d : Sent) → length w.answers ≤ n → n < length w.sent
       → IsOwn t (length w.mem) (get_or w.sent n d)
   pub apart : (n m : ℕ) (d : Sent) → length w.answers ≤ n → n < m → m < length w.sent
@@ -62,7 +65,7 @@ pub record Keeps (t : Setting) (s : State) (w : World) : Type 0 where
   pub held : (n : ℕ) (d : Sent) → length w.answers ≤ n → n < w.done
       → Holds t s w n (get_or w.sent n d)
   pub tags : HoldsTags w.mem t.cq t.depth (number t w.done)
-  pub answers : w.answers ≡ take (length w.answers) (answers_to t.controller s w.sent)
+  pub answers : (n : ℕ) → n < length w.answers → IsCollected t s w n
 
 -- since the memory was the old one, bytes stayed that lie in no ring, and in no page of a command
 -- from the first of these on

@@ -9,7 +9,8 @@ pub mod Registers
 pub mod CommandPages
 pub mod Schedule
 pub mod Keeping
-pub mod Slot
+pub mod Answer
+pub mod Request
 pub mod Submitting
 pub mod Exchange
 pub mod Batch

@@ -15,10 +15,8 @@ use Rattle.nv_queue.specs.Numbers.{IsDepth, kept_number, slot_of}
 use Rattle.nv_queue.specs.Rings.{CollectNumbers, SubmitNumbers}
 use Rattle.nv_queue.specs.Slots.{HoldsTags, IsAwaitedThere, awaited_completion, completion_at}
 use Rattle.nv_queue.specs.Slots.{with_submission}
-use Rattle.nv_command.specs.Command.{CommandFits, host_data_of, transfer_by}
-use Rattle.nv_command.specs.Entry.{entry_of, with_pointer}
-use Rattle.nv_command.specs.Logs.{IsSendable, answer_received}
-use Rattle.nv_command.specs.Reply.{reply_in}
+use Rattle.nv_command.specs.Logs.{without_phases}
+use Rattle.nv_command.specs.Reply.{data_of, reply_in}
 use Rattle.nv_command.specs.declared.command.Command.{Command}
 use Rattle.nv_command.specs.declared.reply.Reply.{Reply}
 use Rattle.nv_command.specs.declared.transfer.Transfer.{Transfer}
@@ -27,18 +25,22 @@ use Rattle.nv_register.specs.RegisterBank.{with_register_at}
 use Rattle.nv_register.specs.declared.register_bank.RegisterBank.{RegisterBank}
 use Rattle.nv_register.specs.declared.rings.Rings.{Rings}
 use Rattle.nv_model.specs.State.{State}
-use Rattle.nv_model.specs.Step.{step}
+use Rattle.nv_model.specs.Limit.{limit_of}
+use Rattle.nv_model.specs.Step.{Step}
 use Rattle.nv_model.specs.WellFormed.{IsWellFormed}
 use Rattle.nv_bus.specs.Call.{length_of, sent_from}
+use Rattle.nv_bus.specs.Entry.{asked_step, dword0_in, status_in}
 use Rattle.nv_bus.specs.Turn.{BankTurn, ready_bank, site}
+use Rattle.nv_driver.specs.Answer.{Answer}
+use Rattle.nv_driver.specs.Request.{Asked, IsReadable, IsRequest, Request, entry_as, received_as}
 
--- ---- commands, one at a time
+-- ---- requests, one at a time
 
--- a command with its command identifier, the numbers of its data pages and where its data begins in
+-- a request with its command identifier, the numbers of its data pages and where its data begins in
 -- the first one, its two pages for a list and where a list begins in the first one, and its data
 -- pointer
 pub record Sent : Type 0 where
-  pub command : Command
+  pub request : Request
   pub cid : ℕ
   pub pages : List ℕ
   pub offset : ℕ
@@ -48,29 +50,31 @@ pub record Sent : Type 0 where
   pub prp1 : ℕ
   pub prp2 : ℕ
 
--- the reply, or the status of the refusal
-abbrev pub Answer : Type 0
-Answer = Result Reply Status
-
--- a command under a command identifier
+-- what was asked for with this NSID, under a command identifier
 pub record Numbered : Type 0 where
-  pub command : Command
+  pub asked : Asked
+  pub nsid : ℕ
   pub cid : ℕ
 
--- the state after commands of controller c, one after the other
+-- what it does on controller c
+abbrev pub step_of : ℕ → State → Numbered → Step
+step_of c s x = asked_step x.asked s c x.nsid x.cid
+
+-- the state after requests to controller c, one after the other
 abbrev pub state_after_all : ℕ → State → List Numbered → State
 state_after_all c s [] = s
-state_after_all c s (x ∷ xs) = state_after_all c (step s c x.command x.cid).state xs
+state_after_all c s (x ∷ xs) = state_after_all c (step_of c s x).state xs
 
 -- and their answers, as they are received
 abbrev pub answers_of_all : ℕ → State → List Numbered → List Answer
 answers_of_all c s [] = []
-answers_of_all c s (x ∷ xs) = answer_received x.command (step s c x.command x.cid).answer
-    ∷ answers_of_all c (step s c x.command x.cid).state xs
+answers_of_all c s (x ∷ xs) = received_as x.asked (step_of c s x).answer
+    ∷ answers_of_all c (step_of c s x).state xs
 
--- the same of commands that were sent
+-- the same of requests that were sent
 abbrev pub numbered : Sent → Numbered
-numbered x = record { command = x.command; cid = x.cid }
+numbered x =
+    record { asked = x.request.asked; nsid = x.request.entry.nsid; cid = x.cid }
 
 abbrev pub after : ℕ → State → List Sent → State
 after c s xs = state_after_all c s (map numbered xs)
@@ -78,12 +82,18 @@ after c s xs = state_after_all c s (map numbered xs)
 abbrev pub answers_to : ℕ → State → List Sent → List Answer
 answers_to c s xs = answers_of_all c s (map numbered xs)
 
+-- what request x does after the first n of some requests
+abbrev pub step_after : ℕ → State → List Sent → ℕ → Sent → Step
+step_after c s xs n x = step_of c (after c s (take n xs)) (numbered x)
+
 -- ---- what a schedule runs over
 
--- a controller, the memory's page size, where the rings lie and how deep they are, the number of
--- the first command as the rings keep it, and the controller's other registers
+-- a controller and how many bytes of data a command of it has at most, the memory's page size, where
+-- the rings lie and how deep they are, the number of the first command as the rings keep it, and the
+-- controller's other registers
 pub record Setting : Type 0 where
   pub controller : ℕ
+  pub limit : ℕ
   pub page_size : ℕ
   pub sq : ℕ
   pub cq : ℕ
@@ -141,10 +151,10 @@ bank_with t rings = ready_bank t.bank rings false
 -- ---- submitting
 
 abbrev pub entry : Sent → Sqe
-entry x = with_pointer (entry_of x.command x.cid) x.prp1 x.prp2
+entry x = entry_as x.request x.cid x.prp1 x.prp2
 
 abbrev pub data_length : Sent → ℕ
-data_length x = length_of (transfer_by x.command)
+data_length x = length_of x.request.transfer
 
 abbrev pub own_pages : Sent → List ℕ
 own_pages x = x.first ∷ x.second ∷ x.pages
@@ -163,16 +173,11 @@ PagesStay page_size x old new =
 abbrev pub AreOutside : ℕ → Sent → ℕ → ℕ → Type 0
 AreOutside page_size x from n = All (λ p. IsOutside page_size p from n) (own_pages x)
 
--- a command that can be sent: each field fits its bits, and its reply can be read from its data
-pub record CanBeSent (k : Command) : Type 0 where
-  pub fits : CommandFits k
-  pub sends : IsSendable k
-
--- The ring has a free slot; the command can be sent; its pages hold its data, and are distinct, of
--- no ring and of no outstanding command.
+-- The ring has a free slot; the request is what it says; its pages hold its data, and are distinct,
+-- of no ring and of no outstanding command.
 pub record MaySubmit (t : Setting) (w : World) (x : Sent) : Type 0 where
   pub free : length w.sent + 1 < length w.answers + t.depth
-  pub can : CanBeSent x.command
+  pub can : IsRequest t.limit x.request
   pub cid : x.cid < 2 ^ 16
   pub buffer : IsBuffer w.mem t.page_size x.pages x.offset (data_length x)
   pub list : IsListPlace w.mem t.page_size x.first x.second x.list_offset
@@ -189,7 +194,7 @@ places page_size x = buffer_places page_size x.pages x.offset (data_length x)
 -- what the host sends with a command lies there
 abbrev pub HoldsSent : ℕ → Sent → List ℕ → Type 0
 HoldsSent page_size x mem =
-    sent_from (transfer_by x.command) mem (places page_size x) ≡ host_data_of x.command
+    sent_from x.request.transfer mem (places page_size x) ≡ x.request.sends
 
 -- the transfer of a command's data that its data pointer describes
 abbrev pub pointed : ℕ → Sent → List ℕ → PrpTransfer
@@ -222,18 +227,40 @@ received_from NoData bytes places = []
 received_from (ToHost n) bytes places = read_at bytes places
 received_from (FromHost n) bytes places = []
 
--- what a completion and the data from the controller say
+-- what a completion and the data from the controller say to a command
 abbrev pub answer_from : Command → Cqe → List ℕ → Answer
 answer_from k completion bytes =
     if is_success completion.status
     then Ok (reply_in k completion.command_specific bytes)
     else Err completion.status
 
--- where the data lies in the command's pages
+-- and to whatever was asked for
+abbrev pub answer_to : Asked → Cqe → List ℕ → Answer
+answer_to (Ok k) completion bytes = answer_from k completion bytes
+answer_to (Err code) completion bytes = Err completion.status
+
+-- what the controller sent lies in the request's pages
+abbrev pub bytes_read : ℕ → Sent → List ℕ → List ℕ
+bytes_read page_size x mem = received_from x.request.transfer mem (places page_size x)
+
 abbrev pub answer_read : ℕ → Sent → List ℕ → Cqe → Answer
 answer_read page_size x mem completion =
-    answer_from x.command completion
-    (received_from (transfer_by x.command) mem (places page_size x))
+    answer_to x.request.asked completion (bytes_read page_size x mem)
+
+-- the data of a reply came, whose entries of the error log have their phase tags
+abbrev pub Delivers : Asked → Answer → List ℕ → Type 0
+Delivers (Ok k) (Ok reply) bytes =
+    (r : Reply) × (without_phases r ≡ reply) × (bytes ≡ data_of k r)
+Delivers asked answer bytes = Unit {0}
+
+-- an answer to what was asked for: the completion tells it, the data came, and it can be read
+pub record IsAnswered (page_size : ℕ) (x : Sent) (mem : List ℕ) (completion : Cqe) (answer : Answer)
+    : Type 0 where
+  pub dword0 : completion.command_specific ≡ dword0_in answer
+  pub status : completion.status ≡ status_in answer
+  pub bytes : Delivers x.request.asked answer (bytes_read page_size x mem)
+  pub reads : IsReadable x.request.asked → answer_read page_size x mem completion
+      ≡ received_as x.request.asked answer
 
 abbrev pub awaited : Setting → World → CollectNumbers
 awaited t w = collect_ring t (length w.answers) w.told
@@ -312,6 +339,7 @@ pub record IsIdle (t : Setting) (w : World) : Type 0 where
   pub bank : w.bank ≡ bank_with t (device_rings t 0 0 0)
   pub state : IsWellFormed w.state
   pub controller : t.controller < length w.state.controllers
+  pub limit : limit_of w.state t.controller ≡ t.limit
   pub sent : w.sent ≡ []
   pub rung : w.rung ≡ 0
   pub done : w.done ≡ 0
@@ -321,8 +349,8 @@ pub record IsIdle (t : Setting) (w : World) : Type 0 where
 -- the completion and the pages of command n hold its answer, under its command identifier and with
 -- the head after it
 pub record Holds (t : Setting) (s : State) (w : World) (n : ℕ) (x : Sent) : Type 0 where
-  pub answer : (d : Answer) → answer_read t.page_size x w.mem (completion_at w.mem t.cq (slot t n))
-      ≡ slice_index_or (answers_to t.controller s w.sent) n d
+  pub answer : IsAnswered t.page_size x w.mem (completion_at w.mem t.cq (slot t n))
+      (step_after t.controller s w.sent n x).answer
   pub cid : (completion_at w.mem t.cq (slot t n)).cid ≡ x.cid
   pub head : (completion_at w.mem t.cq (slot t n)).sq_head ≡ slot t (n + 1)
 
@@ -338,14 +366,20 @@ pub record AreOthers (t : Setting) (first : ℕ) (sent : List Sent) (from n : �
 abbrev pub least : Setting → World → ℕ → ℕ
 least t w most = min most (min (w.rung - w.done) (t.depth - 1 - (w.done - w.told)))
 
--- The collected answers are the first of those that the commands have one at a time, and the
--- subsystem is that after the commands that were done. An answer is held from its command's turn on
+-- answer n of those that were collected, where it can be read, is that of the requests one at a time
+abbrev pub IsCollected : Setting → State → World → ℕ → Type 0
+IsCollected t s w n =
+    (x : Sent) (d : Answer) → IsReadable (slice_index_or w.sent n x).request.asked
+    → slice_index_or w.answers n d ≡ slice_index_or (answers_to t.controller s w.sent) n d
+
+-- The collected answers are the first of those that the requests have one at a time, and the
+-- subsystem is that after the requests that were done. An answer is held from its command's turn on
 -- until it is collected. The awaited completion is found exactly where a command was done whose
 -- answer wasn't collected. A turn takes as many entries as it can. As long as the host doesn't
 -- write elsewhere, bytes stay that lie in no ring, and in no page of a command that is outstanding
 -- now or is sent then.
 pub record IsSerial (t : Setting) (s : State) (w : World) : Type 0 where
-  pub answers : w.answers ≡ take (length w.answers) (answers_to t.controller s w.sent)
+  pub answers : (n : ℕ) → n < length w.answers → IsCollected t s w n
   pub state : w.state ≡ after t.controller s (take w.done w.sent)
   pub collected : length w.answers ≤ w.done
   pub done : w.done ≤ length w.sent

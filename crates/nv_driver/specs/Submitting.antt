@@ -9,6 +9,7 @@ use Rattle.nv_bus.specs.Call.{length_of}
 use Rattle.nv_model.specs.Step.{next_serial}
 use Rattle.nv_driver.specs.CommandPages.{AreTaken, all_pages, data_pages, without}
 use Rattle.nv_driver.specs.Layout.{pages_of_command}
+use Rattle.nv_driver.specs.Request.{request_of}
 use Rattle.nv_driver.specs.Schedule.{IsPrepared, Sent, data_length, entry}
 use Rattle.nv_driver.specs.declared.command_pages.CommandPages.{CommandPages}
 use Rattle.nv_driver.specs.declared.geometry.Geometry.{Geometry}
@@ -17,7 +18,7 @@ use Rattle.nv_driver.specs.declared.queue_pair.QueuePair.{QueuePair as QueuePair
 -- the command with its pages and its data pointer
 abbrev pub sent_by : Geometry → Command → ℕ → CommandPages → ℕ → ℕ → Sent
 sent_by g k cid own prp1 prp2 = record {
-  command = k;
+  request = request_of k;
   cid = cid;
   pages = data_pages own;
   offset = g.offset;

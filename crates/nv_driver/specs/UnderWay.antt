@@ -5,6 +5,7 @@ use Rattle.std.specs.Prelude.{slice_set, take}
 use Rattle.nv_host.specs.PageSets.{IsOf}
 use Rattle.nv_command.specs.declared.command.Command.{Command}
 use Rattle.nv_register.specs.declared.register_bank.RegisterBank.{RegisterBank}
+use Rattle.nv_model.specs.Limit.{limit_of}
 use Rattle.nv_model.specs.Numbers.{serial_count}
 use Rattle.nv_model.specs.State.{State}
 use Rattle.nv_bus.specs.Bus.{BusValue, IsBus, bank_at}
@@ -16,7 +17,9 @@ use Rattle.nv_driver.specs.QueuePair.{QueuePair, idle_bank}
 use Rattle.nv_driver.specs.Layout.{pages_of_command}
 use Rattle.nv_driver.specs.Quiet.{pair_value}
 use Rattle.nv_driver.specs.Registers.{mps_of}
-use Rattle.nv_driver.specs.Schedule.{Answer, CanBeSent, Numbered, Sent, Setting, World}
+use Rattle.nv_driver.specs.Answer.{Answer}
+use Rattle.nv_driver.specs.Request.{CanBeSent}
+use Rattle.nv_driver.specs.Schedule.{Numbered, Sent, Setting, World}
 use Rattle.nv_driver.specs.Schedule.{collect_ring, device_rings, numbered, own_pages, bank_with}
 use Rattle.nv_driver.specs.Schedule.{submit_ring}
 use Rattle.nv_driver.specs.Submitting.{sent_by}
@@ -26,9 +29,10 @@ use Rattle.nv_driver.specs.declared.geometry.Geometry.{Geometry}
 use Rattle.nv_driver.specs.declared.queue_pair.QueuePair.{QueuePair as QueuePairFields}
 
 -- the schedule of a queue pair's controller from its next command on
-abbrev pub setting : Geometry → ℕ → QueuePair → Setting
-setting g c l = record {
+abbrev pub setting : Geometry → (c limit : ℕ) → QueuePair → Setting
+setting g c limit l = record {
   controller = c;
+  limit = limit;
   page_size = g.page_size;
   sq = l.sq;
   cq = l.cq;
@@ -51,7 +55,8 @@ run_of g c b l bytes commands =
     record { geometry = g; controller = c; bus = b; pair = l; bytes = bytes; commands = commands }
 
 abbrev pub setting_of : Run → Setting
-setting_of r = setting r.geometry r.controller (pair_value r.pair)
+setting_of r =
+    setting r.geometry r.controller (limit_of r.bus.state r.controller) (pair_value r.pair)
 
 -- its commands under their command identifiers, and that of command n
 abbrev pub numbered_of : Run → List Numbered
@@ -69,7 +74,8 @@ pages_of_all (x ∷ xs) = own_pages x ++ pages_of_all xs
 pub record IsKept (r : Run) (o : Option CommandPages) (x : Sent) : Type 0 where
   pub one : CommandPages
   pub is_one : o ≡ Some one
-  pub sent : x ≡ sent_by r.geometry x.command x.cid one x.prp1 x.prp2
+  pub command : Command
+  pub sent : x ≡ sent_by r.geometry command x.cid one x.prp1 x.prp2
   pub few : one.data_pages + 2 ≤ pages_of_command r.geometry.page_size
   pub seven : length one.numbers ≡ 7
 

@@ -21,11 +21,11 @@ pub struct AnswerSlot {
 }
 
 impl Model for AnswerSlot {
-    ghost use Rattle.nv_driver.specs.Schedule.{Answer};
+    ghost use Rattle.nv_driver.specs.Answer.{Answer};
 
     ghost Value = { Answer };
 
-    ghost use Rattle.nv_driver.specs.Slot.{answer_kept};
+    ghost use Rattle.nv_driver.specs.Answer.{answer_kept};
 
     ghost view = { λ s. answer_kept s.room s.refusal };
 }

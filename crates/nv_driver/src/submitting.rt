@@ -14,7 +14,7 @@ ghost use Rattle.nv_queue.specs.Rings.{IsSubmitFull};
 ghost use Rattle.nv_model.specs.Numbers.{serial_count};
 ghost use Rattle.nv_driver.specs.CommandPages.{data_pages};
 ghost use Rattle.nv_driver.specs.Layout.{most_bytes, most_data_pages, pages_of_command};
-ghost use Rattle.nv_driver.specs.Schedule.{CanBeSent};
+ghost use Rattle.nv_driver.specs.Request.{CanBeSent};
 ghost use Rattle.nv_driver.specs.Submitting.{IsSubmitted};
 
 use crate::checked_geometry::CheckedGeometry;

@@ -1,11 +1,29 @@
 -- The bounds of how many bytes of data a command has at most.
-use Rattle.std.proofs.Common.{ℕ, ◌*◌, ◌^◌, ◌<◌, ◌≤◌, Option, arith, inl, inr, length, subst, sym}
+use Rattle.std.proofs.Common.{◌≡◌, ◌∙◌, ℕ, zero, suc, ◌*◌, ◌==◌, ◌^◌, ◌<◌, ◌≤◌, true, false, List, [], ◌∷◌, Option}
+use Rattle.std.proofs.Common.{Some, None, ap, arith, inl, inr, length, refl, subst, sym}
+use Rattle.std.specs.FinMap as map_of
+use Rattle.std.specs.Prelude.{if◌then◌else◌, map, slice_get}
 use Rattle.std.proofs.Math.Nat.{pow-le-pow_right}
 use Rattle.std.proofs.lemmas.Option.{slice_get_cases}
 use Rattle.std.specs.Option.{option_map_or}
-use Rattle.nv_model.specs.State.{Controller, State}
+use Rattle.nv_layout.specs.Feature.{feature_of}
+use Rattle.nv_command.specs.Nsid.{broadcast_nsid}
+use Rattle.nv_command.specs.declared.command.Command.{Command}
+use Rattle.nv_command.specs.declared.command.Command.TheVariants.{Attachment, Create, Delete}
+use Rattle.nv_command.specs.declared.command.Command.TheVariants.{SetFeature}
+use Rattle.nv_command.specs.declared.refusal.Refusal.{Refusal}
+use Rattle.nv_model.specs.Attachment.{fewer, more}
+use Rattle.nv_model.specs.Effect.{effect_of}
+use Rattle.nv_model.specs.Features.{changed_nsids, with_values}
+use Rattle.nv_model.specs.Identity.{Identity}
+use Rattle.nv_model.specs.Management.{new_namespace, wanted, with_nsids}
+use Rattle.nv_model.specs.Management.{without, without_all, without_any, without_one}
+use Rattle.nv_model.specs.Nsid.{free_nsid}
+use Rattle.nv_model.specs.Refusal.{refusal_of}
+use Rattle.nv_model.specs.State.{Controller, State, changed_at, with_controller}
+use Rattle.nv_model.specs.Step.{refused, step, step_by, with_command, with_refusal}
 use Rattle.nv_model.specs.WellFormed.{IsController, IsWellFormed}
-use Rattle.nv_model.specs.Limit.{greatest_limit, limit_of}
+use Rattle.nv_model.specs.Limit.{greatest_limit, limit_of, mdts_of}
 
 pub limit_within : (m : ℕ) → m ≤ 8 → 4096 * 2 ^ m ≤ greatest_limit
 limit_within m high =
@@ -30,3 +48,61 @@ limit_bounds s c w below = elim ((slice_get_cases s.controllers c).1) [
       (16384 ≤ limit) × (limit ≤ greatest_limit)) (sym found.2) bounds
   | inr past ↦ absurd (omega (arith, past.0))
 ]
+
+-- ---- no command changes it
+
+abbrev mdts_in : List Controller → ℕ → ℕ
+mdts_in xs d = option_map_or (λ x. x.identity.numbers.mdts) (slice_get xs d) 0
+
+abbrev KeepsIdentity : (Controller → Controller) → Type 0
+KeepsIdentity f = (x : Controller) → (f x).identity ≡ x.identity
+
+of_each : (f : Controller → Controller) → KeepsIdentity f → (xs : List Controller) (d : ℕ)
+    → mdts_in (map f xs) d ≡ mdts_in xs d
+of_each f same [] d = refl
+of_each f same (x ∷ xs) zero = ap (λ (i : Identity). i.numbers.mdts) (same x)
+of_each f same (x ∷ xs) (suc d) = of_each f same xs d
+
+of_one : (f : Controller → Controller) → KeepsIdentity f → (xs : List Controller) (c d : ℕ)
+    → mdts_in (changed_at xs c f) d ≡ mdts_in xs d
+of_one f same [] c d = refl
+of_one f same (x ∷ xs) zero zero = ap (λ (i : Identity). i.numbers.mdts) (same x)
+of_one f same (x ∷ xs) zero (suc d) = refl
+of_one f same (x ∷ xs) (suc c) zero = refl
+of_one f same (x ∷ xs) (suc c) (suc d) = of_one f same xs c d
+
+effect_mdts : (s : State) (c : ℕ) (k : Command) (d : ℕ) → mdts_of (effect_of s c k) d ≡ mdts_of s d
+effect_mdts s c (Create nsze ncap flbas dps nmic) d =
+    elim (free_nsid s) as (λ o. mdts_of (option_map_or
+    (λ n. record s { namespaces = map_of.insert s.namespaces n (new_namespace s
+    (wanted nsze ncap flbas dps nmic)) }) o s) d ≡ mdts_of s d)
+    [ None ↦ refl | Some n ↦ refl ]
+effect_mdts s c (Delete n) d =
+    elim (n == broadcast_nsid) as (λ b. mdts_of (if b then without_all s else without_one s n) d ≡ mdts_of s d) [
+      | true ↦ of_each (with_nsids without_any) (λ x. refl) s.controllers d
+      | false ↦ of_each (with_nsids (without n)) (λ x. refl) s.controllers d
+    ]
+effect_mdts s c (Attachment n true ids) d = of_each (with_nsids (fewer n ids)) (λ x. refl) s.controllers d
+effect_mdts s c (Attachment n false ids) d = of_each (with_nsids (more n ids)) (λ x. refl) s.controllers d
+effect_mdts s c (SetFeature x) d =
+    elim (feature_of x.fid) as (λ o. mdts_of (option_map_or (λ f. with_controller s c
+    (with_values f x.value x.save (changed_nsids s c x.nsid f))) o s) d ≡ mdts_of s d) [
+      | None ↦ refl
+      | Some f ↦ of_one (with_values f x.value x.save (changed_nsids s c x.nsid f)) (λ y. refl) s.controllers c d
+    ]
+effect_mdts s c k d = refl
+
+step_mdts : (o : Option Refusal) (s : State) (c : ℕ) (k : Command) (cid d : ℕ)
+    → mdts_of (step_by o s c k cid).state d ≡ mdts_of s d
+step_mdts None s c k cid d = of_one _ (λ x. refl) (effect_of s c k).controllers c d ∙ effect_mdts s c k d
+step_mdts (Some r) s c k cid d =
+    of_one _ (λ x. refl) _ c d ∙ of_one _ (λ x. refl) s.controllers c d
+
+pub step_limit : (s : State) (c : ℕ) (k : Command) (cid d : ℕ) → limit_of (step s c k cid).state d ≡ limit_of s d
+step_limit s c k cid d = ap (λ m. 4096 * 2 ^ m) (step_mdts (refusal_of s c k) s c k cid d)
+
+-- nor does a refusal
+pub refused_limit : (s : State) (c nsid cid d : ℕ) (r : Refusal)
+    → limit_of (with_command (refused s c nsid cid r) c) d ≡ limit_of s d
+refused_limit s c nsid cid d r = ap (λ m. 4096 * 2 ^ m)
+    (of_one _ (λ x. refl) _ c d ∙ of_one (with_refusal nsid cid r) (λ x. refl) s.controllers c d)

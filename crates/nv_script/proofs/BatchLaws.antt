@@ -13,7 +13,7 @@ use Rattle.nv_driver.specs.Batch.{answers_of, state_after}
 use Rattle.nv_driver.specs.Driver.{after_commands, pair_at, no_pair}
 use Rattle.nv_driver.specs.Exchange.{after_some}
 use Rattle.nv_driver.specs.QueuePair.{QueuePair}
-use Rattle.nv_driver.specs.Schedule.{Answer}
+use Rattle.nv_driver.specs.Answer.{Answer}
 use Rattle.nv_driver.specs.Settled.{DriverValue}
 use Rattle.nv_model.specs.State.{State}
 use Rattle.nv_model.specs.Step.{next_serial, step}

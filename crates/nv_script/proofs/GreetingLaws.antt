@@ -10,7 +10,7 @@ use Rattle.nv_command.specs.declared.reply.Reply.{Reply}
 use Rattle.nv_command.specs.declared.reply.Reply.TheVariants as reply
 use Rattle.nv_bus.specs.Bus.{BusValue}
 use Rattle.nv_driver.specs.Driver.{after_command, pair_at}
-use Rattle.nv_driver.specs.Schedule.{Answer}
+use Rattle.nv_driver.specs.Answer.{Answer}
 use Rattle.nv_driver.specs.Settled.{DriverValue}
 use Rattle.nv_model.proofs.LookupLaws.{controller}
 use Rattle.nv_model.specs.Nsid.{active_nsids}

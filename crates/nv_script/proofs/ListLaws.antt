@@ -6,7 +6,7 @@ use Rattle.std.proofs.lemmas.List.{at_drop_more}
 use Rattle.std.proofs.lemmas.List.Elements.{Contains-append_left, Contains-append_right}
 use Rattle.std.proofs.lemmas.List.Sums.{fold-append}
 use Rattle.nv_command.specs.declared.command.Command.{Command}
-use Rattle.nv_driver.specs.Schedule.{Answer}
+use Rattle.nv_driver.specs.Answer.{Answer}
 use Rattle.nv_line.specs.declared.request.Act.TheVariants.{Send}
 use Rattle.nv_model.specs.State.{State}
 use Rattle.nv_script.specs.Exchange.{Order, exchange_of, order_of}

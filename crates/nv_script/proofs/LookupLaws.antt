@@ -6,7 +6,7 @@ use Rattle.std.proofs.lemmas.List.{get_or-map, length-map}
 use Rattle.nv_command.specs.declared.command.Command.{Command}
 use Rattle.nv_command.specs.declared.reply.Reply.{Reply}
 use Rattle.nv_command.specs.declared.reply.Reply.TheVariants.{Done}
-use Rattle.nv_driver.specs.Schedule.{Answer}
+use Rattle.nv_driver.specs.Answer.{Answer}
 use Rattle.nv_layout.specs.declared.status.Status.{Status}
 use Rattle.nv_model.proofs.LookupLaws.{IsAlike, IsLookup, alike-join, alike-self, looked_alike, looked_received}
 use Rattle.nv_model.specs.Reply.{reply_of}

@@ -3,7 +3,7 @@ use Rattle.std.specs.Prelude.{◌≡◌, ℕ, Contains, List, [], ◌∷◌, ◌
 use Rattle.nv_model.specs.State.{State}
 use Rattle.nv_command.specs.declared.reply.Reply.{Reply}
 use Rattle.nv_command.specs.declared.reply.Reply.TheVariants as reply
-use Rattle.nv_driver.specs.Schedule.{Answer}
+use Rattle.nv_driver.specs.Answer.{Answer}
 use Rattle.nv_script.specs.Exchange.{Order, exchange_of}
 use Rattle.nv_script.specs.Shown.{listing_told}
 use Rattle.nv_script.specs.declared.listing.Listing.{Listing}

@@ -6,6 +6,7 @@ use Rattle.nv_command.specs.Command.{host_data_of}
 use Rattle.nv_command.specs.Entry.{with_pointer}
 use Rattle.nv_driver.specs.Submitting.{sent_by}
 use Rattle.nv_driver.specs.declared.geometry.Geometry.{Geometry}
+use Rattle.nv_driver.proofs.DataLaws.{length-host_data}
 use Rattle.nv_driver.proofs.SubmittingLaws.{buffer_as, buffer_of, built_by, distinct_of, list_of}
 use Rattle.nv_driver.proofs.SubmittingLaws.{has_taken, on_ok, pairs_same, places_as, prepared_by}
 use Rattle.nv_driver.proofs.submitting.submit.Goals as goal
@@ -73,7 +74,7 @@ returns-clause-submitted g c =
       enough = enough;
       ready = ready;
       prepared = prepared_by geometry.page_size x before built ready is.page_size
-          c.requires.can.fits buffer (distinct_of pair.pages pages t.seven t.taken) is_built
+          (length-host_data k c.requires.can.fits) buffer (distinct_of pair.pages pages t.seven t.taken) is_built
           (c.write_data.ensures.bytes ∙ ap (λ at. written_at built at (host_data_of k))
           (places_as (b.page ∙ c.requires.page) c.buffer.ensures.pages offset refl));
       pointer = λ none. b.none (len ∙ none);

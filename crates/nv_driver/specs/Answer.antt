@@ -1,8 +1,11 @@
--- The answer that is kept in a slot.
-use Rattle.std.specs.Prelude.{Option, None, Some, Ok, Err}
+-- What a command is answered, and how it is kept in a slot.
+use Rattle.std.specs.Prelude.{Option, None, Some, Result, Ok, Err}
 use Rattle.nv_layout.specs.declared.status.Status.{Status}
 use Rattle.nv_command.specs.declared.reply.Reply.{Reply}
-use Rattle.nv_driver.specs.Schedule.{Answer}
+
+-- the reply, or the status of the refusal
+abbrev pub Answer : Type 0
+Answer = Result Reply Status
 
 -- a refusal, or else the reply that is kept beside it
 abbrev pub answer_kept : Reply → Option Status → Answer

@@ -1,0 +1,76 @@
+-- What is sent to a controller: an entry, and data that goes with it.
+use Rattle.std.specs.Prelude.{◌≡◌, ℕ, ◌<◌, ◌^◌, List, Result, Ok, Err, length}
+use Rattle.nv_layout.specs.Sqe.{SqeFits}
+use Rattle.nv_layout.specs.declared.sqe.Sqe.{Sqe}
+use Rattle.nv_command.specs.Command.{CommandFits, bytes_from_host, host_data_of, namespace_of}
+use Rattle.nv_command.specs.Command.{transfer_by}
+use Rattle.nv_command.specs.Entry.{entry_of}
+use Rattle.nv_command.specs.Logs.{IsSendable, answer_received}
+use Rattle.nv_command.specs.declared.command.Command.{Command}
+use Rattle.nv_command.specs.declared.status_code.StatusCode.{StatusCode}
+use Rattle.nv_command.specs.declared.transfer.Transfer.{Transfer}
+use Rattle.nv_command.specs.declared.transfer.Transfer.TheVariants.{NoData}
+use Rattle.nv_bus.specs.Call.{HasRoom, asked_by, moves_of}
+use Rattle.nv_driver.specs.Answer.{Answer}
+
+-- what an entry asks for: a command, or else the status with which it is refused
+abbrev pub Asked : Type 0
+Asked = Result Command StatusCode
+
+-- the entry, which way its data goes and how many bytes, what the host sends, and what it asks for
+pub record Request : Type 0 where
+  pub entry : Sqe
+  pub transfer : Transfer
+  pub sends : List ℕ
+  pub asked : Asked
+
+-- its entry under a command identifier, with a data pointer
+abbrev pub entry_as : Request → (cid prp1 prp2 : ℕ) → Sqe
+entry_as q cid prp1 prp2 = record q.entry { cid = cid; prp1 = prp1; prp2 = prp2 }
+
+-- an entry that is refused before its data pointer is read moves no data
+abbrev pub moved_by : Result Transfer StatusCode → Transfer
+moved_by (Ok moves) = moves
+moved_by (Err code) = NoData
+
+-- a command's data goes where the entry's does, and its NSID fits
+abbrev pub GoesBy : Asked → Transfer → Type 0
+GoesBy (Ok k) moves = (transfer_by k ≡ moves) × (namespace_of k < 2 ^ 32)
+GoesBy (Err code) moves = Unit {0}
+
+-- To a controller with this limit the entry asks for what is said, and its data goes as is said,
+-- whatever its command identifier and its data pointer.
+pub record IsRequest (limit : ℕ) (q : Request) : Type 0 where
+  pub fits : SqeFits q.entry
+  pub room : HasRoom q.transfer
+  pub transfer : (cid prp1 prp2 : ℕ) → cid < 2 ^ 16
+      → moved_by (moves_of limit (entry_as q cid prp1 prp2)) ≡ q.transfer
+  pub asked : (cid prp1 prp2 : ℕ) → cid < 2 ^ 16
+      → asked_by limit (entry_as q cid prp1 prp2) q.sends ≡ q.asked
+  pub sends : length q.sends ≡ bytes_from_host q.transfer
+  pub command : GoesBy q.asked q.transfer
+
+-- a reply to what was asked can be read from its data
+abbrev pub IsReadable : Asked → Type 0
+IsReadable (Ok k) = IsSendable k
+IsReadable (Err code) = Unit {0}
+
+-- the answer as it is read
+abbrev pub received_as : Asked → Answer → Answer
+received_as (Ok k) answer = answer_received k answer
+received_as (Err code) answer = answer
+
+-- ---- commands
+
+-- a command that can be sent: each field fits its bits, and its reply can be read from its data
+pub record CanBeSent (k : Command) : Type 0 where
+  pub fits : CommandFits k
+  pub sends : IsSendable k
+
+abbrev pub request_of : Command → Request
+request_of k = record {
+  entry = entry_of k 0;
+  transfer = transfer_by k;
+  sends = host_data_of k;
+  asked = Ok k;
+}
