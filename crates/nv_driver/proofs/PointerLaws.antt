@@ -19,7 +19,7 @@ use Rattle.nv_layout.specs.Steps.{◌>>=◌}
 use Rattle.nv_bus.specs.Call.{Call, HasRoom, call_of, data_places, length_of, moves_of, places_of, sent_from, within}
 use Rattle.nv_bus.proofs.CallLaws.{legal_places, no_places}
 use Rattle.nv_driver.specs.Layout.{pages_of_command}
-use Rattle.nv_driver.specs.Request.{Asked, IsRequest, moved_by}
+use Rattle.nv_driver.specs.Request.{Asked, IsRequest}
 use Rattle.nv_driver.specs.Schedule.{HoldsSent, Sent, Setting, StaysNamed, data_length, entry, places}
 use Rattle.nv_driver.specs.Schedule.{pointed}
 use Rattle.nv_driver.proofs.DataLaws.{nothing}
@@ -142,6 +142,5 @@ entry_call t x mem can cid stays holds =
     (λ some. legal_places (pointed t.page_size x mem) at (names.0 some) (sym names.1)) in
     in_order (transfer_of (entry x)) t.limit t.page_size mem (entry x)
     ∙ call_by (moves_of t.limit (entry x)) (entry x) at x.request.sends t.page_size mem x.request.asked
-    (λ m is. let same : m ≡ x.request.transfer = ap moved_by (sym is) ∙ can.transfer x.cid x.prp1 x.prp2 cid in
-    rw same (found, holds))
+    (λ m is. let same : x.request.transfer ≡ m = can.transfer x.cid x.prp1 x.prp2 m cid is in rw (← same) (found, holds))
     (can.asked x.cid x.prp1 x.prp2 cid)

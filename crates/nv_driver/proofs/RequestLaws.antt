@@ -11,13 +11,16 @@ use Rattle.nv_command.specs.declared.transfer.Transfer.TheVariants.{FromHost, No
 use Rattle.nv_layout.specs.Steps.{◌>>=◌}
 use Rattle.nv_bus.specs.Call.{HasRoom, moves_of, within}
 use Rattle.nv_bus.proofs.CallLaws.{within_few}
-use Rattle.nv_driver.specs.Request.{CanBeSent, IsRequest, entry_as, moved_by, request_of}
+use Rattle.nv_driver.specs.Request.{CanBeSent, IsRequest, entry_as, request_of}
 use Rattle.nv_driver.proofs.DataLaws.{HasShape, most, shape}
 
 room_of : (m : Transfer) → HasShape m → HasRoom m
 room_of NoData is = tt
 room_of (ToHost n) is = (is.0, omega (arith, is.1))
 room_of (FromHost n) is = (omega (arith, is), omega (arith, is))
+
+same_moves : (r : Result Transfer StatusCode) (m n : Transfer) → r ≡ Ok m → r ≡ Ok n → m ≡ n
+same_moves r m n is other = cc
 
 -- to each controller, whose limit is four pages at least
 pub is_request : (limit : ℕ) (k : Command) → 16384 ≤ limit → CanBeSent k → IsRequest limit (request_of k)
@@ -31,7 +34,7 @@ is_request limit k enough can =
     record {
       fits = zero_id.fits;
       room = room_of m (shape k can.sends);
-      transfer = λ cid p q low. ap moved_by (moves cid p q low);
+      transfer = λ cid p q n low is. same_moves (moves_of limit (entry_as (request_of k) cid p q)) m n (moves cid p q low) is;
       asked = λ cid p q low. let e = entry_as (request_of k) cid p q in
           ap (λ (r : Result Transfer StatusCode). r >>= (λ _. command_of e (request_of k).sends)) (moves cid p q low)
           ∙ (commands_travel k cid can.fits low).command p q;

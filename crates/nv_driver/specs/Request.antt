@@ -9,7 +9,6 @@ use Rattle.nv_command.specs.Logs.{IsSendable, answer_received}
 use Rattle.nv_command.specs.declared.command.Command.{Command}
 use Rattle.nv_command.specs.declared.status_code.StatusCode.{StatusCode}
 use Rattle.nv_command.specs.declared.transfer.Transfer.{Transfer}
-use Rattle.nv_command.specs.declared.transfer.Transfer.TheVariants.{NoData}
 use Rattle.nv_bus.specs.Call.{HasRoom, asked_by, moves_of}
 use Rattle.nv_driver.specs.Answer.{Answer}
 
@@ -28,23 +27,18 @@ pub record Request : Type 0 where
 abbrev pub entry_as : Request → (cid prp1 prp2 : ℕ) → Sqe
 entry_as q cid prp1 prp2 = record q.entry { cid = cid; prp1 = prp1; prp2 = prp2 }
 
--- an entry that is refused before its data pointer is read moves no data
-abbrev pub moved_by : Result Transfer StatusCode → Transfer
-moved_by (Ok moves) = moves
-moved_by (Err code) = NoData
-
 -- a command's data goes where the entry's does, and its NSID fits
 abbrev pub GoesBy : Asked → Transfer → Type 0
 GoesBy (Ok k) moves = (transfer_by k ≡ moves) × (namespace_of k < 2 ^ 32)
 GoesBy (Err code) moves = Unit {0}
 
--- To a controller with this limit the entry asks for what is said, and its data goes as is said,
--- whatever its command identifier and its data pointer.
+-- To a controller with this limit the entry asks for what is said, and its data goes as is said, if
+-- its data pointer is read at all, whatever its command identifier and its data pointer.
 pub record IsRequest (limit : ℕ) (q : Request) : Type 0 where
   pub fits : SqeFits q.entry
   pub room : HasRoom q.transfer
-  pub transfer : (cid prp1 prp2 : ℕ) → cid < 2 ^ 16
-      → moved_by (moves_of limit (entry_as q cid prp1 prp2)) ≡ q.transfer
+  pub transfer : (cid prp1 prp2 : ℕ) (moves : Transfer) → cid < 2 ^ 16
+      → moves_of limit (entry_as q cid prp1 prp2) ≡ Ok moves → q.transfer ≡ moves
   pub asked : (cid prp1 prp2 : ℕ) → cid < 2 ^ 16
       → asked_by limit (entry_as q cid prp1 prp2) q.sends ≡ q.asked
   pub sends : length q.sends ≡ bytes_from_host q.transfer
