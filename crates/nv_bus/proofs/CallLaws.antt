@@ -1,7 +1,7 @@
 -- Where the data of an entry lies.
 use Rattle.std.proofs.Common.{◌≡◌, ◌∙◌, ℕ, zero, suc, ◌<◌, ◌≤◌, ◌==◌, nat_lt, Bool, true, false}
 use Rattle.std.proofs.Common.{if◌then◌else◌, ap, refl, subst, sym, arith, lit<, lit≤, List, []}
-use Rattle.std.proofs.Common.{Option, Some, None, Result, Ok, Err}
+use Rattle.std.proofs.Common.{Option, None, Result, Ok, Err}
 use Rattle.std.proofs.lemmas.Bool.Decides.{nat_tests}
 use Rattle.std.specs.Option.{option_or}
 use Rattle.nv_layout.specs.declared.sqe.Sqe.{Sqe}
@@ -21,7 +21,7 @@ use Rattle.nv_prp.specs.Transfer.{IsLegal, PrpTransfer, fault_after_prp1, first_
 use Rattle.nv_prp.specs.Transfer.{first_qword_fault, most_bytes, qword_fault, qwords, transfer_places}
 use Rattle.nv_prp.specs.declared.error.PrpError.{PrpError}
 use Rattle.nv_bus.specs.Call.{HasRoom, data_places, length_of, places_of, places_unless}
-use Rattle.nv_bus.specs.Call.{prp_status, within}
+use Rattle.nv_bus.specs.Call.{within}
 
 no_qword_fault : (t : PrpTransfer) (n : ℕ) → ((k : ℕ) → k < n → qword_fault t k ≡ None)
     → first_qword_fault t n ≡ None

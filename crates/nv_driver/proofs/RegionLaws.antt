@@ -197,22 +197,29 @@ abbrev pub ChangesOnlyAt : Setting → Sent → ℕ → ℕ → List ℕ → Lis
 ChangesOnlyAt t x base n old new =
     (from k : ℕ) → AreOutside t.page_size x from k → IsApart base n from k → bytes_at new from k ≡ bytes_at old from k
 
+-- a part of what the pages and those n bytes are outside of stays
+part_keeps : (t : Setting) (x : Sent) (old new : List ℕ) (base n from size at k : ℕ) → ChangesOnlyAt t x base n old new
+    → AreOutside t.page_size x from size → IsApart base n from size → from ≤ at → at + k ≤ from + size
+    → bytes_at new at k ≡ bytes_at old at k
+part_keeps t x old new base n from size at k only outside apart low high =
+    only at k (outside_part t x from size at k outside low high) (grind (arith, apart))
+
 -- a slot of the one ring stays where only the other ring and pages outside of both are other ones
 pub completion_stays : (t : Setting) (x : Sent) (old new : List ℕ) (s : ℕ)
     → ChangesOnlyAt t x t.sq (64 * t.depth) old new → AreOutside t.page_size x t.cq (16 * t.depth)
     → IsApart t.sq (64 * t.depth) t.cq (16 * t.depth) → s < t.depth
     → completion_at new t.cq s ≡ completion_at old t.cq s
 completion_stays t x old new s only outside rings below =
-    ap cqe_of_bytes (only (t.cq + 16 * s) 16 (outside_part t x t.cq (16 * t.depth) (t.cq + 16 * s)
-    16 outside (omega arith) (omega arith)) (grind (arith, rings)))
+    ap cqe_of_bytes (part_keeps t x old new t.sq (64 * t.depth) t.cq (16 * t.depth) (t.cq + 16 * s) 16 only outside rings
+    (omega arith) (omega arith))
 
 pub submission_stays : (t : Setting) (x : Sent) (old new : List ℕ) (s : ℕ)
     → ChangesOnlyAt t x t.cq (16 * t.depth) old new → AreOutside t.page_size x t.sq (64 * t.depth)
     → IsApart t.sq (64 * t.depth) t.cq (16 * t.depth) → s < t.depth
     → submission_at new t.sq s ≡ submission_at old t.sq s
 submission_stays t x old new s only outside rings below =
-    ap sqe_of_bytes (only (t.sq + 64 * s) 64 (outside_part t x t.sq (64 * t.depth) (t.sq + 64 * s)
-    64 outside (omega arith) (omega arith)) (grind (arith, rings)))
+    ap sqe_of_bytes (part_keeps t x old new t.cq (16 * t.depth) t.sq (64 * t.depth) (t.sq + 64 * s) 64 only outside
+    (grind (arith, rings)) (omega arith) (omega arith))
 
 -- the data of another command stays
 pub data_stays : (t : Setting) (x y : Sent) (base n : ℕ) (old new : List ℕ) → 0 < t.page_size
