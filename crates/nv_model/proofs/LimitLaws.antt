@@ -74,8 +74,10 @@ of_one f same (x ∷ xs) (suc c) (suc d) = of_one f same xs c d
 effect_mdts : (s : State) (c : ℕ) (k : Command) (d : ℕ) → mdts_of (effect_of s c k) d ≡ mdts_of s d
 effect_mdts s c (Create nsze ncap flbas dps nmic) d =
     elim (free_nsid s) as (λ o. mdts_of (option_map_or
-    (λ n. record s { namespaces = map_of.insert s.namespaces n (new_namespace s
-    (wanted nsze ncap flbas dps nmic)) }) o s) d ≡ mdts_of s d)
+    (λ n. record s {
+      namespaces = map_of.insert s.namespaces n (new_namespace s
+          (wanted nsze ncap flbas dps nmic));
+    }) o s) d ≡ mdts_of s d)
     [ None ↦ refl | Some n ↦ refl ]
 effect_mdts s c (Delete n) d =
     elim (n == broadcast_nsid) as (λ b. mdts_of (if b then without_all s else without_one s n) d ≡ mdts_of s d) [
