@@ -15,6 +15,7 @@ pub mod PointerLaws
 pub mod KeptLaws
 pub mod AskedLaws
 pub mod RequestLaws
+pub mod EveryEntryLaws
 pub mod AnswerLaws
 pub mod HeldLaws
 pub mod SubmitLaws

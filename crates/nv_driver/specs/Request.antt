@@ -1,5 +1,6 @@
 -- What is sent to a controller: an entry, and data that goes with it.
-use Rattle.std.specs.Prelude.{◌≡◌, ℕ, ◌<◌, ◌^◌, List, Result, Ok, Err, length}
+use Rattle.std.specs.Prelude.{◌≡◌, ℕ, ◌<◌, ◌≤◌, ◌^◌, ◌++◌, List, Result, Ok, Err, length, replicate}
+use Rattle.std.specs.Prelude.{take}
 use Rattle.nv_layout.specs.Sqe.{SqeFits}
 use Rattle.nv_layout.specs.declared.sqe.Sqe.{Sqe}
 use Rattle.nv_command.specs.Command.{CommandFits, bytes_from_host, host_data_of, namespace_of}
@@ -9,6 +10,8 @@ use Rattle.nv_command.specs.Logs.{IsSendable, answer_received}
 use Rattle.nv_command.specs.declared.command.Command.{Command}
 use Rattle.nv_command.specs.declared.status_code.StatusCode.{StatusCode}
 use Rattle.nv_command.specs.declared.transfer.Transfer.{Transfer}
+use Rattle.nv_command.specs.declared.transfer.Transfer.TheVariants.{NoData}
+use Rattle.nv_model.specs.Limit.{greatest_limit}
 use Rattle.nv_bus.specs.Call.{HasRoom, asked_by, moves_of}
 use Rattle.nv_driver.specs.Answer.{Answer}
 
@@ -68,3 +71,38 @@ request_of k = record {
   sends = host_data_of k;
   asked = Ok k;
 }
+
+-- ---- any entry
+
+-- which way the data of an entry goes: none where a rule refuses it before its data pointer is read,
+-- as each controller does that is asked for more bytes than any may move
+abbrev pub moved_by : Result Transfer StatusCode → Transfer
+moved_by (Ok moves) = moves
+moved_by (Err code) = NoData
+
+abbrev pub transfer_for : Sqe → Transfer
+transfer_for e = moved_by (moves_of greatest_limit e)
+
+-- so many bytes: the first that there are, and zeros after the last one
+abbrev pub padded : ℕ → List ℕ → List ℕ
+padded n bytes = take n (bytes ++ replicate n 0)
+
+-- what the host sends with an entry of what it has: as many bytes as the entry's data
+abbrev pub sent_for : Transfer → List ℕ → List ℕ
+sent_for moves bytes = padded (bytes_from_host moves) bytes
+
+-- an entry, and bytes of the host, to a controller with this limit
+abbrev pub request_for : ℕ → Sqe → List ℕ → Request
+request_for limit e bytes =
+    let sends = sent_for (transfer_for e) bytes in
+    record {
+      entry = e;
+      transfer = transfer_for e;
+      sends = sends;
+      asked = asked_by limit e sends;
+    }
+
+-- whatever stands in an entry, and whatever the host has to send
+abbrev pub EveryEntryIsRequest : Type 0
+EveryEntryIsRequest = (limit : ℕ) (e : Sqe) (bytes : List ℕ) → limit ≤ greatest_limit → SqeFits e
+    → IsRequest limit (request_for limit e bytes)

@@ -58,4 +58,4 @@ pub use driver::Driver;
 pub use error::DriverError;
 pub use geometry::Geometry;
 pub use geometry_field::GeometryField;
-pub use law::any_schedule;
+pub use law::{any_entry, any_schedule};

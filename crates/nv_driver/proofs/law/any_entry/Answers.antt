@@ -1,0 +1,5 @@
+use Rattle.nv_driver.proofs.EveryEntryLaws.{every_entry}
+use Rattle.nv_driver.proofs.law.any_entry.Goals as goal
+
+pub returns : goal.returns
+returns c = every_entry
