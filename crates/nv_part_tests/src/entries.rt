@@ -1,5 +1,6 @@
 //! Commands of Identify by their entries, and status codes.
 
+use crate::checks::{check_bytes, check_number, check_text};
 use nv_command::*;
 use nv_layout::{CtrlList, IdNs, Lbaf, NamespaceIds, Sqe, Status};
 use std::process::Abort;
@@ -24,23 +25,50 @@ fn entry(opcode: u8, cdw10: u32) -> Sqe {
     }
 }
 
+/// Checks the bytes of an entry: an opcode, the command identifier 0234h, an NSID and the low bits
+/// of Command Dword 10, and nothing else.
+pub(crate) fn check_sent(rt: &impl Abort, entry: &Sqe, opcode: u8, nsid: u8, cdw10: u8) {
+    let mut bytes = [0; 64];
+    bytes[0] = opcode;
+    bytes[2] = 0x34;
+    bytes[3] = 0x02;
+    bytes[4] = nsid;
+    bytes[40] = cdw10;
+    let mut out = [0xff; 64];
+    entry.put(&mut out);
+    check_bytes(rt, &out, &bytes, "an entry");
+}
+
+/// Checks the data that goes with a command, and what is read of it from the entry.
+pub(crate) fn check_transfer(rt: &impl Abort, command: &Command, entry: &Sqe, want: Transfer) {
+    assert_eq!(rt; command.transfer(), want);
+    check_transfer_of(rt, entry, Ok(want));
+}
+
+/// Checks the transfer that an entry is read to ask for.
+pub(crate) fn check_transfer_of(rt: &impl Abort, entry: &Sqe, want: Result<Transfer, StatusCode>) {
+    assert_eq!(rt; Transfer::of(entry), want);
+}
+
+/// Checks what an entry with this data is read as.
+pub(crate) fn check_read(
+    rt: &impl Abort,
+    entry: &Sqe,
+    data: &[u8],
+    want: Result<Command, StatusCode>,
+) {
+    let mut place = CtrlList::new();
+    assert_eq!(rt; Command::of(entry, data, &mut place), want);
+}
+
 /// Checks the bytes of a command's entry: opcode 06h, the command identifier 0234h, an NSID and a
 /// CNS, and nothing else; and that it is read back.
 fn check_entry(rt: &impl Abort, command: Command, nsid: u8, cns: u8) {
     let entry = command.entry(0x0234);
-    let mut bytes = [0; 64];
-    bytes[0] = 0x06;
-    bytes[2] = 0x34;
-    bytes[3] = 0x02;
-    bytes[4] = nsid;
-    bytes[40] = cns;
-    let mut out = [0xff; 64];
-    entry.put(&mut out);
-    assert_eq!(rt; out, bytes);
-    assert_eq!(rt; command.nsid(), u32::from(nsid));
-    assert_eq!(rt; command.transfer(), Transfer::ToHost(4096));
-    assert_eq!(rt; Transfer::of(&entry), Ok(Transfer::ToHost(4096)));
-    assert_eq!(rt; Command::of(&entry, &[], &mut CtrlList::new()), Ok(command));
+    check_sent(rt, &entry, 0x06, nsid, cns);
+    check_number(rt, u64::from(command.nsid()), u64::from(nsid), "NSID");
+    check_transfer(rt, &command, &entry, Transfer::ToHost(4096));
+    check_read(rt, &entry, &[], Ok(command));
 }
 
 #[test]
@@ -53,8 +81,8 @@ fn identify_by_its_entry(rt: HostRuntime) {
 
 /// Checks the status code that an entry is refused with.
 fn check_refused(rt: &impl Abort, entry: Sqe, code: StatusCode) {
-    assert_eq!(rt; Transfer::of(&entry), Err(code));
-    assert_eq!(rt; Command::of(&entry, &[], &mut CtrlList::new()), Err(code));
+    check_transfer_of(rt, &entry, Err(code));
+    check_read(rt, &entry, &[], Err(code));
 }
 
 #[test]
@@ -85,10 +113,7 @@ fn bits_beside_the_cns_are_ignored(rt: HostRuntime) {
         ..entry(0x06, 0xffff_ff10)
     };
     let list = Command::AllocatedList { after: 7 };
-    assert_eq!(rt;
-        Command::of(&entry, &[1, 2, 3], &mut CtrlList::new()),
-        Ok(list)
-    );
+    check_read(&rt, &entry, &[1, 2, 3], Ok(list));
 }
 
 #[test]
@@ -115,26 +140,35 @@ fn replies_by_their_pages(rt: HostRuntime) {
     let reply = Reply::Namespace(namespace);
     let mut page = [0xff; 4096];
     reply.put(&mut page);
-    assert_eq!(rt; reply.dword0(), 0);
-    assert_eq!(rt; IdNs::get(&page), namespace);
+    check_number(&rt, u64::from(reply.dword0()), 0, "Dword 0");
+    check_namespace(&rt, &IdNs::get(&page), &namespace);
     let command = Command::IdentifyNamespace { nsid: 3 };
     let mut room = ReplyRoom::new();
     room.read(&command, 0, &page);
     match room.reply() {
-        Reply::Namespace(read) => assert_eq!(rt; read, namespace),
+        Reply::Namespace(read) => check_namespace(&rt, &read, &namespace),
         _ => panic!(rt; "no namespace"),
     }
+}
+
+fn check_namespace(rt: &impl Abort, found: &IdNs, want: &IdNs) {
+    assert_eq!(rt; found, want);
 }
 
 #[test]
 fn lists_by_their_pages(rt: HostRuntime) {
     let mut page = [0xff; 4096];
     Reply::List(NamespaceIds::new(&[1, 3])).put(&mut page);
-    assert_eq!(rt; &page[..9], [1, 0, 0, 0, 3, 0, 0, 0, 0].as_slice());
+    check_bytes(&rt, &page[..9], &[1, 0, 0, 0, 3, 0, 0, 0, 0], "a list");
     let mut room = ReplyRoom::new();
     room.read(&Command::ActiveList { after: 0 }, 0, &page);
+    check_list(&rt, &room, &[1, 3]);
+}
+
+/// Checks that a reply is this list of namespaces.
+pub(crate) fn check_list(rt: &impl Abort, room: &ReplyRoom, want: &[u32]) {
     match room.reply() {
-        Reply::List(read) => assert_eq!(rt; read.as_slice(), [1, 3].as_slice()),
+        Reply::List(ids) => assert_eq!(rt; ids.as_slice(), want),
         _ => panic!(rt; "no list"),
     }
 }
@@ -212,28 +246,55 @@ const STATUSES: [(StatusCode, u16, &str); 17] = [
     ),
 ];
 
+/// Checks what is said of a status code.
+fn check_status(rt: &impl Abort, code: StatusCode, number: u16, name: &str) {
+    check_number(
+        rt,
+        u64::from(code.status().number()),
+        u64::from(number),
+        name,
+    );
+    check_text(rt, code.name(), name, "a name");
+    check_name_of(rt, number, name);
+}
+
+/// Checks the name of a status by its number.
+fn check_name_of(rt: &impl Abort, number: u16, name: &str) {
+    check_text(
+        rt,
+        StatusCode::name_of(Status::from_number(number)),
+        name,
+        "by number",
+    );
+}
+
+/// Checks what is printed of a refusal with a status code.
+fn check_refusal(rt: &impl Abort, refusal: Refusal, name: &str, text: &str) {
+    check_number(rt, u64::from(refusal.specific), 0, name);
+    check_text(rt, text, name, "a refusal");
+}
+
 #[test]
 fn statuses_by_the_standard(rt: HostRuntime) {
     for (i, (code, number, name)) in STATUSES.iter().enumerate() {
-        assert_eq!(rt; StatusCode::ALL[i], *code);
-        assert_eq!(rt; code.status().number(), *number);
-        assert_eq!(rt; code.name(), *name);
-        assert_eq!(rt; StatusCode::name_of(Status::from_number(*number)), *name);
+        assert!(rt; StatusCode::ALL[i] == *code, "{name}");
+        check_status(&rt, *code, *number, name);
         let text = format!(in rt.alloc(); "{code}").expect(&rt, "memory");
-        assert_eq!(rt; text.as_str(), *name);
+        check_text(&rt, text.as_str(), name, "printed");
         let refusal = Refusal::from(*code);
-        assert_eq!(rt; refusal.specific, 0);
         let text = format!(in rt.alloc(); "{refusal}").expect(&rt, "memory");
-        assert_eq!(rt; text.as_str(), *name);
+        check_refusal(&rt, refusal, name, text.as_str());
     }
 }
 
 #[test]
 fn other_statuses_are_unknown(rt: HostRuntime) {
-    assert_eq!(rt; StatusCode::name_of(Status::SUCCESS), "Unknown");
-    assert_eq!(rt; StatusCode::name_of(Status::from_number(0x6101)), "Unknown");
-    assert_eq!(rt;
-        StatusCode::name_of(Status::from_number(0x000b)),
-        "Invalid Namespace or Format"
+    check_text(
+        &rt,
+        StatusCode::name_of(Status::SUCCESS),
+        "Unknown",
+        "success",
     );
+    check_name_of(&rt, 0x6101, "Unknown");
+    check_name_of(&rt, 0x000b, "Invalid Namespace or Format");
 }

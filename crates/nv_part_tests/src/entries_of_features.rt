@@ -1,7 +1,9 @@
 //! Entries of Format NVM, Get Features and Set Features.
 
+use crate::checks::check_number;
+use crate::entries::{check_read, check_transfer};
 use nv_command::*;
-use nv_layout::{CtrlList, FourBits, Sqe, ThreeBits};
+use nv_layout::{FourBits, Sqe, ThreeBits};
 use std::process::Abort;
 
 /// An entry with this opcode and Command Dwords 10 and 11, for NSID 7.
@@ -27,12 +29,21 @@ fn entry(opcode: u8, cdw10: u32, cdw11: u32) -> Sqe {
 /// Checks an entry of NSID 7 with these Command Dwords 10 and 11, and that it is read back.
 fn check_travel(rt: &impl Abort, command: Command, opcode: u8, cdw10: u32, cdw11: u32) {
     let sent = command.entry(0x1234);
+    check_fields(rt, &sent, opcode);
+    check_dwords(rt, &sent, [cdw10, cdw11, 0]);
+    check_number(rt, u64::from(command.nsid()), 7, "NSID");
+    check_transfer(rt, &command, &sent, Transfer::NoData);
+    check_read(rt, &sent, &[], Ok(command));
+}
+
+/// Checks the opcode of an entry of NSID 7 and of command identifier 1234h.
+pub(crate) fn check_fields(rt: &impl Abort, sent: &Sqe, opcode: u8) {
     assert_eq!(rt; (sent.opcode, sent.nsid, sent.cid), (opcode, 7, 0x1234));
-    assert_eq!(rt; (sent.cdw10, sent.cdw11, sent.cdw12), (cdw10, cdw11, 0));
-    assert_eq!(rt; command.nsid(), 7);
-    assert_eq!(rt; command.transfer(), Transfer::NoData);
-    assert_eq!(rt; Transfer::of(&sent), Ok(Transfer::NoData));
-    assert_eq!(rt; Command::of(&sent, &[], &mut CtrlList::new()), Ok(command));
+}
+
+/// Checks Command Dwords 10 to 12 of an entry.
+fn check_dwords(rt: &impl Abort, sent: &Sqe, want: [u32; 3]) {
+    assert_eq!(rt; [sent.cdw10, sent.cdw11, sent.cdw12], want);
 }
 
 fn format(lbaf: u8, mset: bool, pi: u8, pil: bool, ses: u8) -> Command<'static> {
@@ -84,18 +95,17 @@ fn features_by_their_entries(rt: HostRuntime) {
     check_travel(&rt, set(0xff, 0xffff_ffff, false), 0x09, 0xff, 0xffff_ffff);
 }
 
-/// Checks what an entry decodes to, whatever the host sends with it.
-fn check_decoded(rt: &impl Abort, entry: &Sqe, want: Result<Command, StatusCode>) {
-    let mut place = CtrlList::new();
-    assert_eq!(rt; Command::of(entry, &[1], &mut place), want);
-}
-
 #[test]
 fn bits_beside_the_fields_are_ignored(rt: HostRuntime) {
     let plain = format(1, false, 0, false, 0);
-    check_decoded(&rt, &entry(0x80, 0xffff_f001, 9), Ok(plain));
-    check_decoded(&rt, &entry(0x0a, 0xffff_f806, 9), Ok(get(0x06, 0, 9)));
-    check_decoded(&rt, &entry(0x09, 0x7fff_ff06, 9), Ok(set(0x06, 9, false)));
+    check_read(&rt, &entry(0x80, 0xffff_f001, 9), &[1], Ok(plain));
+    check_read(&rt, &entry(0x0a, 0xffff_f806, 9), &[1], Ok(get(0x06, 0, 9)));
+    check_read(
+        &rt,
+        &entry(0x09, 0x7fff_ff06, 9),
+        &[1],
+        Ok(set(0x06, 9, false)),
+    );
 }
 
 #[test]
@@ -105,7 +115,7 @@ fn their_entries_are_plain(rt: HostRuntime) {
             fuse: 1,
             ..entry(opcode, 0, 0)
         };
-        check_decoded(&rt, &fused, Err(StatusCode::InvalidFieldInCommand));
+        check_read(&rt, &fused, &[1], Err(StatusCode::InvalidFieldInCommand));
     }
 }
 

@@ -4,6 +4,9 @@ ghost use Rattle.std.specs.Prelude.{◌≡◌, length};
 ghost use Rattle.nv_command.specs.Command.{bytes_to_host, transfer_by};
 ghost use Rattle.nv_command.specs.Logs.{IsSendable};
 
+use crate::checks::{check_bytes, check_number};
+use crate::entries::{check_list, check_read, check_transfer, check_transfer_of};
+use crate::entries_of_features::check_fields;
 use nv_command::*;
 use nv_layout::*;
 use std::process::Abort;
@@ -22,13 +25,17 @@ fn get_log(lid: u8, offset: u64, numd: u32) -> Command<'static> {
 /// back.
 fn check_travel(rt: &impl Abort, command: Command, cdws: [u32; 4], bytes: u64) {
     let sent = command.entry(0x1234);
-    assert_eq!(rt; (sent.opcode, sent.nsid, sent.cid), (0x02, 7, 0x1234));
-    assert_eq!(rt; [sent.cdw10, sent.cdw11, sent.cdw12, sent.cdw13], cdws);
+    check_fields(rt, &sent, 0x02);
+    check_dwords(rt, &sent, &cdws);
+    check_number(rt, u64::from(command.nsid()), 7, "NSID");
+    check_transfer(rt, &command, &sent, Transfer::ToHost(bytes));
+    check_read(rt, &sent, &[], Ok(command));
+}
+
+/// Checks Command Dwords 10 to 15 of an entry, of which the last two are 0.
+fn check_dwords(rt: &impl Abort, sent: &Sqe, want: &[u32; 4]) {
+    assert_eq!(rt; [sent.cdw10, sent.cdw11, sent.cdw12, sent.cdw13], *want);
     assert_eq!(rt; (sent.cdw14, sent.cdw15), (0, 0));
-    assert_eq!(rt; command.nsid(), 7);
-    assert_eq!(rt; command.transfer(), Transfer::ToHost(bytes));
-    assert_eq!(rt; Transfer::of(&sent), Ok(Transfer::ToHost(bytes)));
-    assert_eq!(rt; Command::of(&sent, &[], &mut CtrlList::new()), Ok(command));
 }
 
 #[test]
@@ -67,25 +74,23 @@ fn bits_beside_the_fields_are_ignored(rt: HostRuntime) {
         cdw15: 9,
         ..plain
     };
-    let mut place = CtrlList::new();
-    assert_eq!(rt;
-        Command::of(&entry, &[], &mut place),
-        Ok(get_log(0x02, 0, 127))
-    );
+    check_read(&rt, &entry, &[], Ok(get_log(0x02, 0, 127)));
 }
 
 #[test]
 fn the_controller_by_its_entry(rt: HostRuntime) {
     let sent = Command::IdentifyController.entry(0x0234);
+    check_controller_fields(&rt, &sent);
+    let entry = Sqe { nsid: 7, ..sent };
+    check_transfer_of(&rt, &entry, Ok(Transfer::ToHost(4096)));
+    check_read(&rt, &entry, &[], Ok(Command::IdentifyController));
+    let nsid = Command::IdentifyController.nsid();
+    check_number(&rt, u64::from(nsid), 0, "NSID");
+}
+
+fn check_controller_fields(rt: &impl Abort, sent: &Sqe) {
     assert_eq!(rt; (sent.opcode, sent.nsid, sent.cid), (0x06, 0, 0x0234));
     assert_eq!(rt; (sent.cdw10, sent.cdw11), (0x01, 0));
-    let entry = Sqe { nsid: 7, ..sent };
-    assert_eq!(rt; Transfer::of(&entry), Ok(Transfer::ToHost(4096)));
-    assert_eq!(rt;
-        Command::of(&entry, &[], &mut CtrlList::new()),
-        Ok(Command::IdentifyController)
-    );
-    assert_eq!(rt; Command::IdentifyController.nsid(), 0);
 }
 
 /// An error with this count.
@@ -105,11 +110,12 @@ fn errors_by_their_bytes(rt: HostRuntime) {
     let reply = Reply::Errors(ErrorEntries::new(&errors, &[], 3));
     let mut data = [0xff; 256];
     reply.fill(0, &mut data);
-    assert_eq!(rt; (data[0], data[64], data[128]), (2, 1, 0));
-    assert_eq!(rt; [data[12], data[13], data[14]], [0x17, 0xc0, 0xff]);
+    let counts = [data[0], data[64], data[128]];
+    check_bytes(&rt, &counts, &[2, 1, 0], "counts");
+    check_bytes(&rt, &data[12..15], &[0x17, 0xc0, 0xff], "an error");
     let mut rest = [0xff; 64];
     reply.fill(12, &mut rest);
-    assert_eq!(rt; rest.as_slice(), &data[12..76]);
+    check_bytes(&rt, &rest, &data[12..76], "from 12 on");
     let mut room = ReplyRoom::new();
     assert!(rt; matches!(room.reply(), Reply::Done));
     let get_log = Command::GetLog(LogQuery {
@@ -119,17 +125,45 @@ fn errors_by_their_bytes(rt: HostRuntime) {
         dwords: DwordCount::from_zeros_based(63),
     });
     room.read(&get_log, 0, &data);
+    check_errors(&rt, &room);
+}
+
+/// Checks that a reply is four errors, of which the first is of count 2 and the last is none.
+fn check_errors(rt: &impl Abort, room: &ReplyRoom) {
     match room.reply() {
         Reply::Errors(entries) => {
-            assert_eq!(rt; entries.len(), 4);
+            assert!(rt; entries.len() == 4);
             // The phase tag isn't read.
             let want = ErrorEntry {
                 phase: false,
                 ..error(2)
             };
-            assert_eq!(rt; (entries.get(0), entries.get(3)), (want, ErrorEntry::NONE));
+            check_error(rt, &entries.get(0), &want);
+            check_error(rt, &entries.get(3), &ErrorEntry::NONE);
         }
         _ => panic!(rt; "no entries"),
+    }
+}
+
+fn check_error(rt: &impl Abort, found: &ErrorEntry, want: &ErrorEntry) {
+    assert_eq!(rt; found, want);
+}
+
+/// Checks two fields of a controller in a reply.
+fn check_controller(rt: &impl Abort, room: &ReplyRoom, vid: u16, elpe: u8) {
+    match room.reply() {
+        Reply::Controller(controller) => {
+            assert_eq!(rt; (controller.vid, controller.elpe), (vid, elpe));
+        }
+        _ => panic!(rt; "no controller"),
+    }
+}
+
+/// Checks the temperature in a reply.
+fn check_temperature(rt: &impl Abort, room: &ReplyRoom, want: u16) {
+    match room.reply() {
+        Reply::Smart(smart) => assert_eq!(rt; smart.temperature, want),
+        _ => panic!(rt; "no health"),
     }
 }
 
@@ -137,19 +171,13 @@ fn errors_by_their_bytes(rt: HostRuntime) {
 fn a_room_keeps_one_reply_after_another(rt: HostRuntime) {
     let mut room = ReplyRoom::new();
     room.keep(&Reply::List(NamespaceIds::new(&[1, 3])));
-    match room.reply() {
-        Reply::List(ids) => assert_eq!(rt; ids.as_slice(), [1, 3].as_slice()),
-        _ => panic!(rt; "no list"),
-    }
+    check_list(&rt, &room, &[1, 3]);
     let mut page = [0; 4096];
     room.reply().put(&mut page);
-    assert_eq!(rt; &page[..9], [1, 0, 0, 0, 3, 0, 0, 0, 0].as_slice());
+    check_bytes(&rt, &page[..9], &[1, 0, 0, 0, 3, 0, 0, 0, 0], "a list");
     page[262] = 3;
     room.read(&Command::IdentifyController, 0, &page);
-    match room.reply() {
-        Reply::Controller(controller) => assert_eq!(rt; (controller.vid, controller.elpe), (1, 3)),
-        _ => panic!(rt; "no controller"),
-    }
+    check_controller(&rt, &room, 1, 3);
     let mut data = [0; 512];
     data[1] = 0x2c;
     data[2] = 1;
@@ -160,10 +188,7 @@ fn a_room_keeps_one_reply_after_another(rt: HostRuntime) {
         dwords: DwordCount::from_zeros_based(127),
     });
     room.read(&get_log, 0, &data);
-    match room.reply() {
-        Reply::Smart(smart) => assert_eq!(rt; smart.temperature, 300),
-        _ => panic!(rt; "no health"),
-    }
+    check_temperature(&rt, &room, 300);
     room.keep(&Reply::Number(5));
-    assert_eq!(rt; room.reply().dword0(), 5);
+    check_number(&rt, u64::from(room.reply().dword0()), 5, "Dword 0");
 }

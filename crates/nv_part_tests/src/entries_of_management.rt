@@ -1,5 +1,7 @@
 //! Entries and data of Namespace Management.
 
+use crate::checks::{check_bytes, check_number};
+use crate::entries::{check_read, check_sent, check_transfer, check_transfer_of};
 use nv_command::*;
 use nv_layout::{CtrlList, IdNs, Sqe};
 use std::process::Abort;
@@ -34,24 +36,12 @@ fn check_travel(
     data: Transfer,
 ) {
     let entry = command.entry(0x0234);
-    let mut bytes = [0; 64];
-    bytes[0] = opcode;
-    bytes[2] = 0x34;
-    bytes[3] = 0x02;
-    bytes[4] = nsid;
-    bytes[40] = select;
-    let mut out = [0xff; 64];
-    entry.put(&mut out);
-    assert_eq!(rt; out, bytes);
-    assert_eq!(rt; command.nsid(), u32::from(nsid));
-    assert_eq!(rt; command.transfer(), data);
-    assert_eq!(rt; Transfer::of(&entry), Ok(data));
+    check_sent(rt, &entry, opcode, nsid, select);
+    check_number(rt, u64::from(command.nsid()), u64::from(nsid), "NSID");
+    check_transfer(rt, &command, &entry, data);
     let mut page = [0xee; 4096];
     command.put(&mut page);
-    assert_eq!(rt;
-        Command::of(&entry, &page, &mut CtrlList::new()),
-        Ok(command)
-    );
+    check_read(rt, &entry, &page, Ok(command));
 }
 
 #[test]
@@ -87,7 +77,7 @@ fn data_from_the_host_by_its_bytes(rt: HostRuntime) {
     bytes[26] = 0x11;
     bytes[29] = 2;
     bytes[30] = 1;
-    assert_eq!(rt; page, bytes);
+    check_bytes(&rt, &page, &bytes, "a creation");
     let controllers = two_controllers();
     let attachment = Command::Attachment {
         nsid: 3,
@@ -95,11 +85,16 @@ fn data_from_the_host_by_its_bytes(rt: HostRuntime) {
         list: controllers.ids(),
     };
     attachment.put(&mut page);
-    assert_eq!(rt; &page[..7], [2, 0, 0xef, 0xff, 0, 0, 0].as_slice());
+    check_bytes(
+        &rt,
+        &page[..7],
+        &[2, 0, 0xef, 0xff, 0, 0, 0],
+        "an attachment",
+    );
     let mut page = [0xee; 4096];
     Command::Delete { nsid: 7 }.put(&mut page);
     Command::ActiveList { after: 7 }.put(&mut page);
-    assert_eq!(rt; page, [0xee; 4096]);
+    check_bytes(&rt, &page, &[0xee; 4096], "no data");
 }
 
 /// An entry with this opcode and Command Dword 10, for NSID 7.
@@ -134,15 +129,9 @@ fn bits_beside_the_select_are_ignored(rt: HostRuntime) {
         detach: false,
         list: list.ids(),
     };
-    assert_eq!(rt;
-        Command::of(&entry(0x15, 0xffff_fff0), &page, &mut CtrlList::new()),
-        Ok(attach)
-    );
+    check_read(&rt, &entry(0x15, 0xffff_fff0), &page, Ok(attach));
     let delete = Command::Delete { nsid: 7 };
-    assert_eq!(rt;
-        Command::of(&entry(0x0d, 0xffff_fff1), &[1, 2, 3], &mut CtrlList::new()),
-        Ok(delete)
-    );
+    check_read(&rt, &entry(0x0d, 0xffff_fff1), &[1, 2, 3], Ok(delete));
     let create = Command::Create {
         nsze: 0xffff_ffff_ffff_0001,
         ncap: u64::MAX,
@@ -150,41 +139,31 @@ fn bits_beside_the_select_are_ignored(rt: HostRuntime) {
         dps: 0xff,
         nmic: 0xff,
     };
-    assert_eq!(rt;
-        Command::of(&entry(0x0d, 0xffff_fff0), &page, &mut CtrlList::new()),
-        Ok(create)
-    );
+    check_read(&rt, &entry(0x0d, 0xffff_fff0), &page, Ok(create));
 }
 
 #[test]
 fn management_by_its_first_fault(rt: HostRuntime) {
     let field = StatusCode::InvalidFieldInCommand;
     for opcode in [0x0d, 0x15] {
-        assert_eq!(rt; Transfer::of(&entry(opcode, 2)), Err(field));
-        assert_eq!(rt;
-            Command::of(&entry(opcode, 2), &[], &mut CtrlList::new()),
-            Err(field)
-        );
-        let mut place = CtrlList::new();
-        let short = Command::of(&entry(opcode, 0), &[0; 4095], &mut place);
-        assert_eq!(rt; short, Err(StatusCode::DataTransferError));
+        check_transfer_of(&rt, &entry(opcode, 2), Err(field));
+        check_read(&rt, &entry(opcode, 2), &[], Err(field));
+        let short = Err(StatusCode::DataTransferError);
+        check_read(&rt, &entry(opcode, 0), &[0; 4095], short);
     }
     let mut page = [0; 4096];
     page[1] = 8;
-    let mut place = CtrlList::new();
-    let long = Command::of(&entry(0x15, 1), &page, &mut place);
-    assert_eq!(rt; long, Err(StatusCode::ControllerListInvalid));
+    let long = Err(StatusCode::ControllerListInvalid);
+    check_read(&rt, &entry(0x15, 1), &page, long);
 }
 
 #[test]
 fn replies_of_management(rt: HostRuntime) {
     let mut page = [0xee; 4096];
-    let number = Reply::Number(4);
-    assert_eq!(rt; number.dword0(), 4);
-    number.put(&mut page);
-    assert_eq!(rt; Reply::Done.dword0(), 0);
+    put_number(&rt, 4, &mut page);
+    check_number(&rt, u64::from(Reply::Done.dword0()), 0, "done");
     Reply::Done.put(&mut page);
-    assert_eq!(rt; page, [0xee; 4096]);
+    check_bytes(&rt, &page, &[0xee; 4096], "no page");
     let mut room = ReplyRoom::new();
     let create = Command::Create {
         nsze: 9,
@@ -195,7 +174,7 @@ fn replies_of_management(rt: HostRuntime) {
     };
     room.read(&create, 4, &[]);
     match room.reply() {
-        Reply::Number(nsid) => assert_eq!(rt; nsid, 4),
+        Reply::Number(nsid) => check_number(&rt, u64::from(nsid), 4, "of a creation"),
         _ => panic!(rt; "no number"),
     }
     room.read(&Command::Delete { nsid: 7 }, 0, &[]);
@@ -203,4 +182,11 @@ fn replies_of_management(rt: HostRuntime) {
         Reply::Done => {}
         _ => panic!(rt; "more than done"),
     }
+}
+
+/// The reply of a number is all in Dword 0.
+fn put_number(rt: &impl Abort, number: u32, page: &mut [u8; 4096]) {
+    let reply = Reply::Number(number);
+    check_number(rt, u64::from(reply.dword0()), u64::from(number), "a number");
+    reply.put(page);
 }

@@ -1,6 +1,10 @@
 //! Memory by pages, and sets of pages.
 
+ghost use Rattle.std.specs.Prelude.{◌≡◌, length};
+
+use crate::checks::{check_bytes, check_text};
 use nv_host::*;
+use std::process::Abort;
 
 #[test]
 fn memory_of_zeros(rt: HostRuntime) {
@@ -10,10 +14,24 @@ fn memory_of_zeros(rt: HostRuntime) {
             assert!(rt; false, "out of memory");
             return;
         };
-        assert_eq!(rt; mem.page_size(), page_size);
-        assert_eq!(rt; mem.pages(), 3);
+        assert!(rt; mem.page_size() == page_size);
+        assert!(rt; mem.pages() == 3);
         assert!(rt; mem.page(2).iter().all(|b| *b == 0));
     }
+}
+
+/// A load into these bytes fits, or leaves the memory.
+fn check_load(rt: &impl Abort, mem: &FlatMemory, addr: u64, out: &mut [u8], fits: bool) {
+    assert!(rt; mem.load(addr, out).is_ok() == fits, "at {addr}");
+}
+
+/// A store of these bytes fits, or leaves the memory.
+#[tactic(auto, using(nv_host::proofs::BytesLaws::length_with_bytes))]
+fn check_store(rt: &impl Abort, mem: &mut FlatMemory, addr: u64, bytes: &[u8], fits: bool)
+    ensures page { mem.new.page_size ≡ mem.old.page_size }
+    ensures len { length mem.new.bytes ≡ length mem.old.bytes }
+{
+    assert!(rt; mem.store(addr, bytes).is_ok() == fits, "at {addr}");
 }
 
 #[test]
@@ -24,14 +42,14 @@ fn ranges_that_leave_the_memory(rt: HostRuntime) {
         return;
     };
     let mut two = [7; 2];
-    assert_eq!(rt; mem.load(0xffff, &mut two), Err(OutOfMemoryRange));
-    assert_eq!(rt; mem.store(0xffff, &two), Err(OutOfMemoryRange));
-    assert_eq!(rt; mem.load(u64::MAX, &mut two), Err(OutOfMemoryRange));
-    assert_eq!(rt; two, [7, 7]);
-    assert_eq!(rt; mem.store(0xfffe, &two), Ok(()));
-    assert_eq!(rt; mem.load(0x10000, &mut []), Ok(()));
-    assert_eq!(rt; mem.load(0x10001, &mut []), Err(OutOfMemoryRange));
-    assert_eq!(rt; &mem.page(15)[4093..], [0, 7, 7].as_slice());
+    check_load(&rt, &mem, 0xffff, &mut two, false);
+    check_store(&rt, &mut mem, 0xffff, &two, false);
+    check_load(&rt, &mem, u64::MAX, &mut two, false);
+    check_bytes(&rt, &two, &[7, 7], "not loaded");
+    check_store(&rt, &mut mem, 0xfffe, &two, true);
+    check_load(&rt, &mem, 0x10000, &mut [], true);
+    check_load(&rt, &mem, 0x10001, &mut [], false);
+    check_bytes(&rt, &mem.page(15)[4093..], &[0, 7, 7], "stored");
 }
 
 #[test]
@@ -43,8 +61,8 @@ fn pages_that_are_lent(rt: HostRuntime) {
     };
     mem.page_mut(1)[4095] = 9;
     let mut two = [7; 2];
-    assert_eq!(rt; mem.load(0x1fff, &mut two), Ok(()));
-    assert_eq!(rt; two, [9, 0]);
+    check_load(&rt, &mem, 0x1fff, &mut two, true);
+    check_bytes(&rt, &two, &[9, 0], "across pages");
 }
 
 #[test]
@@ -54,9 +72,14 @@ fn lowest_free_page_first(rt: HostRuntime) {
         return;
     };
     for page in 62..67 {
-        assert_eq!(rt; pages.take(), Some(page));
+        check_take(&rt, &mut pages, Some(page));
     }
-    assert_eq!(rt; pages.take(), None);
+    check_take(&rt, &mut pages, None);
+}
+
+/// The lowest page of a set.
+fn check_take(rt: &impl Abort, pages: &mut PageSet, want: Option<PageNo>) {
+    assert_eq!(rt; pages.take(), want);
 }
 
 #[test]
@@ -76,9 +99,9 @@ fn pages_given_in_reverse(rt: HostRuntime) {
     };
     pages.give(higher);
     pages.give(lower);
-    assert_eq!(rt; pages.take(), Some(0));
-    assert_eq!(rt; pages.take(), Some(1));
-    assert_eq!(rt; pages.take(), None);
+    check_take(&rt, &mut pages, Some(0));
+    check_take(&rt, &mut pages, Some(1));
+    check_take(&rt, &mut pages, None);
 }
 
 #[test]
@@ -91,8 +114,9 @@ fn errors_as_text(rt: HostRuntime) {
         assert!(rt; false, "out of memory");
         return;
     };
-    assert_eq!(rt; range.as_str(), "the range leaves the host's memory");
-    assert_eq!(rt; memory.as_str(), "out of memory");
+    let want = "the range leaves the host's memory";
+    check_text(&rt, range.as_str(), want, "an error");
+    check_text(&rt, memory.as_str(), "out of memory", "an error");
 }
 
 /// The crate page's example.
@@ -111,9 +135,9 @@ fn page_taken_and_filled(rt: HostRuntime) {
         return;
     };
     let mut dword = [0; 4];
-    assert_eq!(rt; mem.store(u64::from(page) * 4096, &[0xff; 2]), Ok(()));
-    assert_eq!(rt; mem.load(u64::from(page) * 4096, &mut dword), Ok(()));
-    assert_eq!(rt; dword, [0xff, 0xff, 0, 0]);
+    check_store(&rt, &mut mem, u64::from(page) * 4096, &[0xff; 2], true);
+    check_load(&rt, &mem, u64::from(page) * 4096, &mut dword, true);
+    check_bytes(&rt, &dword, &[0xff, 0xff, 0, 0], "stored");
     free.give(page);
-    assert_eq!(rt; free.take(), Some(4));
+    check_take(&rt, &mut free, Some(4));
 }

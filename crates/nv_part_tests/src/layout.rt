@@ -1,5 +1,6 @@
 //! Records by their bytes.
 
+use crate::checks::{check_bytes, check_number, check_text};
 use nv_layout::*;
 use std::process::Abort;
 use std::test::Fail;
@@ -25,9 +26,9 @@ fn refusal() -> Status {
 
 #[test]
 fn status_by_its_number(rt: HostRuntime) {
-    assert_eq!(rt; refusal().number(), 0x600b);
-    assert_eq!(rt; Status::from_number(0x600b), refusal());
-    assert_eq!(rt; Status::from_number(0xe00b), refusal());
+    check_number(&rt, u64::from(refusal().number()), 0x600b, "a refusal");
+    check_status(&rt, 0x600b, refusal());
+    check_status(&rt, 0xe00b, refusal());
     let retry = Status {
         sc: 0x82,
         sct: 5,
@@ -35,8 +36,13 @@ fn status_by_its_number(rt: HostRuntime) {
         more: true,
         dnr: false,
     };
-    assert_eq!(rt; retry.number(), 0x3582);
-    assert_eq!(rt; Status::from_number(0x3582), retry);
+    check_number(&rt, u64::from(retry.number()), 0x3582, "a retry");
+    check_status(&rt, 0x3582, retry);
+}
+
+/// Checks the status of a number.
+fn check_status(rt: &impl Abort, number: u16, want: Status) {
+    assert_eq!(rt; Status::from_number(number), want);
 }
 
 #[test]
@@ -52,7 +58,7 @@ fn completion_of_a_refusal(rt: HostRuntime) {
     let bytes = [0, 0, 0, 0, 0, 0, 0, 0, 1, 0, 0, 0, 1, 0, 0x17, 0xc0];
     let mut out = [0xff; 16];
     completion.put(&mut out);
-    assert_eq!(rt; out, bytes);
+    check_bytes(&rt, &out, &bytes, "written");
     assert_eq!(rt; Cqe::get(&bytes), completion);
 }
 
@@ -88,7 +94,7 @@ fn command_by_its_bytes(rt: HostRuntime) {
     );
     let mut out = [0xff; 64];
     command.put(&mut out);
-    assert_eq!(rt; out, bytes);
+    check_bytes(&rt, &out, &bytes, "written");
     assert_eq!(rt; Sqe::get(&bytes), command);
 }
 
@@ -138,7 +144,7 @@ fn namespace_by_its_bytes(rt: HostRuntime) {
     );
     let mut out = [0xff; 4096];
     namespace.put(&mut out);
-    assert_eq!(rt; out, bytes);
+    check_bytes(&rt, &out, &bytes, "written");
     assert_eq!(rt; IdNs::get(&bytes), namespace);
 }
 
@@ -148,22 +154,26 @@ fn namespace_list_by_its_bytes(rt: HostRuntime) {
     assert!(rt; list.is_empty());
     list.push(1);
     list.push(0x0102_0304);
-    assert_eq!(rt; list.len(), 2);
+    check_number(&rt, list.len() as u64, 2, "entries");
     let mut bytes = [0; 4096];
     write_pieces(&rt, &mut bytes, &[(0, &[1, 0, 0, 0, 4, 3, 2, 1])]);
     let mut out = [0xff; 4096];
     list.put(&mut out);
-    assert_eq!(rt; out, bytes);
-    assert_eq!(rt; NsList::get(&bytes).as_slice(), [1, 0x0102_0304].as_slice());
+    check_bytes(&rt, &out, &bytes, "written");
+    check_namespaces(&rt, &bytes, &[1, 0x0102_0304]);
+}
+
+/// Checks the list of namespaces in a page.
+fn check_namespaces(rt: &impl Abort, bytes: &[u8; 4096], want: &[u32]) {
+    assert_eq!(rt; NsList::get(bytes).as_slice(), want);
 }
 
 #[test]
 fn namespace_list_ends_at_a_zero_or_is_full(rt: HostRuntime) {
     let mut bytes = [0; 4096];
     write_pieces(&rt, &mut bytes, &[(0, &[5, 0, 0, 0, 0, 0, 0, 0, 7])]);
-    assert_eq!(rt; NsList::get(&bytes).as_slice(), [5].as_slice());
-    let full = NsList::get(&[1; 4096]);
-    assert_eq!(rt; full.as_slice(), [0x0101_0101; 1024].as_slice());
+    check_namespaces(&rt, &bytes, &[5]);
+    check_namespaces(&rt, &[1; 4096], &[0x0101_0101; 1024]);
 }
 
 #[test]
@@ -186,41 +196,58 @@ fn controller_list_by_its_bytes(rt: HostRuntime) -> Result<(), Fail> {
     list.push(0xffef);
     list.push(0);
     list.push(5);
-    assert_eq!(rt; list.len(), 3);
+    check_number(&rt, list.len() as u64, 3, "entries");
     let mut bytes = [0; 4096];
     write_pieces(&rt, &mut bytes, &[(0, &[3, 0, 0xef, 0xff, 0, 0, 5, 0])]);
     let mut out = [0xff; 4096];
     list.put(&mut out);
-    assert_eq!(rt; out, bytes);
+    check_bytes(&rt, &out, &bytes, "a list");
     let mut out = [0xff; 4096];
     ControllerIds::new(&[0xffef, 0, 5]).put(&mut out);
-    assert_eq!(rt; out, bytes);
-    let mut place = CtrlList::new();
-    assert_eq!(rt; place.read(&bytes), Ok(()));
-    assert_eq!(rt; place, list);
-    assert_eq!(rt; CtrlList::get(&bytes), Ok(list));
-    let none = CtrlList::get(&[0; 4096])?;
-    assert_eq!(rt; none, CtrlList::new());
+    check_bytes(&rt, &out, &bytes, "identifiers");
+    check_controllers(&rt, &bytes, &list);
+    check_controllers(&rt, &[0; 4096], &CtrlList::new());
     Ok(())
+}
+
+/// Checks the list of controllers in a page, by both ways to read it.
+fn check_controllers(rt: &impl Abort, bytes: &[u8; 4096], want: &CtrlList) {
+    let mut place = CtrlList::new();
+    assert!(rt; place.read(bytes).is_ok());
+    assert_eq!(rt; place, *want);
+    check_got(rt, bytes, want);
+}
+
+/// Checks the list of controllers in a page.
+fn check_got(rt: &impl Abort, bytes: &[u8; 4096], want: &CtrlList) {
+    match CtrlList::get(bytes) {
+        Ok(list) => assert_eq!(rt; list, *want),
+        Err(_) => panic!(rt; "too long"),
+    }
 }
 
 #[test]
 fn controller_list_is_full_or_too_long(rt: HostRuntime) -> Result<(), Fail> {
     let mut bytes = [7; 4096];
     write_pieces(&rt, &mut bytes, &[(0, &[0xff, 0x07])]);
-    let full = CtrlList::get(&bytes)?;
+    check_full(&rt, &bytes);
+    write_pieces(&rt, &mut bytes, &[(0, &[0x00, 0x08])]);
+    assert!(rt; CtrlList::get(&bytes) == Err(LayoutError::CountTooLarge));
+    let text = format!(in rt.alloc(); "{}", LayoutError::CountTooLarge)?;
+    let want = "a controller list has more than 2,047 identifiers";
+    check_text(&rt, text.as_str(), want, "an error");
+    Ok(())
+}
+
+/// Checks that a page is a full list of one controller's identifier.
+fn check_full(rt: &impl Abort, bytes: &[u8; 4096]) {
+    let Ok(full) = CtrlList::get(bytes) else {
+        panic!(rt; "too long")
+    };
     assert_eq!(rt; full.as_slice(), [0x0707; 2047].as_slice());
     let mut out = [0; 4096];
     full.put(&mut out);
-    assert_eq!(rt; out, bytes);
-    write_pieces(&rt, &mut bytes, &[(0, &[0x00, 0x08])]);
-    assert_eq!(rt; CtrlList::get(&bytes), Err(LayoutError::CountTooLarge));
-    let text = format!(in rt.alloc(); "{}", LayoutError::CountTooLarge)?;
-    assert_eq!(rt;
-        text.as_str(),
-        "a controller list has more than 2,047 identifiers"
-    );
-    Ok(())
+    check_bytes(rt, &out, bytes, "a full list");
 }
 
 #[test]

@@ -5,6 +5,8 @@
 #[cfg(test)]
 mod bits;
 #[cfg(test)]
+mod checks;
+#[cfg(test)]
 mod entries;
 #[cfg(test)]
 mod entries_of_features;

@@ -1,6 +1,6 @@
 //! Rings by hand, from both sides.
 
-ghost use Rattle.std.specs.Prelude.{◌≡◌, ◌*◌, ◌<◌, ◌≤◌, length};
+ghost use Rattle.std.specs.Prelude.{◌≡◌, ◌+◌, ◌*◌, ◌<◌, ◌≤◌, length};
 ghost use Rattle.nv_queue.specs.Numbers.{IsDepth};
 
 use nv_host::{FlatMemory, HostMemory};
@@ -80,7 +80,7 @@ fn slots_and_phases_at_depth_two(rt: HostRuntime) {
     };
     let mut ring = Post::new(COMPLETIONS, 2);
     for (number, slot, phase, head) in [(0, 0, true, 1), (1, 1, true, 0), (2, 0, false, 1)] {
-        assert_eq!(rt; ring.phase(), phase);
+        assert!(rt; ring.phase() == phase);
         put(&rt, &mut ring, &mut mem, number);
         stands(&rt, &mem, slot, number, phase);
         assert!(rt; ring.is_full());
@@ -103,7 +103,7 @@ fn full_at_depth_four(rt: HostRuntime) {
     }
     assert!(rt; ring.is_full());
     assert!(rt; ring.fits(&mem));
-    assert_eq!(rt; ring.put(&mut mem, completion(3, 0, true)), Err(CqFull));
+    assert!(rt; ring.put(&mut mem, completion(3, 0, true)) == Err(CqFull));
     ring.head(3);
     for (number, slot, phase) in [(3, 3, true), (4, 0, false), (5, 1, false)] {
         assert!(rt; !ring.is_full());
@@ -176,6 +176,69 @@ impl Pair {
     }
 }
 
+/// A command is submitted, and its place is told to the device.
+fn submit(rt: &impl Abort, pair: &mut Pair, mem: &mut FlatMemory, number: u16, next: u16)
+    requires deep { IsDepth pair.old.submit.depth }
+    requires size { 327680 ≤ length mem.old.bytes }
+    requires base { pair.old.submit.base ≡ 0 }
+    ensures size { 327680 ≤ length mem.new.bytes }
+    ensures submit { (pair.new.submit.base ≡ 0)
+        × (pair.new.submit.depth ≡ pair.old.submit.depth) }
+    ensures collect { pair.new.collect ≡ pair.old.collect }
+{
+    assert_eq!(rt;
+        pair.submit.push(mem, &command(number)),
+        Ok(next),
+        "tail of {number}"
+    );
+    assert!(rt; pair.fetch.is_empty());
+    pair.fetch.tail(next as u32);
+}
+
+/// The device takes the command.
+fn take(rt: &impl Abort, fetch: &mut Fetch, mem: &FlatMemory, number: u16, next: u16) {
+    assert!(rt; fetch.fits(mem));
+    assert_eq!(rt;
+        fetch.next(mem),
+        Some(command(number)),
+        "submission {number}"
+    );
+    assert!(rt; fetch.is_empty());
+    assert_eq!(rt; fetch.head(), next);
+}
+
+/// The host finds this completion, or none.
+pub(crate) fn find(rt: &impl Abort, ring: &mut CompletionRing, mem: &FlatMemory, want: Option<Cqe>)
+    requires { ring.old.base + 16 * ring.old.depth ≤ length mem.now.bytes }
+    ensures { (ring.new.base ≡ ring.old.base) × (ring.new.depth ≡ ring.old.depth) }
+{
+    assert_eq!(rt; ring.poll(mem), want);
+}
+
+/// The device posts the completion.
+fn post(rt: &impl Abort, ring: &mut Post, mem: &mut FlatMemory, number: u16, next: u16)
+    ensures { length mem.new.bytes ≡ length mem.old.bytes }
+{
+    assert!(rt; ring.fits(mem));
+    assert_eq!(rt; ring.put(mem, completion(number, next, false)), Ok(()));
+}
+
+/// The head is told once.
+fn tell(rt: &impl Abort, ring: &mut CompletionRing, next: u16)
+    ensures { (ring.new.base ≡ ring.old.base) × (ring.new.depth ≡ ring.old.depth) }
+{
+    assert_eq!(rt; ring.head_to_tell(), Some(next));
+    assert!(rt; ring.head_to_tell().is_none());
+}
+
+/// Places are free again up to this head.
+fn free(rt: &impl Abort, ring: &mut SubmitRing, next: u16)
+    ensures { (ring.new.base ≡ ring.old.base) × (ring.new.depth ≡ ring.old.depth) }
+{
+    assert!(rt; ring.may_free(next));
+    ring.freed(next);
+}
+
 /// One command there and back, by the numbers that the rings must show.
 fn exchange(rt: &impl Abort, pair: &mut Pair, mem: &mut FlatMemory, depth: u16, number: u16)
     requires deep { IsDepth depth }
@@ -188,35 +251,16 @@ fn exchange(rt: &impl Abort, pair: &mut Pair, mem: &mut FlatMemory, depth: u16, 
     ensures collect { (pair.new.collect.base ≡ 262144) × (pair.new.collect.depth ≡ depth) }
 {
     let next = (number + 1) % depth;
-    assert_eq!(rt;
-        pair.submit.push(mem, &command(number)),
-        Ok(next),
-        "tail of {number}"
-    );
-    assert!(rt; pair.fetch.is_empty());
-    pair.fetch.tail(next as u32);
-    assert!(rt; pair.fetch.fits(mem));
-    assert_eq!(rt;
-        pair.fetch.next(mem),
-        Some(command(number)),
-        "submission {number}"
-    );
-    assert!(rt; pair.fetch.is_empty());
-    assert_eq!(rt; pair.fetch.head(), next);
-    assert_eq!(rt; pair.collect.poll(mem), None, "before completion {number}");
-    assert!(rt; pair.post.fits(mem));
-    assert_eq!(rt; pair.post.put(mem, completion(number, next, false)), Ok(()));
+    submit(rt, pair, mem, number, next);
+    take(rt, &mut pair.fetch, mem, number, next);
+    find(rt, &mut pair.collect, mem, None);
+    post(rt, &mut pair.post, mem, number, next);
     let phase = (number / depth).is_multiple_of(2);
-    assert_eq!(rt;
-        pair.collect.poll(mem),
-        Some(completion(number, next, phase)),
-        "completion {number}"
-    );
-    assert_eq!(rt; pair.collect.head_to_tell(), Some(next));
-    assert_eq!(rt; pair.collect.head_to_tell(), None);
+    let want = completion(number, next, phase);
+    find(rt, &mut pair.collect, mem, Some(want));
+    tell(rt, &mut pair.collect, next);
     pair.post.head(next as u32);
-    assert!(rt; pair.submit.may_free(next));
-    pair.submit.freed(next);
+    free(rt, &mut pair.submit, next);
 }
 
 /// The first commands there and back, of rings that are new.
@@ -285,25 +329,35 @@ fn one_command_there_and_back(rt: HostRuntime) {
     let mut post = Post::new(4096, 16);
 
     let tail = submissions.push(&mut mem, &command(9));
-    assert_eq!(rt; tail, Ok(1));
+    assert!(rt; tail == Ok(1));
     fetch.tail(1);
-
-    if fetch.fits(&mem)
-        && let Some(taken) = fetch.next(&mem)
-        && post.fits(&mem)
-    {
-        let posted = post.put(&mut mem, completion(taken.cid, fetch.head(), false));
-        assert_eq!(rt; posted, Ok(()));
-    }
+    serve_one(&rt, &mut fetch, &mut post, &mut mem);
 
     let collected = completions.poll(&mem);
+    take_back(&rt, &mut submissions, collected);
+    assert!(rt; completions.head_to_tell() == Some(1));
+    post.head(1);
+}
+
+/// The device's part of the example.
+fn serve_one(rt: &impl Abort, fetch: &mut Fetch, post: &mut Post, mem: &mut FlatMemory)
+    ensures { length mem.new.bytes ≡ length mem.old.bytes }
+{
+    if fetch.fits(mem)
+        && let Some(taken) = fetch.next(mem)
+        && post.fits(mem)
+    {
+        let posted = post.put(mem, completion(taken.cid, fetch.head(), false));
+        assert_eq!(rt; posted, Ok(()));
+    }
+}
+
+/// The end of the example: the completion frees the command's place.
+fn take_back(rt: &impl Abort, submissions: &mut SubmitRing, collected: Option<Cqe>) {
     assert_eq!(rt; collected, Some(completion(9, 1, true)));
     if let Some(collected) = collected {
-        assert!(rt; submissions.may_free(collected.sq_head));
-        submissions.freed(collected.sq_head);
+        free(rt, submissions, collected.sq_head);
     }
-    assert_eq!(rt; completions.head_to_tell(), Some(1));
-    post.head(1);
 }
 
 /// A device that doesn't wait to be told, and a host that tells after four completions: the numbers
@@ -317,14 +371,13 @@ fn head_to_tell_after_two_passes(rt: HostRuntime) {
     };
     let mut post = Post::new(COMPLETIONS, 2);
     let mut collect = CompletionRing::new(COMPLETIONS, 2);
-    assert_eq!(rt; collect.head_to_tell(), None);
+    assert!(rt; collect.head_to_tell().is_none());
     for (number, head, phase) in [(0, 1, true), (1, 0, true), (2, 1, false), (3, 0, false)] {
         put(&rt, &mut post, &mut mem, number);
         post.head(head);
-        assert_eq!(rt; collect.poll(&mem), Some(completion(number, 0, phase)));
+        find(&rt, &mut collect, &mem, Some(completion(number, 0, phase)));
     }
-    assert_eq!(rt; collect.head_to_tell(), Some(0));
-    assert_eq!(rt; collect.head_to_tell(), None);
+    tell(&rt, &mut collect, 0);
 }
 
 #[test]

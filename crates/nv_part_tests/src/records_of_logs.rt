@@ -1,5 +1,6 @@
 //! Identify Controller and the logs by their bytes.
 
+use crate::checks::{check_bytes, check_number, check_text};
 use crate::layout::write_pieces;
 use nv_layout::*;
 use std::process::Abort;
@@ -70,7 +71,7 @@ fn controller_by_its_bytes(rt: HostRuntime) {
     );
     let mut out = [0xff; 4096];
     controller.put(&mut out);
-    assert_eq!(rt; out, bytes);
+    check_bytes(&rt, &out, &bytes, "written");
     assert_eq!(rt; IdCtrl::get(&bytes), controller);
 }
 
@@ -118,7 +119,7 @@ fn health_by_its_bytes(rt: HostRuntime) {
     );
     let mut out = [0xff; 512];
     smart.put(&mut out);
-    assert_eq!(rt; out, bytes);
+    check_bytes(&rt, &out, &bytes, "written");
     assert_eq!(rt; Smart::get(&bytes), smart);
 }
 
@@ -157,7 +158,7 @@ fn error_by_its_bytes(rt: HostRuntime) {
     );
     let mut out = [0xff; 64];
     error(9).put(&mut out);
-    assert_eq!(rt; out, bytes);
+    check_bytes(&rt, &out, &bytes, "written");
     assert_eq!(rt; ErrorEntry::get(&bytes), error(9));
     assert_eq!(rt; ErrorEntry::get(&[0; 64]), ErrorEntry::NONE);
 }
@@ -169,7 +170,7 @@ fn entries_from_any_place(rt: HostRuntime) {
     let entries = ErrorEntries::new(&newest, &older, 4);
     assert_eq!(rt; entries.len(), 4);
     for (index, count) in [(0, 5), (1, 4), (2, 3), (3, 0), (4, 0), (256, 0)] {
-        assert_eq!(rt; entries.get(index).count, count);
+        check_number(&rt, entries.get(index).count, count, "a count");
     }
     let mut log = [0; 320];
     for (index, count) in [(0, 5), (1, 4), (2, 3)] {
@@ -178,16 +179,16 @@ fn entries_from_any_place(rt: HostRuntime) {
         write_pieces(&rt, &mut log, &[(64 * index, &bytes)]);
     }
     for from in [0, 4, 60, 64, 68, 124, 128, 188, 192, 252, 256] {
-        let mut out = [0xff; 64];
-        entries.fill(from, &mut out);
-        assert_eq!(rt; out.as_slice(), &log[from..from + 64]);
-        let mut out = [0xff; 4];
-        entries.fill(from, &mut out);
-        assert_eq!(rt; out.as_slice(), &log[from..from + 4]);
+        check_fill(&rt, &entries, from, &mut [0xff; 64], &log[from..from + 64]);
+        check_fill(&rt, &entries, from, &mut [0xff; 4], &log[from..from + 4]);
     }
-    let mut out = [0xff; 8];
-    entries.fill(usize::MAX, &mut out);
-    assert_eq!(rt; out, [0; 8]);
+    check_fill(&rt, &entries, usize::MAX, &mut [0xff; 8], &[0; 8]);
+}
+
+/// Checks the bytes of errors from this place on.
+fn check_fill(rt: &impl Abort, entries: &ErrorEntries, from: usize, out: &mut [u8], want: &[u8]) {
+    entries.fill(from, out);
+    check_bytes(rt, out, want, "errors");
 }
 
 #[test]
@@ -196,11 +197,12 @@ fn lists_where_they_stand(rt: HostRuntime) -> Result<(), Fail> {
     let mut bytes = [0; 4096];
     write_pieces(&rt, &mut bytes, &[(0, &[1, 0, 0, 0, 4, 3, 2, 1])]);
     list.read(&bytes);
-    assert_eq!(rt; list.ids(), NamespaceIds::new(&[1, 0x0102_0304]));
+    assert!(rt; list.ids() == NamespaceIds::new(&[1, 0x0102_0304]));
     let mut out = [0xff; 4096];
     list.ids().put(&mut out);
-    assert_eq!(rt; out, bytes);
-    assert!(rt; format!(in rt.alloc(); "{:?}", list.ids())?.as_str() == "[1, 16909060]");
+    check_bytes(&rt, &out, &bytes, "written");
+    let text = format!(in rt.alloc(); "{:?}", list.ids())?;
+    check_text(&rt, text.as_str(), "[1, 16909060]", "a list");
     list.clear();
     assert!(rt; list.is_empty() && list.ids() != NamespaceIds::new(&[1]));
     Ok(())

@@ -3,7 +3,7 @@
 ghost use Rattle.std.specs.Prelude.{◌≡◌, ◌+◌, ◌*◌, ◌≤◌, length};
 ghost use Rattle.nv_queue.specs.Numbers.{IsDepth};
 
-use crate::queue::{COMPLETIONS, Pair, command, completion, exchange_first, put, stands};
+use crate::queue::{COMPLETIONS, Pair, command, completion, exchange_first, find, put, stands};
 use nv_host::{FlatMemory, HostMemory};
 use nv_queue::*;
 use std::process::Abort;
@@ -95,7 +95,36 @@ fn expect_first(
     ensures ring { (ring.new.base ≡ 262144) × (ring.new.depth ≡ 2) }
 {
     let want = identifier.map(|number| completion(number, 0, true));
-    assert_eq!(rt; ring.poll(mem), want);
+    find(rt, ring, mem, want);
+}
+
+/// Completions 5 and 6 fill the ring, and the first is found.
+fn fill_with_two(
+    rt: &impl Abort,
+    post: &mut Post,
+    collect: &mut CompletionRing,
+    mem: &mut FlatMemory,
+)
+    requires size { 262176 ≤ length mem.old.bytes }
+    requires ring { (collect.old.base ≡ 262144) × (collect.old.depth ≡ 2) }
+    ensures size { 262176 ≤ length mem.new.bytes }
+    ensures ring { (collect.new.base ≡ 262144) × (collect.new.depth ≡ 2) }
+{
+    put(rt, post, mem, 5);
+    expect_first(rt, collect, mem, Some(5));
+    post.head(1);
+    put(rt, post, mem, 6);
+    assert!(rt; post.is_full());
+}
+
+/// A ring that begins anew posts completion 7, in the first slot with phase tag 1.
+fn post_anew(rt: &impl Abort, post: &mut Post, mem: &mut FlatMemory)
+    ensures { length mem.new.bytes ≡ length mem.old.bytes }
+{
+    post.renew();
+    assert!(rt; !post.is_full() && post.phase());
+    put(rt, post, mem, 7);
+    stands(rt, mem, 0, 7, true);
 }
 
 /// Completions that were posted before are taken for new ones where their slots stay as they were.
@@ -108,19 +137,12 @@ fn takes_no_completion_from_before(rt: HostRuntime) {
     };
     let mut post = Post::new(COMPLETIONS, 2);
     let mut collect = CompletionRing::new(COMPLETIONS, 2);
-    put(&rt, &mut post, &mut mem, 5);
-    expect_first(&rt, &mut collect, &mem, Some(5));
-    post.head(1);
-    put(&rt, &mut post, &mut mem, 6);
-    assert!(rt; post.is_full());
+    fill_with_two(&rt, &mut post, &mut collect, &mut mem);
     renew_completions(&mut collect, &mut mem, false);
     expect_first(&rt, &mut collect, &mem, Some(5));
     renew_completions(&mut collect, &mut mem, true);
     expect_first(&rt, &mut collect, &mem, None);
-    post.renew();
-    assert!(rt; !post.is_full() && post.phase());
-    put(&rt, &mut post, &mut mem, 7);
-    stands(&rt, &mem, 0, 7, true);
+    post_anew(&rt, &mut post, &mut mem);
     expect_first(&rt, &mut collect, &mem, Some(7));
     renew_completions(&mut collect, &mut mem, true);
     assert!(rt; collect.head_to_tell().is_none());
