@@ -1,5 +1,5 @@
 -- Readings of a list, from some index on.
-use Rattle.std.proofs.Common.{◌≡◌, ℕ, ◌+◌, ◌<◌, List, [], ◌∷◌, ◌++◌, length, drop, get_or, Result, Err}
+use Rattle.std.proofs.Common.{◌≡◌, ℕ, ◌+◌, ◌<◌, List, [], ◌∷◌, ◌++◌, length, drop, get_or, Result, Err, BTreeMap, String, Global}
 use Rattle.std.proofs.lemmas.List.{drop_more}
 use Rattle.nv_file.specs.declared.error.SubsystemError.{SubsystemError}
 use Rattle.nv_file.specs.declared.error.SubsystemError.TheVariants.{NotToml, Missing, Kind, Range, Repeated, Unknown}
@@ -7,6 +7,11 @@ use Rattle.nv_file.specs.declared.error.SubsystemError.TheVariants.{Capacity, At
 use Rattle.nv_layout.specs.Steps.{◌>>=◌}
 use Rattle.nv_file.specs.Fault.{IsUnlessMemory}
 use Rattle.nv_file.specs.KeyReading.{readings}
+use Rattle.nv_file.specs.SectionView.{tables_view}
+use Rattle.std.specs.Borrow.{Bor}
+use Rattle.toml.specs.Data.{Members}
+use Rattle.toml.specs.View.{table_view}
+use Rattle.toml.specs.declared.value.Value.{Value}
 
 -- what fails at its first step fails
 fails_first : {X Z A B : Type 0} (f : X → A) (g : Z → B) (e : SubsystemError)
@@ -33,3 +38,14 @@ pub readings_fail : {X Z A B : Type 0} (f : X → A) (g : Z → List A)
     (e : SubsystemError) → i < length xs → IsUnlessMemory f (Err e) (read before (get_or xs i d))
     → IsUnlessMemory g (Err e) (readings read before (drop i xs))
 readings_fail f g read before xs i d e h fails = rw (readings_at read before xs i d h) (fails_first f g e _ _ fails)
+
+-- the same of tables of the code
+pub tables_fail : {X Z A : Type 0} (f : X → A) (g : Z → List A)
+    (read : List A → Members → Result A SubsystemError) (before : List A)
+    (ts : List (Bor (BTreeMap (String Global) Value))) (i : ℕ) (t : Bor (BTreeMap (String Global) Value))
+    (e : SubsystemError) → i < length ts → t ≡ get_or ts i t
+    → IsUnlessMemory f (Err e) (read before (table_view t.now))
+    → IsUnlessMemory g (Err e) (readings read before (tables_view (drop i ts)))
+tables_fail f g read before ts i t e h is fails =
+    rw (drop_more ts i t h, ← is) (fails_first f g e (read before (table_view t.now))
+    (λ y. readings read (before ++ y ∷ []) (tables_view (drop (i + 1) ts))) fails)

@@ -7,7 +7,7 @@ ghost use Rattle.nv_file.specs.Fault.{IsUnlessMemory};
 ghost use Rattle.nv_file.specs.TableChecks.{default_over, nine};
 ghost use Rattle.nv_file.specs.TableReading.{defaults_of, thresholds_or};
 
-use crate::error::{SubsystemError, ensure};
+use crate::error::SubsystemError;
 use crate::key::Key;
 use crate::section::Section;
 use crate::smart_base::number_at;
@@ -54,7 +54,7 @@ fn thresholds_or(
     let integers = section.integers_or_none(alloc, key)?;
     let is_there = section.has(key);
     let fits = !is_there || (fid == 0x04 && integers.len() == 9);
-    ensure(fits, section.out_of_range(key))?;
+    section.in_limits(key, fits)?;
     let numbers = section.each_in_range(alloc, key, 65535, &integers)?;
     Ok(if is_there { nine(&numbers) } else { default })
 }

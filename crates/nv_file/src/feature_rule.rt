@@ -1,8 +1,10 @@
 //! The features of a controller of a file.
-ghost use Rattle.std.specs.Prelude.{◌≡◌, ◌≢◌, ◌==◌, [], All, AllPairs, IfOk, false};
+ghost use Rattle.std.specs.Prelude.{◌≡◌, ◌≢◌, ◌==◌, ◌&&◌, not, [], All, AllPairs, IfOk, false};
 ghost use Rattle.std.specs.List.{list_any};
 ghost use Rattle.toml.specs.View.{table_view};
+ghost use Rattle.nv_layout.specs.Feature.{is_value};
 ghost use Rattle.nv_file.specs.Fault.{IsUnlessMemory};
+ghost use Rattle.nv_file.specs.KeyChecks.{has_key};
 ghost use Rattle.nv_file.specs.KeyReading.{readings};
 ghost use Rattle.nv_file.specs.SectionView.{tables_view};
 ghost use Rattle.nv_file.specs.TableReading.{feature_of};
@@ -22,6 +24,28 @@ fn has_fid(rules: &[FeatureRule], fid: u8) -> bool
     ensures { result ≡ list_any (λ rule. rule.fid == fid) rules.now }
 {
     rules.iter().any(|rule| rule.fid == fid)
+}
+
+/// Whether a version of the file knows a feature, which may have thresholds.
+fn is_in_version(version: u8, has_thresholds: bool) -> bool
+    ensures { result ≡ not ((version == 1) && has_thresholds) }
+{
+    !(version == 1 && has_thresholds)
+}
+
+/// Whether a feature may have a default value; one with thresholds may have none.
+fn may_default(section: &Section, feature: Feature, has_thresholds: bool, default: u32) -> bool
+    ensures { result ≡ (is_value feature default
+        && not (has_thresholds && has_key Key.Default (table_view section.now.table.now))) }
+{
+    feature.is_value(default) && !(has_thresholds && section.has(Key::Default))
+}
+
+/// Whether a feature may be saveable as it is.
+fn may_save(fid: u8, saveable: bool) -> bool
+    ensures { result ≡ not (saveable && (fid == 0x05)) }
+{
+    !(saveable && fid == 0x05)
 }
 
 #[tactic(auto, unfolding(crate::specs::TableReading::feature_of))]
@@ -44,21 +68,13 @@ fn feature_of(
     let fid = section.integer(Key::Fid, 0, 255)? as u8;
     let feature = Feature::of(fid).ok_or(section.out_of_range(Key::Fid))?;
     let has_thresholds = fid == 0x04;
-    ensure(
-        !(version == 1 && has_thresholds),
-        section.out_of_range(Key::Fid),
-    )?;
+    section.in_limits(Key::Fid, is_in_version(version, has_thresholds))?;
     ensure(!has_fid(before, fid), section.repeated(Key::Fid))?;
     let default = section.integer_or(Key::Default, 0, 0, 4294967295)? as u32;
-    ensure(
-        feature.is_value(default) && !(has_thresholds && section.has(Key::Default)),
-        section.out_of_range(Key::Default),
-    )?;
+    let may_default = may_default(&section, feature, has_thresholds, default);
+    section.in_limits(Key::Default, may_default)?;
     let saveable = section.flag_or(Key::Saveable, false)?;
-    ensure(
-        !(saveable && fid == 0x05),
-        section.out_of_range(Key::Saveable),
-    )?;
+    section.in_limits(Key::Saveable, may_save(fid, saveable))?;
     let changeable = section.flag_or(Key::Changeable, true)?;
     let defaults = defaults_of(alloc, version, wctemp, fid, default, table)?;
     section.only(feature_keys(version))?;

@@ -105,10 +105,7 @@ fn namespace_entry_of(
     let in_use = format_at(formats, format)?;
     let capacity = section.integer(Key::Bytes, block_size(&in_use), GREATEST_INTEGER)?;
     let extended = section.flag_or(Key::Extended, false)?;
-    ensure(
-        may_extend(mc, &in_use, extended),
-        section.out_of_range(Key::Extended),
-    )?;
+    section.in_limits(Key::Extended, may_extend(mc, &in_use, extended))?;
     let shared = section.flag_or(Key::Shared, false)?;
     let controllers = section.integers_or_none(alloc, Key::Controllers)?;
     section.only_known()?;

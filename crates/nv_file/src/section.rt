@@ -7,7 +7,7 @@ ghost use Rattle.std.specs.Str.{bytes_eq};
 ghost use Rattle.toml.specs.Data.{get_member, as_table, as_integer};
 ghost use Rattle.toml.specs.View.{view, items_view, table_view};
 ghost use Rattle.nv_file.specs.Names.{key_text};
-ghost use Rattle.nv_file.specs.Fault.{IsUnlessMemory};
+ghost use Rattle.nv_file.specs.Fault.{IsUnlessMemory, ensure};
 ghost use Rattle.nv_file.specs.KeyChecks.{has_key, items_as};
 ghost use Rattle.nv_file.specs.KeyReading.{in_range, integer_in_range, integer, integer_or};
 ghost use Rattle.nv_file.specs.KeyReading.{flag_or, text, tables_in, tables, tables_or_none};
@@ -64,6 +64,14 @@ impl<'a> Section<'a> {
             table: self.name,
             key,
         }
+    }
+
+    /// That a value is such as its key allows.
+    pub(crate) fn in_limits(&self, key: Key, holds: bool) -> Result<(), SubsystemError>
+        ensures exact { result ≡ ensure holds (SubsystemError.Range self.now.name key) }
+        ensures sound { IfOk result (λ _. holds ≡ true) }
+    {
+        ensure(holds, self.out_of_range(key))
     }
 
     /// The fault of a value that a row before has.
@@ -213,7 +221,7 @@ impl<'a> Section<'a> {
     {
         let value = self.find(key).ok_or(self.missing(key))?;
         let tables = self.tables_in(alloc, key, value)?;
-        if 1 <= tables.len() && tables.len() <= most {
+        if is_count(most, tables.len()) {
             Ok(tables)
         } else {
             Err(self.out_of_range(key))
@@ -319,7 +327,7 @@ impl<'a> Section<'a> {
             (table_view self.now.table.now)) }
     {
         let integers = self.integers_or_none(alloc, key)?;
-        ensure(integers.len() <= most, self.out_of_range(key))?;
+        self.in_limits(key, integers.len() <= most)?;
         self.each_in_range(alloc, key, high, &integers)
     }
 
@@ -337,6 +345,13 @@ impl<'a> Section<'a> {
     {
         self.only(self.name.keys())
     }
+}
+
+/// Whether a number of tables is at least 1, and no more than `most`.
+fn is_count(most: usize, count: usize) -> bool
+    ensures { result ≡ (nat_le 1 count && nat_le count most) }
+{
+    1 <= count && count <= most
 }
 
 /// Whether each byte is printable ASCII.

@@ -6,7 +6,7 @@ ghost use Rattle.nv_file.specs.FileReading.{top_of};
 ghost use Rattle.nv_file.specs.TopView.{top_view};
 ghost use Rattle.nv_file.specs.IsFile.{IsTop};
 
-use crate::error::{SubsystemError, ensure};
+use crate::error::SubsystemError;
 use crate::key::Key;
 use crate::section::Section;
 use crate::table_name::TableName;
@@ -45,10 +45,7 @@ pub(crate) fn top_of<'a>(alloc: Global, table: &'a Table) -> Result<Top<'a>, Sub
     let formats = section.tables(alloc, Key::Format, 16)?;
     let controllers = section.tables(alloc, Key::Controller, 16)?;
     let namespaces = section.tables_or_none(alloc, Key::Namespace)?;
-    ensure(
-        namespaces.len() <= nn as usize,
-        section.out_of_range(Key::Namespace),
-    )?;
+    section.in_limits(Key::Namespace, namespaces.len() <= nn as usize)?;
     section.only_known()?;
     Ok(Top {
         version,

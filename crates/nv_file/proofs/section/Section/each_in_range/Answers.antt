@@ -1,4 +1,5 @@
-use Rattle.std.proofs.Common.{rules, pos, get_or, Err, ◌≡◌, w64, ℕ, Vec, Global}
+use Rattle.std.proofs.Common.{arith, rules, pos, get_or, Err, ◌≡◌, w64, ℕ, Vec, Global}
+use Rattle.std.proofs.lemmas.Grind.{common_steps}
 use Rattle.std.proofs.lemmas.Int.{to_z-of_z}
 use Rattle.nv_file.specs.KeyReading.{element}
 use Rattle.nv_file.proofs.Readings.{readings_fail}
@@ -19,3 +20,7 @@ returns-in_err-number c =
     let whole = rw c.loop-integer.invariant at fails in
     let is : c.from_residual.result ≡ Err c.in_err-number.field-0.0 = search rules in
     rw is whole
+
+pub loop-integer-preserved : goal.loop-integer-preserved
+unfolding element
+loop-integer-preserved c = grind (arith, common_steps)

@@ -1,0 +1,10 @@
+use Rattle.std.proofs.Common.{arith}
+use Rattle.std.proofs.lemmas.Grind.{common_steps}
+use Rattle.nv_file.proofs.feature_rule.feature_of.Goals as goal
+
+pub returns-clause-sound : goal.returns-clause-sound
+returns-clause-sound c = record {
+  defaults = c.in_ok-defaults.ensures.sound;
+  default = c.in_ok-defaults.ensures.values;
+  saveable = grind (arith, common_steps);
+}
