@@ -23,7 +23,10 @@ fn node_of(alloc: Global, controller: u16, nsid: u32) -> Result<String, AllocErr
     ensures value { IfOk result (λ node. string_bytes node ≡ node_of controller nsid) }
     ensures bound { length (node_of controller nsid) ≤ 64 }
 {
-    format!(in alloc; "/dev/nvme{controller}n{nsid}")
+    // Room for the longest.
+    let mut node = String::with_capacity(alloc, 25)?;
+    write!(node, "/dev/nvme{controller}n{nsid}")?;
+    Ok(node)
 }
 
 /// Adds the line of a device to a text.
@@ -77,7 +80,8 @@ pub(crate) fn devices_text(alloc: Global, devices: &[Device]) -> Result<String, 
     ensures value { IfOk result (λ t. string_bytes t ≡ devices_text devices.now) }
     ensures bound { IfOk result (λ t. length (string_bytes t) ≤ 512 * length devices.now) }
 {
-    let mut text = String::new(alloc);
+    // Room for what most lines take.
+    let mut text = String::with_capacity(alloc, devices.len().saturating_mul(128))?;
     for device in devices {
         push_device(&mut text, alloc, device)?;
     }

@@ -52,5 +52,8 @@ pub fn message(alloc: Global, fault: &Fault) -> Result<String, AllocError>
     ensures bound { IfOk result (λ t. length (string_bytes t) ≤ 65536) }
 {
     let Fault { line, cause } = *fault;
-    format!(in alloc; "line {line}: {cause}\n")
+    // Room for what most messages take.
+    let mut text = String::with_capacity(alloc, 128)?;
+    write!(text, "line {line}: {cause}\n")?;
+    Ok(text)
 }

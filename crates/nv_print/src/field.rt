@@ -205,7 +205,8 @@ pub(crate) fn push_fields(text: &mut String, fields: &[Field<'_>]) -> Result<(),
 pub(crate) fn fields_text(alloc: Global, fields: &[Field<'_>]) -> Result<String, AllocError>
     ensures { IfOk result (λ t. string_bytes t ≡ fields_text fields.now) }
 {
-    let mut text = String::new(alloc);
+    // Room for what most lines take.
+    let mut text = String::with_capacity(alloc, fields.len().saturating_mul(32))?;
     push_fields(&mut text, fields)?;
     Ok(text)
 }

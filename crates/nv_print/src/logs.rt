@@ -38,7 +38,8 @@ fn push_entry(text: &mut String, index: usize, entry: &ErrorEntry) -> Result<(),
 pub(crate) fn entries_text(alloc: Global, entries: &ErrorEntries<'_>) -> Result<String, AllocError>
     ensures { IfOk result (λ t. string_bytes t ≡ entries_text entries.now) }
 {
-    let mut text = String::new(alloc);
+    // Room for what most entries take.
+    let mut text = String::with_capacity(alloc, entries.present().saturating_mul(256))?;
     for index in 0..entries.present() {
         push_entry(&mut text, index, &entries.get(index))?;
     }

@@ -69,7 +69,8 @@ fn push_formats(text: &mut String, in_use: usize, formats: &[Lbaf]) -> Result<()
 pub(crate) fn namespace_text(alloc: Global, namespace: &IdNs) -> Result<String, AllocError>
     ensures { IfOk result (λ t. string_bytes t ≡ namespace_text namespace.now) }
 {
-    let mut text = String::new(alloc);
+    // Room for the fields and sixteen formats.
+    let mut text = String::with_capacity(alloc, 1024)?;
     push_fields(&mut text, &id_ns_fields(namespace))?;
     let in_use = namespace.flbas as usize % 16;
     push_formats(&mut text, in_use, formats_of(namespace))?;

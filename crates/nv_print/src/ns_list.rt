@@ -39,7 +39,8 @@ pub(crate) fn nsids_text(alloc: Global, nsids: &[u32]) -> Result<String, AllocEr
     ensures value { IfOk result (λ t. string_bytes t ≡ nsids_text nsids.now) }
     ensures fits { All (λ n. n < 2 ^ 64) nsids.now }
 {
-    let mut text = String::new(alloc);
+    // Room for what most lines take.
+    let mut text = String::with_capacity(alloc, nsids.len().saturating_mul(16))?;
     for index in 0..nsids.len() {
         let line = NsidLine {
             index,

@@ -9,11 +9,16 @@ use nv_layout::Feature;
 use std::alloc::{AllocError, Global};
 use std::fmt;
 
+/// Room for what most lines take.
+const ROOM: usize = 128;
+
 /// The line of a command on a namespace that was done.
 pub(crate) fn success(alloc: Global, words: &str, nsid: u32) -> Result<String, AllocError>
     ensures { IfOk result (λ t. string_bytes t ≡ success words.now nsid) }
 {
-    format!(in alloc; "{words}{nsid}\n")
+    let mut text = String::with_capacity(alloc, ROOM)?;
+    write!(text, "{words}{nsid}\n")?;
+    Ok(text)
 }
 
 /// A feature by its identifier, with its name.
@@ -44,7 +49,9 @@ pub(crate) fn feature_value(
 {
     let feature = FeatureName(feature);
     let value = Hexadecimal(u64::from(value));
-    format!(in alloc; "get-feature:{feature}, {select} value:{value}\n")
+    let mut text = String::with_capacity(alloc, ROOM)?;
+    write!(text, "get-feature:{feature}, {select} value:{value}\n")?;
+    Ok(text)
 }
 
 /// The line of a value that a feature was given.
@@ -59,7 +66,9 @@ pub(crate) fn feature_set(
     let feature = FeatureName(feature);
     let value = Hexadecimal(u64::from(value));
     let save = save as u8;
-    format!(in alloc; "set-feature:{feature}, value:{value}, save:{save}\n")
+    let mut text = String::with_capacity(alloc, ROOM)?;
+    write!(text, "set-feature:{feature}, value:{value}, save:{save}\n")?;
+    Ok(text)
 }
 
 /// The line of a controller that was reset.
