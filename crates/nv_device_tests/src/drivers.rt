@@ -1,10 +1,12 @@
 //! Drivers of the demonstration subsystem.
 
-ghost use Rattle.std.specs.Prelude.{◌≡◌, ◌<◌, IfOk, length};
+ghost use Rattle.std.specs.Prelude.{◌≡◌, IfOk};
 ghost use Rattle.nv_bus.specs.Bus.{IsBus};
 ghost use Rattle.nv_driver.specs.Registers.{banks_of};
 
-use nv_command::{Command, Reply};
+use crate::checks::{check_number, check_text};
+use crate::driver_bench::{Bench, Step, Want, begin, check_register, expect_slot, plain};
+use nv_command::Command;
 use nv_controller::{Bus, Machine};
 use nv_driver::*;
 use nv_host::HostMemory;
@@ -23,18 +25,42 @@ pub(crate) fn machine(alloc: Global) -> Result<Machine, Fail>
 }
 
 /// What registers of a controller read.
-pub(crate) fn expect(rt: &impl Abort, machine: &Machine, ctrl: u16, want: &[(u32, u32)]) {
-    assert!(rt; ctrl < machine.controllers());
+fn expect(rt: &impl Abort, machine: &Machine, ctrl: u16, want: &[(u32, u32)]) {
     for (offset, dword) in want {
-        assert_eq!(rt; machine.read32(ctrl, *offset), *dword, "at {offset}");
+        check_register(rt, machine, ctrl, *offset, *dword);
     }
 }
 
-#[test]
-fn finds_the_first_field_out_of_its_limits(rt: HostRuntime) -> Result<(), Fail> {
-    let plain = Geometry::default();
-    assert!(rt; plain.check().is_ok());
-    for (geometry, text) in [
+/// Why no driver is brought up, if none is.
+fn refusal(alloc: Global, machine: &mut Machine, geometry: Geometry) -> Result<Option<String>, Fail>
+    requires { IsBus machine.old }
+{
+    match Driver::bring_up(alloc, machine, geometry) {
+        Ok(_) => Ok(None),
+        Err(error) => Ok(Some(format!(in alloc; "{error}")?)),
+    }
+}
+
+/// A geometry is refused with this text, and no controller is enabled.
+fn expect_fault(
+    rt: &impl Abort,
+    alloc: Global,
+    geometry: Geometry,
+    want: &str,
+) -> Result<(), Fail> {
+    let mut machine = machine(alloc)?;
+    match refusal(alloc, &mut machine, geometry)? {
+        Some(text) => check_text(rt, text.as_str(), want),
+        None => assert!(rt; false),
+    }
+    expect(rt, &machine, 0, &[(0x14, 0), (0x1c, 0), (0x24, 0)]);
+    Ok(())
+}
+
+/// Geometries with fields out of their limits, and what is said of the first.
+fn faults() -> [(Geometry, &'static str); 6] {
+    let plain = plain();
+    [
         (
             Geometry {
                 depth: 1,
@@ -68,43 +94,46 @@ fn finds_the_first_field_out_of_its_limits(rt: HostRuntime) -> Result<(), Fail> 
             "geometry: window",
         ),
         (Geometry { pace: 0, ..plain }, "geometry: pace"),
-    ] {
-        let mut machine = machine(rt.alloc())?;
-        match Driver::bring_up(rt.alloc(), &mut machine, geometry) {
-            Ok(_) => assert!(rt; false),
-            Err(error) => {
-                let shown = format!(in rt.alloc(); "{error}")?;
-                assert_eq!(rt; shown.as_str(), text);
-            }
-        }
-        expect(&rt, &machine, 0, &[(0x14, 0), (0x1c, 0), (0x24, 0)]);
+    ]
+}
+
+#[test]
+fn finds_the_first_field_out_of_its_limits(rt: HostRuntime) -> Result<(), Fail> {
+    assert!(rt; plain().check().is_ok());
+    for (geometry, text) in faults() {
+        expect_fault(&rt, rt.alloc(), geometry, text)?;
     }
+    Ok(())
+}
+
+/// A driver has so many pages, and has enabled the second controller by these registers.
+fn expect_second(
+    rt: &impl Abort,
+    alloc: Global,
+    geometry: Geometry,
+    pages: u64,
+    registers: &[(u32, u32)],
+) -> Result<(), Fail> {
+    let bench = Bench::new(rt, alloc, geometry)?;
+    check_number(rt, bench.driver.pages(), pages, "pages");
+    expect(rt, &bench.machine, 1, registers);
     Ok(())
 }
 
 #[test]
 fn makes_each_controller_ready(rt: HostRuntime) -> Result<(), Fail> {
-    let mut machine = machine(rt.alloc())?;
-    let driver = Driver::bring_up(rt.alloc(), &mut machine, Geometry::default())?;
-    assert_eq!(rt; driver.pages(), 18);
-    expect(
-        &rt,
-        &machine,
-        1,
-        &[
-            (0x14, 0x0046_0001),
-            (0x1c, 1),
-            (0x24, 0x001f_001f),
-            (0x28, 0x9000),
-            (0x30, 0xa000),
-        ],
-    );
-    Ok(())
+    let registers = [
+        (0x14, 0x0046_0001),
+        (0x1c, 1),
+        (0x24, 0x001f_001f),
+        (0x28, 0x9000),
+        (0x30, 0xa000),
+    ];
+    expect_second(&rt, rt.alloc(), plain(), 18, &registers)
 }
 
 #[test]
 fn lays_the_greatest_rings_in_the_greatest_pages(rt: HostRuntime) -> Result<(), Fail> {
-    let mut machine = machine(rt.alloc())?;
     let geometry = Geometry {
         depth: 4096,
         page_size: 65536,
@@ -113,83 +142,33 @@ fn lays_the_greatest_rings_in_the_greatest_pages(rt: HostRuntime) -> Result<(), 
         offset: 65532,
         list_offset: 65528,
     };
-    let driver = Driver::bring_up(rt.alloc(), &mut machine, geometry)?;
-    assert_eq!(rt; driver.pages(), 138);
-    expect(
-        &rt,
-        &machine,
-        1,
-        &[
-            (0x14, 0x0046_0201),
-            (0x1c, 1),
-            (0x24, 0x0fff_0fff),
-            (0x28, 0x0045_0000),
-            (0x2c, 0),
-            (0x30, 0x0049_0000),
-            (0x34, 0),
-        ],
-    );
-    Ok(())
-}
-
-/// Asks for the NSIDs that are attached to a controller.
-pub(crate) fn expect_list(
-    rt: &impl Abort,
-    driver: &mut Driver,
-    machine: &mut Machine,
-    ctrl: u16,
-    want: &[u32],
-)
-    requires ctrl { ctrl < length driver.old.pairs }
-    requires bus { IsBus machine.old }
-    requires left { machine.old.banks ≡ banks_of driver.old }
-    ensures bus { IsBus machine.new }
-    ensures left { machine.new.banks ≡ banks_of driver.new }
-    ensures pairs { length driver.new.pairs ≡ length driver.old.pairs }
-{
-    let mut slot = AnswerSlot::new();
-    match driver.admin(machine, ctrl, &Command::ActiveList { after: 0 }, &mut slot) {
-        Ok(Reply::List(list)) => assert_eq!(rt; list.as_slice(), want),
-        _ => assert!(rt; false),
-    }
-}
-
-/// Asks for a namespace that no controller can have.
-pub(crate) fn expect_refusal(rt: &impl Abort, driver: &mut Driver, machine: &mut Machine, ctrl: u16)
-    requires ctrl { ctrl < length driver.old.pairs }
-    requires bus { IsBus machine.old }
-    requires left { machine.old.banks ≡ banks_of driver.old }
-    ensures bus { IsBus machine.new }
-    ensures left { machine.new.banks ≡ banks_of driver.new }
-    ensures pairs { length driver.new.pairs ≡ length driver.old.pairs }
-{
-    let mut slot = AnswerSlot::new();
-    match driver.admin(
-        machine,
-        ctrl,
-        &Command::IdentifyNamespace { nsid: 0 },
-        &mut slot,
-    ) {
-        Err(status) => assert_eq!(rt; status.number(), 0x600b),
-        Ok(_) => assert!(rt; false),
-    }
+    let registers = [
+        (0x14, 0x0046_0201),
+        (0x1c, 1),
+        (0x24, 0x0fff_0fff),
+        (0x28, 0x0045_0000),
+        (0x2c, 0),
+        (0x30, 0x0049_0000),
+        (0x34, 0),
+    ];
+    expect_second(&rt, rt.alloc(), geometry, 138, &registers)
 }
 
 /// Commands of both controllers in turn, so many that rings of two slots wrap twice.
 fn expect_answers(rt: &impl Abort, alloc: Global, geometry: Geometry) -> Result<(), Fail> {
-    let mut machine = machine(alloc)?;
-    let Ok(mut driver) = Driver::bring_up(alloc, &mut machine, geometry) else {
-        assert!(rt; false);
-        return Ok(());
-    };
-    assert!(rt; driver.controllers() == 2);
-    expect_list(rt, &mut driver, &mut machine, 0, &[1, 3]);
-    expect_refusal(rt, &mut driver, &mut machine, 0);
-    expect_list(rt, &mut driver, &mut machine, 1, &[]);
-    expect_list(rt, &mut driver, &mut machine, 0, &[1, 3]);
-    expect_refusal(rt, &mut driver, &mut machine, 0);
-    expect_list(rt, &mut driver, &mut machine, 0, &[1, 3]);
-    Ok(())
+    begin(
+        rt,
+        alloc,
+        geometry,
+        &[
+            (0, Step::Active(&[1, 3])),
+            (0, Step::Invalid),
+            (1, Step::Active(&[])),
+            (0, Step::Active(&[1, 3])),
+            (0, Step::Invalid),
+            (0, Step::Active(&[1, 3])),
+        ],
+    )
 }
 
 #[test]
@@ -197,7 +176,7 @@ fn answers_in_rings_of_two_slots(rt: HostRuntime) -> Result<(), Fail> {
     let geometry = Geometry {
         depth: 2,
         offset: 4092,
-        ..Geometry::default()
+        ..plain()
     };
     expect_answers(&rt, rt.alloc(), geometry)
 }
@@ -262,21 +241,27 @@ impl Bus for Counted {
     }
 }
 
-/// An answer is a list of these NSIDs.
-fn expect_ids(rt: &impl Abort, slot: &AnswerSlot, want: &[u32]) {
-    match slot.answer() {
-        Ok(Reply::List(list)) => assert_eq!(rt; list.as_slice(), want),
-        _ => assert!(rt; false),
-    }
+/// A driver of a machine that counts its turns.
+fn bring_up(
+    rt: &impl Abort,
+    alloc: Global,
+    bus: &mut Counted,
+    geometry: Geometry,
+) -> Result<Driver, Fail>
+    requires { IsBus bus.old.machine }
+    ensures bus { IsBus bus.new.machine }
+    ensures left { IfOk result (λ d. bus.new.machine.banks ≡ banks_of d) }
+{
+    let driver = Driver::bring_up(alloc, bus, geometry)?;
+    assert!(rt; driver.controllers() == 2);
+    Ok(driver)
 }
 
-/// Sends five commands, of which the second is refused. Answers how many entries the turns took.
-fn expect_five(rt: &impl Abort, alloc: Global, geometry: Geometry) -> Result<[u16; 8], Fail> {
-    let mut bus = without_turns(alloc)?;
-    let Ok(mut driver) = Driver::bring_up(alloc, &mut bus, geometry) else {
-        assert!(rt; false);
-        return Ok([0; 8]);
-    };
+/// Sends five commands to the first controller, of which the second is refused.
+fn send_five(rt: &impl Abort, driver: &mut Driver, bus: &mut Counted, answers: &mut [AnswerSlot; 5])
+    requires bus { IsBus bus.old.machine }
+    requires left { bus.old.machine.banks ≡ banks_of driver.old }
+{
     assert!(rt; driver.controllers() == 2);
     let commands = [
         Command::IdentifyNamespace { nsid: 1 },
@@ -285,6 +270,25 @@ fn expect_five(rt: &impl Abort, alloc: Global, geometry: Geometry) -> Result<[u1
         Command::ActiveList { after: 0 },
         Command::ActiveList { after: 1 },
     ];
+    driver.admin_all(bus, 0, &commands, answers);
+}
+
+fn is_answered(slot: &AnswerSlot) -> bool {
+    slot.answer().is_ok()
+}
+
+/// The answers of the five commands.
+fn check_five(rt: &impl Abort, answers: &[AnswerSlot; 5]) {
+    assert!(rt; is_answered(&answers[0]) && is_answered(&answers[2]));
+    expect_slot(rt, &answers[1], Want::Refused(0x600b));
+    expect_slot(rt, &answers[3], Want::Ids(&[1, 3]));
+    expect_slot(rt, &answers[4], Want::Ids(&[3]));
+}
+
+/// Sends five commands, of which the second is refused. Answers how many entries the turns took.
+fn expect_five(rt: &impl Abort, alloc: Global, geometry: Geometry) -> Result<[u16; 8], Fail> {
+    let mut bus = without_turns(alloc)?;
+    let mut driver = bring_up(rt, alloc, &mut bus, geometry)?;
     let mut answers = [
         AnswerSlot::new(),
         AnswerSlot::new(),
@@ -292,22 +296,19 @@ fn expect_five(rt: &impl Abort, alloc: Global, geometry: Geometry) -> Result<[u1
         AnswerSlot::new(),
         AnswerSlot::new(),
     ];
-    driver.admin_all(&mut bus, 0, &commands, &mut answers);
-    assert!(rt; answers[0].answer().is_ok());
-    match answers[1].answer() {
-        Err(status) => assert_eq!(rt; status.number(), 0x600b),
-        Ok(_) => assert!(rt; false),
-    }
-    assert!(rt; answers[2].answer().is_ok());
-    expect_ids(rt, &answers[3], &[1, 3]);
-    expect_ids(rt, &answers[4], &[3]);
+    send_five(rt, &mut driver, &mut bus, &mut answers);
+    check_five(rt, &answers);
     Ok(bus.taken)
+}
+
+fn check_turns(rt: &impl Abort, found: [u16; 8], want: [u16; 8]) {
+    assert_eq!(rt; found, want);
 }
 
 #[test]
 fn sends_one_command_at_a_time(rt: HostRuntime) -> Result<(), Fail> {
-    let taken = expect_five(&rt, rt.alloc(), Geometry::default())?;
-    assert_eq!(rt; taken, [1, 1, 1, 1, 1, 0, 0, 0]);
+    let taken = expect_five(&rt, rt.alloc(), plain())?;
+    check_turns(&rt, taken, [1, 1, 1, 1, 1, 0, 0, 0]);
     Ok(())
 }
 
@@ -317,10 +318,10 @@ fn sends_several_commands_at_a_time(rt: HostRuntime) -> Result<(), Fail> {
         depth: 5,
         window: 4,
         pace: 4,
-        ..Geometry::default()
+        ..plain()
     };
     let taken = expect_five(&rt, rt.alloc(), geometry)?;
-    assert_eq!(rt; taken, [4, 1, 0, 0, 0, 0, 0, 0]);
+    check_turns(&rt, taken, [4, 1, 0, 0, 0, 0, 0, 0]);
     Ok(())
 }
 
@@ -330,40 +331,43 @@ fn tells_the_head_where_a_turn_took_nothing(rt: HostRuntime) -> Result<(), Fail>
         depth: 4,
         window: 3,
         pace: 16,
-        ..Geometry::default()
+        ..plain()
     };
     let taken = expect_five(&rt, rt.alloc(), geometry)?;
-    assert_eq!(rt; taken, [3, 0, 2, 0, 0, 0, 0, 0]);
+    check_turns(&rt, taken, [3, 0, 2, 0, 0, 0, 0, 0]);
     Ok(())
+}
+
+/// Identifies a namespace of the first controller, which answers or refuses.
+fn identify(rt: &impl Abort, driver: &mut Driver, bus: &mut Counted, nsid: u32, answers: bool)
+    requires bus { IsBus bus.old.machine }
+    requires left { bus.old.machine.banks ≡ banks_of driver.old }
+    ensures bus { IsBus bus.new.machine }
+    ensures left { bus.new.machine.banks ≡ banks_of driver.new }
+{
+    assert!(rt; driver.controllers() == 2);
+    let mut slot = AnswerSlot::new();
+    let command = Command::IdentifyNamespace { nsid };
+    assert!(rt; driver.admin(bus, 0, &command, &mut slot).is_ok() == answers);
 }
 
 /// Two commands, one after the other, of which the second is refused: how many entries each turn was
 /// to take at most.
 fn most_of_two(rt: &impl Abort, alloc: Global, geometry: Geometry) -> Result<[u16; 8], Fail> {
     let mut bus = without_turns(alloc)?;
-    let Ok(mut driver) = Driver::bring_up(alloc, &mut bus, geometry) else {
-        assert!(rt; false);
-        return Ok([0; 8]);
-    };
-    assert!(rt; driver.controllers() == 2);
-    let mut slot = AnswerSlot::new();
-    let command = Command::IdentifyNamespace { nsid: 1 };
-    assert!(rt; driver.admin(&mut bus, 0, &command, &mut slot).is_ok());
-    let command = Command::IdentifyNamespace { nsid: 0 };
-    assert!(rt; driver.admin(&mut bus, 0, &command, &mut slot).is_err());
-    assert_eq!(rt; bus.taken, [1, 1, 0, 0, 0, 0, 0, 0]);
+    let mut driver = bring_up(rt, alloc, &mut bus, geometry)?;
+    identify(rt, &mut driver, &mut bus, 1, true);
+    identify(rt, &mut driver, &mut bus, 0, false);
+    check_turns(rt, bus.taken, [1, 1, 0, 0, 0, 0, 0, 0]);
     Ok(bus.most)
 }
 
 #[test]
 fn asks_each_turn_for_the_pace(rt: HostRuntime) -> Result<(), Fail> {
     for (pace, most) in [(1, 1), (3, 3), (4096, 4096)] {
-        let geometry = Geometry {
-            pace,
-            ..Geometry::default()
-        };
+        let geometry = Geometry { pace, ..plain() };
         let asked = most_of_two(&rt, rt.alloc(), geometry)?;
-        assert_eq!(rt; asked, [most, most, 0, 0, 0, 0, 0, 0]);
+        check_turns(&rt, asked, [most, most, 0, 0, 0, 0, 0, 0]);
     }
     Ok(())
 }

@@ -1,6 +1,7 @@
 //! Subsystem files with one edit, and what is said of each.
 
-use nv_subsystem::{DEMO, Subsystem};
+use crate::checks::{check_text, demo_file, edited, subsystem_of};
+use nv_subsystem::DEMO;
 use std::alloc::Global;
 use std::process::Abort;
 use std::test::Fail;
@@ -11,7 +12,7 @@ pub type Edit<'a> = (&'a str, &'a str, &'a str);
 /// Each edit of the demonstration file is answered with its text.
 pub(crate) fn tells(rt: &impl Abort, alloc: Global, edits: &[Edit<'_>]) -> Result<(), Fail> {
     for (old, new, want) in edits {
-        let file = DEMO.replace(alloc, *old, *new)?;
+        let file = edited(alloc, *old, *new)?;
         tells_of(rt, alloc, file.as_bytes(), *want)?;
     }
     Ok(())
@@ -27,11 +28,11 @@ pub(crate) fn tells_of(
     file: &[u8],
     want: &str,
 ) -> Result<(), Fail> {
-    match Subsystem::from_toml(alloc, file) {
+    match subsystem_of(alloc, file) {
         Ok(_) => assert!(rt; want == READ, "a fault was let through: {want}"),
         Err(error) => {
             let text = error.to_string(alloc)?;
-            assert!(rt; text.as_str() == want, "{text}, not {want}");
+            check_text(rt, text.as_str(), want);
         }
     }
     Ok(())
@@ -167,23 +168,25 @@ fn tells_the_faults_of_a_health_log(rt: HostRuntime) -> Result<(), Fail> {
     )
 }
 
+/// The demonstration file's second namespace.
+const THIRD: &str = "nsid = 3\nbytes = 4608\nformat = 0\ncontrollers = [0]";
+
 #[test]
 fn tells_the_faults_of_a_namespace(rt: HostRuntime) -> Result<(), Fail> {
-    let third = "nsid = 3\nbytes = 4608\nformat = 0\ncontrollers = [0]";
     tells(
         &rt,
         rt.alloc(),
         &[
             ("nsid = 3\n", "", "missing namespace.nsid"),
             (
-                third,
+                THIRD,
                 "bytes = 4608\nformat = 0\nx = 1",
                 "missing namespace.nsid",
             ),
             ("nn = 4\n", "nn = 2\n", "out of range namespace.nsid"),
             ("nsid = 3", "nsid = 1", "repeated namespace.nsid"),
             (
-                third,
+                THIRD,
                 "nsid = 1\nbytes = 4608\nformat = 0",
                 "repeated namespace.nsid",
             ),
@@ -194,13 +197,13 @@ fn tells_the_faults_of_a_namespace(rt: HostRuntime) -> Result<(), Fail> {
                 "out of range namespace.bytes",
             ),
             (
-                third,
+                THIRD,
                 "nsid = 3\nbytes = 511\nformat = 0",
                 "out of range namespace.bytes",
             ),
-            (third, "nsid = 3", "missing namespace.format"),
+            (THIRD, "nsid = 3", "missing namespace.format"),
             (
-                third,
+                THIRD,
                 "nsid = 3\nbytes = 4608\nformat = 0\nextended = true",
                 "out of range namespace.extended",
             ),
@@ -213,22 +216,23 @@ fn tells_the_faults_of_a_namespace(rt: HostRuntime) -> Result<(), Fail> {
     )
 }
 
+/// What it says of its first namespace.
+const SHARED: &str = "shared = true\ncontrollers = [0]";
+
 #[test]
 fn tells_what_the_tables_break_together(rt: HostRuntime) -> Result<(), Fail> {
-    let third = "nsid = 3\nbytes = 4608\nformat = 0\ncontrollers = [0]";
-    let shared = "shared = true\ncontrollers = [0]";
     tells(
         &rt,
         rt.alloc(),
         &[
             ("tnvmcap = 10485760", "tnvmcap = 1053183", "capacity"),
             (
-                third,
+                THIRD,
                 "nsid = 3\nbytes = 4608\nformat = 0\ncontrollers = [0, 1]",
                 "attachment",
             ),
-            (shared, "shared = true\ncontrollers = [0, 2]", "attachment"),
-            (shared, "shared = true\ncontrollers = [0, 0]", "attachment"),
+            (SHARED, "shared = true\ncontrollers = [0, 2]", "attachment"),
+            (SHARED, "shared = true\ncontrollers = [0, 0]", "attachment"),
         ],
     )
 }
@@ -282,6 +286,15 @@ const BEGINNINGS: &[(&str, &str)] = &[
     ("controllers = [0]", READ),
 ];
 
+/// The first bytes of the demonstration file, if it has so many.
+fn beginning(len: usize) -> Option<&'static [u8]> {
+    demo_file().as_bytes().get(..len)
+}
+
+fn ends_a_line(bytes: &[u8]) -> bool {
+    bytes.last().copied() == Some(b'\n')
+}
+
 /// Each beginning of a line that starts at this byte, up to the next line that isn't empty, is told
 /// what the whole lines before it and what stands of the line say.
 fn tells_each_beginning(
@@ -297,10 +310,10 @@ fn tells_each_beginning(
         "{line} begins otherwise than {least}"
     );
     for shown in 1..=line.len().saturating_add(2) {
-        let Some(beginning) = DEMO.as_bytes().get(..start.saturating_add(shown)) else {
+        let Some(beginning) = beginning(start.saturating_add(shown)) else {
             break;
         };
-        if shown > line.len() && beginning.last().copied() != Some(b'\n') {
+        if shown > line.len() && !ends_a_line(beginning) {
             break;
         }
         let want = if shown < least.len() {
@@ -318,7 +331,7 @@ fn tells_each_beginning_of_the_file(rt: HostRuntime) -> Result<(), Fail> {
     tells_of(&rt, rt.alloc(), b"", "missing top.version")?;
     let mut rows = BEGINNINGS.iter();
     let mut start: usize = 0;
-    for line in DEMO.lines() {
+    for line in demo_file().lines() {
         if !line.is_empty() {
             let Some(row) = rows.next() else {
                 panic!(&rt; "no row for {line}");
@@ -328,5 +341,5 @@ fn tells_each_beginning_of_the_file(rt: HostRuntime) -> Result<(), Fail> {
         start = start.saturating_add(line.len()).saturating_add(1);
     }
     assert!(rt; rows.next().is_none());
-    tells_of(&rt, rt.alloc(), DEMO.as_bytes(), READ)
+    tells_of(&rt, rt.alloc(), demo_file().as_bytes(), READ)
 }

@@ -2,6 +2,10 @@
 #![tactic(auto)]
 
 #[cfg(test)]
+mod checks;
+#[cfg(test)]
+mod driver_bench;
+#[cfg(test)]
 mod drivers;
 #[cfg(test)]
 mod drivers_with_data;
@@ -17,6 +21,8 @@ mod file_values;
 mod files;
 #[cfg(test)]
 mod hostile_files;
+#[cfg(test)]
+mod machine_steps;
 #[cfg(test)]
 mod mistakes;
 #[cfg(test)]

@@ -1,103 +1,13 @@
 //! Controller 0 of the demonstration subsystem, step by step.
 
-ghost use Rattle.nv_bus.specs.Bus.{IsBus};
-
-use crate::turns::{identify, machine, memory, pages};
-use nv_controller::*;
-use nv_host::{FlatMemory, HostMemory};
-use nv_layout::{Cqe, Sqe};
+use crate::machine_steps::{
+    ACQ, AQA, ASQ, CC, CSTS, DISABLE, ENABLE, HEAD, Step, TAIL, begin, begin_over, begin_over_two,
+};
+use crate::turns::identify;
+use nv_layout::Sqe;
 use std::alloc::Global;
 use std::process::Abort;
 use std::test::Fail;
-
-pub(crate) const CC: u32 = 0x14;
-
-pub(crate) const CSTS: u32 = 0x1c;
-
-pub(crate) const AQA: u32 = 0x24;
-
-pub(crate) const ASQ: u32 = 0x28;
-
-pub(crate) const ACQ: u32 = 0x30;
-
-pub(crate) const TAIL: u32 = 0x1000;
-
-pub(crate) const HEAD: u32 = 0x1004;
-
-/// CC with pages of 4,096 bytes, and EN 1 or 0.
-pub(crate) const ENABLE: u32 = 0x0046_0001;
-
-pub(crate) const DISABLE: u32 = 0x0046_0000;
-
-/// A step of a test.
-#[derive(Clone, Copy)]
-pub enum Step {
-    /// Writes a register.
-    Write(u32, u32),
-    /// A register reads so.
-    Reads(u32, u32),
-    /// Puts an entry at an address.
-    Submit(u64, Sqe),
-    /// A turn of at most so many takes so many.
-    Turn(u16, u16),
-    /// A completion at an address, with its command identifier, SQ head, phase tag and status.
-    Posted(u64, u16, u16, bool, u16),
-}
-
-/// Puts an entry at an address.
-pub(crate) fn submit(rt: &impl Abort, mem: &mut FlatMemory, addr: u64, entry: &Sqe) {
-    let mut bytes = [0; 64];
-    entry.put(&mut bytes);
-    assert!(rt; mem.store(addr, &bytes).is_ok());
-}
-
-/// The completion at an address.
-pub(crate) fn posted(rt: &impl Abort, mem: &FlatMemory, addr: u64) -> Cqe {
-    let mut bytes = [0; 16];
-    assert!(rt; mem.load(addr, &mut bytes).is_ok());
-    Cqe::get(&bytes)
-}
-
-fn take_step(rt: &impl Abort, machine: &mut Machine, mem: &mut FlatMemory, step: Step)
-    requires { IsBus machine.old }
-    ensures { IsBus machine.new }
-{
-    assert!(rt; machine.controllers() > 0);
-    match step {
-        Step::Write(offset, dword) => machine.write32(0, offset, dword),
-        Step::Reads(offset, dword) => assert_eq!(rt; machine.read32(0, offset), dword),
-        Step::Submit(addr, entry) => submit(rt, mem, addr, &entry),
-        Step::Turn(most, count) => assert_eq!(rt; machine.turn(0, mem, most), count),
-        Step::Posted(addr, cid, sq_head, phase, status) => {
-            let entry = posted(rt, mem, addr);
-            assert_eq!(rt; entry.status.number(), status);
-            assert!(rt; entry.cid == cid && entry.sq_head == sq_head && entry.phase == phase);
-        }
-    }
-}
-
-pub(crate) fn take_steps(
-    rt: &impl Abort,
-    machine: &mut Machine,
-    mem: &mut FlatMemory,
-    steps: &[Step],
-)
-    requires { IsBus machine.old }
-    ensures { IsBus machine.new }
-{
-    for step in steps {
-        take_step(rt, machine, mem, *step);
-    }
-}
-
-/// These steps on a new machine, with rings of four entries at 0h and 1000h, and a new memory of
-/// sixteen pages of 4,096 bytes.
-fn begin(rt: &impl Abort, alloc: Global, steps: &[Step]) -> Result<(), Fail> {
-    let mut machine = machine(alloc)?;
-    let mut mem = pages(rt, alloc)?;
-    take_steps(rt, &mut machine, &mut mem, steps);
-    Ok(())
-}
 
 /// An entry alone is completed with this status.
 fn answer(rt: &impl Abort, alloc: Global, entry: Sqe, status: u16) -> Result<(), Fail> {
@@ -316,13 +226,11 @@ fn ignores_doorbells_that_mean_nothing(rt: HostRuntime) -> Result<(), Fail> {
 
 #[test]
 fn takes_the_page_size_that_it_was_enabled_with(rt: HostRuntime) -> Result<(), Fail> {
-    let mut machine = machine(rt.alloc())?;
-    let mut mem = memory(&rt, rt.alloc(), 8192)?;
     let entry = identify(7, 0, 0x02, 0x4004);
-    take_steps(
+    begin_over(
         &rt,
-        &mut machine,
-        &mut mem,
+        rt.alloc(),
+        8192,
         &[
             Step::Write(CC, DISABLE),
             Step::Write(ACQ, 0x2000),
@@ -334,21 +242,16 @@ fn takes_the_page_size_that_it_was_enabled_with(rt: HostRuntime) -> Result<(), F
             Step::Turn(16, 1),
             Step::Posted(0x2000, 7, 1, true, 0),
         ],
-    );
-    Ok(())
+    )
 }
 
 #[test]
 fn tests_the_memory_where_an_entry_is_taken(rt: HostRuntime) -> Result<(), Fail> {
-    let mut machine = machine(rt.alloc())?;
-    let mut mem = pages(&rt, rt.alloc())?;
-    let mut other = memory(&rt, rt.alloc(), 8192)?;
     let full = [
         Step::Write(TAIL, 3),
         Step::Turn(16, 3),
         Step::Write(TAIL, 2),
     ];
-    take_steps(&rt, &mut machine, &mut mem, &full);
     // Three entries wait, but no slot for a completion is free.
     let fatal = [
         Step::Turn(16, 0),
@@ -359,7 +262,6 @@ fn tests_the_memory_where_an_entry_is_taken(rt: HostRuntime) -> Result<(), Fail>
         Step::Turn(16, 0),
         Step::Reads(CSTS, 3),
     ];
-    take_steps(&rt, &mut machine, &mut other, &fatal);
     // A fatal status stays until EN is cleared.
     let again = [
         Step::Turn(16, 0),
@@ -372,8 +274,7 @@ fn tests_the_memory_where_an_entry_is_taken(rt: HostRuntime) -> Result<(), Fail>
         Step::Turn(16, 1),
         Step::Posted(0x1000, 0, 1, true, 0x6001),
     ];
-    take_steps(&rt, &mut machine, &mut mem, &again);
-    Ok(())
+    begin_over_two(&rt, rt.alloc(), &full, &fatal, &again)
 }
 
 #[test]
