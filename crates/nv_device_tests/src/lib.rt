@@ -10,6 +10,8 @@ mod drivers;
 #[cfg(test)]
 mod drivers_with_data;
 #[cfg(test)]
+mod drivers_with_entries;
+#[cfg(test)]
 mod drivers_with_resets;
 #[cfg(test)]
 mod file_ranges;

@@ -3,6 +3,7 @@ use Rattle.std.specs.Prelude.{slice_set}
 use Rattle.std.proofs.Common.{◌≡◌, ◌≢◌, ◌∙◌, ◌⊎◌, ℕ, ◌+◌, ◌-◌, ◌*◌, ◌<◌, ◌≤◌, List, ap, arith, get_or, inl}
 use Rattle.std.proofs.Common.{inr, length, map, refl, subst, sym}
 use Rattle.std.proofs.Math.ListN.{length-set}
+use Rattle.std.proofs.Math.Nat.{mul-le-mul_right}
 use Rattle.std.proofs.lemmas.Bool.{cases_eq, cases_lt}
 use Rattle.std.proofs.lemmas.List.{get_or-map, get_or-set_other, get_or-set_same, get_or_default, length-map, map-set}
 use Rattle.std.proofs.lemmas.List.Elements.{All-set}
@@ -16,6 +17,7 @@ use Rattle.nv_register.specs.RegisterBank.{new_bank}
 use Rattle.nv_register.specs.declared.register_bank.RegisterBank.{RegisterBank}
 use Rattle.nv_bus.specs.Bus.{BusValue, IsBus, bank_at}
 use Rattle.nv_driver.specs.Driver.{IsDriver, IsPlaced, after_command, after_commands, driver_value, pair_at, no_pair}
+use Rattle.nv_driver.specs.Alone.{KeepsBelow}
 use Rattle.nv_driver.specs.Exchange.{IsReady, KeepsOthers}
 use Rattle.nv_driver.specs.QueuePair.{IsLaid, QueuePair, idle_bank}
 use Rattle.nv_driver.specs.Layout.{pages_of_command, set_pages}
@@ -32,7 +34,7 @@ set_room : (g : Geometry) → g.window * pages_of_command g.page_size ≤ set_pa
 unfolding set_pages
 set_room g = omega arith
 
-value_at : (ls : List QueuePairFields) (c : ℕ) (d : QueuePairFields) (e : QueuePair) → c < length ls
+pub value_at : (ls : List QueuePairFields) (c : ℕ) (d : QueuePairFields) (e : QueuePair) → c < length ls
     → get_or (map pair_value ls) c e ≡ pair_value (get_or ls c d)
 value_at ls c d e below = get_or-map pair_value ls c d e below
 
@@ -81,28 +83,32 @@ set_each P vs c v others own i d below =
     ]
 
 -- the completion slots of another queue pair stay
-pub slots_stay : (page_size : ℕ) (old new : List ℕ) (v u : QueuePair) → KeepsOthers page_size v old new
-    → IsLaid page_size (length old) u → IsLaid page_size (length old) v
+pub slots_stay : (end page_size : ℕ) (old new : List ℕ) (v u : QueuePair) → KeepsBelow end page_size v old new
+    → end_of page_size u ≤ end → IsLaid page_size (length old) u → IsLaid page_size (length old) v
     → (end_of page_size u ≤ v.sq) ⊎ (end_of page_size v ≤ u.sq)
     → HoldsTags old u.cq u.depth u.number → HoldsTags new u.cq u.depth u.number
-slots_stay page_size old new v u keeps laid own apart tags s below =
+slots_stay end page_size old new v u keeps ends laid own apart tags s below =
     let slot = u.cq + 16 * s in
     let aside : IsApart v.sq (end_of page_size v - v.sq) slot 16 =
     grind (arith, apart, laid.pages, laid.rings, own.rings, own.pages) in
-    ap (λ (q : Cqe). q.phase) (ap cqe_of_bytes (keeps slot 16 aside)) ∙ tags s below
+    let inside : u.first_page * page_size ≤ end_of page_size u = mul-le-mul_right page_size (omega arith) in
+    let low : slot + 16 ≤ end = omega (arith, laid.pages, inside, ends) in
+    ap (λ (q : Cqe). q.phase) (ap cqe_of_bytes (keeps slot 16 low aside)) ∙ tags s below
 
-pub settled_after : (page_size : ℕ) (old new : List ℕ) (vs : List QueuePair) (c : ℕ) (v u : QueuePair)
+pub settled_after : (end page_size : ℕ) (old new : List ℕ) (vs : List QueuePair) (c : ℕ) (v u : QueuePair)
     → IsSettled page_size old vs → c < length vs
-    → v ≡ get_or vs c v → length new ≡ length old → KeepsOthers page_size v old new → IsLaid page_size (length new) u
+    → v ≡ get_or vs c v → length new ≡ length old → KeepsBelow end page_size v old new
+    → ((i : ℕ) (d : QueuePair) → i < length vs → end_of page_size (get_or vs i d) ≤ end)
+    → IsLaid page_size (length new) u
     → HoldsTags new u.cq u.depth u.number → u.sq ≡ v.sq → u.first_page ≡ v.first_page → u.page_count ≡ v.page_count
     → IsSettled page_size new (slice_set vs c u)
-settled_after page_size old new vs c v u s below here size keeps laid tags sq first count =
+settled_after end page_size old new vs c v u s below here size keeps ends laid tags sq first count =
     let own = subst (IsLaid page_size (length old)) (sym here) (s.laid c v below) in
     record {
       laid = set_each (λ _ q. IsLaid page_size (length new) q) vs c u
           (λ i d h differ. rw size (s.laid i d h)) laid;
       tags = set_each (λ _ q. HoldsTags new q.cq q.depth q.number) vs c u
-          (λ i d h differ. slots_stay page_size old new v (get_or vs i d) keeps (s.laid i d h) own
+          (λ i d h differ. slots_stay end page_size old new v (get_or vs i d) keeps (ends i d h) (s.laid i d h) own
           (beside i d h differ) (s.tags i d h)) tags;
       apart = λ i j d before inside.
           let many = length-set vs c u in
@@ -129,15 +135,16 @@ settled_after page_size old new vs c v u s below here size keeps laid tags sq fi
         (ap (λ (q : QueuePair). q.sq) is, ap (end_of page_size) is))
         (rw (same_one d) (sq, rw (first, count) refl)) i d h
 
--- where the number and the serial of a queue pair change
-pub driver_after : {g : Geometry} {mem new : PagedBytes} {ls : List QueuePairFields} {b : BusValue}
+-- where the number and the serial of a queue pair change, and bytes before the end of all queue pairs stay
+pub driver_after_below : {g : Geometry} {mem new : PagedBytes} {ls : List QueuePairFields} {b : BusValue}
     {c : ℕ} {l l' : QueuePairFields} {n serial : ℕ} → IsDriver g mem ls
     → c < length ls → l ≡ get_or ls c l → IsReady g b c l' new.page_size new.bytes
     → pair_value l' ≡ record (pair_value l) { number = n; serial = serial }
-    → KeepsOthers g.page_size (pair_value l) mem.bytes new.bytes
+    → (end : ℕ) → KeepsBelow end g.page_size (pair_value l) mem.bytes new.bytes
+    → ((i : ℕ) (d : QueuePair) → i < length ls → end_of g.page_size (get_or (map pair_value ls) i d) ≤ end)
     → length new.bytes ≡ length mem.bytes → new.page_size ≡ mem.page_size
     → IsDriver g new (slice_set ls c l')
-driver_after {g} {mem} {new} {ls} {b} {c} {l} {l'} {n} {serial} is below here ready next keeps size page =
+driver_after_below {g} {mem} {new} {ls} {b} {c} {l} {l'} {n} {serial} is below here ready next end keeps ends size page =
     let many = length-map ls pair_value in
     let vs = map pair_value ls in
     let at : pair_value l ≡ get_or vs c (pair_value l) =
@@ -156,8 +163,9 @@ driver_after {g} {mem} {new} {ls} {b} {c} {l} {l'} {n} {serial} is below here re
           (rw (← at) at (is.placed c (pair_value l) below)) next) i d
           (let longer = length-set ls c l' in let values = length-set vs c (pair_value l') in omega arith));
       settled = subst (IsSettled new.page_size new.bytes) (sym change)
-          (settled_after new.page_size mem.bytes new.bytes vs c (pair_value l) (pair_value l')
-          (rw page is.settled) (omega arith) at size (rw (page ∙ is.page_size) keeps) (rw (ready.page_size) ready.laid)
+          (settled_after end new.page_size mem.bytes new.bytes vs c (pair_value l) (pair_value l')
+          (rw page is.settled) (omega arith) at size (rw (page ∙ is.page_size) keeps)
+          (rw (page ∙ is.page_size) (λ i d h. ends i d (omega arith))) (rw (ready.page_size) ready.laid)
           ready.tags
           (ap (λ (v : QueuePair). v.sq) next) (ap (λ (v : QueuePair). v.first_page) next)
           (ap (λ (v : QueuePair). v.page_count) next));
@@ -167,6 +175,19 @@ driver_after {g} {mem} {new} {ls} {b} {c} {l} {l'} {n} {serial} is below here re
         → u ≡ record v { number = n; serial = serial } → IsPlaced g i u
     stays_placed g i v u placed is = subst (IsPlaced g i) (sym is)
         (ap (λ (q : QueuePair). record q { number = n; serial = serial }) placed)
+
+-- where all bytes outside the queue pair stay
+pub driver_after : {g : Geometry} {mem new : PagedBytes} {ls : List QueuePairFields} {b : BusValue}
+    {c : ℕ} {l l' : QueuePairFields} {n serial : ℕ} → IsDriver g mem ls
+    → c < length ls → l ≡ get_or ls c l → IsReady g b c l' new.page_size new.bytes
+    → pair_value l' ≡ record (pair_value l) { number = n; serial = serial }
+    → KeepsOthers g.page_size (pair_value l) mem.bytes new.bytes
+    → length new.bytes ≡ length mem.bytes → new.page_size ≡ mem.page_size
+    → IsDriver g new (slice_set ls c l')
+driver_after {g} {mem} {ls = ls} is below here ready next keeps size page =
+    let many = length-map ls pair_value in
+    driver_after_below is below here ready next (length mem.bytes) (λ from n low. keeps from n)
+    (λ i d h. (rw is.page_size at (is.settled.laid i d (omega arith))).inside) size page
 
 -- what the driver stands for
 pub value_after : (f : QueuePair → QueuePair) (g : Geometry) (mem new : PagedBytes) (ls : List QueuePairFields)

@@ -63,7 +63,7 @@ pub nothing : (xs : List ℕ) → length xs ≡ 0 → xs ≡ []
 nothing [] none = refl
 nothing (x ∷ xs) none = absurd (omega (arith, none))
 
-written-nothing : (bytes at : List ℕ) → written_at bytes at [] ≡ bytes
+pub written-nothing : (bytes at : List ℕ) → written_at bytes at [] ≡ bytes
 unfolding written_at
 written-nothing bytes [] = refl
 written-nothing bytes (p ∷ at) = refl

@@ -103,7 +103,7 @@ pub record HasEnded (r : Run) (bus : BusValue) (l' : QueuePairFields) (now : ℕ
   pub others : KeepsOthers r.geometry.page_size (pair_value r.pair) r.bytes mem
 
 -- the queue pair and its controller after n commands
-ready_after : (r : Run) (n : ℕ) {l : QueuePairFields} {now : ℕ} {mem : List ℕ} {bus : BusValue}
+pub ready_after : (r : Run) (n : ℕ) {l : QueuePairFields} {now : ℕ} {mem : List ℕ} {bus : BusValue}
     → IsReady r.geometry r.bus r.controller r.pair r.geometry.page_size r.bytes → l ≡ pair_at r n n n []
     → now ≡ r.geometry.page_size → length mem ≡ length r.bytes
     → HoldsTags mem r.pair.completion.base r.pair.submission.depth (number (setting_of r) n)

@@ -1,6 +1,6 @@
 -- What taking one entry of a turn does and keeps.
 use Rattle.std.proofs.Common.{◌≡◌, ◌∙◌, ℕ, ◌+◌, ◌-◌, ◌*◌, ◌<◌, ◌≤◌, true, Err, List, Ok, Result, ap, arith, get_or}
-use Rattle.std.proofs.Common.{◌⊎◌, inl, inr, length, refl, subst, sym, ◌^◌, lit<, ◌≢◌}
+use Rattle.std.proofs.Common.{◌⊎◌, inl, inr, length, refl, subst, sym, ◌≢◌}
 use Rattle.std.proofs.lemmas.Bool.{cases_lt, cases_eq}
 use Rattle.std.proofs.lemmas.List.{get_or_default}
 use Rattle.nv_host.specs.Bytes.{bytes_at}

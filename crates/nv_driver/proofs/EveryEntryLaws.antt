@@ -1,19 +1,15 @@
 -- Every entry is a request, with whatever the host has to send.
-use Rattle.std.proofs.Common.{◌≡◌, ◌∙◌, ◌<◌, ◌≤◌, ◌==◌, ◌^◌, ◌%◌, ◌+◌, ◌++◌, ℕ, Bool, true, false, Err, List, Ok, Result, ap, arith}
-use Rattle.std.proofs.Common.{length, length-append, length-take, lit<, lit≤, min, nat_lt, refl, replicate, subst, sym}
-use Rattle.std.proofs.lemmas.List.{length-replicate}
-use Rattle.std.proofs.lemmas.Bool.Decides.{nat_tests}
+use Rattle.std.proofs.Common.{◌≡◌, ◌∙◌, ◌<◌, ◌≤◌, ◌==◌, ◌^◌, ◌%◌, ℕ, Bool, true, false, Err, List, Ok, Result, ap, arith}
+use Rattle.std.proofs.Common.{lit<, lit≤, refl, subst, sym}
 use Rattle.std.specs.Prelude.{if◌then◌else◌}
 use Rattle.nv_layout.specs.Sqe.{SqeFits}
 use Rattle.nv_layout.specs.Steps.{◌>>=◌}
-use Rattle.nv_layout.specs.declared.ctrl_list.LayoutError.{LayoutError}
 use Rattle.nv_layout.specs.declared.sqe.Sqe.{Sqe}
 use Rattle.nv_layout.specs.CtrlList.{ctrl_list_of_bytes}
 use Rattle.nv_command.specs.Command.{bytes_from_host}
 use Rattle.nv_command.specs.Decoding.{command_as, command_of, opcode_of, transfer_as, transfer_of}
 use Rattle.nv_command.specs.Identify.{identify_by, identify_command, identify_data}
 use Rattle.nv_command.specs.Management.{attachment_in, create_in, is_detach, listed, page_from_host, page_of, select_of}
-use Rattle.nv_command.specs.declared.command.Command.{Command}
 use Rattle.nv_command.specs.declared.command.Command.TheVariants.{ActiveList, AllocatedList, AllocatedNamespace}
 use Rattle.nv_command.specs.declared.command.Command.TheVariants.{Attachment}
 use Rattle.nv_command.specs.declared.command.Command.TheVariants.{Delete, IdentifyController, IdentifyNamespace}
@@ -23,11 +19,12 @@ use Rattle.nv_command.specs.declared.entry.Opcode.TheVariants.{NamespaceAttachme
 use Rattle.nv_command.specs.declared.status_code.StatusCode.{StatusCode}
 use Rattle.nv_command.specs.declared.status_code.StatusCode.TheVariants.{InvalidFieldInCommand}
 use Rattle.nv_command.specs.declared.transfer.Transfer.{Transfer}
-use Rattle.nv_command.specs.declared.transfer.Transfer.TheVariants.{FromHost, NoData, ToHost}
+use Rattle.nv_command.specs.declared.transfer.Transfer.TheVariants.{NoData}
 use Rattle.nv_model.specs.Limit.{greatest_limit}
 use Rattle.nv_bus.specs.Call.{HasRoom, asked_by, length_of, moves_of, within}
 use Rattle.nv_bus.proofs.CallLaws.{has_room, within_few, within_limit}
-use Rattle.nv_driver.specs.Request.{Asked, EveryEntryIsRequest, GoesBy, moved_by, padded, request_for, sent_for, transfer_for}
+use Rattle.nv_driver.specs.Request.{Asked, EveryEntryIsRequest, GoesBy, moved_by, sent_for, transfer_for}
+use Rattle.nv_driver.proofs.PaddingLaws.{length-padded}
 
 -- ---- the command identifier and the data pointer say nothing of what is asked for
 
@@ -160,12 +157,6 @@ goes_by (Ok m) limit e bytes low fits is =
     subst (GoesBy (command_of e bytes)) (sym (ap moved_by (let_through limit e m low is)))
     (goes_of (opcode_of e) e bytes m fits.nsid h.0)
 goes_by (Err code) limit e bytes low fits is = tt
-
-length-padded : (n : ℕ) (bytes : List ℕ) → length (padded n bytes) ≡ n
-length-padded n bytes =
-    let whole = length-append bytes (replicate n 0) in
-    let zeros = length-replicate {A = ℕ} n 0 in
-    let first = length-take n (bytes ++ replicate n 0) in omega (arith, whole, zeros, first)
 
 pub every_entry : EveryEntryIsRequest
 every_entry limit e bytes low fits =

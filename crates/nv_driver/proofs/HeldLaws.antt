@@ -1,5 +1,5 @@
 -- Answers that are held while the memory and the schedule go on.
-use Rattle.std.proofs.Common.{◌≡◌, ◌∙◌, ℕ, List, ap, get_or, subst, sym, take}
+use Rattle.std.proofs.Common.{◌≡◌, ◌∙◌, ℕ, List, ap, subst, sym, take}
 use Rattle.nv_layout.specs.declared.cqe.Cqe.{Cqe}
 use Rattle.nv_prp.specs.Place.{read_at}
 use Rattle.nv_queue.specs.Slots.{completion_at}

@@ -1,6 +1,6 @@
 -- What a schedule keeps from its beginning on, where a doorbell is rung or an answer is collected.
 use Rattle.std.proofs.Common.{◌≡◌, ◌↔◌, ◌∙◌, ℕ, ◌+◌, ◌*◌, ◌%◌, ◌<◌, ◌≤◌, length-append, [], ◌∷◌, ◌++◌, ap, arith}
-use Rattle.std.proofs.Common.{get_or, inl, inr, length, refl, subst, sym, take}
+use Rattle.std.proofs.Common.{get_or, inl, inr, length, refl, subst, sym}
 use Rattle.std.proofs.Math.Nat.{mod-eq_of_lt}
 use Rattle.std.proofs.lemmas.Bool.{cases_lt}
 use Rattle.std.proofs.lemmas.List.{get_or_append_left, get_or_default, get_or_push}

@@ -8,6 +8,7 @@ pub mod CollectLaws
 pub mod RoundLaws
 pub mod EndLaws
 pub mod AdminLaws
+pub mod PassthroughLaws
 pub mod CountLaws
 pub mod RegionLaws
 pub mod DataLaws
@@ -15,6 +16,9 @@ pub mod PointerLaws
 pub mod KeptLaws
 pub mod AskedLaws
 pub mod RequestLaws
+pub mod PaddingLaws
+pub mod AloneLaws
+pub mod ExchangeLaws
 pub mod EveryEntryLaws
 pub mod AnswerLaws
 pub mod HeldLaws

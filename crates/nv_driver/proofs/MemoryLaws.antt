@@ -9,7 +9,7 @@ use Rattle.std.proofs.lemmas.List.FromFn.{get_or-map-range_with_len, length-map-
 use Rattle.nv_host.proofs.PageLaws.{page_size_bounds}
 use Rattle.nv_host.specs.Pages.{PagedBytes}
 use Rattle.nv_queue.specs.Slots.{HoldsTags}
-use Rattle.nv_driver.specs.Driver.{IsDriver, driver_value, new_driver, page_count}
+use Rattle.nv_driver.specs.Driver.{IsDriver, driver_value, driver_with, page_count}
 use Rattle.nv_driver.specs.Exchange.{KeepsOthers}
 use Rattle.nv_driver.specs.Geometry.{IsGeometry}
 use Rattle.nv_driver.specs.QueuePair.{IsLaid, QueuePair}
@@ -33,12 +33,12 @@ after : (x s p n : ℕ) → n ≤ s * p → x * p + n ≤ (x + s) * p
 after x s p n h = omega arith
 
 -- queue pair i ends before queue pair j
-pair_ends : (g : Geometry) (i j : ℕ) → i < j → end_of g.page_size (pair_of g i) ≤ j * pair_pages g * g.page_size
+pub pair_ends : (g : Geometry) (i j : ℕ) → i < j → end_of g.page_size (pair_of g i) ≤ j * pair_pages g * g.page_size
 pair_ends g i j h =
     let pages : i * pair_pages g + submission_pages g + completion_pages g + set_pages g ≤ j * pair_pages g =
     omega (arith, mul-le-mul_right (pair_pages g) h) in mul-le-mul_right g.page_size pages
 
-pair_laid : (g : Geometry) (n i size : ℕ) → IsGeometry g → i < n → size ≡ pages_of g n * g.page_size
+pair_laid : (g : Geometry) (n i size : ℕ) → IsGeometry g → i < n → pages_of g n * g.page_size ≤ size
     → IsLaid g.page_size size (pair_of g i)
 pair_laid g n i size is h e =
     let page = page_size_bounds g.page_size is.page_size in
@@ -51,7 +51,7 @@ pair_laid g n i size is h e =
       serial = omega arith;
       rings = after first (submission_pages g) g.page_size (64 * g.depth) fit.0;
       pages = after (first + submission_pages g) (completion_pages g) g.page_size (16 * g.depth) fit.1;
-      inside = rw e (pair_ends g i n h);
+      inside = omega (arith, pair_ends g i n h, e);
     }
 
 pair_at : (g : Geometry) (n i : ℕ) (d : QueuePair) → i < n → slice_index_or (pairs_of g n) i d ≡ pair_of g i
@@ -71,7 +71,7 @@ pair_count g n ls are =
     ∙ length-map-range_with_len (pair_of g) 0 n
 
 -- each queue pair lies in a memory of so many pages
-pub all_laid : (g : Geometry) (n size : ℕ) → IsGeometry g → size ≡ pages_of g n * g.page_size
+pub all_laid : (g : Geometry) (n size : ℕ) → IsGeometry g → pages_of g n * g.page_size ≤ size
     → All (IsLaid g.page_size size) (pairs_of g n)
 all_laid g n size is e i d h =
     let many = length-map-range_with_len (pair_of g) 0 n in
@@ -93,7 +93,8 @@ pub tags_more : (g : Geometry) (n c : ℕ) (old new : List ℕ)
     → (k : ℕ) → k < c + 1 → HoldsTags new (pair_of g k).cq g.depth 0
 tags_more g n c old new laid h keeps own tags =
     below_more (λ k. HoldsTags new (pair_of g k).cq g.depth 0) c
-    (λ k l. slots_stay g.page_size old new (pair_of g c) (pair_of g k) keeps
+    (λ k l. slots_stay (length old) g.page_size old new (pair_of g c) (pair_of g k) (λ from i low. keeps from i)
+    (laid_in g n k (length old) laid (omega arith)).inside
     (laid_in g n k (length old) laid (omega arith)) (laid_in g n c (length old) laid h)
     (inl (pair_ends g k c l)) (tags k l))
     own
@@ -112,34 +113,41 @@ settled_at_first g n bytes laid tags =
 -- ---- a new driver
 
 -- a new memory of so many pages
-pub memory_size : (g : Geometry) (n m pages : ℕ) (mem : PagedBytes) → pages ≡ pages_of g m → m ≡ n
+pub memory_size : (g : Geometry) (pages : ℕ) (mem : PagedBytes)
     → mem ≡ record { page_size = g.page_size; bytes = replicate (pages * g.page_size) 0 }
-    → length mem.bytes ≡ pages_of g n * g.page_size
-memory_size g n m pages mem are same made =
-    rw (made, are, same) (length-replicate (pages_of g n * g.page_size) 0)
+    → length mem.bytes ≡ pages * g.page_size
+memory_size g pages mem made = rw made (length-replicate (pages * g.page_size) 0)
 
-page_count_is : (g : Geometry) (n : ℕ) (mem : PagedBytes) → IsGeometry g → mem.page_size ≡ g.page_size
-    → length mem.bytes ≡ pages_of g n * g.page_size → page_count mem ≡ pages_of g n
-page_count_is g n mem is page size =
+page_count_is : (g : Geometry) (pages : ℕ) (mem : PagedBytes) → IsGeometry g → mem.page_size ≡ g.page_size
+    → length mem.bytes ≡ pages * g.page_size → page_count mem ≡ pages
+page_count_is g pages mem is page size =
     let bounds = page_size_bounds g.page_size is.page_size in
-    rw (size, page) (mul-div_cancel (pages_of g n) (omega arith))
+    rw (size, page) (mul-div_cancel pages (omega arith))
+
+-- where there are as many pages as the queue pairs have, or more
+pub has_pairs : (g : Geometry) (n m more pages : ℕ) (mem : PagedBytes) → pages ≡ pages_of g m + more → m ≡ n
+    → mem ≡ record { page_size = g.page_size; bytes = replicate (pages * g.page_size) 0 }
+    → pages_of g n * g.page_size ≤ length mem.bytes
+has_pairs g n m more pages mem are same made =
+    let some : pages_of g n ≤ pages = omega (arith, are, ap (pages_of g) same) in
+    omega (arith, memory_size g pages mem made, mul-le-mul_right g.page_size some)
 
 -- a driver of n controllers
-pub record IsFirst (g : Geometry) (n : ℕ) (mem : PagedBytes) (pairs : List QueuePairFields) : Type 0 where
+pub record IsFirst (g : Geometry) (n more : ℕ) (mem : PagedBytes) (pairs : List QueuePairFields) : Type 0 where
   pub driver : IsDriver g mem pairs
-  pub value : driver_value g mem pairs ≡ new_driver g n
+  pub value : driver_value g mem pairs ≡ driver_with g n more
 
-pub driver_at_first : (g : Geometry) (n m pages : ℕ) (made mem : PagedBytes)
-    (pairs : List QueuePairFields) → IsGeometry g → m ≡ n → pages ≡ pages_of g m → pages < 2 ^ 32
+pub driver_at_first : (g : Geometry) (n m more pages : ℕ) (made mem : PagedBytes)
+    (pairs : List QueuePairFields) → IsGeometry g → m ≡ n → pages ≡ pages_of g m + more → pages < 2 ^ 32
     → made ≡ record { page_size = g.page_size; bytes = replicate (pages * g.page_size) 0 }
     → mem.page_size ≡ made.page_size
     → length mem.bytes ≡ length made.bytes → All IsQuiet pairs → map pair_value pairs ≡ pairs_of g m
     → IsSettled g.page_size mem.bytes (pairs_of g n)
-    → IsFirst g n mem pairs
-driver_at_first g n m pages made mem pairs is same are few zeros keeps_page keeps_size quiet pairs_are settled =
+    → IsFirst g n more mem pairs
+driver_at_first g n m more pages made mem pairs is same are few zeros keeps_page keeps_size quiet pairs_are settled =
     let page = keeps_page ∙ ap (λ (x : PagedBytes). x.page_size) zeros in
-    let size = keeps_size ∙ memory_size g n m pages made are same zeros in
-    let count = page_count_is g n mem is page size in
+    let size = keeps_size ∙ memory_size g pages made zeros in
+    let count = page_count_is g pages mem is page size in
     let each = pairs_are ∙ ap (pairs_of g) same in
     let many = pair_count g n pairs each in
     record {
@@ -147,10 +155,10 @@ driver_at_first g n m pages made mem pairs is same are few zeros keeps_page keep
         geometry = is;
         page_size = page;
         whole = rw (count, page) (sym size);
-        numbered = rw (count, ← same, ← are) few;
+        numbered = rw count few;
         quiet = quiet;
         placed = λ i d h. rw (each, pair_at g n i d (omega arith)) refl;
         settled = rw (page, each) settled;
       };
-      value = rw (count, each) refl;
+      value = rw (count, each, are, same) refl;
     }

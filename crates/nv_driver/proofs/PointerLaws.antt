@@ -18,7 +18,7 @@ use Rattle.nv_command.specs.declared.transfer.Transfer.TheVariants.{FromHost, No
 use Rattle.nv_layout.specs.Steps.{◌>>=◌}
 use Rattle.nv_bus.specs.Call.{Call, HasRoom, call_of, data_places, length_of, moves_of, places_of, sent_from, within}
 use Rattle.nv_bus.proofs.CallLaws.{legal_places, no_places}
-use Rattle.nv_driver.specs.Layout.{pages_of_command}
+use Rattle.nv_driver.specs.Layout.{pages_of_command, pages_of_entry}
 use Rattle.nv_driver.specs.Request.{Asked, IsRequest}
 use Rattle.nv_driver.specs.Schedule.{HoldsSent, Sent, Setting, StaysNamed, data_length, entry, places}
 use Rattle.nv_driver.specs.Schedule.{pointed}
@@ -28,23 +28,33 @@ use Rattle.nv_driver.proofs.RegionLaws.{length-places}
 -- ---- how many pages a command has
 
 -- in how many pages so many bytes lie
-pub enough_pages : (from len size pages : ℕ) → IsPageSize size → from < size → len ≤ 16384
+pub enough_of : (greatest from len size pages : ℕ) → IsPageSize size → from < size → len ≤ greatest
     → pages ≡ div_ceil (from + len) size
-    → (from + len ≤ pages * size) × (pages + 2 ≤ pages_of_command size)
-enough_pages from len size pages is low most same =
+    → (from + len ≤ pages * size) × (pages + 2 ≤ div_ceil greatest size + 3)
+enough_of greatest from len size pages is low most same =
     let some : 0 < size = omega (arith, page_size_bounds size is) in
     let all = div_ceil_times (from + len) size some in
-    let least = div_ceil_times 16384 size some in (
+    let least = div_ceil_times greatest size some in (
       rw same all.0,
-      few (div_ceil 16384 size) least.0 (rw same all.1),
+      few (div_ceil greatest size) least.0 (rw same all.1),
     )
   where
-    few : (m : ℕ) → 16384 ≤ m * size → pages * size < from + len + size → pages + 2 ≤ m + 3
+    few : (m : ℕ) → greatest ≤ m * size → pages * size < from + len + size → pages + 2 ≤ m + 3
     few m whole less =
         elim (cases_lt pages (m + 2)) [
           | inl l ↦ omega arith
           | inr g ↦ absurd (omega (arith, mul-le-mul_right size g))
         ]
+
+pub enough_pages : (from len size pages : ℕ) → IsPageSize size → from < size → len ≤ 16384
+    → pages ≡ div_ceil (from + len) size
+    → (from + len ≤ pages * size) × (pages + 2 ≤ pages_of_command size)
+enough_pages = enough_of 16384
+
+pub entry_pages_few : (size : ℕ) → IsPageSize size → pages_of_entry size ≤ 259
+entry_pages_few size is =
+    let bounds = page_size_bounds size is in
+    let whole = (div_ceil_times 1048576 size (omega (arith, bounds))).1 in grind (arith, bounds, whole)
 
 pub seven_pages : (size : ℕ) → IsPageSize size → pages_of_command size ≤ 7
 seven_pages size is =

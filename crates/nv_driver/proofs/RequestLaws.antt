@@ -1,8 +1,7 @@
 -- A command is a request whose data has a shape of its own.
 use Rattle.std.proofs.Common.{◌≡◌, ◌∙◌, ◌<◌, ◌≤◌, ℕ, Ok, Result, ap, arith, lit<, refl}
-use Rattle.nv_layout.specs.declared.sqe.Sqe.{Sqe}
 use Rattle.nv_command.specs.Command.{transfer_by}
-use Rattle.nv_command.specs.Decoding.{command_of, transfer_of}
+use Rattle.nv_command.specs.Decoding.{command_of}
 use Rattle.nv_command.proofs.TravelLaws.{commands_travel}
 use Rattle.nv_command.specs.declared.command.Command.{Command}
 use Rattle.nv_command.specs.declared.status_code.StatusCode.{StatusCode}

@@ -28,11 +28,11 @@ use Rattle.nv_driver.proofs.UnderWayLaws.{counts, world}
 
 -- ---- register banks
 
-bank_set : (banks : List RegisterBank) (c : ℕ) (p : RegisterBank) → c < length banks
+pub bank_set : (banks : List RegisterBank) (c : ℕ) (p : RegisterBank) → c < length banks
     → bank_at (slice_set banks c p) c ≡ p
 bank_set banks c p below = get_or-set_same banks c p new_bank below
 
-banks_long : (banks new : List RegisterBank) (c : ℕ) (p : RegisterBank) → c < length banks → new ≡ slice_set banks c p
+pub banks_long : (banks new : List RegisterBank) (c : ℕ) (p : RegisterBank) → c < length banks → new ≡ slice_set banks c p
     → c < length new
 banks_long banks new c p below is =
     let size = ap (λ (x : List RegisterBank). length x) is ∙ length-set banks c p in omega arith

@@ -1,6 +1,6 @@
 -- What a submission keeps.
 use Rattle.std.proofs.Common.{◌≡◌, ◌∙◌, ℕ, ◌+◌, ◌*◌, ◌<◌, ◌≤◌, List, [], ◌∷◌, ◌++◌, ap, arith, get_or, inl, inr, length}
-use Rattle.std.proofs.Common.{length-append, subst, sym, take}
+use Rattle.std.proofs.Common.{length-append, subst, sym}
 use Rattle.std.proofs.lemmas.Bool.{cases_lt}
 use Rattle.std.proofs.lemmas.List.{get_or_append_left, get_or_push, take-append-le}
 use Rattle.nv_host.proofs.PageLaws.{page_size_bounds}

@@ -26,7 +26,7 @@ use Rattle.nv_driver.proofs.PointerLaws.{stays_in}
 use Rattle.nv_driver.proofs.RegionLaws.{buffer_data, data_keeps}
 
 -- two, and the rest
-first_two : (numbers : List ℕ) (n : ℕ) → 2 ≤ length numbers
+pub first_two : (numbers : List ℕ) (n : ℕ) → 2 ≤ length numbers
     → take (n + 2) numbers ≡ slice_index numbers 0 ∷ slice_index numbers 1 ∷ take n (drop 2 numbers)
 first_two [] n h = absurd (omega arith)
 first_two (a ∷ []) n h = absurd (omega arith)
@@ -118,16 +118,16 @@ pub record IsBuilt (page_size : ℕ) (x : Sent) (old built : List ℕ) : Type 0 
   pub stays : StaysNamed page_size x built
 
 -- what `build` ensures
-pub built_by : (g : Geometry) (x : Sent) (old built : List ℕ) (page_size now len : ℕ)
-    → page_size ≡ g.page_size → now ≡ page_size → len ≡ data_length x
+pub built_by : (size : ℕ) (x : Sent) (old built : List ℕ) (page_size now len : ℕ)
+    → page_size ≡ size → now ≡ page_size → len ≡ data_length x
     → x.prp1 < 2 ^ 64 → x.prp2 < 2 ^ 64
     → (0 < len → StaysFor (transfer now built x.prp1 x.prp2 len) x.pages x.offset x.first x.second)
     → KeepsOutside page_size x.first x.second old built → length built ≡ length old
-    → IsBuilt g.page_size x old built
-built_by g x old built page_size now len page after is_len first second stays others size =
-    let others_stay : (from n : ℕ) → AreOutside g.page_size x from n → bytes_at built from n ≡ bytes_at old from n =
+    → IsBuilt size x old built
+built_by size x old built page_size now len page after is_len first second stays others keeps_len =
+    let others_stay : (from n : ℕ) → AreOutside size x from n → bytes_at built from n ≡ bytes_at old from n =
     λ from n outside. others from n (rw page (outside 0 0 (omega arith))) (rw page (outside 1 0 (omega arith))) in
-    let named : StaysNamed g.page_size x built = rw (after ∙ page, is_len) at stays in assumption
+    let named : StaysNamed size x built = rw (after ∙ page, is_len) at stays in assumption
 
 -- and where what the host sends was written, the command is prepared
 pub prepared_by : (page_size : ℕ) (x : Sent) (old built new : List ℕ) → IsPageSize page_size

@@ -1,11 +1,11 @@
 -- What a driver stands for, by its fields, and what holds of them between two calls.
-use Rattle.std.specs.Prelude.{◌≡◌, ℕ, ◌*◌, ◌/◌, ◌<◌, ◌^◌, All, List, length, map, slice_index_or}
+use Rattle.std.specs.Prelude.{◌≡◌, ℕ, ◌+◌, ◌*◌, ◌/◌, ◌<◌, ◌≤◌, ◌^◌, All, List, length, map, slice_index_or}
 use Rattle.std.specs.Prelude.{slice_set}
 use Rattle.nv_host.specs.Pages.{PagedBytes}
 use Rattle.nv_driver.specs.Exchange.{after_one, after_some}
 use Rattle.nv_driver.specs.Geometry.{IsGeometry}
 use Rattle.nv_driver.specs.QueuePair.{QueuePair, renewed_pair}
-use Rattle.nv_driver.specs.Layout.{pair_of, pairs_of, pages_of}
+use Rattle.nv_driver.specs.Layout.{pages_of_entry, pair_of, pairs_of, pages_of}
 use Rattle.nv_driver.specs.Quiet.{IsQuiet, pair_value}
 use Rattle.nv_driver.specs.Settled.{DriverValue, IsSettled}
 use Rattle.nv_driver.specs.declared.geometry.Geometry.{Geometry}
@@ -19,10 +19,23 @@ abbrev pub driver_value : Geometry → PagedBytes → List QueuePairFields → D
 driver_value g mem pairs =
     record { geometry = g; pages = page_count mem; pairs = map pair_value pairs }
 
--- a driver that was brought up for so many controllers
+-- a driver that was brought up for so many controllers, with more pages behind theirs
+abbrev pub driver_with : Geometry → ℕ → ℕ → DriverValue
+driver_with g controllers more = record {
+  geometry = g;
+  pages = pages_of g controllers + more;
+  pairs = pairs_of g controllers;
+}
+
+-- and with none
 abbrev pub new_driver : Geometry → ℕ → DriverValue
 new_driver g controllers =
     record { geometry = g; pages = pages_of g controllers; pairs = pairs_of g controllers }
+
+-- behind the pages of its controllers there are those of an entry that is sent as it is
+abbrev pub HasEntryPages : DriverValue → Type 0
+HasEntryPages d =
+    pages_of d.geometry (length d.pairs) + pages_of_entry d.geometry.page_size ≤ d.pages
 
 -- a queue pair lies where it was laid first; only its number and its serial change
 abbrev pub IsPlaced : Geometry → ℕ → QueuePair → Type 0

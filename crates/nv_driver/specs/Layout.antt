@@ -3,6 +3,7 @@
 use Rattle.std.specs.Prelude.{ℕ, ◌+◌, ◌*◌, List, map}
 use Rattle.std.specs.Int.{div_ceil}
 use Rattle.std.specs.List.{range_with_len}
+use Rattle.nv_model.specs.Limit.{greatest_limit}
 use Rattle.nv_driver.specs.QueuePair.{QueuePair}
 use Rattle.nv_driver.specs.declared.geometry.Geometry.{Geometry}
 
@@ -26,6 +27,11 @@ most_data_pages = 5
 -- two of a PRP list that begins inside a page
 abbrev pub pages_of_command : ℕ → ℕ
 pages_of_command page_size = div_ceil most_bytes page_size + 3
+
+-- the most pages of an entry that is sent as it is: of the most bytes that a controller moves for one,
+-- one more where they begin inside a page, and two of a PRP list
+abbrev pub pages_of_entry : ℕ → ℕ
+pages_of_entry page_size = div_ceil greatest_limit page_size + 3
 
 -- of all outstanding commands
 unfoldable pub set_pages : Geometry → ℕ

@@ -15,5 +15,6 @@ pub mod Submitting
 pub mod Exchange
 pub mod Batch
 pub mod UnderWay
+pub mod Alone
 pub mod Pace
 pub mod Driver

@@ -2,7 +2,7 @@
 -- in any order.
 use Rattle.std.specs.Prelude.{◌≡◌, ◌-◌, ◌≢◌, ◌⊎◌, ◌↔◌, ℕ, ◌+◌, ◌*◌, ◌<◌, ◌≤◌, ◌^◌, ◌==◌, ◌&&◌, Bool}
 use Rattle.std.specs.Prelude.{false, All, List, [], ◌∷◌, ◌++◌, if◌then◌else◌, length, map, min, not}
-use Rattle.std.specs.Prelude.{slice_index_or, take, Result, Ok, Err}
+use Rattle.std.specs.Prelude.{slice_index_or, take, Ok, Err}
 use Rattle.nv_host.specs.Bytes.{bytes_at}
 use Rattle.nv_host.specs.Pages.{IsPageSize}
 use Rattle.nv_layout.specs.declared.cqe.Cqe.{Cqe}

@@ -1,15 +1,19 @@
 //! The driver of the controllers of a bus.
 
-ghost use Rattle.std.specs.Prelude.{◌≡◌, ◌≢◌, ◌<◌, ◌≤◌, ◌↔◌, All, Err, IfOk, IsOk, OnErr, Some};
+ghost use Rattle.std.specs.Prelude.{◌≡◌, ◌≢◌, ◌<◌, ◌≤◌, ◌↔◌, All, Err, IfOk, IsOk, OnErr, Some, if◌then◌else◌};
 ghost use Rattle.std.specs.Prelude.{length};
 ghost use Rattle.nv_bus.specs.Bus.{IsBus, enabled_in};
 ghost use Rattle.nv_command.specs.Command.{CommandFits};
 ghost use Rattle.nv_command.specs.Logs.{IsSendable, answer_received};
 ghost use Rattle.nv_model.specs.Reset.{reset, reset_where};
 ghost use Rattle.nv_model.specs.Step.{step};
+ghost use Rattle.nv_bus.specs.Entry.{told_by};
+ghost use Rattle.nv_layout.specs.Sqe.{SqeFits};
+ghost use Rattle.nv_driver.specs.Alone.{IsReceived, asked_in, entry_step};
 ghost use Rattle.nv_driver.specs.Batch.{answers_of, state_after};
 ghost use Rattle.nv_driver.specs.Driver.{after_command, after_commands, after_reset, pair_at};
-ghost use Rattle.nv_driver.specs.Driver.{new_driver};
+ghost use Rattle.nv_driver.specs.Driver.{HasEntryPages, driver_with, new_driver};
+ghost use Rattle.nv_driver.specs.Layout.{pages_of_entry};
 ghost use Rattle.nv_driver.specs.Geometry.{fault_of};
 ghost use Rattle.nv_driver.specs.Registers.{banks_of};
 
@@ -21,11 +25,13 @@ use crate::error::DriverError;
 use crate::geometry::Geometry;
 use crate::geometry_field::GeometryField;
 use crate::host_side::HostSide;
+use crate::passthrough::exchange_entry;
 use crate::queue_pair::{QueuePair, new_pairs};
 use crate::scratch::Scratch;
-use nv_bus::Bus;
+use nv_bus::{Bus, Told};
 use nv_command::Command;
 use nv_host::{FlatMemory, HostMemory};
+use nv_layout::Sqe;
 use std::alloc::Global;
 use std::marker::Model;
 use std::slice::{from_mut, from_ref};
@@ -73,9 +79,58 @@ impl Driver {
             (λ d. d ≡ new_driver geometry (length (B.meaning bus.old).banks)) }
         ensures banks { IfOk result (λ d. (B.meaning bus.new).banks ≡ banks_of d) }
     {
+        Driver::lay_out(alloc, bus, geometry, false)
+    }
+
+    /// The same, with room behind the controllers' pages for the data of any entry: `passthrough`
+    /// needs it.
+    #[tactic(auto, using(crate::proofs::PassthroughLaws::has_pages))]
+    pub fn bring_up_for_entries<B: Bus>(
+        alloc: Global,
+        bus: &mut B,
+        geometry: Geometry,
+    ) -> Result<Driver, DriverError>
+        requires { IsBus (B.meaning bus.old) }
+        ensures state { IfOk result (λ _. (B.meaning bus.new).state
+            ≡ reset_where (enabled_in (B.meaning bus.old).banks) (B.meaning bus.old).state) }
+        ensures bus { IsBus (B.meaning bus.new) }
+        ensures geometry { (field : GeometryField)
+            → (result ≡ Err (DriverError.Geometry field)) ↔ (fault_of geometry ≡ Some field) }
+        ensures ready { result ≢ Err DriverError.NoReady }
+        ensures untouched { OnErr result (B.meaning bus.new ≡ B.meaning bus.old) }
+        ensures value { IfOk result
+            (λ d. d ≡ driver_with geometry (length (B.meaning bus.old).banks)
+            (pages_of_entry geometry.page_size)) }
+        ensures entries { IfOk result HasEntryPages }
+        ensures banks { IfOk result (λ d. (B.meaning bus.new).banks ≡ banks_of d) }
+    {
+        Driver::lay_out(alloc, bus, geometry, true)
+    }
+
+    /// Brings up a driver, with room for the data of any entry where it is wanted.
+    fn lay_out<B: Bus>(
+        alloc: Global,
+        bus: &mut B,
+        geometry: Geometry,
+        with_entries: bool,
+    ) -> Result<Driver, DriverError>
+        requires { IsBus (B.meaning bus.old) }
+        ensures state { IfOk result (λ _. (B.meaning bus.new).state
+            ≡ reset_where (enabled_in (B.meaning bus.old).banks) (B.meaning bus.old).state) }
+        ensures bus { IsBus (B.meaning bus.new) }
+        ensures geometry { (field : GeometryField)
+            → (result ≡ Err (DriverError.Geometry field)) ↔ (fault_of geometry ≡ Some field) }
+        ensures ready { result ≢ Err DriverError.NoReady }
+        ensures untouched { OnErr result (B.meaning bus.new ≡ B.meaning bus.old) }
+        ensures value { IfOk result
+            (λ d. d ≡ driver_with geometry (length (B.meaning bus.old).banks)
+            (if with_entries then pages_of_entry geometry.page_size else 0)) }
+        ensures banks { IfOk result (λ d. (B.meaning bus.new).banks ≡ banks_of d) }
+    {
         let geometry = CheckedGeometry::new(geometry).map_err(DriverError::Geometry)?;
         let controllers = bus.controllers();
-        let mut mem = FlatMemory::new(alloc, geometry.page_size, geometry.pages(controllers))?;
+        let pages = geometry.pages(controllers) + geometry.more_pages(with_entries);
+        let mut mem = FlatMemory::new(alloc, geometry.page_size, pages)?;
         let pairs = new_pairs(alloc, geometry, controllers)?;
         enable_all(bus, &mut mem, &pairs, geometry)?;
         let scratch = Scratch::new();
@@ -168,6 +223,53 @@ impl Driver {
             commands,
             answers,
         );
+    }
+
+    /// Sends an entry to a controller as it is but for its command identifier and data pointer, with
+    /// what the host has to send, and awaits its completion: dword 0 and the status. `out` gets as
+    /// many of the bytes that came as it has room for, and zeros after the last one; none come with a
+    /// refusal. Of what the host sends as many bytes go as the entry's data has, with zeros after the
+    /// last one that is given. The bus is as this driver left it, which was brought up for entries.
+    /// It takes no memory. Section "Command Processing".
+    pub fn passthrough<B: Bus>(
+        &mut self,
+        bus: &mut B,
+        ctrl: u16,
+        entry: &Sqe,
+        bytes: &[u8],
+        out: &mut [u8],
+    ) -> Told
+        requires ctrl { ctrl < length self.old.pairs }
+        requires bus { IsBus (B.meaning bus.old) }
+        requires left { (B.meaning bus.old).banks ≡ banks_of self.old }
+        requires room { HasEntryPages self.old }
+        requires fits { SqeFits entry.now }
+        ensures answer { result ≡ told_by (entry_step (B.meaning bus.old).state ctrl
+            entry.now bytes.now (pair_at self.old.pairs ctrl).serial).answer }
+        ensures out { IsReceived (asked_in (B.meaning bus.old).state ctrl entry.now bytes.now)
+            (entry_step (B.meaning bus.old).state ctrl
+            entry.now bytes.now (pair_at self.old.pairs ctrl).serial).answer out.new }
+        ensures room { length out.new ≡ length out.old }
+        ensures state { (B.meaning bus.new).state ≡ (entry_step (B.meaning bus.old).state ctrl
+            entry.now bytes.now (pair_at self.old.pairs ctrl).serial).state }
+        ensures bus { IsBus (B.meaning bus.new) }
+        ensures driver { self.new ≡ after_command self.old ctrl }
+        ensures entries { HasEntryPages self.new }
+        ensures left { (B.meaning bus.new).banks ≡ banks_of self.new }
+    {
+        let first_page = self.geometry.pages(self.controllers() as u16);
+        let pair = &mut self.pairs[ctrl as usize];
+        exchange_entry(
+            bus,
+            ctrl,
+            &mut self.host,
+            pair,
+            self.geometry,
+            first_page,
+            entry,
+            bytes,
+            out,
+        )
     }
 
     /// How many controllers the driver has.

@@ -1,13 +1,16 @@
 //! Where each controller's rings and pages lie in the host's memory.
 
-ghost use Rattle.std.specs.Prelude.{◌≡◌, ◌+◌, ◌^◌, ◌<◌, ◌≤◌};
-ghost use Rattle.nv_driver.specs.Layout.{completion_pages, pair_of, pair_pages, pages_of};
+ghost use Rattle.std.specs.Prelude.{◌≡◌, ◌+◌, ◌^◌, ◌<◌, ◌≤◌, if◌then◌else◌};
+ghost use Rattle.nv_driver.specs.Layout.{completion_pages, pages_of_entry, pair_of, pair_pages, pages_of};
 ghost use Rattle.nv_driver.specs.Layout.{set_pages, submission_pages};
 
 use crate::checked_geometry::CheckedGeometry;
 
 /// The most bytes that a command's data has.
 const MOST_BYTES: u32 = 16_384;
+
+/// The most bytes that a controller moves for one command: its MDTS is 8 at most.
+const MOST_ENTRY_BYTES: u32 = 1_048_576;
 
 /// The pages of an outstanding command beside those of its data: one where the data begins inside a
 /// page, and two of a PRP list that begins inside a page.
@@ -64,9 +67,28 @@ impl CheckedGeometry {
     #[tactic(auto, using(crate::proofs::LayoutLaws::pair_times))]
     pub(crate) fn pages(self, controllers: u16) -> u32
         requires controllers { controllers ≤ 16 }
-        ensures { result ≡ pages_of self controllers }
+        ensures pages { result ≡ pages_of self controllers }
+        ensures few { result ≤ 0x1800000 }
     {
         u32::from(controllers) * self.pair_pages()
+    }
+
+    /// How many pages an entry takes that is sent as it is.
+    #[tactic(auto, using(crate::proofs::PointerLaws::entry_pages_few))]
+    fn entry_pages(self) -> u32
+        ensures pages { result ≡ pages_of_entry self.page_size }
+        ensures few { result ≤ 259 }
+    {
+        MOST_ENTRY_BYTES.div_ceil(self.page_size) + MORE_PAGES
+    }
+
+    /// How many pages lie behind those of the controllers: an entry's where they are wanted.
+    pub(crate) fn more_pages(self, with_entries: bool) -> u32
+        ensures pages { result
+            ≡ (if with_entries then pages_of_entry self.page_size else 0) }
+        ensures few { result ≤ 259 }
+    {
+        if with_entries { self.entry_pages() } else { 0 }
     }
 
     /// Where the rings and pages of a controller lie. The page behind them has a number too.

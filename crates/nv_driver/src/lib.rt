@@ -33,6 +33,15 @@
 //! driver.reset(&mut machine, 0)?;
 //! ```
 //!
+//! [`Driver::passthrough`] sends any entry as it is, a reserved opcode too, and gives what its
+//! completion tells. Only the command identifier and the data pointer are the driver's own. A driver
+//! that is made by [`Driver::bring_up_for_entries`] has room for the data.
+//!
+//! ```
+//! let mut driver = Driver::bring_up_for_entries(alloc, &mut machine, Geometry::default())?;
+//! let told = driver.passthrough(&mut machine, 0, &entry, &[], &mut data);
+//! ```
+//!
 //! Sections are named as in the NVM Express Base Specification, revision 1.4.
 #![tactic(auto)]
 
@@ -43,12 +52,16 @@ mod checked_geometry;
 mod command_pages;
 mod driver;
 mod enabling;
+mod entry_data;
+mod entry_pages;
 mod error;
 mod geometry;
 mod geometry_field;
 mod host_side;
 mod law;
 mod layout;
+mod padding;
+mod passthrough;
 mod queue_pair;
 mod scratch;
 mod submitting;
@@ -59,3 +72,4 @@ pub use error::DriverError;
 pub use geometry::Geometry;
 pub use geometry_field::GeometryField;
 pub use law::{any_entry, any_schedule};
+pub use nv_bus::Told;

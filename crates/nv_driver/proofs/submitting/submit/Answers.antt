@@ -63,7 +63,7 @@ returns-clause-submitted g c =
     let enough = rw (← t.count, len) at c.page_count.ensures.enough in
     let buffer = buffer_of geometry pair.pages pages before geometry.page_size _ is refl
     (has_taken t.count c.page_count.ensures.most t.seven t.taken c.requires.inside) enough in
-    let is_built = built_by geometry x before built _ _ _ c.requires.page b.page len
+    let is_built = built_by geometry.page_size x before built _ _ _ c.requires.page b.page len
     (search rules) (search rules) b.stays b.others b.len in
     record {
       prp1 = pointer.0;

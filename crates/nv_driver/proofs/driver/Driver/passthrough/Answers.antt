@@ -1,0 +1,72 @@
+use Rattle.std.proofs.Common.{◌∙◌, ap, refl, rules, subst, sym}
+use Rattle.nv_driver.specs.Alone.{IsReceived, asked_in, entry_step}
+use Rattle.nv_driver.specs.Driver.{HasEntryPages, after_commands}
+use Rattle.nv_driver.specs.Exchange.{after_some}
+use Rattle.nv_driver.specs.Layout.{pages_of}
+use Rattle.nv_driver.specs.Registers.{banks_of}
+use Rattle.nv_driver.specs.Settled.{DriverValue}
+use Rattle.nv_driver.proofs.AdminLaws.{after_first, banks_left, driver_after_below, inside_of, ready_at, value_after}
+use Rattle.nv_driver.proofs.PassthroughLaws.{behind_last, count_is, ends_before, has_room, room_stays, serial_is}
+use Rattle.nv_driver.proofs.driver.Driver.passthrough.Goals as goal
+
+pub exchange_entry-requires : goal.exchange_entry-requires
+exchange_entry-requires g c κs within =
+    let inside = inside_of _ _ _ _ _ c.requires.ctrl c.self.view_is in
+    let here = c.index_mut-pair.ensures.value in
+    let ready = ready_at c.self.invariant c.requires.bus
+    (c.requires.left ∙ ap banks_of (sym c.self.view_is)) inside here in
+    let first = c.pages-first_page.ensures.pages ∙ ap (pages_of c.self.inside.geometry)
+    (count_is _ _ _ c.self.view_is c.controllers.ensures) in
+    let room = has_room c.self.invariant c.self.view_is c.requires.room first in (
+      search rules,
+      (
+        search rules,
+        (
+          refl,
+          (
+            ready,
+            (
+              c.requires.fits,
+              (behind_last c.self.invariant inside here first, (room.0, room.1)),
+            ),
+          ),
+        ),
+      ),
+    )
+
+pub invariant_of-self : goal.invariant_of-self
+invariant_of-self g c =
+    let e = c.exchange_entry.ensures in
+    driver_after_below c.self.invariant (inside_of _ _ _ _ _ c.requires.ctrl c.self.view_is)
+    c.index_mut-pair.ensures.value e.ready e.pair _ e.others
+    (ends_before c.self.invariant
+    (c.pages-first_page.ensures.pages ∙ ap (pages_of c.self.inside.geometry)
+    (count_is _ _ _ c.self.view_is c.controllers.ensures))) e.len e.page
+
+pub returns-clause-out : goal.returns-clause-out
+returns-clause-out g c =
+    let e = c.exchange_entry.ensures in
+    let s = (g.B.Bus.meaning c.args.bus.now).state in
+    subst (λ n. IsReceived (asked_in s c.args.ctrl c.args.entry.now c.args.bytes.now)
+    (entry_step s c.args.ctrl c.args.entry.now c.args.bytes.now n).answer c.exchange_entry.new.out)
+    (sym (serial_is _ _ _ c.self.view_is (inside_of _ _ _ _ _ c.requires.ctrl c.self.view_is)
+    c.index_mut-pair.ensures.value)) e.received
+
+pub returns-clause-driver : goal.returns-clause-driver
+returns-clause-driver g c =
+    let e = c.exchange_entry.ensures in
+    value_after (after_some 1) _ _ _ _ _ _ _ (inside_of _ _ _ _ _ c.requires.ctrl c.self.view_is)
+    c.index_mut-pair.ensures.value e.pair e.len e.page
+    ∙ ap (λ (d : DriverValue). after_commands d c.args.ctrl 1) c.self.view_is
+    ∙ after_first c.args.self.now c.args.ctrl
+
+pub returns-clause-left : goal.returns-clause-left
+returns-clause-left g c =
+    let e = c.exchange_entry.ensures in
+    banks_left c.self.inside.geometry c.self.inside.pairs.items c.args.ctrl c.exchange_entry.new.pair
+    _ _ (c.requires.left ∙ ap banks_of (sym c.self.view_is)) e.banks e.ready.bank
+
+pub returns-clause-entries : goal.returns-clause-entries
+returns-clause-entries g c =
+    subst HasEntryPages (sym (returns-clause-driver g c))
+    (room_stays c.args.self.now c.args.ctrl c.requires.room)

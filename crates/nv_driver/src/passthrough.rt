@@ -1,0 +1,184 @@
+//! Sending an entry as it is.
+
+ghost use Rattle.std.specs.Prelude.{◌≡◌, ℕ, ◌+◌, ◌*◌, ◌<◌, ◌≤◌, ◌^◌, ◌∷◌, [], length, slice_set};
+ghost use Rattle.nv_bus.specs.Call.{HasRoom, length_of};
+ghost use Rattle.nv_layout.specs.Sqe.{SqeFits};
+ghost use Rattle.nv_model.specs.Limit.{greatest_limit, limit_of};
+ghost use Rattle.nv_model.specs.Numbers.{serial_count};
+ghost use Rattle.nv_prp.specs.Buffer.{IsBuffer, IsListPlace, KeepsOutside, StaysFor};
+ghost use Rattle.nv_prp.specs.Place.{AreDistinct};
+ghost use Rattle.nv_prp.specs.Transfer.{transfer};
+ghost use Rattle.nv_queue.specs.Numbers.{next, slot_of};
+ghost use Rattle.nv_queue.specs.Rings.{IsSubmitFull};
+ghost use Rattle.nv_driver.specs.Alone.{EntryPlace, IsAlone, IsEntrySubmitted, IsPlaceFor, alone};
+ghost use Rattle.nv_driver.specs.Alone.{IsAnsweredBy, IsExchanged, side};
+ghost use Rattle.nv_driver.specs.Alone.{place_in};
+ghost use Rattle.nv_driver.specs.Exchange.{IsReady};
+ghost use Rattle.nv_driver.specs.Layout.{pages_of_entry};
+ghost use Rattle.nv_driver.specs.Request.{request_for, transfer_for};
+ghost use Rattle.nv_driver.specs.Schedule.{Sent, slot};
+ghost use Rattle.nv_driver.specs.UnderWay.{Run, run_of, setting_of};
+
+use crate::checked_geometry::CheckedGeometry;
+use crate::entry_data::{length_of, receive, transfer_for, write_sent};
+use crate::entry_pages::{EntryPages, data_pages};
+use crate::host_side::HostSide;
+use crate::queue_pair::QueuePair;
+use crate::scratch::Scratch;
+use nv_bus::{Bus, Told};
+use nv_command::Transfer;
+use nv_host::{HostMemory, PageNo};
+use nv_layout::{Cqe, Sqe};
+use nv_model::SERIALS;
+use nv_prp::{Buffer, ListPlace, build};
+use nv_register::offset;
+
+/// The data pointer of so many bytes of a buffer, 0 and 0 where there are none: PRP1 and PRP2.
+/// Writes its list where it has one. Section "Physical Region Page Entry and List".
+pub(crate) fn point_to<M: HostMemory>(
+    mem: &mut M,
+    buffer: &Buffer,
+    list: &ListPlace,
+    len: u32,
+) -> (u64, u64)
+    requires limit { len ≤ greatest_limit }
+    requires buffer { IsBuffer (M.bytes mem.old) (M.page_len mem.old)
+        buffer.now.pages.now buffer.now.offset len }
+    requires list { IsListPlace (M.bytes mem.old) (M.page_len mem.old)
+        list.now.first list.now.second list.now.offset }
+    requires distinct { AreDistinct (list.now.first ∷ list.now.second ∷ buffer.now.pages.now) }
+    ensures stays { 0 < len → StaysFor (transfer (M.page_len mem.new)
+        (M.bytes mem.new) result.0 result.1 len) buffer.now.pages.now buffer.now.offset
+        list.now.first list.now.second }
+    ensures none { len ≡ 0 → (result.0 ≡ 0) × (result.1 ≡ 0) }
+    ensures others { KeepsOutside (M.page_len mem.old) list.now.first list.now.second
+        (M.bytes mem.old) (M.bytes mem.new) }
+    ensures len { length (M.bytes mem.new) ≡ length (M.bytes mem.old) }
+    ensures page { M.page_len mem.new ≡ M.page_len mem.old }
+{
+    if len == 0 {
+        return (0, 0);
+    }
+    build(mem, buffer, list, len)
+}
+
+/// Submits an entry under the next command identifier, with its data behind a data pointer, and
+/// answers the new tail.
+fn submit_entry<M: HostMemory>(
+    mem: &mut M,
+    pair: &mut QueuePair,
+    buffer: &Buffer,
+    list: &ListPlace,
+    transfer: Transfer,
+    entry: &Sqe,
+    bytes: &[u8],
+    scratch: &mut Scratch,
+) -> u16
+    ghost limit: { ℕ }
+    requires transfer { transfer ≡ transfer_for entry.now }
+    requires room { HasRoom transfer }
+    requires few { length_of transfer ≤ greatest_limit }
+    requires place { IsPlaceFor (M.bytes mem.old) (M.page_len mem.old)
+        (place_in buffer.now.pages.now buffer.now.offset list.now) (length_of transfer) }
+    requires serial { pair.old.serial < serial_count }
+    requires ring { pair.old.submission.base + 64 * pair.old.submission.depth
+        ≤ length (M.bytes mem.old) }
+    requires free { ¬ IsSubmitFull pair.old.submission }
+    ensures submitted { IsEntrySubmitted (M.page_len mem.old)
+        (place_in buffer.now.pages.now buffer.now.offset list.now)
+        (request_for limit entry.now bytes.now) pair.old pair.new
+        (M.bytes mem.old) (M.bytes mem.new) }
+    ensures tail { result ≡ slot_of pair.old.submission.depth
+        (next pair.old.submission.depth pair.old.submission.submitted) }
+    ensures len { length (M.bytes mem.new) ≡ length (M.bytes mem.old) }
+    ensures page { M.page_len mem.new ≡ M.page_len mem.old }
+{
+    let (prp1, prp2) = point_to(mem, buffer, list, length_of(transfer));
+    write_sent(mem, buffer, transfer, bytes, scratch);
+    let mut sent = *entry;
+    sent.cid = pair.serial;
+    sent.prp1 = prp1;
+    sent.prp2 = prp2;
+    let tail = pair.submission.push(mem, &sent).unwrap();
+    pair.serial = (pair.serial + 1) % SERIALS;
+    tail
+}
+
+/// Tells a controller of the one entry that was submitted, gives it a turn, and collects the
+/// completion. Section "Command Processing".
+fn complete<B: Bus, M: HostMemory>(
+    bus: &mut B,
+    ctrl: u16,
+    mem: &mut M,
+    pair: &mut QueuePair,
+    tail: u16,
+) -> Cqe
+    ghost run: { Run }
+    requires ctrl { ctrl ≡ run.controller }
+    requires alone { (x : Sent) × IsAlone (alone run x) 0 0 0 [] pair.old
+        (M.page_len mem.old) (M.bytes mem.old) (B.meaning bus.old) }
+    requires tail { tail ≡ slot (setting_of run) 1 }
+    ensures answered { (x : Sent) → IsAlone (alone run x) 0 0 0 [] pair.old
+        (M.page_len mem.old) (M.bytes mem.old) (B.meaning bus.old)
+        → IsAnsweredBy (alone run x) result pair.new
+        (M.page_len mem.new) (M.bytes mem.new) (B.meaning bus.new) }
+{
+    bus.write32(ctrl, offset::TAIL_DOORBELL, u32::from(tail));
+    bus.turn(ctrl, mem, 1);
+    let completion = pair.completion.poll(mem).unwrap();
+    pair.submission.freed(completion.sq_head);
+    if let Some(head) = pair.completion.head_to_tell() {
+        bus.write32(ctrl, offset::HEAD_DOORBELL, u32::from(head));
+    }
+    completion
+}
+
+/// Sends an entry to a controller as it is but for its command identifier and data pointer, and
+/// awaits its completion. Its data and its list lie in pages from this one on, which are of no queue
+/// pair. No command of the queue pair is outstanding, before and after.
+pub(crate) fn exchange_entry<B: Bus, M: HostMemory>(
+    bus: &mut B,
+    ctrl: u16,
+    host: &mut HostSide<M>,
+    pair: &mut QueuePair,
+    geometry: CheckedGeometry,
+    first_page: PageNo,
+    entry: &Sqe,
+    bytes: &[u8],
+    out: &mut [u8],
+) -> Told
+    ghost run: { Run }
+    requires run { run
+        ≡ run_of geometry ctrl (B.meaning bus.old) pair.old (M.bytes host.old.mem) [] }
+    requires ready { IsReady geometry (B.meaning bus.old) ctrl
+        pair.old (M.page_len host.old.mem) (M.bytes host.old.mem) }
+    requires fits { SqeFits entry.now }
+    requires behind { pair.old.pages.first + pair.old.pages.count ≤ first_page }
+    requires inside { (first_page + pages_of_entry geometry.page_size) * geometry.page_size
+        ≤ length (M.bytes host.old.mem) }
+    requires numbered { first_page + pages_of_entry geometry.page_size < 2 ^ 32 }
+    ensures { IsExchanged geometry ctrl entry.now bytes.now first_page
+        (side (B.meaning bus.old) pair.old (M.page_len host.old.mem) (M.bytes host.old.mem))
+        (side (B.meaning bus.new) pair.new (M.page_len host.new.mem) (M.bytes host.new.mem))
+        result out.new }
+{
+    let transfer = transfer_for(entry);
+    let pages = EntryPages::new(first_page, data_pages(geometry, length_of(transfer)));
+    let buffer = pages.buffer(geometry.offset);
+    let list = pages.list(geometry.list_offset);
+    let HostSide { mem, scratch } = host;
+    let tail = submit_entry(mem, pair, &buffer, &list, transfer, entry, bytes, scratch);
+    let completion = complete(bus, ctrl, mem, pair, tail);
+    receive(
+        mem,
+        &buffer,
+        transfer,
+        completion.status,
+        &mut scratch.spans,
+        out,
+    );
+    Told {
+        dword0: completion.command_specific,
+        status: completion.status,
+    }
+}
