@@ -144,7 +144,8 @@ pub driver_after_below : {g : Geometry} {mem new : PagedBytes} {ls : List QueueP
     → ((i : ℕ) (d : QueuePair) → i < length ls → end_of g.page_size (get_or (map pair_value ls) i d) ≤ end)
     → length new.bytes ≡ length mem.bytes → new.page_size ≡ mem.page_size
     → IsDriver g new (slice_set ls c l')
-driver_after_below {g} {mem} {new} {ls} {b} {c} {l} {l'} {n} {serial} is below here ready next end keeps ends size page =
+driver_after_below {g} {mem} {new} {ls} {b} {c} {l} {l'} {n} {serial}
+    is below here ready next end keeps ends size page =
     let many = length-map ls pair_value in
     let vs = map pair_value ls in
     let at : pair_value l ≡ get_or vs c (pair_value l) =

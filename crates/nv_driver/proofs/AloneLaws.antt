@@ -238,17 +238,17 @@ module _ {a : Alone} {l : QueuePairFields} {now : ℕ} {bytes : List ℕ} {bus :
 -- ---- the pages behind all queue pairs
 
 -- pages one after another, from this one on
-pub record AreFrom (first count : ℕ) (numbers : List ℕ) : Type 0 where
+pub record ArePages (first count : ℕ) (numbers : List ℕ) : Type 0 where
   pub each : (i : ℕ) → i < count + 2 → slice_index numbers i ≡ first + i
   pub long : count + 2 ≤ length numbers
 
-pub page_at : (first count : ℕ) (numbers : List ℕ) → AreFrom first count numbers → (i d : ℕ) → i < count + 2
+pub page_at : (first count : ℕ) (numbers : List ℕ) → ArePages first count numbers → (i d : ℕ) → i < count + 2
     → get_or (slice_index numbers 0 ∷ slice_index numbers 1 ∷ take count (drop 2 numbers)) i d ≡ first + i
 page_at first count numbers are i d low =
     ap (λ xs. get_or xs i d) (sym (first_two numbers count (omega (arith, are.long))))
     ∙ get_or-take (count + 2) numbers i d low ∙ get_or_default numbers i d 0 (omega (arith, are.long)) ∙ are.each i low
 
-pub length-pages : (first count : ℕ) (numbers : List ℕ) → AreFrom first count numbers
+pub length-pages : (first count : ℕ) (numbers : List ℕ) → ArePages first count numbers
     → length (slice_index numbers 0 ∷ slice_index numbers 1 ∷ take count (drop 2 numbers)) ≡ count + 2
 length-pages first count numbers are =
     ap (λ (xs : List ℕ). length xs) (sym (first_two numbers count (omega (arith, are.long))))
@@ -256,7 +256,7 @@ length-pages first count numbers are =
 
 -- they hold the data of an entry and its list
 pub place_is : (g : Geometry) (first count len page_size : ℕ) (numbers mem : List ℕ) → IsGeometry g
-    → page_size ≡ g.page_size → AreFrom first count numbers → g.offset + len ≤ count * g.page_size
+    → page_size ≡ g.page_size → ArePages first count numbers → g.offset + len ≤ count * g.page_size
     → count + 2 ≤ pages_of_entry g.page_size
     → (first + pages_of_entry g.page_size) * g.page_size ≤ length mem
     → IsPlaceFor mem page_size (place_in (take count (drop 2 numbers)) g.offset (record
@@ -264,7 +264,8 @@ pub place_is : (g : Geometry) (first count len page_size : ℕ) (numbers mem : L
 place_is g first count len page_size numbers mem is page are enough few inside =
     let long = length-pages first count numbers are in
     let has : (i d : ℕ) → i < count + 2
-    → HasPage mem g.page_size (get_or (slice_index numbers 0 ∷ slice_index numbers 1 ∷ take count (drop 2 numbers)) i d) =
+    → HasPage mem g.page_size
+    (get_or (slice_index numbers 0 ∷ slice_index numbers 1 ∷ take count (drop 2 numbers)) i d) =
     λ i d low. let last : first + i + 1 ≤ first + pages_of_entry g.page_size = omega arith in
     subst (HasPage mem g.page_size) (sym (page_at first count numbers are i d low))
     (omega (arith, mul-le-mul_right g.page_size last, inside)) in

@@ -306,7 +306,8 @@ module _ {r : Run} {bells turns : ℕ} {b : Batch} {l : QueuePairFields} {now : 
           answer_is d =
               let size = r.geometry.page_size in
               ap (λ at. answer_from k q (received_from (transfer_by k) bytes at)) places_are
-              ∙ ap (λ (p : Request). answer_to p.asked q (received_from p.transfer bytes (places size next_one))) (sym same)
+              ∙ ap (λ (p : Request). answer_to p.asked q
+              (received_from p.transfer bytes (places size next_one))) (sym same)
               ∙ ap (answer_read size next_one bytes) e.completion
               ∙ (held_here e.more).answer.reads (subst (λ (p : Request). IsReadable p.asked) (sym same) answer_sends)
               ∙ sym (answer_at r.controller r.bus.state u.course.sent b.collected no_command d

@@ -71,7 +71,8 @@ begins_all {g} {c} {bus} {l} {now} {bytes} {commands} {answers} {r} {b} is ready
         keeps = rw (sent, collected, told) (idle_keeps t (beginning t bytes bus.state) idle);
         others = rw (sent, collected, told) (others_now t (beginning t bytes bus.state));
         collected = sym collected;
-        pair = rw (sent, collected, told) (pairs_same (submit_ring_is g c (limit_of bus.state c) bytes l ready.quiet ready.laid.number)
+        pair = rw (sent, collected, told) (pairs_same
+            (submit_ring_is g c (limit_of bus.state c) bytes l ready.quiet ready.laid.number)
             (collect_ring_is g c (limit_of bus.state c) bytes l ready.quiet ready.laid.number) serial (sym none.1));
       };
       bus_is = record {

@@ -347,8 +347,8 @@ module _ (t : Setting) (s : State) (w : World) (y : Scene) (d : Sent) (k : Keeps
         state = one.state ∙ ap (λ (q : State). (step_of t.controller q (numbered x)).state) k.state
             ∙ sym (after_more t.controller s w.sent w.done d below);
         well_formed = subst IsWellFormed (sym one.state)
-            (asked_keeps x.request.asked x.request.transfer w.state t.controller x.request.entry.nsid x.cid own.can.command
-            own.can.fits.nsid own.cid k.well_formed);
+            (asked_keeps x.request.asked x.request.transfer w.state t.controller x.request.entry.nsid x.cid
+            own.can.command own.can.fits.nsid own.cid k.well_formed);
         controller = rw (one.state, asked_controllers x.request.asked w.state t.controller x.request.entry.nsid x.cid)
             (k.controller);
         limit = ap (λ (q : State). limit_of q t.controller) one.state

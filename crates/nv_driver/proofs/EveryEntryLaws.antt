@@ -1,5 +1,6 @@
 -- Every entry is a request, with whatever the host has to send.
-use Rattle.std.proofs.Common.{◌≡◌, ◌∙◌, ◌<◌, ◌≤◌, ◌==◌, ◌^◌, ◌%◌, ℕ, Bool, true, false, Err, List, Ok, Result, ap, arith}
+use Rattle.std.proofs.Common.{◌≡◌, ◌∙◌, ◌<◌, ◌≤◌, ◌==◌, ◌^◌, ◌%◌, ℕ, Bool, true, false, Err, List, Ok, Result, ap}
+use Rattle.std.proofs.Common.{arith}
 use Rattle.std.proofs.Common.{lit<, lit≤, refl, subst, sym}
 use Rattle.std.specs.Prelude.{if◌then◌else◌}
 use Rattle.nv_layout.specs.Sqe.{SqeFits}

@@ -12,21 +12,21 @@ use Rattle.nv_layout.specs.declared.status.Status.{Status}
 use Rattle.nv_bus.specs.declared.told.Told.{Told}
 use Rattle.nv_bus.specs.Bus.{BusValue}
 use Rattle.nv_bus.specs.Entry.{status_in, told_by}
-use Rattle.nv_bus.specs.Call.{length_of}
-use Rattle.nv_model.specs.Limit.{limit_of}
+use Rattle.nv_bus.specs.Call.{HasRoom, length_of}
+use Rattle.nv_model.specs.Limit.{greatest_limit, limit_of}
 use Rattle.nv_model.proofs.LimitLaws.{limit_bounds}
 use Rattle.nv_layout.specs.Sqe.{SqeFits}
 use Rattle.nv_layout.specs.declared.sqe.Sqe.{Sqe}
 use Rattle.nv_prp.specs.declared.builder.ListPlace.{ListPlace}
 use Rattle.nv_command.specs.declared.transfer.Transfer.{Transfer}
 use Rattle.nv_register.specs.RegisterBank.{new_bank}
-use Rattle.nv_driver.specs.Alone.{EntryPlace, IsAlone, IsAnsweredBy, IsEntrySubmitted, IsPlaceFor, KeepsBelow, alone}
-use Rattle.nv_driver.specs.Alone.{Comes, IsExchanged, IsReceived, asked_in, came_with, entry_step, place_in, sent_at, side}
+use Rattle.nv_driver.specs.Alone.{CanExchange, EntryPlace, IsAlone, IsAnsweredBy, IsEntrySubmitted, KeepsBelow, alone}
+use Rattle.nv_driver.specs.Alone.{Comes, IsExchanged, IsReceived, asked_in, came_with, entry_step, place_in, sent_at}
+use Rattle.nv_driver.specs.Alone.{side}
 use Rattle.nv_driver.specs.Alone.{world_of}
 use Rattle.nv_driver.specs.Answer.{Answer}
 use Rattle.nv_driver.specs.Exchange.{IsReady}
 use Rattle.nv_driver.specs.Quiet.{pair_value}
-use Rattle.nv_driver.specs.Geometry.{IsGeometry}
 use Rattle.nv_driver.specs.Layout.{pages_of_entry}
 use Rattle.nv_driver.specs.Request.{Asked, IsRequest, padded, request_for, transfer_for}
 use Rattle.nv_driver.specs.Schedule.{AreOutside, Happens, MaySubmit, Sent, Setting, Submit, entry}
@@ -35,7 +35,7 @@ use Rattle.nv_driver.specs.Schedule.{step_of, submit_ring}
 use Rattle.nv_driver.specs.UnderWay.{Run, pair_at, run_of, setting_of}
 use Rattle.nv_driver.specs.declared.geometry.Geometry.{Geometry}
 use Rattle.nv_driver.specs.declared.queue_pair.QueuePair.{QueuePair as QueuePairFields}
-use Rattle.nv_driver.proofs.AloneLaws.{AreFrom, has_bank, length-pages, page_at, place_is, same_world}
+use Rattle.nv_driver.proofs.AloneLaws.{ArePages, has_bank, length-pages, page_at, place_is, same_world}
 use Rattle.nv_driver.proofs.AskedLaws.{IsAnswerTo, answer_sound}
 use Rattle.nv_driver.proofs.CountLaws.{number_above, number_next}
 use Rattle.nv_driver.proofs.EndLaws.{ready_after}
@@ -54,12 +54,9 @@ told dword0 status = record { dword0 = dword0; status = status }
 same_told : {a b : ℕ} {s s' : Status} → a ≡ b → s ≡ s' → told a s ≡ told b s'
 same_told e f = cc
 
--- no page of a request lies before this one
-abbrev pub AreBehind : ℕ → Sent → Type 0
-AreBehind first x = (i d : ℕ) → i < length (own_pages x) → first ≤ get_or (own_pages x) i d
-
--- so they lie outside of what ends before it
-outside_before : (page_size first : ℕ) (x : Sent) (from n : ℕ) → AreBehind first x → from + n ≤ first * page_size
+-- what ends before all pages of a request lies outside of them
+outside_before : (page_size first : ℕ) (x : Sent) (from n : ℕ)
+    → ((i d : ℕ) → i < length (own_pages x) → first ≤ get_or (own_pages x) i d) → from + n ≤ first * page_size
     → AreOutside page_size x from n
 outside_before page_size first x from n behind low i d h =
     inl (omega (arith, mul-le-mul_right page_size (behind i d h), low))
@@ -73,21 +70,19 @@ comes_by (Ok k) (Err refused) status bytes is sound delivered = rw (is, sound.1)
 comes_by (Err code) (Ok reply) status bytes is sound delivered = absurd sound
 comes_by (Err code) (Err refused) status bytes is sound delivered = rw (is, sound.1) refl
 
--- an entry was submitted over a quiet queue pair, with its pages behind all others
+-- an entry that can be exchanged was submitted
 pub record IsBegun (g : Geometry) (bus : BusValue) (c : ℕ) (l : QueuePairFields) (bytes : List ℕ) (e : Sqe)
-    (given : List ℕ) (at : EntryPlace) (first now : ℕ) (l' : QueuePairFields) (mem : List ℕ) : Type 0 where
-  pub ready : IsReady g bus c l now bytes
-  pub fits : SqeFits e
-  pub place : IsPlaceFor bytes now at (length_of (transfer_for e))
+    (given : List ℕ) (m : Transfer) (at : EntryPlace) (now : ℕ) (l' : QueuePairFields) (mem : List ℕ) : Type 0 where
+  pub can : CanExchange g c e m at (side bus l now bytes)
   pub sub : IsEntrySubmitted now at (request_for (limit_of bus.state c) e given) l l' bytes mem
   pub size : length mem ≡ length bytes
-  pub behind : (i d : ℕ) → i < length (at.first ∷ at.second ∷ at.pages)
-      → first ≤ get_or (at.first ∷ at.second ∷ at.pages) i d
-  pub last : l.pages.first + l.pages.count ≤ first
 
 module _ {g : Geometry} {bus : BusValue} {c : ℕ} {l : QueuePairFields} {bytes : List ℕ} {e : Sqe} {given : List ℕ}
-    {at : EntryPlace} {first now : ℕ} {l' : QueuePairFields} {mem : List ℕ}
-    (b : IsBegun g bus c l bytes e given at first now l' mem) where
+    {m : Transfer} {at : EntryPlace} {now : ℕ} {l' : QueuePairFields} {mem : List ℕ}
+    (b : IsBegun g bus c l bytes e given m at now l' mem) where
+  ready : IsReady g bus c l now bytes
+  ready = b.can.ready
+
   abbrev pub run : Run
   run = run_of g c bus l bytes []
 
@@ -98,19 +93,19 @@ module _ {g : Geometry} {bus : BusValue} {c : ℕ} {l : QueuePairFields} {bytes 
   sent = sent_at at (request_for (limit_of bus.state c) e given) l.serial b.sub.prp1 b.sub.prp2
 
   can : IsRequest (limit_of bus.state c) sent.request
-  can = every_entry (limit_of bus.state c) e given (limit_bounds bus.state c b.ready.bus.state
-      (omega (arith, b.ready.controller, b.ready.bus.banks))).1 b.fits
+  can = every_entry (limit_of bus.state c) e given (limit_bounds bus.state c ready.bus.state
+      (omega (arith, ready.controller, ready.bus.banks))).1 b.can.fits
 
-  pages_end : (l.pages.first + l.pages.count) * g.page_size ≤ first * g.page_size
-  pages_end = mul-le-mul_right g.page_size b.last
+  pages_end : (l.pages.first + l.pages.count) * g.page_size ≤ at.first * g.page_size
+  pages_end = mul-le-mul_right g.page_size b.can.last
 
   may : MaySubmit t (beginning t bytes bus.state) sent
   may =
-      let laid = b.ready.laid in
+      let laid = ready.laid in
       let deep = laid.deep in
       let from_first : l.pages.first * g.page_size ≤ (l.pages.first + l.pages.count) * g.page_size =
       mul-le-mul_right g.page_size (omega arith) in
-      let place' = rw b.ready.page_size at b.place in
+      let place' = rw (b.can.transfer, ready.page_size) at b.can.place in
       record {
         free = omega (arith, deep.0);
         can = can;
@@ -118,9 +113,9 @@ module _ {g : Geometry} {bus : BusValue} {c : ℕ} {l : QueuePairFields} {bytes 
         buffer = place'.buffer;
         list = place'.list;
         distinct = place'.distinct;
-        submissions = outside_before g.page_size first sent l.submission.base (64 * l.submission.depth) b.behind
+        submissions = outside_before g.page_size at.first sent l.submission.base (64 * l.submission.depth) b.can.first
             (omega (arith, laid.rings, laid.pages, from_first, pages_end));
-        completions = outside_before g.page_size first sent l.completion.base (16 * l.submission.depth) b.behind
+        completions = outside_before g.page_size at.first sent l.completion.base (16 * l.submission.depth) b.can.first
             (omega (arith, laid.pages, from_first, pages_end));
         apart = λ n d from below. absurd (omega arith);
       }
@@ -129,29 +124,29 @@ module _ {g : Geometry} {bus : BusValue} {c : ℕ} {l : QueuePairFields} {bytes 
   pub begins : IsAlone (alone run sent) 0 0 0 [] l' now mem bus
   begins =
       let w = beginning t bytes bus.state in
-      let idle = is_idle g bus c l now bytes b.ready in
+      let idle = is_idle g bus c l now bytes ready in
       let keeps = idle_keeps t w idle in
-      let ring = submit_ring_is g c (limit_of bus.state c) bytes l b.ready.quiet b.ready.laid.number in
+      let ring = submit_ring_is g c (limit_of bus.state c) bytes l ready.quiet ready.laid.number in
       let w' = world_of (alone run sent) bus 0 0 0 [] mem in
       let put = b.sub.mem ∙ ap (λ r. with_submission b.sub.ready r (entry sent)) ring in
       let happens : Happens t (Submit sent) w w' = (
         may,
         b.sub.ready,
-        rw b.ready.page_size at b.sub.prepared,
-        same_world (alone run sent) 0 0 0 [] mem refl b.ready.bank
+        rw ready.page_size at b.sub.prepared,
+        same_world (alone run sent) 0 0 0 [] mem refl ready.bank
             ∙ ap (λ m. record w { mem = m; sent = sent ∷ [] }) put,
       ) in
       record {
-        begun = subst (λ n. IsReady g bus c l n bytes) b.ready.page_size b.ready;
-        page_size = b.ready.page_size;
+        begun = subst (λ n. IsReady g bus c l n bytes) ready.page_size ready;
+        page_size = ready.page_size;
         size = b.size;
         keeps = submit_keeps t bus.state sent w w' keeps happens;
         others = submit_others t bus.state 0 bytes sent w w' keeps (others_now t w) happens;
-        lawful = b.ready.bus;
+        lawful = ready.bus;
         banks = sym (set-get_or bus.banks c new_bank);
         pair = b.sub.pair ∙ pairs_same (ap submitted_one ring
             ∙ ap (λ n. record (submit_ring t 0 0) { submitted = n }) (number_next t 0))
-            (collect_ring_is g c (limit_of bus.state c) bytes l b.ready.quiet b.ready.laid.number) refl refl;
+            (collect_ring_is g c (limit_of bus.state c) bytes l ready.quiet ready.laid.number) refl refl;
       }
 
   -- ---- the end
@@ -176,12 +171,12 @@ module _ {g : Geometry} {bus : BusValue} {c : ℕ} {l : QueuePairFields} {bytes 
         ready_after run 1 u.begun pair_is u.page_size u.size u.keeps.tags (has_bank u) u.lawful u.keeps.bank
 
     pub page_is : now' ≡ now
-    page_is = by.alone.page_size ∙ sym b.ready.page_size
+    page_is = by.alone.page_size ∙ sym ready.page_size
 
     -- what lies before the request's pages and outside of the queue pair stays
-    pub others_stay : KeepsBelow (first * g.page_size) g.page_size (pair_value l) bytes after
+    pub others_stay : KeepsBelow (at.first * g.page_size) g.page_size (pair_value l) bytes after
     others_stay from n low apart =
-        let laid = b.ready.laid in
+        let laid = ready.laid in
         by.alone.others.same from n (record {
           submissions = aside l.submission.base (64 * l.submission.depth)
               (omega (arith, laid.rings, laid.pages, from_first)) (omega arith);
@@ -189,7 +184,7 @@ module _ {g : Geometry} {bus : BusValue} {c : ℕ} {l : QueuePairFields} {bytes 
               (omega (arith, laid.pages, from_first)) (omega (arith, laid.rings));
           pages = λ i d from_zero h. let zero : i ≡ 0 = omega arith in
               subst (λ j. AreOutside g.page_size (get_or (sent ∷ []) j d) from n) (sym zero)
-              (outside_before g.page_size first sent from n b.behind low);
+              (outside_before g.page_size at.first sent from n b.can.first low);
         })
       where
         from_first : l.pages.first * g.page_size ≤ (l.pages.first + l.pages.count) * g.page_size
@@ -197,35 +192,35 @@ module _ {g : Geometry} {bus : BusValue} {c : ℕ} {l : QueuePairFields} {bytes 
 
         aside : (base size : ℕ) → base + size ≤ (l.pages.first + l.pages.count) * g.page_size
             → l.submission.base ≤ base → IsApart base size from n
-        aside base size high low = let laid = b.ready.laid in grind (arith, apart, laid.rings, laid.pages)
+        aside base size high low = let laid = ready.laid in grind (arith, apart, laid.rings, laid.pages)
 
     -- what comes is received
-    pub received_by : (n : ℕ) {m : Transfer} {size : ℕ} {out : List ℕ} → m ≡ transfer_for e → size ≡ g.page_size
+    received_by : (n : ℕ) {size : ℕ} {out : List ℕ} → size ≡ g.page_size
         → out ≡ padded n (came_with completion.status
         (received_from m after (buffer_places size at.pages at.offset (length_of m))))
         → IsReceived (asked_in bus.state c e given) (entry_step bus.state c e given l.serial).answer out
-    received_by n {m} {size} {out} same page filled =
+    received_by n {size} {out} page filled =
         let bytes = bytes_read g.page_size sent after in
         let came = came_with completion.status bytes in
-        let is : out ≡ padded n came = rw (same, page) at filled in
+        let is : out ≡ padded n came = rw (b.can.transfer, page) at filled in
         let long : length out ≡ n = ap (λ (xs : List ℕ). length xs) is ∙ length-padded n came in
         record {
           came = came;
           comes = comes_by sent.request.asked (step_of c bus.state (numbered sent)).answer completion.status bytes
-              by.answer.status (answer_sound sent.request.asked bus.state c e.nsid l.serial b.ready.bus.state)
+              by.answer.status (answer_sound sent.request.asked bus.state c e.nsid l.serial ready.bus.state)
               by.answer.bytes;
           filled = is ∙ ap (λ k. padded k came) (sym long);
         }
 
     -- all that is left of it
-    pub exchanged : (n : ℕ) {m : Transfer} {out : List ℕ} → m ≡ transfer_for e
+    pub exchanged : (n : ℕ) {out : List ℕ}
         → out ≡ padded n (came_with completion.status
         (received_from m after (buffer_places now' at.pages at.offset (length_of m))))
-        → IsExchanged g c e given first (side bus l now bytes) (side bus' q' now' after)
+        → IsExchanged g c e given at.first (side bus l now bytes) (side bus' q' now' after)
         (told completion.command_specific completion.status) out
-    exchanged n same filled = record {
+    exchanged n filled = record {
       answer = told_is;
-      received = received_by n same (page_is ∙ b.ready.page_size) filled;
+      received = received_by n (page_is ∙ ready.page_size) filled;
       state = state_is;
       ready = ready_again;
       banks = by.alone.banks;
@@ -258,7 +253,8 @@ module _ {g : Geometry} {bus : BusValue} {c : ℕ} {l : QueuePairFields} {bytes 
   has_slot full =
       let t = setting_of (run_of g c bus l bytes []) in
       let deep = ready.laid.deep in
-      let is = subst IsSubmitFull (submit_ring_is g c (limit_of bus.state c) bytes l ready.quiet ready.laid.number) full in
+      let is = subst IsSubmitFull
+      (submit_ring_is g c (limit_of bus.state c) bytes l ready.quiet ready.laid.number) full in
       let far = number_above t 0 0 (omega (arith, deep.0)) (omega arith) (omega (arith, deep.0)) in
       omega (arith, is, far, deep.0)
 
@@ -273,51 +269,44 @@ module _ {g : Geometry} {bus : BusValue} {c : ℕ} {l : QueuePairFields} {bytes 
 
 -- ---- where its data lies
 
-pub count_as : {first count pages : ℕ} {numbers : List ℕ} → pages ≡ count → length numbers ≡ 259 → count ≤ 257
-    → ((i : ℕ) → i < count + 2 → slice_index numbers i ≡ first + i) → AreFrom first pages numbers
-count_as same long few each = rw same (record { each = each; long = omega (arith, long, few) })
-
 abbrev pub list_at : List ℕ → ℕ → ListPlace
 list_at numbers offset =
     record { first = slice_index numbers 0; second = slice_index numbers 1; offset = offset }
 
-pub place_by : {g : Geometry} {first count len offset now : ℕ} {numbers pages mem : List ℕ} {list : ListPlace}
-    → IsGeometry g → now ≡ g.page_size → AreFrom first count numbers → pages ≡ take count (drop 2 numbers)
-    → offset ≡ g.offset → list ≡ list_at numbers g.list_offset → g.offset + len ≤ count * g.page_size
-    → count + 2 ≤ pages_of_entry g.page_size
-    → (first + pages_of_entry g.page_size) * g.page_size ≤ length mem
-    → IsPlaceFor mem now (place_in pages offset list) len
-place_by {g} {first} {count} {len} {offset} {now} {numbers} {pages} {mem} is page are of_data begins of_list enough few
-    inside =
-    rw (of_data, begins, of_list) (place_is g first count len now numbers mem is page are enough few inside)
+-- an entry can be exchanged, with its data in pages from one on
+pub can_exchange : {g : Geometry} {c first count : ℕ} {e : Sqe} {m : Transfer} {offset : ℕ} {numbers pages : List ℕ}
+    {list : ListPlace} {bus : BusValue} {l : QueuePairFields} {now : ℕ} {bytes : List ℕ}
+    → IsReady g bus c l now bytes → SqeFits e → m ≡ transfer_for e → HasRoom m → length_of m ≤ greatest_limit
+    → ArePages first count numbers
+    → pages ≡ take count (drop 2 numbers) → offset ≡ g.offset → list ≡ list_at numbers g.list_offset
+    → g.offset + length_of m ≤ count * g.page_size → count + 2 ≤ pages_of_entry g.page_size
+    → (first + pages_of_entry g.page_size) * g.page_size ≤ length bytes → l.pages.first + l.pages.count ≤ first
+    → CanExchange g c e m (place_in pages offset list) (side bus l now bytes)
+can_exchange {g} {first = first} {count = count} {m = m} {numbers = numbers} {now = now} {bytes = bytes}
+    ready fits same room small are of_data begins of_list enough few inside last =
+    rw (of_data, begins, of_list) (record {
+      ready = ready;
+      fits = fits;
+      transfer = same;
+      room = room;
+      few = small;
+      place = place_is g first count (length_of m) now numbers bytes ready.geometry ready.page_size are enough few
+          inside;
+      first = λ i d h. omega (
+        arith,
+        are.each 0 (omega arith),
+        page_at first count numbers are i d (omega (arith, length-pages first count numbers are, h)),
+      );
+      last = omega (arith, last, are.each 0 (omega arith));
+    })
 
-pub behind_by : {first count : ℕ} {numbers pages : List ℕ} {list : ListPlace} {offset : ℕ} → AreFrom first count numbers
-    → pages ≡ take count (drop 2 numbers) → list ≡ list_at numbers offset
-    → (i d : ℕ) → i < length (list.first ∷ list.second ∷ pages) → first ≤ get_or (list.first ∷ list.second ∷ pages) i d
-behind_by {first} {count} {numbers} are of_data of_list =
-    rw (of_data, of_list) (λ i d h. omega (
-      arith,
-      page_at first count numbers are i d
-          (omega (arith, length-pages first count numbers are, h)),
-    ))
-
+-- it was submitted, under a limit by another name
 pub begun_by : {g : Geometry} {bus : BusValue} {c : ℕ} {l : QueuePairFields} {bytes : List ℕ} {e : Sqe} {given : List ℕ}
-    {at : EntryPlace} {first now limit : ℕ} {l' : QueuePairFields} {mem : List ℕ} → IsReady g bus c l now bytes
-    → SqeFits e → IsPlaceFor bytes now at (length_of (transfer_for e)) → limit ≡ limit_of bus.state c
-    → IsEntrySubmitted now at (request_for limit e given) l l' bytes mem
-    → length mem ≡ length bytes
-    → ((i d : ℕ) → i < length (at.first ∷ at.second ∷ at.pages)
-    → first ≤ get_or (at.first ∷ at.second ∷ at.pages) i d)
-    → l.pages.first + l.pages.count ≤ first → IsBegun g bus c l bytes e given at first now l' mem
-begun_by ready fits place same sub size behind last = record {
-  ready = ready;
-  fits = fits;
-  place = place;
-  sub = rw same at sub;
-  size = size;
-  behind = behind;
-  last = last;
-}
+    {m : Transfer} {at : EntryPlace} {now limit : ℕ} {l' : QueuePairFields} {mem : List ℕ}
+    → CanExchange g c e m at (side bus l now bytes) → limit ≡ limit_of bus.state c
+    → IsEntrySubmitted now at (request_for limit e given) l l' bytes mem → length mem ≡ length bytes
+    → IsBegun g bus c l bytes e given m at now l' mem
+begun_by can same sub size = record { can = can; sub = rw same at sub; size = size }
 
 -- a buffer of a memory is one of a later memory of the same size
 pub buffer_later : {old new pages : List ℕ} {size size' from len : ℕ} → length new ≡ length old → size' ≡ size

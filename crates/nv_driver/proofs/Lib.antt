@@ -9,6 +9,7 @@ pub mod RoundLaws
 pub mod EndLaws
 pub mod AdminLaws
 pub mod PassthroughLaws
+pub mod LinkedLaws
 pub mod CountLaws
 pub mod RegionLaws
 pub mod DataLaws

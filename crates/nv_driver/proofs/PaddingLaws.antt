@@ -1,5 +1,6 @@
 -- Bytes with zeros after them.
-use Rattle.std.proofs.Common.{◌≡◌, ◌∙◌, ℕ, ◌+◌, ◌<◌, ◌≤◌, ◌++◌, List, ap, arith, get_or, inl, inr, length, length-append}
+use Rattle.std.proofs.Common.{◌≡◌, ◌∙◌, ℕ, ◌+◌, ◌<◌, ◌≤◌, ◌++◌, List, ap, arith, get_or, inl, inr, length}
+use Rattle.std.proofs.Common.{length-append}
 use Rattle.std.proofs.Common.{length-take, replicate, set, sym}
 use Rattle.std.proofs.lemmas.Bool.{cases_eq, cases_lt}
 use Rattle.std.proofs.lemmas.Grind.{same_number_lists}

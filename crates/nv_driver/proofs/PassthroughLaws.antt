@@ -1,14 +1,17 @@
 -- An entry of a driver, over the queue pairs of its controllers and the pages behind them.
 use Rattle.std.proofs.Common.{◌≡◌, ◌∙◌, ℕ, ◌+◌, ◌*◌, ◌<◌, ◌≤◌, ◌^◌, List, ap, arith, get_or, length, map, subst, sym}
+use Rattle.std.specs.Prelude.{slice_set}
 use Rattle.std.proofs.Math.Nat.{mul-le-mul_right}
 use Rattle.std.proofs.lemmas.List.{length-map}
 use Rattle.std.proofs.lemmas.List.FromFn.{length-map-range_with_len}
 use Rattle.nv_host.specs.Pages.{PagedBytes}
 use Rattle.std.proofs.Math.ListN.{length-set}
 use Rattle.nv_driver.specs.Exchange.{after_one}
-use Rattle.nv_driver.specs.Driver.{HasEntryPages, IsDriver, after_command, driver_value, driver_with, no_pair, page_count, pair_at}
+use Rattle.nv_driver.specs.Driver.{HasEntryPages, IsDriver, after_command, after_reset, driver_value}
+use Rattle.nv_driver.specs.Driver.{driver_with, no_pair}
+use Rattle.nv_driver.specs.Driver.{page_count, pair_at}
 use Rattle.nv_driver.specs.Layout.{pages_of, pages_of_entry, pair_of, pair_pages}
-use Rattle.nv_driver.specs.QueuePair.{QueuePair}
+use Rattle.nv_driver.specs.QueuePair.{QueuePair, renewed_pair}
 use Rattle.nv_driver.specs.Quiet.{pair_value}
 use Rattle.nv_driver.specs.Settled.{DriverValue, end_of}
 use Rattle.nv_driver.specs.declared.geometry.Geometry.{Geometry}
@@ -58,11 +61,18 @@ pub count_is : (g : Geometry) (mem : PagedBytes) (ls : List QueuePairFields) {d 
     → driver_value g mem ls ≡ d → n ≡ length d.pairs → n ≡ length ls
 count_is g mem ls value many = many ∙ ap (λ (v : DriverValue). length v.pairs) (sym value) ∙ length-map ls pair_value
 
--- the pages of an entry stay
-pub room_stays : (d : DriverValue) (c : ℕ) → HasEntryPages d → HasEntryPages (after_command d c)
-room_stays d c room =
+-- the pages of an entry stay, whatever becomes of a queue pair
+room_stays_set : (d : DriverValue) (c : ℕ) (l : QueuePair) → HasEntryPages d
+    → HasEntryPages (record d { pairs = slice_set d.pairs c l })
+room_stays_set d c l room =
     subst (λ n. pages_of d.geometry n + pages_of_entry d.geometry.page_size ≤ d.pages)
-    (sym (length-set d.pairs c (after_one (pair_at d.pairs c)))) room
+    (sym (length-set d.pairs c l)) room
+
+pub room_stays : (d : DriverValue) (c : ℕ) → HasEntryPages d → HasEntryPages (after_command d c)
+room_stays d c = room_stays_set d c (after_one (pair_at d.pairs c))
+
+pub room_stays_reset : (d : DriverValue) (c : ℕ) → HasEntryPages d → HasEntryPages (after_reset d c)
+room_stays_reset d c = room_stays_set d c (renewed_pair (pair_at d.pairs c))
 
 pub has_pages : (g : Geometry) (n : ℕ) → HasEntryPages (driver_with g n (pages_of_entry g.page_size))
 has_pages g n =

@@ -1,5 +1,6 @@
 -- A command whose pages were made ready: what a controller finds of its entry.
-use Rattle.std.proofs.Common.{◌≡◌, ◌∙◌, ◌^◌, ℕ, refl, inl, inr, ◌+◌, ◌*◌, ◌<◌, ◌≤◌, List, Err, Ok, Result, ap, arith, length}
+use Rattle.std.proofs.Common.{◌≡◌, ◌∙◌, ◌^◌, ℕ, refl, inl, inr, ◌+◌, ◌*◌, ◌<◌, ◌≤◌, List, Err, Ok, Result, ap, arith}
+use Rattle.std.proofs.Common.{length}
 use Rattle.std.proofs.Common.{sym}
 use Rattle.std.proofs.Math.Nat.{mul-le-mul_right}
 use Rattle.std.proofs.lemmas.Bool.{cases_lt}
@@ -18,7 +19,7 @@ use Rattle.nv_command.specs.declared.transfer.Transfer.TheVariants.{FromHost, No
 use Rattle.nv_layout.specs.Steps.{◌>>=◌}
 use Rattle.nv_bus.specs.Call.{Call, HasRoom, call_of, data_places, length_of, moves_of, places_of, sent_from, within}
 use Rattle.nv_bus.proofs.CallLaws.{legal_places, no_places}
-use Rattle.nv_driver.specs.Layout.{pages_of_command, pages_of_entry}
+use Rattle.nv_driver.specs.Layout.{pages_for, pages_of_command, pages_of_entry}
 use Rattle.nv_driver.specs.Request.{Asked, IsRequest}
 use Rattle.nv_driver.specs.Schedule.{HoldsSent, Sent, Setting, StaysNamed, data_length, entry, places}
 use Rattle.nv_driver.specs.Schedule.{pointed}
@@ -30,7 +31,7 @@ use Rattle.nv_driver.proofs.RegionLaws.{length-places}
 -- in how many pages so many bytes lie
 pub enough_of : (greatest from len size pages : ℕ) → IsPageSize size → from < size → len ≤ greatest
     → pages ≡ div_ceil (from + len) size
-    → (from + len ≤ pages * size) × (pages + 2 ≤ div_ceil greatest size + 3)
+    → (from + len ≤ pages * size) × (pages + 2 ≤ pages_for greatest size)
 enough_of greatest from len size pages is low most same =
     let some : 0 < size = omega (arith, page_size_bounds size is) in
     let all = div_ceil_times (from + len) size some in
@@ -45,11 +46,6 @@ enough_of greatest from len size pages is low most same =
           | inl l ↦ omega arith
           | inr g ↦ absurd (omega (arith, mul-le-mul_right size g))
         ]
-
-pub enough_pages : (from len size pages : ℕ) → IsPageSize size → from < size → len ≤ 16384
-    → pages ≡ div_ceil (from + len) size
-    → (from + len ≤ pages * size) × (pages + 2 ≤ pages_of_command size)
-enough_pages = enough_of 16384
 
 pub entry_pages_few : (size : ℕ) → IsPageSize size → pages_of_entry size ≤ 259
 entry_pages_few size is =
@@ -152,5 +148,6 @@ entry_call t x mem can cid stays holds =
     (λ some. legal_places (pointed t.page_size x mem) at (names.0 some) (sym names.1)) in
     in_order (transfer_of (entry x)) t.limit t.page_size mem (entry x)
     ∙ call_by (moves_of t.limit (entry x)) (entry x) at x.request.sends t.page_size mem x.request.asked
-    (λ m is. let same : x.request.transfer ≡ m = can.transfer x.cid x.prp1 x.prp2 m cid is in rw (← same) (found, holds))
+    (λ m is. let same : x.request.transfer ≡ m = can.transfer x.cid x.prp1 x.prp2 m cid is in
+    rw (← same) (found, holds))
     (can.asked x.cid x.prp1 x.prp2 cid)

@@ -50,7 +50,8 @@ pub submit_ring_is : (g : Geometry) (c limit : ℕ) (bytes : List ℕ) (l : Queu
     → l.submission.submitted < 2 * l.submission.depth
     → l.submission ≡ submit_ring (setting g c limit (pair_value l)) 0 0
 submit_ring_is g c limit bytes l quiet below =
-    rw (← number_zero (setting g c limit (pair_value l)) below) (ap (λ n. record l.submission { known = n }) quiet.known)
+    rw (← number_zero (setting g c limit (pair_value l)) below)
+    (ap (λ n. record l.submission { known = n }) quiet.known)
 
 pub collect_ring_is : (g : Geometry) (c limit : ℕ) (bytes : List ℕ) (l : QueuePairFields) → IsQuiet l
     → l.submission.submitted < 2 * l.submission.depth

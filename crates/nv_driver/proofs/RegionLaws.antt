@@ -210,8 +210,8 @@ pub completion_stays : (t : Setting) (x : Sent) (old new : List ℕ) (s : ℕ)
     → IsApart t.sq (64 * t.depth) t.cq (16 * t.depth) → s < t.depth
     → completion_at new t.cq s ≡ completion_at old t.cq s
 completion_stays t x old new s only outside rings below =
-    ap cqe_of_bytes (part_keeps t x old new t.sq (64 * t.depth) t.cq (16 * t.depth) (t.cq + 16 * s) 16 only outside rings
-    (omega arith) (omega arith))
+    ap cqe_of_bytes (part_keeps t x old new t.sq (64 * t.depth) t.cq (16 * t.depth) (t.cq + 16 * s) 16
+    only outside rings (omega arith) (omega arith))
 
 pub submission_stays : (t : Setting) (x : Sent) (old new : List ℕ) (s : ℕ)
     → ChangesOnlyAt t x t.cq (16 * t.depth) old new → AreOutside t.page_size x t.sq (64 * t.depth)

@@ -33,7 +33,8 @@ is_request limit k enough can =
     record {
       fits = zero_id.fits;
       room = room_of m (shape k can.sends);
-      transfer = λ cid p q n low is. same_moves (moves_of limit (entry_as (request_of k) cid p q)) m n (moves cid p q low) is;
+      transfer = λ cid p q n low is.
+          same_moves (moves_of limit (entry_as (request_of k) cid p q)) m n (moves cid p q low) is;
       asked = λ cid p q low. let e = entry_as (request_of k) cid p q in
           ap (λ (r : Result Transfer StatusCode). r >>= (λ _. command_of e (request_of k).sends)) (moves cid p q low)
           ∙ (commands_travel k cid can.fits low).command p q;

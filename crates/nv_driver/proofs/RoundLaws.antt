@@ -32,8 +32,8 @@ pub bank_set : (banks : List RegisterBank) (c : ℕ) (p : RegisterBank) → c < 
     → bank_at (slice_set banks c p) c ≡ p
 bank_set banks c p below = get_or-set_same banks c p new_bank below
 
-pub banks_long : (banks new : List RegisterBank) (c : ℕ) (p : RegisterBank) → c < length banks → new ≡ slice_set banks c p
-    → c < length new
+pub banks_long : (banks new : List RegisterBank) (c : ℕ) (p : RegisterBank)
+    → c < length banks → new ≡ slice_set banks c p → c < length new
 banks_long banks new c p below is =
     let size = ap (λ (x : List RegisterBank). length x) is ∙ length-set banks c p in omega arith
 

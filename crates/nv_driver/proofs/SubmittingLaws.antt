@@ -15,6 +15,7 @@ use Rattle.nv_prp.specs.Transfer.{transfer}
 use Rattle.nv_command.specs.Command.{bytes_from_host}
 use Rattle.nv_driver.specs.CommandPages.{AreTaken, all_pages, data_pages}
 use Rattle.nv_driver.specs.Geometry.{IsGeometry}
+use Rattle.nv_driver.specs.Layout.{pages_of_command}
 use Rattle.nv_bus.specs.Call.{sent_from}
 use Rattle.nv_driver.specs.Schedule.{AreOutside, IsPrepared, Sent, StaysNamed, data_length, own_pages, places, pointed}
 use Rattle.nv_driver.specs.declared.command_pages.CommandPages.{CommandPages}
@@ -22,7 +23,7 @@ use Rattle.nv_driver.specs.declared.geometry.Geometry.{Geometry}
 use Rattle.nv_driver.specs.declared.queue_pair.QueuePair.{QueuePair as QueuePairFields}
 use Rattle.nv_driver.proofs.DataLaws.{ArePlaces, sent_back}
 use Rattle.nv_driver.proofs.RegionLaws.{written_list}
-use Rattle.nv_driver.proofs.PointerLaws.{stays_in}
+use Rattle.nv_driver.proofs.PointerLaws.{seven_pages, stays_in}
 use Rattle.nv_driver.proofs.RegionLaws.{buffer_data, data_keeps}
 
 -- two, and the rest
@@ -55,9 +56,15 @@ pub record Has (s : Pages) (p : CommandPages) (page_size size : ℕ) : Type 0 wh
   pub taken : AreTaken s (all_pages p)
   pub inside : (s.first + s.count) * page_size ≤ size
 
-pub has_taken : {s : Pages} {p : CommandPages} {n page_size size : ℕ} → p.data_pages ≡ n → n ≤ 5
-    → length p.numbers ≡ 7 → AreTaken s (all_pages p) → (s.first + s.count) * page_size ≤ size → Has s p page_size size
-has_taken count few seven taken inside = record { seven = seven; few = rw count few; taken = taken; inside = inside }
+pub has_taken : {s : Pages} {p : CommandPages} {n page_size size : ℕ} → IsPageSize page_size → p.data_pages ≡ n
+    → n + 2 ≤ pages_of_command page_size → length p.numbers ≡ 7 → AreTaken s (all_pages p)
+    → (s.first + s.count) * page_size ≤ size → Has s p page_size size
+has_taken {page_size = page_size} is count few seven taken inside = record {
+  seven = seven;
+  few = omega (arith, count, few, seven_pages page_size is);
+  taken = taken;
+  inside = inside;
+}
 
 each_inside : (s : Pages) (p : CommandPages) (page_size : ℕ) (bytes : List ℕ) → Has s p page_size (length bytes)
     → All (λ page. HasPage bytes page_size page) (slice_index p.numbers 0 ∷ slice_index p.numbers 1 ∷ data_pages p)
@@ -131,7 +138,8 @@ built_by size x old built page_size now len page after is_len first second stays
 
 -- and where what the host sends was written, the command is prepared
 pub prepared_by : (page_size : ℕ) (x : Sent) (old built new : List ℕ) → IsPageSize page_size
-    → length x.request.sends ≡ bytes_from_host x.request.transfer → IsBuffer old page_size x.pages x.offset (data_length x)
+    → length x.request.sends ≡ bytes_from_host x.request.transfer
+    → IsBuffer old page_size x.pages x.offset (data_length x)
     → AreDistinct (own_pages x) → IsBuilt page_size x old built
     → new ≡ written_at built (places page_size x) x.request.sends
     → IsPrepared page_size x old new

@@ -160,9 +160,8 @@ module _ {r : Run} {bells turns : ℕ} {b : Batch} {l l' : QueuePairFields} {now
       let g = r.geometry in
       let laid = u.begun.laid in
       let c = counts u in
-      let has : Has l.pages o g.page_size (length bytes) = has_taken refl (omega
-      (arith, sub.few, seven_pages g.page_size u.begun.geometry.page_size)) sub.seven
-      sub.taken (still_inside u) in
+      let has : Has l.pages o g.page_size (length bytes) = has_taken u.begun.geometry.page_size refl
+      sub.few sub.seven sub.taken (still_inside u) in
       record {
         free = omega (arith, more, u.sent, u.collected, u.begun.geometry.window.2, u.begun.depth);
         can = is_request (limit_of r.bus.state r.controller) k (limit_bounds r.bus.state r.controller

@@ -1,11 +1,12 @@
 -- A request of a controller on its way alone, over a queue pair of which no command is outstanding.
-use Rattle.std.specs.Prelude.{◌≡◌, ℕ, ◌+◌, ◌-◌, ◌*◌, ◌≤◌, List, [], ◌∷◌, Ok, if◌then◌else◌, length}
+use Rattle.std.specs.Prelude.{◌≡◌, ℕ, ◌+◌, ◌-◌, ◌*◌, ◌<◌, ◌≤◌, List, [], ◌∷◌, Ok, get_or, if◌then◌else◌, length}
 use Rattle.std.specs.Prelude.{slice_set}
 use Rattle.nv_host.specs.Bytes.{bytes_at}
 use Rattle.nv_host.specs.Pages.{IsPageSize}
 use Rattle.nv_layout.specs.declared.cqe.Cqe.{Cqe}
 use Rattle.nv_layout.specs.declared.sqe.Sqe.{Sqe}
 use Rattle.nv_layout.specs.declared.status.Status.{Status}
+use Rattle.nv_layout.specs.Sqe.{SqeFits}
 use Rattle.nv_prp.specs.Buffer.{IsApart, IsBuffer, IsListPlace}
 use Rattle.nv_prp.specs.Place.{AreDistinct}
 use Rattle.nv_prp.specs.declared.builder.ListPlace.{ListPlace}
@@ -15,10 +16,12 @@ use Rattle.nv_command.specs.Logs.{without_phases}
 use Rattle.nv_command.specs.Reply.{data_of}
 use Rattle.nv_command.specs.declared.reply.Reply.{Reply}
 use Rattle.nv_register.specs.declared.register_bank.RegisterBank.{RegisterBank}
-use Rattle.nv_model.specs.Limit.{limit_of}
+use Rattle.nv_command.specs.declared.transfer.Transfer.{Transfer}
+use Rattle.nv_model.specs.Limit.{greatest_limit, limit_of}
 use Rattle.nv_model.specs.State.{State}
 use Rattle.nv_model.specs.Step.{Step, next_serial}
 use Rattle.nv_bus.specs.Bus.{BusValue, IsBus, bank_at}
+use Rattle.nv_bus.specs.Call.{HasRoom, length_of}
 use Rattle.nv_bus.specs.Entry.{asked_step, told_by}
 use Rattle.nv_bus.specs.declared.told.Told.{Told}
 use Rattle.nv_driver.specs.Answer.{Answer}
@@ -27,7 +30,7 @@ use Rattle.nv_driver.specs.Keeping.{Keeps, OthersStay}
 use Rattle.nv_driver.specs.QueuePair.{QueuePair}
 use Rattle.nv_driver.specs.Quiet.{pair_value}
 use Rattle.nv_driver.specs.declared.geometry.Geometry.{Geometry}
-use Rattle.nv_driver.specs.Request.{Asked, Request, padded, request_for}
+use Rattle.nv_driver.specs.Request.{Asked, Request, padded, request_for, transfer_for}
 use Rattle.nv_driver.specs.Schedule.{IsPrepared, Sent, World, collect_ring}
 use Rattle.nv_driver.specs.Schedule.{IsAnswered, is_success, entry, numbered, step_of, submit_ring}
 use Rattle.nv_driver.specs.Settled.{end_of}
@@ -79,12 +82,20 @@ place_in pages offset list = record {
   list_offset = list.offset;
 }
 
+-- all its pages
+abbrev pub pages_at : EntryPlace → List ℕ
+pages_at at = at.first ∷ at.second ∷ at.pages
+
+-- none of them lies before this one
+abbrev pub AreFrom : ℕ → EntryPlace → Type 0
+AreFrom first at = (i d : ℕ) → i < length (pages_at at) → first ≤ get_or (pages_at at) i d
+
 -- so many bytes lie there, and a list may, in pages of the memory of which no two are one
 pub record IsPlaceFor (mem : List ℕ) (page_size : ℕ) (at : EntryPlace) (len : ℕ) : Type 0 where
   pub is_size : IsPageSize page_size
   pub buffer : IsBuffer mem page_size at.pages at.offset len
   pub list : IsListPlace mem page_size at.first at.second at.list_offset
-  pub distinct : AreDistinct (at.first ∷ at.second ∷ at.pages)
+  pub distinct : AreDistinct (pages_at at)
 
 abbrev pub sent_at : EntryPlace → Request → (cid prp1 prp2 : ℕ) → Sent
 sent_at at q cid prp1 prp2 = record {
@@ -186,6 +197,19 @@ pub record Side : Type 0 where
 
 abbrev pub side : BusValue → QueuePairFields → ℕ → List ℕ → Side
 side bus pair now bytes = record { bus = bus; pair = pair; now = now; bytes = bytes }
+
+-- an entry can be exchanged over a quiet queue pair, with its data at a place whose first page is the
+-- list's, behind the queue pair
+pub record CanExchange (g : Geometry) (c : ℕ) (e : Sqe) (m : Transfer) (at : EntryPlace)
+    (old : Side) : Type 0 where
+  pub ready : IsReady g old.bus c old.pair old.now old.bytes
+  pub fits : SqeFits e
+  pub transfer : m ≡ transfer_for e
+  pub room : HasRoom m
+  pub few : length_of m ≤ greatest_limit
+  pub place : IsPlaceFor old.bytes old.now at (length_of m)
+  pub first : AreFrom at.first at
+  pub last : old.pair.pages.first + old.pair.pages.count ≤ at.first
 
 -- an entry was sent with the bytes that the host had to send, and its data in pages from one on: what
 -- was told and received, and what is left

@@ -23,15 +23,18 @@ most_bytes = 16384
 abbrev pub most_data_pages : ℕ
 most_data_pages = 5
 
--- the most pages of one command: those of its data, one more where they begin inside a page, and
--- two of a PRP list that begins inside a page
-abbrev pub pages_of_command : ℕ → ℕ
-pages_of_command page_size = div_ceil most_bytes page_size + 3
+-- the most pages of so many bytes: one more where they begin inside a page, and two of a PRP list that
+-- begins inside a page
+abbrev pub pages_for : ℕ → ℕ → ℕ
+pages_for most page_size = div_ceil most page_size + 3
 
--- the most pages of an entry that is sent as it is: of the most bytes that a controller moves for one,
--- one more where they begin inside a page, and two of a PRP list
+-- of one command
+abbrev pub pages_of_command : ℕ → ℕ
+pages_of_command = pages_for most_bytes
+
+-- of an entry that is sent as it is: for the most bytes that a controller moves for one
 abbrev pub pages_of_entry : ℕ → ℕ
-pages_of_entry page_size = div_ceil greatest_limit page_size + 3
+pages_of_entry = pages_for greatest_limit
 
 -- of all outstanding commands
 unfoldable pub set_pages : Geometry → ℕ

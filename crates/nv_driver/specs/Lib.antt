@@ -18,3 +18,4 @@ pub mod UnderWay
 pub mod Alone
 pub mod Pace
 pub mod Driver
+pub mod Linked

@@ -7,6 +7,7 @@ ghost use Rattle.nv_driver.specs.CommandPages.{AreTaken, all_pages, data_pages};
 ghost use Rattle.nv_driver.specs.CommandPages.{with_pages, without};
 ghost use Rattle.nv_driver.specs.Layout.{most_data_pages};
 
+use crate::data_place::{buffer_in, list_in};
 use nv_host::{PageNo, PageSet};
 use nv_prp::{Buffer, ListPlace};
 
@@ -28,6 +29,7 @@ impl CommandPages {
         requires few { data_pages ≤ most_data_pages }
         requires enough { data_pages + 2 ≤ set.len free.old.members }
         ensures count { result.data_pages ≡ data_pages }
+        ensures few { result.data_pages ≤ most_data_pages }
         ensures seven { length result.numbers ≡ 7 }
         ensures taken { AreTaken free.old (all_pages result) }
         ensures set { free.new ≡ without free.old (all_pages result) }
@@ -63,10 +65,7 @@ impl CommandPages {
         ensures pages { result.pages.now ≡ data_pages self.now }
         ensures offset { result.offset ≡ offset }
     {
-        Buffer {
-            pages: &self.numbers[2..2 + self.data_pages],
-            offset,
-        }
+        buffer_in(&self.numbers, self.data_pages, offset)
     }
 
     /// Where a list may lie, from an offset in bytes on.
@@ -77,10 +76,6 @@ impl CommandPages {
           offset = offset;
         } }
     {
-        ListPlace {
-            first: self.numbers[0],
-            second: self.numbers[1],
-            offset,
-        }
+        list_in(&self.numbers, offset)
     }
 }

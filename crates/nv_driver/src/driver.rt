@@ -153,6 +153,7 @@ impl Driver {
         ensures state { (B.meaning bus.new).state ≡ reset (B.meaning bus.old).state ctrl }
         ensures bus { IsBus (B.meaning bus.new) }
         ensures driver { self.new ≡ after_reset self.old ctrl }
+        ensures entries { HasEntryPages self.old → HasEntryPages self.new }
         ensures left { (B.meaning bus.new).banks ≡ banks_of self.new }
     {
         let pair = &mut self.pairs[ctrl as usize];

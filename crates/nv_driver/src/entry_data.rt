@@ -10,16 +10,13 @@ ghost use Rattle.nv_driver.specs.Alone.{came_with};
 ghost use Rattle.nv_driver.specs.Request.{padded, sent_for, transfer_for};
 ghost use Rattle.nv_driver.specs.Schedule.{received_from};
 
+use crate::layout::MOST_ENTRY_BYTES;
 use crate::padding::{pad, zero_from};
 use crate::scratch::Scratch;
 use nv_command::Transfer;
 use nv_host::HostMemory;
 use nv_layout::{Sqe, Status};
 use nv_prp::{Buffer, Spans, copy_in, copy_out};
-
-/// The most bytes that a controller moves for one command: its MDTS is 8 at most. Section "Identify
-/// Controller data structure".
-const MOST_BYTES: u64 = 1_048_576;
 
 /// Which way the data of an entry goes, and how many bytes: none where a controller refuses the
 /// entry before it reads the data pointer.
@@ -31,7 +28,7 @@ pub(crate) fn transfer_for(entry: &Sqe) -> Transfer
     let Ok(transfer) = Transfer::of(entry) else {
         return Transfer::NoData;
     };
-    if bytes_of(transfer) <= MOST_BYTES {
+    if bytes_of(transfer) <= u64::from(MOST_ENTRY_BYTES) {
         transfer
     } else {
         Transfer::NoData

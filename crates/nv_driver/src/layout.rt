@@ -1,16 +1,18 @@
 //! Where each controller's rings and pages lie in the host's memory.
 
-ghost use Rattle.std.specs.Prelude.{◌≡◌, ◌+◌, ◌^◌, ◌<◌, ◌≤◌, if◌then◌else◌};
+ghost use Rattle.std.specs.Prelude.{◌≡◌, ℕ, ◌+◌, ◌*◌, ◌^◌, ◌<◌, ◌≤◌, if◌then◌else◌};
+ghost use Rattle.nv_model.specs.Limit.{greatest_limit};
 ghost use Rattle.nv_driver.specs.Layout.{completion_pages, pages_of_entry, pair_of, pair_pages, pages_of};
-ghost use Rattle.nv_driver.specs.Layout.{set_pages, submission_pages};
+ghost use Rattle.nv_driver.specs.Layout.{pages_for, set_pages, submission_pages};
 
 use crate::checked_geometry::CheckedGeometry;
 
 /// The most bytes that a command's data has.
 const MOST_BYTES: u32 = 16_384;
 
-/// The most bytes that a controller moves for one command: its MDTS is 8 at most.
-const MOST_ENTRY_BYTES: u32 = 1_048_576;
+/// The most bytes that a controller moves for one command: its MDTS is 8 at most. Section "Identify
+/// Controller data structure".
+pub(crate) const MOST_ENTRY_BYTES: u32 = 1_048_576;
 
 /// The pages of an outstanding command beside those of its data: one where the data begins inside a
 /// page, and two of a PRP list that begins inside a page.
@@ -89,6 +91,18 @@ impl CheckedGeometry {
         ensures few { result ≤ 259 }
     {
         if with_entries { self.entry_pages() } else { 0 }
+    }
+
+    /// In how many pages so many bytes lie, from the geometry's offset on: they are no more than
+    /// the pages for the most bytes leave beside a list.
+    pub(crate) fn data_pages(self, len: u32) -> usize
+        ghost most: { ℕ }
+        requires len { len ≤ most }
+        requires most { most ≤ greatest_limit }
+        ensures enough { self.offset + len ≤ result * self.page_size }
+        ensures few { result + 2 ≤ pages_for most self.page_size }
+    {
+        (self.offset + len).div_ceil(self.page_size) as usize
     }
 
     /// Where the rings and pages of a controller lie. The page behind them has a number too.

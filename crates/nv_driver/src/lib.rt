@@ -50,6 +50,7 @@ mod answering;
 mod batch;
 mod checked_geometry;
 mod command_pages;
+mod data_place;
 mod driver;
 mod enabling;
 mod entry_data;

@@ -5,14 +5,11 @@ ghost use Rattle.nv_bus.specs.Call.{HasRoom, length_of};
 ghost use Rattle.nv_layout.specs.Sqe.{SqeFits};
 ghost use Rattle.nv_model.specs.Limit.{greatest_limit, limit_of};
 ghost use Rattle.nv_model.specs.Numbers.{serial_count};
-ghost use Rattle.nv_prp.specs.Buffer.{IsBuffer, IsListPlace, KeepsOutside, StaysFor};
-ghost use Rattle.nv_prp.specs.Place.{AreDistinct};
-ghost use Rattle.nv_prp.specs.Transfer.{transfer};
 ghost use Rattle.nv_queue.specs.Numbers.{next, slot_of};
 ghost use Rattle.nv_queue.specs.Rings.{IsSubmitFull};
 ghost use Rattle.nv_driver.specs.Alone.{EntryPlace, IsAlone, IsEntrySubmitted, IsPlaceFor, alone};
 ghost use Rattle.nv_driver.specs.Alone.{IsAnsweredBy, IsExchanged, side};
-ghost use Rattle.nv_driver.specs.Alone.{place_in};
+ghost use Rattle.nv_driver.specs.Alone.{CanExchange, place_in};
 ghost use Rattle.nv_driver.specs.Exchange.{IsReady};
 ghost use Rattle.nv_driver.specs.Layout.{pages_of_entry};
 ghost use Rattle.nv_driver.specs.Request.{request_for, transfer_for};
@@ -20,8 +17,9 @@ ghost use Rattle.nv_driver.specs.Schedule.{Sent, slot};
 ghost use Rattle.nv_driver.specs.UnderWay.{Run, run_of, setting_of};
 
 use crate::checked_geometry::CheckedGeometry;
+use crate::data_place::{buffer_in, list_in, point_to};
 use crate::entry_data::{length_of, receive, transfer_for, write_sent};
-use crate::entry_pages::{EntryPages, data_pages};
+use crate::entry_pages::pages_from;
 use crate::host_side::HostSide;
 use crate::queue_pair::QueuePair;
 use crate::scratch::Scratch;
@@ -30,37 +28,8 @@ use nv_command::Transfer;
 use nv_host::{HostMemory, PageNo};
 use nv_layout::{Cqe, Sqe};
 use nv_model::SERIALS;
-use nv_prp::{Buffer, ListPlace, build};
+use nv_prp::{Buffer, ListPlace};
 use nv_register::offset;
-
-/// The data pointer of so many bytes of a buffer, 0 and 0 where there are none: PRP1 and PRP2.
-/// Writes its list where it has one. Section "Physical Region Page Entry and List".
-pub(crate) fn point_to<M: HostMemory>(
-    mem: &mut M,
-    buffer: &Buffer,
-    list: &ListPlace,
-    len: u32,
-) -> (u64, u64)
-    requires limit { len ≤ greatest_limit }
-    requires buffer { IsBuffer (M.bytes mem.old) (M.page_len mem.old)
-        buffer.now.pages.now buffer.now.offset len }
-    requires list { IsListPlace (M.bytes mem.old) (M.page_len mem.old)
-        list.now.first list.now.second list.now.offset }
-    requires distinct { AreDistinct (list.now.first ∷ list.now.second ∷ buffer.now.pages.now) }
-    ensures stays { 0 < len → StaysFor (transfer (M.page_len mem.new)
-        (M.bytes mem.new) result.0 result.1 len) buffer.now.pages.now buffer.now.offset
-        list.now.first list.now.second }
-    ensures none { len ≡ 0 → (result.0 ≡ 0) × (result.1 ≡ 0) }
-    ensures others { KeepsOutside (M.page_len mem.old) list.now.first list.now.second
-        (M.bytes mem.old) (M.bytes mem.new) }
-    ensures len { length (M.bytes mem.new) ≡ length (M.bytes mem.old) }
-    ensures page { M.page_len mem.new ≡ M.page_len mem.old }
-{
-    if len == 0 {
-        return (0, 0);
-    }
-    build(mem, buffer, list, len)
-}
 
 /// Submits an entry under the next command identifier, with its data behind a data pointer, and
 /// answers the new tail.
@@ -133,9 +102,50 @@ fn complete<B: Bus, M: HostMemory>(
     completion
 }
 
-/// Sends an entry to a controller as it is but for its command identifier and data pointer, and
-/// awaits its completion. Its data and its list lie in pages from this one on, which are of no queue
-/// pair. No command of the queue pair is outstanding, before and after.
+/// Sends an entry to a controller as it is but for its command identifier and data pointer, with its
+/// data and its list at a place that is of no queue pair, and awaits its completion. No command of
+/// the queue pair is outstanding, before and after.
+fn exchange_at<B: Bus, M: HostMemory>(
+    bus: &mut B,
+    ctrl: u16,
+    host: &mut HostSide<M>,
+    pair: &mut QueuePair,
+    buffer: &Buffer,
+    list: &ListPlace,
+    transfer: Transfer,
+    entry: &Sqe,
+    bytes: &[u8],
+    out: &mut [u8],
+) -> Told
+    ghost run: { Run }
+    requires run { run
+        ≡ run_of run.geometry ctrl (B.meaning bus.old) pair.old (M.bytes host.old.mem) [] }
+    requires can { CanExchange run.geometry ctrl entry.now transfer
+        (place_in buffer.now.pages.now buffer.now.offset list.now)
+        (side (B.meaning bus.old) pair.old (M.page_len host.old.mem) (M.bytes host.old.mem)) }
+    ensures { IsExchanged run.geometry ctrl entry.now bytes.now list.now.first
+        (side (B.meaning bus.old) pair.old (M.page_len host.old.mem) (M.bytes host.old.mem))
+        (side (B.meaning bus.new) pair.new (M.page_len host.new.mem) (M.bytes host.new.mem))
+        result out.new }
+{
+    let HostSide { mem, scratch } = host;
+    let tail = submit_entry(mem, pair, buffer, list, transfer, entry, bytes, scratch);
+    let completion = complete(bus, ctrl, mem, pair, tail);
+    receive(
+        mem,
+        buffer,
+        transfer,
+        completion.status,
+        &mut scratch.spans,
+        out,
+    );
+    Told {
+        dword0: completion.command_specific,
+        status: completion.status,
+    }
+}
+
+/// The same, with its data and its list in pages from this one on.
 pub(crate) fn exchange_entry<B: Bus, M: HostMemory>(
     bus: &mut B,
     ctrl: u16,
@@ -163,22 +173,11 @@ pub(crate) fn exchange_entry<B: Bus, M: HostMemory>(
         result out.new }
 {
     let transfer = transfer_for(entry);
-    let pages = EntryPages::new(first_page, data_pages(geometry, length_of(transfer)));
-    let buffer = pages.buffer(geometry.offset);
-    let list = pages.list(geometry.list_offset);
-    let HostSide { mem, scratch } = host;
-    let tail = submit_entry(mem, pair, &buffer, &list, transfer, entry, bytes, scratch);
-    let completion = complete(bus, ctrl, mem, pair, tail);
-    receive(
-        mem,
-        &buffer,
-        transfer,
-        completion.status,
-        &mut scratch.spans,
-        out,
-    );
-    Told {
-        dword0: completion.command_specific,
-        status: completion.status,
-    }
+    let count = geometry.data_pages(length_of(transfer));
+    let pages = pages_from(first_page, count + 2);
+    let buffer = buffer_in(&pages, count, geometry.offset);
+    let list = list_in(&pages, geometry.list_offset);
+    exchange_at(
+        bus, ctrl, host, pair, &buffer, &list, transfer, entry, bytes, out,
+    )
 }

@@ -19,12 +19,13 @@ ghost use Rattle.nv_driver.specs.Submitting.{IsSubmitted};
 
 use crate::checked_geometry::CheckedGeometry;
 use crate::command_pages::CommandPages;
+use crate::data_place::point_to;
 use crate::queue_pair::QueuePair;
 use crate::scratch::Scratch;
 use nv_command::{Command, Transfer};
 use nv_host::HostMemory;
 use nv_model::SERIALS;
-use nv_prp::{Buffer, build, copy_out};
+use nv_prp::{Buffer, copy_out};
 
 /// How many bytes of data a command has.
 #[tactic(auto, using(crate::proofs::DataLaws::shape_as, crate::proofs::DataLaws::most))]
@@ -38,16 +39,6 @@ fn data_length(command: &Command) -> u32
         Transfer::ToHost(len) => len as u32,
         Transfer::FromHost(len) => len as u32,
     }
-}
-
-/// In how many pages so many bytes lie, from the geometry's offset on.
-fn page_count(geometry: CheckedGeometry, len: u32) -> usize
-    requires len { len ≤ most_bytes }
-    ensures enough { geometry.offset + len ≤ result * geometry.page_size }
-    ensures few { result + 2 ≤ pages_of_command geometry.page_size }
-    ensures most { result ≤ most_data_pages }
-{
-    (geometry.offset + len).div_ceil(geometry.page_size) as usize
 }
 
 /// The data pointer of so many bytes in the pages of a command, 0 and 0 where there are none: PRP1
@@ -78,11 +69,8 @@ fn build_pointer<M: HostMemory>(
     ensures len { length (M.bytes mem.new) ≡ length (M.bytes mem.old) }
     ensures page { M.page_len mem.new ≡ M.page_len mem.old }
 {
-    if len == 0 {
-        return (0, 0);
-    }
     let buffer = pages.buffer(geometry.offset);
-    build(mem, &buffer, &pages.list(geometry.list_offset), len)
+    point_to(mem, &buffer, &pages.list(geometry.list_offset), len)
 }
 
 /// Writes the page that the host sends with a command to the buffer of its data.
@@ -150,7 +138,7 @@ pub(crate) fn submit<M: HostMemory>(
 {
     let offset = geometry.offset;
     let len = data_length(command);
-    let pages = CommandPages::take(&mut pair.pages, page_count(geometry, len));
+    let pages = CommandPages::take(&mut pair.pages, geometry.data_pages(len));
     let (prp1, prp2) = build_pointer(mem, geometry, &pages, len);
     write_data(mem, &pages.buffer(offset), command, scratch);
     let mut entry = command.entry(pair.serial);

@@ -1,7 +1,7 @@
 //! A source that fails at a given call.
 
 ghost use Rattle.std.specs.Prelude.{◌≡◌, None};
-ghost use Rattle.nv_script.specs.Streams.{IsFresh};
+ghost use Rattle.nv_stream.specs.Streams.{IsFresh};
 
 use nv_script::Source;
 use std::cmp;

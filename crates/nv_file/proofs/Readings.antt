@@ -1,5 +1,6 @@
 -- Readings of a list, from some index on.
-use Rattle.std.proofs.Common.{◌≡◌, ℕ, ◌+◌, ◌<◌, List, [], ◌∷◌, ◌++◌, length, drop, get_or, Result, Err, BTreeMap, String, Global}
+use Rattle.std.proofs.Common.{◌≡◌, ℕ, ◌+◌, ◌<◌, List, [], ◌∷◌, ◌++◌, length, drop, get_or, Result, Err, BTreeMap}
+use Rattle.std.proofs.Common.{String, Global}
 use Rattle.std.proofs.lemmas.List.{drop_more}
 use Rattle.nv_file.specs.declared.error.SubsystemError.{SubsystemError}
 use Rattle.nv_file.specs.declared.error.SubsystemError.TheVariants.{NotToml, Missing, Kind, Range, Repeated, Unknown}

@@ -18,6 +18,8 @@ exit_status (stop.Subsystem e) = 3
 exit_status (stop.Geometry field) = 3
 exit_status stop.NoReady = 3
 exit_status stop.Read = 4
+exit_status stop.Short = 4
+exit_status stop.TooLong = 4
 exit_status stop.Write = 5
 exit_status stop.Memory = 6
 

@@ -13,7 +13,7 @@ use std::alloc::AllocError;
 use std::io::{self, ErrorKind};
 use thiserror::Error;
 
-/// Why a run didn't come to the end of its script.
+/// Why a program didn't come to the end of its script, or of its requests.
 #[derive(Clone, Copy, Debug, PartialEq, Eq, Error)]
 pub enum Stop {
     /// The arguments were refused.
@@ -32,6 +32,12 @@ pub enum Stop {
     NoReady,
     #[error("read fault")]
     Read,
+    /// The source ended in a request.
+    #[error("request cut short")]
+    Short,
+    /// A request asked for more data than may be.
+    #[error("request too long")]
+    TooLong,
     #[error("write fault")]
     Write,
     #[error("out of memory")]
@@ -46,7 +52,7 @@ impl Stop {
         match self {
             Stop::Arguments | Stop::Unreadable | Stop::Subsystem(_) => 3,
             Stop::Geometry(_) | Stop::NoReady => 3,
-            Stop::Read => 4,
+            Stop::Read | Stop::Short | Stop::TooLong => 4,
             Stop::Write => 5,
             Stop::Memory => 6,
         }

@@ -5,13 +5,13 @@
 //! clearing it takes them away:
 //!
 //! ```
-//! let mut register bank = RegisterBank::new();
-//! register bank.write32(0x24, 0x0003_0003);    // AQA: four entries each
-//! register bank.write32(0x28, 0x0000_1000);    // ASQ
-//! register bank.write32(0x30, 0x0000_2000);    // ACQ
-//! register bank.write32(0x14, 0x0046_0001);    // CC: pages of 4,096 bytes, EN
-//! let ready = register bank.read32(0x1c) == 1; // CSTS.RDY
-//! register bank.write32(0x1000, 1);            // one command is submitted
+//! let mut bank = RegisterBank::new();
+//! bank.write32(0x24, 0x0003_0003);    // AQA: four entries each
+//! bank.write32(0x28, 0x0000_1000);    // ASQ
+//! bank.write32(0x30, 0x0000_2000);    // ACQ
+//! bank.write32(0x14, 0x0046_0001);    // CC: pages of 4,096 bytes, EN
+//! let ready = bank.read32(0x1c) == 1; // CSTS.RDY
+//! bank.write32(0x1000, 1);            // one command is submitted
 //! ```
 //!
 //! Sections are named as in the NVM Express Base Specification, revision 1.4.

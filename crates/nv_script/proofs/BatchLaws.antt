@@ -19,7 +19,7 @@ use Rattle.nv_model.specs.State.{State}
 use Rattle.nv_model.specs.Step.{next_serial, step}
 use Rattle.nv_model.specs.Numbers.{serial_count}
 use Rattle.nv_script.specs.Exchange.{order_of}
-use Rattle.nv_script.specs.Link.{serials_of}
+use Rattle.nv_driver.specs.Linked.{serials_of}
 use Rattle.nv_script.specs.Listing.{IsHandedOn, IsListed, ListLeaves, Standing, answers_to, asked, asked_all}
 use Rattle.nv_script.specs.Orders.{namespace_orders}
 use Rattle.nv_script.specs.Shown.{listing_of}

@@ -17,7 +17,7 @@ use Rattle.nv_model.specs.Nsid.{active_nsids}
 use Rattle.nv_model.specs.State.{State}
 use Rattle.nv_model.specs.Step.{step}
 use Rattle.nv_script.specs.Exchange.{Exchange, Order, exchange_of, exchange_with, order_of}
-use Rattle.nv_script.specs.Link.{serials_of}
+use Rattle.nv_driver.specs.Linked.{serials_of}
 use Rattle.nv_script.specs.Listing.{IsHandedOn, IsListed, ListLeaves, Standing, answers_to, asked, nsids_told}
 use Rattle.nv_script.specs.Orders.{namespace_orders, orders_of_controller}
 use Rattle.nv_script.specs.Shown.{listing_told}

@@ -6,7 +6,6 @@ pub mod ListLaws
 pub mod ListOrderLaws
 pub mod GreetingLaws
 pub mod ListedLaws
-pub mod Taking
 pub mod LineLaws
 pub mod PieceLaws
 pub mod FeedLaws

@@ -12,7 +12,7 @@ use Rattle.nv_script.specs.Orders.{orders_of}
 use Rattle.nv_script.specs.Outcomes.{outcome_of}
 use Rattle.nv_line.specs.Line.{reading}
 use Rattle.nv_script.specs.Results.{LineResult, Progress, line_result, request_result, result_at, said_at}
-use Rattle.nv_script.specs.Link.{serials_of}
+use Rattle.nv_driver.specs.Linked.{serials_of}
 use Rattle.nv_script.specs.declared.ends.Cut.{Cut}
 use Rattle.nv_script.specs.declared.ends.Cut.TheVariants.{Output, Messages}
 use Rattle.nv_script.specs.declared.session.Session.{Session}
@@ -21,7 +21,7 @@ use Rattle.nv_line.specs.declared.fault.LineFault.TheVariants as fault
 use Rattle.nv_line.specs.declared.line.Line.{Line}
 use Rattle.nv_line.specs.declared.line.Line.TheVariants as line
 use Rattle.nv_line.specs.declared.request.Request.{Request}
-use Rattle.nv_script.proofs.Taking.{Appends-at, Appends-join}
+use Rattle.nv_stream.proofs.Taking.{Appends-at, Appends-join}
 
 -- a stream that took nothing more
 took_none : (a b : Option (List ℕ)) (x y : List ℕ) → y ≡ [] → Appends a b x → Appends a b (x ++ y)

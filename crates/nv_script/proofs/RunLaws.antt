@@ -1,13 +1,14 @@
 -- How the pieces of a run make the whole run.
 use Rattle.std.proofs.Common.{Bool, false, ◌||◌, ◌==◌, ◌≡◌, ◌∙◌, ℕ, ◌+◌, ◌<◌, ◌≤◌, List, [], ◌∷◌, ◌++◌, length, take}
-use Rattle.std.proofs.Common.{sym, ap, subst, append-nil, arith, inl, inr, ◌≢◌, ◌↔◌, refl, Option, None, Some, Result}
-use Rattle.std.proofs.Common.{Ok, Err}
+use Rattle.std.proofs.Common.{sym, ap, subst, append-nil, arith, inl, inr, ◌≢◌, ◌↔◌, refl, Option, None, Some}
+use Rattle.std.proofs.Common.{Err}
 use Rattle.std.specs.Prelude.{IfSome, replicate}
 use Rattle.std.specs.Io.KnownBytes.{Appends, Consumes, IsAtEnd, Keeps}
 use Rattle.std.proofs.lemmas.Bool.Decides.{nat_tests}
 use Rattle.std.proofs.lemmas.List.{length-append, length-take-le}
 use Rattle.nv_model.specs.State.{State}
 use Rattle.nv_script.specs.Cuts.{IsCutShort, Holds, Left}
+use Rattle.nv_driver.specs.Driver.{error_without}
 use Rattle.nv_driver.specs.Geometry.{fault_of}
 use Rattle.nv_driver.specs.declared.error.DriverError.{DriverError}
 use Rattle.nv_driver.specs.declared.error.DriverError.TheVariants as error
@@ -18,8 +19,8 @@ use Rattle.nv_script.specs.Ends.{WasRead, begun, end_with, end_without, has_stop
 use Rattle.nv_script.specs.Feeding.{LastLeaves, PieceLeaves, Stands}
 use Rattle.nv_script.specs.Results.{Progress, whole}
 use Rattle.nv_script.specs.ScriptLines.{as_line, pieces, script_lines}
-use Rattle.nv_script.specs.Link.{serials_of}
-use Rattle.nv_script.specs.Streams.{IsFresh, SourceState}
+use Rattle.nv_driver.specs.Linked.{serials_of}
+use Rattle.nv_stream.specs.Streams.{IsFresh, SourceState}
 use Rattle.nv_script.specs.declared.ends.Cut.{Cut}
 use Rattle.nv_script.specs.declared.ends.Cut.TheVariants as cut
 use Rattle.nv_script.specs.declared.ends.RunEnd.{RunEnd}
@@ -27,9 +28,9 @@ use Rattle.nv_script.specs.declared.ends.RunEnd.TheVariants.{Status, Geometry, N
 use Rattle.nv_script.specs.declared.ends.SessionEnd.{SessionEnd}
 use Rattle.nv_script.specs.declared.ends.SessionEnd.TheVariants as ended
 use Rattle.nv_script.specs.declared.session.Session.{Session}
-use Rattle.nv_script.specs.Limits.{read_size}
+use Rattle.nv_stream.specs.Limits.{read_size}
 use Rattle.nv_script.proofs.PieceLaws.{as_line-some, length-joined, length-pieces, piece-among}
-use Rattle.nv_script.proofs.Taking.{Appends-same, Consumes-join, Consumes-nothing, Consumes-same, length-taken}
+use Rattle.nv_stream.proofs.Taking.{Appends-same, Consumes-join, Consumes-nothing, Consumes-same, length-taken}
 
 -- the last piece was a line
 pub last_line : (bytes : List ℕ) → 0 < length (pieces bytes).last
@@ -160,32 +161,16 @@ read_fault old mid new bytes h k e = record {
 
 -- ---- with or without a driver
 
-none_by : {F : Type 0} (o : Option F) → ((f : F) → o ≢ Some f) → o ≡ None
-none_by None h = refl
-none_by (Some f) h = absurd (h f refl)
-
 -- what the end of a run is by an error of the driver's
 abbrev pub Gives : DriverError → RunEnd → Type 0
 Gives e end = ((field : GeometryField) → e ≡ error.Geometry field → end ≡ Geometry field)
     × (e ≡ error.Memory → end ≡ Memory) × (e ≡ error.NoReady → end ≡ NoReady)
 
--- a driver was brought up, where each field out of its limits would be told
-pub without_fault : {D : Type 0} (g : DriverGeometry) (d : D)
-    → ((field : GeometryField)
-    → ◌≡◌ {A = Result D DriverError} (Ok d) (Err (error.Geometry field)) ↔ (fault_of g ≡ Some field))
-    → fault_of g ≡ None
-without_fault g d h = none_by (fault_of g) (λ field k. let never = (h field).1 k in absurd (cc))
-
--- or why there is none
-pub without : {D : Type 0} (g : DriverGeometry) (e : DriverError) (end : RunEnd)
-    → ((field : GeometryField)
-    → ◌≡◌ {A = Result D DriverError} (Err e) (Err (error.Geometry field)) ↔ (fault_of g ≡ Some field))
-    → ◌≢◌ {A = Result D DriverError} (Err e) (Err error.NoReady) → Gives e end → end ≡ end_without (fault_of g)
-without g (error.Geometry field) end h ready gives = gives.0 field refl ∙ ap end_without (sym ((h field).0 refl))
-without g error.Memory end h ready gives =
-    let none = none_by (fault_of g) (λ field k. let same = (h field).1 k in absurd (cc)) in
-    gives.1 refl ∙ ap end_without (sym none)
-without g error.NoReady end h ready gives = absurd (ready refl)
+-- where there is no driver
+pub without : (fault : Option GeometryField) (e : DriverError) (end : RunEnd) → e ≡ error_without fault → Gives e end
+    → end ≡ end_without fault
+without (Some field) e end same gives = gives.0 field same
+without None e end same gives = gives.1 same
 
 -- a driver was brought up before
 pub with_driver : (g : DriverGeometry) (reads : ℕ) (end : RunEnd) (e : SessionEnd) (old new : RunState) (s : State)

@@ -7,13 +7,13 @@ use Rattle.nv_script.specs.Orders.{orders_of}
 use Rattle.nv_script.specs.Outcomes.{outcome_of}
 use Rattle.nv_script.specs.Results.{Progress, result_at, said_at, whole}
 use Rattle.nv_script.specs.ScriptLines.{script_lines}
-use Rattle.nv_script.specs.Streams.{IsBeginning}
+use Rattle.nv_stream.specs.Streams.{IsBeginning}
 use Rattle.nv_script.specs.declared.ends.Cut.{Cut}
 use Rattle.nv_script.specs.declared.ends.Cut.TheVariants.{Output, Messages, Memory}
 use Rattle.nv_line.specs.declared.fault.LineFault.{LineFault}
 use Rattle.nv_line.specs.declared.line.Line.{Line}
 use Rattle.nv_line.specs.declared.line.Line.TheVariants as line
-use Rattle.nv_script.specs.Limits.{read_size}
+use Rattle.nv_stream.specs.Limits.{read_size}
 
 -- the streams and the subsystem: what each sink had taken before a run and has taken since, where
 -- that is told

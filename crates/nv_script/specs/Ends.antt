@@ -11,7 +11,7 @@ use Rattle.nv_driver.specs.declared.geometry_field.GeometryField.{GeometryField}
 use Rattle.nv_script.specs.Cuts.{AreFailed, IsCutShort, HoldsWhole, Left, left_at}
 use Rattle.nv_script.specs.Results.{whole}
 use Rattle.nv_script.specs.ScriptLines.{pieces, script_lines}
-use Rattle.nv_script.specs.Streams.{SinkState, SourceState}
+use Rattle.nv_stream.specs.Streams.{SinkState, SourceState}
 use Rattle.nv_script.specs.declared.ends.Cut.TheVariants as cut
 use Rattle.nv_script.specs.declared.ends.RunEnd.{RunEnd}
 use Rattle.nv_script.specs.declared.ends.RunEnd.TheVariants.{Status, Geometry, NoReady, Read}

@@ -8,8 +8,8 @@ use Rattle.nv_script.specs.Cuts.{AreFailed, IsCutIn, Holds, Left}
 use Rattle.nv_script.specs.Ends.{Leaves}
 use Rattle.nv_script.specs.Results.{Progress, after, whole}
 use Rattle.nv_script.specs.ScriptLines.{buffer_of, pieces, script_lines}
-use Rattle.nv_script.specs.Link.{serials_of}
-use Rattle.nv_script.specs.Streams.{IsBeginning}
+use Rattle.nv_driver.specs.Linked.{serials_of}
+use Rattle.nv_stream.specs.Streams.{IsBeginning}
 use Rattle.nv_script.specs.declared.ends.Cut.{Cut}
 use Rattle.nv_script.specs.declared.ends.Cut.TheVariants.{Memory}
 use Rattle.nv_script.specs.declared.ends.SessionEnd.TheVariants.{Status}

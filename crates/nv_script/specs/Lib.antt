@@ -1,7 +1,6 @@
 pub mod Limits
 pub use Rattle.nv_line.specs.LineFault
 pub use Rattle.nv_line.specs.Line
-pub mod Streams
 pub mod Link
 pub mod Exchange
 pub mod Orders

@@ -1,6 +1,6 @@
 //! One line: its commands, its text, and the write of it.
 
-ghost use Rattle.std.specs.Prelude.{◌≡◌, ◌+◌, ◌<◌, ◌^◌, ℕ, List, Option, false, not, IfOk, length};
+ghost use Rattle.std.specs.Prelude.{◌≡◌, ◌+◌, ◌<◌, ◌^◌, ℕ, List, Option, false, IfOk, length};
 ghost use Rattle.std.specs.Option.{option_copied};
 ghost use Rattle.nv_script.specs.Cuts.{left_at};
 ghost use Rattle.nv_script.specs.Feeding.{IsFailureOf, LineLeaves, PrintLeaves, Stands};
@@ -8,34 +8,16 @@ ghost use Rattle.nv_line.specs.LineFault.{IsUnlessMemory};
 ghost use Rattle.nv_line.specs.Line.{IsKnown, reading};
 ghost use Rattle.nv_script.specs.Results.{Progress};
 ghost use Rattle.nv_script.specs.ScriptLines.{buffer_of};
-ghost use Rattle.nv_script.specs.Link.{IsLinked};
-ghost use Rattle.nv_script.specs.Streams.{WritesAll};
+ghost use Rattle.nv_driver.specs.Linked.{IsLinked};
 
 use crate::ends::Cut;
 use crate::performing::{Stop, perform};
 use crate::session::Session;
-use crate::streams::Sink;
 use nv_bus::Bus;
 use nv_line::{CtrlList, Line, LineFault, LineReader};
 use nv_print::{Fault, FaultCause, message};
+use nv_stream::{Sink, write_all};
 use std::alloc::{AllocError, Global};
-
-/// Writes a text, in as many writes as it takes. After a failing write the sink has taken a
-/// beginning of it.
-fn write_all<S: Sink>(sink: &mut S, text: &[u8]) -> bool
-    requires { (S.state sink.old).has_failed ≡ false }
-    ensures text { WritesAll result (S.state sink.old).taken (S.state sink.new).taken text.now }
-    ensures failure { (S.state sink.new).has_failed ≡ not result }
-{
-    let mut rest = text;
-    while !rest.is_empty() {
-        match sink.write(rest) {
-            None | Some(0) => return false,
-            Some(taken) => rest = &rest[taken..],
-        }
-    }
-    true
-}
 
 /// Writes a line's text, made before its first byte goes out. `fault` is the cut if the sink fails.
 fn print<S: Sink>(sink: &mut S, text: Result<String, AllocError>, fault: Cut) -> Result<(), Cut>

@@ -6,7 +6,7 @@ ghost use Rattle.nv_command.specs.declared.command.Command.{Command};
 ghost use Rattle.nv_command.specs.declared.command.Command.TheVariants.{IdentifyNamespace};
 ghost use Rattle.nv_model.specs.IdentifyController.{no_controller};
 ghost use Rattle.nv_script.specs.Exchange.{order_of};
-ghost use Rattle.nv_script.specs.Link.{IsLinked, serials_of};
+ghost use Rattle.nv_driver.specs.Linked.{IsLinked, serials_of};
 ghost use Rattle.nv_script.specs.Listing.{IsHandedOn, IsListed, ListLeaves, Standing, nsids_told};
 ghost use Rattle.nv_script.specs.Orders.{namespace_orders, orders_of_controller};
 ghost use Rattle.nv_script.specs.Performing.{ListedAll};

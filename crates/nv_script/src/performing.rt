@@ -3,7 +3,7 @@
 ghost use Rattle.std.specs.Prelude.{◌≡◌, ◌<◌, length};
 ghost use Rattle.nv_line.specs.Request.{IsQueryKnown, IsQuestionKnown};
 ghost use Rattle.nv_line.specs.declared.request.Query.TheVariants.{One};
-ghost use Rattle.nv_script.specs.Link.{IsLinked, serials_of};
+ghost use Rattle.nv_driver.specs.Linked.{IsLinked, serials_of};
 ghost use Rattle.nv_line.specs.Ask.{IsAskable, IsDoable};
 ghost use Rattle.nv_script.specs.Orders.{first_act};
 ghost use Rattle.nv_script.specs.Performing.{OrderLeaves, QueryLeaves, RequestLeaves};

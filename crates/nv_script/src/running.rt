@@ -8,21 +8,22 @@ ghost use Rattle.nv_script.specs.Cuts.{left_at};
 ghost use Rattle.nv_script.specs.Ends.{IsRun, RunsFrom, run_state};
 ghost use Rattle.nv_script.specs.Feeding.{IsFailureOf, LastLeaves, PieceLeaves, Stands};
 ghost use Rattle.nv_script.specs.Limits.{read_limit};
-ghost use Rattle.nv_script.specs.Link.{IsFirst, IsLinked};
+ghost use Rattle.nv_driver.specs.Linked.{IsLinked};
+ghost use Rattle.nv_script.specs.Link.{IsFirst};
 ghost use Rattle.nv_script.specs.Results.{whole};
 ghost use Rattle.nv_script.specs.ScriptLines.{buffer_of, pieces};
-ghost use Rattle.nv_script.specs.Streams.{IsFresh};
+ghost use Rattle.nv_stream.specs.Streams.{IsFresh};
 
 use crate::ends::{Cut, RunEnd, SessionEnd};
 use crate::executing::execute_line;
 use crate::line_buffer::LineBuffer;
 use crate::session::Session;
-use crate::streams::{READ_SIZE, Sink, Source};
 use bumpalo::Bump;
 use memchr::memchr;
 use nv_bus::Bus;
 use nv_driver::Geometry;
 use nv_line::LineReader;
+use nv_stream::{READ_SIZE, Sink, Source};
 use std::alloc::Global;
 
 /// Room for the lines that one piece of a script ends, and their words. It is had at once, so that

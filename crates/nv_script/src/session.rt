@@ -47,7 +47,8 @@ impl Session {
     ghost use Rattle.nv_driver.specs.Geometry.{fault_of};
     ghost use Rattle.nv_model.specs.Reset.{reset_where};
     ghost use Rattle.nv_script.specs.Ends.{end_without};
-    ghost use Rattle.nv_script.specs.Link.{IsFirst, IsLinked};
+    ghost use Rattle.nv_driver.specs.Linked.{IsLinked};
+    ghost use Rattle.nv_script.specs.Link.{IsFirst};
 
     /// Before the first line: there is room for answers, and a driver of this geometry is brought
     /// up, by which each controller that was enabled is reset. Where there is none, the bus is

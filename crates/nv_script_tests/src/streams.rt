@@ -1,7 +1,7 @@
 //! Streams that end and fail.
 
 ghost use Rattle.std.specs.Prelude.{◌≡◌, None, false};
-ghost use Rattle.nv_script.specs.Streams.{IsFresh};
+ghost use Rattle.nv_stream.specs.Streams.{IsFresh};
 
 use crate::files::second_version;
 use crate::harness::geometries;

@@ -2,8 +2,7 @@
 
 ghost use Rattle.std.specs.Prelude.{◌≡◌, None};
 
-use crate::voice::write_all;
-use nv_script::Sink;
+use nv_stream::{Sink, write_all};
 
 /// What stands before each line.
 const MARK: &[u8] = b"| ";

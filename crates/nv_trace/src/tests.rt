@@ -6,10 +6,10 @@ use crate::line_text::LineText;
 use crate::marked::Marked;
 use crate::posted::Posted;
 use crate::taken::Taken;
-use crate::voice::{Voice, write_all};
+use crate::voice::Voice;
 use crate::written::Written;
 use nv_layout::{Cqe, Sqe};
-use nv_script::Sink;
+use nv_stream::{Sink, write_all};
 use std::cmp;
 use std::fmt::{Display, Write};
 

@@ -10,7 +10,7 @@ use crate::written::Written;
 use nv_bus::Bus;
 use nv_host::HostMemory;
 use nv_register::{ControllerConfiguration, offset};
-use nv_script::Sink;
+use nv_stream::Sink;
 
 /// The most controllers that a subsystem has.
 const MOST_CONTROLLERS: usize = 16;

@@ -5,7 +5,7 @@ ghost use Rattle.std.specs.Prelude.{◌≡◌, false};
 use crate::trace::{Trace, is_enabled};
 use nv_bus::Bus;
 use nv_host::HostMemory;
-use nv_script::Sink;
+use nv_stream::Sink;
 
 /// A bus that tells a sink what goes over it: each register write, each entry that a turn took and
 /// each completion that it posted, one line each. It is the bus that it is around: nothing of what

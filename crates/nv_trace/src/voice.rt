@@ -1,25 +1,10 @@
 //! Lines to a sink, up to its first failure.
 
-ghost use Rattle.std.specs.Prelude.{◌≡◌, false, not};
+ghost use Rattle.std.specs.Prelude.{◌≡◌, false};
 
 use crate::line_text::LineText;
-use nv_script::Sink;
+use nv_stream::{Sink, write_all};
 use std::fmt::{Display, Write};
-
-/// Writes a text, in as many writes as it takes. Answers whether the sink took all of it.
-pub(crate) fn write_all<S: Sink>(sink: &mut S, text: &[u8]) -> bool
-    requires { (S.state sink.old).has_failed ≡ false }
-    ensures { (S.state sink.new).has_failed ≡ not result }
-{
-    let mut rest = text;
-    while !rest.is_empty() {
-        match sink.write(rest) {
-            None | Some(0) => return false,
-            Some(taken) => rest = &rest[taken..],
-        }
-    }
-    true
-}
 
 /// Says lines to a sink. Once the sink has failed it is silent.
 #[derive(Drop)]

@@ -1,94 +1,63 @@
-use Rattle.std.proofs.Common.{◌∙◌, ap, length, rules, sym}
-use Rattle.nv_model.specs.Limit.{limit_of}
-use Rattle.nv_bus.specs.Call.{length_of}
-use Rattle.nv_driver.specs.UnderWay.{Run}
+use Rattle.std.proofs.Common.{◌∙◌, ◌≡◌, ◌+◌, ◌≤◌, [], ap, arith, length, rules, subst, sym}
+use Rattle.nv_prp.specs.declared.builder.ListPlace.{ListPlace}
+use Rattle.nv_driver.specs.Alone.{CanExchange, place_in, side}
+use Rattle.nv_driver.specs.UnderWay.{Run, run_of}
 use Rattle.nv_driver.specs.declared.geometry.Geometry.{Geometry}
-use Rattle.nv_driver.proofs.ExchangeLaws.{answered_as, begins_as, begun_by, behind_by, buffer_later, count_as, exchanged}
-use Rattle.nv_driver.proofs.ExchangeLaws.{has_slot, list_at, place_by, ring_inside, sent, tail_is}
+use Rattle.nv_driver.proofs.ExchangeLaws.{can_exchange, list_at}
+use Rattle.nv_driver.proofs.PointerLaws.{entry_pages_few}
 use Rattle.nv_driver.proofs.passthrough.exchange_entry.Goals as goal
 
-pub submit_entry-tail-requires : goal.submit_entry-tail-requires
-submit_entry-tail-requires g c κs within =
-    let asked = c.requires.1.1 in
-    let is = asked.1.0 in
-    let t = c.transfer_for-transfer.ensures in
-    let pages = c.new-pages.ensures in
-    let d = c.data_pages.ensures in
-    let buffer = c.buffer-buffer.ensures in
-    let are = count_as pages.count pages.len d.most pages.each in
-    let list = c.list-list.ensures
-    ∙ ap (λ (q : Geometry). list_at c.new-pages.result.numbers q.list_offset) c.geometry.view_is in
-    let place = place_by {len = length_of c.transfer_for-transfer.result} is.geometry is.page_size are buffer.pages
-    (buffer.offset ∙ ap (λ (q : Geometry). q.offset) c.geometry.view_is) list
-    (rw (pages.count, ← c.length_of.ensures) d.enough) (rw pages.count d.few) asked.1.1.1.1.0 in
-    (search rules, (t.value, (t.room, (t.few, (place, (is.laid.serial, (ring_inside is, has_slot is)))))))
+pub pages_from-pages-requires-clause-few : goal.pages_from-pages-requires-clause-few
+pages_from-pages-requires-clause-few g c =
+    let is = c.requires.1.1.1.0.geometry in
+    omega (arith, c.data_pages-count.ensures.few, entry_pages_few c.args.geometry.page_size is.page_size)
 
-pub complete-completion-requires : goal.complete-completion-requires
-complete-completion-requires g c κs within =
+pub buffer_in-buffer-requires : goal.buffer_in-buffer-requires
+buffer_in-buffer-requires g c =
+    let is = c.requires.1.1.1.0.geometry in
+    omega (
+      arith,
+      c.data_pages-count.ensures.few,
+      entry_pages_few c.args.geometry.page_size is.page_size,
+      c.pages_from-pages.ensures.len,
+    )
+
+pub exchange_at-requires : goal.exchange_at-requires
+exchange_at-requires g c κs within =
     let asked = c.requires.1.1 in
-    let is = asked.1.0 in
+    let bus = g.B.Bus.meaning c.args.bus.now in
+    let pair = c.args.pair.now in
+    let mem = c.args.host.now.mem in
+    let bytes = g.M.HostMemory.bytes mem in
+    let same = ap (λ (r : Run). r.geometry) (sym asked.0) in
+    let view = c.geometry.view_is in
     let t = c.transfer_for-transfer.ensures in
-    let pages = c.new-pages.ensures in
-    let d = c.data_pages.ensures in
-    let buffer = c.buffer-buffer.ensures in
-    let are = count_as pages.count pages.len d.most pages.each in
-    let list = c.list-list.ensures
-    ∙ ap (λ (q : Geometry). list_at c.new-pages.result.numbers q.list_offset) c.geometry.view_is in
-    let place = place_by {len = length_of c.transfer_for-transfer.result} is.geometry is.page_size are buffer.pages
-    (buffer.offset ∙ ap (λ (q : Geometry). q.offset) c.geometry.view_is) list
-    (rw (pages.count, ← c.length_of.ensures) d.enough) (rw pages.count d.few) asked.1.1.1.1.0 in
-    let s = c.submit_entry-tail.ensures in
-    let begun = begun_by is asked.1.1.0 (rw t.value at place)
-    (ap (λ (r : Run). limit_of r.bus.state r.controller) asked.0) s.submitted s.len (behind_by are buffer.pages list)
-    asked.1.1.1.0 in (
+    let d = c.data_pages-count.ensures in
+    let buffer = c.buffer_in-buffer.ensures in
+    let pages = c.pages_from-pages.ensures in
+    let few : c.data_pages-count.result + 2 ≤ length c.pages_from-pages.result =
+    omega (arith, d.few, entry_pages_few c.args.geometry.page_size asked.1.0.geometry.page_size, pages.len) in
+    let can = can_exchange asked.1.0 asked.1.1.0 t.value t.room t.few (record { each = pages.each; long = few })
+    buffer.pages (buffer.offset ∙ ap (λ (q : Geometry). q.offset) view)
+    (c.list_in-list.ensures ∙ ap (λ (q : Geometry). list_at c.pages_from-pages.result q.list_offset) view)
+    (rw (← c.length_of.ensures) d.enough) d.few asked.1.1.1.1.0 asked.1.1.1.0 in (
       search rules,
       (
         search rules,
         (
-          ap (λ (r : Run). r.controller) (sym asked.0),
-          ((sent begun, begins_as begun asked.0 s.page), tail_is is asked.0 s.tail),
+          asked.0 ∙ ap (λ q. run_of q c.args.ctrl bus pair bytes []) same,
+          subst (λ q. CanExchange q c.args.ctrl c.args.entry.now c.transfer_for-transfer.result
+              (place_in c.buffer_in-buffer.result.pages.now c.buffer_in-buffer.result.offset c.list_in-list.result)
+              (side bus pair (g.M.HostMemory.page_len mem) bytes)) same can,
         ),
       ),
     )
 
-pub receive-requires-clause-buffer : goal.receive-requires-clause-buffer
-receive-requires-clause-buffer g c =
-    let asked = c.requires.1.1 in
-    let is = asked.1.0 in
-    let t = c.transfer_for-transfer.ensures in
-    let pages = c.new-pages.ensures in
-    let d = c.data_pages.ensures in
-    let buffer = c.buffer-buffer.ensures in
-    let are = count_as pages.count pages.len d.most pages.each in
-    let list = c.list-list.ensures
-    ∙ ap (λ (q : Geometry). list_at c.new-pages.result.numbers q.list_offset) c.geometry.view_is in
-    let place = place_by {len = length_of c.transfer_for-transfer.result} is.geometry is.page_size are buffer.pages
-    (buffer.offset ∙ ap (λ (q : Geometry). q.offset) c.geometry.view_is) list
-    (rw (pages.count, ← c.length_of.ensures) d.enough) (rw pages.count d.few) asked.1.1.1.1.0 in
-    let s = c.submit_entry-tail.ensures in
-    let begun = begun_by is asked.1.1.0 (rw t.value at place)
-    (ap (λ (r : Run). limit_of r.bus.state r.controller) asked.0) s.submitted s.len (behind_by are buffer.pages list)
-    asked.1.1.1.0 in
-    let by = answered_as begun asked.0 s.page c.complete-completion.ensures.answered in
-    buffer_later by.alone.size (by.alone.page_size ∙ sym is.page_size) place.buffer
-
 pub returns : goal.returns
 returns g c =
     let asked = c.requires.1.1 in
-    let is = asked.1.0 in
-    let t = c.transfer_for-transfer.ensures in
-    let pages = c.new-pages.ensures in
-    let d = c.data_pages.ensures in
-    let buffer = c.buffer-buffer.ensures in
-    let are = count_as pages.count pages.len d.most pages.each in
-    let list = c.list-list.ensures
-    ∙ ap (λ (q : Geometry). list_at c.new-pages.result.numbers q.list_offset) c.geometry.view_is in
-    let place = place_by {len = length_of c.transfer_for-transfer.result} is.geometry is.page_size are buffer.pages
-    (buffer.offset ∙ ap (λ (q : Geometry). q.offset) c.geometry.view_is) list
-    (rw (pages.count, ← c.length_of.ensures) d.enough) (rw pages.count d.few) asked.1.1.1.1.0 in
-    let s = c.submit_entry-tail.ensures in
-    let begun = begun_by is asked.1.1.0 (rw t.value at place)
-    (ap (λ (r : Run). limit_of r.bus.state r.controller) asked.0) s.submitted s.len (behind_by are buffer.pages list)
-    asked.1.1.1.0 in
-    let by = answered_as begun asked.0 s.page c.complete-completion.ensures.answered in
-    exchanged begun by (length c.args.out.now) t.value c.receive.ensures
+    let geometry = ap (λ (r : Run). r.geometry) asked.0 in
+    let first : c.list_in-list.result.first ≡ c.args.first_page =
+    ap (λ (p : ListPlace). p.first) c.list_in-list.ensures
+    ∙ c.pages_from-pages.ensures.each 0 (omega arith) ∙ omega arith in
+    rw (← geometry) (rw first at c.exchange_at.ensures)

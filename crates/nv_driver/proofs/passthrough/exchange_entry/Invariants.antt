@@ -1,8 +1,8 @@
-use Rattle.nv_model.specs.Limit.{limit_of}
+use Rattle.nv_model.specs.Limit.{greatest_limit}
 use Rattle.nv_driver.proofs.passthrough.exchange_entry.Given as goal
 
-abbrev pub ghost-submit_entry : goal.ghost-submit_entry
-ghost-submit_entry g a = limit_of g.run.bus.state g.run.controller
+abbrev pub ghost-exchange_at : goal.ghost-exchange_at
+ghost-exchange_at g a = g.run
 
-abbrev pub ghost-complete : goal.ghost-complete
-ghost-complete g a = g.run
+abbrev pub ghost-data_pages : goal.ghost-data_pages
+ghost-data_pages g a = greatest_limit

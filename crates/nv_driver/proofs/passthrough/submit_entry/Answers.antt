@@ -2,7 +2,6 @@ use Rattle.std.proofs.Common.{rules, ◌≡◌, ◌∙◌, ap, refl}
 use Rattle.nv_prp.specs.Place.{written_at}
 use Rattle.nv_prp.specs.Buffer.{buffer_places}
 use Rattle.nv_command.specs.Command.{bytes_from_host}
-use Rattle.nv_command.specs.declared.transfer.Transfer.{Transfer}
 use Rattle.nv_bus.specs.Call.{length_of}
 use Rattle.nv_driver.specs.Alone.{place_in, sent_at}
 use Rattle.nv_driver.specs.Request.{request_for, sent_for}
@@ -28,11 +27,8 @@ returns-clause-submitted g c =
     let is_buffer = rw same at place.buffer in
     let is_built = built_by size x before built size _ _ refl b.page (c.length_of.ensures ∙ same)
     (search rules) (search rules) b.stays b.others b.len in
-    let put = c.write_sent.ensures.bytes
-    ∙ ap (λ n. written_at built (buffer_places n buffer.pages.now buffer.offset (length_of c.args.transfer))
-    (sent_for c.args.transfer c.args.bytes.now)) b.page
-    ∙ ap (λ (m : Transfer). written_at built (buffer_places size buffer.pages.now buffer.offset (length_of m))
-    (sent_for m c.args.bytes.now)) c.requires.1.0 in
+    let put : ready ≡ written_at built (buffer_places size buffer.pages.now buffer.offset (length_of q.transfer))
+    (sent_for q.transfer c.args.bytes.now) = rw (b.page, c.requires.1.0) at c.write_sent.ensures.bytes in
     let ok = c.unwrap-tail.ensures in
     record {
       prp1 = pointer.0;

@@ -9,22 +9,33 @@ use Rattle.nv_driver.specs.declared.geometry.Geometry.{Geometry}
 use Rattle.nv_driver.proofs.DataLaws.{length-host_data}
 use Rattle.nv_driver.proofs.SubmittingLaws.{buffer_as, buffer_of, built_by, distinct_of, list_of}
 use Rattle.nv_driver.proofs.SubmittingLaws.{has_taken, on_ok, pairs_same, places_as, prepared_by}
+use Rattle.nv_driver.proofs.PointerLaws.{seven_pages}
 use Rattle.nv_driver.proofs.submitting.submit.Goals as goal
+
+pub data_pages-requires : goal.data_pages-requires
+data_pages-requires g c = (c.data_length-len.ensures.most, search arith)
+
+pub take-pages-requires-clause-few : goal.take-pages-requires-clause-few
+take-pages-requires-clause-few g c =
+    let is = rw (c.geometry.view_is) at c.geometry.invariant in
+    omega (arith, c.data_pages.ensures.few, seven_pages c.args.geometry.page_size is.page_size)
 
 pub build_pointer-prp1-requires-clause-buffer : goal.build_pointer-prp1-requires-clause-buffer
 build_pointer-prp1-requires-clause-buffer g c =
     let t = c.take-pages.ensures in
+    let d = c.data_pages.ensures in
     let is = rw (c.geometry.view_is) at c.geometry.invariant in
     buffer_of c.args.geometry c.args.pair.now.pages c.take-pages.result _ _ _ is c.requires.page
-    (has_taken t.count c.page_count.ensures.most t.seven t.taken c.requires.inside)
-    (rw (← t.count) at c.page_count.ensures.enough)
+    (has_taken is.page_size t.count d.few t.seven t.taken c.requires.inside)
+    (rw (← t.count) at d.enough)
 
 pub build_pointer-prp1-requires-clause-list : goal.build_pointer-prp1-requires-clause-list
 build_pointer-prp1-requires-clause-list g c =
     let t = c.take-pages.ensures in
+    let d = c.data_pages.ensures in
     let is = rw (c.geometry.view_is) at c.geometry.invariant in
     list_of c.args.geometry c.args.pair.now.pages c.take-pages.result _ _ is c.requires.page
-    (has_taken t.count c.page_count.ensures.most t.seven t.taken c.requires.inside)
+    (has_taken is.page_size t.count d.few t.seven t.taken c.requires.inside)
 
 pub build_pointer-prp1-requires-clause-distinct : goal.build_pointer-prp1-requires-clause-distinct
 build_pointer-prp1-requires-clause-distinct g c =
@@ -33,6 +44,7 @@ build_pointer-prp1-requires-clause-distinct g c =
 pub write_data-requires-clause-buffer : goal.write_data-requires-clause-buffer
 write_data-requires-clause-buffer g c =
     let t = c.take-pages.ensures in
+    let d = c.data_pages.ensures in
     let b = c.build_pointer-prp1.ensures in
     let geometry = c.args.geometry in
     let is = rw (c.geometry.view_is) at c.geometry.invariant in
@@ -40,12 +52,13 @@ write_data-requires-clause-buffer g c =
     buffer_as (sym (b.page ∙ c.requires.page)) (sym c.buffer.ensures.pages) (sym offset)
     c.data_length-len.ensures.length
     (buffer_of geometry c.args.pair.now.pages c.take-pages.result _ geometry.page_size _ is refl
-    (has_taken t.count c.page_count.ensures.most t.seven t.taken (rw (b.len) c.requires.inside))
-    (rw (← t.count) at c.page_count.ensures.enough))
+    (has_taken is.page_size t.count d.few t.seven t.taken (rw (b.len) c.requires.inside))
+    (rw (← t.count) at d.enough))
 
 pub returns-clause-submitted : goal.returns-clause-submitted
 returns-clause-submitted g c =
     let t = c.take-pages.ensures in
+    let d = c.data_pages.ensures in
     let b = c.build_pointer-prp1.ensures in
     let pages = c.take-pages.result in
     let pointer = c.build_pointer-prp1.result in
@@ -60,15 +73,15 @@ returns-clause-submitted g c =
     let len = c.data_length-len.ensures.length in
     let is = rw (c.geometry.view_is) at c.geometry.invariant in
     let offset = c.buffer.ensures.offset ∙ ap (λ (q : Geometry). q.offset) c.geometry.view_is in
-    let enough = rw (← t.count, len) at c.page_count.ensures.enough in
+    let enough = rw (← t.count, len) at d.enough in
     let buffer = buffer_of geometry pair.pages pages before geometry.page_size _ is refl
-    (has_taken t.count c.page_count.ensures.most t.seven t.taken c.requires.inside) enough in
+    (has_taken is.page_size t.count d.few t.seven t.taken c.requires.inside) enough in
     let is_built = built_by geometry.page_size x before built _ _ _ c.requires.page b.page len
     (search rules) (search rules) b.stays b.others b.len in
     record {
       prp1 = pointer.0;
       prp2 = pointer.1;
-      few = omega (arith, t.count, c.page_count.ensures.few);
+      few = omega (arith, t.count, d.few);
       seven = t.seven;
       taken = t.taken;
       enough = enough;

@@ -29,7 +29,9 @@ loop-table-preserved c =
 pub returns-in_err-controller-clause-exact : goal.returns-in_err-controller-clause-exact
 returns-in_err-controller-clause-exact c =
     let first = rw c.deref.ensures.value at c.in_err-controller.ensures.exact in
-    let fails = tables_fail controller_entry_view (λ (v : Vec ControllerEntry Global). map controller_entry_view v.items) (controller_entry_of c.args.version) (map controller_entry_view c.loop-table.controllers.items) c.args.tables.now
+    let fails = tables_fail controller_entry_view
+    (λ (v : Vec ControllerEntry Global). map controller_entry_view v.items) (controller_entry_of c.args.version)
+    (map controller_entry_view c.loop-table.controllers.items) c.args.tables.now
     c.loop-table.table-index c.table-item.result c.in_err-controller.field-0.0
     c.loop-table-test.true c.table-item.is first in
     let whole = rw c.loop-table.invariant.reads at fails in

@@ -24,7 +24,8 @@ loop-table-preserved c =
 pub returns-in_err-rule-clause-exact : goal.returns-in_err-rule-clause-exact
 returns-in_err-rule-clause-exact c =
     let first = rw c.deref.ensures.value at c.in_err-rule.ensures.exact in
-    let fails = tables_fail (λ (r : FeatureRule). r) (λ (v : Vec FeatureRule Global). v.items) (feature_of c.args.version c.args.wctemp) (c.loop-table.rules.items) c.args.tables.now
+    let fails = tables_fail (λ (r : FeatureRule). r) (λ (v : Vec FeatureRule Global). v.items)
+    (feature_of c.args.version c.args.wctemp) c.loop-table.rules.items c.args.tables.now
     c.loop-table.table-index c.table-item.result c.in_err-rule.field-0.0
     c.loop-table-test.true c.table-item.is first in
     let whole = rw c.loop-table.invariant.reads at fails in

@@ -30,7 +30,10 @@ loop-table-preserved c =
 pub returns-in_err-namespace-clause-exact : goal.returns-in_err-namespace-clause-exact
 returns-in_err-namespace-clause-exact c =
     let first = rw c.deref.ensures.value at c.in_err-namespace.ensures.exact in
-    let fails = tables_fail namespace_entry_view (λ (v : Vec NamespaceEntry Global). map namespace_entry_view v.items) (namespace_entry_of c.args.nn c.args.mc c.args.formats.now) (map namespace_entry_view c.loop-table.namespaces.items) c.args.tables.now
+    let fails = tables_fail namespace_entry_view
+    (λ (v : Vec NamespaceEntry Global). map namespace_entry_view v.items)
+    (namespace_entry_of c.args.nn c.args.mc c.args.formats.now)
+    (map namespace_entry_view c.loop-table.namespaces.items) c.args.tables.now
     c.loop-table.table-index c.table-item.result c.in_err-namespace.field-0.0
     c.loop-table-test.true c.table-item.is first in
     let whole = rw c.loop-table.invariant.reads at fails in

@@ -4,7 +4,7 @@ use Rattle.nv_bits.specs.Numbers.{above}
 use Rattle.nv_command.specs.declared.command.Command.TheVariants.{ActiveList, IdentifyController}
 use Rattle.nv_model.specs.Nsid.{active_nsids}
 use Rattle.nv_script.specs.Exchange.{order_of}
-use Rattle.nv_script.specs.Link.{serials_of}
+use Rattle.nv_driver.specs.Linked.{serials_of}
 use Rattle.nv_script.specs.Orders.{namespace_orders, orders_of_controller}
 use Rattle.nv_script.proofs.GreetingLaws.{greeted_listed, greeted_orders, stopped_there}
 use Rattle.nv_script.proofs.ListLaws.{leaves_after}

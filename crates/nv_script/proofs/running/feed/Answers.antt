@@ -4,7 +4,7 @@ use Rattle.std.proofs.lemmas.Result.{err_from_is_err_and}
 use Rattle.nv_script.specs.Results.{whole}
 use Rattle.nv_script.specs.ScriptLines.{pieces}
 use Rattle.nv_script.proofs.FeedLaws.{Fed-executed, Fed-last, Fed-line, Fed-none, cut_at}
-use Rattle.nv_script.proofs.Taking.{done_more}
+use Rattle.nv_stream.proofs.Taking.{done_more}
 use Rattle.nv_script.proofs.running.feed.Goals as goal
 
 pub loop-end-init : goal.loop-end-init

@@ -4,8 +4,8 @@ use Rattle.nv_script.specs.Ends.{WasRead}
 use Rattle.nv_script.specs.Feeding.{Stands}
 use Rattle.nv_script.specs.Results.{whole}
 use Rattle.nv_script.specs.ScriptLines.{buffer_of, pieces}
-use Rattle.nv_script.specs.Link.{IsLinked}
-use Rattle.nv_script.specs.Limits.{read_size}
+use Rattle.nv_driver.specs.Linked.{IsLinked}
+use Rattle.nv_stream.specs.Limits.{read_size}
 use Rattle.nv_script.proofs.running.run_session.Given as goal
 
 abbrev pub invariant-loop-call : goal.invariant-loop-call

@@ -1,4 +1,4 @@
-use Rattle.nv_script.specs.Link.{IsLinked}
+use Rattle.nv_driver.specs.Linked.{IsLinked}
 use Rattle.nv_speed.proofs.line.time_admin.Given as goal
 
 abbrev pub invariant-loop-round : goal.invariant-loop-round

@@ -21,7 +21,8 @@ invariant_of-result g c =
     let e = c.enable_all.ensures in
     let is = c.geometry.view_is in
     let size = ap (λ (q : Geometry). q.page_size) is in
-    (driver_at_first c.in_ok-geometry.geometry (length (g.B.Bus.meaning c.args.bus.now).banks) _ c.more_pages.result _ _ _ _
+    (driver_at_first c.in_ok-geometry.geometry (length (g.B.Bus.meaning c.args.bus.now).banks) _
+    c.more_pages.result _ _ _ _
     (subst IsGeometry is c.geometry.invariant) c.controllers-controllers.ensures
     (ap (λ n. n + c.more_pages.result) c.pages.ensures.pages)
     (omega (arith, c.pages.ensures.few, c.more_pages.ensures.few)) (rw size at c.in_ok-mem.ensures) e.page e.len
@@ -34,7 +35,8 @@ returns-clause-value g c =
     let size = ap (λ (q : Geometry). q.page_size) is in
     let same : c.in_ok-geometry.geometry ≡ c.args.geometry = search rules in
     let controllers = length (g.B.Bus.meaning c.args.bus.now).banks in
-    (driver_at_first c.in_ok-geometry.geometry (length (g.B.Bus.meaning c.args.bus.now).banks) _ c.more_pages.result _ _ _ _
+    (driver_at_first c.in_ok-geometry.geometry (length (g.B.Bus.meaning c.args.bus.now).banks) _
+    c.more_pages.result _ _ _ _
     (subst IsGeometry is c.geometry.invariant) c.controllers-controllers.ensures
     (ap (λ n. n + c.more_pages.result) c.pages.ensures.pages)
     (omega (arith, c.pages.ensures.few, c.more_pages.ensures.few)) (rw size at c.in_ok-mem.ensures) e.page e.len

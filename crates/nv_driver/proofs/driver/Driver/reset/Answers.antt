@@ -1,9 +1,10 @@
-use Rattle.std.proofs.Common.{◌∙◌, ap, sym}
-use Rattle.nv_driver.specs.Driver.{after_reset}
+use Rattle.std.proofs.Common.{◌∙◌, ap, subst, sym}
+use Rattle.nv_driver.specs.Driver.{HasEntryPages, after_reset}
 use Rattle.nv_driver.specs.QueuePair.{renewed_pair}
 use Rattle.nv_driver.specs.Registers.{banks_of}
 use Rattle.nv_driver.specs.Settled.{DriverValue}
 use Rattle.nv_driver.proofs.AdminLaws.{driver_after, inside_of, placed_at, banks_left, ready_at, value_after}
+use Rattle.nv_driver.proofs.PassthroughLaws.{room_stays_reset}
 use Rattle.nv_driver.proofs.driver.Driver.reset.Goals as goal
 
 pub reset-requires-clause-ready : goal.reset-requires-clause-ready
@@ -27,6 +28,10 @@ returns-clause-driver g c =
     value_after renewed_pair _ _ _ _ _ _ _ (inside_of _ _ _ _ _ c.requires.ctrl c.self.view_is)
     c.index_mut-pair.ensures.value e.pair e.len e.page
     ∙ ap (λ (d : DriverValue). after_reset d c.args.ctrl) c.self.view_is
+
+pub returns-clause-entries : goal.returns-clause-entries
+returns-clause-entries g c room =
+    subst HasEntryPages (sym (returns-clause-driver g c)) (room_stays_reset c.args.self.now c.args.ctrl room)
 
 pub returns-clause-left : goal.returns-clause-left
 returns-clause-left g c =

@@ -1,18 +1,20 @@
 use Rattle.std.proofs.Common.{refl}
 use Rattle.std.proofs.lemmas.Result.{err_from_is_err_and}
 use Rattle.nv_script.proofs.LinkLaws.{first_session}
-use Rattle.nv_script.proofs.RunLaws.{without, without_fault}
+use Rattle.nv_driver.specs.Geometry.{fault_of}
+use Rattle.nv_driver.proofs.LinkedLaws as W
+use Rattle.nv_script.proofs.RunLaws.{without}
 use Rattle.nv_script.proofs.session.Session.begin.Goals as goal
 
 pub returns-in_err-driver-clause-fault : goal.returns-in_err-driver-clause-fault
 returns-in_err-driver-clause-fault g c =
     let e = err_from_is_err_and c.from_residual.result c.from_residual.ensures.1 in
-    rw e.1
-    (without c.args.geometry c.in_err-driver.field-0.0 _ c.in_err-driver.ensures.geometry c.in_err-driver.ensures.ready
-    e.2)
+    let why = W.without c.args.geometry c.in_err-driver.field-0.0 c.in_err-driver.ensures.geometry
+    c.in_err-driver.ensures.ready in
+    rw e.1 (without (fault_of c.args.geometry) c.in_err-driver.field-0.0 _ why e.2)
 
 pub returns-clause-fault : goal.returns-clause-fault
-returns-clause-fault g c = without_fault c.args.geometry _ c.in_ok-driver.ensures.geometry
+returns-clause-fault g c = W.without_fault c.args.geometry _ c.in_ok-driver.ensures.geometry
 
 pub returns-clause-first : goal.returns-clause-first
 returns-clause-first g c =

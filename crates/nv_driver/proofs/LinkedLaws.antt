@@ -1,0 +1,102 @@
+-- What a new driver, its commands and its resets make of command identifiers and register banks.
+use Rattle.std.proofs.Common.{◌≡◌, ◌∙◌, ℕ, ◌+◌, ◌<◌, zero, suc, arith, zero-add, List, [], ◌∷◌, ◌++◌, ap, sym, subst}
+use Rattle.std.proofs.Common.{refl, true, length, map, get_or, set, ◌≢◌, ◌↔◌, Option, None, Some, Result, Ok, Err}
+use Rattle.std.specs.Prelude.{replicate}
+use Rattle.std.proofs.Math.Seq.{map-set_same}
+use Rattle.std.proofs.lemmas.List.{get_or-map, length-map, length-set, map-append, map-set, replicate_more}
+use Rattle.std.proofs.lemmas.List.FromFn.{map-range_with_len_more}
+use Rattle.nv_model.specs.Step.{next_serial}
+use Rattle.nv_bus.specs.Bus.{BusValue, enabled_in}
+use Rattle.nv_driver.specs.Driver.{after_command, after_reset, error_without, new_driver, no_pair}
+use Rattle.nv_driver.specs.Driver.{pair_at}
+use Rattle.nv_driver.specs.Geometry.{fault_of}
+use Rattle.nv_driver.specs.Exchange.{after_one}
+use Rattle.nv_driver.specs.Layout.{pair_of, pairs_of}
+use Rattle.nv_driver.specs.Linked.{IsLinked, serials_of}
+use Rattle.nv_driver.specs.QueuePair.{QueuePair, idle_bank, renewed_pair}
+use Rattle.nv_driver.specs.Registers.{mps_of}
+use Rattle.nv_driver.specs.Settled.{DriverValue}
+use Rattle.nv_driver.specs.declared.error.DriverError.{DriverError}
+use Rattle.nv_driver.specs.declared.error.DriverError.TheVariants as error
+use Rattle.nv_driver.specs.declared.geometry.Geometry.{Geometry}
+use Rattle.nv_driver.specs.declared.geometry_field.GeometryField.{GeometryField}
+
+abbrev serial : QueuePair → ℕ
+serial l = l.serial
+
+-- a queue pair for each controller
+pub pair_count : (b : BusValue) (d : DriverValue) → IsLinked b d → length d.pairs ≡ length b.state.controllers
+pair_count b d is =
+    sym (length-map d.pairs (idle_bank (mps_of d.geometry.page_size) d.geometry.page_size)) ∙ sym (ap length is.left)
+    ∙ is.bus.banks
+
+-- before the first command
+pub first_serials : (g : Geometry) (n : ℕ) → serials_of (new_driver g n) ≡ replicate n 0
+first_serials g zero = refl
+first_serials g (suc n) =
+    let next : suc n ≡ n + 1 = omega arith in
+    subst (λ k. serials_of (new_driver g k) ≡ replicate k 0) (sym next)
+    (ap (map serial) (map-range_with_len_more (pair_of g) 0 n n (zero-add n))
+    ∙ map-append serial (pairs_of g n) (pair_of g n ∷ [])
+    ∙ ap (λ xs. xs ++ 0 ∷ []) (first_serials g n)
+    ∙ replicate_more n 0)
+
+-- a driver's controllers are enabled
+pub all_enabled : (b : BusValue) (d : DriverValue) → IsLinked b d
+    → enabled_in b.banks ≡ replicate (length b.state.controllers) true
+all_enabled b d is = ap enabled_in is.left ∙ each d.pairs ∙ ap (λ n. replicate n true) (pair_count b d is)
+  where
+    each : (pairs : List QueuePair)
+        → enabled_in (map (idle_bank (mps_of d.geometry.page_size) d.geometry.page_size) pairs)
+        ≡ replicate (length pairs) true
+    each [] = refl
+    each (l ∷ ls) = ap (λ xs. true ∷ xs) (each ls)
+
+-- the command identifier of a controller
+pub serial_at : (d : DriverValue) (c : ℕ) → c < length d.pairs
+    → (pair_at d.pairs c).serial ≡ get_or (serials_of d) c 0
+serial_at d c below = sym (get_or-map serial d.pairs c no_pair 0 below)
+
+-- after a command the next one is due
+pub serials_after : (d after : DriverValue) (c : ℕ) → c < length d.pairs → after ≡ after_command d c
+    → serials_of after ≡ set (serials_of d) c (next_serial (get_or (serials_of d) c 0))
+serials_after d after c below is = ap serials_of is ∙ map-set serial d.pairs c (after_one (pair_at d.pairs c))
+    ∙ ap (λ n. set (serials_of d) c (next_serial n)) (serial_at d c below)
+
+-- a reset leaves them
+pub serials_reset : (d after : DriverValue) (c : ℕ) → after ≡ after_reset d c → serials_of after ≡ serials_of d
+serials_reset d after c is =
+    ap serials_of is ∙ map-set_same serial d.pairs c (renewed_pair (pair_at d.pairs c)) no_pair refl
+
+-- both leave as many queue pairs
+pub reset_pairs : (d after : DriverValue) (c : ℕ) → after ≡ after_reset d c → length after.pairs ≡ length d.pairs
+reset_pairs d after c e = ap (λ (x : DriverValue). length x.pairs) e
+    ∙ length-set d.pairs c (renewed_pair (pair_at d.pairs c))
+
+pub same_pairs : (d after : DriverValue) (c : ℕ) → after ≡ after_command d c → length after.pairs ≡ length d.pairs
+same_pairs d after c e = ap (λ (x : DriverValue). length x.pairs) e
+    ∙ length-set d.pairs c (after_one (pair_at d.pairs c))
+
+-- ---- with or without a driver
+
+none_by : {F : Type 0} (o : Option F) → ((f : F) → o ≢ Some f) → o ≡ None
+none_by None h = refl
+none_by (Some f) h = absurd (h f refl)
+
+-- a driver was brought up, where each field out of its limits would be told
+pub without_fault : {D : Type 0} (g : Geometry) (d : D)
+    → ((field : GeometryField)
+    → ◌≡◌ {A = Result D DriverError} (Ok d) (Err (error.Geometry field)) ↔ (fault_of g ≡ Some field))
+    → fault_of g ≡ None
+without_fault g d h = none_by (fault_of g) (λ field k. let never = (h field).1 k in absurd (cc))
+
+-- or why there is none
+pub without : {D : Type 0} (g : Geometry) (e : DriverError)
+    → ((field : GeometryField)
+    → ◌≡◌ {A = Result D DriverError} (Err e) (Err (error.Geometry field)) ↔ (fault_of g ≡ Some field))
+    → ◌≢◌ {A = Result D DriverError} (Err e) (Err error.NoReady) → e ≡ error_without (fault_of g)
+without g (error.Geometry field) h ready = ap error_without (sym ((h field).0 refl))
+without g error.Memory h ready =
+    let none = none_by (fault_of g) (λ field k. let same = (h field).1 k in absurd (cc)) in
+    ap error_without (sym none)
+without g error.NoReady h ready = absurd (ready refl)

@@ -1,6 +1,0 @@
--- A write that failed took nothing.
-use Rattle.std.specs.Io.KnownBytes.{Keeps}
-use Rattle.nv_script.proofs.retrying.RetryingWrite.write.Given as goal
-
-abbrev pub invariant-loop : goal.invariant-loop
-invariant-loop g l = Keeps (g.W.Write.contents l.initial.self.writer) (g.W.Write.contents l.self.writer)

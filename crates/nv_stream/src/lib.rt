@@ -1,0 +1,12 @@
+//! Where bytes come from and where they go: sources and sinks, over readers and writers of std.
+#![tactic(auto)]
+
+mod in_order;
+mod retrying;
+mod streams;
+mod writing;
+
+pub use in_order::{Held, OverHeld, SinkAfter, SourceAfter};
+pub use retrying::Retrying;
+pub use streams::{OverRead, OverWrite, READ_SIZE, Sink, Source};
+pub use writing::write_all;
