@@ -252,7 +252,7 @@ fn short_over(rt: &impl Abort, alloc: Global, geometry: Geometry) -> Result<(), 
 }
 
 /// Data in one page of the greatest, and in two that are behind a list.
-fn geometries() -> [Geometry; 2] {
+pub(crate) fn geometries() -> [Geometry; 2] {
     let plain = plain();
     [
         Geometry {

@@ -30,6 +30,8 @@ mod mistakes;
 #[cfg(test)]
 mod resets;
 #[cfg(test)]
+mod serving;
+#[cfg(test)]
 mod subsystem_logs;
 #[cfg(test)]
 mod subsystem_management;

@@ -1,0 +1,3 @@
+pub mod ReadingLaws
+pub mod ServingLaws
+pub mod ServedLaws

@@ -1,0 +1,33 @@
+use Rattle.std.proofs.Common.{inl, inr, refl, subst}
+use Rattle.nv_driver.specs.Geometry.{fault_of}
+use Rattle.nv_driver.specs.Layout.{pages_of_entry}
+use Rattle.nv_driver.proofs.LinkedLaws.{without, without_fault}
+use Rattle.nv_serve.specs.Served.{IsServed, streams}
+use Rattle.nv_serve.proofs.ServedLaws.{begun_is, end_is}
+use Rattle.nv_serve.proofs.serving.serve.Goals as goal
+
+pub returns-in-Ok-clause-serves : goal.returns-in-Ok-clause-serves
+returns-in-Ok-clause-serves g c =
+    let e = c.in-Ok.ensures in
+    let begins =
+    begun_is (g.B.Bus.meaning c.args.bus.now) (g.B.Bus.meaning c.bring_up_for_entries.new.bus) c.args.geometry
+    (pages_of_entry c.args.geometry.page_size) e.state e.value in
+    inr (
+      without_fault c.args.geometry c.in-Ok.driver e.geometry,
+      (
+        c.serve_all.result,
+        refl,
+        subst (λ p. IsServed p c.serve_all.result (g.B.Bus.meaning c.serve_all.new.bus).state
+            (streams (g.R.Source.state c.args.source.now) (g.O.Sink.state c.args.out.now))
+            (streams (g.R.Source.state c.serve_all.new.source) (g.O.Sink.state c.serve_all.new.out))) begins
+            c.serve_all.ensures.served,
+      ),
+    )
+
+pub returns-clause-serves : goal.returns-clause-serves
+returns-clause-serves g c =
+    let error = c.in-Err-bring_up_for_entries.error in
+    let e = c.in-Err-bring_up_for_entries.ensures in
+    let why = without c.args.geometry error e.geometry e.ready in
+    let here = streams (g.R.Source.state c.args.source.now) (g.O.Sink.state c.args.out.now) in
+    inl (end_is (fault_of c.args.geometry) error c.from.result why c.from.ensures, e.untouched, refl {a = here})

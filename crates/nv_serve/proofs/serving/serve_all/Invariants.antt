@@ -1,0 +1,27 @@
+use Rattle.std.proofs.Common.{◌≡◌, ◌≤◌, ◌*◌, ◌+◌, false, length, List}
+use Rattle.nv_driver.specs.Driver.{HasEntryPages}
+use Rattle.nv_driver.specs.Linked.{IsLinked}
+use Rattle.nv_serve.specs.Answer.{Answer}
+use Rattle.nv_serve.specs.Header.{Request, most_data}
+use Rattle.nv_serve.specs.Reading.{IsReady}
+use Rattle.nv_serve.specs.Served.{HasTaken}
+use Rattle.nv_serve.specs.Serving.{point_of}
+use Rattle.nv_serve.proofs.ServedLaws.{Stands}
+use Rattle.nv_serve.proofs.serving.serve_all.Given as goal
+
+abbrev pub invariant-loop : goal.invariant-loop
+invariant-loop g l = record {
+  ready : IsReady (g.R.Source.state l.source);
+  out_ready : (g.O.Sink.state l.out).has_failed ≡ false;
+  few : (g.R.Source.state l.source).given ≤ l.counter * (72 + most_data);
+  sent_long : length l.sent ≡ most_data;
+  received_long : length l.received ≡ most_data;
+  linked : IsLinked (g.B.Bus.meaning l.bus) l.driver;
+  room : HasEntryPages l.driver;
+  stands : (requests : List Request) × (answers : List Answer)
+      × Stands (point_of (g.B.Bus.meaning l.initial.bus) l.initial.driver)
+      (point_of (g.B.Bus.meaning l.bus) l.driver)
+      (g.R.Source.state l.initial.source) (g.R.Source.state l.source) requests answers
+      × HasTaken (g.O.Sink.state l.initial.out) (g.O.Sink.state l.out) answers
+      × (length requests ≡ l.counter);
+}

@@ -1,0 +1,36 @@
+-- An answer's bytes: a header, and what came.
+use Rattle.std.specs.Prelude.{ℕ, ◌++◌, List, [], ◌∷◌}
+use Rattle.nv_layout.specs.Parts.{laid_out, number}
+use Rattle.nv_layout.specs.Status.{number_of_status}
+use Rattle.nv_bus.specs.Entry.{success}
+use Rattle.nv_serve.specs.declared.answer.AnswerHeader.{AnswerHeader}
+use Rattle.nv_serve.specs.declared.answer.Outcome.{Outcome}
+use Rattle.nv_serve.specs.declared.answer.Outcome.TheVariants.{Answered, NoController, NoKind, TooLong}
+
+abbrev pub outcome_number : Outcome → ℕ
+outcome_number Answered = 0
+outcome_number NoController = 1
+outcome_number NoKind = 2
+outcome_number TooLong = 3
+
+abbrev pub bytes_of_header : AnswerHeader → List ℕ
+bytes_of_header h = laid_out 12
+    (number 0 4 h.dword0
+    ∷ number 4 2 (number_of_status h.status)
+    ∷ number 6 2 (outcome_number h.outcome)
+    ∷ number 8 4 h.length
+    ∷ [])
+
+-- with no data and no status of a command
+abbrev pub bare : Outcome → AnswerHeader
+bare outcome = record { dword0 = 0; status = success; outcome = outcome; length = 0 }
+
+pub record Answer : Type 0 where
+  pub header : AnswerHeader
+  pub payload : List ℕ
+
+abbrev pub answer : AnswerHeader → List ℕ → Answer
+answer header payload = record { header = header; payload = payload }
+
+abbrev pub bytes_of : Answer → List ℕ
+bytes_of a = bytes_of_header a.header ++ a.payload

@@ -1,0 +1,5 @@
+pub mod Header
+pub mod Answer
+pub mod Serving
+pub mod Reading
+pub mod Served

@@ -1,0 +1,113 @@
+-- What serving requests leaves, by its end.
+use Rattle.std.specs.Prelude.{◌≡◌, ◌≢◌, ℕ, ◌+◌, false, true, List, [], ◌∷◌, ◌++◌, ◌⊎◌, Option, None, Some, flat_map}
+use Rattle.std.specs.Prelude.{length}
+use Rattle.std.specs.Prelude.{replicate}
+use Rattle.std.specs.Io.KnownBytes.{Appends, Consumes}
+use Rattle.nv_model.specs.Reset.{reset_where}
+use Rattle.nv_model.specs.State.{State}
+use Rattle.nv_bus.specs.Bus.{BusValue, enabled_in}
+use Rattle.nv_driver.specs.Geometry.{fault_of}
+use Rattle.nv_driver.specs.declared.geometry.Geometry.{Geometry as DriverGeometry}
+use Rattle.nv_driver.specs.declared.geometry_field.GeometryField.{GeometryField}
+use Rattle.nv_stream.specs.Streams.{IsBeginning, SinkState, SourceState}
+use Rattle.nv_serve.specs.Answer.{Answer, bare, bytes_of as answer_bytes}
+use Rattle.nv_serve.specs.Header.{IsCutShort, IsTooLong, Request, bytes_of}
+use Rattle.nv_serve.specs.Reading.{HasEnded, HasFailed}
+use Rattle.nv_serve.specs.Serving.{AreAnswered, Point, after_all, point}
+use Rattle.nv_serve.specs.declared.answer.Outcome.TheVariants as outcome
+use Rattle.nv_serve.specs.declared.ends.RequestsEnd.{RequestsEnd}
+use Rattle.nv_serve.specs.declared.ends.RequestsEnd.TheVariants.{Done, Short, TooLong, Read, Write}
+use Rattle.nv_serve.specs.declared.ends.ServeEnd.{ServeEnd}
+use Rattle.nv_serve.specs.declared.ends.ServeEnd.TheVariants.{Geometry, Memory, Requests}
+
+-- the most requests of one serving
+abbrev pub request_limit : ℕ
+request_limit = 4294967295
+
+-- the streams
+pub record Streams : Type 0 where
+  pub source : SourceState
+  pub out : SinkState
+
+abbrev pub streams : SourceState → SinkState → Streams
+streams source out = record { source = source; out = out }
+
+abbrev pub too_long : Answer
+too_long = record { header = bare outcome.TooLong; payload = [] }
+
+-- what was read of a further request, and what it was answered: only one that is too long has an answer
+pub data IsRest (r : Request) (last : List Answer) : Type 0 where
+  none : bytes_of r ≡ [] → last ≡ [] → IsRest r last
+  cut : IsCutShort r → last ≡ [] → IsRest r last
+  long : IsTooLong r → last ≡ too_long ∷ [] → IsRest r last
+
+abbrev pub texts : List Answer → List ℕ
+texts answers = flat_map answer_bytes answers
+
+-- the sink took these answers, and has not failed
+pub record HasTaken (old new : SinkState) (said : List Answer) : Type 0 where
+  pub taken : Appends old.taken new.taken (texts said)
+  pub not_failed : new.has_failed ≡ false
+
+-- or it took all before the last and a beginning of that, and failed
+pub record HasTakenPart (old new : SinkState) (said : List Answer) : Type 0 where
+  pub before : List Answer
+  pub last : Answer
+  pub part : List ℕ
+  pub said_are : said ≡ before ++ last ∷ []
+  pub beginning : IsBeginning part (answer_bytes last)
+  pub taken : Appends old.taken new.taken (texts before ++ part)
+  pub failed : new.has_failed ≡ true
+
+-- the source has neither ended nor failed
+pub record IsOpen (source : SourceState) : Type 0 where
+  pub not_failed : source.has_failed ≡ false
+  pub not_ended : source.has_ended ≡ false
+
+-- The source ended between two requests, or in one. A request was too long. The source failed, or there
+-- were as many requests as there may be. The sink failed, and nothing is read while an answer isn't out.
+abbrev pub IsEnd : RequestsEnd → Request → List Request → List Answer → Streams → Streams → Type 0
+IsEnd Done rest requests said old new =
+    (bytes_of rest ≡ []) × HasEnded new.source × HasTaken old.out new.out said
+IsEnd Short rest requests said old new = IsCutShort rest × (bytes_of rest ≢ [])
+    × HasEnded new.source × HasTaken old.out new.out said
+IsEnd TooLong rest requests said old new =
+    IsTooLong rest × IsOpen new.source × HasTaken old.out new.out said
+IsEnd Read rest requests said old new =
+    (HasFailed new.source ⊎ (IsOpen new.source × (length requests ≡ request_limit)))
+    × HasTaken old.out new.out said
+IsEnd Write rest requests said old new =
+    (IsTooLong rest ⊎ (bytes_of rest ≡ [])) × IsOpen new.source × HasTakenPart old.out new.out said
+
+-- Requests were served from p on: those that were read whole are answered in order, and the subsystem
+-- is that after them. Of what was read further nothing was executed.
+pub record IsServed (p : Point) (end : RequestsEnd) (s : State) (old new : Streams) : Type 0 where
+  pub requests : List Request
+  pub answers : List Answer
+  pub rest : Request
+  pub last : List Answer
+  pub answered : AreAnswered p requests answers
+  pub reached : s ≡ (after_all p requests).subsystem
+  pub was_read : Consumes old.source.to_come new.source.to_come
+      (flat_map bytes_of requests ++ bytes_of rest)
+  pub count : new.source.given
+      ≡ old.source.given + length (flat_map bytes_of requests ++ bytes_of rest)
+  pub rest_is : IsRest rest last
+  pub end_is : IsEnd end rest requests (answers ++ last) old new
+
+-- the end where there is no driver or no room: the first field of the geometry that is out of its
+-- limits, or want of memory
+abbrev pub end_without : Option GeometryField → ServeEnd
+end_without (Some field) = Geometry field
+end_without None = Memory
+
+-- the subsystem as the first request finds it: each controller that was enabled has been reset
+abbrev pub begun : BusValue → Point
+begun b = point (reset_where (enabled_in b.banks) b.state) (replicate (length b.banks) 0)
+
+-- Without a driver nothing changes. With one the geometry occurs nowhere else.
+abbrev pub Serves : DriverGeometry → ServeEnd → BusValue → BusValue → Streams → Streams → Type 0
+Serves g end b b' old new =
+    ((end ≡ end_without (fault_of g)) × (b' ≡ b) × (new ≡ old))
+    ⊎ ((fault_of g ≡ None)
+    × ((e : RequestsEnd) × (end ≡ Requests e) × IsServed (begun b) e b'.state old new))

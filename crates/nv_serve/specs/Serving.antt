@@ -1,0 +1,124 @@
+-- What requests do, one after another: a fold that knows the subsystem and the command identifiers.
+use Rattle.std.specs.Prelude.{◌≡◌, ℕ, Bool, true, false, List, [], ◌∷◌, length, nat_lt, slice_set}
+use Rattle.std.specs.Prelude.{slice_index_or, fold}
+use Rattle.nv_layout.specs.declared.sqe.Sqe.{Sqe}
+use Rattle.nv_layout.specs.declared.status.Status.{Status}
+use Rattle.nv_command.specs.Entry.{entry_of}
+use Rattle.nv_command.specs.declared.command.Command.TheVariants.{ActiveList}
+use Rattle.nv_model.specs.Reset.{reset}
+use Rattle.nv_model.specs.State.{State}
+use Rattle.nv_model.specs.Step.{Step, next_serial}
+use Rattle.nv_bus.specs.Bus.{BusValue}
+use Rattle.nv_bus.specs.Entry.{told_by}
+use Rattle.nv_bus.specs.declared.told.Told.{Told}
+use Rattle.nv_driver.specs.Alone.{IsReceived, asked_in, entry_step}
+use Rattle.nv_driver.specs.Linked.{serials_of}
+use Rattle.nv_driver.specs.Settled.{DriverValue}
+use Rattle.nv_serve.specs.Answer.{Answer, bare}
+use Rattle.nv_serve.specs.Header.{IsWhole, Request, header_of, wanted_length}
+use Rattle.nv_serve.specs.declared.answer.AnswerHeader.{AnswerHeader}
+use Rattle.nv_serve.specs.declared.answer.Outcome.TheVariants.{Answered, NoController, NoKind}
+use Rattle.nv_serve.specs.declared.header.Header.{Header}
+use Rattle.nv_serve.specs.declared.header.Kind.{Kind}
+use Rattle.nv_serve.specs.declared.header.Kind.TheVariants.{Entry, Reset, List as ListKind, Unknown}
+
+-- the subsystem, and the next command identifier of each controller
+pub record Point : Type 0 where
+  pub subsystem : State
+  pub serials : List ℕ
+
+abbrev pub point : State → List ℕ → Point
+point subsystem serials = record { subsystem = subsystem; serials = serials }
+
+abbrev pub serial_at : Point → ℕ → ℕ
+serial_at p c = slice_index_or p.serials c 0
+
+-- an entry on a controller, with the bytes that the host sends
+abbrev pub step_at : Point → ℕ → Sqe → List ℕ → Step
+step_at p c e bytes = entry_step p.subsystem c e bytes (serial_at p c)
+
+abbrev pub after_entry : Point → ℕ → Sqe → List ℕ → Point
+after_entry p c e bytes =
+    point (step_at p c e bytes).state (slice_set p.serials c (next_serial (serial_at p c)))
+
+-- a reset of a controller
+abbrev pub after_reset : Point → ℕ → Point
+after_reset p c = point (reset p.subsystem c) p.serials
+
+-- the entry that asks for the list of a controller's active namespaces
+abbrev pub list_entry : Sqe
+list_entry = entry_of (ActiveList 0) 0
+
+-- ---- what a request leaves
+
+abbrev pub after_kind : Kind → Point → Header → List ℕ → Point
+after_kind Entry p h bytes = after_entry p h.controller h.entry bytes
+after_kind Reset p h bytes = after_reset p h.controller
+after_kind ListKind p h bytes = after_entry p h.controller list_entry []
+after_kind Unknown p h bytes = p
+
+-- nothing changes where its controller isn't there
+abbrev pub after_if : Bool → Point → Header → List ℕ → Point
+after_if true p h bytes = after_kind h.kind p h bytes
+after_if false p h bytes = p
+
+abbrev pub has_controller : Point → Header → Bool
+has_controller p h = nat_lt h.controller (length p.serials)
+
+abbrev pub after_header : Point → Header → List ℕ → Point
+after_header p h bytes = after_if (has_controller p h) p h bytes
+
+abbrev pub after_one : Point → Request → Point
+after_one p r = after_header p (header_of r.header) r.payload
+
+abbrev pub after_all : Point → List Request → Point
+after_all p requests = fold after_one p requests
+
+-- ---- what it is answered
+
+-- a completion, and as many bytes as were wanted of those that came
+pub record IsReturned (p : Point) (c : ℕ) (e : Sqe) (bytes : List ℕ) (n : ℕ) (told : Told)
+    (payload : List ℕ) : Type 0 where
+  pub told_is : told ≡ told_by (step_at p c e bytes).answer
+  pub received : IsReceived (asked_in p.subsystem c e bytes) (step_at p c e bytes).answer payload
+  pub room : length payload ≡ n
+
+abbrev pub returned : ℕ → Status → ℕ → AnswerHeader
+returned dword0 status n =
+    record { dword0 = dword0; status = status; outcome = Answered; length = n }
+
+abbrev pub IsBare : Answer → AnswerHeader → Type 0
+IsBare a header = (a.header ≡ header) × (a.payload ≡ [])
+
+abbrev pub IsAnswerByKind : Kind → Point → Header → List ℕ → Answer → Type 0
+IsAnswerByKind Entry p h bytes a =
+    (told : Told) × IsReturned p h.controller h.entry bytes (wanted_length h) told a.payload
+    × (a.header ≡ returned told.dword0 told.status (wanted_length h))
+IsAnswerByKind Reset p h bytes a = IsBare a (bare Answered)
+-- a list tells how many controllers there are
+IsAnswerByKind ListKind p h bytes a =
+    (told : Told) × IsReturned p h.controller list_entry [] (wanted_length h) told a.payload
+    × (a.header ≡ returned (length p.serials) told.status (wanted_length h))
+IsAnswerByKind Unknown p h bytes a = IsBare a (bare NoKind)
+
+abbrev pub IsAnswerIf : Bool → Point → Header → List ℕ → Answer → Type 0
+IsAnswerIf true p h bytes a = IsAnswerByKind h.kind p h bytes a
+IsAnswerIf false p h bytes a = IsBare a (bare NoController)
+
+abbrev pub IsAnswerToHeader : Point → Header → List ℕ → Answer → Type 0
+IsAnswerToHeader p h bytes a = IsAnswerIf (has_controller p h) p h bytes a
+
+abbrev pub IsAnswer : Point → Request → Answer → Type 0
+IsAnswer p r a = IsAnswerToHeader p (header_of r.header) r.payload a
+
+-- each of these requests is whole, and has its answer
+abbrev pub AreAnswered : Point → List Request → List Answer → Type 0
+AreAnswered p [] [] = Unit {0}
+AreAnswered p [] (a ∷ answers) = ⊥
+AreAnswered p (r ∷ requests) [] = ⊥
+AreAnswered p (r ∷ requests) (a ∷ answers) =
+    IsWhole r × IsAnswer p r a × AreAnswered (after_one p r) requests answers
+
+-- where a bus and its driver stand
+abbrev pub point_of : BusValue → DriverValue → Point
+point_of b d = point b.state (serials_of d)

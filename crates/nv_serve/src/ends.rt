@@ -1,0 +1,51 @@
+//! How serving ends.
+
+ghost use Rattle.std.specs.Prelude.{◌≡◌, ◌≢◌};
+ghost use Rattle.nv_driver.specs.declared.error.DriverError.TheVariants as error;
+ghost use Rattle.nv_driver.specs.declared.geometry_field.GeometryField.{GeometryField};
+ghost use Rattle.nv_serve.specs.declared.ends.ServeEnd.TheVariants as end;
+
+use nv_driver::{DriverError, GeometryField};
+
+/// How the requests ended.
+#[derive(Clone, Copy, Debug, PartialEq, Eq)]
+pub enum RequestsEnd {
+    /// The source ended between two requests.
+    Done,
+    /// The source ended in a request, of which nothing was executed.
+    Short,
+    /// A request asked for more data than may be.
+    TooLong,
+    /// The source failed, or there were as many requests as there may be.
+    Read,
+    /// The sink failed.
+    Write,
+}
+
+/// How serving ended.
+#[derive(Clone, Copy, Debug, PartialEq, Eq)]
+pub enum ServeEnd {
+    /// The requests ended.
+    Requests(RequestsEnd),
+    /// The first field of the geometry that is out of its limits. Nothing was read or written.
+    Geometry(GeometryField),
+    /// A controller's CSTS.RDY is not as awaited: a bus that keeps its contract has no such end.
+    NoReady,
+    /// Memory was refused. Nothing was read or written.
+    Memory,
+}
+
+impl From<DriverError> for ServeEnd {
+    ghost from_gives = { λ from to.
+        ((field : GeometryField) → from ≡ error.Geometry field → to ≡ end.Geometry field)
+        × (from ≡ error.Memory → to ≡ end.Memory)
+        × (from ≡ error.NoReady → to ≡ end.NoReady) };
+
+    fn from(error: DriverError) -> ServeEnd {
+        match error {
+            DriverError::Geometry(field) => ServeEnd::Geometry(field),
+            DriverError::Memory => ServeEnd::Memory,
+            DriverError::NoReady => ServeEnd::NoReady,
+        }
+    }
+}
