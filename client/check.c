@@ -1,0 +1,458 @@
+/* Tries the client: sends ioctls to /dev/nvme0 and /dev/nvme1 of the demonstration subsystem, and looks at each answer.
+   It is run by ./nvme-model, each time over a new subsystem:
+       check commands | wide | lengths | many | broken | killed | nodes | gone
+   Here is what the commands are answered, and in check_client.c how the client does it. The status is 0 where all was
+   as it should be. */
+#define _GNU_SOURCE
+#include "check.h"
+#include "wire.h"
+#include <errno.h>
+#include <fcntl.h>
+#include <linux/nvme_ioctl.h>
+#include <stdarg.h>
+#include <stdio.h>
+#include <stdlib.h>
+#include <string.h>
+#include <sys/ioctl.h>
+
+unsigned char common[MOST_DATA + 1];
+int files[2];
+static int is_wide;  /* whether commands have results of 64 bits */
+static unsigned tried, wrong;
+
+/* What was sent to each controller, as its error log tells it. */
+static unsigned commands[2], refusals[2], last_status[2], last_identifier[2], last_nsid[2];
+static int sent_before[2] = {-1, -1};  /* commands: lists, by which the launcher and the library look for nodes */
+
+void must(int is_so, const char *format, ...) {
+    va_list values;
+    tried++;
+    if (is_so)
+        return;
+    wrong++;
+    va_start(values, format);
+    fputs("check: not so: ", stderr);
+    vfprintf(stderr, format, values);
+    fputc('\n', stderr);
+    va_end(values);
+}
+
+uint64_t number(const unsigned char *data, unsigned at, unsigned bytes) {
+    uint64_t value = 0;
+    while (bytes-- > 0)
+        value = value << 8 | data[at + bytes];
+    return value;
+}
+
+int all_are(const unsigned char *data, size_t from, size_t to, unsigned char byte) {
+    while (from < to && data[from] == byte)
+        from++;
+    return from == to;
+}
+
+int send_command(int file, const struct command *command, uint64_t *result) {
+    struct nvme_passthru_cmd64 wide = {0};
+    struct nvme_passthru_cmd given = {
+        .opcode = command->opcode, .flags = command->flags, .nsid = command->nsid, .cdw10 = command->cdw10,
+        .cdw11 = command->cdw11, .cdw12 = command->cdw12, .data_len = command->length,
+        .addr = (uintptr_t)(command->data ? command->data : common), .result = EVERY};
+    if (!is_wide) {
+        int value = ioctl(file, NVME_IOCTL_ADMIN_CMD, &given);
+        *result = given.result;
+        return value;
+    }
+    memcpy(&wide, &given, offsetof(struct nvme_passthru_cmd, result));
+    wide.result = UINT64_MAX;
+    int value = ioctl(file, NVME_IOCTL_ADMIN64_CMD, &wide);
+    *result = wide.result;
+    return value;
+}
+
+/* Sends a command to a controller, which must have this status and dword 0. */
+static void told(unsigned controller, struct command command, int status, uint32_t dword_0) {
+    uint64_t result;
+    int value = send_command(files[controller], &command, &result);
+    must(value == status && result == dword_0,
+         "nvme%u: opcode %02xh, NSID %xh, dwords %xh and %xh, %u bytes: status %xh, dword 0 %xh; it was %xh, %llxh",
+         controller, command.opcode, command.nsid, command.cdw10, command.cdw11, command.length, status, dword_0, value,
+         (unsigned long long)result);
+    if (status > 0) {
+        refusals[controller]++;
+        last_status[controller] = (unsigned)status;
+        last_identifier[controller] = commands[controller];
+        last_nsid[controller] = command.nsid;
+    }
+    commands[controller]++;
+}
+
+void done(unsigned controller, struct command command, uint32_t dword_0) {
+    told(controller, command, 0, dword_0);
+}
+
+static void refused(unsigned controller, struct command command, int status) {
+    told(controller, command, status, 0);
+}
+
+/* Commands with data of a page. */
+
+struct command identify(uint32_t cns, uint32_t nsid) {
+    memset(common, UNTOUCHED, PAGE);
+    return (struct command){IDENTIFY, nsid, cns, PAGE, 0, 0, 0, NULL};
+}
+
+struct command create(uint64_t nsze, uint64_t ncap, unsigned char flbas, unsigned char dps, unsigned char nmic) {
+    memset(common, 0, PAGE);
+    for (unsigned at = 0; at < 8; at++) {
+        common[at] = (unsigned char)(nsze >> 8 * at);
+        common[8 + at] = (unsigned char)(ncap >> 8 * at);
+    }
+    common[26] = flbas;
+    common[29] = dps;
+    common[30] = nmic;
+    return (struct command){MANAGEMENT, 0, 0, PAGE, 0, 0, 0, NULL};
+}
+
+struct command attachment(int detaches, uint32_t nsid, unsigned count, unsigned first, unsigned second) {
+    memset(common, 0, PAGE);
+    const unsigned parts[] = {count, first, second};
+    for (unsigned at = 0; at < 3; at++) {
+        common[2 * at] = (unsigned char)parts[at];
+        common[2 * at + 1] = (unsigned char)(parts[at] >> 8);
+    }
+    return (struct command){ATTACHMENT, nsid, (uint32_t)detaches, PAGE, 0, 0, 0, NULL};
+}
+
+/* Commands without data, and logs. */
+
+struct command delete(uint32_t nsid) {
+    return (struct command){MANAGEMENT, nsid, 1, 0, 0, 0, 0, NULL};
+}
+
+static struct command format(uint32_t nsid, uint32_t cdw10) {
+    return (struct command){FORMAT, nsid, cdw10, 0, 0, 0, 0, NULL};
+}
+
+struct command get_feature(uint32_t nsid, uint32_t identifier, uint32_t selector) {
+    return (struct command){GET_FEATURES, nsid, selector << 8 | identifier, 0, 0, 0, 0, NULL};
+}
+
+struct command set_feature(uint32_t nsid, uint32_t identifier, uint32_t value, uint32_t saves) {
+    return (struct command){SET_FEATURES, nsid, saves << 31 | identifier, 0, value, 0, 0, NULL};
+}
+
+static struct command get_log(uint32_t nsid, uint32_t identifier, uint32_t bytes, uint32_t offset) {
+    uint32_t dwords = bytes / 4 - 1;
+    memset(common, UNTOUCHED, bytes);
+    return (struct command){GET_LOG, nsid, dwords << 16 | identifier, bytes, dwords >> 16, offset, 0, NULL};
+}
+
+/* What must stand in the common buffer. */
+
+static void is_number(unsigned at, unsigned bytes, uint64_t value) {
+    must(number(common, at, bytes) == value, "byte %u holds %llu, not %llu", at, (unsigned long long)value,
+         (unsigned long long)number(common, at, bytes));
+}
+
+/* (a text is filled up with spaces, or with zeros) */
+static void is_text(unsigned at, size_t bytes, const char *text, unsigned char filling) {
+    size_t length = strlen(text);
+    must(memcmp(common + at, text, length) == 0 && all_are(common, at + length, at + bytes, filling),
+         "byte %u begins the text %s", at, text);
+}
+
+void is_list(unsigned count, const uint32_t *ids) {
+    for (unsigned at = 0; at < count; at++)
+        is_number(4 * at, 4, ids[at]);
+    must(all_are(common, 4 * count, PAGE, 0), "a list of %u ends with zeros", count);
+}
+
+static void is_namespace(uint64_t blocks, unsigned flbas, unsigned nmic, uint64_t bytes) {
+    static const unsigned char formats[12] = {0, 0, 9, 0, 0, 0, 12, 0, 8, 0, 9, 1};
+    is_number(0, 8, blocks);
+    is_number(8, 8, blocks);
+    is_number(16, 8, 0);
+    is_number(25, 1, 2);
+    is_number(26, 1, flbas);
+    is_number(27, 1, 1);
+    is_number(30, 1, nmic);
+    is_number(48, 8, bytes);
+    must(memcmp(common + 128, formats, sizeof formats) == 0, "a namespace has the three formats of the file");
+    must(all_are(common, 140, PAGE, 0), "a namespace ends with zeros");
+}
+
+/* What the demonstration file says of a controller. */
+static void is_controller(const char *serial, unsigned identifier, unsigned elpe, unsigned vwc, uint64_t unallocated) {
+    static const struct {
+        unsigned at, bytes;
+        uint64_t value;
+    } fields[] = {{0, 4, 0},      {72, 4, 0},     {76, 1, 2},   {77, 1, 5},     {80, 4, 0x10400}, {256, 2, 0xa},
+                  {260, 1, 2},    {261, 1, 4},    {263, 1, 0},  {266, 2, 343},  {268, 2, 353},    {280, 8, 10485760},
+                  {512, 1, 0x66}, {513, 1, 0x44}, {516, 4, 4},  {520, 2, 0x10}, {524, 1, 0}};
+    for (unsigned at = 0; at < sizeof fields / sizeof *fields; at++)
+        is_number(fields[at].at, fields[at].bytes, fields[at].value);
+    is_text(4, 20, serial, ' ');
+    is_text(24, 40, "Demo Controller", ' ');
+    is_text(64, 8, "1.0", ' ');
+    is_text(768, 256, "nqn.2014-08.org.example:demo", 0);
+    is_number(78, 2, identifier);
+    is_number(262, 1, elpe);
+    is_number(525, 1, vwc);
+    is_number(296, 8, unallocated);
+}
+
+/* The newest entry of a controller's error log is its last refusal. */
+static void is_booked(unsigned controller, uint64_t specific) {
+    done(controller, get_log(EVERY, 1, 64, 0), 0);
+    is_number(0, 8, refusals[controller]);
+    is_number(8, 2, 0);
+    if (sent_before[controller] < 0)
+        sent_before[controller] = (int)number(common, 10, 2) - (int)last_identifier[controller];
+    must(sent_before[controller] > 0 && sent_before[controller] < 4, "a list or some were asked for");
+    is_number(10, 2, last_identifier[controller] + (unsigned)sent_before[controller]);
+    must(number(common, 12, 2) >> 1 == last_status[controller], "the log has the status %xh, not %llxh",
+         last_status[controller], (unsigned long long)number(common, 12, 2) >> 1);
+    is_number(14, 2, 0xffff);
+    is_number(24, 4, last_nsid[controller]);
+    is_number(32, 8, specific);
+}
+
+static void try_identify(void) {
+    done(0, identify(1, 0), 0);
+    is_controller("S0", 0, 3, 7, 9432576);
+    done(1, identify(1, 7), 0);
+    is_controller("S1", 1, 0, 0, 9432576);
+    done(0, identify(0, 1), 0);
+    is_namespace(2048, 0, 1, 1048576);
+    done(0, identify(0, 3), 0);
+    is_namespace(9, 0, 0, 4608);
+    done(0, identify(0, EVERY), 0);
+    is_namespace(0, 0, 0, 0);
+    done(0, identify(0, 2), 0);
+    must(all_are(common, 0, PAGE, 0), "a namespace that is not there is zeros");
+    done(1, identify(0, 1), 0);
+    must(all_are(common, 0, PAGE, 0), "a namespace that is not attached is zeros");
+    done(1, identify(0x11, 1), 0);
+    is_namespace(2048, 0, 1, 1048576);
+    done(0, identify(2, 0), 0);
+    is_list(2, (uint32_t[]){1, 3});
+    done(0, identify(2, 1), 0);
+    is_list(1, (uint32_t[]){3});
+    done(1, identify(2, 0), 0);
+    is_list(0, NULL);
+    done(1, identify(0x10, 0), 0);
+    is_list(2, (uint32_t[]){1, 3});
+    refused(0, identify(0, 0), INVALID_NAMESPACE);
+    refused(0, identify(0, 5), INVALID_NAMESPACE);
+    is_booked(0, 0);
+    refused(1, identify(0x11, EVERY), INVALID_NAMESPACE);
+    is_booked(1, 0);
+    refused(0, identify(2, 0xfffffffe), INVALID_NAMESPACE);
+    refused(0, identify(0x10, EVERY), INVALID_NAMESPACE);
+    for (unsigned cns = 0; cns < 256; cns++)
+        if (cns > 2 && cns != 0x10 && cns != 0x11)
+            refused(0, identify(cns, 1), INVALID_FIELD);
+    is_booked(0, 0);
+}
+
+static void try_logs(void) {
+    done(0, get_log(EVERY, 2, 512, 0), 0);
+    is_number(176, 8, refusals[0]);
+    must(all_are(common, 0, 176, 0) && all_are(common, 184, 512, 0), "the file tells no health");
+    done(1, get_log(0, 1, 256, 0), 0);
+    is_number(0, 8, refusals[1]);
+    must(all_are(common, 64, 256, 0), "the second controller keeps one entry");
+    done(0, get_log(0, 1, 256, 64), 0);
+    is_number(0, 8, refusals[0] - 1);
+    is_number(128, 8, refusals[0] - 3);
+    must(all_are(common, 192, 256, 0), "the first controller keeps four entries");
+    refused(0, get_log(EVERY, 3, 512, 0), INVALID_LOG);
+    refused(0, get_log(EVERY, 2, 512, 2), INVALID_FIELD);
+    refused(0, get_log(EVERY, 2, 512, 516), INVALID_FIELD);
+    refused(0, get_log(1, 2, 512, 0), INVALID_FIELD);
+    done(0, get_log(EVERY, 1, 131072, 0), 0);
+    refused(0, get_log(EVERY, 1, 131076, 0), INVALID_FIELD);
+    is_booked(0, 0);
+}
+
+static void try_features(void) {
+    done(0, get_feature(0, 6, 0), 1);
+    done(0, get_feature(0, 6, 3), 5);
+    done(0, set_feature(EVERY, 6, 0, 1), 0);
+    done(0, get_feature(0, 6, 0), 0);
+    done(0, get_feature(0, 6, 1), 1);
+    done(0, get_feature(0, 6, 2), 0);
+    done(0, set_feature(0, 6, 1, 0), 0);
+    done(0, get_feature(0, 6, 0), 1);
+    must(ioctl(files[0], NVME_IOCTL_RESET) == 0, "a controller is reset");
+    done(0, get_feature(0, 6, 0), 0);
+    done(0, set_feature(EVERY, 5, 7, 0), 0);
+    done(0, get_feature(3, 5, 0), 7);
+    refused(0, get_feature(0, 5, 0), INVALID_NAMESPACE);
+    refused(0, get_feature(2, 5, 0), INVALID_FIELD);
+    refused(0, get_feature(0, 255, 0), INVALID_FIELD);
+    refused(1, get_feature(0, 6, 0), INVALID_FIELD);
+    refused(0, get_feature(0, 6, 4), INVALID_FIELD);
+    refused(0, set_feature(0, 6, 2, 0), INVALID_FIELD);
+    refused(0, set_feature(1, 6, 0, 0), NOT_OF_NAMESPACES);
+    refused(0, set_feature(0, 1, 7, 1), NOT_SAVEABLE);
+    is_booked(0, 0);
+}
+
+static void try_management(void) {
+    refused(0, create(18, 18, 3, 0, 0), INVALID_FORMAT);
+    refused(0, create(18, 18, 0, 1, 0), INVALID_FIELD);
+    refused(0, create(0, 0, 0, 0, 0), INVALID_FIELD);
+    refused(0, create(18, 17, 0, 0, 0), NO_THIN_PROVISIONING);
+    refused(0, create(18, 19, 0, 0, 0), INVALID_FIELD);
+    refused(0, create(18, 18, 0, 0, 2), INVALID_FIELD);
+    refused(0, create(18424, 18424, 0, 0, 0), INSUFFICIENT_CAPACITY);
+    is_booked(0, 9433088);
+    done(0, create(18, 18, 0, 0, 0), 2);
+    done(1, create(1, 1, 0x12, 0, 1), 4);
+    refused(0, create(1, 1, 0, 0, 0), NO_IDENTIFIER);
+    done(0, identify(1, 0), 0);
+    is_controller("S0", 0, 3, 7, 9432576 - 9216 - 512);
+    done(0, identify(0x11, 4), 0);
+    is_namespace(1, 0x12, 1, 512);
+    done(0, attachment(0, 2, 1, 0, 0), 0);
+    refused(0, attachment(0, 2, 1, 0, 0), ALREADY_ATTACHED);
+    refused(1, attachment(0, 2, 1, 1, 0), IS_PRIVATE);
+    refused(0, attachment(0, 4, 2, 1, 0), INVALID_LIST);
+    refused(0, attachment(0, 4, 0, 0, 0), INVALID_LIST);
+    refused(0, attachment(0, 4, 2048, 0, 0), INVALID_LIST);
+    refused(0, attachment(0, 5, 1, 0, 0), INVALID_NAMESPACE);
+    done(0, attachment(0, 4, 2, 0, 1), 0);
+    done(1, identify(2, 0), 0);
+    is_list(1, (uint32_t[]){4});
+    refused(0, attachment(1, 3, 1, 1, 0), NOT_ATTACHED);
+    done(0, attachment(1, 4, 2, 0, 1), 0);
+    refused(0, delete(5), INVALID_NAMESPACE);
+    done(0, delete(4), 0);
+    refused(0, delete(4), INVALID_FIELD);
+    refused(0, attachment(0, 4, 1, 0, 0), INVALID_FIELD);
+    is_booked(0, 0);
+}
+
+static void try_formats(void) {
+    refused(0, format(5, 0), INVALID_NAMESPACE);
+    refused(1, format(2, 0), INVALID_FIELD);
+    refused(0, format(2, 3), INVALID_FORMAT);
+    refused(0, format(2, 0x10), INVALID_FORMAT);
+    refused(0, format(2, 0x20), INVALID_FORMAT);
+    refused(0, format(2, 2 << 9), INVALID_FIELD);
+    done(0, format(2, 0x12), 0);
+    done(0, identify(0, 2), 0);
+    is_namespace(18, 0x12, 0, 9216);
+    done(0, format(EVERY, 1), 0);
+    done(0, identify(0, 2), 0);
+    is_namespace(2, 1, 0, 9216);
+    done(0, identify(0, 3), 0);
+    is_namespace(1, 1, 0, 4608);
+    done(0, delete(EVERY), 0);
+    done(0, identify(0x10, 0), 0);
+    is_list(0, NULL);
+}
+
+/* Opcodes that are none of the model's, and fields that it refuses. */
+static void try_others(void) {
+    static const unsigned char known[] = {GET_LOG,    IDENTIFY,   SET_FEATURES, GET_FEATURES,
+                                          MANAGEMENT, ATTACHMENT, FORMAT};
+    for (unsigned opcode = 0; opcode < 256; opcode++)
+        if (!memchr(known, (int)opcode, sizeof known))
+            refused(0, (struct command){(uint8_t)opcode, 1, 0, 0, 0, 0, 0, NULL}, INVALID_OPCODE);
+    is_booked(0, 0);
+    refused(0, (struct command){IDENTIFY, 0, 1, PAGE, 0, 0, 1, NULL}, INVALID_FIELD);
+    refused(0, (struct command){IDENTIFY, 0, 1, PAGE, 0, 0, 0x40, NULL}, INVALID_FIELD);
+    refused(0, (struct command){MANAGEMENT, 1, 2, 0, 0, 0, 0, NULL}, INVALID_FIELD);
+    refused(0, (struct command){ATTACHMENT, 1, 2, 0, 0, 0, 0, NULL}, INVALID_FIELD);
+    is_booked(0, 0);
+}
+
+static void try_commands(void) {
+    try_identify();
+    try_logs();
+    try_features();
+    try_management();
+    try_formats();
+    try_others();
+}
+
+/* Data that comes: as many of these bytes as there is room for, then zeros, and nothing behind the room. */
+static void comes(struct command command, int status, const unsigned char *bytes, size_t count) {
+    memset(common, UNTOUCHED, sizeof common);
+    told(0, command, status, 0);
+    size_t length = command.length, most = count < length ? count : length;
+    must(memcmp(common, bytes, most) == 0, "%zu of %zu bytes come", most, count);
+    must(all_are(common, most, length, 0), "zeros come behind them, %zu in all", length);
+    must(all_are(common, length, sizeof common, UNTOUCHED), "nothing comes behind %zu bytes", length);
+}
+
+/* Data that doesn't come. */
+static void stays(struct command command, int status) {
+    memset(common, UNTOUCHED, sizeof common);
+    told(0, command, status, 0);
+    must(all_are(common, 0, sizeof common, UNTOUCHED), "no data come of opcode %02xh", command.opcode);
+}
+
+/* Data that is sent: as many bytes as there are, and zeros behind them. */
+static void try_sent(uint32_t length) {
+    struct command attach = attachment(0, 1, 1, 1, 0), detach = attachment(1, 1, 1, 1, 0);
+    attach.length = detach.length = length;
+    /* (one byte is the count of a list, whose first identifier is 0 then: the namespace is there already) */
+    int status = length == 0 ? INVALID_LIST : length == 1 ? ALREADY_ATTACHED : 0;
+    told(1, attach, status, 0);
+    if (status == 0)
+        told(1, detach, 0, 0);
+    struct command made = create(18, 18, 0, 0, 0);
+    made.length = length;
+    status = length == 0 ? INVALID_FIELD : length == 1 ? NO_THIN_PROVISIONING : 0;
+    told(0, made, status, status == 0 ? 2 : 0);
+    if (status == 0)
+        done(0, delete(2), 0);
+}
+
+static void try_lengths(void) {
+    static const uint32_t lengths[] = {0, 1, PAGE - 1, PAGE, PAGE + 1, MOST_DATA};
+    unsigned char controller[PAGE], health[512] = {0};
+    done(0, identify(1, 0), 0);
+    memcpy(controller, common, PAGE);
+    for (unsigned at = 0; at < sizeof lengths / sizeof *lengths; at++) {
+        uint32_t length = lengths[at];
+        health[176] = (unsigned char)refusals[0];
+        comes((struct command){IDENTIFY, 0, 1, length, 0, 0, 0, NULL}, 0, controller, PAGE);
+        comes((struct command){GET_LOG, 0, 127 << 16 | 2, length, 0, 0, 0, NULL}, 0, health, sizeof health);
+        comes((struct command){IDENTIFY, 5, 0, length, 0, 0, 0, NULL}, INVALID_NAMESPACE, controller, 0);
+        comes((struct command){0xc2, 0, 0, length, 0, 0, 0, NULL}, INVALID_OPCODE, controller, 0);
+        stays((struct command){0xc0, 0, 0, length, 0, 0, 0, NULL}, INVALID_OPCODE);
+        stays((struct command){0xc1, 0, 0, length, 0, 0, 0, NULL}, INVALID_OPCODE);
+        stays((struct command){0xc3, 0, 0, length, 0, 0, 0, NULL}, INVALID_OPCODE);
+        stays((struct command){FORMAT, 1, 0, length, 0, 0, 0, NULL}, 0);
+        try_sent(length);
+    }
+    struct command too_long = {IDENTIFY, 0, 1, MOST_DATA + 1, 0, 0, 0, NULL};
+    struct command nowhere = {MANAGEMENT, 0, 0, PAGE, 0, 0, 0, (void *)1};
+    uint64_t result;
+    must(send_command(files[0], &too_long, &result) == -1 && errno == EINVAL, "too much data is an invalid argument");
+    must(send_command(files[0], &nowhere, &result) == -1 && errno == EFAULT, "data that isn't there is a bad address");
+    is_booked(0, 0);
+}
+
+int main(int count, char **arguments) {
+    static const struct {
+        const char *name;
+        void (*part)(void);
+    } parts[] = {{"commands", try_commands}, {"wide", try_commands},   {"lengths", try_lengths}, {"many", try_many},
+                 {"broken", try_broken},     {"killed", try_killed},   {"nodes", try_nodes},     {"gone", try_gone}};
+    if (count == 3 && strcmp(arguments[1], "descriptor") == 0)
+        return !answers(atoi(arguments[2]), '1');
+    files[0] = open("/dev/nvme0", O_RDWR);
+    files[1] = open("/dev/nvme1", O_RDWR);
+    must(files[0] >= 0 && files[1] >= 0, "both controllers can be opened: %s", strerror(errno));
+    for (unsigned at = 0; count == 2 && wrong == 0 && at < sizeof parts / sizeof *parts; at++)
+        if (strcmp(arguments[1], parts[at].name) == 0) {
+            is_wide = strcmp(arguments[1], "wide") == 0;
+            parts[at].part();
+        }
+    must(tried > 1, "there is a part of this name");
+    return wrong != 0;
+}

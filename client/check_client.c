@@ -1,0 +1,384 @@
+/* The check's other part: many processes at once, clients of the launcher that don't do as they should, processes that
+   are killed, nodes with their descriptors, and a device that is gone. */
+#define _GNU_SOURCE
+#include "check.h"
+#include "wire.h"
+#include <dirent.h>
+#include <errno.h>
+#include <fcntl.h>
+#include <linux/fs.h>
+#include <linux/nvme_ioctl.h>
+#include <pthread.h>
+#include <signal.h>
+#include <stdio.h>
+#include <stdlib.h>
+#include <string.h>
+#include <sys/ioctl.h>
+#include <sys/socket.h>
+#include <sys/stat.h>
+#include <sys/un.h>
+#include <sys/wait.h>
+#include <time.h>
+#include <unistd.h>
+
+/* Eight at once, each of which must see its own answers and no others. */
+
+enum { WORKERS = 8, ROUNDS = 150 };
+
+static int works(unsigned worker, unsigned round, unsigned char *data, uint64_t *result) {
+    struct command command = {IDENTIFY, 0, 1, PAGE, 0, 0, 0, data};
+    int file = files[worker == 1];
+    memset(data, UNTOUCHED, MOST_DATA);
+    switch (worker) {
+    case 0:
+    case 1:
+        return send_command(file, &command, result) == 0 && data[5] == '0' + worker;
+    case 2:
+        command.length = MOST_DATA;
+        return send_command(file, &command, result) == 0 && data[5] == '0' && data[MOST_DATA - 1] == 0;
+    case 3:
+        command.cdw10 = 0;
+        command.nsid = 3;
+        return send_command(file, &command, result) == 0 && number(data, 0, 8) == 9;
+    case 4:
+        command.cdw10 = 2;
+        command.nsid = 1;
+        return send_command(file, &command, result) == 0 && data[0] == 3 && all_are(data, 1, PAGE, 0);
+    case 5:
+        command.cdw10 = 0;
+        command.nsid = 5;
+        return send_command(file, &command, result) == INVALID_NAMESPACE && all_are(data, 0, PAGE, 0);
+    case 6:
+        command = (struct command){0xc1, 0, 0, MOST_DATA, 0, 0, 0, data};
+        return send_command(file, &command, result) == INVALID_OPCODE;
+    default:
+        command = set_feature(0, 8, round, 0);
+        if (send_command(file, &command, result) != 0)
+            return 0;
+        command = get_feature(0, 8, 0);
+        return send_command(file, &command, result) == 0 && *result == round;
+    }
+}
+
+static void *work(void *told) {
+    unsigned worker = *(unsigned *)told, bad = 0;
+    uint64_t result;
+    unsigned char *data = malloc(MOST_DATA);
+    for (unsigned round = 0; round < ROUNDS; round++)
+        bad += !data || !works(worker, round, data, &result);
+    free(data);
+    *(unsigned *)told = bad;
+    return NULL;
+}
+
+void try_many(void) {
+    unsigned bad[WORKERS];
+    pthread_t threads[WORKERS];
+    for (unsigned worker = 0; worker < WORKERS; worker++) {
+        bad[worker] = worker;
+        if (fork() == 0) {
+            work(bad + worker);
+            _exit(bad[worker] != 0);
+        }
+    }
+    for (unsigned worker = 0; worker < WORKERS; worker++) {
+        int how;
+        wait(&how);
+        must(how == 0, "a process of %u at once sees its own answers", WORKERS);
+    }
+    for (unsigned worker = 0; worker < WORKERS; worker++)
+        pthread_create(threads + worker, NULL, work, bad + worker);
+    for (unsigned worker = 0; worker < WORKERS; worker++) {
+        pthread_join(threads[worker], NULL);
+        must(bad[worker] == 0, "thread %u of %u at once: %u answers are another's", worker, WORKERS, bad[worker]);
+    }
+}
+
+/* Clients of the launcher that don't do as they should. */
+
+static double seconds(void) {
+    struct timespec now;
+    clock_gettime(CLOCK_MONOTONIC, &now);
+    return (double)now.tv_sec + (double)now.tv_nsec / 1e9;
+}
+
+/* Others are answered within a second, and no namespace was created. */
+static void others_go_on(const char *beside) {
+    double begun = seconds();
+    done(0, identify(0x10, 0), 0);
+    is_list(2, (uint32_t[]){1, 3});
+    must(seconds() - begun < 1, "a command beside %s takes less than a second", beside);
+}
+
+static int connect_to_launcher(void) {
+    struct sockaddr_un address = {.sun_family = AF_UNIX};
+    const char *path = getenv("NVME_MODEL_SOCKET");
+    int file = socket(AF_UNIX, SOCK_STREAM | SOCK_CLOEXEC, 0);
+    if (!path || strlen(path) >= sizeof address.sun_path)
+        return -1;
+    strcpy(address.sun_path, path);
+    return connect(file, (struct sockaddr *)&address, sizeof address) == 0 ? file : -1;
+}
+
+/* Sends the first bytes of a request with data of a page, which creates a namespace. */
+static int ask_partly(size_t bytes) {
+    struct {
+        struct request_header header;
+        unsigned char data[PAGE];
+    } request = {.header = {.length = htole32(PAGE), .entry = {MANAGEMENT}}};
+    int file = connect_to_launcher();
+    create(18, 18, 0, 0, 0);
+    memcpy(request.data, common, PAGE);
+    ssize_t sent = send(file, &request, bytes, MSG_NOSIGNAL);
+    must(sent == (ssize_t)bytes, "%zu bytes of a request are sent", bytes);
+    return file;
+}
+
+static int ask(uint16_t controller, uint16_t kind, uint32_t length, uint8_t opcode) {
+    struct request_header header = {
+        .controller = htole16(controller), .kind = htole16(kind), .length = htole32(length), .entry = {opcode}};
+    header.entry[40] = 1;
+    int file = connect_to_launcher();
+    must(file >= 0 && send(file, &header, sizeof header, MSG_NOSIGNAL) == sizeof header, "a request is sent");
+    return file;
+}
+
+/* Receives an answer, and gives its outcome, or -1 where there is none. */
+static int hear(int file, uint32_t length) {
+    struct answer_header answer;
+    static unsigned char data[MOST_DATA];
+    if (recv(file, &answer, sizeof answer, MSG_WAITALL) != sizeof answer)
+        return -1;
+    must(le32toh(answer.length) == length, "an answer has %u bytes, not %u", length, le32toh(answer.length));
+    must(length == 0 || recv(file, data, length, MSG_WAITALL) == (ssize_t)length, "its %u bytes are there", length);
+    return le16toh(answer.outcome);
+}
+
+/* The launcher's other child is the device. */
+static pid_t device_of(pid_t launcher) {
+    DIR *processes = opendir("/proc");
+    struct dirent *entry;
+    pid_t found = 0;
+    while (processes && (entry = readdir(processes))) {
+        char path[300], line[512] = "";
+        snprintf(path, sizeof path, "/proc/%s/stat", entry->d_name);
+        FILE *file = atoi(entry->d_name) > 0 ? fopen(path, "r") : NULL;
+        char *end = file && fgets(line, sizeof line, file) ? strrchr(line, ')') : NULL;
+        if (file)
+            fclose(file);
+        if (end && atoi(end + 4) == launcher && atoi(entry->d_name) != getpid())
+            found = atoi(entry->d_name);
+    }
+    if (processes)
+        closedir(processes);
+    return found;
+}
+
+static void pause_for(unsigned milliseconds) {
+    struct timespec moment = {.tv_nsec = 1000000L * milliseconds};
+    nanosleep(&moment, NULL);
+}
+
+/* Requests that became whole while the device was busy are carried out in this order: each creates a namespace. */
+static void try_order(void) {
+    static const uint32_t wanted[] = {2, 4, 0};
+    pid_t device = device_of(getppid());
+    int files_of[3];
+    must(device > 0 && kill(device, SIGSTOP) == 0, "the device is stopped");
+    for (unsigned at = 0; at < 3; at++) {
+        files_of[at] = ask_partly(72 + PAGE);
+        pause_for(30);
+    }
+    kill(device, SIGCONT);
+    for (unsigned at = 0; at < 3; at++) {
+        struct answer_header answer = {0};
+        must(recv(files_of[at], &answer, sizeof answer, MSG_WAITALL) == sizeof answer, "request %u is answered", at);
+        must(le32toh(answer.dword_0) == wanted[at], "request %u has its turn", at);
+        close(files_of[at]);
+    }
+}
+
+void try_broken(void) {
+    int files_of[8], count = 0;
+    others_go_on("nothing");
+    files_of[count++] = ask_partly(1);
+    files_of[count++] = ask_partly(71);
+    files_of[count++] = ask_partly(72);
+    files_of[count++] = ask_partly(72 + PAGE - 1);
+    others_go_on("half a request");
+    for (size_t bytes = 8; bytes < 72 + PAGE; bytes += 1000)
+        close(ask_partly(bytes));
+    others_go_on("half a request of a client that is gone");
+    files_of[count++] = ask(0, KIND_ENTRY, MOST_DATA, IDENTIFY);
+    files_of[count++] = ask(0, KIND_ENTRY, MOST_DATA, IDENTIFY);
+    others_go_on("clients that don't read");
+    must(hear(files_of[count - 1], MOST_DATA) == ANSWERED, "an answer waits until it is read");
+    close(ask(0, KIND_ENTRY, MOST_DATA, IDENTIFY));
+    others_go_on("a client that doesn't await its answer");
+    int file = ask(0, KIND_ENTRY, MOST_DATA + 1, IDENTIFY);
+    must(hear(file, 0) == -1, "a request that is too long has no answer");
+    close(file);
+    while (count > 0)
+        close(files_of[--count]);
+    others_go_on("closed connections");
+    file = ask(0, KIND_LIST, 4096, 0);
+    must(hear(file, 4096) == ANSWERED, "a list is answered");
+    close(file);
+    file = ask(0, 3, 0, 0);
+    must(hear(file, 0) == NO_KIND, "an unknown kind is told");
+    close(file);
+    file = ask(2, KIND_RESET, 0, 0);
+    must(hear(file, 0) == NO_CONTROLLER, "an unknown controller is told");
+    close(file);
+    try_order();
+    done(0, identify(0x10, 0), 0);
+    is_list(4, (uint32_t[]){1, 2, 3, 4});
+}
+
+/* A process is killed anywhere between creating and deleting: the namespace is there or it isn't. */
+void try_killed(void) {
+    for (unsigned round = 0; round < 40; round++) {
+        uint64_t result;
+        pid_t child = fork();
+        while (child == 0) {
+            struct command made = create(18, 18, 0, 0, 0), gone = delete(2);
+            made.length = MOST_DATA;
+            send_command(files[0], &made, &result);
+            send_command(files[0], &gone, &result);
+        }
+        pause_for(1 + round / 3);
+        kill(child, SIGKILL);
+        waitpid(child, NULL, 0);
+        /* (what the process asked for last may still be carried out: one more command has its turn behind it) */
+        struct command list = identify(0x10, 0);
+        must(send_command(files[0], &list, &result) == 0, "the list is answered after a process was killed");
+        struct command again = identify(0x10, 0);
+        must(send_command(files[0], &again, &result) == 0, "and is answered once more");
+        int is_made = number(common, 4, 4) == 2;
+        is_list(is_made ? 3 : 2, is_made ? (uint32_t[]){1, 2, 3} : (uint32_t[]){1, 3});
+        struct command gone = delete(2);
+        must(send_command(files[0], &gone, &result) == (is_made ? 0 : INVALID_FIELD), "and the namespace is deleted");
+    }
+}
+
+/* Nodes and their descriptors. */
+
+int answers(int file, char serial) {
+    uint64_t result;
+    struct command command = identify(1, 0);
+    return send_command(file, &command, &result) == 0 && common[5] == serial;
+}
+
+static void try_names(void) {
+    static const char *const none[] = {"nvme2",     "nvme0n2", "nvme1n1",   "nvme0n0",           "nvme00", "nvme0n03",
+                                       "nvme0n1p1", "nvme0x",  "nvme70000", "nvme0n99999999999", "nvme0n", "ng0n1"};
+    struct stat about;
+    char path[64];
+    for (unsigned at = 0; at < sizeof none / sizeof *none; at++) {
+        snprintf(path, sizeof path, "/dev/%s", none[at]);
+        must(open(path, O_RDONLY) == -1 && errno == ENOENT, "%s can't be opened", path);
+        must(stat(path, &about) == -1 && errno == ENOENT, "%s can't be described", path);
+        must(access(path, F_OK) == -1 && errno == ENOENT, "%s isn't there", path);
+    }
+    must(stat("/dev/nvme0", &about) == 0 && S_ISCHR(about.st_mode), "a controller is a character device");
+    must(lstat("/dev/nvme0n3", &about) == 0 && S_ISBLK(about.st_mode), "a namespace is a block device");
+    must(access("/dev/nvme0", R_OK | W_OK) == 0, "a controller may be read and written");
+    must(access("/dev/nvme0", X_OK) == -1 && errno == EACCES, "a controller may not be executed");
+    must(stat("/dev/null", &about) == 0 && S_ISCHR(about.st_mode), "another device is as it was");
+    must(access("/sys/class/nvme/nvme1/nvme1n1", F_OK) == -1, "a namespace that is not attached has no folder");
+    done(0, attachment(0, 1, 1, 1, 0), 0);
+    must(access("/dev/nvme1n1", F_OK) == 0, "a namespace is there once it is attached");
+    must(access("/sys/class/nvme/nvme1/nvme1n1/size", F_OK) == 0, "and so is its folder");
+    done(0, attachment(1, 1, 1, 1, 0), 0);
+    must(access("/dev/nvme1n1", F_OK) == -1, "it is gone once it is detached");
+    must(access("/sys/class/nvme/nvme1/nvme1n1", F_OK) == -1, "and so is its folder");
+    must(chdir("/dev") == 0 && stat("nvme0n3", &about) == 0 && S_ISBLK(about.st_mode), "a node is found from /dev");
+}
+
+static void try_requests(void) {
+    int file = open("/dev/nvme0n3", O_RDWR), other = open("/dev/null", O_RDWR), size = 0;
+    uint64_t bytes = 0;
+    char byte = 0;
+    must(ioctl(file, NVME_IOCTL_ID) == 3, "a namespace tells its NSID");
+    must(ioctl(file, BLKSSZGET, &size) == 0 && size == 512, "a namespace tells the size of a block");
+    must(ioctl(file, BLKGETSIZE64, &bytes) == 0 && bytes == 4608, "a namespace tells its size");
+    must(ioctl(file, BLKBSZSET, &size) == 0 && ioctl(file, BLKRRPART) == 0, "what format asks for is done");
+    must(ioctl(file, NVME_IOCTL_RESET) == -1 && errno == ENOTTY, "a namespace can't be reset");
+    must(answers(file, '0'), "commands go to a namespace's controller");
+    must(read(file, &byte, 1) == -1 && write(file, &byte, 1) == -1, "a namespace holds nothing");
+    must(ioctl(files[0], NVME_IOCTL_ID) == -1 && errno == ENOTTY, "a controller has no NSID");
+    must(ioctl(files[0], BLKGETSIZE64, &bytes) == -1 && errno == ENOTTY, "a controller has no size");
+    must(ioctl(files[0], NVME_IOCTL_RESCAN) == 0, "a controller is scanned");
+    must(ioctl(files[0], FIONREAD, &size) == -1 && errno == ENOTTY, "other requests aren't known");
+    must(!answers(other, '0') && errno == ENOTTY, "no command goes to another device");
+    must(ioctl(-1, NVME_IOCTL_ID) == -1 && errno == ENOTTY, "no command comes to the kernel");
+    close(file);
+    close(other);
+}
+
+/* Whether a program that is run with this descriptor can use it. */
+static int is_handed_on(int file) {
+    char text[16];
+    int how;
+    snprintf(text, sizeof text, "%d", file);
+    if (fork() == 0) {
+        execl("/proc/self/exe", "check", "descriptor", text, (char *)NULL);
+        _exit(3);
+    }
+    wait(&how);
+    return WIFEXITED(how) && WEXITSTATUS(how) == 0;
+}
+
+static void try_descriptors(void) {
+    struct stat about;
+    int file = open("/dev/nvme1", O_RDWR), closing = open("/dev/nvme1", O_RDWR | O_CLOEXEC);
+    int copy = dup(file), high = fcntl(file, F_DUPFD, 900);
+    must(is_handed_on(file) && is_handed_on(copy) && is_handed_on(high), "descriptors are handed on by exec");
+    must(!is_handed_on(closing), "one that is to be closed is not");
+    close(file);
+    must(answers(copy, '1') && answers(high, '1'), "copies stay when the first is closed");
+    must(fstat(high, &about) == 0 && S_ISCHR(about.st_mode), "a copy is described");
+    must(open("/dev/null", O_RDWR) == file && !answers(file, '1'), "a number that is used again is no node's");
+    must(dup2(copy, file) == file && answers(file, '1'), "a node takes the place of another file");
+    must(openat(AT_FDCWD, "/dev/nvme0n3", O_RDONLY | O_CREAT | O_EXCL, 0600) == -1 && errno == EEXIST,
+         "a node can't be made");
+    pid_t child = fork();
+    if (child == 0) {
+        close(copy);
+        _exit(!answers(file, '1'));
+    }
+    int how;
+    waitpid(child, &how, 0);
+    must(how == 0 && answers(copy, '1'), "a process and its child use a descriptor");
+}
+
+void try_nodes(void) {
+    try_names();
+    try_requests();
+    try_descriptors();
+}
+
+/* Once the device has gone, each call says so, and so does one that waits for its answer. */
+void try_gone(void) {
+    uint64_t result;
+    struct stat about;
+    int how;
+    pid_t device = device_of(getppid());
+    double begun = seconds();
+    struct command command = identify(1, 0);
+    must(access("/sys/class/nvme/nvme1/serial", F_OK) == 0, "a folder of /sys is there");
+    must(device > 0 && kill(device, SIGSTOP) == 0, "the device is stopped");
+    pid_t child = fork();
+    if (child == 0)
+        _exit(send_command(files[0], &command, &result) != -1 || errno != ENXIO);
+    pause_for(50);
+    kill(device, SIGKILL);
+    waitpid(child, &how, 0);
+    must(how == 0, "an ioctl that waits for its answer tells that the device is gone");
+    must(send_command(files[0], &command, &result) == -1 && errno == ENXIO, "so does a later one");
+    must(open("/dev/nvme0", O_RDWR) == -1 && errno == ENXIO, "and open");
+    must(stat("/dev/nvme0", &about) == -1 && errno == ENXIO, "and stat");
+    must(opendir("/sys/class/nvme") == NULL && errno == ENXIO, "and a look at /sys");
+    must(ioctl(files[0], NVME_IOCTL_RESET) == -1 && errno == ENXIO, "and a reset");
+    must(seconds() - begun < 5, "none of them waits");
+}
