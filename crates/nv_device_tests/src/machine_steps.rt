@@ -184,36 +184,21 @@ fn answer(
     );
 }
 
-/// It is completed with success, and with this dword 0.
-fn accept(
+/// It is completed with this status and dword 0.
+fn check_taken(
     rt: &impl Abort,
     machine: &mut Machine,
     mem: &mut FlatMemory,
     slot: u16,
     entry: &Sqe,
-    dword0: u32,
+    want: (u16, u32),
 )
     requires { IsBus machine.old }
     ensures { IsBus machine.new }
 {
     let posted = take(rt, machine, mem, slot, entry);
-    assert!(rt; posted.status.number() == 0 && posted.command_specific == dword0);
-}
-
-/// It is completed with this status, and with dword 0 zero.
-fn refuse(
-    rt: &impl Abort,
-    machine: &mut Machine,
-    mem: &mut FlatMemory,
-    slot: u16,
-    entry: &Sqe,
-    status: u16,
-)
-    requires { IsBus machine.old }
-    ensures { IsBus machine.new }
-{
-    let posted = take(rt, machine, mem, slot, entry);
-    assert!(rt; posted.status.number() == status && posted.command_specific == 0);
+    let (status, dword0) = want;
+    assert!(rt; posted.status.number() == status && posted.command_specific == dword0);
 }
 
 /// Checks that the newest refusal of controller 0 is booked with this NSID.
@@ -339,8 +324,12 @@ fn take_step(rt: &impl Abort, machine: &mut Machine, mem: &mut FlatMemory, step:
         Step::Turn(most, count) => check_turn(rt, machine, mem, 0, *most, *count),
         Step::SecondTurn(most, count) => check_turn(rt, machine, mem, 1, *most, *count),
         Step::Answer(slot, entry, status) => answer(rt, machine, mem, *slot, entry, *status),
-        Step::Accept(slot, entry, dword0) => accept(rt, machine, mem, *slot, entry, *dword0),
-        Step::Refuse(slot, entry, status) => refuse(rt, machine, mem, *slot, entry, *status),
+        Step::Accept(slot, entry, dword0) => {
+            check_taken(rt, machine, mem, *slot, entry, (0, *dword0));
+        }
+        Step::Refuse(slot, entry, status) => {
+            check_taken(rt, machine, mem, *slot, entry, (*status, 0));
+        }
         Step::TurnOff => turn_off(rt, machine, mem),
         _ => {
             if !look(rt, machine, step) {

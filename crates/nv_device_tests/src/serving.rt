@@ -138,19 +138,12 @@ fn header(row: &Row) -> [u8; 72] {
     let mut entry = [0; 64];
     let sqe = Sqe {
         opcode: row.opcode,
-        fuse: 0,
-        psdt: 0,
         cid: 0xffff,
         nsid: row.nsid,
-        mptr: 0,
         prp1: 3,
         prp2: 5,
         cdw10: row.cdw10,
-        cdw11: 0,
-        cdw12: 0,
-        cdw13: 0,
-        cdw14: 0,
-        cdw15: 0,
+        ..Sqe::default()
     };
     sqe.put(&mut entry);
     let mut bytes = [0; 72];

@@ -56,19 +56,10 @@ pub(crate) fn coalescing(subsystem: &Subsystem, ctrl: u16) -> Option<u32> {
 fn set_entry(cid: u16, fid: u8, value: u32) -> Sqe {
     Sqe {
         opcode: 0x09,
-        fuse: 0,
-        psdt: 0,
         cid,
-        nsid: 0,
-        mptr: 0,
-        prp1: 0,
-        prp2: 0,
         cdw10: u32::from(fid),
         cdw11: value,
-        cdw12: 0,
-        cdw13: 0,
-        cdw14: 0,
-        cdw15: 0,
+        ..Sqe::default()
     }
 }
 

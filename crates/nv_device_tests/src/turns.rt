@@ -16,19 +16,11 @@ use std::test::Fail;
 pub(crate) fn identify(cid: u16, nsid: u32, cns: u32, prp1: u64) -> Sqe {
     Sqe {
         opcode: 0x06,
-        fuse: 0,
-        psdt: 0,
         cid,
         nsid,
-        mptr: 0,
         prp1,
-        prp2: 0,
         cdw10: cns,
-        cdw11: 0,
-        cdw12: 0,
-        cdw13: 0,
-        cdw14: 0,
-        cdw15: 0,
+        ..Sqe::default()
     }
 }
 

@@ -9,19 +9,12 @@ use std::process::Abort;
 fn entry(opcode: u8, cdw10: u32) -> Sqe {
     Sqe {
         opcode,
-        fuse: 0,
-        psdt: 0,
         cid: 0x1234,
         nsid: 7,
-        mptr: 0,
         prp1: 0x1000,
         prp2: 0x2000,
         cdw10,
-        cdw11: 0,
-        cdw12: 0,
-        cdw13: 0,
-        cdw14: 0,
-        cdw15: 0,
+        ..Sqe::default()
     }
 }
 

@@ -47,15 +47,42 @@ fn read_subsystem(rt: &HostRuntime, path: Option<&str>) -> Result<Subsystem, Sto
     }
 }
 
+/// The subsystem and the geometry that these words ask for, of which the first is the program's name.
+fn asked_by(rt: &HostRuntime, words: &[&str]) -> Result<(Subsystem, Geometry), Stop>
+    ensures { IfOk result (λ asked. IsWellFormed asked.0) }
+{
+    let arguments = Arguments::read(rt.alloc(), words)?;
+    let subsystem = read_subsystem(rt, arguments.subsystem)?;
+    Ok((subsystem, arguments.geometry))
+}
+
+/// The words that the program was given, of which the first is its name.
+fn words_given(rt: &HostRuntime) -> Result<Vec<String>, Stop> {
+    let arguments = env::args(rt).map_err(|error| Stop::of_fault(error, Stop::Arguments))?;
+    let texts = arguments.collect(rt.alloc())?;
+    Ok(texts)
+}
+
 /// The subsystem and the geometry that the arguments ask for.
 pub fn asked(rt: &HostRuntime) -> Result<(Subsystem, Geometry), Stop>
     ensures { IfOk result (λ asked. IsWellFormed asked.0) }
 {
-    let alloc = rt.alloc();
-    let arguments = env::args(rt).map_err(|error| Stop::of_fault(error, Stop::Arguments))?;
-    let texts: Vec<String> = arguments.collect(alloc)?;
-    let words: Vec<&str> = texts.iter().map(|text| text.as_str()).collect(alloc)?;
-    let arguments = Arguments::read(alloc, words.as_slice())?;
-    let subsystem = read_subsystem(rt, arguments.subsystem)?;
-    Ok((subsystem, arguments.geometry))
+    let given = words_given(rt)?;
+    let words: Vec<&str> = given.iter().map(|word| word.as_str()).collect(rt.alloc())?;
+    asked_by(rt, words.as_slice())
+}
+
+/// The same of a program that takes the word `--trace` too, at any place, and whether it was given.
+pub fn asked_with_trace(rt: &HostRuntime) -> Result<(Subsystem, Geometry, bool), Stop>
+    ensures { IfOk result (λ asked. IsWellFormed asked.0) }
+{
+    let given = words_given(rt)?;
+    let words: Vec<&str> = given
+        .iter()
+        .map(|word| word.as_str())
+        .filter(|word| *word != "--trace")
+        .collect(rt.alloc())?;
+    let is_traced = words.len() < given.len();
+    let (subsystem, geometry) = asked_by(rt, words.as_slice())?;
+    Ok((subsystem, geometry, is_traced))
 }

@@ -3,15 +3,18 @@
 #![tactic(auto)]
 
 ghost use Rattle.std.specs.Prelude.{◌≡◌};
+ghost use Rattle.nv_bus.specs.Bus.{IsBus};
 ghost use Rattle.nv_model.specs.WellFormed.{IsWellFormed};
 ghost use Rattle.nvme_device.specs.Ends.{ended};
 
+use nv_bus::Bus;
 use nv_controller::Machine;
 use nv_driver::Geometry;
-use nv_program::{Stop, asked, exit_code};
+use nv_program::{Stop, asked_with_trace, exit_code};
 use nv_serve::{RequestsEnd, ServeEnd, serve};
 use nv_stream::{OverRead, OverWrite, Retrying};
 use nv_subsystem::Subsystem;
+use nv_trace::Traced;
 use std::io;
 use std::process::ExitCode;
 
@@ -31,23 +34,47 @@ fn status_of(end: ServeEnd) -> Result<u8, Stop>
     }
 }
 
-/// Answers the requests. No stream holds anything back: what was answered is out before more is
-/// awaited.
-fn serve_requests(rt: &HostRuntime, subsystem: Subsystem, geometry: Geometry) -> Result<u8, Stop>
-    requires { IsWellFormed subsystem }
+/// Answers the requests over this bus. No stream holds anything back: what was answered is out before
+/// more is awaited.
+fn serve_requests<B: Bus>(rt: &HostRuntime, bus: &mut B, geometry: Geometry) -> Result<u8, Stop>
+    requires { IsBus (B.meaning bus.old) }
 {
-    let alloc = rt.alloc();
-    let Ok(mut machine) = Machine::new(alloc, subsystem) else {
-        return Err(Stop::Memory);
-    };
     let mut source = OverRead::new(rt.reader());
     let mut out = OverWrite::new(Retrying::new(io::writer(rt)));
-    status_of(serve(alloc, &mut machine, geometry, &mut source, &mut out))
+    status_of(serve(rt.alloc(), bus, geometry, &mut source, &mut out))
+}
+
+/// Answers the requests, and writes what goes over the bus to standard error where that is asked
+/// for.
+fn serve_subsystem(
+    rt: &HostRuntime,
+    subsystem: Subsystem,
+    geometry: Geometry,
+    is_traced: bool,
+) -> Result<u8, Stop>
+    requires { IsWellFormed subsystem }
+{
+    let Ok(mut machine) = Machine::new(rt.alloc(), subsystem) else {
+        return Err(Stop::Memory);
+    };
+    if !is_traced {
+        return serve_requests(rt, &mut machine, geometry);
+    }
+    let trace = OverWrite::new(Retrying::new(rt.stderr()));
+    let mut bus = Traced::new(machine, trace);
+    let status = serve_requests(rt, &mut bus, geometry)?;
+    if bus.is_silent() {
+        Err(Stop::Write)
+    } else {
+        Ok(status)
+    }
 }
 
 fn main(rt: HostRuntime) -> ExitCode {
-    let done = match asked(&rt) {
-        Ok((subsystem, geometry)) => serve_requests(&rt, subsystem, geometry),
+    let done = match asked_with_trace(&rt) {
+        Ok((subsystem, geometry, is_traced)) => {
+            serve_subsystem(&rt, subsystem, geometry, is_traced)
+        }
         Err(stop) => Err(stop),
     };
     exit_code(&rt, "nvme-device", done)
