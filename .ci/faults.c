@@ -1,6 +1,6 @@
-/* Loaded before a program: of its reads from standard input the one that FAIL_READ names, counted from 1, fails as one of a
-   broken device does, and of its writes to standard output or standard error the one that INTERRUPT_1 or INTERRUPT_2 names
-   is interrupted. All else goes to the C library. */
+/* Loaded before a program: of its reads from standard input the one that FAIL_READ names, counted from 1, fails as one
+   of a broken device does, and of its writes to standard output or standard error the one that INTERRUPT_1 or
+   INTERRUPT_2 names is interrupted. All else goes to the C library. */
 #define _GNU_SOURCE
 #include <dlfcn.h>
 #include <errno.h>
