@@ -46,3 +46,8 @@ ended end.Read = Err stop.Read
 ended end.OutWrite = Err stop.Write
 ended end.MessageWrite = Err stop.Write
 ended end.Memory = Err stop.Memory
+
+-- the exit status of a program that came to this end
+abbrev pub status_left : Result ℕ Stop → ℕ
+status_left (Ok status) = status
+status_left (Err why) = exit_status why

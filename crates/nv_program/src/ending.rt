@@ -1,11 +1,17 @@
 //! The end of a program.
 
+ghost use Rattle.std.specs.Prelude.{◌≡◌};
+ghost use Rattle.std.specs.Process.{exit_status};
+ghost use Rattle.nv_program.specs.Stops.{status_left};
+
 use crate::stop::Stop;
 use std::process::ExitCode;
 
 /// The exit code of a program that came to this end. Where it stopped, a line on standard error
 /// says why, after the program's name.
-pub fn exit_code(rt: &HostRuntime, program: &str, done: Result<u8, Stop>) -> ExitCode {
+pub fn exit_code(rt: &HostRuntime, program: &str, done: Result<u8, Stop>) -> ExitCode
+    ensures { exit_status result ≡ status_left done }
+{
     match done {
         Ok(status) => ExitCode::from(status),
         Err(stop) => {
