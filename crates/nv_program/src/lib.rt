@@ -5,6 +5,6 @@ mod asking;
 mod ending;
 mod stop;
 
-pub use asking::{asked, asked_with_trace};
+pub use asking::{asked, words_given};
 pub use ending::exit_code;
 pub use stop::{Stop, status_of};

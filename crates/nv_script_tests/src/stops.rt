@@ -1,6 +1,6 @@
-//! What a program says of the ends that no lawful bus has.
+//! What a program makes of its arguments, and what it says of an end that no lawful bus has.
 
-use nv_program::{Stop, status_of};
+use nv_program::{Stop, asked, status_of};
 use nv_script::RunEnd;
 use std::test::Fail;
 
@@ -16,4 +16,23 @@ fn says_that_a_controller_is_not_ready(rt: HostRuntime) -> Result<(), Fail> {
         }
     }
     Ok(())
+}
+
+#[test]
+fn asks_for_the_built_in_subsystem_and_a_depth(rt: HostRuntime) {
+    match asked(&rt, &["nvme-script", "--depth=8"]) {
+        Ok((subsystem, geometry)) => {
+            assert_eq!(rt; subsystem.controllers(), 2);
+            assert_eq!(rt; geometry.depth, 8);
+        }
+        Err(_) => assert!(rt; false),
+    }
+}
+
+#[test]
+fn stops_at_what_the_program_does_not_take(rt: HostRuntime) {
+    match asked(&rt, &["nvme-script", "two.toml"]) {
+        Ok(_) => assert!(rt; false),
+        Err(stop) => assert!(rt; stop == Stop::Arguments),
+    }
 }

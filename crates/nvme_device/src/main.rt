@@ -10,7 +10,7 @@ ghost use Rattle.nvme_device.specs.Ends.{ended};
 use nv_bus::Bus;
 use nv_controller::Machine;
 use nv_driver::Geometry;
-use nv_program::{Stop, asked_with_trace, exit_code};
+use nv_program::{Stop, asked, exit_code, words_given};
 use nv_serve::{RequestsEnd, ServeEnd, serve};
 use nv_stream::{OverRead, OverWrite, Retrying};
 use nv_subsystem::Subsystem;
@@ -70,12 +70,20 @@ fn serve_subsystem(
     }
 }
 
+/// Answers the requests with what the arguments ask for, among which the word `--trace` may stand at
+/// any place.
+fn serve_as_asked(rt: &HostRuntime) -> Result<u8, Stop> {
+    let given = words_given(rt)?;
+    let words: Vec<&str> = given
+        .iter()
+        .map(|word| word.as_str())
+        .filter(|word| *word != "--trace")
+        .collect(rt.alloc())?;
+    let is_traced = words.len() < given.len();
+    let (subsystem, geometry) = asked(rt, words.as_slice())?;
+    serve_subsystem(rt, subsystem, geometry, is_traced)
+}
+
 fn main(rt: HostRuntime) -> ExitCode {
-    let done = match asked_with_trace(&rt) {
-        Ok((subsystem, geometry, is_traced)) => {
-            serve_subsystem(&rt, subsystem, geometry, is_traced)
-        }
-        Err(stop) => Err(stop),
-    };
-    exit_code(&rt, "nvme-device", done)
+    exit_code(&rt, "nvme-device", serve_as_asked(&rt))
 }

@@ -4,7 +4,7 @@
 ghost use Rattle.nv_model.specs.WellFormed.{IsWellFormed};
 
 use nv_controller::Machine;
-use nv_program::{Stop, asked, exit_code, status_of};
+use nv_program::{Stop, asked, exit_code, status_of, words_given};
 use nv_script::{
     Geometry, Held, OverHeld, OverRead, OverWrite, Retrying, SinkAfter, SourceAfter, run,
 };
@@ -41,10 +41,14 @@ fn run_script(rt: &HostRuntime, subsystem: Subsystem, geometry: Geometry) -> Res
     if is_out { Ok(status) } else { Err(Stop::Write) }
 }
 
+/// Runs the script with what the arguments ask for.
+fn run_as_asked(rt: &HostRuntime) -> Result<u8, Stop> {
+    let given = words_given(rt)?;
+    let words: Vec<&str> = given.iter().map(|word| word.as_str()).collect(rt.alloc())?;
+    let (subsystem, geometry) = asked(rt, words.as_slice())?;
+    run_script(rt, subsystem, geometry)
+}
+
 fn main(rt: HostRuntime) -> ExitCode {
-    let done = match asked(&rt) {
-        Ok((subsystem, geometry)) => run_script(&rt, subsystem, geometry),
-        Err(stop) => Err(stop),
-    };
-    exit_code(&rt, "nvme-script", done)
+    exit_code(&rt, "nvme-script", run_as_asked(&rt))
 }

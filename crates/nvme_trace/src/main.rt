@@ -6,7 +6,7 @@
 ghost use Rattle.nv_model.specs.WellFormed.{IsWellFormed};
 
 use nv_controller::Machine;
-use nv_program::{Stop, asked, exit_code, status_of};
+use nv_program::{Stop, asked, exit_code, status_of, words_given};
 use nv_script::{Geometry, Held, OverHeld, OverRead, Retrying, SourceAfter, run};
 use nv_subsystem::Subsystem;
 use nv_trace::{Marked, Traced};
@@ -47,10 +47,14 @@ fn run_script(rt: &HostRuntime, subsystem: Subsystem, geometry: Geometry) -> Res
     }
 }
 
+/// Runs the script with what the arguments ask for.
+fn run_as_asked(rt: &HostRuntime) -> Result<u8, Stop> {
+    let given = words_given(rt)?;
+    let words: Vec<&str> = given.iter().map(|word| word.as_str()).collect(rt.alloc())?;
+    let (subsystem, geometry) = asked(rt, words.as_slice())?;
+    run_script(rt, subsystem, geometry)
+}
+
 fn main(rt: HostRuntime) -> ExitCode {
-    let done = match asked(&rt) {
-        Ok((subsystem, geometry)) => run_script(&rt, subsystem, geometry),
-        Err(stop) => Err(stop),
-    };
-    exit_code(&rt, "nvme-trace", done)
+    exit_code(&rt, "nvme-trace", run_as_asked(&rt))
 }

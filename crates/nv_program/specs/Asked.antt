@@ -1,0 +1,45 @@
+-- What a program makes of what its arguments ask for.
+use Rattle.std.specs.Prelude.{◌≡◌, ◌⊎◌, ℕ, List, Bool, true, false, IsTrue, Option, None, Some, Result, Ok}
+use Rattle.std.specs.Prelude.{Err}
+use Rattle.nv_arguments.specs.Arguments.{Told}
+use Rattle.nv_arguments.specs.declared.fault.ArgumentsFault.{ArgumentsFault}
+use Rattle.nv_driver.specs.declared.geometry.Geometry.{Geometry}
+use Rattle.nv_file.specs.declared.demo.TheConstants.{DEMO}
+use Rattle.nv_model.specs.State.{State}
+use Rattle.nv_model.specs.WellFormed.{IsWellFormed}
+use Rattle.nv_program.specs.Stops.{of_arguments}
+use Rattle.nv_program.specs.declared.stop.Stop.{Stop}
+use Rattle.nv_program.specs.declared.stop.Stop.TheVariants as stop
+use Rattle.nv_subsystem.specs.FromFile.{subsystem}
+
+-- a stop for the arguments themselves, or for want of memory
+abbrev pub is_of_arguments : Stop → Bool
+is_of_arguments stop.Arguments = true
+is_of_arguments stop.Memory = true
+is_of_arguments _ = false
+
+-- a stop for the subsystem file, or for want of memory
+abbrev pub is_of_file : Stop → Bool
+is_of_file stop.Unreadable = true
+is_of_file (stop.Subsystem e) = true
+is_of_file stop.Memory = true
+is_of_file _ = false
+
+-- where no file is named, the subsystem is the built-in one
+abbrev pub IsBuiltIn : Option (List ℕ) → State → Type 0
+IsBuiltIn None s = subsystem DEMO.now ≡ Ok s
+IsBuiltIn (Some path) s = Unit {0}
+
+abbrev pub IsSubsystemAt : Option (List ℕ) → Result State Stop → Type 0
+IsSubsystemAt path (Ok s) = IsWellFormed s × IsBuiltIn path s
+IsSubsystemAt path (Err why) = IsTrue (is_of_file why)
+
+abbrev pub IsAskedBy : Told → Result (State × Geometry) Stop → Type 0
+IsAskedBy told (Ok asked) = IsSubsystemAt told.subsystem (Ok asked.0) × (asked.1 ≡ told.geometry)
+IsAskedBy told (Err why) = IsTrue (is_of_file why)
+
+-- of arguments that are taken, the subsystem and the geometry, or a fault of the file; of others
+-- their fault, unless memory was refused
+abbrev pub IsAsked : Result Told ArgumentsFault → Result (State × Geometry) Stop → Type 0
+IsAsked (Ok told) r = IsAskedBy told r
+IsAsked (Err fault) r = (r ≡ Err stop.Memory) ⊎ (r ≡ Err (of_arguments fault))
