@@ -1,5 +1,5 @@
 -- The faults of the arguments.
-use Rattle.std.specs.Prelude.{◌≡◌, ◌⊎◌, Result, Ok, Err}
+use Rattle.std.specs.Prelude.{◌≡◌, ◌⊎◌, Result, Err}
 use Rattle.nv_arguments.specs.declared.fault.ArgumentsFault.{ArgumentsFault}
 use Rattle.nv_arguments.specs.declared.fault.ArgumentsFault.TheVariants.{Memory}
 

@@ -1,6 +1,6 @@
 -- Sets of page numbers as sets of numbers.
 use Rattle.std.proofs.Common.{◌≡◌, ◌∙◌, ℕ, zero, suc, ◌+◌, ◌<◌, ◌==◌, ◌||◌, ◌&&◌, Bool, true, false, not, cond, ap}
-use Rattle.std.proofs.Common.{refl, sym, IfSome, MatchOption, None, Option, Some, is_some, length}
+use Rattle.std.proofs.Common.{refl, sym, IfSome, MatchOption, None, Option, Some, is_some}
 use Rattle.std.specs.Cmp.{nat_cmp_total}
 use Rattle.std.specs.Ordering.{nat_cmp}
 use Rattle.std.specs.FinMap as map

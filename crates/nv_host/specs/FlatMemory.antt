@@ -1,6 +1,6 @@
 -- What the memory in one vector says of a page that is written. (Its implementation of the trait
 -- names these laws, and can name what stands in specs alone.)
-use Rattle.std.proofs.Common.{◌≡◌, ℕ, ◌+◌, ◌-◌, ◌*◌, ◌≤◌, List, ◌++◌, take, drop, length}
+use Rattle.std.proofs.Common.{◌≡◌, ℕ, ◌+◌, ◌*◌, ◌≤◌, List, take, length}
 use Rattle.std.proofs.Common.{arith, length-append, length-take, length-drop}
 use Rattle.std.proofs.lemmas.List.{take_all}
 use Rattle.nv_host.specs.Bytes.{with_bytes}

@@ -51,7 +51,7 @@ impl<'a> ErrorEntries<'a> {
         self.count
     }
 
-    /// How many entries the log has. Those past them hold no error.
+    /// A number of entries past which none holds an error, at most all of them.
     pub fn present(&self) -> usize
         ensures within { result ≤ length self.now }
         ensures few { result ≤ 256 }
