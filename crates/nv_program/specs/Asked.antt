@@ -25,18 +25,22 @@ is_of_file (stop.Subsystem e) = true
 is_of_file stop.Memory = true
 is_of_file _ = false
 
--- where no file is named, the subsystem is the built-in one
-abbrev pub IsBuiltIn : Option (List ℕ) → State → Type 0
-IsBuiltIn None s = subsystem DEMO.now ≡ Ok s
-IsBuiltIn (Some path) s = Unit {0}
+-- what stops the program without a file: a fault of the built-in one, or want of memory
+abbrev pub IsBuiltInStop : Stop → Type 0
+IsBuiltInStop (stop.Subsystem e) = subsystem DEMO.now ≡ Err e
+IsBuiltInStop stop.Memory = Unit {0}
+IsBuiltInStop _ = ⊥
 
+-- where no file is named, the subsystem is the built-in one
 abbrev pub IsSubsystemAt : Option (List ℕ) → Result State Stop → Type 0
-IsSubsystemAt path (Ok s) = IsWellFormed s × IsBuiltIn path s
-IsSubsystemAt path (Err why) = IsTrue (is_of_file why)
+IsSubsystemAt None (Ok s) = IsWellFormed s × (subsystem DEMO.now ≡ Ok s)
+IsSubsystemAt None (Err why) = IsBuiltInStop why
+IsSubsystemAt (Some path) (Ok s) = IsWellFormed s
+IsSubsystemAt (Some path) (Err why) = IsTrue (is_of_file why)
 
 abbrev pub IsAskedBy : Told → Result (State × Geometry) Stop → Type 0
 IsAskedBy told (Ok asked) = IsSubsystemAt told.subsystem (Ok asked.0) × (asked.1 ≡ told.geometry)
-IsAskedBy told (Err why) = IsTrue (is_of_file why)
+IsAskedBy told (Err why) = IsSubsystemAt told.subsystem (Err why)
 
 -- of arguments that are taken, the subsystem and the geometry, or a fault of the file; of others
 -- their fault, unless memory was refused
