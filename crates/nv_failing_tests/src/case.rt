@@ -5,6 +5,7 @@ ghost use Rattle.nv_bus.specs.Bus.{IsBus};
 
 use crate::kept::Kept;
 use nv_controller::Machine;
+use nv_script::READ_SIZE;
 use nv_subsystem::Subsystem;
 use std::alloc::{AllocError, Global};
 
@@ -48,6 +49,8 @@ pub struct Case {
     /// What the first controller has before the first line.
     pub before: Kept,
     pub script: String,
+    /// The most bytes of it that one read gives, where memory is refused.
+    pub most: usize,
     pub lines: Vec<Line>,
 }
 
@@ -61,6 +64,7 @@ impl Case {
                 cache,
             },
             script: String::new(alloc),
+            most: READ_SIZE,
             lines: Vec::new(alloc),
         })
     }

@@ -186,6 +186,20 @@ fn resets(alloc: Global) -> Result<Case, AllocError> {
     Ok(case)
 }
 
+/// A line that is read byte by byte and begins with another one, which would turn the write cache
+/// off: cut short in its last word, it leaves the cache on.
+fn bytes(alloc: Global) -> Result<Case, AllocError> {
+    let mut case = Case::new(alloc, DEMO, ON)?;
+    case.most = 1;
+    case.prints(
+        alloc,
+        "set-feature /dev/nvme0 -f 6 -v 0x1",
+        "set-feature:0x6 (Volatile Write Cache), value:0x1, save:0",
+        (0, 1),
+    )?;
+    Ok(case)
+}
+
 /// All of them.
 pub(crate) fn cases(alloc: Global) -> Result<Vec<Case>, AllocError> {
     let mut cases = Vec::new(alloc);
@@ -195,5 +209,6 @@ pub(crate) fn cases(alloc: Global) -> Result<Vec<Case>, AllocError> {
     cases.push(longest_log(alloc)?)?;
     cases.push(shared(alloc)?)?;
     cases.push(resets(alloc)?)?;
+    cases.push(bytes(alloc)?)?;
     Ok(cases)
 }

@@ -7,7 +7,6 @@ mod case;
 mod cases;
 #[cfg(test)]
 mod cut_sink;
-#[cfg(test)]
 mod cut_source;
 mod kept;
 mod memory;

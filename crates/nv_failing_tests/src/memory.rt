@@ -2,8 +2,9 @@
 //! line's own, and of its commands none, some or all were executed.
 
 use crate::case::{Case, Stream};
+use crate::cut_source::CutSource;
 use crate::kept::Kept;
-use nv_script::{Geometry, OverRead, OverWrite, RunEnd, run};
+use nv_script::{Geometry, OverWrite, RunEnd, run};
 use std::alloc::{AllocError, Global};
 use std::{fmt, io};
 
@@ -70,7 +71,7 @@ pub(crate) fn run_case(alloc: Global, case: &Case) -> io::Result<Left> {
     let Some(mut machine) = case.machine(alloc) else {
         return Err(io::Error::from(io::ErrorKind::OutOfMemory));
     };
-    let mut script = OverRead::new(case.script.as_bytes());
+    let mut script = CutSource::new(case.script.as_bytes(), case.most, u64::MAX);
     let mut out = OverWrite::new(Vec::with_capacity(alloc, ROOM)?);
     let mut messages = OverWrite::new(Vec::with_capacity(alloc, ROOM)?);
     let end = run(

@@ -182,3 +182,4 @@ module _ (w : Standing) (c : ℕ) (s : State) (d : DriverValue) (listing : Listi
   batch_leaves (Err stop.Memory) now after told given some state driver a e refused =
       begun_all w (namespace_orders c ns) now (serials_of after) (batch_state now state)
       (batch_serials after some driver)
+  batch_leaves (Err stop.NoReady) now after told given some state driver a e refused = absurd refused

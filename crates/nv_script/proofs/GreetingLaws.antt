@@ -65,6 +65,7 @@ module _ (w : Standing) (b new : BusValue) (d after : DriverValue) (listing : Li
     subsystem = ap (λ (x : Exchange). x.state) sent_there;
     next = ap (λ (x : Exchange). x.serials) sent_there;
   }
+  stopped_there A stop.NoReady later now h = absurd h
 
 -- both commands
 module _ (w : Standing) (c : ℕ) (b mid last : BusValue) (d second after : DriverValue) (listing told : Listing)

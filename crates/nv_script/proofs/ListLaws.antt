@@ -81,6 +81,7 @@ module _ (w : Standing) (done all : List Order) where
   stopped_within A B (stop.Refused status) orders rest s serials listing now is h =
       answered_within orders rest (Err status) is h
   stopped_within A B stop.Memory orders rest s serials listing now is h = begun_within orders rest s serials is h
+  stopped_within A B stop.NoReady orders rest s serials listing now is h = absurd h
 
   pub listed_after : (orders : List Order) (s : State) (serials : List ℕ) (listing : Listing) → all ≡ done ++ orders
       → IsListed (asked_all (asked_all w done) orders) s serials listing

@@ -56,3 +56,4 @@ module _ (s now : State) (serials next : List ℕ) (ok : IsWellFormed s) where
   list_stopped A (stop.Refused status) listing h =
       absurd (none_refused first (orders_of_list s) status (list_lookups s ok) h)
   list_stopped A stop.Memory listing h = begun_left h
+  list_stopped A stop.NoReady listing h = absurd h

@@ -9,7 +9,7 @@ use Rattle.memchr.specs.Find.{Nowhere, Passes, is_byte}
 use Rattle.nv_model.specs.State.{State}
 use Rattle.nv_script.specs.Cuts.{joined_lines}
 use Rattle.nv_script.specs.Results.{after, start, whole}
-use Rattle.nv_script.specs.ScriptLines.{Pieces, as_line, buffer_after, buffer_of, pieces, script_lines, with_byte}
+use Rattle.nv_script.specs.ScriptLines.{Pieces, as_line, buffer_after, buffer_of, pieces, with_byte}
 
 -- a piece of which one byte more was read
 pub taken-more : (bytes piece : List ℕ) (i : ℕ) → i < length piece
@@ -77,24 +77,20 @@ ended-stay p (b ∷ bytes) = at_test (ended-stay (with_line p) bytes) (ended-sta
     at_test h k true = (p.last ∷ h.0, h.1 ∙ append_assoc p.ended (p.last ∷ []) h.0)
     at_test h k false = k
 
--- the line that a newline ends is among the lines of all the bytes
+-- the line that a newline ends is among those of all the bytes
 pub line-among : (xs ys : List ℕ) (b : ℕ) → b ≡ 10
-    → (later : List (List ℕ)) × (script_lines ((xs ++ b ∷ []) ++ ys) ≡ (pieces xs).ended ++ (pieces xs).last ∷ later)
+    → (later : List (List ℕ)) × ((pieces ((xs ++ b ∷ []) ++ ys)).ended ≡ (pieces xs).ended ++ (pieces xs).last ∷ later)
 line-among xs ys b e =
     let p = pieces xs in
     let s = ended-stay (with_line p) ys in
     let q : pieces ((xs ++ b ∷ []) ++ ys) ≡ fold with_byte (with_line p) ys =
     pieces-append (xs ++ b ∷ []) ys ∙ ap (λ x. fold with_byte x ys) (pieces-newline xs b e) in
-    let last = as_line (pieces ((xs ++ b ∷ []) ++ ys)).last in (
-      s.0 ++ last,
-      ap (λ x. x ++ last) (ap (λ (x : Pieces). x.ended) q ∙ s.1 ∙ append_assoc p.ended (p.last ∷ []) s.0)
-          ∙ append_assoc p.ended (p.last ∷ s.0) last,
-    )
+    (s.0, ap (λ (x : Pieces). x.ended) q ∙ s.1 ∙ append_assoc p.ended (p.last ∷ []) s.0)
 
 -- the same where the newline stands at an index of a further piece
 pub piece-among : (bytes piece : List ℕ) (i : ℕ) → i < length piece → get_or piece i 0 ≡ 10
     → (later : List (List ℕ))
-    × (script_lines (bytes ++ piece)
+    × ((pieces (bytes ++ piece)).ended
     ≡ (pieces (bytes ++ take i piece)).ended ++ (pieces (bytes ++ take i piece)).last ∷ later)
 piece-among bytes piece i h e =
     let xs = bytes ++ take i piece in
@@ -104,7 +100,7 @@ piece-among bytes piece i h e =
     ap (λ t. bytes ++ t) (sym (take-append-drop (i + 1) piece)) ∙ sym (append_assoc bytes (take (i + 1) piece) ys)
     ∙ ap (λ t. t ++ ys) (taken-more bytes piece i h) in
     let among = line-among xs ys b e in
-    (among.0, ap script_lines whole ∙ among.1)
+    (among.0, ap (λ xs. (pieces xs).ended) whole ∙ among.1)
 
 pub as_line-some : (piece : List ℕ) → 0 < length piece → as_line piece ≡ piece ∷ []
 as_line-some [] h = absurd (omega arith)

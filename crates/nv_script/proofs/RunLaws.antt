@@ -14,11 +14,11 @@ use Rattle.nv_driver.specs.declared.error.DriverError.{DriverError}
 use Rattle.nv_driver.specs.declared.error.DriverError.TheVariants as error
 use Rattle.nv_driver.specs.declared.geometry.Geometry.{Geometry as DriverGeometry}
 use Rattle.nv_driver.specs.declared.geometry_field.GeometryField.{GeometryField}
-use Rattle.nv_script.specs.Ends.{AllEnabled, AreFaults, Headline, IsEndOf, IsRun, Leaves, RunState, Runs, RunsFrom}
-use Rattle.nv_script.specs.Ends.{WasRead, begun, end_with, end_without, has_stopped, left_by}
+use Rattle.nv_script.specs.Ends.{AllEnabled, AreFaults, Headline, IsEndOf, IsRun, Leaves, LeavesAll, RunState, Runs}
+use Rattle.nv_script.specs.Ends.{RunsFrom, WasRead, begun, end_with, end_without, left_by}
 use Rattle.nv_script.specs.Feeding.{LastLeaves, PieceLeaves, Stands}
 use Rattle.nv_script.specs.Results.{Progress, whole}
-use Rattle.nv_script.specs.ScriptLines.{as_line, pieces, script_lines}
+use Rattle.nv_script.specs.ScriptLines.{IsReadToEnd, as_line, has_stopped, pieces, script_lines}
 use Rattle.nv_driver.specs.Linked.{serials_of}
 use Rattle.nv_stream.specs.Streams.{IsFresh, SourceState}
 use Rattle.nv_script.specs.declared.ends.Cut.{Cut}
@@ -44,7 +44,7 @@ no_last bytes e = ap (λ x. (pieces bytes).ended ++ x) e ∙ append-nil (pieces 
 -- a run that stands after all lines
 pub ends_whole : (s : State) (bytes : List ℕ) (q : Progress) (left : Left) (session : Session)
     → whole s (script_lines bytes) ≡ q → Stands q left session
-    → Leaves (ended.Status session.status) s bytes left
+    → LeavesAll session.status s bytes left
 ends_whole s bytes q left session e h = (
   h.status
       ∙ ap (λ (x : Progress). x.status) (sym e),
@@ -84,36 +84,38 @@ is_status ended.Read status h = absurd (cc)
 is_status (ended.Cut cut.Output) status h = absurd (cc)
 is_status (ended.Cut cut.Messages) status h = absurd (cc)
 is_status (ended.Cut cut.Memory) status h = absurd (cc)
+is_status (ended.Cut cut.NoReady) status h = absurd (cc)
 
 headline_with : (reads : ℕ) (e : SessionEnd) (old new : RunState) → RunsFrom (begun old) reads e old new
     → Headline (end_with e) old new
 headline_with reads e old new h status is =
     let same = is_status e status is in
-    let left = subst (λ x. Leaves x (begun old) h.bytes (left_by old new)) same h.left in
+    let left = subst (λ x. Leaves x reads new.script (begun old) h.bytes (left_by old new)) same h.left in
     let end = subst (λ x. IsEndOf x reads new) same h.end_of in
     read_whole old.script.to_come new.script.to_come h.bytes
-    (λ script. Leaves (ended.Status status) (begun old) script (left_by old new)) h.was_read.first end.4 left
+    (λ script. LeavesAll status (begun old) script (left_by old new)) h.was_read.first end.0.at_end left
 
 -- in the last piece
-pub last_cut : (cut : Cut) (s : State) (bytes : List ℕ) (left : Left) → LastLeaves (Err cut) s bytes left
-    → IsCutShort cut s bytes left
-last_cut cut s bytes left h =
+pub last_cut : (cut : Cut) (reads : ℕ) (script : SourceState) (s : State) (bytes : List ℕ) (left : Left)
+    → IsReadToEnd reads script → LastLeaves (Err cut) s bytes left → IsCutShort cut reads script s bytes left
+last_cut cut reads script s bytes left end h =
     let ended = (pieces bytes).ended in
     let last = (pieces bytes).last in
     record {
       before = ended;
       line = last;
       later = [];
-      lines = h.0;
+      lines = inr (end, h.0);
       beginning = h.1;
       ahead = omega (arith, length-joined ended last, length-pieces bytes);
     }
 
 -- in a line of a further piece
-pub piece_cut : (cut : Cut) (s : State) (bytes piece : List ℕ) (line : Option (List ℕ)) (left : Left)
-    (session : Session) → length piece ≤ read_size
-    → PieceLeaves {A = Unit {0}} (Err cut) s bytes piece line left session → IsCutShort cut s (bytes ++ piece) left
-piece_cut cut s bytes piece line left session small h =
+pub piece_cut : (cut : Cut) (reads : ℕ) (script : SourceState) (s : State) (bytes piece : List ℕ)
+    (line : Option (List ℕ)) (left : Left) (session : Session) → length piece ≤ read_size
+    → PieceLeaves {A = Unit {0}} (Err cut) s bytes piece line left session
+    → IsCutShort cut reads script s (bytes ++ piece) left
+piece_cut cut reads script s bytes piece line left session small h =
     let i = h.0 in
     let xs = bytes ++ take i piece in
     let among = piece-among bytes piece i h.1 h.2 in
@@ -121,7 +123,7 @@ piece_cut cut s bytes piece line left session small h =
       before = (pieces xs).ended;
       line = (pieces xs).last;
       later = among.0;
-      lines = among.1;
+      lines = inl among.1;
       beginning = h.3;
       ahead = omega (
         arith,
@@ -187,7 +189,7 @@ with_driver g reads end e old new s enabled is same ends runs all =
         record {
           bytes = runs.bytes;
           was_read = runs.was_read;
-          left = subst (λ (x : State). Leaves e x runs.bytes (left_by old new)) same runs.left;
+          left = subst (λ (x : State). Leaves e reads new.script x runs.bytes (left_by old new)) same runs.left;
           end_of = runs.end_of;
           calls = runs.calls;
         },
@@ -221,6 +223,7 @@ geometry_with ended.Read field h = cc
 geometry_with (ended.Cut cut.Output) field h = cc
 geometry_with (ended.Cut cut.Messages) field h = cc
 geometry_with (ended.Cut cut.Memory) field h = cc
+geometry_with (ended.Cut cut.NoReady) field h = cc
 
 runs_geometry : (g : DriverGeometry) (reads : ℕ) (end : RunEnd) (old new : RunState) (field : GeometryField)
     → Runs g reads end old new → (end ≡ Geometry field) ↔ (fault_of g ≡ Some field)
@@ -235,7 +238,7 @@ runs_geometry g reads end old new field (inr h) = (
 
 faults_with : (reads : ℕ) (e : SessionEnd) (now : RunState) → IsEndOf e reads now → AreFaults reads (end_with e) now
 faults_with reads (ended.Status status) now h =
-    let stopped = h.0 in
+    let stopped = h.0.not_stopped in
     let out = h.1 in
     let messages = h.2 in
     record {
@@ -280,6 +283,7 @@ faults_with reads (ended.Cut cut.Memory) now h =
       message_write = (λ e. absurd (cc), λ k. absurd (cc));
       read_fault = (λ e. absurd (cc), λ k. absurd (k.3 refl));
     }
+faults_with reads (ended.Cut cut.NoReady) now h = absurd h
 
 -- a source that has not stopped, and sinks that have not failed
 pub record IsWell (reads : ℕ) (now : RunState) : Type 0 where

@@ -6,10 +6,10 @@ use Rattle.nv_model.specs.State.{State}
 use Rattle.nv_script.specs.Orders.{orders_of}
 use Rattle.nv_script.specs.Outcomes.{outcome_of}
 use Rattle.nv_script.specs.Results.{Progress, result_at, said_at, whole}
-use Rattle.nv_script.specs.ScriptLines.{script_lines}
-use Rattle.nv_stream.specs.Streams.{IsBeginning}
+use Rattle.nv_script.specs.ScriptLines.{AreRead}
+use Rattle.nv_stream.specs.Streams.{IsBeginning, SourceState}
 use Rattle.nv_script.specs.declared.ends.Cut.{Cut}
-use Rattle.nv_script.specs.declared.ends.Cut.TheVariants.{Output, Messages, Memory}
+use Rattle.nv_script.specs.declared.ends.Cut.TheVariants.{Output, Messages, Memory, NoReady}
 use Rattle.nv_line.specs.declared.fault.LineFault.{LineFault}
 use Rattle.nv_line.specs.declared.line.Line.{Line}
 use Rattle.nv_line.specs.declared.line.Line.TheVariants as line
@@ -68,28 +68,31 @@ abbrev pub IsMemoryBeginning : Progress → List ℕ → Left → Type 0
 IsMemoryBeginning p line left = (k : ℕ)
     × Holds left p.output p.messages (state_amid p.state p.serials (said_at p line) k)
 
--- how a run is cut short in a line after p
+-- how a run is cut short in a line after p; each controller of a lawful bus is ready
 abbrev pub IsCutIn : Cut → Progress → List ℕ → Left → Type 0
 IsCutIn Output p line left = IsOutputBeginning p line left
 IsCutIn Messages p line left = IsMessageBeginning p line left
 IsCutIn Memory p line left = IsMemoryBeginning p line left
+IsCutIn NoReady p line left = ⊥
 
 -- whether the output and the messages have failed there
 abbrev pub AreFailed : Cut → Bool → Bool → Type 0
 AreFailed Output out messages = (out ≡ true) × (messages ≡ false)
 AreFailed Messages out messages = (out ≡ false) × (messages ≡ true)
 AreFailed Memory out messages = (out ≡ false) × (messages ≡ false)
+AreFailed NoReady out messages = ⊥
 
 -- the bytes of these lines, with the newlines that ended them
 abbrev pub joined_lines : List (List ℕ) → List ℕ
 joined_lines lines = flat_map (λ line. line ++ 10 ∷ []) lines
 
--- a run that read these bytes was cut short in one of their lines, and had read at most 4,095 bytes
--- past that line's newline
-pub record IsCutShort (cut : Cut) (s : State) (bytes : List ℕ) (left : Left) : Type 0 where
+-- a run that read these bytes was cut short in one of the lines that were read, and had read at most
+-- 4,095 bytes past that line's newline
+pub record IsCutShort (cut : Cut) (reads : ℕ) (script : SourceState) (s : State) (bytes : List ℕ)
+    (left : Left) : Type 0 where
   pub before : List (List ℕ)
   pub line : List ℕ
   pub later : List (List ℕ)
-  pub lines : script_lines bytes ≡ before ++ line ∷ later
+  pub lines : AreRead reads script bytes (before ++ line ∷ later)
   pub beginning : IsCutIn cut (whole s before) line left
   pub ahead : length bytes < length (joined_lines (before ++ line ∷ [])) + read_size

@@ -1,7 +1,7 @@
 -- What a run promises: how it ends, and what each of its ends leaves.
-use Rattle.std.specs.Prelude.{◌≡◌, ◌≢◌, ◌↔◌, ◌⊎◌, ℕ, ◌≤◌, ◌==◌, ◌||◌, Bool, true, false, List}
+use Rattle.std.specs.Prelude.{◌≡◌, ◌≢◌, ◌↔◌, ◌⊎◌, ℕ, ◌≤◌, Bool, true, false, List}
 use Rattle.std.specs.Prelude.{length, replicate, IfSome, Option, Some, None}
-use Rattle.std.specs.Io.KnownBytes.{Consumes, IsAtEnd}
+use Rattle.std.specs.Io.KnownBytes.{Consumes}
 use Rattle.nv_model.specs.Reset.{reset_where}
 use Rattle.nv_model.specs.State.{State}
 use Rattle.nv_bus.specs.Bus.{BusValue, enabled_in}
@@ -10,7 +10,7 @@ use Rattle.nv_driver.specs.declared.geometry.Geometry.{Geometry as DriverGeometr
 use Rattle.nv_driver.specs.declared.geometry_field.GeometryField.{GeometryField}
 use Rattle.nv_script.specs.Cuts.{AreFailed, IsCutShort, HoldsWhole, Left, left_at}
 use Rattle.nv_script.specs.Results.{whole}
-use Rattle.nv_script.specs.ScriptLines.{pieces, script_lines}
+use Rattle.nv_script.specs.ScriptLines.{IsReadToEnd, has_stopped, pieces, script_lines}
 use Rattle.nv_stream.specs.Streams.{SinkState, SourceState}
 use Rattle.nv_script.specs.declared.ends.Cut.TheVariants as cut
 use Rattle.nv_script.specs.declared.ends.RunEnd.{RunEnd}
@@ -55,26 +55,24 @@ pub record WasRead (old new : SourceState) (bytes : List ℕ) : Type 0 where
   pub first : Consumes old.to_come new.to_come bytes
   pub count : length bytes ≡ new.given
 
--- What each end of a run with a driver leaves, where it began at s and read these bytes. A status:
--- all lines, and the status is that of the last line that has one. A read fault: the lines whose
--- newline was read.
-abbrev pub Leaves : SessionEnd → State → List ℕ → Left → Type 0
-Leaves (ended.Status status) s bytes left =
+-- a script was carried out whole, from s on, and the status is that of its last line that has one
+abbrev pub LeavesAll : ℕ → State → List ℕ → Left → Type 0
+LeavesAll status s bytes left =
     (status ≡ (whole s (script_lines bytes)).status) × HoldsWhole s (script_lines bytes) left
-Leaves ended.Read s bytes left = HoldsWhole s (pieces bytes).ended left
-Leaves (ended.Cut cut) s bytes left = IsCutShort cut s bytes left
 
--- the source has failed, or was asked as often as it may be
-abbrev pub has_stopped : ℕ → SourceState → Bool
-has_stopped reads script = script.has_failed || script.calls == reads
+-- What each end of a run with a driver leaves, where it began at s and read these bytes of a
+-- script. A status: all lines. A read fault: the lines whose newline was read.
+abbrev pub Leaves : SessionEnd → ℕ → SourceState → State → List ℕ → Left → Type 0
+Leaves (ended.Status status) reads script s bytes left = LeavesAll status s bytes left
+Leaves ended.Read reads script s bytes left = HoldsWhole s (pieces bytes).ended left
+Leaves (ended.Cut cut) reads script s bytes left = IsCutShort cut reads script s bytes left
 
 -- Which end it is: a write's exactly where that sink has failed; Read exactly where no write
--- failed, no memory was refused and the source has stopped; a status only where the source has
--- ended
+-- failed, no memory was refused and the source has stopped; a status only where the script was read
+-- to its end
 abbrev pub IsEndOf : SessionEnd → ℕ → RunState → Type 0
-IsEndOf (ended.Status status) reads now = (has_stopped reads now.script ≡ false)
+IsEndOf (ended.Status status) reads now = IsReadToEnd reads now.script
     × (now.out.has_failed ≡ false) × (now.messages.has_failed ≡ false)
-    × (now.script.has_ended ≡ true) × IsAtEnd now.script.to_come
 IsEndOf ended.Read reads now = (has_stopped reads now.script ≡ true)
     × (now.out.has_failed ≡ false) × (now.messages.has_failed ≡ false)
 IsEndOf (ended.Cut cut) reads now = AreFailed cut now.out.has_failed now.messages.has_failed
@@ -83,7 +81,7 @@ IsEndOf (ended.Cut cut) reads now = AreFailed cut now.out.has_failed now.message
 pub record RunsFrom (s : State) (reads : ℕ) (end : SessionEnd) (old new : RunState) : Type 0 where
   pub bytes : List ℕ
   pub was_read : WasRead old.script new.script bytes
-  pub left : Leaves end s bytes (left_by old new)
+  pub left : Leaves end reads new.script s bytes (left_by old new)
   pub end_of : IsEndOf end reads new
   pub calls : new.script.calls ≤ reads
 
@@ -94,6 +92,7 @@ end_with ended.Read = Read
 end_with (ended.Cut cut.Output) = OutWrite
 end_with (ended.Cut cut.Messages) = MessageWrite
 end_with (ended.Cut cut.Memory) = Memory
+end_with (ended.Cut cut.NoReady) = NoReady
 
 -- the end of a run that got no driver or no room for answers: the first field of the geometry that
 -- is out of its limits, or, where no field is, want of memory
@@ -114,7 +113,7 @@ Runs g reads end old new =
 abbrev pub Headline : RunEnd → RunState → RunState → Type 0
 Headline end old new = (status : ℕ) → end ≡ Status status
     → IfSome old.script.to_come
-    (λ script. Leaves (ended.Status status) (begun old) script (left_by old new))
+    (λ script. LeavesAll status (begun old) script (left_by old new))
 
 -- When each fault comes: a write's exactly where that sink has failed; a read's exactly where the
 -- source has stopped, no write failed and no memory was refused; a controller that isn't ready,

@@ -5,14 +5,13 @@ use Rattle.std.specs.declared.string.String.{String}
 use Rattle.std.specs.Io.KnownBytes.{Appends}
 use Rattle.nv_model.specs.State.{State}
 use Rattle.nv_script.specs.Cuts.{AreFailed, IsCutIn, Holds, Left}
-use Rattle.nv_script.specs.Ends.{Leaves}
+use Rattle.nv_script.specs.Ends.{LeavesAll}
 use Rattle.nv_script.specs.Results.{Progress, after, whole}
 use Rattle.nv_script.specs.ScriptLines.{buffer_of, pieces, script_lines}
 use Rattle.nv_driver.specs.Linked.{serials_of}
 use Rattle.nv_stream.specs.Streams.{IsBeginning}
 use Rattle.nv_script.specs.declared.ends.Cut.{Cut}
 use Rattle.nv_script.specs.declared.ends.Cut.TheVariants.{Memory}
-use Rattle.nv_script.specs.declared.ends.SessionEnd.TheVariants.{Status}
 use Rattle.nv_script.specs.declared.session.Session.{Session}
 
 -- a run stands after p
@@ -57,7 +56,7 @@ PieceLeaves (Err cut) s bytes piece line left session =
 
 -- what the last piece of a script leaves, done with this status or cut short
 abbrev pub LastLeaves : Result ℕ Cut → State → List ℕ → Left → Type 0
-LastLeaves (Ok status) s bytes left = Leaves (Status status) s bytes left
+LastLeaves (Ok status) s bytes left = LeavesAll status s bytes left
 LastLeaves (Err cut) s bytes left =
     let p = pieces bytes in
     (script_lines bytes ≡ p.ended ++ p.last ∷ []) × IsCutIn cut (whole s p.ended) p.last left

@@ -59,6 +59,7 @@ pub record AreBegun (w : Standing) (orders : List Order) (state : State)
 abbrev pub IsHandedOn : Stop → List Answer → Type 0
 IsHandedOn (stop.Refused status) answers = Contains answers (Err status)
 IsHandedOn stop.Memory answers = Unit {0}
+IsHandedOn stop.NoReady answers = ⊥
 
 -- all of some orders were carried out and what they were answered is listed, or one of them was
 -- refused so, or memory was refused amid them
@@ -69,3 +70,4 @@ ListLeaves (Ok done) w orders state serials listing =
 ListLeaves (Err (stop.Refused status)) w orders state serials listing =
     IsHandedOn (stop.Refused status) (answers_to w orders)
 ListLeaves (Err stop.Memory) w orders state serials listing = AreBegun w orders state serials
+ListLeaves (Err stop.NoReady) w orders state serials listing = ⊥

@@ -28,13 +28,14 @@ pub record IsReached (o : Outcome) (state : State) (serials : List ℕ) : Type 0
   pub subsystem : state ≡ o.state
   pub next : serials ≡ o.serials
 
--- a query was refused, or memory was, after some of its orders
+-- a query was refused, or memory was, after some of its orders; each controller was ready
 abbrev pub StopLeaves : Stop → Query → State → List ℕ → State → List ℕ → Type 0
 StopLeaves (stop.Refused status) q s serials state next =
     let o = outcome_of s serials (orders_of s q) in
     (o.refusal ≡ Some status) × IsReached o state next
 StopLeaves stop.Memory q s serials state next = (k : ℕ)
     × IsReached (outcome_of s serials (take k (orders_of s q))) state next
+StopLeaves stop.NoReady q s serials state next = ⊥
 
 -- what the replies to all orders show, or why there is nothing to show
 abbrev pub QueryLeaves : Result (Option Shown) Stop → Query → State → List ℕ → State

@@ -1,8 +1,10 @@
--- The lines of a script.
-use Rattle.std.specs.Prelude.{ℕ, List, [], ◌∷◌, ◌++◌, fold, length, nat_le, if◌then◌else◌, Option}
-use Rattle.std.specs.Prelude.{None, Some}
+-- The lines of a script, and which of them were read.
+use Rattle.std.specs.Prelude.{◌≡◌, ◌⊎◌, ℕ, List, [], ◌∷◌, ◌++◌, fold, length, nat_le, if◌then◌else◌}
+use Rattle.std.specs.Prelude.{Bool, true, false, ◌==◌, ◌||◌, Option, None, Some}
 use Rattle.std.specs.Char.{is_newline}
+use Rattle.std.specs.Io.KnownBytes.{IsAtEnd}
 use Rattle.nv_line.specs.Limits.{line_limit}
+use Rattle.nv_stream.specs.Streams.{SourceState}
 
 -- bytes cut at their newlines: the lines that a newline ended, and what follows the last newline
 pub record Pieces : Type 0 where
@@ -26,6 +28,22 @@ as_line (b ∷ bs) = (b ∷ bs) ∷ []
 -- the lines of a script that ends here
 abbrev pub script_lines : List ℕ → List (List ℕ)
 script_lines bytes = (pieces bytes).ended ++ as_line (pieces bytes).last
+
+-- the source has failed, or was asked as often as it may be
+abbrev pub has_stopped : ℕ → SourceState → Bool
+has_stopped reads script = script.has_failed || script.calls == reads
+
+-- a script was read to its end: a read gave no byte, and one more might have been made
+pub record IsReadToEnd (reads : ℕ) (script : SourceState) : Type 0 where
+  pub not_stopped : has_stopped reads script ≡ false
+  pub has_ended : script.has_ended ≡ true
+  pub at_end : IsAtEnd script.to_come
+
+-- the lines that were read with these bytes: those whose newline was, or all, where the script was
+-- read to its end
+abbrev pub AreRead : ℕ → SourceState → List ℕ → List (List ℕ) → Type 0
+AreRead reads script bytes lines =
+    ((pieces bytes).ended ≡ lines) ⊎ (IsReadToEnd reads script × (script_lines bytes ≡ lines))
 
 -- a line as a buffer has it: all of it, or none where it is above 4,095 bytes
 abbrev pub buffer_of : List ℕ → Option (List ℕ)

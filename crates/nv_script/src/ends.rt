@@ -66,6 +66,8 @@ pub enum Cut {
     Messages,
     /// Memory was refused.
     Memory,
+    /// A controller isn't ready after a reset: a bus that keeps its contract has none.
+    NoReady,
 }
 
 /// How a run with a driver ended.
@@ -89,6 +91,7 @@ impl From<SessionEnd> for RunEnd {
             SessionEnd::Cut(Cut::Output) => RunEnd::OutWrite,
             SessionEnd::Cut(Cut::Messages) => RunEnd::MessageWrite,
             SessionEnd::Cut(Cut::Memory) => RunEnd::Memory,
+            SessionEnd::Cut(Cut::NoReady) => RunEnd::NoReady,
         }
     }
 }

@@ -111,6 +111,7 @@ pub(crate) fn execute_line<B: Bus, O: Sink, M: Sink>(
                 print(out, Ok(text), Cut::Output)
             }
             Err(Stop::Memory) => Err(Cut::Memory),
+            Err(Stop::NoReady) => Err(Cut::NoReady),
             Err(Stop::Refused(status)) => {
                 session.status = 2;
                 let fault = Fault {

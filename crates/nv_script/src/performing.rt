@@ -1,6 +1,6 @@
 //! One request: its orders, and the text of what their replies show.
 
-ghost use Rattle.std.specs.Prelude.{◌≡◌, ◌<◌, length};
+ghost use Rattle.std.specs.Prelude.{◌≡◌, ◌<◌, IfOk, IsOk, length};
 ghost use Rattle.nv_line.specs.Request.{IsQueryKnown, IsQuestionKnown};
 ghost use Rattle.nv_line.specs.declared.request.Query.TheVariants.{One};
 ghost use Rattle.nv_driver.specs.Linked.{IsLinked, serials_of};
@@ -28,6 +28,8 @@ pub enum Stop {
     Refused(Status),
     /// Memory was refused.
     Memory,
+    /// A controller isn't ready after a reset: a bus that keeps its contract has none.
+    NoReady,
 }
 
 impl From<Status> for Stop {
@@ -46,32 +48,35 @@ impl From<AllocError> for Stop {
     }
 }
 
-/// Does an act at a controller. The reply to it stands in the slot.
+/// Does an act at a controller. The reply to it stands in the slot. The only error is `NoReady`, which
+/// no bus that keeps its contract gives.
 fn carry_out<'a, B: Bus>(
     bus: &mut B,
     driver: &mut Driver,
     ctrl: u16,
     act: &Act,
     slot: &'a mut AnswerSlot,
-) -> Answer<'a>
+) -> Result<Answer<'a>, Stop>
     requires linked { IsLinked (B.meaning bus.old) driver.old }
     requires controller { ctrl < length driver.old.pairs }
     requires doable { IsDoable act.now }
-    ensures left { OrderLeaves result (record { controller = ctrl; act = act.now })
+    ensures left { IfOk result (λ answer. OrderLeaves answer
+        (record { controller = ctrl; act = act.now })
         (B.meaning bus.old).state (serials_of driver.old)
-        (B.meaning bus.new).state (serials_of driver.new) }
+        (B.meaning bus.new).state (serials_of driver.new)) }
+    ensures ready { IsOk result }
     ensures linked { IsLinked (B.meaning bus.new) driver.new }
     ensures pairs { length driver.new.pairs ≡ length driver.old.pairs }
 {
     match act {
         Act::Send(command) => {
             command.fits();
-            driver.admin(bus, ctrl, command, slot)
+            Ok(driver.admin(bus, ctrl, command, slot))
         }
-        Act::Reset => {
-            driver.reset(bus, ctrl).unwrap();
-            Ok(Reply::Done)
-        }
+        Act::Reset => match driver.reset(bus, ctrl) {
+            Ok(()) => Ok(Ok(Reply::Done)),
+            Err(_) => Err(Stop::NoReady),
+        },
     }
 }
 
@@ -82,13 +87,15 @@ fn begin<'a, B: Bus>(
     ctrl: u16,
     ask: &Ask,
     slot: &'a mut AnswerSlot,
-) -> Answer<'a>
+) -> Result<Answer<'a>, Stop>
     requires linked { IsLinked (B.meaning bus.old) driver.old }
     requires controller { ctrl < length driver.old.pairs }
     requires askable { IsAskable ask.now }
-    ensures left { OrderLeaves result (record { controller = ctrl; act = first_act ask.now })
+    ensures left { IfOk result (λ answer. OrderLeaves answer
+        (record { controller = ctrl; act = first_act ask.now })
         (B.meaning bus.old).state (serials_of driver.old)
-        (B.meaning bus.new).state (serials_of driver.new) }
+        (B.meaning bus.new).state (serials_of driver.new)) }
+    ensures ready { IsOk result }
     ensures linked { IsLinked (B.meaning bus.new) driver.new }
     ensures pairs { length driver.new.pairs ≡ length driver.old.pairs }
 {
@@ -123,11 +130,13 @@ fn ask_one<'a, B: Bus>(
 {
     let Answers { first, second, .. } = answers;
     let ctrl = question.controller;
-    let reply = begin(bus, driver, ctrl, &question.ask, first)?;
+    let begun = begin(bus, driver, ctrl, &question.ask, first)?;
+    let reply = begun?;
     let Some(command) = next_command(&question.ask, &reply) else {
         return Ok(shown(&question.ask, reply));
     };
-    let next = carry_out(bus, driver, ctrl, &Act::Send(command), second)?;
+    let followed = carry_out(bus, driver, ctrl, &Act::Send(command), second)?;
+    let next = followed?;
     Ok(shown(&question.ask, next))
 }
 

@@ -8,8 +8,8 @@ returns-in-Send-clause-left g c =
     (sent (g.B.Bus.meaning c.args.bus.now) (g.B.Bus.meaning c.admin.new.bus) c.args.driver.now c.admin.new.self
     c.args.ctrl c.in-Send.command c.admin.result c.requires.controller done.answer done.state done.driver)
 
-pub returns-in-Reset-clause-left : goal.returns-in-Reset-clause-left
-returns-in-Reset-clause-left g c =
+pub returns-in-Ok-clause-left : goal.returns-in-Ok-clause-left
+returns-in-Ok-clause-left g c =
     rw c.in-Reset.is
     (was_reset (g.B.Bus.meaning c.args.bus.now) (g.B.Bus.meaning c.reset.new.bus) c.args.driver.now c.reset.new.self
     c.args.ctrl c.reset.ensures.state c.reset.ensures.driver)

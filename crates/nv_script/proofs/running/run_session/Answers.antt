@@ -1,6 +1,7 @@
 use Rattle.std.proofs.Common.{◌∙◌, ◌≤◌, ◌++◌, [], arith, length, refl, take}
 use Rattle.std.proofs.lemmas.Bool.Decides.{nat_tests}
 use Rattle.std.proofs.lemmas.List.{length-take-le}
+use Rattle.nv_script.specs.ScriptLines.{IsReadToEnd}
 use Rattle.nv_stream.specs.Limits.{read_size}
 use Rattle.nv_script.proofs.RunLaws.{last_cut, piece_cut, read_first, read_more, read_none, stands_first}
 use Rattle.nv_script.proofs.running.run_session.Goals as goal
@@ -16,18 +17,20 @@ returns-in-Ok-clause-runs g c =
       was_read = read;
       left = c.in-Ok.ensures.left (g.B.Bus.meaning c.args.bus.now).state run.0 _ _ run.2 run.3;
       end_of = (
-        grind (
-          arith,
-          nat_tests,
-          c.in-Some.ensures.failure,
-          c.in-Some.ensures.call,
-          c.loop-call.invariant.calls,
-          c.if-call-reads.false,
-        ),
+        record {
+          not_stopped = grind (
+            arith,
+            nat_tests,
+            c.in-Some.ensures.failure,
+            c.in-Some.ensures.call,
+            c.loop-call.invariant.calls,
+            c.if-call-reads.false,
+          );
+          has_ended = grind (arith, nat_tests, c.in-Some.ensures.end, c.if-count-eq0.true);
+          at_end = c.in-Some.ensures.bytes.1 c.if-count-eq0.true;
+        },
         c.in-Ok.ensures.failure.0,
         c.in-Ok.ensures.failure.1,
-        grind (arith, nat_tests, c.in-Some.ensures.end, c.if-count-eq0.true),
-        c.in-Some.ensures.bytes.1 c.if-count-eq0.true,
       );
       calls = omega (arith, c.in-Some.ensures.call, c.loop-call.invariant.calls, c.loop-call-test.true);
     }
@@ -37,12 +40,25 @@ returns-in-Err-clause-runs g c =
     let some = c.in-Some.ensures in
     let run = c.loop-call.invariant.run in
     let s = (g.B.Bus.meaning c.args.bus.now).state in
+    let end : IsReadToEnd c.args.reads (g.R.Source.state c.read.new.self) =
+    record {
+      not_stopped = grind (
+        arith,
+        nat_tests,
+        c.in-Some.ensures.failure,
+        c.in-Some.ensures.call,
+        c.loop-call.invariant.calls,
+        c.if-call-reads.false,
+      );
+      has_ended = grind (arith, nat_tests, c.in-Some.ensures.end, c.if-count-eq0.true);
+      at_end = c.in-Some.ensures.bytes.1 c.if-count-eq0.true;
+    } in
     let read =
     read_none _ _ _ run.0 c.read.new.buf c.in-Some.count run.1 some.bytes.0 c.if-count-eq0.true some.count in
     record {
       bytes = run.0;
       was_read = read;
-      left = last_cut c.in-Err.cut s run.0 _ (c.in-Err.ensures.left s run.0 _ _ run.2 run.3);
+      left = last_cut c.in-Err.cut c.args.reads _ s run.0 _ end (c.in-Err.ensures.left s run.0 _ _ run.2 run.3);
       end_of = c.in-Err.ensures.failure;
       calls = omega (arith, c.in-Some.ensures.call, c.loop-call.invariant.calls, c.loop-call-test.true);
     }
@@ -62,7 +78,7 @@ returns-in-Err-feed-clause-runs g c =
       c.loop-call.invariant.room,
     ) in
     let cut =
-    piece_cut c.in-Err-feed.cut s run.0 piece c.feed.new.line _ c.feed.new.session small
+    piece_cut c.in-Err-feed.cut c.args.reads _ s run.0 piece c.feed.new.line _ c.feed.new.session small
     (c.in-Err-feed.ensures.left s run.0 _ _ run.2 run.3) in
     record {
       bytes = run.0 ++ piece;
