@@ -171,12 +171,13 @@ module _ (p : Point) {now : Point} {old mid : SourceState} {requests : List Requ
 
     pub ends_failed : {rest : Request} → IsCutShort rest → Reads rest mid after.source
         → HasFailed after.source → IsServed p Read now.subsystem before after
-    ends_failed {rest} cut read failed = ends_at Read rest [] read (IsRest.cut cut refl) (inl failed, all)
+    ends_failed {rest} cut read failed = ends_at Read rest [] read (IsRest.cut cut refl)
+        (inl (cut, failed), all)
 
     pub ends_full : after.source ≡ mid → IsOpen after.source → length requests ≡ request_limit
         → IsServed p Read now.subsystem before after
     ends_full here ready many = ends_at Read (request [] []) [] (rw here (nothing mid)) (IsRest.none refl refl)
-        (inr (ready, many), all)
+        (inr (refl, ready, many), all)
 
   -- where the last answer wasn't written, nothing more was read
   pub ends_unwritten : after.source ≡ mid → IsOpen after.source → HasTakenPart before.out after.out answers

@@ -73,8 +73,8 @@ IsEnd Short rest requests said old new = IsCutShort rest × (bytes_of rest ≢ [
     × HasEnded new.source × HasTaken old.out new.out said
 IsEnd TooLong rest requests said old new =
     IsTooLong rest × IsOpen new.source × HasTaken old.out new.out said
-IsEnd Read rest requests said old new =
-    (HasFailed new.source ⊎ (IsOpen new.source × (length requests ≡ request_limit)))
+IsEnd Read rest requests said old new = ((IsCutShort rest × HasFailed new.source)
+    ⊎ ((bytes_of rest ≡ []) × IsOpen new.source × (length requests ≡ request_limit)))
     × HasTaken old.out new.out said
 IsEnd Write rest requests said old new =
     (IsTooLong rest ⊎ (bytes_of rest ≡ [])) × IsOpen new.source × HasTakenPart old.out new.out said

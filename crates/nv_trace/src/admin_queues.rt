@@ -1,76 +1,100 @@
-//! The admin queues of a controller, as its registers say where they are.
+//! The admin queues of a controller that was enabled.
 
-ghost use Rattle.std.specs.Prelude.{◌<◌, length};
+ghost use Rattle.std.specs.Prelude.{◌≡◌, ◌+◌, ◌*◌, ◌^◌, ◌<◌, length, true};
+ghost use Rattle.nv_register.specs.RegisterBank.{can_start, new_rings, value_at};
+ghost use Rattle.nv_bus.specs.Bus.{bank_at};
+ghost use Rattle.nv_trace.specs.Followed.{AreAhead, IsCompletionIn, IsEntryIn, IsFurther};
 
+use crate::slots::Slots;
 use nv_bus::Bus;
-use nv_host::HostMemory;
+use nv_host::{HostMemory, load_inside};
 use nv_layout::{Cqe, Sqe};
 use nv_register::{AdminQueueAttributes, offset};
 
 /// How many bytes an entry of the submission queue has.
-const ENTRY_SIZE: u64 = 64;
+const ENTRY_SIZE: u16 = 64;
 
 /// How many bytes a completion has.
-const COMPLETION_SIZE: u64 = 16;
+const COMPLETION_SIZE: u16 = 16;
 
-/// Where the queues begin, and how many slots they have, each less one.
+/// An entry that a controller took, and its completion, as far as the memory has them.
+#[derive(Clone, Copy)]
+pub(crate) struct Exchange {
+    pub(crate) entry: Option<Sqe>,
+    pub(crate) completion: Option<Cqe>,
+}
+
+/// Where the next entry stands that a controller takes, and its completion.
 #[derive(Clone, Copy)]
 pub(crate) struct AdminQueues {
-    submission: u64,
-    completion: u64,
-    attributes: AdminQueueAttributes,
+    submission: Slots,
+    completion: Slots,
 }
 
 /// The address in a register of two dwords.
 fn address<B: Bus>(bus: &B, ctrl: u16, low: u32, high: u32) -> u64
     requires { ctrl < length (B.meaning bus.now).banks }
+    ensures { result ≡ value_at (bank_at (B.meaning bus.now).banks ctrl) high * 2 ^ 32
+        + value_at (bank_at (B.meaning bus.now).banks ctrl) low }
 {
     let low = u64::from(bus.read32(ctrl, low));
     let high = u64::from(bus.read32(ctrl, high));
-    high << 32 | low
-}
-
-/// The address of the slot of entry number n: none is past 64 bits.
-fn place(base: u64, less_one: u16, number: u64, size: u64) -> u64 {
-    let slot = number % (u64::from(less_one) + 1);
-    base.saturating_add(slot.saturating_mul(size))
+    (high << 32) + low
 }
 
 impl AdminQueues {
+    /// Those that the registers of a controller make which has just been enabled.
     pub(crate) fn of<B: Bus>(bus: &B, ctrl: u16) -> AdminQueues
         requires { ctrl < length (B.meaning bus.now).banks }
+        ensures { can_start (bank_at (B.meaning bus.now).banks ctrl) ≡ true
+            → AreAhead 0 result (new_rings (bank_at (B.meaning bus.now).banks ctrl)) }
     {
+        let attributes = AdminQueueAttributes::of(bus.read32(ctrl, offset::AQA));
         AdminQueues {
-            submission: address(bus, ctrl, offset::ASQ_LOW, offset::ASQ_HIGH),
-            completion: address(bus, ctrl, offset::ACQ_LOW, offset::ACQ_HIGH),
-            attributes: AdminQueueAttributes::of(bus.read32(ctrl, offset::AQA)),
+            submission: Slots::new(
+                address(bus, ctrl, offset::ASQ_LOW, offset::ASQ_HIGH),
+                attributes.asqs,
+            ),
+            completion: Slots::new(
+                address(bus, ctrl, offset::ACQ_LOW, offset::ACQ_HIGH),
+                attributes.acqs,
+            ),
         }
     }
 
-    /// The entry with this number since the queues were made, as it stands now.
-    pub(crate) fn entry<M: HostMemory>(&self, mem: &M, number: u64) -> Option<Sqe> {
+    /// The next entry, as it stands now; none where its slot doesn't lie in the memory.
+    fn entry<M: HostMemory>(&self, mem: &M) -> Option<Sqe>
+        ensures { IsEntryIn result (M.bytes mem.now) self.now.submission }
+    {
+        let at = self.submission.address(mem, ENTRY_SIZE)?;
         let mut bytes = [0; 64];
-        let at = place(self.submission, self.attributes.asqs, number, ENTRY_SIZE);
-        if mem.load(at, &mut bytes).is_ok() {
-            Some(Sqe::get(&bytes))
-        } else {
-            None
-        }
+        load_inside(mem, at, &mut bytes);
+        Some(Sqe::get(&bytes))
     }
 
-    /// The completion with this number since the queues were made, as it stands now.
-    pub(crate) fn completion<M: HostMemory>(&self, mem: &M, number: u64) -> Option<Cqe> {
+    /// Its completion, as it stands now; none where its slot doesn't lie in the memory.
+    fn completion<M: HostMemory>(&self, mem: &M) -> Option<Cqe>
+        ensures { IsCompletionIn result (M.bytes mem.now) self.now.completion }
+    {
+        let at = self.completion.address(mem, COMPLETION_SIZE)?;
         let mut bytes = [0; 16];
-        let at = place(
-            self.completion,
-            self.attributes.acqs,
-            number,
-            COMPLETION_SIZE,
-        );
-        if mem.load(at, &mut bytes).is_ok() {
-            Some(Cqe::get(&bytes))
-        } else {
-            None
-        }
+        load_inside(mem, at, &mut bytes);
+        Some(Cqe::get(&bytes))
+    }
+
+    /// The next entry and its completion; from then on those after them come next.
+    pub(crate) fn next<M: HostMemory>(&mut self, mem: &M) -> Exchange
+        ensures entry { IsEntryIn result.entry (M.bytes mem.now) self.old.submission }
+        ensures completion { IsCompletionIn result.completion (M.bytes mem.now)
+            self.old.completion }
+        ensures further { IsFurther 1 self.old self.new }
+    {
+        let exchange = Exchange {
+            entry: self.entry(mem),
+            completion: self.completion(mem),
+        };
+        self.submission.step();
+        self.completion.step();
+        exchange
     }
 }

@@ -12,6 +12,7 @@ mod admin_queues;
 mod line_text;
 mod marked;
 mod posted;
+mod slots;
 mod taken;
 #[cfg(test)]
 mod tests;

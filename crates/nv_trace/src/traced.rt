@@ -1,7 +1,9 @@
 //! A bus with a trace.
 
 ghost use Rattle.std.specs.Prelude.{◌≡◌, false};
+ghost use Rattle.nv_trace.specs.Followed.{AreFollowed};
 
+use crate::admin_queues::AdminQueues;
 use crate::trace::{Trace, is_enabled};
 use nv_bus::Bus;
 use nv_host::HostMemory;
@@ -15,13 +17,16 @@ use nv_stream::Sink;
 /// Entries and completions are read after the turn, where they stand in the rings. An entry over
 /// which the turn itself wrote data is told as it was left.
 #[derive(Drop)]
-pub struct Traced<B, S: Sink> {
+pub struct Traced<B: Bus, S: Sink> {
     bus: B,
     trace: Trace<S>,
+    // What comes next of each controller's queues is what the bus says of its rings.
+    ghost followed: { AreFollowed trace.queues (B.meaning bus).banks },
 }
 
 impl<B: Bus, S: Sink> Traced<B, S> {
-    /// A trace of a bus none of whose controllers has taken an entry since it was enabled.
+    /// A trace of a bus. Of a controller that is enabled already, entries and completions are told
+    /// once it is enabled again.
     pub fn new(bus: B, sink: S) -> Traced<B, S>
         requires { (S.state sink).has_failed ≡ false }
         ensures { ⟦<Traced<B, S> as Bus>⟧.meaning result ≡ B.meaning bus }
@@ -59,15 +64,15 @@ impl<B: Bus, S: Sink> Bus for Traced<B, S> {
     fn write32(&mut self, ctrl: u16, offset: u32, dword: u32) {
         let was_enabled = is_enabled(&self.bus, ctrl);
         self.bus.write32(ctrl, offset, dword);
-        if !was_enabled && is_enabled(&self.bus, ctrl) {
-            self.trace.begin(ctrl);
-        }
         self.trace.wrote(ctrl, offset, dword);
+        if !was_enabled && is_enabled(&self.bus, ctrl) {
+            self.trace.follow(ctrl, AdminQueues::of(&self.bus, ctrl));
+        }
     }
 
     fn turn<M: HostMemory>(&mut self, ctrl: u16, mem: &mut M, most: u16) -> u16 {
         let count = self.bus.turn(ctrl, mem, most);
-        self.trace.turned(&self.bus, ctrl, mem, count);
+        self.trace.turned(ctrl, mem, count);
         count
     }
 }

@@ -1,0 +1,5 @@
+use Rattle.nv_trace.specs.Followed.{IsFurther}
+use Rattle.nv_trace.proofs.trace.say_all.Given as goal
+
+abbrev pub invariant-loop : goal.invariant-loop
+invariant-loop g l = IsFurther l.counter l.fn.first l.queues
