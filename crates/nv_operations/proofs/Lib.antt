@@ -1,0 +1,6 @@
+pub mod NumbersLaws
+pub mod ReadingLaws
+pub mod ShownLaws
+pub mod TransferLaws
+pub mod ListLaws
+pub mod AnswerLaws

@@ -1,0 +1,15 @@
+-- Lists, element by element.
+use Rattle.std.proofs.Common.{◌≡◌, ◌-◌, ℕ, ap₂, append_assoc, arith, drop, length, length-drop, take, List, ◌∷◌, ◌++◌}
+use Rattle.std.proofs.lemmas.List.{take_all}
+
+-- one element before others
+pub and_more : {A : Type 0} {x y : A} {xs ys : List A} → x ≡ y → xs ≡ ys → x ∷ xs ≡ y ∷ ys
+and_more e es = ap₂ (λ x xs. x ∷ xs) e es
+
+-- one element behind others that were added
+pub after_more : {A : Type 0} (xs ys zs : List A) → (xs ++ ys) ++ zs ≡ xs ++ (ys ++ zs)
+after_more xs ys zs = append_assoc xs ys zs
+
+-- what is left of a list from a place on
+pub rest_of : {A : Type 0} (n : ℕ) (xs : List A) → take (length xs - n) (drop n xs) ≡ drop n xs
+rest_of n xs = take_all (length xs - n) (drop n xs) (omega (arith, length-drop n xs))

@@ -1,0 +1,17 @@
+pub mod Numbers
+pub mod Value
+pub mod Field
+pub mod Rows
+pub mod Shown
+pub mod QueueRecords
+pub mod LogRecords
+pub mod Formats
+pub mod IdentityRecords
+pub mod ListRecords
+pub mod Records
+pub mod Operations
+pub mod Memory
+pub mod Transfers
+pub mod Texts
+pub mod Session
+pub mod Answers

@@ -1,0 +1,86 @@
+//! What the conditions of calls ask for, as tests.
+
+ghost use Rattle.std.specs.Prelude.{◌≡◌, ◌≢◌, ◌+◌, ◌*◌, ◌%◌, ◌<◌, ◌≤◌, ◌↔◌, ◌∷◌, All, IsTrue, length};
+ghost use Rattle.nv_host.specs.Pages.{HasPage};
+ghost use Rattle.nv_prp.specs.Place.{AreDistinct, LieIn, places};
+ghost use Rattle.nv_operations.specs.Transfers.{IsLength};
+
+use nv_host::{HostMemory, PageNo, size_of_memory};
+use nv_prp::{Span, Spans};
+
+/// Whether a transfer may have this many bytes.
+pub(crate) fn is_length(len: u32) -> bool
+    ensures { IsTrue result ↔ IsLength len }
+{
+    0 < len && len <= 1_048_576
+}
+
+/// Whether the memory has the page.
+pub(crate) fn has_page<M: HostMemory>(memory: &M, number: PageNo) -> bool
+    ensures { IsTrue result ↔ HasPage (M.bytes memory.now) (M.page_len memory.now) number }
+{
+    (u64::from(number) + 1) * u64::from(memory.page_size()) <= size_of_memory(memory)
+}
+
+/// Whether the memory has all of the pages.
+pub(crate) fn has_pages<M: HostMemory>(memory: &M, pages: &[PageNo]) -> bool
+    ensures { IsTrue result
+        ↔ All (λ page. HasPage (M.bytes memory.now) (M.page_len memory.now) page) pages.now }
+{
+    pages.iter().all(|page| has_page(memory, *page))
+}
+
+/// Whether an offset is below a page size, and a multiple of 4 or of 8.
+pub(crate) fn is_offset(offset: u32, page_size: u32, alignment: u32) -> bool
+    requires { 0 < alignment }
+    ensures { IsTrue result ↔ ((offset < page_size) × (offset % alignment ≡ 0)) }
+{
+    offset < page_size && offset % alignment == 0
+}
+
+/// Whether the pages hold so many bytes from an offset on.
+pub(crate) fn holds_all(pages: &[PageNo], page_size: u32, offset: u32, len: u32) -> bool
+    ensures { IsTrue result ↔ (offset + len ≤ length pages.now * page_size) }
+{
+    u128::from(offset) + u128::from(len) <= pages.len() as u128 * u128::from(page_size)
+}
+
+/// Whether none of the pages is this one.
+fn is_apart(page: PageNo, pages: &[PageNo]) -> bool
+    ensures { IsTrue result ↔ All (λ other. page ≢ other) pages.now }
+{
+    pages.iter().all(|other| page != *other)
+}
+
+/// Whether no two pages are one.
+#[tactic(auto, using(crate::proofs::TransferLaws::one_again, crate::proofs::TransferLaws::one_more_apart))]
+pub(crate) fn are_distinct(pages: &[PageNo]) -> bool
+    ensures { IsTrue result ↔ AreDistinct pages.now }
+{
+    for index in 0..pages.len() {
+        if !is_apart(pages[index], &pages[index + 1..]) {
+            return false;
+        }
+    }
+    true
+}
+
+/// Whether all spans lie in a memory of this size.
+#[tactic(auto, unfolding(nv_prp::specs::Place::LieIn))]
+pub(crate) fn lie_in(spans: &[Span], size: u64) -> bool
+    ensures { IsTrue result ↔ LieIn size spans.now }
+{
+    spans.iter().all(|span| u128::from(span.address) + u128::from(span.len) <= u128::from(size))
+}
+
+/// How many bytes spans have.
+#[tactic(auto, using(crate::proofs::TransferLaws::one_more_span), unfolding(nv_prp::specs::Place::places))]
+pub(crate) fn bytes_in(spans: &Spans) -> u64
+    ensures { result ≡ length (places spans.now) }
+{
+    let mut count = 0;
+    for span in spans.as_slice() {
+        count += u64::from(span.len);
+    }
+    count
+}

@@ -1,0 +1,95 @@
+//! Lists of namespaces and of controllers by their fields.
+
+ghost use Rattle.std.specs.Prelude.{◌≡◌, ◌≤◌, [], IfOk, length, map};
+ghost use Rattle.nv_operations.specs.ListRecords.{cntlids_of, ctrl_list_rows, cut_dword, cut_word};
+ghost use Rattle.nv_operations.specs.ListRecords.{ns_list_rows, nsids_of};
+
+use crate::fields::Fields;
+use crate::items::Items;
+use crate::row::Row;
+use nv_layout::{CtrlList, MOST_CNTLIDS, MOST_NSIDS, NsList};
+use std::alloc::{AllocError, Global};
+
+/// The one field of a namespace list. Section "Namespace List".
+#[tactic(auto, unfolding(crate::specs::ListRecords::ns_list_rows))]
+pub(crate) fn ns_list_rows() -> [Row; 1]
+    ensures { result ≡ ns_list_rows }
+{
+    [Row::numbers("nsids", 0xffff_ffff, MOST_NSIDS)]
+}
+
+/// The one field of a controller list. Section "Controller List".
+#[tactic(auto, unfolding(crate::specs::ListRecords::ctrl_list_rows))]
+pub(crate) fn ctrl_list_rows() -> [Row; 1]
+    ensures { result ≡ ctrl_list_rows }
+{
+    [Row::numbers("cntlids", 0xffff, MOST_CNTLIDS)]
+}
+
+/// The list of numbers of 32 bits.
+#[tactic(auto, using(std::proofs::lemmas::List::map_more))]
+fn nsids(numbers: &[u64]) -> NsList
+    requires { length numbers.now ≤ 1024 }
+    ensures { result ≡ map cut_dword numbers.now }
+{
+    let mut list = NsList::new();
+    for number in numbers {
+        list.push((*number % 0x1_0000_0000) as u32);
+    }
+    list
+}
+
+/// The list of numbers of 16 bits.
+#[tactic(auto, using(std::proofs::lemmas::List::map_more))]
+fn cntlids(numbers: &[u64]) -> CtrlList
+    requires { length numbers.now ≤ 2047 }
+    ensures { result ≡ map cut_word numbers.now }
+{
+    let mut list = CtrlList::new();
+    for number in numbers {
+        list.push((*number % 0x1_0000) as u16);
+    }
+    list
+}
+
+/// The list that fields give.
+#[tactic(auto, using(std::proofs::lemmas::List::take_min), unfolding(crate::specs::ListRecords::nsids_of))]
+pub(crate) fn ns_list_of(fields: &Fields) -> NsList
+    ensures { result ≡ nsids_of fields.now }
+{
+    let numbers = fields.numbers("nsids");
+    let count = MOST_NSIDS.min(numbers.len());
+    nsids(&numbers[..count])
+}
+
+/// The list that fields give.
+#[tactic(auto, using(std::proofs::lemmas::List::take_min), unfolding(crate::specs::ListRecords::cntlids_of))]
+pub(crate) fn ctrl_list_of(fields: &Fields) -> CtrlList
+    ensures { result ≡ cntlids_of fields.now }
+{
+    let numbers = fields.numbers("cntlids");
+    let count = MOST_CNTLIDS.min(numbers.len());
+    cntlids(&numbers[..count])
+}
+
+/// The numbers of a list.
+pub(crate) fn wide_nsids(alloc: Global, list: &NsList) -> Result<Items<u64>, AllocError>
+    ensures { IfOk result (λ numbers. numbers ≡ list.now) }
+{
+    let mut numbers = Items::new(alloc);
+    for number in list.as_slice() {
+        numbers.push(u64::from(*number))?;
+    }
+    Ok(numbers)
+}
+
+/// The numbers of a list.
+pub(crate) fn wide_cntlids(alloc: Global, list: &CtrlList) -> Result<Items<u64>, AllocError>
+    ensures { IfOk result (λ numbers. numbers ≡ list.now) }
+{
+    let mut numbers = Items::new(alloc);
+    for number in list.as_slice() {
+        numbers.push(u64::from(*number))?;
+    }
+    Ok(numbers)
+}

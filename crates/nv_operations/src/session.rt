@@ -1,0 +1,202 @@
+//! What operations work on.
+
+ghost use Rattle.std.specs.Prelude.{◌≡◌, ◌%◌, ◌^◌, IfOk, map};
+ghost use Rattle.nv_operations.specs.Transfers.{Builds};
+ghost use Rattle.nv_operations.specs.Session.{done, pages_of, request_in};
+
+use crate::fields::Fields;
+use crate::get::get_record;
+use crate::items::Items;
+use crate::memory::{load, new_memory, page, sizes, store};
+use crate::operation::Operation;
+use crate::put::put_record;
+use crate::refusal::Refusal;
+use crate::transfers::{build_entries, copy_from_host, copy_to_host, spread_buffer, walk_entries};
+use nv_host::{FlatMemory, PageNo};
+use nv_prp::{Buffer, ListPlace, Spans};
+use std::alloc::{AllocError, Global};
+
+/// What operations work on: the host's memory, and the spans of the last walk.
+#[derive(Drop)]
+pub struct Session {
+    pub memory: FlatMemory,
+    pub spans: Spans,
+}
+
+/// What was done without a value.
+fn done(alloc: Global, outcome: Result<(), Refusal>) -> Result<Fields, Refusal>
+    ensures { result ≡ done outcome }
+{
+    match outcome {
+        Ok(()) => Ok(Fields::new(alloc)),
+        Err(refusal) => Err(refusal),
+    }
+}
+
+/// Page numbers of 32 bits.
+#[tactic(auto, using(std::proofs::lemmas::List::map_more))]
+fn pages_of(alloc: Global, numbers: &[u64]) -> Result<Items<PageNo>, AllocError>
+    ensures { IfOk result (λ pages. pages ≡ pages_of numbers.now) }
+{
+    let mut pages = Items::new(alloc);
+    for number in numbers {
+        pages.push((*number % 0x1_0000_0000) as u32)?;
+    }
+    Ok(pages)
+}
+
+/// Builds the entries of the transfer that fields ask for.
+fn build_asked(
+    alloc: Global,
+    memory: &mut FlatMemory,
+    fields: &Fields,
+) -> Result<Result<Fields, Refusal>, AllocError>
+    ensures { IfOk result
+        (λ outcome. Builds memory.old memory.new (request_in fields.now) outcome) }
+{
+    let pages = pages_of(alloc, fields.numbers("pages"))?;
+    let buffer = Buffer {
+        pages: pages.as_slice(),
+        offset: fields.dword("offset"),
+    };
+    let list = ListPlace {
+        first: fields.dword("first"),
+        second: fields.dword("second"),
+        offset: fields.dword("list_offset"),
+    };
+    build_entries(alloc, memory, &buffer, &list, fields.dword("length"))
+}
+
+impl Session {
+    ghost use Rattle.nv_operations.specs.Session.{BuildsIn, CopiesOutIn, IsNew, Performs, Renews};
+    ghost use Rattle.nv_operations.specs.Session.{SpreadsIn, StoresIn, WalksIn};
+
+    /// A memory of 16 pages of 4,096 bytes, all zeros, and no spans.
+    #[tactic(auto, unfolding(nv_host::specs::Pages::IsPageSize))]
+    pub fn new(alloc: Global) -> Result<Session, AllocError>
+        ensures { IfOk result IsNew }
+    {
+        match FlatMemory::new(alloc, 4096, 16) {
+            Ok(memory) => Ok(Session {
+                memory,
+                spans: Spans::new(),
+            }),
+            Err(_) => Err(AllocError),
+        }
+    }
+
+    /// A new memory. After a refusal the old one stays.
+    fn renew(
+        &mut self,
+        alloc: Global,
+        fields: &Fields,
+    ) -> Result<Result<Fields, Refusal>, AllocError>
+        ensures { IfOk result (λ outcome. Renews fields.now self.old outcome self.new) }
+    {
+        match new_memory(alloc, fields.dword("page_size"), fields.dword("pages"))? {
+            Ok(memory) => {
+                self.memory = memory;
+                Ok(Ok(Fields::new(alloc)))
+            }
+            Err(refusal) => Ok(Err(refusal)),
+        }
+    }
+
+    fn store(&mut self, alloc: Global, fields: &Fields) -> Result<Fields, Refusal>
+        ensures { StoresIn fields.now self.old result self.new }
+    {
+        let outcome = store(
+            &mut self.memory,
+            fields.qword("address"),
+            fields.bytes("bytes"),
+        );
+        done(alloc, outcome)
+    }
+
+    fn build(
+        &mut self,
+        alloc: Global,
+        fields: &Fields,
+    ) -> Result<Result<Fields, Refusal>, AllocError>
+        ensures { IfOk result (λ outcome. BuildsIn fields.now self.old outcome self.new) }
+    {
+        build_asked(alloc, &mut self.memory, fields)
+    }
+
+    fn walk(
+        &mut self,
+        alloc: Global,
+        fields: &Fields,
+    ) -> Result<Result<Fields, Refusal>, AllocError>
+        ensures { IfOk result (λ outcome. WalksIn fields.now self.old outcome self.new) }
+    {
+        walk_entries(
+            alloc,
+            &self.memory,
+            &mut self.spans,
+            fields.qword("prp1"),
+            fields.qword("prp2"),
+            fields.dword("length"),
+        )
+    }
+
+    fn spread(
+        &mut self,
+        alloc: Global,
+        fields: &Fields,
+    ) -> Result<Result<Fields, Refusal>, AllocError>
+        ensures { IfOk result (λ outcome. SpreadsIn fields.now self.old outcome self.new) }
+    {
+        let pages = pages_of(alloc, fields.numbers("pages"))?;
+        let buffer = Buffer {
+            pages: pages.as_slice(),
+            offset: fields.dword("offset"),
+        };
+        spread_buffer(
+            alloc,
+            &self.memory,
+            &mut self.spans,
+            &buffer,
+            fields.dword("length"),
+        )
+    }
+
+    fn copy_out(&mut self, alloc: Global, fields: &Fields) -> Result<Fields, Refusal>
+        ensures { CopiesOutIn fields.now self.old result self.new }
+    {
+        let outcome = copy_to_host(&mut self.memory, &self.spans, fields.bytes("bytes"));
+        done(alloc, outcome)
+    }
+
+    /// Does what an operation asks for, with the fields of its line: the fields that answer it, or why
+    /// it was refused.
+    pub fn perform(
+        &mut self,
+        alloc: Global,
+        operation: Operation,
+        fields: &Fields,
+    ) -> Result<Result<Fields, Refusal>, AllocError>
+        ensures { IfOk result
+            (λ outcome. Performs operation fields.now self.old outcome self.new) }
+    {
+        match operation {
+            Operation::Put(kind) => Ok(Ok(put_record(alloc, kind, fields)?)),
+            Operation::Get(kind) => get_record(alloc, kind, fields),
+            Operation::Memory => self.renew(alloc, fields),
+            Operation::Sizes => Ok(Ok(sizes(alloc, &self.memory)?)),
+            Operation::Load => load(
+                alloc,
+                &self.memory,
+                fields.qword("address"),
+                fields.qword("length") as usize,
+            ),
+            Operation::Store => Ok(self.store(alloc, fields)),
+            Operation::Page => page(alloc, &self.memory, fields.dword("number")),
+            Operation::Build => self.build(alloc, fields),
+            Operation::Walk => self.walk(alloc, fields),
+            Operation::Spread => self.spread(alloc, fields),
+            Operation::CopyOut => Ok(self.copy_out(alloc, fields)),
+            Operation::CopyIn => copy_from_host(alloc, &self.memory, &self.spans),
+        }
+    }
+}

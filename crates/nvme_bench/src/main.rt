@@ -1,0 +1,97 @@
+//! Reads operations from standard input, a line each, and answers each at once on standard output.
+#![tactic(auto)]
+
+use nv_operations::Session;
+use nv_stream::Retrying;
+use std::alloc::{AllocError, Global};
+use std::io::{self, BufRead, BufReader, ErrorKind, Write};
+use std::process::ExitCode;
+use thiserror::Error;
+
+/// Why the program stopped before the end of its input.
+#[derive(Clone, Copy, Debug, PartialEq, Eq, Error)]
+enum Stop {
+    #[error("read fault")]
+    Read,
+    #[error("write fault")]
+    Write,
+    #[error("out of memory")]
+    Memory,
+}
+
+impl Stop {
+    /// The exit status.
+    fn status(self) -> u8 {
+        match self {
+            Stop::Read => 4,
+            Stop::Write => 5,
+            Stop::Memory => 6,
+        }
+    }
+}
+
+impl From<AllocError> for Stop {
+    fn from(_: AllocError) -> Stop {
+        Stop::Memory
+    }
+}
+
+/// Reads the next line, with its newline if it has one. Answers whether there was a line.
+fn read_line<R: BufRead>(input: &mut R, line: &mut Vec<u8>) -> Result<bool, Stop> {
+    line.clear();
+    match input.read_until(b'\n', line) {
+        Ok(count) => Ok(count > 0),
+        Err(error) => match error.kind() {
+            ErrorKind::OutOfMemory => Err(Stop::Memory),
+            _ => Err(Stop::Read),
+        },
+    }
+}
+
+/// The line without its newline.
+fn without_newline(line: &[u8]) -> &[u8] {
+    match line.split_last() {
+        Some((b'\n', rest)) => rest,
+        _ => line,
+    }
+}
+
+/// Answers line after line.
+fn answer_lines<R: BufRead, W: Write>(
+    alloc: Global,
+    input: &mut R,
+    out: &mut W,
+) -> Result<(), Stop> {
+    let mut session = Session::new(alloc)?;
+    let mut line = Vec::new(alloc);
+    for _ in 0..u64::MAX {
+        if !read_line(input, &mut line)? {
+            return Ok(());
+        }
+        if let Some(answer) = session.answer(alloc, without_newline(line.as_slice()))? {
+            if out.write_all(answer.as_bytes()).is_err() {
+                return Err(Stop::Write);
+            }
+        }
+    }
+    Ok(())
+}
+
+/// Answers the lines on standard input.
+fn answer_input(rt: &HostRuntime) -> Result<(), Stop> {
+    let Ok(mut input) = BufReader::new(rt.alloc(), rt.reader()) else {
+        return Err(Stop::Memory);
+    };
+    let mut out = Retrying::new(io::writer(rt));
+    answer_lines(rt.alloc(), &mut input, &mut out)
+}
+
+fn main(rt: HostRuntime) -> ExitCode {
+    match answer_input(&rt) {
+        Ok(()) => ExitCode::SUCCESS,
+        Err(stop) => {
+            let _ = eprintln!(rt; "nvme-bench: {stop}");
+            ExitCode::from(stop.status())
+        }
+    }
+}
