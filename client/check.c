@@ -22,7 +22,8 @@ static unsigned tried, wrong;
 
 /* What was sent to each controller, as its error log tells it. */
 static unsigned commands[2], refusals[2], last_status[2], last_identifier[2], last_nsid[2];
-static int sent_before[2] = {-1, -1};  /* commands: lists, by which the launcher and the library look for nodes */
+/* How many commands the launcher had sent of itself, by which it looks for nodes, and how many changes let it look. */
+static unsigned own[2], changes;
 
 void must(int is_so, const char *format, ...) {
     va_list values;
@@ -76,6 +77,8 @@ static void told(unsigned controller, struct command command, int status, uint32
          "nvme%u: opcode %02xh, NSID %xh, dwords %xh and %xh, %u bytes: status %xh, dword 0 %xh; it was %xh, %llxh",
          controller, command.opcode, command.nsid, command.cdw10, command.cdw11, command.length, status, dword_0, value,
          (unsigned long long)result);
+    changes += status == 0 &&
+               (command.opcode == MANAGEMENT || command.opcode == ATTACHMENT || command.opcode == FORMAT);
     if (status > 0) {
         refusals[controller]++;
         last_status[controller] = (unsigned)status;
@@ -205,10 +208,10 @@ static void is_booked(unsigned controller, uint64_t specific) {
     done(controller, get_log(EVERY, 1, 64, 0), 0);
     is_number(0, 8, refusals[controller]);
     is_number(8, 2, 0);
-    if (sent_before[controller] < 0)
-        sent_before[controller] = (int)number(common, 10, 2) - (int)last_identifier[controller];
-    must(sent_before[controller] > 0 && sent_before[controller] < 4, "a list or some were asked for");
-    is_number(10, 2, last_identifier[controller] + (unsigned)sent_before[controller]);
+    unsigned now = (unsigned)number(common, 10, 2) - last_identifier[controller];
+    must(now >= own[controller] && now >= 1 && now <= 6 + 4 * changes,
+         "after %u changes the launcher sent %u commands of its own, and now %u", changes, own[controller], now);
+    own[controller] = now;
     must(number(common, 12, 2) >> 1 == last_status[controller], "the log has the status %xh, not %llxh",
          last_status[controller], (unsigned long long)number(common, 12, 2) >> 1);
     is_number(14, 2, 0xffff);

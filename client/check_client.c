@@ -111,12 +111,8 @@ static void others_go_on(const char *beside) {
 }
 
 static int connect_to_launcher(void) {
-    struct sockaddr_un address = {.sun_family = AF_UNIX};
-    const char *path = getenv("NVME_MODEL_SOCKET");
+    struct sockaddr_un address = {.sun_family = AF_UNIX, .sun_path = MODEL_FOLDER "/socket"};
     int file = socket(AF_UNIX, SOCK_STREAM | SOCK_CLOEXEC, 0);
-    if (!path || strlen(path) >= sizeof address.sun_path)
-        return -1;
-    strcpy(address.sun_path, path);
     return connect(file, (struct sockaddr *)&address, sizeof address) == 0 ? file : -1;
 }
 
@@ -235,6 +231,19 @@ void try_broken(void) {
     is_list(4, (uint32_t[]){1, 2, 3, 4});
 }
 
+/* What a process that was killed asked for last may still be carried out: waits until the list stays as it is. */
+static void settle(void) {
+    unsigned char before[PAGE];
+    uint64_t result;
+    for (unsigned tries = 0, same = 0; same < 3 && tries < 200; tries++) {
+        memcpy(before, common, PAGE);
+        struct command list = identify(0x10, 0);
+        must(send_command(files[0], &list, &result) == 0, "the list is answered after a process was killed");
+        same = memcmp(before, common, PAGE) == 0 ? same + 1 : 0;
+        pause_for(5);
+    }
+}
+
 /* A process is killed anywhere between creating and deleting: the namespace is there or it isn't. */
 void try_killed(void) {
     for (unsigned round = 0; round < 40; round++) {
@@ -249,11 +258,7 @@ void try_killed(void) {
         pause_for(1 + round / 3);
         kill(child, SIGKILL);
         waitpid(child, NULL, 0);
-        /* (what the process asked for last may still be carried out: one more command has its turn behind it) */
-        struct command list = identify(0x10, 0);
-        must(send_command(files[0], &list, &result) == 0, "the list is answered after a process was killed");
-        struct command again = identify(0x10, 0);
-        must(send_command(files[0], &again, &result) == 0, "and is answered once more");
+        settle();
         int is_made = number(common, 4, 4) == 2;
         is_list(is_made ? 3 : 2, is_made ? (uint32_t[]){1, 2, 3} : (uint32_t[]){1, 3});
         struct command gone = delete(2);
@@ -269,9 +274,15 @@ int answers(int file, char serial) {
     return send_command(file, &command, &result) == 0 && common[5] == serial;
 }
 
+static void is_device(const char *path, mode_t type) {
+    struct stat about, plain;
+    must(stat(path, &about) == 0 && lstat(path, &plain) == 0 && about.st_mode == plain.st_mode &&
+             (about.st_mode & S_IFMT) == type && about.st_rdev != 0 && about.st_size == 0, "%s is a device", path);
+}
+
 static void try_names(void) {
     static const char *const none[] = {"nvme2",     "nvme0n2", "nvme1n1",   "nvme0n0",           "nvme00", "nvme0n03",
-                                       "nvme0n1p1", "nvme0x",  "nvme70000", "nvme0n99999999999", "nvme0n", "ng0n1"};
+                                       "nvme0n1p1", "nvme0x",  "nvme70000", "nvme0n99999999999", "nvme0n", "ng0n2"};
     struct stat about;
     char path[64];
     for (unsigned at = 0; at < sizeof none / sizeof *none; at++) {
@@ -280,32 +291,38 @@ static void try_names(void) {
         must(stat(path, &about) == -1 && errno == ENOENT, "%s can't be described", path);
         must(access(path, F_OK) == -1 && errno == ENOENT, "%s isn't there", path);
     }
-    must(stat("/dev/nvme0", &about) == 0 && S_ISCHR(about.st_mode), "a controller is a character device");
-    must(lstat("/dev/nvme0n3", &about) == 0 && S_ISBLK(about.st_mode), "a namespace is a block device");
+    is_device("/dev/nvme0", S_IFCHR);
+    is_device("/dev/ng0n1", S_IFCHR);
+    is_device("/dev/nvme0n3", S_IFBLK);
+    is_device("/dev/../dev//nvme0n3", S_IFBLK);
+    is_device("/dev/null", S_IFCHR);
     must(access("/dev/nvme0", R_OK | W_OK) == 0, "a controller may be read and written");
     must(access("/dev/nvme0", X_OK) == -1 && errno == EACCES, "a controller may not be executed");
-    must(stat("/dev/null", &about) == 0 && S_ISCHR(about.st_mode), "another device is as it was");
     must(access("/sys/class/nvme/nvme1/nvme1n1", F_OK) == -1, "a namespace that is not attached has no folder");
     done(0, attachment(0, 1, 1, 1, 0), 0);
-    must(access("/dev/nvme1n1", F_OK) == 0, "a namespace is there once it is attached");
+    must(access("/dev/nvme1n1", F_OK) == 0 && access("/dev/ng1n1", F_OK) == 0, "an attached namespace has nodes");
     must(access("/sys/class/nvme/nvme1/nvme1n1/size", F_OK) == 0, "and so is its folder");
     done(0, attachment(1, 1, 1, 1, 0), 0);
-    must(access("/dev/nvme1n1", F_OK) == -1, "it is gone once it is detached");
+    must(access("/dev/nvme1n1", F_OK) == -1 && access("/dev/ng1n1", F_OK) == -1, "they are gone once it is detached");
     must(access("/sys/class/nvme/nvme1/nvme1n1", F_OK) == -1, "and so is its folder");
     must(chdir("/dev") == 0 && stat("nvme0n3", &about) == 0 && S_ISBLK(about.st_mode), "a node is found from /dev");
 }
 
 static void try_requests(void) {
     int file = open("/dev/nvme0n3", O_RDWR), other = open("/dev/null", O_RDWR), size = 0;
+    int generic = open("/dev/ng0n3", O_RDWR);
     uint64_t bytes = 0;
-    char byte = 0;
-    must(ioctl(file, NVME_IOCTL_ID) == 3, "a namespace tells its NSID");
+    char text[8] = "written", read_back[8];
+    must(ioctl(file, NVME_IOCTL_ID) == 3 && ioctl(generic, NVME_IOCTL_ID) == 3, "a namespace tells its NSID");
     must(ioctl(file, BLKSSZGET, &size) == 0 && size == 512, "a namespace tells the size of a block");
     must(ioctl(file, BLKGETSIZE64, &bytes) == 0 && bytes == 4608, "a namespace tells its size");
     must(ioctl(file, BLKBSZSET, &size) == 0 && ioctl(file, BLKRRPART) == 0, "what format asks for is done");
     must(ioctl(file, NVME_IOCTL_RESET) == -1 && errno == ENOTTY, "a namespace can't be reset");
-    must(answers(file, '0'), "commands go to a namespace's controller");
-    must(read(file, &byte, 1) == -1 && write(file, &byte, 1) == -1, "a namespace holds nothing");
+    must(answers(file, '0') && answers(generic, '0'), "commands go to a namespace's controller");
+    must(pread(file, read_back, 8, 4600) == 8 && all_are((unsigned char *)read_back, 0, 8, 0), "it is zeros at first");
+    must(pwrite(file, text, 8, 4604) == 4 && pwrite(file, text, 8, 4608) == -1 && errno == ENOSPC, "it has an end");
+    must(pread(file, read_back, 8, 4604) == 4 && memcmp(read_back, text, 4) == 0, "what was written is read");
+    must(write(files[0], text, 8) == -1 && errno == EINVAL && write(generic, text, 8) == -1, "others take no data");
     must(ioctl(files[0], NVME_IOCTL_ID) == -1 && errno == ENOTTY, "a controller has no NSID");
     must(ioctl(files[0], BLKGETSIZE64, &bytes) == -1 && errno == ENOTTY, "a controller has no size");
     must(ioctl(files[0], NVME_IOCTL_RESCAN) == 0, "a controller is scanned");
@@ -314,6 +331,7 @@ static void try_requests(void) {
     must(ioctl(-1, NVME_IOCTL_ID) == -1 && errno == ENOTTY, "no command comes to the kernel");
     close(file);
     close(other);
+    close(generic);
 }
 
 /* Whether a program that is run with this descriptor can use it. */
@@ -366,7 +384,6 @@ void try_gone(void) {
     pid_t device = device_of(getppid());
     double begun = seconds();
     struct command command = identify(1, 0);
-    must(access("/sys/class/nvme/nvme1/serial", F_OK) == 0, "a folder of /sys is there");
     must(device > 0 && kill(device, SIGSTOP) == 0, "the device is stopped");
     pid_t child = fork();
     if (child == 0)
@@ -378,7 +395,7 @@ void try_gone(void) {
     must(send_command(files[0], &command, &result) == -1 && errno == ENXIO, "so does a later one");
     must(open("/dev/nvme0", O_RDWR) == -1 && errno == ENXIO, "and open");
     must(stat("/dev/nvme0", &about) == -1 && errno == ENXIO, "and stat");
-    must(opendir("/sys/class/nvme") == NULL && errno == ENXIO, "and a look at /sys");
+    must(open("/dev/nvme0n1", O_RDWR) == -1 && errno == ENXIO, "of a namespace too");
     must(ioctl(files[0], NVME_IOCTL_RESET) == -1 && errno == ENXIO, "and a reset");
     must(seconds() - begun < 5, "none of them waits");
 }

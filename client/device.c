@@ -2,37 +2,20 @@
    has a connection of its own, so that no answer goes to another thread or process. No part of what is proved. */
 #define _GNU_SOURCE
 #include "library.h"
-#include "wire.h"
 #include <errno.h>
+#include <fcntl.h>
 #include <linux/fs.h>
+#include <linux/hdreg.h>
 #include <linux/nvme_ioctl.h>
 #include <stddef.h>
-#include <stdlib.h>
+#include <stdio.h>
 #include <string.h>
 #include <sys/socket.h>
 #include <sys/un.h>
 #include <unistd.h>
 
-enum { IDENTIFY_OPCODE = 0x06 };
-
 /* The two lowest bits of an opcode say which way its data goes. */
 enum { TO_DEVICE = 1, FROM_DEVICE = 2 };
-
-char tree[PATH_MAX];
-static struct sockaddr_un launcher = {.sun_family = AF_UNIX};
-
-__attribute__((constructor)) static void begin(void) {
-    const char *socket = getenv("NVME_MODEL_SOCKET"), *folder = getenv("NVME_MODEL_TREE");
-    if (!socket || !folder || strlen(socket) >= sizeof launcher.sun_path || strlen(folder) >= sizeof tree)
-        return;
-    strcpy(launcher.sun_path, socket);
-    strcpy(tree, folder);
-}
-
-static int fails_by(int number) {
-    errno = number;
-    return -1;
-}
 
 /* The launcher or the device is gone, unless the fault is this process's own. */
 static int is_lost(void) {
@@ -83,6 +66,8 @@ static int talk(int file, const struct request_header *header, void *data, struc
 }
 
 static int exchange(const struct request_header *header, void *data, struct answer_header *answer) {
+    struct sockaddr_un launcher = {.sun_family = AF_UNIX};
+    snprintf(launcher.sun_path, sizeof launcher.sun_path, "%.80s/socket", folder);
     int file = socket(AF_UNIX, SOCK_STREAM | SOCK_CLOEXEC, 0);
     if (file < 0)
         return -1;
@@ -97,78 +82,30 @@ static int exchange(const struct request_header *header, void *data, struct answ
     return result;
 }
 
-uint64_t number_at(const unsigned char *at, unsigned bytes) {
-    uint64_t number = 0;
-    while (bytes-- > 0)
-        number = number << 8 | at[bytes];
-    return number;
-}
-
-static void put_number(unsigned char *at, uint32_t number) {
-    number = htole32(number);
-    memcpy(at, &number, sizeof number);
-}
-
-int list_namespaces(uint16_t controller, uint32_t ids[LIST_LENGTH], uint32_t *controllers) {
-    struct request_header header = {
-        .controller = htole16(controller), .kind = htole16(KIND_LIST), .length = htole32(4 * LIST_LENGTH)};
+static int ask(const struct node *node, unsigned kind) {
+    struct request_header header = {.controller = htole16((uint16_t)node->controller), .kind = htole16((uint16_t)kind)};
     struct answer_header answer;
-    if (exchange(&header, ids, &answer) < 0)
-        return -1;
-    for (unsigned at = 0; at < LIST_LENGTH; at++)
-        ids[at] = le32toh(ids[at]);
-    *controllers = le32toh(answer.dword_0);
-    return 0;
+    return exchange(&header, NULL, &answer);
 }
 
-/* A controller is there where it has a list, a namespace where it is in that list. */
-int is_there(const struct node *node) {
-    uint32_t ids[LIST_LENGTH], controllers;
-    if (list_namespaces(node->controller, ids, &controllers) < 0)
-        return -1;
-    for (unsigned at = 0; at < LIST_LENGTH && ids[at] != 0; at++)
-        if (ids[at] == node->nsid)
-            return 0;
-    return node->nsid == 0 ? 0 : fails_by(ENOENT);
-}
-
-int identify(const struct node *node, uint32_t cns, unsigned char data[IDENTIFY_BYTES]) {
-    struct request_header header = {.controller = htole16(node->controller), .length = htole32(IDENTIFY_BYTES)};
-    struct answer_header answer;
-    header.entry[0] = IDENTIFY_OPCODE;
-    put_number(header.entry + 4, node->nsid);
-    put_number(header.entry + 40, cns);
-    if (exchange(&header, data, &answer) < 0)
-        return -1;
-    return answer.status == 0 ? 0 : fails_by(ENXIO);
-}
-
-/* A namespace's blocks, and the size of one as a power of two. */
-int size_of(const struct node *node, uint64_t *blocks, unsigned *power) {
-    unsigned char data[IDENTIFY_BYTES];
-    if (identify(node, CNS_NAMESPACE, data) < 0)
-        return -1;
-    *blocks = number_at(data, 8);
-    *power = data[128 + 4 * (data[26] & 15) + 2];
-    return *power < 31 ? 0 : fails_by(EIO);
-}
+int is_alive(const struct node *node) { return ask(node, KIND_ALIVE); }
 
 /* Sends an entry as it was given. The status is the result, and dword 0 of the completion the other one. */
 static int pass_through(const struct node *node, const struct nvme_passthru_cmd *given, uint32_t *dword_0) {
     int direction = given->opcode & (TO_DEVICE | FROM_DEVICE);
     uint32_t length = direction && given->addr ? given->data_len : 0;
-    struct request_header header = {.controller = htole16(node->controller), .length = htole32(length)};
+    struct request_header header = {.controller = htole16((uint16_t)node->controller), .length = htole32(length)};
     struct answer_header answer;
     if (given->data_len > MOST_DATA)
         return fails_by(EINVAL);
     header.entry[0] = given->opcode;
     header.entry[1] = given->flags;
-    put_number(header.entry + 4, given->nsid);
-    put_number(header.entry + 8, given->cdw2);
-    put_number(header.entry + 12, given->cdw3);
+    put_dword(header.entry + 4, given->nsid);
+    put_dword(header.entry + 8, given->cdw2);
+    put_dword(header.entry + 12, given->cdw3);
     const uint32_t dwords[] = {given->cdw10, given->cdw11, given->cdw12, given->cdw13, given->cdw14, given->cdw15};
     for (unsigned at = 0; at < 6; at++)
-        put_number(header.entry + 40 + 4 * at, dwords[at]);
+        put_dword(header.entry + 40 + 4 * at, dwords[at]);
     if (exchange(&header, (void *)(uintptr_t)given->addr, &answer) < 0)
         return -1;
     *dword_0 = le32toh(answer.dword_0);
@@ -178,7 +115,7 @@ static int pass_through(const struct node *node, const struct nvme_passthru_cmd 
 /* The two forms of a command are the same but for the result, which stands behind the fields in both. */
 static int admin_ioctl(const struct node *node, uint32_t request, unsigned char *argument) {
     struct nvme_passthru_cmd given;
-    uint32_t dword_0;
+    uint32_t dword_0 = 0;
     if (!argument)
         return fails_by(EFAULT);
     memcpy(&given, argument, sizeof given);
@@ -191,37 +128,66 @@ static int admin_ioctl(const struct node *node, uint32_t request, unsigned char 
     return status;
 }
 
-static int block_ioctl(const struct node *node, uint32_t request, void *argument) {
-    uint64_t blocks;
-    unsigned power;
-    if (request == BLKBSZSET || request == BLKRRPART)
-        return 0;
-    if (!argument)
-        return fails_by(EFAULT);
-    if (size_of(node, &blocks, &power) < 0)
-        return -1;
-    int block_size = 1 << power;
-    uint64_t bytes = blocks << power;
-    if (request == BLKSSZGET)
-        memcpy(argument, &block_size, sizeof block_size);
-    else
-        memcpy(argument, &bytes, sizeof bytes);
-    return 0;
+/* What a block device tells of itself by a number of so many bytes, as Linux does of one with one queue. */
+static int tell_number(const struct node *node, uint32_t request, void *argument) {
+    uint64_t block = 1ULL << node->power, size = node->blocks << node->power;
+    const struct {
+        uint32_t request, bytes;
+        uint64_t value;
+    } numbers[] = {{BLKGETSIZE64, 8, size}, {BLKGETSIZE, 8, size / 512}, {BLKSSZGET, 4, block},
+                   {BLKPBSZGET, 4, block},  {BLKIOMIN, 4, block},        {BLKIOOPT, 4, 0},
+                   {BLKALIGNOFF, 4, 0},     {BLKBSZGET, 4, block},       {BLKROGET, 4, 0},
+                   {BLKRAGET, 8, 256},      {BLKFRAGET, 8, 256},         {BLKSECTGET, 2, 256},
+                   {BLKROTATIONAL, 2, 0},   {BLKDISCARDZEROES, 4, 0}};
+    for (unsigned at = 0; at < sizeof numbers / sizeof *numbers; at++)
+        if (numbers[at].request == request) {
+            if (!argument)
+                return fails_by(EFAULT);
+            memcpy(argument, &numbers[at].value, numbers[at].bytes);
+            return 0;
+        }
+    return fails_by(ENOTTY);
 }
 
-int node_ioctl(const struct node *node, uint32_t request, void *argument) {
-    struct request_header reset = {.controller = htole16(node->controller), .kind = htole16(KIND_RESET)};
-    struct answer_header answer;
-    int is_block = request == BLKSSZGET || request == BLKBSZSET || request == BLKRRPART || request == BLKGETSIZE64;
+/* Gives blocks up, which are zeros then. */
+static int discard(int file, const struct node *node, const uint64_t range[2]) {
+    uint64_t size = node->blocks << node->power, mask = (1ULL << node->power) - 1;
+    if (!range)
+        return fails_by(EFAULT);
+    if ((range[0] | range[1]) & mask || range[1] == 0 || range[0] > size || range[1] > size - range[0])
+        return fails_by(EINVAL);
+    return NEXT(fallocate)(file, FALLOC_FL_PUNCH_HOLE | FALLOC_FL_KEEP_SIZE, (off_t)range[0], (off_t)range[1]);
+}
+
+static int block_ioctl(int file, const struct node *node, uint32_t request, void *argument) {
+    uint64_t sectors = (node->blocks << node->power) / 512;
+    struct hd_geometry geometry = {.heads = 64, .sectors = 32, .cylinders = (unsigned short)(sectors >> 11)};
+    switch (request) {
+    case BLKDISCARD:
+    case BLKZEROOUT:
+        return discard(file, node, argument);
+    case BLKBSZSET:
+    case BLKRRPART:
+    case BLKFLSBUF:
+    case BLKRASET:
+        return is_alive(node);
+    case HDIO_GETGEO:
+        return argument ? (memcpy(argument, &geometry, sizeof geometry), 0) : fails_by(EFAULT);
+    default:
+        return tell_number(node, request, argument);
+    }
+}
+
+int node_ioctl(int file, const struct node *node, uint32_t request, void *argument) {
     if (request == NVME_IOCTL_ADMIN_CMD || request == NVME_IOCTL_ADMIN64_CMD)
         return admin_ioctl(node, request, argument);
-    if (node->nsid != 0 && request == NVME_IOCTL_ID)
+    if (is_alive(node) < 0)
+        return -1;
+    if (node->kind != 'c' && request == NVME_IOCTL_ID)
         return (int)node->nsid;
-    if (node->nsid != 0 && is_block)
-        return block_ioctl(node, request, argument);
-    if (node->nsid == 0 && request == NVME_IOCTL_RESCAN)
-        return 0;
-    if (node->nsid == 0 && request == NVME_IOCTL_RESET)
-        return exchange(&reset, NULL, &answer);
-    return fails_by(ENOTTY);
+    if (node->kind == 'c' && request == NVME_IOCTL_RESCAN)
+        return ask(node, KIND_RESCAN);
+    if (node->kind == 'c' && request == NVME_IOCTL_RESET)
+        return ask(node, KIND_RESET);
+    return node->kind == 'b' ? block_ioctl(file, node, request, argument) : fails_by(ENOTTY);
 }

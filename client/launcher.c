@@ -1,46 +1,58 @@
-/* Runs a command whose NVMe commands a device program answers:
-       launcher DEVICE [DEVICE-ARGUMENT..] -- LIBRARY COMMAND [ARGUMENT..]
-   It starts the device behind two pipes, listens on a socket in a folder of its own, runs the command with the library
-   preloaded, and serves the library's requests (relay.c). It ends when the command ends, with its status, and leaves
-   nothing. No part of what is proved. */
+/* Runs a command whose NVMe commands are answered by device programs, one for each subsystem file. It starts the
+   devices behind pipes, makes a /dev and a /sys for the command (space.c), listens on a socket in that /dev, runs the
+   command with the library preloaded, and serves the library's requests (relay.c). It ends when the command ends, with
+   its status, and leaves nothing. No part of what is proved. */
 #define _GNU_SOURCE
-#include "relay.h"
+#include "launcher.h"
+#include <dirent.h>
 #include <errno.h>
 #include <fcntl.h>
 #include <ftw.h>
+#include <getopt.h>
 #include <limits.h>
 #include <signal.h>
+#include <stdarg.h>
 #include <stdio.h>
 #include <stdlib.h>
 #include <string.h>
 #include <sys/prctl.h>
-#include <sys/signalfd.h>
 #include <sys/socket.h>
 #include <sys/stat.h>
+#include <sys/sysinfo.h>
 #include <sys/un.h>
 #include <sys/wait.h>
 #include <unistd.h>
 
 enum { FAILED = 72, NOT_EXECUTABLE = 126, NOT_FOUND = 127 };
 
-int to_device = -1, from_device = -1, listener = -1;
-static pid_t device, command;
-static int status = -1; /* of the command, once it has ended */
-static char folder[96];
-static sigset_t mask; /* the signals that were blocked at the start */
+struct device devices[MOST_DEVICES];
+unsigned device_count;
+int listener = -1, has_namespace, waits;
+char folder[96];
+uint64_t geometry[] = {[DEPTH] = 32, [PAGE_SIZE] = 4096, [WINDOW] = 1};
 
-/* The device ends where its input ends. One that doesn't within a second is killed. */
-static void end_device(void) {
-    sigset_t child;
-    struct timespec second = {.tv_sec = 1};
-    sigemptyset(&child);
-    sigaddset(&child, SIGCHLD);
-    close_file(&to_device);
-    close_file(&from_device);
-    while (device > 0 && waitpid(device, NULL, WNOHANG) == 0)
-        if (sigtimedwait(&child, NULL, &second) < 0 && errno == EAGAIN)
-            kill(device, SIGKILL);
-    device = 0;
+static pid_t command;
+static int status = -1;        /* of the command, once it has ended */
+static sigset_t mask, watched; /* the signals that were blocked at the start, and that are waited for */
+static char parts[PATH_MAX], library[PATH_MAX + 32];
+
+/* What the options ask for. */
+static const char *files[MOST_DEVICES];
+static char *device_options[16];
+static unsigned file_count, device_option_count;
+static int has_trace, without_namespace;
+static const char *trace_file;
+static uint64_t limit;
+
+/* (a device has nothing to put away) */
+static void end_devices(void) {
+    for (struct device *device = devices; device < devices + device_count; device++) {
+        device->is_lost = 1;
+        if (device->process > 0 && kill(device->process, SIGKILL) == 0)
+            waitpid(device->process, NULL, 0);
+        device->process = 0;
+        copy_said(device);
+    }
 }
 
 static int remove_one(const char *path, const struct stat *about, int type, struct FTW *walk) {
@@ -48,38 +60,44 @@ static int remove_one(const char *path, const struct stat *about, int type, stru
     return remove(path);
 }
 
-/* (a process that the command left behind may still write into the folder) */
-static void remove_folder(void) {
-    close_file(&listener);
-    for (int tries = 0; folder[0] && tries < 3; tries++)
-        if (nftw(folder, remove_one, 16, FTW_DEPTH | FTW_PHYS) == 0)
-            return;
-    if (folder[0])
-        fprintf(stderr, "nvme-model: the folder %s could not be removed\n", folder);
+/* (what the command left behind may still write there) */
+void remove_all(const char *path) {
+    for (int tries = 0; tries < 3 && nftw(path, remove_one, 16, FTW_DEPTH | FTW_PHYS) != 0; tries++)
+        continue;
 }
 
-void fail(const char *sentence) {
-    fprintf(stderr, "nvme-model: %s\n", sentence);
+/* Without a namespace the folder stands in the machine's /tmp. */
+static void remove_folder(void) {
+    if (folder[0] && !has_namespace)
+        remove_all(folder);
+}
+
+void fail(const char *format, ...) {
+    va_list values;
+    fputs("nvme-model: ", stderr);
+    va_start(values, format);
+    vfprintf(stderr, format, values);
+    va_end(values);
+    fputc('\n', stderr);
     if (command > 0)
         kill(command, SIGTERM);
-    end_device();
+    end_devices();
     remove_folder();
     exit(FAILED);
 }
 
-void fail_by_errno(const char *what) {
-    char sentence[512];
-    snprintf(sentence, sizeof sentence, "%s: %s", what, strerror(errno));
-    fail(sentence);
-}
+void fail_by_errno(const char *what) { fail("%s: %s", what, strerror(errno)); }
 
 /* Sees which processes have ended. */
 static void reap(void) {
     int how;
     pid_t ended;
     while ((ended = waitpid(-1, &how, WNOHANG)) > 0) {
-        if (ended == device)
-            device = 0;
+        for (struct device *device = devices; device < devices + device_count; device++)
+            if (ended == device->process) {
+                device->process = 0;
+                lose_device(device);
+            }
         if (ended != command)
             continue;
         command = 0;
@@ -87,103 +105,223 @@ static void reap(void) {
     }
 }
 
-/* What was typed on the terminal reaches the command by itself. Any other signal is passed on to it. */
-static void take_signals(int signals) {
-    struct signalfd_siginfo signal;
-    while (read(signals, &signal, sizeof signal) == sizeof signal) {
-        int number = (int)signal.ssi_signo;
-        int is_typed = signal.ssi_code == SI_KERNEL && (number == SIGINT || number == SIGQUIT);
+/* Waits for the command's end. What was typed on the terminal reaches the command by itself. Any other signal is passed
+   on to it. */
+static void await_end(void) {
+    siginfo_t signal;
+    while (status < 0) {
+        int number = sigwaitinfo(&watched, &signal);
+        int is_typed = signal.si_code == SI_KERNEL && (number == SIGINT || number == SIGQUIT);
         if (number == SIGCHLD)
             reap();
-        else if (command > 0 && !is_typed)
+        else if (number > 0 && command > 0 && !is_typed)
             kill(command, number);
     }
 }
 
-/* Blocks the signals that are taken one by one, from the file that is given back. */
-static int watch_signals(void) {
-    sigset_t watched;
+/* Blocks the signals that are taken one by one. */
+static void block_signals(void) {
+    static const int numbers[] = {SIGCHLD, SIGINT, SIGTERM, SIGHUP, SIGQUIT};
     sigemptyset(&watched);
-    sigaddset(&watched, SIGCHLD);
-    sigaddset(&watched, SIGINT);
-    sigaddset(&watched, SIGTERM);
-    sigaddset(&watched, SIGHUP);
-    sigaddset(&watched, SIGQUIT);
+    for (unsigned at = 0; at < sizeof numbers / sizeof *numbers; at++)
+        sigaddset(&watched, numbers[at]);
     sigprocmask(SIG_BLOCK, &watched, NULL);
-    int signals = signalfd(-1, &watched, SFD_CLOEXEC | SFD_NONBLOCK);
-    if (signals < 0)
-        fail_by_errno("signalfd");
-    return signals;
 }
 
-/* Starts the device in a session of its own, so that nothing that is typed on the terminal ends it. It is killed where
-   the launcher is. */
-static void start_device(char **arguments) {
-    int in[2], out[2];
-    if (pipe2(in, O_CLOEXEC) < 0 || pipe2(out, O_CLOEXEC) < 0)
+static void open_pipe(int ends[2]) {
+    if (pipe2(ends, O_CLOEXEC) < 0)
         fail_by_errno("pipe");
-    device = fork();
-    if (device < 0)
-        fail_by_errno("fork");
-    if (device == 0) {
-        setsid();
-        prctl(PR_SET_PDEATHSIG, SIGKILL);
-        sigprocmask(SIG_SETMASK, &mask, NULL);
-        if (dup2(in[0], STDIN_FILENO) >= 0 && dup2(out[1], STDOUT_FILENO) >= 0)
-            execv(arguments[0], arguments);
-        fprintf(stderr, "nvme-model: %s: %s\n", arguments[0], strerror(errno));
-        _exit(FAILED);
+}
+
+/* Runs a device's program, in a session of its own, so that nothing that is typed on the terminal ends it. It is killed
+   where the launcher is. */
+static void run_device(const char *file, int in, int out, int said) {
+    char program[PATH_MAX + 32], *arguments[24] = {program};
+    unsigned count = 1;
+    snprintf(program, sizeof program, "%s/nvme_device", parts);
+    for (unsigned at = 0; at < device_option_count; at++)
+        arguments[count++] = device_options[at];
+    if (has_trace)
+        arguments[count++] = "--trace";
+    if (file) {
+        arguments[count++] = "--subsystem";
+        arguments[count++] = (char *)file;
     }
+    setsid();
+    prctl(PR_SET_PDEATHSIG, SIGKILL);
+    sigprocmask(SIG_SETMASK, &mask, NULL);
+    if (dup2(in, STDIN_FILENO) >= 0 && dup2(out, STDOUT_FILENO) >= 0 && (said < 0 || dup2(said, STDERR_FILENO) >= 0))
+        execv(program, arguments);
+    fprintf(stderr, "nvme-model: %s: %s\n", program, strerror(errno));
+    _exit(FAILED);
+}
+
+static void start_device(const char *file) {
+    int in[2], out[2], said[2] = {-1, -1};
+    struct device *device = devices + device_count++;
+    open_pipe(in);
+    open_pipe(out);
+    if (has_trace)
+        open_pipe(said);
+    *device = (struct device){.to = in[1],
+                              .from = out[0],
+                              .said = said[0],
+                              .lock = PTHREAD_MUTEX_INITIALIZER,
+                              .ended = PTHREAD_COND_INITIALIZER};
+    if (device_count > 1)
+        device->first = device[-1].first + device[-1].count;
+    device->process = fork();
+    if (device->process < 0)
+        fail_by_errno("fork");
+    if (device->process == 0)
+        run_device(file, in[0], out[1], said[1]);
     close(in[0]);
     close(out[1]);
-    to_device = in[1];
-    from_device = out[0];
+    close(said[1]);
+    greet_device(device);
 }
 
-/* Makes the folder, in $TMPDIR where its path can be that of a socket and of a preloaded library, else in /tmp. */
-static void make_folder(const char *library) {
-    const char *temporary = getenv("TMPDIR");
-    char base[PATH_MAX], whole[PATH_MAX], path[sizeof folder + 16];
-    if (!temporary || !realpath(temporary, base) || strlen(base) > 64 || strpbrk(base, " :") || access(base, W_OK) != 0)
-        strcpy(base, "/tmp");
-    snprintf(path, sizeof path, "%.64s/nvme-model.XXXXXX", base);
-    if (!mkdtemp(path))
-        fail_by_errno("no folder can be made");
-    snprintf(folder, sizeof folder, "%.90s", path);
-    snprintf(path, sizeof path, "%s/library.so", folder);
-    if (!realpath(library, whole) || symlink(whole, path) < 0)
+/* Whether a namespace can be made here is tried by another process, since half of one can't be taken back. */
+static int can_enter(char reason[REASON_ROOM]) {
+    int ends[2], how;
+    open_pipe(ends);
+    pid_t child = fork();
+    if (child < 0)
+        fail_by_errno("fork");
+    if (child == 0) {
+        char why[REASON_ROOM] = "";
+        int result = enter_space(limit, why);
+        _exit(result < 0 && write(ends[1], why, strlen(why) + 1) > 0 ? 1 : result < 0);
+    }
+    close(ends[1]);
+    ssize_t length = read(ends[0], reason, REASON_ROOM - 1);
+    reason[length < 0 ? 0 : length] = '\0';
+    close(ends[0]);
+    return waitpid(child, &how, 0) == child && how == 0;
+}
+
+/* Gives folders that are open the same paths in the command's /dev, /sys and all else: by a descriptor of the machine's
+   own folders its nodes could be reached. */
+static void renew_folders(void) {
+    DIR *open_files = opendir("/proc/self/fd");
+    struct dirent *entry;
+    while (open_files && (entry = readdir(open_files))) {
+        char link[64], path[PATH_MAX];
+        struct stat about;
+        int file = atoi(entry->d_name), flags = fcntl(file, F_GETFL);
+        if (entry->d_name[0] == '.' || file == dirfd(open_files) || fstat(file, &about) < 0 || !S_ISDIR(about.st_mode))
+            continue;
+        snprintf(link, sizeof link, "/proc/self/fd/%d", file);
+        ssize_t length = readlink(link, path, sizeof path - 1);
+        path[length < 0 ? 0 : length] = '\0';
+        int is_kept = fcntl(file, F_GETFD) & FD_CLOEXEC, new = open(path, (flags & O_PATH) | O_DIRECTORY | O_CLOEXEC);
+        if (new < 0 || dup3(new, file, is_kept ? O_CLOEXEC : 0) < 0)
+            close(file);
+        close(new);
+    }
+    if (open_files)
+        closedir(open_files);
+}
+
+/* No descriptor of a real device is handed on. */
+static void check_descriptors(void) {
+    DIR *open_files = opendir("/proc/self/fd");
+    struct dirent *entry;
+    char path[300];
+    while (open_files && (entry = readdir(open_files))) {
+        snprintf(path, sizeof path, "/proc/self/fd/%s", entry->d_name);
+        if (is_real_node(path))
+            fail("file descriptor %s is an NVMe device of this machine: close it", entry->d_name);
+    }
+    if (open_files)
+        closedir(open_files);
+}
+
+/* Removes the folder when the launcher has ended, also where it was killed. */
+static void start_sweeper(void) {
+    int ends[2];
+    char byte;
+    open_pipe(ends);
+    pid_t sweeper = fork();
+    if (sweeper < 0)
+        fail_by_errno("fork");
+    close(ends[sweeper > 0 ? 0 : 1]);
+    if (sweeper > 0)
+        return;
+    setsid();
+    for (int file = 0; file <= STDERR_FILENO; file++)
+        close(file);
+    while (read(ends[0], &byte, 1) < 0 && errno == EINTR)
+        continue;
+    remove_all(folder);
+    _exit(0);
+}
+
+/* Without a namespace a folder in /tmp stands for the one in the command's own /dev. */
+static void make_folder(const char *reason) {
+    const char *node = a_real_node();
+    if (node && !without_namespace)
+        fail("%s is a device of this machine, and no namespace can be made to keep the command from it (%s): with "
+             "--without-namespace the command runs all the same, at your own risk",
+             node, reason);
+    fprintf(stderr,
+            "nvme-model: the command has no namespace (%s): nodes can be opened by their names in /dev but hold no "
+            "data, listings of /dev and /sys don't show them, and a program that doesn't see the preloaded library "
+            "finds %s\n",
+            reason, node ? "the devices of this machine" : "no NVMe device");
+    strcpy(folder, "/tmp/nvme-model.XXXXXX");
+    if (!mkdtemp(folder) || chmod(folder, 0755) < 0)
+        fail_by_errno("no folder can be made in /tmp");
+    start_sweeper();
+}
+
+static void choose_space(void) {
+    char reason[REASON_ROOM] = "--without-namespace", here[PATH_MAX];
+    if (without_namespace || !can_enter(reason)) {
+        make_folder(reason);
+        return;
+    }
+    int is_told = getcwd(here, sizeof here) != NULL;
+    if (enter_space(limit, reason) < 0)
+        fail("no namespace can be made: %s", reason);
+    has_namespace = 1;
+    strcpy(folder, MODEL_FOLDER);
+    renew_folders();
+    /* (the folder may be the machine's /dev, or another namespace's: it is taken anew by its path) */
+    if (is_told && chdir(here) < 0 && errno != EACCES)
+        fail("the folder %s isn't there for the command: run it from another one", here);
+}
+
+/* Copies the library into the /dev that the command sees, where every user can read it. */
+static void place_library(void) {
+    char copy[sizeof folder + 16], block[65536];
+    ssize_t count = 0;
+    if (!has_namespace)
+        return;
+    int from = open(library, O_RDONLY | O_CLOEXEC);
+    snprintf(copy, sizeof copy, "%s/library.so", folder);
+    int to = open(copy, O_WRONLY | O_CREAT | O_CLOEXEC, 0755);
+    while (from >= 0 && to >= 0 && (count = read(from, block, sizeof block)) > 0)
+        if (write(to, block, (size_t)count) != count)
+            fail_by_errno(copy);
+    if (from < 0 || to < 0 || count < 0 || fchmod(to, 0755) < 0)
         fail_by_errno(library);
-    snprintf(path, sizeof path, "%s/tree", folder);
-    if (mkdir(path, 0700) < 0)
-        fail_by_errno(path);
+    close(from);
+    close(to);
+    strcpy(library, copy);
 }
 
 static void start_listening(void) {
     struct sockaddr_un address = {.sun_family = AF_UNIX};
     snprintf(address.sun_path, sizeof address.sun_path, "%s/socket", folder);
-    listener = socket(AF_UNIX, SOCK_STREAM | SOCK_CLOEXEC | SOCK_NONBLOCK, 0);
-    mode_t before = umask(0177);
+    listener = socket(AF_UNIX, SOCK_STREAM | SOCK_CLOEXEC, 0);
     if (listener < 0 || bind(listener, (struct sockaddr *)&address, sizeof address) < 0 ||
-        listen(listener, SOMAXCONN) < 0)
+        chmod(address.sun_path, 0666) < 0 || listen(listener, SOMAXCONN) < 0)
         fail_by_errno("no socket can be made");
-    umask(before);
 }
 
-/* (the library is about to make the tree where `making` is there, and has made it where `made` is) */
-void forget_tree(void) {
-    char path[sizeof folder + 16];
-    snprintf(path, sizeof path, "%s/tree/making", folder);
-    unlink(path);
-    snprintf(path, sizeof path, "%s/tree/made", folder);
-    unlink(path);
-}
-
-/* Sets a variable to a path of the folder, and to what it was before behind a colon where that is kept. */
-static void set_path(const char *variable, const char *name, int keep) {
-    const char *before = keep ? getenv(variable) : NULL;
-    char *text;
-    if (asprintf(&text, "%s/%s%s%s", folder, name, before ? ":" : "", before ? before : "") < 0 ||
-        setenv(variable, text, 1) < 0) {
+static void set_variable(const char *name, char *text) {
+    if (!text || setenv(name, text, 1) < 0) {
         fputs("nvme-model: out of memory\n", stderr);
         _exit(FAILED);
     }
@@ -191,14 +329,23 @@ static void set_path(const char *variable, const char *name, int keep) {
 }
 
 static void start_command(char **arguments) {
+    const char *before = getenv("LD_PRELOAD");
+    char *preloaded;
     command = fork();
     if (command < 0)
         fail_by_errno("fork");
     if (command > 0)
         return;
-    set_path("NVME_MODEL_SOCKET", "socket", 0);
-    set_path("NVME_MODEL_TREE", "tree", 0);
-    set_path("LD_PRELOAD", "library.so", 1);
+    if (asprintf(&preloaded, "%s%s%s", library, before ? ":" : "", before ? before : "") < 0)
+        preloaded = NULL;
+    set_variable("LD_PRELOAD", preloaded);
+    unsetenv(FOLDER_VARIABLE);
+    if (has_namespace && drop_rights() < 0) {
+        fprintf(stderr, "nvme-model: rights can't be dropped: %s\n", strerror(errno));
+        _exit(FAILED);
+    }
+    if (!has_namespace)
+        set_variable(FOLDER_VARIABLE, tell_real_nodes(folder));
     sigprocmask(SIG_SETMASK, &mask, NULL);
     execvp(arguments[0], arguments);
     int is_found = errno != ENOENT && errno != ENOTDIR;
@@ -212,33 +359,127 @@ static void hold_streams(void) {
     do {
         file = open("/dev/null", O_RDWR | O_CLOEXEC);
     } while (file >= 0 && file <= STDERR_FILENO);
-    close_file(&file);
+    close(file);
+}
+
+static const char usage[] =
+    "usage: nvme-model [OPTION..] [--] COMMAND [ARGUMENT..]\n"
+    "Runs COMMAND with the NVMe devices of a model as /dev/nvme0, /dev/nvme0n1 and so on.\n\n"
+    "  --subsystem FILE     the subsystem of this file; written more than once, a subsystem for each (16 at most)\n"
+    "  --trace[=FILE]       write what goes over the bus to standard error, or to FILE\n"
+    "  --data-limit SIZE    the most bytes that the data of namespaces take, as 512M (a quarter of the memory)\n"
+    "  --no-notice          nodes come and go at `nvme ns-rescan` or a reset only\n"
+    "  --without-namespace  give COMMAND the /dev and /sys of this machine, with its devices, at your own risk\n"
+    "  --depth N, --page-size N, --offset N, --list-offset N, --window N, --pace N\n"
+    "                       the rings and pages through which each command goes, as for nvme-script\n"
+    "  --help               show this\n\n"
+    "The status is that of COMMAND, or 72 where nvme-model itself can't go on. nvme-model(1) says more.\n";
+
+static void refuse_options(void) {
+    fputs(usage, stderr);
+    exit(FAILED);
+}
+
+static uint64_t read_size(const char *text) {
+    char *end;
+    errno = 0;
+    uint64_t size = strtoull(text, &end, 10), unit = 1;
+    const char *at = *end ? strchr("KMG", *end) : NULL;
+    if (at)
+        unit = (uint64_t)1 << 10 * (at - "KMG" + 1);
+    if (*text < '0' || *text > '9' || errno || (*end && (!at || end[1])) || size > INT64_MAX / unit)
+        refuse_options();
+    return size * unit;
+}
+
+static int read_options(int count, char **arguments) {
+    enum { SUBSYSTEM = 256, TRACE, LIMIT, HELP, GEOMETRY, OTHER = GEOMETRY + 3 };
+    static const struct option options[] = {{"subsystem", required_argument, NULL, SUBSYSTEM},
+                                            {"trace", optional_argument, NULL, TRACE},
+                                            {"data-limit", required_argument, NULL, LIMIT},
+                                            {"no-notice", no_argument, &waits, 1},
+                                            {"help", no_argument, NULL, HELP},
+                                            {"without-namespace", no_argument, &without_namespace, 1},
+                                            {"depth", required_argument, NULL, GEOMETRY + DEPTH},
+                                            {"page-size", required_argument, NULL, GEOMETRY + PAGE_SIZE},
+                                            {"offset", required_argument, NULL, OTHER},
+                                            {"list-offset", required_argument, NULL, OTHER},
+                                            {"window", required_argument, NULL, GEOMETRY + WINDOW},
+                                            {"pace", required_argument, NULL, OTHER},
+                                            {0}};
+    int option, place;
+    while ((option = getopt_long(count, arguments, "+", options, &place)) != -1) {
+        if (option == 0)
+            continue; /* (a flag, which is set) */
+        if (option == SUBSYSTEM && file_count < MOST_DEVICES)
+            files[file_count++] = optarg;
+        else if (option == TRACE) {
+            has_trace = 1;
+            trace_file = optarg;
+        } else if (option == LIMIT)
+            limit = read_size(optarg);
+        else if (option == HELP) {
+            fputs(usage, stdout);
+            exit(fflush(stdout) == 0 ? 0 : FAILED);
+        } else if (option < GEOMETRY || device_option_count == sizeof device_options / sizeof *device_options)
+            refuse_options();
+        else if (asprintf(&device_options[device_option_count++], "--%s=%s", options[place].name, optarg) < 0)
+            fail("out of memory");
+        /* (the devices see whether they are numbers) */
+        if (option >= GEOMETRY && option < OTHER)
+            geometry[option - GEOMETRY] = strtoul(optarg, NULL, 0);
+    }
+    if (optind == count)
+        refuse_options();
+    return optind;
+}
+
+/* The library and the device's program stand beside the launcher, in ../lib/nvme-model. */
+static void find_parts(void) {
+    ssize_t length = readlink("/proc/self/exe", parts, sizeof parts - 64);
+    parts[length < 0 ? 0 : length] = '\0';
+    for (int level = 0; level < 2; level++)
+        *(strrchr(parts, '/') ?: parts) = '\0';
+    strcat(parts, "/lib/nvme-model");
+    snprintf(library, sizeof library, "%s/library.so", parts);
+    /* (the library stands beside the data, in whole pages) */
+    struct stat about;
+    if (stat(library, &about) < 0)
+        fail_by_errno(library);
+    limit += ((uint64_t)about.st_size + 4095) / 4096 * 4096;
 }
 
 int main(int count, char **arguments) {
-    int end = 1;
     sigset_t first;
+    struct sysinfo machine;
     hold_streams();
-    while (end < count && strcmp(arguments[end], "--") != 0)
-        end++;
-    if (end < 2 || end + 2 >= count)
-        fail("usage: launcher DEVICE [DEVICE-ARGUMENT..] -- LIBRARY COMMAND [ARGUMENT..]");
-    arguments[end] = NULL;
+    arguments[0] = "nvme-model";
+    if (sysinfo(&machine) == 0)
+        limit = (uint64_t)machine.totalram * machine.mem_unit / 4;
+    int at = read_options(count, arguments);
+    trace = trace_file ? open(trace_file, O_WRONLY | O_CREAT | O_TRUNC | O_CLOEXEC, 0666) : STDERR_FILENO;
+    if (trace < 0)
+        fail_by_errno(trace_file);
+    find_parts();
+    find_real_nodes();
+    check_descriptors();
     signal(SIGCHLD, SIG_DFL);
     sigemptyset(&first);
     sigaddset(&first, SIGCHLD);
     sigaddset(&first, SIGPIPE);
     sigprocmask(SIG_BLOCK, &first, &mask);
-    start_device(arguments + 1);
-    greet_device();
-    int signals = watch_signals();
-    make_folder(arguments[end + 1]);
+    start_device(files[0]);
+    for (unsigned file = 1; file < file_count; file++)
+        start_device(files[file]);
+    block_signals();
+    choose_space();
+    place_library();
     start_listening();
-    start_command(arguments + end + 2);
-    while (status < 0)
-        if (serve(signals))
-            take_signals(signals);
-    end_device();
+    make_nodes();
+    start_command(arguments + at);
+    start_serving();
+    await_end();
+    end_devices();
     remove_folder();
     return status;
 }

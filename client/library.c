@@ -1,7 +1,7 @@
-/* Preloaded into a command: its calls of the C library with a path or a descriptor of a node are answered for the
-   subsystem that the launcher serves (device.c, node.c). Paths of /sys/class/nvme and /sys/class/nvme-subsystem lead to
-   the launcher's tree (tree.c). All else goes to the C library. Nothing is kept that a fork or a thread could break.
-   No part of what is proved. */
+/* Preloaded into a command: its calls of the C library on the files that stand for nodes are answered as those on
+   Linux's nodes are. A node's file is told by its device and inode (node.c); its descriptor is the file's, so that the
+   kernel knows whose it is through dup, fork and exec, and reads and writes go to the file itself. All else goes to the
+   C library. Nothing is kept that a fork or a thread could break. No part of what is proved. */
 #define _GNU_SOURCE
 #include "library.h"
 #include <assert.h>
@@ -14,22 +14,31 @@
 #include <stdlib.h>
 #include <string.h>
 #include <sys/ioctl.h>
-#include <sys/stat.h>
+#include <sys/sendfile.h>
+#include <sys/sysmacros.h>
+#include <sys/uio.h>
 #include <unistd.h>
 
 /* (so calls with 64 at the end of their names are the same as those without) */
 static_assert(sizeof(struct stat) == sizeof(struct stat64) && O_LARGEFILE == 0, "files have 64-bit sizes");
 
-#define PUBLIC __attribute__((visibility("default")))
+/* The calls that open. Those whose name ends with 2 have no mode. A node isn't made, cut, or opened for direct access,
+   and one whose device is gone isn't opened. */
 
-/* The calls that open. Those whose name ends with 2 have no mode. */
-
-static int open_place(int folder, const char *path, int flags, mode_t mode) {
-    struct place place;
-    int found = find(folder, path, &place);
-    if (found > 0)
-        return open_node(&place.node, flags);
-    return found < 0 ? -1 : NEXT(openat)(folder, place.path, flags, mode);
+static int open_place(int directory, const char *given, int flags, mode_t mode) {
+    char room[PATH_MAX];
+    const char *path = find(directory, given, room);
+    struct stat about;
+    struct node node;
+    if (path == refused)
+        return -1;
+    if (folder[0] && flags & (O_TRUNC | O_DIRECT) && find_node(directory, path, 0, &about, &node) > 0)
+        flags &= ~(O_TRUNC | O_DIRECT);
+    int file = NEXT(openat)(directory, path, path == given ? flags : flags & ~(O_CREAT | O_EXCL), mode);
+    if (file < 0 || flags & O_PATH || !is_node(file, &node) || is_alive(&node) == 0)
+        return file;
+    close(file);
+    return fails_by(ENXIO);
 }
 
 /* The mode behind the flags, which is there only where a file may be made. */
@@ -47,224 +56,241 @@ PUBLIC int open(const char *path, int flags, ...) {
     return open_place(AT_FDCWD, path, flags, mode);
 }
 
-PUBLIC int open64(const char *path, int flags, ...) {
+PUBLIC int openat(int directory, const char *path, int flags, ...) {
     TAKE_MODE(mode, flags)
-    return open_place(AT_FDCWD, path, flags, mode);
+    return open_place(directory, path, flags, mode);
 }
 
-PUBLIC int openat(int folder, const char *path, int flags, ...) {
-    TAKE_MODE(mode, flags)
-    return open_place(folder, path, flags, mode);
-}
-
-PUBLIC int openat64(int folder, const char *path, int flags, ...) {
-    TAKE_MODE(mode, flags)
-    return open_place(folder, path, flags, mode);
-}
-
+int __open_2(const char *path, int flags);
+int __openat_2(int directory, const char *path, int flags);
 PUBLIC int __open_2(const char *path, int flags) { return open_place(AT_FDCWD, path, flags, 0); }
-PUBLIC int __open64_2(const char *path, int flags) { return open_place(AT_FDCWD, path, flags, 0); }
-PUBLIC int __openat_2(int folder, const char *path, int flags) { return open_place(folder, path, flags, 0); }
-PUBLIC int __openat64_2(int folder, const char *path, int flags) { return open_place(folder, path, flags, 0); }
+PUBLIC int __openat_2(int directory, const char *path, int flags) { return open_place(directory, path, flags, 0); }
+PUBLIC int creat(const char *path, mode_t mode) { return open(path, O_WRONLY | O_CREAT | O_TRUNC, mode); }
+SAME(open64, open);
+SAME(openat64, openat);
+SAME(__open64_2, __open_2);
+SAME(__openat64_2, __openat_2);
+SAME(creat64, creat);
 
-PUBLIC FILE *fopen(const char *path, const char *mode) {
-    struct place place;
-    int found = find(AT_FDCWD, path, &place);
-    if (found > 0)
-        errno = ENXIO;
-    return found != 0 ? NULL : NEXT(fopen)(place.path, mode);
+/* (the C library would cut the file of a node by itself) */
+PUBLIC FILE *fopen(const char *given, const char *mode) {
+    char room[PATH_MAX];
+    const char *path = find(AT_FDCWD, given, room);
+    struct stat about;
+    struct node node;
+    if (path == refused)
+        return NULL;
+    if (!folder[0] || find_node(AT_FDCWD, path, 0, &about, &node) <= 0)
+        return NEXT(fopen)(path, mode);
+    int file = open(path, (strchr(mode, '+') ? O_RDWR : *mode == 'r' ? O_RDONLY : O_WRONLY) | O_CLOEXEC);
+    return file < 0 ? NULL : fdopen(file, mode);
 }
-
-PUBLIC FILE *fopen64(const char *path, const char *mode) { return fopen(path, mode); }
+SAME(fopen64, fopen);
 
 /* The calls that describe. */
 
-static int describe_file(int file, struct stat *about) {
+static unsigned major_of(const struct node *node) {
+    return node->kind == 'b' ? BLOCK_MAJOR : node->kind == 'g' ? GENERIC_MAJOR : CONTROLLER_MAJOR;
+}
+
+static int describe(const struct node *node, struct stat *about) {
+    about->st_mode = (about->st_mode & 07777) | (node->kind == 'b' ? S_IFBLK : S_IFCHR);
+    about->st_rdev = makedev(major_of(node), minor_of(node->controller, node->nsid));
+    about->st_size = about->st_blocks = 0;
+    about->st_nlink = 1;
+    return is_alive(node);
+}
+
+PUBLIC int fstatat(int directory, const char *given, struct stat *about, int flags) {
+    char room[PATH_MAX];
+    const char *path = find(directory, given, room);
+    struct node node;
+    if (path == refused)
+        return -1;
+    int found =
+        folder[0] ? find_node(directory, path, flags, about, &node) : NEXT(fstatat)(directory, path, about, flags);
+    return found > 0 ? describe(&node, about) : found;
+}
+
+PUBLIC int stat(const char *path, struct stat *about) { return fstatat(AT_FDCWD, path, about, 0); }
+PUBLIC int lstat(const char *path, struct stat *about) { return fstatat(AT_FDCWD, path, about, AT_SYMLINK_NOFOLLOW); }
+
+PUBLIC int fstat(int file, struct stat *about) {
     struct node node;
     int result = NEXT(fstat)(file, about);
-    if (result == 0 && S_ISREG(about->st_mode) && about->st_size == 0 && is_node(file, &node))
-        describe(&node, about);
+    return result == 0 && S_ISREG(about->st_mode) && is_node(file, &node) ? describe(&node, about) : result;
+}
+
+PUBLIC int statx(int directory, const char *given, int flags, unsigned mask, struct statx *about) {
+    char room[PATH_MAX];
+    const char *path = find(directory, given, room);
+    struct stat basic;
+    struct node node;
+    if (path == refused)
+        return -1;
+    int result = NEXT(statx)(directory, path, flags, mask | STATX_TYPE, about);
+    if (result < 0 || !S_ISREG(about->stx_mode) || !folder[0] ||
+        find_node(directory, path, flags & ~AT_STATX_DONT_SYNC, &basic, &node) <= 0)
+        return result;
+    result = describe(&node, &basic);
+    about->stx_mode = (uint16_t)basic.st_mode;
+    about->stx_rdev_major = major(basic.st_rdev);
+    about->stx_rdev_minor = minor(basic.st_rdev);
+    about->stx_size = about->stx_blocks = 0;
+    about->stx_nlink = 1;
     return result;
 }
 
-/* Whether it is the folder's own descriptor that is asked for. */
-static int is_by_file(int folder, const char *path, int flags) {
-    return flags & AT_EMPTY_PATH && folder >= 0 && (!path || !path[0]);
-}
-
-static int describe_place(int folder, const char *path, struct stat *about, int flags) {
-    struct place place;
-    if (is_by_file(folder, path, flags))
-        return describe_file(folder, about);
-    int found = find(folder, path, &place);
-    if (found > 0)
-        describe(&place.node, about);
-    return found > 0 ? 0 : found < 0 ? -1 : NEXT(fstatat)(folder, place.path, about, flags);
-}
-
-PUBLIC int stat(const char *path, struct stat *about) { return describe_place(AT_FDCWD, path, about, 0); }
-
-PUBLIC int lstat(const char *path, struct stat *about) {
-    return describe_place(AT_FDCWD, path, about, AT_SYMLINK_NOFOLLOW);
-}
-
-PUBLIC int fstat(int file, struct stat *about) { return describe_file(file, about); }
-
-PUBLIC int fstatat(int folder, const char *path, struct stat *about, int flags) {
-    return describe_place(folder, path, about, flags);
-}
-
-PUBLIC int stat64(const char *path, struct stat64 *about) { return stat(path, (struct stat *)about); }
-PUBLIC int lstat64(const char *path, struct stat64 *about) { return lstat(path, (struct stat *)about); }
-PUBLIC int fstat64(int file, struct stat64 *about) { return fstat(file, (struct stat *)about); }
-
-PUBLIC int fstatat64(int folder, const char *path, struct stat64 *about, int flags) {
-    return fstatat(folder, path, (struct stat *)about, flags);
-}
-
-PUBLIC int statx(int folder, const char *path, int flags, unsigned mask, struct statx *about) {
-    struct place place = {.path = path};
-    int found = is_by_file(folder, path, flags) ? is_node(folder, &place.node) : find(folder, path, &place);
-    if (found > 0)
-        describe_more(&place.node, about);
-    return found > 0 ? 0 : found < 0 ? -1 : NEXT(statx)(folder, place.path, flags, mask, about);
-}
-
 /* What programs call that were made for older versions of the C library. */
-
 int __xstat(int version, const char *path, struct stat *about);
 int __lxstat(int version, const char *path, struct stat *about);
 int __fxstat(int version, int file, struct stat *about);
-int __fxstatat(int version, int folder, const char *path, struct stat *about, int flags);
-int __xstat64(int version, const char *path, struct stat *about);
-int __lxstat64(int version, const char *path, struct stat *about);
-int __fxstat64(int version, int file, struct stat *about);
-int __fxstatat64(int version, int folder, const char *path, struct stat *about, int flags);
-
+int __fxstatat(int version, int directory, const char *path, struct stat *about, int flags);
 PUBLIC int __xstat(int version, const char *path, struct stat *about) { return (void)version, stat(path, about); }
 PUBLIC int __lxstat(int version, const char *path, struct stat *about) { return (void)version, lstat(path, about); }
 PUBLIC int __fxstat(int version, int file, struct stat *about) { return (void)version, fstat(file, about); }
 
-PUBLIC int __fxstatat(int version, int folder, const char *path, struct stat *about, int flags) {
-    return (void)version, fstatat(folder, path, about, flags);
+PUBLIC int __fxstatat(int version, int directory, const char *path, struct stat *about, int flags) {
+    return (void)version, fstatat(directory, path, about, flags);
+}
+SAME(stat64, stat);
+SAME(lstat64, lstat);
+SAME(fstat64, fstat);
+SAME(fstatat64, fstatat);
+SAME(__xstat64, __xstat);
+SAME(__lxstat64, __lxstat);
+SAME(__fxstat64, __fxstat);
+SAME(__fxstatat64, __fxstatat);
+
+PUBLIC int faccessat(int directory, const char *given, int mode, int flags) {
+    char room[PATH_MAX];
+    const char *path = find(directory, given, room);
+    return path == refused ? -1 : NEXT(faccessat)(directory, path, mode, flags);
 }
 
-PUBLIC int __xstat64(int version, const char *path, struct stat *about) { return __xstat(version, path, about); }
-PUBLIC int __lxstat64(int version, const char *path, struct stat *about) { return __lxstat(version, path, about); }
-PUBLIC int __fxstat64(int version, int file, struct stat *about) { return __fxstat(version, file, about); }
+PUBLIC int access(const char *path, int mode) { return faccessat(AT_FDCWD, path, mode, 0); }
+PUBLIC int eaccess(const char *path, int mode) { return faccessat(AT_FDCWD, path, mode, AT_EACCESS); }
+SAME(euidaccess, eaccess);
 
-PUBLIC int __fxstatat64(int version, int folder, const char *path, struct stat *about, int flags) {
-    return __fxstatat(version, folder, path, about, flags);
+/* (what a folder's entry is told to be, which is a file, isn't what `stat` tells) */
+PUBLIC struct dirent *readdir(DIR *directory) {
+    struct dirent *entry = NEXT(readdir)(directory);
+    struct stat about;
+    if (entry && entry->d_type == DT_REG && NEXT(fstat)(dirfd(directory), &about) == 0 && is_on_nodes(&about))
+        entry->d_type = DT_UNKNOWN;
+    return entry;
+}
+SAME(readdir64, readdir);
+
+/* The calls that write. A namespace's block device doesn't grow: a write ends where it ends, and one behind it finds no
+   space. A character device takes none. */
+
+/* How many of so many bytes can be written at a place: -1 with errno where none can. (-1: where the file's offset is)
+ */
+static ssize_t room_at(int file, off_t at, size_t count) {
+    struct stat about;
+    struct node node;
+    if (!folder[0] || !is_node(file, &node))
+        return count > SSIZE_MAX ? SSIZE_MAX : (ssize_t)count;
+    if (node.kind != 'b')
+        return fails_by(EINVAL);
+    if (NEXT(fstat)(file, &about) < 0 || (at < 0 && (at = lseek(file, 0, SEEK_CUR)) < 0))
+        return -1;
+    if (fcntl(file, F_GETFL) & O_APPEND)
+        at = about.st_size;
+    if (count > 0 && at >= about.st_size)
+        return fails_by(ENOSPC);
+    return (off_t)count > about.st_size - at ? (ssize_t)(about.st_size - at) : (ssize_t)count;
 }
 
-/* The calls that ask for leave. A node may be read and written, and not executed. */
-
-static int ask_leave(int folder, const char *path, int mode, int flags) {
-    struct place place;
-    int found = find(folder, path, &place);
-    if (found == 0)
-        return NEXT(faccessat)(folder, place.path, mode, flags);
-    if (found > 0 && mode & X_OK)
-        errno = EACCES;
-    return found > 0 && !(mode & X_OK) ? 0 : -1;
+PUBLIC ssize_t write(int file, const void *from, size_t count) {
+    ssize_t room = room_at(file, -1, count);
+    return room < 0 ? -1 : NEXT(write)(file, from, (size_t)room);
 }
 
-PUBLIC int access(const char *path, int mode) { return ask_leave(AT_FDCWD, path, mode, 0); }
-PUBLIC int eaccess(const char *path, int mode) { return ask_leave(AT_FDCWD, path, mode, AT_EACCESS); }
-PUBLIC int euidaccess(const char *path, int mode) { return ask_leave(AT_FDCWD, path, mode, AT_EACCESS); }
-
-PUBLIC int faccessat(int folder, const char *path, int mode, int flags) {
-    return ask_leave(folder, path, mode, flags);
+PUBLIC ssize_t pwrite(int file, const void *from, size_t count, off_t at) {
+    ssize_t room = at < 0 ? (ssize_t)count : room_at(file, at, count);
+    return room < 0 ? -1 : NEXT(pwrite)(file, from, (size_t)room, at);
 }
 
-/* The calls that follow links. A node is none; the tree's links are told as those of /sys. */
-
-PUBLIC ssize_t readlinkat(int folder, const char *path, char *into, size_t size) {
-    struct place place;
-    int found = find(folder, path, &place);
-    if (found > 0)
-        errno = EINVAL;
-    return found != 0 ? -1 : NEXT(readlinkat)(folder, place.path, into, size);
+/* (a node takes the first piece, which is as well as all: a write may be short) */
+PUBLIC ssize_t writev(int file, const struct iovec *pieces, int count) {
+    struct stat about;
+    if (count < 1 || !folder[0] || !is_block_node(file, &about))
+        return NEXT(writev)(file, pieces, count);
+    while (count > 1 && pieces->iov_len == 0)
+        pieces++, count--;
+    return write(file, pieces->iov_base, pieces->iov_len);
 }
 
-PUBLIC ssize_t readlink(const char *path, char *into, size_t size) { return readlinkat(AT_FDCWD, path, into, size); }
-
-ssize_t __readlink_chk(const char *path, char *into, size_t size, size_t room);
-ssize_t __readlinkat_chk(int folder, const char *path, char *into, size_t size, size_t room);
-
-PUBLIC ssize_t __readlink_chk(const char *path, char *into, size_t size, size_t room) {
-    return size > room ? (abort(), -1) : readlink(path, into, size);
+PUBLIC ssize_t pwritev(int file, const struct iovec *pieces, int count, off_t at) {
+    struct stat about;
+    if (count < 1 || !folder[0] || !is_block_node(file, &about))
+        return NEXT(pwritev)(file, pieces, count, at);
+    while (count > 1 && pieces->iov_len == 0)
+        pieces++, count--;
+    return pwrite(file, pieces->iov_base, pieces->iov_len, at);
 }
 
-PUBLIC ssize_t __readlinkat_chk(int folder, const char *path, char *into, size_t size, size_t room) {
-    return size > room ? (abort(), -1) : readlinkat(folder, path, into, size);
+PUBLIC ssize_t pwritev2(int file, const struct iovec *pieces, int count, off_t at, int flags) {
+    struct stat about;
+    if (!folder[0] || !is_block_node(file, &about))
+        return NEXT(pwritev2)(file, pieces, count, at, flags);
+    return at < 0 ? writev(file, pieces, count) : pwritev(file, pieces, count, at);
 }
 
-PUBLIC char *realpath(const char *path, char *into) {
-    struct place place;
-    size_t start = strlen(tree);
-    int found = find(AT_FDCWD, path, &place);
-    if (found < 0)
-        return NULL;
-    if (found > 0) {
-        char name[64];
-        int length = snprintf(name, sizeof name, "/dev/nvme%u", (unsigned)place.node.controller);
-        if (place.node.nsid != 0)
-            snprintf(name + length, sizeof name - (size_t)length, "n%u", (unsigned)place.node.nsid);
-        return into ? strcpy(into, name) : strdup(name);
-    }
-    char *real = NEXT(realpath)(place.path, into);
-    if (real && place.path == place.room && strncmp(real, tree, start) == 0)
-        memmove(real, real + start, strlen(real + start) + 1);
-    return real;
+/* (who copies so writes instead, where it is told that it can't be done) */
+PUBLIC ssize_t copy_file_range(int from, off_t *at, int to, off_t *into, size_t count, unsigned flags) {
+    struct stat about;
+    return folder[0] && is_block_node(to, &about) ? fails_by(EXDEV)
+                                                  : NEXT(copy_file_range)(from, at, to, into, count, flags);
 }
 
-PUBLIC char *canonicalize_file_name(const char *path) { return realpath(path, NULL); }
-
-char *__realpath_chk(const char *path, char *into, size_t room);
-
-PUBLIC char *__realpath_chk(const char *path, char *into, size_t room) {
-    return room < PATH_MAX ? (abort(), NULL) : realpath(path, into);
+PUBLIC ssize_t sendfile(int to, int from, off_t *at, size_t count) {
+    struct stat about;
+    return folder[0] && is_block_node(to, &about) ? fails_by(EINVAL) : NEXT(sendfile)(to, from, at, count);
 }
 
-/* The calls that read folders. */
-
-static const char *find_folder(const char *path, struct place *place) {
-    int found = find(AT_FDCWD, path, place);
-    if (found > 0)
-        errno = ENOTDIR;
-    return found != 0 ? NULL : place->path;
+PUBLIC ssize_t splice(int from, off_t *at, int to, off_t *into, size_t count, unsigned flags) {
+    struct stat about;
+    return folder[0] && is_block_node(to, &about) ? fails_by(EINVAL) : NEXT(splice)(from, at, to, into, count, flags);
 }
 
-PUBLIC DIR *opendir(const char *path) {
-    struct place place;
-    const char *found = find_folder(path, &place);
-    return found ? NEXT(opendir)(found) : NULL;
+PUBLIC int posix_fallocate(int file, off_t from, off_t length) {
+    struct node node;
+    return folder[0] && is_node(file, &node) ? ENODEV : NEXT(posix_fallocate)(file, from, length);
 }
 
-PUBLIC int scandir(const char *path, struct dirent ***names, int (*filter)(const struct dirent *),
-                   int (*compare)(const struct dirent **, const struct dirent **)) {
-    struct place place;
-    const char *found = find_folder(path, &place);
-    return found ? NEXT(scandir)(found, names, filter, compare) : -1;
+PUBLIC int ftruncate(int file, off_t length) {
+    struct node node;
+    return folder[0] && is_node(file, &node) ? fails_by(EINVAL) : NEXT(ftruncate)(file, length);
 }
 
-PUBLIC int scandir64(const char *path, struct dirent64 ***names, int (*filter)(const struct dirent64 *),
-                     int (*compare)(const struct dirent64 **, const struct dirent64 **)) {
-    struct place place;
-    const char *found = find_folder(path, &place);
-    return found ? NEXT(scandir64)(found, names, filter, compare) : -1;
+PUBLIC int truncate(const char *given, off_t length) {
+    char room[PATH_MAX];
+    const char *path = find(AT_FDCWD, given, room);
+    struct stat about;
+    struct node node;
+    if (path == refused)
+        return -1;
+    return folder[0] && find_node(AT_FDCWD, path, 0, &about, &node) > 0 ? fails_by(EINVAL)
+                                                                        : NEXT(truncate)(path, length);
 }
 
-/* Requests of an NVMe device, and those of a block device that are answered. */
-
-static int is_nvme_request(uint32_t request) {
-    return _IOC_TYPE(request) == 'N' && _IOC_NR(request) >= 0x40;
+PUBLIC int fallocate(int file, int mode, off_t from, off_t length) {
+    struct stat about;
+    if (folder[0] && is_block_node(file, &about) && !(mode & FALLOC_FL_PUNCH_HOLE))
+        return fails_by(EOPNOTSUPP);
+    return NEXT(fallocate)(file, mode, from, length);
 }
-
-static int is_block_request(uint32_t request) {
-    return request == BLKSSZGET || request == BLKBSZSET || request == BLKRRPART || request == BLKGETSIZE64;
-}
+SAME(pwrite64, pwrite);
+SAME(pwritev64, pwritev);
+SAME(pwritev64v2, pwritev2);
+SAME(posix_fallocate64, posix_fallocate);
+SAME(sendfile64, sendfile);
+SAME(ftruncate64, ftruncate);
+SAME(truncate64, truncate);
+SAME(fallocate64, fallocate);
 
 /* No NVMe command reaches a device of the machine. */
 PUBLIC int ioctl(int file, unsigned long request, ...) {
@@ -274,15 +300,9 @@ PUBLIC int ioctl(int file, unsigned long request, ...) {
     void *argument = va_arg(rest, void *);
     va_end(rest);
     uint32_t number = (uint32_t)request;
-    int is_ours = tree[0] && (is_nvme_request(number) || is_block_request(number));
-    if (is_ours && is_node(file, &node))
-        return node_ioctl(&node, number, argument);
-    if (is_ours && is_nvme_request(number)) {
-        errno = ENOTTY;
-        return -1;
-    }
-    int result = NEXT(ioctl)(file, request, argument);
-    if (result < 0 && errno == EBADF && is_node(file, &node))
-        errno = ENOTTY;
-    return result;
+    if (folder[0] && is_node(file, &node))
+        return node_ioctl(file, &node, number, argument);
+    if (!folder[0] || _IOC_TYPE(number) != 'N' || _IOC_NR(number) < 0x40)
+        return NEXT(ioctl)(file, request, argument);
+    return fails_by(NEXT(faccessat)(AT_FDCWD, folder, F_OK, 0) == 0 ? ENOTTY : ENXIO);
 }

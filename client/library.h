@@ -1,73 +1,60 @@
 /* What the parts of the preloaded library ask of each other. */
 #ifndef LIBRARY_H
 #define LIBRARY_H
+#include "wire.h"
 #include <dlfcn.h>
 #include <limits.h>
-#include <stdint.h>
+#include <sys/stat.h>
 
 /* The C library's own call. */
-#define NEXT(name) ({ \
-    static __typeof__(name) *next; \
-    if (!next) \
-        next = (__typeof__(name) *)dlsym(RTLD_NEXT, #name); \
-    next; \
-})
+#define NEXT(name) \
+    ({ \
+        static __typeof__(name) *next; \
+        if (!next) \
+            next = (__typeof__(name) *)dlsym(RTLD_NEXT, #name); \
+        next; \
+    })
 
-/* (nothing but the calls that stand for those of the C library is seen from outside) */
+/* The calls that stand for those of the C library are seen from outside. SAME gives one a second name. */
+#define PUBLIC __attribute__((visibility("default")))
+#define SAME(name, as) __asm__(".globl " #name "\n.type " #name ", @function\n.set " #name ", " #as)
+
 #pragma GCC visibility push(hidden)
 
-struct stat;
-struct statx;
-
-enum { IDENTIFY_BYTES = 4096, LIST_LENGTH = 1024 };
-
-/* What CNS asks Identify for. */
-enum { CNS_NAMESPACE = 0, CNS_CONTROLLER = 1 };
-
-/* /dev/nvmeX, a controller, or /dev/nvmeXnY, a namespace. */
+/* What a file stands for: a controller ('c'), a generic node of a namespace ('g') or its block device ('b'). */
 struct node {
-    uint16_t controller;
-    uint32_t nsid; /* 0 for the controller */
+    char kind;
+    unsigned controller, nsid, power; /* a block has 2 to this power bytes */
+    unsigned long long blocks;
 };
 
-/* Where a path leads: to a node, or to a path that the C library is to be given. */
-struct place {
-    struct node node;
-    const char *path;
-    char room[PATH_MAX];
-};
+/* The launcher's folder, "" where there is no launcher, and this library's own path. */
+extern char folder[PATH_MAX], library[PATH_MAX];
 
-/* Whose a name below /dev is: another file's, a node's, or that of a node which no subsystem has. */
-enum name { OTHER_NAME, NODE_NAME, NO_NODE_NAME };
-enum name read_name(const char *name, struct node *node);
+/* Whether nodes are files of a /dev of the launcher's, and not names alone (guard.c). */
+extern int has_space;
 
-/* The launcher's folder, which has a file for each node and stands for /sys, or "" where there is no launcher. */
-extern char tree[PATH_MAX];
+/* What is kept in the environment of each program: NULL, or FOLDER_VARIABLE with its value. */
+extern const char *kept_variable;
 
-/* 1 for a path of a node that is there, -1 with errno where it is not, and 0 for any other path. */
-int find(int folder, const char *path, struct place *place);
+int fails_by(int number);
 
-/* Opens a node, tells whether a descriptor is a node's, and describes one. */
-int open_node(const struct node *node, int flags);
+/* node.c: whether a descriptor is a node's, whether a path leads to one, -1 where it leads nowhere, and whether a path
+   leads to a node of which a given description is. */
 int is_node(int file, struct node *node);
-void describe(const struct node *node, struct stat *about);
-void describe_more(const struct node *node, struct statx *about);
+int is_block_node(int file, struct stat *about);
+int find_node(int directory, const char *path, int flags, struct stat *about, struct node *node);
+int is_on_nodes(const struct stat *about);
 
-/* All these give 0, or -1 with errno: ENXIO where the device is gone. An ioctl may also give a status. */
-int is_there(const struct node *node);
-int list_namespaces(uint16_t controller, uint32_t ids[LIST_LENGTH], uint32_t *controllers);
-int identify(const struct node *node, uint32_t cns, unsigned char data[IDENTIFY_BYTES]);
-int size_of(const struct node *node, uint64_t *blocks, unsigned *power);
-int node_ioctl(const struct node *node, uint32_t request, void *argument);
+/* guard.c: the path that the C library is to be given for a path, which is another one for a node without a namespace,
+   or `refused`, with errno. */
+extern const char refused[1];
+const char *find(int directory, const char *path, char room[PATH_MAX]);
+void read_real_nodes(const char *text);
 
-/* Makes the files of the tree's /sys, where they don't stand for what is there now. */
-int make_tree(void);
-
-/* Whether a path of /sys leads to the tree. */
-int is_in_tree(const char *path);
-
-/* A little-endian number of so many bytes. */
-uint64_t number_at(const unsigned char *at, unsigned bytes);
+/* device.c: these give 0, or -1 with errno, ENXIO where the device is gone. An ioctl may also give a status. */
+int is_alive(const struct node *node);
+int node_ioctl(int file, const struct node *node, uint32_t request, void *argument);
 
 #pragma GCC visibility pop
 #endif

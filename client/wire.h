@@ -7,13 +7,23 @@
 #include <endian.h>
 #include <stdint.h>
 
-enum { ENTRY_BYTES = 64, MOST_DATA = 1 << 20 };
+enum { ENTRY_BYTES = 64, IDENTIFY_BYTES = 4096, MOST_DATA = 1 << 20 };
 
-/* Kinds of requests: a submission queue entry, a reset of a controller, a controller's list of active namespaces. */
-enum { KIND_ENTRY = 0, KIND_RESET = 1, KIND_LIST = 2 };
+/* The greatest NSID that a subsystem has. */
+enum { MOST_NSID = 1024 };
+
+/* Kinds of requests: a submission queue entry, a reset of a controller, a controller's list of active namespaces. The
+   launcher answers the others itself: whether a controller's device still answers, and a scan for its namespaces. */
+enum { KIND_ENTRY = 0, KIND_RESET = 1, KIND_LIST = 2, KIND_ALIVE = 0x100, KIND_RESCAN = 0x101 };
 
 /* Outcomes of requests. */
 enum { ANSWERED = 0, NO_CONTROLLER = 1, NO_KIND = 2, TOO_LONG = 3 };
+
+/* Opcodes of the admin commands that the launcher sends, or after which it looks for changes. */
+enum { OPCODE_IDENTIFY = 0x06, OPCODE_MANAGEMENT = 0x0d, OPCODE_ATTACHMENT = 0x15, OPCODE_FORMAT = 0x80 };
+
+/* The NSID that stands for all namespaces. */
+#define EVERY_NSID 0xffffffffu
 
 struct request_header {
     uint16_t controller;
@@ -32,10 +42,37 @@ struct answer_header {
 static_assert(sizeof(struct request_header) == 72, "a request's header has 72 bytes");
 static_assert(sizeof(struct answer_header) == 12, "an answer's header has 12 bytes");
 
+/* Where the launcher keeps what the library needs, in the /dev that the command sees; without a namespace it is the
+   folder that the variable names. It has `socket`, `library.so` and, for each node, the link `nodes/INODE`, whose text
+   says what the file of that inode number stands for (see print_node of nodes.c and read_node of node.c). */
+#define MODEL_FOLDER "/dev/.model"
+#define FOLDER_VARIABLE "NVME_MODEL_FOLDER"
+
+/* The device numbers of nodes. Linux gives no driver such a major, so that a node that is made with one reaches none.
+ */
+enum { CONTROLLER_MAJOR = 4092, GENERIC_MAJOR = 4093, BLOCK_MAJOR = 4094 };
+
+static inline unsigned minor_of(unsigned controller, uint32_t nsid) {
+    return controller * MOST_NSID + (nsid != 0 ? nsid - 1 : 0);
+}
+
 /* How many bytes of data follow a request's header. */
 static inline uint32_t data_sent(const struct request_header *header) {
     int sends = le16toh(header->kind) == KIND_ENTRY && header->entry[0] & 1;
     return sends ? le32toh(header->length) : 0;
+}
+
+/* Little-endian numbers in data. */
+static inline uint64_t number_at(const unsigned char *at, unsigned bytes) {
+    uint64_t number = 0;
+    while (bytes-- > 0)
+        number = number << 8 | at[bytes];
+    return number;
+}
+
+static inline void put_dword(unsigned char *at, uint32_t number) {
+    for (unsigned byte = 0; byte < 4; byte++)
+        at[byte] = (unsigned char)(number >> 8 * byte);
 }
 
 #endif

@@ -1,0 +1,326 @@
+/* The launcher's nodes: the files that stand for controllers and namespaces, brought up to date with what the devices
+   answer, and the data of namespaces, which no device knows of. The file of a namespace's data is its node, under the
+   name of each controller that it is attached to: a hole as long as the namespace, in the memory that /dev is made of.
+   No part of what is proved. */
+#define _GNU_SOURCE
+#include "launcher.h"
+#include <errno.h>
+#include <fcntl.h>
+#include <grp.h>
+#include <limits.h>
+#include <stdio.h>
+#include <stdlib.h>
+#include <string.h>
+#include <sys/inotify.h>
+#include <sys/stat.h>
+#include <unistd.h>
+
+enum { CNS_NAMESPACE = 0, CNS_CONTROLLER = 1 };
+
+/* What each controller's nodes show: the generation of the namespace plus 1, or 0 where there is no node. */
+static unsigned shown[MOST_CONTROLLERS][MOST_NSID + 1];
+/* What they showed last: a node that is still open after it has gone belongs to its controller. */
+static unsigned last_shown[MOST_CONTROLLERS][MOST_NSID + 1];
+static struct volume volumes[MOST_DEVICES][MOST_NSID + 1];
+static pthread_mutex_t changing = PTHREAD_MUTEX_INITIALIZER; /* of all that is made here */
+int watcher = -1;
+static int rescan_watch = -1;
+
+static struct volume *volume_at(const struct device *device, uint32_t nsid) { return &volumes[device - devices][nsid]; }
+
+static int identify(struct device *device, unsigned controller, uint32_t nsid, uint32_t cns, unsigned char *data) {
+    struct request_header header = {.controller = htole16((uint16_t)(controller - device->first)),
+                                    .length = htole32(IDENTIFY_BYTES)};
+    struct answer_header answer;
+    header.entry[0] = OPCODE_IDENTIFY;
+    put_dword(header.entry + 4, nsid);
+    put_dword(header.entry + 40, cns);
+    return exchange(device, &header, data, &answer) == 0 && answer.status == 0 ? 0 : -1;
+}
+
+/* The paths of a node, of a namespace's data, and of what says what a file stands for. Without a namespace nodes stand
+   in the launcher's folder. */
+static const char *place(void) { return has_namespace ? "/dev" : folder; }
+
+static void node_path(char path[PATH_MAX], unsigned controller, uint32_t nsid, int is_generic) {
+    int length = snprintf(path, PATH_MAX, "%s/%s%u", place(), is_generic ? "ng" : "nvme", controller);
+    if (nsid != 0)
+        snprintf(path + length, PATH_MAX - (size_t)length, "n%u", nsid);
+}
+
+static void data_path(char path[PATH_MAX], const struct device *device, uint32_t nsid) {
+    snprintf(path, PATH_MAX, "%s/data/%u-%u", folder, (unsigned)(device - devices), nsid);
+}
+
+/* Says what the file of this inode stands for: a controller (c), a generic node (g) or a block device (b), an NSID, the
+   number and the power of blocks, and the controllers under whose names it is there. */
+static void print_node(const struct stat *about, char kind, uint32_t nsid, const struct volume *volume,
+                       const char *controllers) {
+    char path[PATH_MAX], new[PATH_MAX], text[PATH_MAX];
+    snprintf(path, sizeof path, "%s/nodes/%llu", folder, (unsigned long long)about->st_ino);
+    snprintf(new, sizeof new, "%s/nodes/new", folder);
+    snprintf(text, sizeof text, "%c %u %llu %u %s", kind, nsid, volume ? (unsigned long long)volume->blocks : 0,
+             volume ? volume->power : 0, controllers);
+    unlink(new);
+    if (symlink(text, new) < 0 || rename(new, path) < 0)
+        fail_by_errno(path);
+}
+
+/* (root's nodes belong to it, and block devices to the group disk besides, as on Linux) */
+static int make_file(const char *path, mode_t mode, struct stat *about) {
+    struct group *disk = mode & S_IWGRP && geteuid() == 0 ? getgrnam("disk") : NULL;
+    int file = open(path, O_RDWR | O_CREAT | O_EXCL | O_CLOEXEC, 0600);
+    if (file < 0 || (disk && fchown(file, (uid_t)-1, disk->gr_gid) < 0 && errno != EPERM && errno != EINVAL) ||
+        fchmod(file, mode) < 0 || fstat(file, about) < 0)
+        fail_by_errno(path);
+    return file;
+}
+
+static void make_character_node(unsigned controller, uint32_t nsid, int is_generic) {
+    char path[PATH_MAX], new[PATH_MAX], number[16];
+    struct stat about;
+    node_path(path, controller, nsid, is_generic);
+    snprintf(new, sizeof new, "%s/new", folder);
+    snprintf(number, sizeof number, "%u", controller);
+    close(make_file(new, 0600, &about));
+    print_node(&about, is_generic ? 'g' : 'c', nsid, NULL, number);
+    if (rename(new, path) < 0)
+        fail_by_errno(path);
+}
+
+/* The greatest length that a file can have stands for what is longer. Without a namespace there are no data. */
+static off_t length_of(const struct volume *volume) {
+    uint64_t most = (uint64_t)INT64_MAX >> volume->power;
+    return has_namespace ? (off_t)((volume->blocks < most ? volume->blocks : most) << volume->power) : 0;
+}
+
+/* Makes the file of a namespace's data where there is none, and tells about it. */
+static void make_data(const struct device *device, uint32_t nsid, struct stat *about) {
+    char path[PATH_MAX];
+    struct volume *volume = volume_at(device, nsid);
+    data_path(path, device, nsid);
+    if (lstat(path, about) == 0)
+        return;
+    int file = make_file(path, 0660, about);
+    if (ftruncate(file, length_of(volume)) < 0)
+        fail_by_errno(path);
+    close(file);
+    volume->watch = watcher < 0 ? -1 : inotify_add_watch(watcher, path, IN_CLOSE_WRITE);
+}
+
+/* Says of a namespace's data under whose names it is there, and then of whose it was, and how long it is. */
+static void print_data(const struct device *device, uint32_t nsid) {
+    char path[PATH_MAX], controllers[8 * MOST_CONTROLLERS] = "";
+    size_t length = 0;
+    struct stat about;
+    const struct volume *volume = volume_at(device, nsid);
+    data_path(path, device, nsid);
+    if (lstat(path, &about) < 0)
+        return;
+    for (unsigned at = 0; at < 2 * device->count; at++) {
+        unsigned controller = device->first + at % device->count, generation = volume->generation + 1;
+        int is_shown = shown[controller][nsid] == generation;
+        if (at < device->count ? is_shown : !is_shown && last_shown[controller][nsid] == generation)
+            length += (size_t)snprintf(controllers + length, sizeof controllers - length, "%u ", controller);
+    }
+    print_node(&about, 'b', nsid, volume, controllers);
+}
+
+static void show_namespace(const struct device *device, unsigned controller, uint32_t nsid) {
+    char path[PATH_MAX], data[PATH_MAX];
+    struct stat about;
+    const struct volume *volume = volume_at(device, nsid);
+    make_data(device, nsid, &about);
+    shown[controller][nsid] = last_shown[controller][nsid] = volume->generation + 1;
+    print_data(device, nsid);
+    put_namespace(controller, nsid, volume);
+    data_path(data, device, nsid);
+    node_path(path, controller, nsid, 0);
+    unlink(path);
+    if (link(data, path) < 0)
+        fail_by_errno(path);
+    make_character_node(controller, nsid, 1);
+}
+
+static void hide_namespace(const struct device *device, unsigned controller, uint32_t nsid) {
+    char path[PATH_MAX];
+    shown[controller][nsid] = 0;
+    for (int is_generic = 0; is_generic < 2; is_generic++) {
+        node_path(path, controller, nsid, is_generic);
+        unlink(path);
+    }
+    remove_namespace(controller, nsid);
+    print_data(device, nsid);
+}
+
+/* Sees how long a namespace is, where that is not known. */
+static int measure(struct device *device, unsigned controller, uint32_t nsid) {
+    unsigned char data[IDENTIFY_BYTES];
+    struct volume *volume = volume_at(device, nsid);
+    if (volume->power != 0)
+        return 0;
+    if (identify(device, controller, nsid, CNS_NAMESPACE, data) < 0)
+        return -1;
+    volume->blocks = number_at(data, 8);
+    volume->power = data[128 + 4 * (data[26] & 15) + 2];
+    return volume->power > 0 && volume->power < 32 ? 0 : -1;
+}
+
+/* Asks for a controller's list of active namespaces. */
+static int list_active(struct device *device, unsigned controller, unsigned char is_active[MOST_NSID + 1]) {
+    struct request_header header = {.controller = htole16((uint16_t)(controller - device->first)),
+                                    .kind = htole16(KIND_LIST),
+                                    .length = htole32(4 * MOST_NSID)};
+    struct answer_header answer;
+    unsigned char list[4 * MOST_NSID];
+    memset(is_active, 0, MOST_NSID + 1);
+    if (exchange(device, &header, list, &answer) < 0)
+        return -1;
+    for (unsigned at = 0; at < le32toh(answer.length) / 4; at++)
+        is_active[number_at(list + 4 * at, 4) % (MOST_NSID + 1)] = 1;
+    return 0;
+}
+
+/* Brings a controller's nodes up to date with its list. */
+static void scan_controller(struct device *device, unsigned controller) {
+    unsigned char is_active[MOST_NSID + 1];
+    if (list_active(device, controller, is_active) < 0)
+        return;
+    for (uint32_t nsid = 1; nsid <= MOST_NSID; nsid++) {
+        int is_shown = shown[controller][nsid] == volume_at(device, nsid)->generation + 1;
+        if (shown[controller][nsid] && (!is_active[nsid] || !is_shown))
+            hide_namespace(device, controller, nsid);
+        if (is_active[nsid] && !shown[controller][nsid] && measure(device, controller, nsid) == 0)
+            show_namespace(device, controller, nsid);
+    }
+}
+
+void scan(struct device *device, unsigned first, unsigned count) {
+    pthread_mutex_lock(&changing);
+    for (unsigned controller = first; controller < first + count; controller++)
+        scan_controller(device, controller);
+    pthread_mutex_unlock(&changing);
+}
+
+/* A namespace is there no more: its data is gone, also for who has it open. */
+static void forget_namespace(struct device *device, uint32_t nsid) {
+    char path[PATH_MAX];
+    struct volume *volume = volume_at(device, nsid);
+    data_path(path, device, nsid);
+    if (watcher >= 0 && volume->watch > 0)
+        inotify_rm_watch(watcher, volume->watch);
+    if (truncate(path, 0) == 0)
+        unlink(path);
+    *volume = (struct volume){.generation = volume->generation + 1};
+}
+
+/* A namespace was formatted: its data are zeros, and as long as its new format makes it. */
+static void clear_namespace(struct device *device, unsigned controller, uint32_t nsid) {
+    char path[PATH_MAX];
+    struct volume *volume = volume_at(device, nsid);
+    if (volume->power == 0)
+        return;
+    volume->power = 0;
+    data_path(path, device, nsid);
+    if (truncate(path, 0) < 0 || measure(device, controller, nsid) < 0)
+        return;
+    if (truncate(path, length_of(volume)) < 0)
+        fail_by_errno(path);
+    print_data(device, nsid);
+    for (unsigned at = device->first; at < device->first + device->count; at++)
+        if (shown[at][nsid] == volume->generation + 1)
+            put_namespace(at, nsid, volume);
+}
+
+/* A format of all namespaces is one of those that are active on its controller. */
+static void clear_namespaces(struct device *device, unsigned controller, uint32_t nsid) {
+    unsigned char is_active[MOST_NSID + 1];
+    int is_every = nsid == EVERY_NSID && list_active(device, controller, is_active) == 0;
+    for (uint32_t at = 1; at <= MOST_NSID; at++)
+        if (at == nsid || (is_every && is_active[at]))
+            clear_namespace(device, controller, at);
+}
+
+static void forget_namespaces(struct device *device, uint32_t nsid) {
+    for (uint32_t at = 1; at <= MOST_NSID; at++)
+        if (at == nsid || nsid == EVERY_NSID)
+            forget_namespace(device, at);
+}
+
+void look_for_changes(struct device *device, const struct request_header *request, const struct answer_header *answer) {
+    uint32_t nsid = (uint32_t)number_at(request->entry + 4, 4), deletes = request->entry[40] & 15;
+    unsigned kind = le16toh(request->kind), opcode = kind == KIND_ENTRY ? request->entry[0] : 0;
+    if (answer->outcome != 0 || answer->status != 0)
+        return;
+    pthread_mutex_lock(&changing);
+    if (opcode == OPCODE_MANAGEMENT)
+        forget_namespaces(device, deletes ? nsid : le32toh(answer->dword_0));
+    if (opcode == OPCODE_FORMAT)
+        clear_namespaces(device, device->first + le16toh(request->controller), nsid);
+    pthread_mutex_unlock(&changing);
+    if (kind == KIND_RESET || (!waits && (opcode == OPCODE_MANAGEMENT || opcode == OPCODE_ATTACHMENT)))
+        scan(device, device->first, device->count);
+}
+
+/* Makes what tells of the controllers, and then the nodes. */
+static void make_controllers(struct device *device) {
+    unsigned char data[IDENTIFY_BYTES];
+    for (unsigned at = device->first; at < device->first + device->count; at++) {
+        if (identify(device, at, 0, CNS_CONTROLLER, data) < 0)
+            fail("the device does not answer as it should");
+        if (at == device->first)
+            put_subsystem((unsigned)(device - devices), data);
+        put_controller(at, at - device->first, data);
+        make_character_node(at, 0, 0);
+    }
+    scan(device, device->first, device->count);
+}
+
+void make_nodes(void) {
+    char path[PATH_MAX];
+    for (unsigned at = 0; at < 2; at++) {
+        snprintf(path, sizeof path, "%s/%s", folder, at ? "nodes" : "data");
+        if (mkdir(path, 0755) < 0)
+            fail_by_errno(path);
+    }
+    watcher = has_namespace ? inotify_init1(IN_CLOEXEC) : -1;
+    if (watcher >= 0)
+        rescan_watch = inotify_add_watch(watcher, RESCAN_FILE, IN_CLOSE_WRITE);
+    for (unsigned at = 0; at < device_count; at++)
+        make_controllers(devices + at);
+}
+
+/* Gives the data of the namespace that was written its length back. */
+static void repair_file(struct device *device, int watch) {
+    char path[PATH_MAX];
+    struct stat about;
+    for (uint32_t nsid = 1; nsid <= MOST_NSID; nsid++) {
+        const struct volume *volume = volume_at(device, nsid);
+        data_path(path, device, nsid);
+        if (volume->power != 0 && volume->watch == watch && stat(path, &about) == 0 &&
+            about.st_size != length_of(volume) && truncate(path, length_of(volume)) < 0)
+            fail_by_errno(path);
+    }
+}
+
+/* What doesn't see the library can make the file of a namespace shorter or longer, until it is closed. A write to the
+   file that stands for the rescan of PCI has all nodes looked at. */
+void *repair_files(void *unused) {
+    char events[4096] __attribute__((aligned(__alignof__(struct inotify_event))));
+    ssize_t length;
+    while ((length = read(watcher, events, sizeof events)) > 0 || errno == EINTR)
+        for (char *at = events; at < events + length;) {
+            const struct inotify_event *event = (const struct inotify_event *)at;
+            at += sizeof *event + event->len;
+            int is_rescan = event->wd == rescan_watch && truncate(RESCAN_FILE, 0) == 0;
+            for (struct device *device = devices; device < devices + device_count; device++) {
+                begin_turn(device);
+                if (is_rescan)
+                    scan(device, device->first, device->count);
+                else
+                    repair_file(device, event->wd);
+                end_turn(device);
+            }
+        }
+    return unused;
+}
