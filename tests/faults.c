@@ -1,6 +1,7 @@
 /* Loaded before a program: of its reads from standard input the one that FAIL_READ names, counted from 1, fails as one
    of a broken device does, and of its writes to standard output or standard error the one that INTERRUPT_1 or
-   INTERRUPT_2 names is interrupted. All else goes to the C library. */
+   INTERRUPT_2 names is interrupted. All else goes to the C library. Where the call that is named never came, the program
+   ends with status 99. */
 #define _GNU_SOURCE
 #include <dlfcn.h>
 #include <errno.h>
@@ -38,3 +39,8 @@ ssize_t write(int file, const void *from, size_t size) {
 
 /* (what a call of write with checks of its size is linked to) */
 ssize_t __write(int file, const void *from, size_t size) { return write(file, from, size); }
+
+__attribute__((destructor)) static void end(void) {
+    if (reads < named("FAIL_READ") || writes[1] < named("INTERRUPT_1") || writes[2] < named("INTERRUPT_2"))
+        _exit(99);
+}

@@ -1,0 +1,13 @@
+# Runs a command as a caller does that has folders open, beside a process of the same user without any right:
+# sh caller.sh FOLDER COMMAND..
+where=$1
+shift
+caller=$$
+if [ "$(id -u)" = 0 ]; then setpriv --bounding-set=-all --inh-caps=-all sleep 600 & else sleep 600 & fi
+powerless=$!
+export caller powerless
+cd "$where" && exec 7< / 8< /dev
+"$@"
+status=$?
+kill "$powerless"
+exit "$status"

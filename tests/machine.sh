@@ -1,0 +1,42 @@
+# Makes a machine's /dev and /tmp in a mount namespace, and stays until its input ends: a loop device is given back
+# then, whatever happens. sh machine.sh NEW KEEP KIND DISK: a folder for what is made, one that stays in /tmp, and a file of
+# known bytes that stands behind /dev/nvme0n1: with `devices` as a true block device, with `files` as a file, beside a
+# character device that is bound; `none` makes no NVMe nodes.
+set -eu
+new=$1 keep=$2 kind=$3 disk=$4
+mount -t tmpfs machine "$new"
+cd "$new"
+mkdir dev tmp
+mount -t tmpfs -o mode=755 machine dev
+mount -t tmpfs -o mode=1777 machine tmp
+case $keep in /tmp/*) mkdir -p ".$keep" && mount --bind "$keep" ".$keep" ;; esac
+for node in null zero full random urandom tty; do : > "dev/$node" && mount --bind "/dev/$node" "dev/$node"; done
+mkdir -p dev/pts dev/shm dev/disk/by-id dev/folder/inner dev/block
+mount --rbind /dev/pts dev/pts
+mount -t tmpfs machine dev/shm
+ln -s /proc/self/fd dev/fd
+if [ "$kind" = devices ]; then
+    loop=$(losetup --find --show "$disk")
+    exec 6<> "$loop"
+    losetup -d "$loop"
+    number=$(stat -c '%t %T' "$loop" | { read -r major minor && echo "$((0x$major)) $((0x$minor))"; })
+    for node in dev/nvme0n1 dev/other dev/folder/inner/node dev/shm/node "$disk.node"; do
+        mknod -m 666 "$node" b $number
+    done
+    for node in dev/nvme0 dev/ng0n1; do mknod -m 666 "$node" c 1 7; done
+    chmod 666 dev/nvme* dev/ng* dev/other dev/folder/inner/node dev/shm/node "$disk.node"
+    umount -R -l /dev
+elif [ "$kind" = files ]; then
+    cat "$disk" > dev/nvme0n1
+    for node in dev/nvme0 dev/ng0n1 dev/other dev/folder/inner/node; do
+        : > "$node" && mount --bind /dev/full "$node"
+    done
+    chmod 666 dev/nvme0n1
+fi
+[ "$kind" = none ] || ln -s ../../nvme0n1 dev/disk/by-id/nvme-machine
+[ "$kind" = none ] || ln -s ../nvme0n1 dev/block/7:0
+mount -n --move dev /dev
+mount -n --move tmp /tmp
+mount --bind /dev "${disk%/*}/alias"
+echo ready
+read -r end

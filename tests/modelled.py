@@ -1,0 +1,137 @@
+"""What the tests of ./nvme-model share: the launcher with its parts at a place that every user can read, runs of it,
+and what it must leave behind, which is nothing."""
+
+import functools
+import os
+import pathlib
+import re
+import shutil
+import subprocess
+import sys
+
+from tests.support import DEMO, TOP, Case, process_folder, program, run, until
+
+CLIENT = TOP / 'client'
+PARTS = {'bin/nvme-model': ('launcher', 'relay', 'nodes', 'sysfs', 'space'),
+         'lib/nvme-model/library.so': ('library', 'node', 'device', 'exec', 'guard')}
+WARNINGS = '-Wall', '-Wextra', '-Werror'
+
+# Programs that need not be installed. What calls one is skipped where it isn't.
+TOOLS = ('nvme', 'smartctl', 'busybox', 'inotifywait', 'lsblk', 'blkid', 'blkdiscard', 'wipefs', 'mkfs.ext4', 'debugfs',
+         'e2fsck', 'sudo', 'strace', 'script')
+# (an ordinary user's PATH may lack those that root uses)
+os.environ['PATH'] += ':/usr/sbin:/sbin'
+
+
+@functools.lru_cache(maxsize=None)
+def is_there(tool):
+    """Whether a tool is installed: nvme-cli in the version whose texts are known."""
+    if not shutil.which(tool):
+        return False
+    return tool != 'nvme' or b'nvme version 2.3 ' in subprocess.run(['nvme', 'version'], capture_output=True).stdout
+
+
+def missing_tools(text):
+    """Which of the tools a script calls that aren't there."""
+    called = [tool for tool in TOOLS if re.search(rf'(?<![\w/.-]){re.escape(tool)}(?![\w/.=-])', text)]
+    return [tool for tool in called if not is_there(tool)]
+
+
+@functools.lru_cache(maxsize=None)
+def has_namespaces(*command):
+    """Whether a mount namespace can be made, by this command or as the launcher makes it."""
+    return run(*command or ('unshare', '-m' if os.geteuid() == 0 else '-Urm'), 'true').status == 0
+
+
+def compiled_c(made, sources, *options):
+    """A program or a library of C files, with which the compiler must find nothing wrong."""
+    made.parent.mkdir(parents=True, exist_ok=True)
+    files = [CLIENT / f'{name}.c' for name in sources]
+    subprocess.run(['cc', '-g', '-O1', *WARNINGS, '-o', made, *files, *options], check=True)
+    return made
+
+
+@functools.lru_cache(maxsize=None)
+def installed():
+    """The launcher, with the library and the device where it looks for them."""
+    place = process_folder() / 'installed'
+    compiled_c(place / 'bin/nvme-model', PARTS['bin/nvme-model'])
+    compiled_c(place / 'lib/nvme-model/library.so', PARTS['lib/nvme-model/library.so'], '-shared', '-fPIC', '-ldl')
+    shutil.copy(program('nvme_device'), place / 'lib/nvme-model')
+    process_folder().chmod(0o755)
+    return place / 'bin/nvme-model'
+
+
+def static_program(text):
+    """A program of these lines of C that is linked statically."""
+    made = process_folder() / f'static{abs(hash(text))}'
+    if not made.exists():
+        subprocess.run(['cc', *WARNINGS, '-static', '-o', made, '-x', 'c', '-'], input=text.encode(), check=True)
+    return made
+
+
+def mounts(process='self'):
+    """The mounts that a process sees."""
+    return pathlib.Path(f'/proc/{process}/mountinfo').read_text().splitlines()
+
+
+def processes_of(word):
+    """The processes with this word in their arguments."""
+    found = []
+    for entry in pathlib.Path('/proc').glob('[0-9]*/cmdline'):
+        try:
+            found += [int(entry.parent.name)] if os.fsencode(word) in entry.read_bytes() else []
+        except OSError:
+            pass
+    return found
+
+
+class ModelCase(Case):
+    """A test with a subsystem file of its own, by whose name the devices that it starts are known."""
+
+    def setUp(self):
+        super().setUp()
+        if not has_namespaces():
+            self.skipTest('no mount namespace can be made here')
+        installed()
+        self.folder.chmod(0o755)
+        self.subsystem = self.file('demo.toml', DEMO.read_bytes())
+        self.mounts = mounts()
+        self.addCleanup(self.leaves_nothing)
+
+    def needs(self, *texts):
+        """Skips a test that calls what isn't installed, itself or in a script that it runs."""
+        files = [pathlib.Path(text) for text in texts if os.fspath(text).endswith('.sh')]
+        text = '\n'.join([*map(os.fspath, texts), *(file.read_text() for file in files)])
+        if missing_tools(text):
+            self.skipTest(f"{', '.join(missing_tools(text))} not installed, or in a version that isn't known")
+
+    def command(self, *arguments, options=()):
+        self.needs(*map(os.fspath, arguments))
+        return [installed(), '--subsystem', self.subsystem, *options, *arguments]
+
+    def model(self, *arguments, options=(), **more):
+        """A command over the demonstration file."""
+        return run(*self.command(*arguments, options=options), **more)
+
+    def shell(self, script, *words, options=(), **more):
+        """A script of the shell, over it."""
+        return self.model('sh', '-c', script, 'sh', *words, options=options, **more)
+
+    def python(self, script, options=(), **more):
+        """A script of Python, over it."""
+        head = 'import ctypes, errno, glob, mmap, os\n'
+        return self.model(sys.executable, '-c', head + script, options=options, **more)
+
+    def leaves_nothing(self):
+        """No device and no mount is left, and nothing of the launcher's in the machine's folders."""
+        self.assertTrue(until(lambda: not processes_of(self.subsystem)), 'a device was left running')
+        new = [line for line in mounts() if line not in self.mounts and 'nvme-model' in line]
+        self.assertEqual(new, [], 'mounts are seen outside')
+        self.assertFalse(os.path.exists('/dev/.model') or os.path.exists('/dev/nvme1n1'), 'nodes are seen outside')
+
+    def says(self, ended, status, text):
+        """A run ended with this status, and a last message that begins so."""
+        self.ends(ended, status)
+        last = (ended.err.splitlines() or [b''])[-1]
+        self.assertTrue(last.startswith(os.fsencode(text)), f'{ended}\nThe test alone: python3 -m unittest {self.id()}')

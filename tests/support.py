@@ -1,0 +1,264 @@
+"""What the tests share: running programs with given streams, talking to them, and leaving nothing behind.
+
+A test's files lie in a folder of its own, `Case.folder`. Whatever it starts carries a mark in its environment, by which
+it is found, and ended when the test ends, also where a signal ends that.
+"""
+
+import atexit
+import contextlib
+import fcntl
+import functools
+import itertools
+import os
+import pathlib
+import pty
+import secrets
+import select
+import shlex
+import shutil
+import signal
+import subprocess
+import tempfile
+import termios
+import time
+import unittest
+
+TOP = pathlib.Path(__file__).resolve().parent.parent
+DEMO = TOP / 'examples/demo.toml'
+# Whether the sources are to be run, by `rt try`, and not the proved programs.
+IS_UNPROVED = os.environ.get('UNPROVED') == '1'
+MARK = f'NVME_TESTS_{secrets.token_hex(8)}'
+
+
+def interrupt(number, frame):
+    """Ends the tests at a signal as Ctrl-C does, so that what is to be done at the end is done."""
+    raise KeyboardInterrupt(signal.Signals(number).name)
+
+
+# A program gets the default action for these, also where a shell had the tests ignore some. (nohup is heeded.)
+for end_signal in signal.SIGHUP, signal.SIGINT, signal.SIGQUIT, signal.SIGTERM:
+    if end_signal != signal.SIGHUP or signal.getsignal(end_signal) != signal.SIG_IGN:
+        signal.signal(end_signal, interrupt)
+
+
+def program(name):
+    """The proved program of a crate."""
+    path = TOP / 'crates' / name / 'out' / name
+    if not path.exists():
+        raise FileNotFoundError(f'{path} is not built')
+    return str(path)
+
+
+@functools.lru_cache(maxsize=None)
+def process_folder():
+    """The temporary folder of this process, which is removed at its end."""
+    folder = pathlib.Path(tempfile.mkdtemp(prefix='nvme-tests.')).resolve()
+    atexit.register(shutil.rmtree, folder, ignore_errors=True)
+    return folder
+
+
+@functools.lru_cache(maxsize=None)
+def compiled(source, *options):
+    """A library made of a C file of tests/, compiled once in this process."""
+    made = process_folder() / f'{source}.so'
+    subprocess.run(['cc', '-O2', '-shared', '-fPIC', '-o', made, TOP / 'tests' / source, *options], check=True)
+    return made
+
+
+def copy_sources(folder):
+    """Copies the sources of all crates to a folder, with the files that go with them."""
+    for name in 'crates.txt', 'HANDLES':
+        shutil.copy(TOP / name, folder)
+    for part in 'src', 'specs', 'proofs':
+        for path in TOP.glob(f'crates/*/{part}'):
+            shutil.copytree(path, folder / path.relative_to(TOP))
+
+
+def until(condition, limit=60):
+    """Whether the condition comes true within so many seconds."""
+    end = time.monotonic() + limit
+    while not condition():
+        if time.monotonic() > end:
+            return False
+        time.sleep(0.05)
+    return True
+
+
+def left_running():
+    """The processes that run of those that the tests of this process started, themselves or through others."""
+    found = []
+    for entry in pathlib.Path('/proc').glob('[0-9]*/environ'):
+        # (a process may end meanwhile, or be another user's)
+        with contextlib.suppress(OSError):
+            if f'{MARK}=1'.encode() in entry.read_bytes().split(b'\0'):
+                found.append(int(entry.parent.name))
+    return found
+
+
+@atexit.register
+def end_all():
+    """Kills all that is left running."""
+    while left_running():
+        for number in left_running():
+            with contextlib.suppress(ProcessLookupError):
+                os.kill(number, signal.SIGKILL)
+        time.sleep(0.02)
+
+
+def environment(variables=()):
+    """This process's environment, with the mark and these variables."""
+    return {**os.environ, MARK: '1', **{name: str(value) for name, value in dict(variables).items()}}
+
+
+def shell_line(command, source=b'', out=None, err=None, env=(), cwd=TOP):
+    """A run as a line for a shell, which repeats it."""
+    words = ['env'] * bool(env) + [f'{name}={value}' for name, value in dict(env).items()] + list(command)
+    line = ' '.join(shlex.quote(os.fsdecode(word)) for word in words)
+    if not isinstance(source, bytes):
+        line += f' < {source}'
+    elif source:
+        is_plain = [32 <= byte < 127 and byte not in b"%'\\" for byte in source[:2000]]
+        text = ''.join(chr(byte) if plain else f'\\{byte:03o}' for byte, plain in zip(source, is_plain))
+        line = f"printf '{text}' | {line}"
+    return f'cd {shlex.quote(str(cwd))} && {line}' + (f' > {out}' if out else '') + (f' 2> {err}' if err else '')
+
+
+class Ended:
+    """How a run ended: its line for a shell, status (below zero the number of a signal), output and messages."""
+
+    def __init__(self, line, status, out=b'', err=b''):
+        self.line, self.status, self.out, self.err = line, status, out, err
+
+    def end(self):
+        return f'status {self.status}' if self.status >= 0 else f'signal {signal.Signals(-self.status).name}'
+
+    def __str__(self):
+        return f'{self.line}\n{self.end()}\noutput {self.out[-2000:]}\nmessages {self.err[-2000:]}'
+
+
+def opened(files, path, mode):
+    """A file that is closed with these files: that of the path, or a temporary one."""
+    if path is None:
+        return files.enter_context(tempfile.TemporaryFile()).fileno()
+    number = os.open(path, mode, 0o666)
+    files.callback(os.close, number)
+    return number
+
+
+def run(*command, source=b'', out=None, err=None, env=(), cwd=TOP, limit=120):
+    """Runs a command to its end. Its input is `source`, bytes or the path of a file. Its output and its messages are
+    kept, or go to the files `out` and `err`; `err='&1'` keeps both in their order as output.
+
+    All of them are files, so that what a command leaves running can't hold up the test.
+    """
+    line = shell_line(command, source, out, err, env, cwd)
+    with contextlib.ExitStack() as files:
+        stdin = opened(files, None if isinstance(source, bytes) else source, os.O_RDONLY)
+        if isinstance(source, bytes):
+            os.pwrite(stdin, source, 0)
+        stdout = opened(files, out, os.O_WRONLY | os.O_CREAT | os.O_TRUNC)
+        stderr = stdout if err == '&1' else opened(files, err, os.O_WRONLY | os.O_CREAT | os.O_TRUNC)
+        process = subprocess.Popen(command, stdin=stdin, stdout=stdout, stderr=stderr, cwd=cwd, env=environment(env))
+        try:
+            status = process.wait(limit)
+        except subprocess.TimeoutExpired:
+            raise AssertionError(f'{line}\ndid not end within {limit} seconds') from None
+        finally:
+            process.kill()
+        kept = [b'' if path else os.pread(number, os.fstat(number).st_size, 0)
+                for path, number in ((out, stdout), (err, stderr))]
+    return Ended(line, status, *kept)
+
+
+class Running:
+    """A command in the background, to which a test talks through pipes, or on a terminal that is its own."""
+
+    def __init__(self, *command, terminal=False, env=(), cwd=TOP):
+        self.line = shell_line(command, env=env, cwd=cwd)
+        self.heard = b''
+        self.is_on_terminal = terminal
+        if terminal:
+            self.speaks, its_input = pty.openpty()
+            self.hears, its_output = self.speaks, its_input
+        else:
+            its_input, self.speaks = os.pipe()
+            self.hears, its_output = os.pipe()
+        self.process = subprocess.Popen(
+            command, stdin=its_input, stdout=its_output, stderr=its_output, cwd=cwd, env=environment(env),
+            start_new_session=terminal, preexec_fn=own_terminal if terminal else None)
+        for number in {its_input, its_output}:
+            os.close(number)
+
+    def say(self, text):
+        """Writes to its input."""
+        os.write(self.speaks, text)
+
+    def hear(self, limit):
+        """Takes what it writes within so many seconds. Returns whether there was something."""
+        if not select.select([self.hears], [], [], max(0, limit))[0]:
+            return False
+        try:
+            piece = os.read(self.hears, 65536)
+        except OSError:
+            piece = b''  # (a terminal on which no program is left)
+        self.heard += piece.replace(b'\r', b'')
+        return piece != b''
+
+    def comes(self, text, limit=60):
+        """Waits until what was heard ends with this text."""
+        end = time.monotonic() + limit
+        while not self.heard.endswith(text):
+            if not self.hear(end - time.monotonic()):
+                raise AssertionError(f'{self.line}\n{text} did not come, only {self.heard[-2000:]}')
+
+    def end(self, limit=60):
+        """Ends its input, and tells how it ended, with all that was heard as its output."""
+        if self.is_on_terminal:
+            self.say(b'\x04')
+        else:
+            os.close(self.speaks)
+        status = self.process.wait(limit)
+        while self.hear(0):
+            pass
+        return Ended(self.line, status, self.heard)
+
+
+def own_terminal():
+    """Makes the terminal at the input the one whose keys send signals."""
+    fcntl.ioctl(0, termios.TIOCSCTTY, 0)
+
+
+def difference(name, wanted, got):
+    """The first line in which an output isn't the wanted one, in words; nothing where there is none."""
+    lines = itertools.zip_longest(wanted.splitlines(True), got.splitlines(True))
+    return [f'{name}, line {number}: wanted {one}, got {other}'
+            for number, (one, other) in enumerate(lines, 1) if one != other][:1]
+
+
+class Case(unittest.TestCase):
+    """A test with a folder of its own, which leaves no process."""
+
+    def setUp(self):
+        self.folder = pathlib.Path(tempfile.mkdtemp(dir=process_folder()))
+        self.addCleanup(shutil.rmtree, self.folder, ignore_errors=True)
+        self.addCleanup(self.leaves_no_process)
+
+    def leaves_no_process(self):
+        if not until(lambda: not left_running(), 10):
+            numbers = left_running()
+            end_all()
+            self.fail(f'these processes were left running: {numbers}')
+
+    def file(self, name, data):
+        """A file in the test's folder."""
+        path = self.folder / name
+        path.write_bytes(data)
+        return path
+
+    def ends(self, ended, status, out=None, err=None):
+        """Compares how a run ended with this status, output and messages; what is None may be anything."""
+        wrong = [] if ended.status == status else [f'wanted status {status}, got {ended.end()}']
+        wrong += [] if out is None else difference('output', out, ended.out)
+        wrong += [] if err is None else difference('messages', err, ended.err)
+        if wrong:
+            self.fail('\n'.join(wrong) + f'\n{ended}\nThe test alone: python3 -m unittest {self.id()}')

@@ -1,0 +1,78 @@
+"""Runs nvme-script and nvme-device over standard streams of which one call fails: a read in mid-script, also where the
+output can't be written any more, and writes that are interrupted; the device also over requests that are cut short or
+too long."""
+
+from tests.support import DEMO, TOP, Case, compiled, program, run
+
+
+class Faulty(Case):
+    def setUp(self):
+        super().setUp()
+        # the demonstration file, with 256 errors kept
+        self.subsystem = self.file('subsystem.toml', DEMO.read_bytes().replace(b'\nelpe = 3\n', b'\nelpe = 255\n'))
+
+    def faulty(self, source, out=None, **faults):
+        """A run over this input, in which these calls fail."""
+        faults['LD_PRELOAD'] = compiled('faults.c', '-ldl')
+        return run(program(self.crate), '--subsystem', self.subsystem, source=source, out=out, env=faults)
+
+
+class Script(Faulty):
+    crate = 'nvme_script'
+    line = b'list-ns /dev/nvme0 -n 3\n'
+    three_lines = line + b'list-ns\n' + line
+
+    def test_read_fault(self):
+        # the first line's output is held back when the second read fails
+        self.ends(self.faulty(self.line, FAIL_READ=2), 4, b'[   0]:0x3\n', b'nvme-script: read fault\n')
+
+    def test_full_device(self):
+        # after another end than a status a flush that fails is not told
+        self.ends(self.faulty(self.line, '/dev/full', FAIL_READ=2), 4, err=b'nvme-script: read fault\n')
+        self.ends(self.faulty(self.line, '/dev/full'), 5, err=b'nvme-script: write fault\n')
+
+    def test_folder_as_the_script(self):
+        ended = run(program(self.crate), source=self.folder, out='/dev/full')
+        self.ends(ended, 4, err=b'nvme-script: read fault\n')
+
+    def test_interrupted_writes_are_made_again(self):
+        for fault in ({'INTERRUPT_1': 1}, {'INTERRUPT_1': 2}, {'INTERRUPT_2': 1}):
+            with self.subTest(fault):
+                ended = self.faulty(self.three_lines, **fault)
+                self.ends(ended, 0, b'[   0]:0x3\n' * 2, b'line 2: usage error\n')
+
+    def test_interrupted_log(self):
+        # a line that writes more than is held back: the log is some 16,000 bytes
+        script = b'create-ns /dev/nvme0 -s 1 -c 1 -f 0\n' * 64 + b'error-log /dev/nvme0 -e 64\n'
+        whole = self.faulty(script)
+        self.ends(whole, 0)
+        self.assertGreater(len(whole.out), 8192)
+        last_message = whole.err.count(b'\n')
+        self.ends(self.faulty(script, INTERRUPT_1=1, INTERRUPT_2=last_message), 0, whole.out, whole.err)
+
+
+class Device(Faulty):
+    crate = 'nvme_device'
+    request = (TOP / 'crates/nvme_device/stdin').read_bytes()
+    answer = (TOP / 'crates/nvme_device/stdout').read_bytes()
+
+    def test_two_requests(self):
+        self.ends(self.faulty(self.request * 2), 0, self.answer * 2, b'')
+
+    def test_read_fault_between_requests(self):
+        self.ends(self.faulty(self.request * 2, FAIL_READ=2), 4, self.answer, b'nvme-device: read fault\n')
+
+    def test_interrupted_answer(self):
+        self.ends(self.faulty(self.request * 2, INTERRUPT_1=1), 0, self.answer * 2, b'')
+
+    def test_full_device(self):
+        self.ends(self.faulty(self.request * 2, '/dev/full'), 5, err=b'nvme-device: write fault\n')
+
+    def test_request_that_is_cut_short(self):
+        ended = self.faulty((self.request * 2)[:100])
+        self.ends(ended, 4, self.answer, b'nvme-device: request cut short\n')
+
+    def test_request_that_is_too_long(self):
+        # it has an answer, whose outcome is 3
+        ended = self.faulty(b'\0\0\0\0\1\0\x10\0' + b'0' * 64)
+        self.ends(ended, 4, b'\0\0\0\0\0\0\3\0\0\0\0\0', b'nvme-device: request too long\n')

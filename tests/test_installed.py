@@ -1,0 +1,81 @@
+"""Installs the built programs with their manual in a folder, as a user would, and looks at each: the programs answer
+from there, the manual pages have no warnings, and each option of a program has its place there and in the
+completion."""
+
+import re
+import shutil
+import unittest
+
+from tests.support import DEMO, TOP, Case, run
+
+SYNOPSIS = re.search(r'(?m)^nvme-script \[.*', (TOP / 'docs/COMMANDS.md').read_text()).group()
+OPTIONS = re.findall(r'\[(--[a-z-]+)', SYNOPSIS)
+# A look at the demonstration's nodes that needs no NVMe tool.
+LOOK = 'test -c /dev/nvme0 && test -b /dev/nvme0n3 && cat /sys/class/nvme/nvme1/serial'
+
+
+class Installed(Case):
+    def setUp(self):
+        super().setUp()
+        self.prefix = self.folder / 'prefix'
+        self.ends(self.make('install'), 0)
+
+    def make(self, target):
+        return run('make', '-s', target, f'PREFIX={self.prefix}')
+
+    def test_program(self):
+        elsewhere = self.file('elsewhere.toml', DEMO.read_bytes())
+        ended = run(self.prefix / 'bin/nvme-script', '--subsystem', elsewhere, source=b'list-ns /dev/nvme0\n', cwd='/')
+        self.ends(ended, 0, b'[   0]:0x1\n[   1]:0x3\n', b'')
+
+    def test_model(self):
+        elsewhere = self.file('elsewhere.toml', DEMO.read_bytes())
+        ended = run(self.prefix / 'bin/nvme-model', '--subsystem', elsewhere, 'sh', '-c', LOOK, cwd='/')
+        self.ends(ended, 0, b'S1                  \n', b'')
+
+    def test_manual_pages_have_no_warnings(self):
+        for name in 'nvme-script', 'nvme-model':
+            with self.subTest(name):
+                self.has_no_warnings(self.prefix / f'share/man/man1/{name}.1')
+
+    def has_no_warnings(self, page):
+        if shutil.which('mandoc'):
+            warnings = run('mandoc', '-Tlint', page, err='&1').out.splitlines()
+            # the pages to which they refer need not be installed
+            self.assertEqual([line for line in warnings if b'referenced manual not found: Xr' not in line], [])
+        elif shutil.which('man') and run('man', '--warnings', '-l', page).status == 0:
+            self.ends(run('man', '--warnings', '-l', page), 0, err=b'')
+        else:
+            self.skipTest('there is neither mandoc nor a man that warns')
+
+    def test_manual_page_has_each_option(self):
+        page = (self.prefix / 'share/man/man1/nvme-script.1').read_text()
+        self.assertNotEqual(OPTIONS, [])
+        for option in OPTIONS:
+            self.assertIn(f'It Fl \\{option[1:]} ', page)
+
+    def test_manual_page_of_the_model_has_each_option(self):
+        page = (self.prefix / 'share/man/man1/nvme-model.1').read_text()
+        ended = run(self.prefix / 'bin/nvme-model', '--help')
+        options = set(re.findall('--[a-z][a-z-]+', ended.out.decode()))
+        self.assertLess({'--subsystem', '--trace', '--help', '--without-namespace'}, options, ended)
+        for option in options:
+            self.assertRegex(page, rf'It (.*, )?Fl \\{option[1:]}\b|, \\?\n?Fl \\{option[1:]}\b')
+
+    @unittest.skipUnless(shutil.which('bash'), 'there is no bash')
+    def test_completion(self):
+        for words, wanted in [(['']), ' '.join(OPTIONS)], (['--p'], '--page-size --pace'), \
+                (['--page-size', '=', '8'], '8192'), (['--subsystem', 'examples/de'], 'examples/demo.toml'):
+            with self.subTest(words):
+                self.ends(self.completed(words), 0, wanted.encode() + b'\n', b'')
+
+    def completed(self, words):
+        """What the last of these words can become."""
+        line = '. "$0"; compopt() { :; }; COMP_WORDS=("$@"); COMP_CWORD=$(($# - 1)); _nvme_script; echo ${COMPREPLY[*]}'
+        completion = self.prefix / 'share/bash-completion/completions/nvme-script'
+        return run('bash', '-c', line, completion, 'nvme-script', *words)
+
+    def test_uninstall(self):
+        self.assertTrue((self.prefix / 'bin/nvme-script').exists())
+        self.ends(self.make('uninstall'), 0)
+        self.assertEqual([path for path in self.prefix.rglob('*') if not path.is_dir()], [])

@@ -1,0 +1,240 @@
+"""Tries ./nvme-model: the ioctls of client/check.c over drivers of several geometries, arguments, several subsystems,
+nodes and the data of namespaces, signals, and the tools that are installed."""
+
+import itertools
+import shutil
+import signal
+import subprocess
+
+from tests.modelled import CLIENT, PARTS, ModelCase, compiled_c, installed, processes_of
+from tests.support import TOP, Running, end_all, program, run, until
+
+CHECK = 'check', 'check_client'
+PARTS_OF_CHECK = 'commands', 'wide', 'lengths', 'many', 'broken', 'killed', 'nodes'
+GEOMETRIES = ('', '--depth 2 --page-size 65536 --offset 65532', '--page-size 8192 --offset 4092 --list-offset=8184',
+              '--depth 4096 --list-offset 4088 --window 16 --pace 4096',
+              '--depth=3 --page-size=16384 --window=2 --offset 8')
+BY_SIGNAL = {'HUP': 129, 'INT': 130, 'QUIT': 131, 'TERM': 143}
+
+
+class Ioctls(ModelCase):
+    def test_geometries(self):
+        check = compiled_c(self.folder / 'check', CHECK, '-pthread')
+        for geometry, part in itertools.product(GEOMETRIES, PARTS_OF_CHECK):
+            with self.subTest(geometry=geometry, part=part):
+                self.ends(self.model(check, part, options=geometry.split(), limit=900), 0, b'', b'')
+        for geometry in GEOMETRIES:
+            with self.subTest(geometry=geometry, part='gone'):
+                self.says(self.model(check, 'gone', options=geometry.split()), 0, 'nvme-model: the device ended')
+
+    def test_sanitized(self):
+        # the library's sources stand in the check itself; what is preloaded is another library
+        sanitizers = '-fsanitize=address,undefined', '-fno-sanitize-recover=all', '-ldl', '-pthread'
+        launcher = compiled_c(self.folder / 'bin/nvme-model', PARTS['bin/nvme-model'], *sanitizers)
+        check = compiled_c(self.folder / 'check', CHECK + PARTS['lib/nvme-model/library.so'], *sanitizers)
+        parts = self.folder / 'lib/nvme-model'
+        parts.mkdir(parents=True)
+        subprocess.run(['cc', '-shared', '-o', parts / 'library.so', '-x', 'c', '-'], input=b'int no;', check=True)
+        shutil.copy(program('nvme_device'), parts)
+        env = {'ASAN_OPTIONS': 'verify_asan_link_order=0:detect_leaks=0'}
+        for part in (*PARTS_OF_CHECK, 'gone'):
+            with self.subTest(part):
+                ended = run(launcher, '--subsystem', self.subsystem, check, part, env=env, limit=900)
+                self.ends(ended, 0, b'')
+                for word in b'Sanitizer', b'runtime error', b'check: ':
+                    self.assertNotIn(word, ended.err, ended)
+
+    def test_device_is_killed_in_a_call(self):
+        # each of several that wait for an answer has one, and what comes later is told at once
+        check = compiled_c(self.folder / 'check', CHECK, '-pthread')
+        ended = self.shell('for i in 1 2 3 4; do "$1" many & done; sleep 0.3; '
+                           'kill -9 $(cat /proc/$PPID/task/*/children | tr " " "\\n" | grep -vx $$); wait; '
+                           'test -c /dev/nvme0 || echo gone', check)
+        self.assertEqual(ended.out, b'gone\n', ended)
+        self.assertIn(b'nvme-model: the device ended', ended.err)
+
+
+class Arguments(ModelCase):
+    def test_refused_arguments(self):
+        for words in ('', '--', '--depth', '--depth 2', '--bogus 3 true', '--subsystem=x', '-d 3 true', '--no-notice',
+                      '--no-notice=1 true', '--data-limit x true', '--data-limit 1T true', '--data-limit -1 true',
+                      '--data-limit= true', '--data-limit 9999999999G true', '--d 3 true', '--help=1', '--trace',
+                      '--p 4096 true', '--without-namespace=no true', '--subsystem x ' * 17 + 'true'):
+            with self.subTest(words):
+                ended = run(installed(), *words.split())
+                self.ends(ended, 72, b'')
+                self.assertRegex(ended.err, b'(?m)^usage: nvme-model ')
+
+    def test_refused_by_the_device(self):
+        for options in ('--depth 1', '--depth x', '--page-size 5000', '--subsystem /none', '--pace 0'):
+            with self.subTest(options):
+                ended = self.model('touch', self.folder / 'touched', options=options.split())
+                self.says(ended, 72, 'nvme-model: the device ended before it answered')
+                self.assertFalse((self.folder / 'touched').exists())
+        for device in '/bin/false', '/none':
+            launcher = self.folder / device.strip('/') / 'bin/nvme-model'
+            shutil.copytree(installed().parents[1] / 'bin', launcher.parent)
+            parts = launcher.parents[1] / 'lib/nvme-model'
+            parts.mkdir(parents=True)
+            shutil.copy(installed().parents[1] / 'lib/nvme-model/library.so', parts)
+            (parts / 'nvme_device').symlink_to(device)
+            self.says(run(launcher, 'true'), 72, 'nvme-model: the device ended before it answered')
+
+    def test_help(self):
+        for words in (['--help'], ['--he'], ['--no-notice', '--help', 'false'], ['--help', '--bogus']):
+            with self.subTest(words):
+                ended = run(installed(), *words)
+                self.ends(ended, 0, err=b'')
+                self.assertRegex(ended.out, b'^usage: nvme-model (?s:.*)--without-namespace')
+        self.ends(run(installed(), '--help', out='/dev/full'), 72)
+        self.ends(run(TOP / 'nvme-model', '--help'), 0, run(installed(), '--help').out, b'')
+
+    def test_statuses_and_streams(self):
+        none, text = self.folder / 'none', self.file('text', b'no program\n')
+        self.ends(self.shell('exit 7'), 7, b'', b'')
+        self.ends(self.shell('kill -KILL $$'), 137, b'', b'')
+        self.says(self.model(none), 127, f'nvme-model: {none}: ')
+        self.says(self.model(text), 126, f'nvme-model: {text}: ')
+        self.ends(self.model('cat', source=b'some\nlines\n'), 0, b'some\nlines\n', b'')
+        self.ends(self.shell('echo "$@"', '--depth', '2', '--', '--trace'), 0, b'--depth 2 -- --trace\n', b'')
+        self.ends(self.model('echo', '--depth', options=['--dep', '4', '--']), 0, b'--depth\n', b'')
+        closed = ['sh', '-c', 'exec "$@" <&- >&- 2>&-', 'sh', *self.command('test', '-c', '/dev/nvme0')]
+        self.ends(run(*closed), 0, b'', b'')
+        closed[2] = 'exec "$@" <&- 2>&-'
+        open_ones = 'for f in 0 1 2; do test -e /proc/$$/fd/$f && echo $f; done'
+        self.ends(run(*closed[:4], *self.command('sh', '-c', open_ones)), 1, b'1\n')
+
+    def test_trace(self):
+        file = self.folder / 'trace'
+        for options in (['--trace'], [f'--trace={file}']):
+            for more in (['--depth', '4', *options], [*options, '--depth=4']):
+                with self.subTest(more):
+                    ended = self.model('nvme', 'list-ns', '/dev/nvme0', options=more)
+                    self.ends(ended, 0, b'[   0]:0x1\n[   1]:0x3\n')
+                    lines = (file.read_bytes() if file.exists() else ended.err).splitlines()
+                    self.assertIn(b'nvme0 write AQA=0x30003', lines)
+                    self.assertRegex(lines[-3], rb'^nvme0 taken Identify \(0x06\) .* cdw10=0x2$')
+                    self.assertTrue(all(line.startswith((b'nvme0 ', b'nvme1 ')) for line in lines), lines)
+                    self.assertEqual(ended.err == b'', file.exists())
+        self.says(self.model('true', options=['--trace=/none/x']), 72, 'nvme-model: /none/x: ')
+
+    def test_script_in_a_copy(self):
+        # no command is run without a device; two that build the client at once do no harm; paths have spaces, and links
+        copy, link = self.folder / 'a folder: here', self.folder / 'link'
+        copy.mkdir()
+        shutil.copy(TOP / 'nvme-model', copy)
+        shutil.copytree(CLIENT, copy / 'client')
+        link.symlink_to(copy / 'nvme-model')
+        self.says(run(copy / 'nvme-model', 'true'), 72,
+                  'nvme-model: there is no proved device program of these sources')
+        for folder in 'tools', '.ci':
+            (copy / folder).mkdir()
+            (copy / folder / 'stamp').symlink_to('/bin/true')
+        made = copy / 'crates/nvme_device/out/nvme_device'
+        made.parent.mkdir(parents=True)
+        made.symlink_to(program('nvme_device'))
+        shutil.rmtree(copy / 'out')
+        both = run('sh', '-c', '"$0" true & "$0" true && wait $!', copy / 'nvme-model')
+        self.ends(both, 0, b'', b'')
+        self.assertEqual(sorted(str(path.relative_to(copy / 'out/client')) for path in (copy / 'out').rglob('*')
+                                if not path.is_dir()), ['bin/nvme-model', 'lib/nvme-model/library.so',
+                                                        'lib/nvme-model/nvme_device'])
+        self.ends(run(link, 'test', '-b', '/dev/nvme0n1', cwd='/'), 0, b'', b'')
+        made.unlink()
+        self.ends(run(link, 'true'), 72, b'')
+
+
+class Subsystems(ModelCase):
+    def test_numbers(self):
+        options = ['--subsystem', TOP / 'examples/two_controllers.toml', '--subsystem', self.subsystem]
+        self.ends(self.shell('cd /dev; echo nvme?; echo nvme*n*; cd /sys/class/nvme-subsystem; echo *; ls -d */nvme?; '
+                             'cat /sys/class/nvme/*/cntlid; stat -c %t:%T /dev/nvme[24]', options=options), 0,
+                  b'nvme0 nvme1 nvme2 nvme3 nvme4 nvme5\n'
+                  b'nvme0n1 nvme0n3 nvme2n1 nvme2n5 nvme3n1 nvme3n2 nvme4n1 nvme4n3\n'
+                  b'nvme-subsys0 nvme-subsys1 nvme-subsys2\nnvme-subsys0/nvme0\nnvme-subsys0/nvme1\n'
+                  b'nvme-subsys1/nvme2\nnvme-subsys1/nvme3\nnvme-subsys2/nvme4\nnvme-subsys2/nvme5\n'
+                  b'0\n1\n7\n3\n0\n1\nffc:800\nffc:1000\n', b'')
+
+    def test_most(self):
+        self.ends(self.shell('ls -d /dev/nvme?? | wc -l; nvme id-ctrl /dev/nvme31 | grep -c "^sn .*S1"',
+                             options=['--subsystem', self.subsystem] * 15), 0, b'22\n1\n', b'')
+
+    def test_commands_data_and_traces_are_apart(self):
+        ended = self.shell('nvme create-ns /dev/nvme2 -s 8 -c 8 -f 0 && nvme attach-ns /dev/nvme2 -n 2 -c 0 && '
+                           'echo hello > /dev/nvme2n1 && head -c 5 /dev/nvme0n1 | od -An -c; head -c 5 /dev/nvme2n1; '
+                           'ls /dev/nvme?n2', options=['--subsystem', self.subsystem, '--trace'])
+        self.ends(ended, 0, b'create-ns: Success, created nsid:2\nattach-ns: Success, nsid:2\n'
+                  b'  \\0  \\0  \\0  \\0  \\0\nhello/dev/nvme2n2\n')
+        self.assertEqual({line[:6] for line in ended.err.splitlines()}, {b'nvme0 ', b'nvme1 ', b'nvme2 ', b'nvme3 '})
+        self.assertRegex(ended.err, rb'(?m)^nvme2 taken Namespace Management \(0x0d\) ')
+        self.assertNotRegex(ended.err, rb'(?m)^nvme[013] taken Namespace Management \(0x0d\) ')
+
+    def test_one_device_is_killed(self):
+        ended = self.shell('kill -9 $(cat /proc/$PPID/task/*/children | cut -d " " -f 2); sleep 0.2; cat /dev/nvme2n1; '
+                           'nvme id-ctrl /dev/nvme3; nvme id-ctrl /dev/nvme1 | grep -c "^sn .*S1"; '
+                           'nvme id-ctrl /dev/nvme4 | grep "^sn "; nvme reset /dev/nvme4; '
+                           'head -c 1 /dev/nvme0n1 | wc -c',
+                           options=['--subsystem', self.subsystem, '--subsystem', self.subsystem])
+        self.ends(ended, 0, b'1\nsn        : S0                  \n1\n')
+        self.assertRegex(ended.err, b'(?m)^nvme-model: the device ended')
+        self.assertRegex(ended.err, b'(?m)^cat: /dev/nvme2n1: No such device or address$')
+        self.assertRegex(ended.err, b'(?m)^/dev/nvme3: No such device or address$')
+
+
+class Signals(ModelCase):
+    def begun(self, script, *words):
+        """A run of a script that says `ready`."""
+        running = Running(*self.command('sh', '-c', script, 'sh', *words))
+        self.addCleanup(running.process.kill)
+        running.comes(b'ready\n')
+        return running
+
+    def test_passed_on(self):
+        for name, status in BY_SIGNAL.items():
+            with self.subTest(name):
+                running = self.begun('echo ready; exec sleep 100')
+                running.process.send_signal(signal.Signals['SIG' + name])
+                self.ends(running.end(), status, b'ready\n')
+                self.leaves_nothing()
+        running = self.begun('trap "exit 9" TERM; echo ready; while :; do sleep 0.1; done')
+        running.process.terminate()
+        self.ends(running.end(), 9, b'ready\n')
+
+    def test_while_requests_and_data_are_under_way(self):
+        script = ('while :; do nvme create-ns /dev/nvme0 -s 8 -c 8 -f 0; nvme delete-ns /dev/nvme0 -n 2; done '
+                  '> /dev/null 2>&1 & while :; do dd if=/dev/urandom of=/dev/nvme0n1 bs=4k; done 2> /dev/null & '
+                  'echo ready; wait')
+        for name in ('INT', 'TERM', 'HUP', 'KILL'):
+            with self.subTest(name):
+                running = self.begun('echo $$ > "$1"; ' + script, self.folder / 'group')
+                running.process.send_signal(signal.Signals['SIG' + name])
+                # what the command left in the background has no device any more, and isn't the launcher's to end
+                self.assertTrue(until(lambda: running.process.poll() is not None))
+                self.assertEqual(running.process.returncode, {**BY_SIGNAL, 'KILL': -9}[name])
+                self.assertTrue(until(lambda: not processes_of('nvme_device\0--subsystem\0' + str(self.subsystem))))
+                end_all()
+                self.leaves_nothing()
+
+    def test_killed_launcher(self):
+        # the command goes on, and each of its calls is answered at once
+        ended = self.shell('exec 3<> /dev/nvme0n1; kill -9 $PPID; sleep 0.3; for f in nvme0 nvme0n1 ng0n1; do '
+                           'stat /dev/$f; cat /dev/$f; nvme id-ctrl /dev/$f; done 2> "$1"; '
+                           'grep -c -e "No such device or address" "$1" > "$2"',
+                           self.folder / 'said', self.folder / 'count')
+        self.assertEqual(ended.status, -9, ended)
+        self.assertTrue(until(lambda: (self.folder / 'count').exists() and (self.folder / 'count').read_text()))
+        self.assertEqual((self.folder / 'count').read_text(), '9\n', (self.folder / 'said').read_text())
+
+    def test_typed_at_a_terminal(self):
+        for script, status in (('echo ready; exec sleep 100', 130),
+                               ('trap "test -c /dev/nvme0 && exit 5" INT; echo ready; while :; do sleep 0.1; done', 5)):
+            with self.subTest(script):
+                running = Running(*self.command('sh', '-c', script), terminal=True)
+                running.comes(b'ready\n')
+                running.say(b'\x03')
+                self.assertEqual(running.process.wait(10), status)
+                self.leaves_nothing()
+        # the command has terminals, and makes new ones
+        running = Running(*self.command('sh', '-c', 'tty; script -qec "test -t 0 && echo inner" /dev/null'),
+                          terminal=True)
+        self.assertRegex(running.end().out, b'^/dev/pts/[0-9]+\n(?s:.*)inner')

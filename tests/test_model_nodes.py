@@ -1,0 +1,327 @@
+"""Tries what ./nvme-model shows to programs: nodes in /dev and files in /sys, the data of namespaces, a library that
+stays with the processes, and the tools as they are installed."""
+
+import json
+import re
+import subprocess
+import sys
+
+from tests.modelled import WARNINGS, ModelCase, installed, static_program
+from tests.support import TOP
+
+# Run inside: calls that write to a node, with what must come of them.
+CALLS = """
+def fails(number, call, *words):
+    try:
+        print(call, words, 'gave', call(*words))
+    except OSError as error:
+        if error.errno != number:
+            print(call, words, error)
+f = os.open('/dev/nvme0n3', os.O_RDWR | os.O_TRUNC | os.O_CREAT)
+a = os.open('/dev/nvme0n3', os.O_RDWR | os.O_APPEND)
+x = os.open('/etc/passwd', os.O_RDONLY)
+fails(errno.ENOSPC, os.pwrite, f, b'x', 4608)
+fails(errno.ENOSPC, os.pwritev, f, [b'x'], 4608)
+fails(errno.ENOSPC, os.pwritev, f, [b'x'], 4608, os.RWF_DSYNC)
+fails(errno.ENOSPC, os.write, a, b'x')
+fails(errno.EINVAL, os.ftruncate, f, 5)
+fails(errno.EINVAL, os.truncate, '/dev/nvme0n3', 9999)
+fails(errno.EEXIST, os.open, '/dev/nvme0n3', os.O_RDWR | os.O_CREAT | os.O_EXCL)
+fails(errno.ENODEV, os.posix_fallocate, f, 0, 9999)
+fails(errno.EXDEV, os.copy_file_range, x, f, 50, 0, 4600)
+fails(errno.EINVAL, os.sendfile, f, x, 0, 9)
+m = mmap.mmap(f, 4096)
+m[:5] = b'mmaps'
+m.flush()
+os.fsync(f)
+print(os.pread(f, 5, 0), os.writev(f, [b'', b'ab', b'c']), os.pread(f, 5, 0), os.lseek(f, 0, 2))
+os.lseek(f, 4600, 0)
+print(os.fstat(f).st_size, os.writev(f, [b'abcd'] * 9) in (4, 8))
+r, w = os.pipe()
+os.write(w, b's' * 99)
+os.lseek(f, 4600, 0)
+libc = ctypes.CDLL(None, use_errno=True)
+print(libc.splice(r, None, f, None, 99, 0) == 8 or ctypes.get_errno() in (errno.EINVAL, errno.ENOSPC))
+print(os.lseek(f, 0, 2))
+"""
+
+# Run inside: the numbers of /sys are those of the nodes.
+NUMBERS = """
+names = set()
+for folder in glob.glob('/sys/dev/*/409*') + glob.glob('/sys/class/nvme*/n*') + glob.glob('/sys/block/nvme*'):
+    if 'subsys' in folder:
+        continue
+    number = open(folder + '/dev').read().strip()
+    name, = [line[8:-1] for line in open(folder + '/uevent') if line.startswith('DEVNAME=')]
+    about, kind = os.stat('/dev/' + name), 'block' if name.startswith('nvme') and 'n' in name[4:] else 'char'
+    assert number == f'{os.major(about.st_rdev)}:{os.minor(about.st_rdev)}', folder
+    assert os.path.realpath(folder) == os.path.realpath(f'/sys/dev/{kind}/{number}'), folder
+    assert os.path.basename(os.path.realpath(folder)) == name, folder
+    names.add(name)
+print(*sorted(names))
+"""
+
+
+class Nodes(ModelCase):
+    def test_listed(self):
+        nodes = b'ng0n1\nng0n3\nnvme0\nnvme0n1\nnvme0n3\nnvme1\n'
+        for script in ('ls /dev | grep -e ^nvme -e ^ng', 'cd /dev; printf "%s\\n" n[gv]*[0-9]*',
+                       'find /dev -name "n[vg]*" | sed s,/dev/,, | sort', 'busybox ls -1 /dev | grep -e ^ng -e ^nvme',
+                       sys.executable + ' -c \'import glob; print(*sorted(glob.glob("n[gv]*[0-9]*", '
+                       'root_dir="/dev")), sep="\\n")\''):
+            with self.subTest(script):
+                self.ends(self.shell(script), 0, nodes, b'')
+        self.ends(self.shell('find /dev -maxdepth 1 -name "nvme*" -type b | sort; '
+                             'find /dev -name "n[vg]*" -type c | sort; '
+                             'find /dev -maxdepth 1 -name "n[vg]*" -type f; ls -l /dev/nvme0n1 | cut -c 1'), 0,
+                  b'/dev/nvme0n1\n/dev/nvme0n3\n/dev/ng0n1\n/dev/ng0n3\n/dev/nvme0\n/dev/nvme1\nb\n', b'')
+
+    def test_come_and_go(self):
+        script = ('inotifywait -mq -e create,delete,moved_to --format "%e %f" -o "$1" /dev & sleep 0.5; '
+                  'nvme attach-ns /dev/nvme1 -n 1 -c 1; nvme detach-ns /dev/nvme0 -n 3 -c 0; '
+                  'ls /dev/nvme*n* /sys/block | grep nvme; nvme delete-ns /dev/nvme0 -n 1; ls /dev/n[gv]*; '
+                  'sleep 0.2; kill $!')
+        self.ends(self.shell(script, self.folder / 'seen'), 0,
+                  b'attach-ns: Success, nsid:1\ndetach-ns: Success, nsid:3\n'
+                  b'/dev/nvme0n1\n/dev/nvme1n1\nnvme0n1\nnvme1n1\n'
+                  b'delete-ns: Success, deleted nsid:1\n/dev/nvme0\n/dev/nvme1\n', b'')
+        seen = (self.folder / 'seen').read_text().split('\n')[:-1]
+        came = [line.split()[1] for line in seen if not line.startswith('DELETE')]
+        gone = [line.split()[1] for line in seen if line.startswith('DELETE')]
+        self.assertEqual(sorted(came), ['ng1n1', 'nvme1n1'], seen)
+        self.assertEqual(sorted(gone), ['ng0n1', 'ng0n3', 'ng1n1', 'nvme0n1', 'nvme0n3', 'nvme1n1'], seen)
+
+    def test_no_notice(self):
+        for looks in ('nvme ns-rescan /dev/nvme1', 'nvme reset /dev/nvme1', 'echo 1 > /sys/bus/pci/rescan; sleep 0.3; '
+                      'nvme id-ctrl /dev/nvme0 > /dev/null'):
+            with self.subTest(looks):
+                self.ends(self.shell('nvme attach-ns /dev/nvme1 -n 1 -c 1 > /dev/null; ls /dev/nvme1n* 2>&1; '
+                                     f'ls /sys/class/block | grep 1n; {looks}; '
+                                     'ls /dev/n*1n* /sys/class/block/nvme1n1/nsid',
+                                     options=['--no-notice']), 0,
+                          b"ls: cannot access '/dev/nvme1n*': No such file or directory\n/dev/ng1n1\n/dev/nvme1n1\n"
+                          b'/sys/class/block/nvme1n1/nsid\n', b'')
+        # what was deleted and created meanwhile is another namespace
+        self.ends(self.shell('echo old > /dev/nvme0n3; nvme delete-ns /dev/nvme0 -n 3; '
+                             'nvme create-ns /dev/nvme0 -s 4 -c 4 -f 0 >&2; nvme ns-rescan /dev/nvme0; '
+                             'ls /dev/nvme0n*', options=['--no-notice']), 0,
+                  b'delete-ns: Success, deleted nsid:3\n/dev/nvme0n1\n')
+
+    def test_sys(self):
+        self.ends(self.shell(
+            'readlink -f /sys/class/nvme/nvme0 | sed "s/pci[0-9a-f:]*/PCI/; s/[0-9a-f:]*[.]0/FUNCTION/"; '
+            'cd /sys/class/nvme; ls; '
+            'cat nvme1/cntlid nvme0/nvme0n3/size nvme0/nvme0n3/nsid nvme0/nvme0n3/queue/logical_block_size '
+            '/sys/block/nvme0n1/size nvme0/queue_count nvme0/device/numa_node; test -e nvme0/device/driver; '
+            'find /sys/devices -name "*nvme0" | grep -c pci; nvme format /dev/nvme0n1 -l 1 --force; '
+            'cat /sys/block/nvme0n1/queue/logical_block_size /sys/block/nvme0n1/size'), 0,
+            b'/sys/devices/PCI/FUNCTION/nvme/nvme0\nnvme0\nnvme1\n1\n9\n3\n512\n2048\n1\n-1\n1\n'
+            b'Success formatting namespace:1\n4096\n2048\n', b'')
+        broken = ('for l in $(find /sys/devices/pci*/*/nvme /sys/class/nvme* /sys/block/nvme* /sys/class/block/nvme* '
+                  '/sys/devices/virtual/nvme-subsystem /sys/dev/*/409?:* -type l); do '
+                  'test -e $l && echo yes || echo $l; done | sort | uniq -c')
+        ended = self.shell(broken)
+        self.assertRegex(ended.out, rb'^ *[3-9]\d yes\n$', ended)
+
+    def test_sys_agrees_with_nodes(self):
+        self.ends(self.python(NUMBERS), 0, b'ng0n1 ng0n3 nvme0 nvme0n1 nvme0n3 nvme1\n', b'')
+
+
+class Data(ModelCase):
+    def test_zeros_and_what_is_kept(self):
+        read = 'head -c 3 /dev/nvme0n2 | od -An -c; '
+        script = ('nvme create-ns /dev/nvme0 -s 16 -c 16 -f 0 -m 1; '
+                  'A="nvme attach-ns /dev/nvme0 -n 2 -c"; $A 0,1; ' + read +
+                  'echo abc > /dev/nvme0n2; ' + read.replace('0n2', '1n2') +
+                  'nvme detach-ns /dev/nvme0 -n 2 -c 0,1; $A 1; $A 0; ' + read +
+                  'nvme format /dev/nvme1n2 -l 0 --force; ' + read + 'echo abc > /dev/nvme1n2; ' + read +
+                  'exec 5< /dev/nvme0n2; nvme delete-ns /dev/nvme0 -n 2; head -c 3 <&5 | wc -c; '
+                  'nvme create-ns /dev/nvme0 -s 16 -c 16 -f 0; $A 0; ' + read + 'head -c 3 <&5 | wc -c')
+        ended = self.shell(script + '; stat -L -c %s /proc/self/fd/5')
+        words = [line.strip() for line in ended.out.decode().splitlines() if 'Success' not in line]
+        zeros, abc = '\\0  \\0  \\0', 'a   b   c'
+        self.assertEqual(words, [zeros, abc, abc, zeros, abc, '0', zeros, '0', '0'], ended)
+
+    def test_ends_and_lengths(self):
+        for device in '/dev/nvme0n1', '//dev/../dev/nvme0n1':
+            self.says(self.shell('dd if=/dev/zero of="$1" bs=1000', device), 1, '1048576 bytes')
+        self.ends(self.shell('for f in 1 2; do echo x >> /dev/nvme0n3 || echo full; done; '
+                             'echo 12 > /dev/nvme0n3; wc -c < /dev/nvme0n3; '
+                             'dd if=/dev/zero of=/dev/nvme0n3 bs=512 seek=8 conv=notrunc 2>&1 | tail -n 1 | cut -c -9; '
+                             ': > /dev/nvme0n3; head -c 3 /dev/nvme0n3; truncate -s 0 /dev/nvme0n3; '
+                             'busybox wc -c < /dev/nvme0n3; cp /bin/sh /dev/nvme0n3; busybox wc -c < /dev/nvme0n3'), 0,
+                  b'full\nfull\n4608\n512 bytes\n12\n4608\n4608\n')
+
+    def test_streams_past_the_end(self):
+        # (a stream of the C library writes by no call that the preloaded one sees: what is past the end is cut off)
+        script = 'seq 2000 > /dev/nvme0n3; sleep 0.5; busybox wc -c < /dev/nvme0n3; head -n 2 /dev/nvme0n3'
+        self.ends(self.shell(script), 0, b'4608\n1\n2\n', b'')
+
+    def test_calls(self):
+        ended = self.python(CALLS)
+        self.ends(ended, 0, b"b'mmaps' 2 b'abaps' 4608\n0 True\nTrue\n4608\n", b'')
+
+    def test_static_programs(self):
+        cuts = static_program('#include <unistd.h>\n#include <fcntl.h>\n#include <stdlib.h>\nint main(int n, char **a) '
+                              '{ int f = open(a[1], O_RDWR); return n < 3 || f < 0 || ftruncate(f, atol(a[2])) < 0 || '
+                              'pwrite(f, "s", 1, 1) < 0; }\n')
+        script = ('echo abc > /dev/nvme0n3; "$0" /dev/nvme0n3 $1; echo $?; sleep 0.3; '
+                  'head -c 2 /dev/nvme0n3 | od -An -c; '
+                  'wc -c < /dev/nvme0n3; busybox stat -c "%F %s" /dev/nvme0n3')
+        for length, first in ((0, b'  \\0   s'), (2, b'   a   s'), (99999, b'   a   s')):
+            with self.subTest(length):
+                self.ends(self.model('sh', '-c', script, cuts, str(length)), 0,
+                          b'0\n' + first + b'\n4608\nregular file 4608\n', b'')
+        # its ioctl comes to a file
+        asks = static_program('#include <fcntl.h>\n#include <stdio.h>\n#include <sys/ioctl.h>\n'
+                              'int main(int n, char **a) '
+                              '{ int f = open(a[n - 1], O_RDWR); ioctl(f, 0x4e40); perror("ioctl"); return 0; }\n')
+        self.ends(self.model(asks, '/dev/nvme0n1'), 0, b'', b'ioctl: Inappropriate ioctl for device\n')
+        self.ends(self.model(asks, '/dev/nvme0'), 0, b'', b'ioctl: Inappropriate ioctl for device\n')
+
+    def test_limit(self):
+        big = 'nvme create-ns /dev/nvme0 -s 8192 -c 8192 -f 0 && nvme attach-ns /dev/nvme0 -n 2 -c 0 && '
+        ended = self.shell(big + 'dd if=/dev/zero of=/dev/nvme0n2 bs=64k; '
+                           'dd if=/dev/zero of=/dev/nvme0n2 bs=4096 count=128; '
+                           'blkdiscard /dev/nvme0n2 && dd if=/dev/zero of=/dev/nvme0n2 bs=1M count=1',
+                           options=['--data-limit=2M'])
+        self.ends(ended, 0)
+        self.assertIn(b"dd: error writing '/dev/nvme0n2': No space left on device", ended.err)
+        written = [int(number) for number in re.findall(rb'(?m)^(\d+) bytes', ended.err)]
+        self.assertTrue(1 << 20 <= written[0] <= (2 << 20) + (1 << 18), ended)
+        self.assertEqual(written[1:], [128 * 4096, 1 << 20], ended)
+        self.ends(self.shell('dd if=/dev/zero of=/dev/nvme0n1 bs=64k 2>&1 | grep -c "^1048576 bytes"'), 0, b'1\n', b'')
+
+    def test_tools(self):
+        script = ('set -e; D=/dev/nvme0n1; '
+                  'mkfs.ext4 -qO ^has_journal -U 12345678-1234-1234-1234-123456789012 -L name $D; blkid -o value $D; '
+                  'wipefs -nO TYPE,OFFSET $D | tail -n 1; blockdev --getsize64 --getss --getro --getbsz $D; '
+                  'cp $D "$1"; cmp $D "$1" && echo same; '
+                  'debugfs -w -R "write $1.x x" $D 2> /dev/null; debugfs -R "cat x" $D 2> /dev/null; '
+                  'e2fsck -fy $D > /dev/null 2>&1; wipefs -aq $D; blkid $D || echo none; '
+                  'blkdiscard $D; blkdiscard -z $D; cmp -n 1048576 $D /dev/zero; blkdiscard -o 512 -l 4096 $D; '
+                  'blkdiscard -l 100 $D 2> /dev/null || echo refused; '
+                  'lsblk -bnro NAME,SIZE,TYPE,LOG-SEC $D; lsblk -n /dev/nvme0n3 | wc -l')
+        self.file('copy.x', b'inside\n')
+        self.ends(self.shell(script, self.folder / 'copy'), 0,
+                  b'name\n12345678-1234-1234-1234-123456789012\n1024\next4\n' +
+                  b'ext4 0x438\n1048576\n512\n0\n512\nsame\n'
+                  b'Allocated inode: 12\ninside\nnone\nrefused\nnvme0n1 1048576 disk 512\n1\n', b'')
+
+
+class Library(ModelCase):
+    def test_it_stays(self):
+        check = 'nvme id-ctrl /dev/nvme0 | grep -c S0'
+        python = f'{sys.executable} -c'
+        for script in (check, f'env -i PATH="$PATH" sh -c \'{check}\'', f'LD_PRELOAD=x sh -c \'{check}\' 2> /dev/null',
+                       f'unset LD_PRELOAD; {check}', f'export LD_PRELOAD=; {check}', f'setsid -w sh -c \'{check}\'',
+                       f'env -u LD_PRELOAD env -i env -i PATH="$PATH" sh -c \'{check}\'', f'busybox sh -c \'{check}\'',
+                       f'cd /dev; env -i PATH="$PATH" sh -c \'nvme id-ctrl nvme0 | grep -c "^sn .*S0"\'',
+                       *(f'{python} \'import os, subprocess; {call}\'' for call in (
+                           f'os.system("""{check}""")',
+                           f'path = os.environ["PATH"]; os.environ.clear(); os.system(f"PATH={{path}}; {check}")',
+                           f'print(os.popen("""{check}""").read(), end="")',
+                           f'os.execve("/bin/sh", ["sh", "-c", """{check}"""], {{"PATH": os.environ["PATH"]}})',
+                           f'os.waitpid(os.posix_spawn("/bin/sh", ["sh", "-c", """{check}"""], '
+                           f'{{"PATH": os.environ["PATH"]}}), 0)',
+                           f'subprocess.run("""{check}""", shell=True, env={{"PATH": os.environ["PATH"]}})'))):
+            with self.subTest(script):
+                self.ends(self.shell(script), 0, b'1\n', b'')
+
+    def test_exec_and_vfork(self):
+        program = self.folder / 'runs'
+        text = ('#define _GNU_SOURCE\n#include <fcntl.h>\n#include <sys/wait.h>\n#include <unistd.h>\n'
+                'int main(void) {\n'
+                'char *none[] = {0}, *words[] = {"test", "-b", "/dev/nvme0n1", 0}, *file = "/usr/bin/test";\n'
+                'for (int way = 0, how = 0; way < 8; way++) {\nif (vfork() == 0) {\nswitch (way) {\n'
+                'case 0: execve(file, words, none);\ncase 1: execle(file, "test", "-b", words[2], NULL, none);\n'
+                'case 2: execvpe("test", words, none);\ncase 3: execv(file, words);\ncase 4: execvp("test", words);\n'
+                'case 5: fexecve(open(file, O_RDONLY), words, none);\n'
+                'case 6: execveat(AT_FDCWD, file, words, none, 0);\n'
+                'default: execlp("test", "test", "-b", words[2], NULL);\n}\n_exit(9);\n}\nwait(&how);\n'
+                'if (how)\nreturn way + 1;\n}\nreturn 0; }\n')
+        subprocess.run(['cc', *WARNINGS, '-Wno-implicit-fallthrough', '-o', program, '-x', 'c', '-'],
+                       input=text.encode(), check=True)
+        self.ends(self.model(program), 0, b'', b'')
+        self.ends(self.shell('unset LD_PRELOAD; exec env -i "$1"', program), 0, b'', b'')
+
+    def test_preloaded_already(self):
+        other = self.folder / 'other.so'
+        subprocess.run(['cc', '-shared', '-fPIC', '-o', other, '-x', 'c', '-'], input=b'int unused;', check=True)
+        self.ends(self.shell('echo ${LD_PRELOAD#*:}', env={'LD_PRELOAD': other}), 0, f'{other}\n'.encode(), b'')
+
+    def test_model_in_a_model(self):
+        inner = [installed(), '--subsystem', TOP / 'examples/two_controllers.toml']
+        ended = self.model(*inner, 'sh', '-c', 'nvme id-ctrl /dev/nvme0 | grep "^sn "; ls /dev/nvme*n*')
+        self.assertIn(ended.status, (0, 72), ended)
+        if ended.status == 0:
+            self.ends(ended, 0, b'sn        : EX-0007             \n'
+                      b'/dev/nvme0n1\n/dev/nvme0n5\n/dev/nvme1n1\n/dev/nvme1n2\n')
+
+
+class Tools(ModelCase):
+    def test_list(self):
+        devices = json.loads(self.model('nvme', 'list', '-o', 'json').out)['Devices']
+        self.assertEqual(sorted((one['DevicePath'], one['PhysicalSize'], one['SectorSize'], one['SerialNumber'])
+                                for one in devices),
+                         [('/dev/nvme0n1', 1048576, 512, 'S0'), ('/dev/nvme0n3', 4608, 512, 'S0')])
+        listed = self.shell('nvme attach-ns /dev/nvme1 -n 1 -c 1 > /dev/null && nvme list')
+        self.assertEqual(sorted(re.findall(rb'(?m)^/dev/\S+', listed.out)),
+                         [b'/dev/nvme0n1', b'/dev/nvme0n3', b'/dev/nvme1n1'])
+        ended = self.model('nvme', 'list-subsys')
+        self.ends(ended, 0, err=b'')
+        self.assertEqual(sorted(re.sub(b'[0-9a-f]{4}:[0-9a-f]{2}:', b'', ended.out).splitlines()),
+                         [b' +- nvme0 pcie 00.0 live', b' +- nvme1 pcie 00.0 live', b'\\',
+                          b'nvme-subsys0 - NQN=nqn.2014-08.org.example:demo'])
+        scan = self.model('smartctl', '--scan')
+        self.assertEqual([line for line in scan.out.splitlines() if b'nvme' in line],
+                         [b'/dev/nvme%d -d nvme # /dev/nvme%d, NVMe device' % (x, x) for x in (0, 1)], scan)
+        self.ends(self.shell('lsblk -bnro NAME,SIZE | grep nvme'), 0, b'nvme0n1 1048576\nnvme0n3 4608\n', b'')
+
+    def test_registers(self):
+        for geometry in ('', '--depth 2 --page-size 65536', '--depth 4096 --window 16',
+                         '--depth=3 --page-size=8192 --window 2'):
+            for number in 0, 1:
+                with self.subTest(geometry=geometry, controller=number):
+                    ended = self.model('nvme', 'show-regs', f'/dev/nvme{number}',
+                                       options=['--trace', *geometry.split()])
+                    self.ends(ended, 0)
+                    shown = {name: int(value, 16) for name, value in re.findall(rb'(?m)^(\w+)\s+: (\w+)$', ended.out)}
+                    written = {name: int(value, 16) for name, value in
+                               re.findall(rb'(?m)^nvme%d write (A?[SQC.A-Zlowhig]+)=0x(\w+)$' % number, ended.err)}
+                    self.assertEqual([shown[b'cc'], shown[b'aqa'], shown[b'csts'], shown[b'version']],
+                                     [written[b'CC'], written[b'AQA'], 1, 0x10400], ended)
+                    for queue in b'ASQ', b'ACQ':
+                        self.assertEqual(shown[queue.lower()],
+                                         written[queue + b'.high'] << 32 | written[queue + b'.low'])
+
+    def test_nvme(self):
+        refused = self.model('nvme', 'effects-log', '/dev/nvme0')
+        self.ends(refused, 1)
+        self.assertTrue(refused.err, refused)
+        ended = self.shell('nvme id-ns /dev/nvme0 -n 5; nvme error-log /dev/nvme0 -e 1')
+        self.assertRegex(ended.err, rb'(?m)^NVMe status: Invalid Namespace or Format: .*\(0x600b\)$')
+        self.assertRegex(ended.out, rb'(?m)^error_count.*: 1$')
+        self.assertRegex(self.model('nvme', 'smart-log', '/dev/nvme0').out, rb'(?m)^num_err_log_entries.*: 0$')
+        self.says(self.shell('nvme admin-passthru /dev/nvme0 -o 0xc1 -s -l 4097 -i /dev/zero'), 1,
+                  'NVMe status: Invalid Command Opcode: ')
+        self.assertIn(b'/dev/nvme2: No such file or directory', self.model('nvme', 'id-ctrl', '/dev/nvme2').err)
+        self.ends(self.shell('ln -s /dev/nvme0 "$1"; nvme id-ctrl "$1" | grep -c S0; '
+                             'cd /dev; nvme id-ns ./nvme0n3 | head -n 1; '
+                             'nvme get-ns-id /dev/ng0n3', self.folder / 'link'), 0,
+                  b'1\nNVME Identify Namespace 3:\nng0n3: namespace-id:3\n', b'')
+
+    def test_smartctl(self):
+        whole = self.model('smartctl', '-x', '/dev/nvme0')
+        self.ends(whole, 0)
+        for text in (b'Total NVM Capacity: *10,485,760 ', b'SMART overall-health self-assessment test result: PASSED\n',
+                     b'Error Information Log Entries: *0\n'):
+            self.assertRegex(whole.out, b'(?m)^' + text)
+        self.assertRegex(self.model('smartctl', '-i', '/dev/nvme0n3').out,
+                         b'(?m)^Namespace 3 Formatted LBA Size: *512$')
+        self.ends(self.model('smartctl', '-i', '/dev/nvme2'), 2)
+
+    def test_examples(self):
+        for script in sorted((TOP / 'examples').glob('*.sh')):
+            with self.subTest(script.name):
+                self.ends(self.model('sh', script), 0, script.with_suffix('.txt').read_bytes(), b'')

@@ -1,0 +1,55 @@
+"""Talks to nvme-script line by line, through pipes and on a terminal: what a line prints is there before the next one
+is written, and messages stand among the outputs in the order of the lines."""
+
+import time
+
+from tests.support import Case, Running, program, run
+
+SCRIPT = program('nvme_script')
+
+
+class Order(Case):
+    def test_both_streams_to_one_file(self):
+        ended = run(SCRIPT, err='&1', source=b'list-ns /dev/nvme0\nid-ns /dev/nvme0 -n 9\nlist-ns /dev/nvme0 -n 3\n'
+                                             b'list-ns\nlist-ns /dev/nvme0 -n 3\n')
+        self.ends(ended, 0, b'[   0]:0x1\n[   1]:0x3\n'
+                            b'line 2: NVMe status: Invalid Namespace or Format (0x600b)\n'
+                            b'[   0]:0x3\n'
+                            b'line 4: usage error\n'
+                            b'[   0]:0x3\n')
+
+    def test_pipes(self):
+        talk = Running(SCRIPT)
+        talk.say(b'list-ns /dev/nvme0 -n 3\n')
+        talk.comes(b'[   0]:0x3\n')
+        talk.say(b'list-ns /dev/nvme9\n')
+        talk.comes(b'line 2: no such device\n')
+        # a part of a line is no line
+        talk.say(b'delete-ns /dev/nvme0')
+        self.assertFalse(talk.hear(0.3), talk.heard)
+        talk.say(b' -n 3\n')
+        talk.comes(b'delete-ns: Success, deleted nsid:3\n')
+        self.ends(talk.end(), 0, b'[   0]:0x3\nline 2: no such device\ndelete-ns: Success, deleted nsid:3\n')
+
+    def test_terminal(self):
+        # what is typed is shown too
+        talk = Running(SCRIPT, terminal=True)
+        talk.say(b'list-ns /dev/nvme0 -n 3\n')
+        talk.comes(b'list-ns /dev/nvme0 -n 3\n[   0]:0x3\n')
+        talk.say(b'list-ns /dev/nvme0 -n 1\n')
+        talk.comes(b'list-ns /dev/nvme0 -n 1\n[   0]:0x1\n[   1]:0x3\n')
+        self.ends(talk.end(), 0)
+
+
+class FullDevice(Case):
+    def test_told_at_the_end(self):
+        # a flush that fails before more is read shows at the end
+        self.ends(run(SCRIPT, source=b'list-ns /dev/nvme0\n', out='/dev/full'), 5, err=b'nvme-script: write fault\n')
+
+    def test_told_in_the_next_line_that_prints(self):
+        # it ends the run while the script goes on
+        talk = Running('sh', '-c', 'exec "$0" > /dev/full', SCRIPT)
+        talk.say(b'list-ns /dev/nvme0\n')
+        time.sleep(0.5)
+        talk.say(b'list-ns /dev/nvme0\nlist-ns /dev/nvme9\n')
+        self.ends(talk.end(), 5, b'nvme-script: write fault\n')

@@ -1,0 +1,270 @@
+"""Runs nvme-script on arguments, files and standard streams that a script can't give it, and on each script of
+examples/ and of tests/scripts.
+
+With UNPROVED=1 in the environment the rows are given to the sources, by `rt try`, and those that it can't give are
+skipped.
+"""
+
+import json
+import re
+import typing
+
+from tests.support import DEMO, IS_UNPROVED, TOP, Case, Ended, process_folder, program, run, shell_line
+
+SCRIPT = 'nvme_script' if IS_UNPROVED else program('nvme_script')
+TEXT = DEMO.read_text()
+MISSING = str(process_folder() / 'missing.toml')
+# What is special in a row that an unproved run can't be given, and why.
+ONLY_BUILT = {
+    'failing input': 'rt try gives a run its own streams',
+    'failing output': 'rt try gives a run its own streams',
+    'failing messages': 'rt try gives a run its own streams',
+    'not UTF-8': 'rt try takes no such argument',
+    'long output': 'rt try holds a mebibyte of output',
+}
+unproved = {}
+
+
+class Row(typing.NamedTuple):
+    """What the program is given, and what it must give. An output of None may be any."""
+
+    arguments: tuple = ()
+    status: int = 0
+    messages: bytes = b''
+    output: typing.Union[bytes, str, None] = None
+    script: bytes = b'list-ns /dev/nvme0\n'
+    special: str = ''
+    source: str = ''
+
+    def given(self):
+        return self.arguments, self.script, self.special
+
+
+def told(text, *arguments, **more):
+    """A row with status 3, in which the program says why."""
+    return Row(arguments, 3, b'nvme-script: %s\n' % text.encode(), **more)
+
+
+def file(name, text):
+    """The path of a file with this text."""
+    path = process_folder() / name
+    path.write_bytes(text if isinstance(text, bytes) else text.encode())
+    return str(path)
+
+
+def statuses():
+    list_of_demo = b'[   0]:0x1\n[   1]:0x3\n'
+    yield Row(output=list_of_demo)
+    yield Row(('--subsystem', str(DEMO)), output=list_of_demo)
+    yield Row((f'--subsystem={DEMO}',), output=list_of_demo)
+    yield Row((), 1, b'line 1: usage error\n', script=b'bogus\n')
+    yield Row((), 2, b'line 1: NVMe status: Invalid Namespace or Format (0x600b)\n', script=b'id-ns /dev/nvme0 -n 0\n')
+
+
+def refused_arguments():
+    for argument in '--bogus', 'extra', '--subsystem', '--help', '-h', '--version', '':
+        yield told('arguments', argument)
+    yield told('arguments', b'\xff', special='not UTF-8')
+    yield told('arguments', '--subsystem', b'examples/\xff', special='not UTF-8')
+    yield told('arguments', '--subsystem', str(DEMO), '--subsystem', str(DEMO))
+    yield told('arguments', '--subsystem', '-demo.toml')
+
+
+def refused_options():
+    """Options that are no numbers of 32 bits, and geometries out of their limits, by their first such field."""
+    for option in 'depth', 'page-size', 'offset', 'list-offset', 'window', 'pace':
+        for value in '', 'x', '-1', '08', '4294967296':
+            yield told('arguments', f'--{option}={value}')
+        yield told('arguments', f'--{option}')
+    yield told('geometry: depth', '--depth', '1', '--page-size', '1')
+    yield told('geometry: depth', '--depth', '4294967295')
+    yield told('geometry: page_size', '--page-size', '4095')
+    yield told('geometry: offset', '--offset', '6')
+    yield told('geometry: list_offset', '--list-offset', '4')
+    yield told('geometry: window', '--depth', '2', '--window', '2')
+    yield told('geometry: pace', '--pace', '0')
+    yield told('subsystem: unreadable', '--pace', '0', '--subsystem', MISSING)
+
+
+def geometry_shows_in_no_byte():
+    for options in ('', '--depth 2', '--depth=0x1000 --pace=010 --window=16', '--page-size 65536 --offset 65532',
+                    '--page-size 8192 --offset 8188 --list-offset 8184', '--offset 4092 --depth 2 --pace 4096'):
+        yield Row(tuple(options.split()), 0, b'line 2: NVMe status: Invalid Namespace or Format (0x600b)\n',
+                  'as the first', b'list-ns /dev/nvme0\nid-ns /dev/nvme0 -n 0\nid-ns /dev/nvme0n3\n')
+
+
+def largest_list():
+    """1,024 namespaces of each of sixteen controllers."""
+    text = 'version = 1\nnn = 1024\ntnvmcap = 524288\nsubnqn = "n"\n[[format]]\nlbads = 9\n'
+    for number in range(1, 17):
+        text += f'[[controller]]\ncntlid = {number}\nsn = "S"\nmn = "M"\nfr = "1"\n'
+    for number in range(1, 1025):
+        text += f'[[namespace]]\nnsid = {number}\nbytes = 512\nformat = 0\nshared = true\n'
+        text += f'controllers = {list(range(1, 17))}\n'
+    devices = [{'block_size': 512, 'bytes': 512, 'model': 'M', 'namespace': number,
+                'node': f'/dev/nvme{place}n{number}', 'serial': 'S'}
+               for place in range(16) for number in range(1, 1025)]
+    output = json.dumps({'devices': devices}, separators=(',', ':')).encode() + b'\n'
+    for options in '', '--depth 17 --window 16 --pace 16':
+        yield Row(('--subsystem', file('largest.toml', text), *options.split()), output=output,
+                  script=b'list -o json\n', special='long output')
+
+
+def mebibyte():
+    """A file of the greatest length."""
+    return (TEXT.encode() + b'# a comment\n' * 100000)[:1048576]
+
+
+def unreadable_files():
+    yield Row(('--subsystem', file('whole.toml', mebibyte())))
+    long = file('long.toml', mebibyte() + b'#')
+    for path in MISSING, '', '.', '/proc/self/mem', long:
+        yield told('subsystem: unreadable', '--subsystem', path)
+
+
+def faults_of_files():
+    """A file's first fault, of each kind."""
+    yield told('subsystem: not TOML', '--subsystem', file('equals.toml', '=\n'))
+    yield told('subsystem: not TOML', '--subsystem', file('bytes.toml', b'\xff\n'))
+    for text, old, new in (
+            ('missing top.nn', 'nn = 4\n', ''),
+            ('wrong kind top.nn', 'nn = 4\n', 'nn = "4"\n'),
+            ('out of range top.nn', 'nn = 4\n', 'nn = 1025\n'),
+            ('repeated controller.cntlid', 'cntlid = 1\n', 'cntlid = 0\n'),
+            ('unknown key in top', 'version = 1\n', 'x = 1\nversion = 1\n'),
+            ('capacity', 'tnvmcap = 10485760\n', 'tnvmcap = 1053183\n'),
+            ('attachment', 'bytes = 4608\nformat = 0\ncontrollers = [0]\n',
+             'bytes = 4608\nformat = 0\ncontrollers = [0, 1]\n')):
+        assert TEXT.count(old) == 1, old
+        yield told(f'subsystem: {text}', '--subsystem', file(f'{text}.toml', TEXT.replace(old, new)))
+
+
+def examples():
+    """What each script writes lies beside it; the last line of its file .err is the status."""
+    for script in sorted(TOP.glob('examples/*.nvme')):
+        *messages, last = script.with_suffix('.err').read_bytes().splitlines(True)
+        subsystem = script.with_suffix('.toml')
+        arguments = ('--subsystem', str(subsystem)) if subsystem.exists() else ()
+        yield Row(arguments, int(last.split()[1]), b''.join(messages), script.with_suffix('.out').read_bytes(),
+                  script.read_bytes(), source=script.name)
+
+
+def scripts_of(path):
+    """The scripts of a file of tests/scripts, with what they write, what they say and their status."""
+    script = None
+    for line in path.read_bytes().splitlines(True):
+        if line == b'\n' or line.startswith(b'#'):
+            continue
+        if script is None:
+            assert line.startswith(b'>'), f'{path}: a script begins with {line}'
+            script = {'>': b'', 'out': b'', 'err': b''}
+        if line.startswith(b'>'):
+            script['>'] += re.sub(rb'^> ?', b'', line)
+        elif re.match(rb'line [0-9]+: ', line):
+            script['err'] += line
+        elif re.fullmatch(rb'status [0-9]+\n', line):
+            yield script['>'], script['out'], script['err'], int(line.split()[1])
+            script = None
+        else:
+            script['out'] += line
+    assert script is None, f'{path}: the last script has no status'
+
+
+def scripts():
+    """By drivers of every kind of geometry, over the file beside the scripts or the demonstration file, and over that
+    in version 2."""
+    geometries = [('--page-size', str(page), '--depth', str(depth), '--offset', str(offset))
+                  for page in (4096, 8192, 16384, 32768, 65536) for depth in (2, 4096) for offset in (0, 4, page - 4)]
+    for path in sorted(TOP.glob('tests/scripts/*.txt')):
+        subsystem = path.with_suffix('.toml') if path.with_suffix('.toml').exists() else DEMO
+        version_2 = re.sub(r'(?m)^version = 1$', 'version = 2', subsystem.read_text())
+        found = list(scripts_of(path))
+        assert found, f'{path} has no script'
+        for script, output, messages, status in found:
+            for options in [()] + ([] if IS_UNPROVED else geometries):
+                yield Row(('--subsystem', str(subsystem), *options), status, messages, output, script, source=path.name)
+            if version_2 != subsystem.read_text():
+                yield Row(('--subsystem', file(subsystem.name, version_2)), status, messages, output, script,
+                          source=path.name)
+
+
+def failing_streams():
+    yield Row((), 4, b'nvme-script: read fault\n', special='failing input')
+    yield Row((), 5, b'nvme-script: write fault\n', special='failing output')
+    yield Row((), 5, b'', script=b'bogus\n', special='failing messages')
+
+
+def want_of_memory():
+    """The least room in which the program starts has none for a file of a mebibyte."""
+    whole = file('whole.toml', mebibyte())
+    yield Row(('--subsystem', whole), 6, b'nvme-script: out of memory\n', special='little memory')
+
+
+def given_to_rt_try(rows, *options):
+    """Gives rows to the sources, and keeps how each run ended."""
+    folder = process_folder() / f'cases{len(unproved)}'
+    folder.mkdir()
+    for number, row in enumerate(rows):
+        (folder / str(number)).write_bytes(row.script)
+        if row.arguments:
+            (folder / f'{number}.args').write_text(''.join(f'{word}\n' for word in row.arguments))
+    ended = run('rt', 'try', '--steps', '1', '--seconds', '300', *options, '--cases', folder,
+                cwd=TOP / 'crates/nvme_script', limit=1800)
+    if not re.search(rb'\ncases=.*proved=no\n\Z', ended.err):
+        raise AssertionError(ended)
+    # `== NAME` stands before a case's output, and `case=NAME run=ended status=N` after its messages
+    outputs = re.split(rb'(?m)^== ([0-9]+)\n', ended.out)
+    messages = re.split(rb'(?m)^case=([0-9]+) run=(.*)\n', ended.err)
+    output_of = dict(zip(outputs[1::2], outputs[2::2]))
+    for text, name, end in zip(messages[0::3], messages[1::3], messages[2::3]):
+        row = rows[int(name)]
+        if end.startswith(b'ended status='):
+            line = 'unproved: ' + shell_line([SCRIPT, *row.arguments], row.script)
+            text = re.sub(rb'(?m)^allocations: .*\n', b'', text)
+            unproved[row.given()] = Ended(line, int(re.split(rb'[= ]', end)[2]), output_of[name], text)
+
+
+def with_little_memory(row):
+    """A run with the least room, in KiB, in which the program starts."""
+    for room in range(1250, 100000, 250):
+        ended = run('sh', '-c', 'ulimit -v "$0" && exec "$@"', str(room), SCRIPT, *row.arguments, source=row.script)
+        if ended.status != 127:
+            break
+    return ended
+
+
+def outcome(row):
+    """How the run of a row ended."""
+    if IS_UNPROVED:
+        return unproved[row.given()]
+    if row.special == 'little memory':
+        return with_little_memory(row)
+    return run(SCRIPT, *row.arguments, source=TOP if row.special == 'failing input' else row.script,
+               out='/dev/full' if row.special == 'failing output' else None,
+               err='/dev/full' if row.special == 'failing messages' else None)
+
+
+TABLES = (statuses, refused_arguments, refused_options, geometry_shows_in_no_byte, largest_list, unreadable_files,
+          faults_of_files, examples, scripts, failing_streams, want_of_memory)
+
+
+def setUpModule():
+    if IS_UNPROVED:
+        rows = [row for table in TABLES for row in table()]
+        given_to_rt_try([row for row in rows if not row.special])
+        given_to_rt_try([row for row in rows if row.special == 'little memory'], '--fail-alloc', '1')
+
+
+class Program(Case):
+    def check(self, table):
+        rows = list(table())
+        first = outcome(rows[0]).out if rows[0].output == 'as the first' else None
+        for row in rows:
+            with self.subTest(row.source, arguments=row.arguments):
+                if IS_UNPROVED and row.special in ONLY_BUILT:
+                    self.skipTest(ONLY_BUILT[row.special])
+                self.ends(outcome(row), row.status, first or row.output, row.messages)
+
+
+for each in TABLES:
+    setattr(Program, f'test_{each.__name__}', lambda self, table=each: self.check(table))

@@ -1,0 +1,70 @@
+"""Refuses each allocation of a run in turn, and looks at what the run left: whole lines, and nothing of the line that
+was cut short. Of many lines, or requests, a run holds no more memory than of a few."""
+
+from tests.support import TOP, Case, compiled, program, run
+
+
+class Refusing(Case):
+    def refused(self, number, crate, *arguments, source):
+        """A run of which this allocation is refused; of number 0 none is."""
+        refuse = {'LD_PRELOAD': compiled('refuse.c', '-ldl'), 'REFUSE': number, 'CALLS': self.folder / 'calls'}
+        return run(program(crate), *arguments, source=source, env=refuse)
+
+    def whole(self, crate, *arguments, source):
+        """A run of which none is refused, the number of its allocations, and how many bytes it held at most."""
+        ended = self.refused(0, crate, *arguments, source=source)
+        self.ends(ended, 0, err=b'')
+        allocations, most = (self.folder / 'calls').read_text().split()
+        self.assertGreater(int(allocations), 0, ended)
+        return ended, int(allocations), int(most)
+
+
+class EachAllocation(Refusing):
+    script = b'list-ns /dev/nvme0\nid-ctrl /dev/nvme0 -o json\nlist\nsmart-log /dev/nvme1\n'
+    request = (TOP / 'crates/nvme_device/stdin').read_bytes()
+    other_file = '--subsystem', 'examples/two_controllers.toml'
+
+    def each(self, crate, *arguments, source, looks_itself=False):
+        whole, allocations, _ = self.whole(crate, *arguments, source=source)
+        messages = crate.replace('_', '-').encode() + b': out of memory\n'
+        statuses = set()
+        for number in range(1, allocations + 1):
+            with self.subTest(allocation=number):
+                ended = self.refused(number, crate, *arguments, source=source)
+                statuses.add(ended.status)
+                if looks_itself:
+                    self.assertIn(ended.status, (0, 6), ended)
+                elif ended.status == 0:
+                    # a growth that was refused may be had in a smaller size: then nothing shows
+                    self.ends(ended, 0, whole.out, b'')
+                else:
+                    self.ends(ended, 6, whole.out[:len(ended.out)], messages)
+        self.assertIn(6, statuses, 'no refused allocation shows')
+
+    def test_failing_tests(self):
+        self.each('nv_failing_tests', source=b'', looks_itself=True)
+
+    def test_script(self):
+        self.each('nvme_script', source=self.script)
+
+    def test_script_of_another_file(self):
+        self.each('nvme_script', *self.other_file, source=self.script)
+
+    def test_device(self):
+        self.each('nvme_device', source=self.request)
+
+    def test_device_of_another_file(self):
+        self.each('nvme_device', *self.other_file, source=self.request)
+
+
+class MemoryHeld(Refusing):
+    def holds_as_much(self, crate, line):
+        _, _, of_few = self.whole(crate, source=line * 10)
+        _, _, of_many = self.whole(crate, source=line * 10000)
+        self.assertEqual(of_few, of_many, f'{crate}: the bytes that are held over 10 and over 10,000 of {line}')
+
+    def test_script(self):
+        self.holds_as_much('nvme_script', b'list-ns /dev/nvme0\n')
+
+    def test_device(self):
+        self.holds_as_much('nvme_device', EachAllocation.request)

@@ -1,0 +1,319 @@
+"""Tries ./nvme-script in copies of the repository: which program it runs after edits, interrupted builds and the like,
+and what comes of an unproved run. The stand-in for `rt` answers as it is told; two real unproved runs must give the
+bytes of the built program."""
+
+import os
+import re
+import shutil
+import signal
+import time
+
+from tests.support import TOP, Case, Running, copy_sources, left_running, program, run, until
+
+SCRIPT = program('nvme_script')
+LINE = b'nvme-script: this run is unproved and takes about a minute; ./nvme-script --build makes the proved program'
+ANSWER = b'an unproved answer\n'
+BELOW = 'crates/nv_bits/src/lib.rt'
+
+
+def copy_repository(folder):
+    """Copies what ./nvme-script uses to a folder."""
+    (folder / 'out').mkdir(parents=True)
+    copy_sources(folder)
+    shutil.copy(TOP / 'nvme-script', folder)
+    shutil.copytree(TOP / 'tools', folder / 'tools')
+
+
+class Copy(Case):
+    """A copy with a built program, and the stand-in."""
+
+    def setUp(self):
+        super().setUp()
+        self.copy, self.kit, self.temporary = (self.folder / name for name in ('a copy', 'kit', 'tmp'))
+        copy_repository(self.copy)
+        self.made = self.copy / 'crates/nvme_script/out/nvme_script'
+        for folder in self.made.parent, self.kit / 'bin', self.kit / 'empty', self.temporary:
+            folder.mkdir(parents=True)
+        shutil.copy(SCRIPT, self.made)
+        shutil.copy(TOP / 'tests/stand_in_rt', self.kit / 'bin/rt')
+        (self.kit / 'KIT-ID').write_text('a kit\n')
+        (self.kit / 'out').write_bytes(ANSWER)
+        self.env = {'PATH': f'{self.kit}/bin:{os.environ["PATH"]}', 'TMPDIR': self.temporary}
+        self.command = self.copy / 'nvme-script'
+        self.answer_ended(0)
+        self.files = self.files_of_copy()
+
+    def files_of_copy(self):
+        return {path: path.stat().st_mtime_ns for path in self.copy.rglob('*') if path.is_file()}
+
+    def leaves_nothing(self):
+        self.assertEqual(list(self.temporary.iterdir()), [])
+        self.assertEqual(self.files_of_copy(), self.files)
+
+    def answer(self, status, messages):
+        """What the next `rt try` is to say."""
+        (self.kit / 'status').write_text(f'{status}\n')
+        (self.kit / 'err').write_bytes(messages)
+
+    def answer_ended(self, status, messages=b''):
+        """The same of a run that ended."""
+        lines = b'interpreter: no-answer: a reason\nchecked: ended status=N\nrun=ended status=N runners=1 proved=no\n'
+        self.answer(status, messages + lines.replace(b'=N', b'=%d' % status))
+
+    def given(self, name):
+        """What the stand-in was given of this name."""
+        path = self.kit / f'given.{name}'
+        return path.read_bytes() if path.exists() else None
+
+    def script(self, *arguments, source=b'list-ns /dev/nvme0\n', cwd=TOP, command=None, **more):
+        return run(command or self.command, *arguments, source=source, cwd=cwd, env={**self.env, 'PWD': cwd}, **more)
+
+    def is_proved(self):
+        self.ends(self.script(), 0, b'[   0]:0x1\n[   1]:0x3\n', b'')
+
+    def is_unproved(self):
+        self.ends(self.script(), 0, ANSWER, LINE + b'\n')
+
+    def says(self, ended, status, text):
+        """A run ended with a last message that has this text."""
+        self.ends(ended, status)
+        self.assertRegex(ended.err.splitlines()[-1], b'^nvme-script: .*' + re.escape(text), ended)
+
+    def says_alone(self, ended, status, text):
+        """It did so with one message behind the line, and no output."""
+        self.says(ended, status, text)
+        self.assertEqual((ended.out, ended.err.splitlines()[:-1]), (b'', [LINE]), ended)
+
+
+class WhichProgram(Copy):
+    def setUp(self):
+        super().setUp()
+        self.is_unproved()
+        stamp, now = self.copy / 'tools/stamp', self.file('now', b'')
+        sources = run(stamp, 'sources', env=self.env).out.strip()
+        self.ends(run(stamp, 'write', sources, now, env=self.env), 0)
+        self.is_proved()
+
+    def test_changes(self):
+        for name, more in ((BELOW, b'// edited\n'), ('crates/nv_layout/specs/New.antt', b'x\n'), ('HANDLES', b'\n'),
+                           ('crates.txt', b'# a row\n'), ('../kit/KIT-ID', b'another kit\n'),
+                           ('crates/nvme_script/out/nvme_script', b'x')):
+            path = self.copy / name
+            before = path.read_bytes() if path.exists() else None
+            for date in time.time(), 1e9:
+                with self.subTest(f'more in {name}', date=date):
+                    path.write_bytes((before or b'') + more)
+                    os.utime(path, (date, date))
+                    self.is_unproved()
+            if before is None:
+                path.unlink()
+            else:
+                path.write_bytes(before)
+            self.is_proved()
+
+    def test_no_program(self):
+        self.made.unlink()
+        self.is_unproved()
+
+    def test_edit_in_a_crate_above(self):
+        with open(self.copy / 'crates/nv_script_tests/src/lib.rt', 'a') as tests:
+            tests.write('// a test\n')
+        self.is_proved()
+
+    def test_no_rt(self):
+        self.env['PATH'] = '/usr/bin:/bin'
+        self.is_proved()
+
+
+class Builds(Copy):
+    def begun(self):
+        """A build that waits in its first steps."""
+        build = Running(self.command, '--build', env=self.env)
+        self.assertTrue(until((self.kit / 'begun').exists), build.line)
+        return build
+
+    def test_interrupted(self):
+        for number in signal.SIGTERM, signal.SIGKILL:
+            with self.subTest(number.name):
+                build = self.begun()
+                self.ends(self.script(), 0, ANSWER, LINE + b', and a build is under way\n')
+                self.says(self.script('--build'), 72, b'a build is under way already')
+                build.process.send_signal(number)
+                self.assertEqual(build.process.wait(60), -number, build.line)
+                self.assertTrue(until(lambda: self.script().err == LINE + b'\n'), 'a build is said to be under way')
+                if number == signal.SIGKILL:
+                    (self.kit / 'go').touch()
+                self.assertTrue(until(lambda: not left_running()), 'a step of the build goes on')
+                (self.kit / 'begun').unlink()
+
+    def test_failed(self):
+        (self.kit / 'go').touch()
+        (self.kit / 'fails').touch()
+        ended = self.script('--build')
+        self.ends(ended, 72)
+        self.assertRegex(ended.err, rb'(?m)^nvme-script: nv_.* could not be built; rt said:$', ended)
+        self.assertEqual(ended.err.splitlines()[-1], b'a proof failed', ended)
+        self.is_unproved()
+
+    def test_sources_that_change_and_change_back(self):
+        build = self.begun()
+        below = (self.copy / BELOW).read_bytes()
+        (self.copy / BELOW).write_bytes(below + b'// edited\n')
+        (self.copy / BELOW).write_bytes(below)
+        (self.kit / 'go').touch()
+        self.assertEqual(build.process.wait(120), 72, build.line)
+        build.comes(b'the sources changed during the build: build once more\n')
+        self.is_unproved()
+
+    def test_built(self):
+        (self.kit / 'go').touch()
+        total = len(run('tools/crates').out.splitlines())
+        self.assertGreater(total, 10)
+        ended = self.script('--build')
+        self.says(ended, 0, b'the proved program stands: %d crates' % total)
+        self.assertIn(b'nvme-script: building nv_bits, 1 of %d\n' % total, ended.err)
+        self.is_proved()
+        self.says(self.script('--build'), 0, b'nothing to do')
+        # beside another argument --build goes to the program
+        self.ends(self.script('--build', 'more'), 3, b'', b'nvme-script: arguments\n')
+
+
+class Unproved(Copy):
+    def test_what_the_program_gives(self):
+        messages = b'line 1: bogus\nrun=ended, says a line\n'
+        for status in range(7):
+            with self.subTest(status):
+                self.answer_ended(status, messages)
+                self.ends(self.script(), status, ANSWER, LINE + b'\n' + messages)
+                self.assertEqual(self.given('input'), b'list-ns /dev/nvme0\n')
+        self.leaves_nothing()
+
+    def test_what_is_no_run(self):
+        for status, said, end, text in (
+                (4, b'here\nthe end of the output:\n| x\nchecked: fault kind=overflow in=f: a sum\nrun=fault', 70,
+                 b'a check stopped this run: kind=overflow'),
+                (6, b'checked: no-answer: the program wrote more than 1048576 bytes to standard output\nrun=no-answer',
+                 71, b'at most 1 MiB'),
+                (6, b'checked: no-answer: the program did not end within the time limit\nrun=no-answer', 71,
+                 b'has 600 seconds')):
+            with self.subTest(text):
+                self.answer(status, said + b' proved=no\n')
+                self.says_alone(self.script(), end, text)
+
+    def test_sources_that_rt_refuses(self):
+        self.answer(1, b'error: a type is wrong\nrun=none proved=no\n')
+        ended = self.script()
+        self.says(ended, 72, b'rt gave no run of these sources')
+        self.assertIn(b'\nerror: a type is wrong\n', ended.err)
+
+    def test_no_rt(self):
+        tools = self.env['PATH'] = self.folder / 'tools'
+        tools.mkdir()
+        for tool in 'sh readlink dirname awk sort cut find sha256sum cmp sed cat head grep'.split():
+            (tools / tool).symlink_to(shutil.which(tool))
+        self.says(self.script(), 72, b'rt is not on the path')
+
+    def test_arguments(self):
+        # as they are, but for such as are not UTF-8, which become one that is refused too
+        words = '', 'a  b', 'x\ny', 'x\u00e9', '--depth', '*', '--'
+        option = '--subsystem', '-x'
+        for arguments, given in ((words, words), (option, option), (('--depth', b'\xed\xa0\x80'), ('refused',)),
+                                 (('--depth', b'\xf4\x90\x80\x80'), ('refused',))):
+            with self.subTest(arguments):
+                self.ends(self.script(*arguments), 0, ANSWER, LINE + b'\n')
+                found = [self.given(number) for number in range(1, len(given) + 2)]
+                self.assertEqual(found, [word.encode() for word in given] + [None])
+        self.leaves_nothing()
+
+
+class SubsystemFiles(Copy):
+    def setUp(self):
+        super().setUp()
+        self.caller = self.folder / "caller's folder"
+        (self.caller / 'deep/down').mkdir(parents=True)
+        (self.caller / 'short').symlink_to('deep/down')
+        self.command = self.caller / 'link'
+        self.command.symlink_to(self.copy / 'nvme-script')
+        for name in '-x y.toml', '\u00e9.toml', 'deep/-', 'deep/up.toml', 'deep/two\nlines':
+            (self.caller / name).write_text(f'file {name}')
+            for folder in self.kit / 'empty', self.copy / 'crates/nvme_script':
+                (folder / name.split('/')[-1]).write_text('decoy')
+        self.files = self.files_of_copy()
+
+    def test_found(self):
+        whole = self.caller / '-x y.toml'
+        for folder, name, *arguments in (
+                ('.', '-x y.toml', '--subsystem=-x y.toml'), ('.', '-x y.toml', '--subsystem', './-x y.toml'),
+                ('/', '-x y.toml', '--subsystem', whole), ('.', '\u00e9.toml', '--subsystem', '\u00e9.toml'),
+                ('deep', 'deep/-', '--subsystem', '-'), ('short', 'deep/up.toml', '--subsystem', '../up.toml'),
+                ('.', 'deep/two\nlines', '--subsystem=deep/two\nlines')):
+            with self.subTest(arguments):
+                self.ends(self.script(*arguments, cwd=self.caller / folder), 0, ANSWER)
+                self.assertEqual(self.given('file'), f'file {name}'.encode())
+        self.leaves_nothing()
+
+    def test_none_of_another_folder(self):
+        self.ends(self.script('--subsystem', 'up.toml', cwd=self.caller), 0, ANSWER)
+        self.assertEqual((self.given('1'), self.given('file')), (b'--subsystem', None))
+
+    def test_pipe(self):
+        # what is read of a pipe as the file isn't read again as the script
+        line = 'printf "file in a pipe" | "$0" --subsystem /dev/stdin'
+        self.ends(self.script('-c', line, self.command, command='sh'), 0, ANSWER)
+        self.assertEqual((self.given('file'), self.given('input')), (b'file in a pipe', b''))
+
+
+class Streams(Copy):
+    def test_input_that_cannot_be_read(self):
+        for ended in self.script(source=self.folder), self.script('-c', '"$0" <&-', self.command, command='sh'):
+            self.says_alone(ended, 71, b'standard input could not be read')
+        self.leaves_nothing()
+
+    def test_output_that_cannot_be_written(self):
+        self.says(self.script(out='/dev/full'), 71, b'could not be written')
+
+    def test_nothing_is_run_where_the_line_cannot_be_written(self):
+        self.ends(self.script(err='/dev/full'), 71, b'')
+        self.assertIsNone(self.given('input'))
+        self.leaves_nothing()
+
+    def test_terminal(self):
+        talk = Running(self.command, terminal=True, env=self.env)
+        talk.comes(b'nvme-script: an unproved run reads its whole script first, so it takes a file or a pipe and no '
+                   b'terminal\n')
+        self.ends(talk.end(), 71)
+
+    def test_signal(self):
+        # it ends a run with what that started
+        (self.kit / 'slow').touch()
+        running = Running(self.command, env=self.env)
+        os.close(running.speaks)
+        self.assertTrue(until((self.kit / 'begun').exists), running.line)
+        running.process.terminate()
+        self.assertEqual(running.process.wait(60), -signal.SIGTERM, running.line)
+        self.assertEqual(left_running(), [])
+        self.leaves_nothing()
+
+
+class Real(Case):
+    """Real unproved runs, of a copy with no built program, through a link and in a folder of their own."""
+
+    script = (b'list-ns /dev/nvme0\nbogus\nid-ns /dev/nvme1 -n 0\n  # nothing\nid-ctrl /dev/nvme1 -o json\n'
+              b'id-ns /dev/nvme0 -n 0')
+
+    def compare(self, folder, *arguments):
+        copy_repository(self.folder / '-real copy')
+        own = self.folder / '-real folder'
+        (own / 'inner').mkdir(parents=True)
+        (own / 'short').symlink_to('inner')
+        (own / 'link').symlink_to(self.folder / '-real copy/nvme-script')
+        shutil.copy(TOP / 'examples/two_controllers.toml', own / '-two controllers.toml')
+        wanted = run(SCRIPT, *arguments, source=self.script, cwd=own / folder)
+        ended = run(own / 'link', *arguments, source=self.script, cwd=own / folder, limit=1800)
+        self.ends(ended, wanted.status, wanted.out, LINE + b'\n' + wanted.err)
+
+    def test_file_of_the_folder(self):
+        self.compare('.', '--subsystem=-two controllers.toml', '--depth', '2')
+
+    def test_file_that_is_missing(self):
+        self.compare('short', '--subsystem', 'missing one.toml')

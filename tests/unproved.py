@@ -1,0 +1,45 @@
+"""What the gate does to the sources themselves, without proofs: the tests of each crate, by `rt try`, and the layout of
+the files. `python3 -m tests.run --quick` runs them."""
+
+import re
+
+from tests.support import TOP, Case, copy_sources, run
+
+
+def tests_written(crate):
+    """How many tests the sources of a crate have."""
+    return sum(len(re.findall(r'(?m)^\s*#\[test\]', path.read_text())) for path in crate.glob('src/**/*.rt'))
+
+
+CRATES = [crate for crate in sorted((TOP / 'crates').iterdir()) if tests_written(crate)]
+
+
+def names():
+    """The tests of each crate, to be run side by side."""
+    return [f'unproved.Tests.test_{crate.name}' for crate in CRATES]
+
+
+class Tests(Case):
+    def check(self, crate):
+        ended = run('rt', 'try', '--test', '--steps', '1', '--seconds', '900', cwd=crate, limit=1800)
+        text = ended.out.decode()
+        said = ended.line + '\n' + re.sub(r'(?m)^test \S+ \.\.\. ok\n', '', text) + ended.err.decode(errors='replace')
+        told = re.findall(r'(?m)^test (\S+) \.\.\. (.*)$', text)
+        for name, end in told:
+            with self.subTest(name):
+                self.assertEqual(end, 'ok', said)
+        # one that isn't told has failed
+        found = re.search(r'(?m)^tests: ([0-9]+)$', text)
+        self.assertEqual(len(told), max(tests_written(crate), int(found.group(1)) if found else 0), said)
+
+
+for tested in CRATES:
+    setattr(Tests, f'test_{tested.name}', lambda self, crate=tested: self.check(crate))
+
+
+class Layout(Case):
+    def test_each_crate(self):
+        copy_sources(self.folder)
+        for crate in sorted((self.folder / 'crates').iterdir()):
+            with self.subTest(crate.name):
+                self.ends(run('rt', 'fmt', cwd=crate), 0, b'', b'')
