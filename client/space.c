@@ -281,7 +281,7 @@ static int cover_controller(const char *path, const char *name, void *with) {
     int result = 0;
     if (end && end - whole > 5 && begins(end - 5, "/nvme/")) {
         *end = '\0';
-        result = bind_to(MAKING "/none", whole);
+        result = bind_to(MAKING "/.none", whole);
     }
     free(whole);
     return result;
@@ -295,10 +295,11 @@ static int see_domain(const char *path, const char *name, void *with) {
     return 0;
 }
 
-/* The folders of /sys that are put together anew, those within others first. /sys/bus is only where it has no PCI. */
+/* The folders of /sys that are put together anew, those within others first. /sys/bus, which is the last, only where it
+   has no PCI. */
 static const char *const remade[] = {"class/block", "class", "block", "devices/virtual", "devices", "dev/block",
                                      "dev/char",    "dev",   "bus"};
-static const char *const made[] = {"none",
+static const char *const made[] = {".none",
                                    "class",
                                    "class/block",
                                    "class/nvme",
@@ -330,13 +331,38 @@ static int fill_folders(int has_pci) {
     return 0;
 }
 
-static int make_sys(void) {
+/* Whether the machine's /sys has all folders that are put together anew. */
+static int is_whole(void) {
+    char path[64];
+    for (unsigned at = 0; at < sizeof remade / sizeof *remade; at++) {
+        snprintf(path, sizeof path, "/sys/%s", remade[at]);
+        if (access(path, F_OK) < 0)
+            return 0;
+    }
+    return 1;
+}
+
+/* Binds what was put together to its place. Where /sys isn't whole, all of it is put together anew. */
+static int place_folders(int has_pci) {
     char from[64], to[64];
-    int has_pci = access(RESCAN_FILE, F_OK) == 0, file;
+    if (!is_whole())
+        return each("/sys", fill_sys, MAKING) == 0 && mount(MAKING, "/sys", NULL, MS_MOVE, NULL) == 0 ? 0
+                                                                                                      : cannot("/sys");
+    for (unsigned at = 0; at < sizeof remade / sizeof *remade - (unsigned)has_pci; at++) {
+        snprintf(from, sizeof from, MAKING "/%s", remade[at]);
+        snprintf(to, sizeof to, "/sys/%s", remade[at]);
+        if (!strchr(remade[at], '/') && bind_to(from, to) < 0)
+            return -1;
+    }
+    return umount2(MAKING, MNT_DETACH) == 0 ? 0 : cannot(MAKING);
+}
+
+static int make_sys(void) {
+    int has_pci = is_whole() && access(RESCAN_FILE, F_OK) == 0, file;
     if (mount("nvme-model", MAKING, "tmpfs", MS_NOSUID | MS_NODEV, "mode=755") < 0)
         return cannot("a file system in memory");
     each("/sys/devices", see_domain, NULL);
-    if (make_folder(MAKING "/none") < 0 || each("/sys/class/nvme", cover_controller, NULL) < 0 ||
+    if (make_folder(MAKING "/.none") < 0 || each("/sys/class/nvme", cover_controller, NULL) < 0 ||
         fill_folders(has_pci) < 0)
         return -1;
     file = open(MAKING "/bus/pci/rescan", O_WRONLY | O_CREAT | O_CLOEXEC, 0200);
@@ -344,13 +370,7 @@ static int make_sys(void) {
         return cannot("rescan");
     if (has_pci && bind_to(MAKING "/bus/pci/rescan", RESCAN_FILE) < 0)
         return -1;
-    for (unsigned at = 0; at < sizeof remade / sizeof *remade - (unsigned)has_pci; at++) {
-        snprintf(from, sizeof from, MAKING "/%s", remade[at]);
-        snprintf(to, sizeof to, "/sys/%s", remade[at]);
-        if (!strchr(remade[at], '/') && access(to, F_OK) == 0 && bind_to(from, to) < 0)
-            return -1;
-    }
-    return umount2(MAKING, MNT_DETACH) == 0 ? 0 : cannot(MAKING);
+    return place_folders(has_pci);
 }
 
 /* Whether nodes of a file system are to stay as they are: the devices in /dev itself, and what has none. (A look at

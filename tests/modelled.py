@@ -2,6 +2,7 @@
 and what it must leave behind, which is nothing."""
 
 import functools
+import glob
 import os
 import pathlib
 import re
@@ -35,6 +36,12 @@ def missing_tools(text):
     """Which of the tools a script calls that aren't there."""
     called = [tool for tool in TOOLS if re.search(rf'(?<![\w/.-]){re.escape(tool)}(?![\w/.=-])', text)]
     return [tool for tool in called if not is_there(tool)]
+
+
+# The tests of a machine with NVMe devices cover these first, so that a fault of the launcher's can harm none.
+REAL = glob.glob('/dev/nvme*') + glob.glob('/dev/ng[0-9]*')
+COVERED = ('unshare', '-m', 'sh', '-c', 'mount --make-rprivate / && for node in /dev/nvme* /dev/ng[0-9]*; do '
+           'test ! -e "$node" || mount --bind /dev/full "$node" || exit; done; exec "$@"', 'sh')
 
 
 @functools.lru_cache(maxsize=None)
@@ -108,7 +115,8 @@ class ModelCase(Case):
 
     def command(self, *arguments, options=()):
         self.needs(*map(os.fspath, arguments))
-        return [installed(), '--subsystem', self.subsystem, *options, *arguments]
+        covered = COVERED if REAL and os.geteuid() == 0 else ()
+        return [*covered, installed(), '--subsystem', self.subsystem, *options, *arguments]
 
     def model(self, *arguments, options=(), **more):
         """A command over the demonstration file."""

@@ -2,12 +2,14 @@
 stays with the processes, and the tools as they are installed."""
 
 import json
+import os
 import re
 import subprocess
 import sys
+import unittest
 
 from tests.modelled import WARNINGS, ModelCase, installed, static_program
-from tests.support import TOP
+from tests.support import TOP, run
 
 # Run inside: calls that write to a node, with what must come of them.
 CALLS = """
@@ -125,6 +127,13 @@ class Nodes(ModelCase):
 
     def test_sys_agrees_with_nodes(self):
         self.ends(self.python(NUMBERS), 0, b'ng0n1 ng0n3 nvme0 nvme0n1 nvme0n3 nvme1\n', b'')
+
+    @unittest.skipUnless(os.geteuid() == 0, 'root alone can take /sys away')
+    def test_a_machine_without_sys(self):
+        look = self.command('sh', '-c', 'cat /sys/class/nvme/nvme1/cntlid; ls /sys/block')
+        for left in 'true', 'mount -t tmpfs sys /sys && mkdir -p /sys/class/other':
+            script = f'mount --make-rprivate /; umount -l -R /sys; {left}; "$@"; find /sys -name "*nvme*"'
+            self.ends(run('unshare', '-m', 'sh', '-c', script, 'sh', *look), 0, b'1\nnvme0n1\nnvme0n3\n', b'')
 
 
 class Data(ModelCase):
