@@ -65,7 +65,6 @@ def installed():
     compiled_c(place / 'bin/nvme-model', PARTS['bin/nvme-model'])
     compiled_c(place / 'lib/nvme-model/library.so', PARTS['lib/nvme-model/library.so'], '-shared', '-fPIC', '-ldl')
     shutil.copy(program('nvme_device'), place / 'lib/nvme-model')
-    process_folder().chmod(0o755)
     return place / 'bin/nvme-model'
 
 

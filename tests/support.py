@@ -53,6 +53,7 @@ def program(name):
 def process_folder():
     """The temporary folder of this process, which is removed at its end."""
     folder = pathlib.Path(tempfile.mkdtemp(prefix='nvme-tests.')).resolve()
+    folder.chmod(0o755)  # (some programs are run by other users)
     atexit.register(shutil.rmtree, folder, ignore_errors=True)
     return folder
 
