@@ -65,8 +65,7 @@ struct volume {
     int watch;           /* of its data, for `watcher` */
 };
 
-/* sysfs.c: the files of /sys that tell of a subsystem, a controller (and its place in its subsystem) and a namespace.
- */
+/* sysfs.c: the files of /sys that tell of a subsystem, of a controller with its place in it, and of a namespace. */
 void put_subsystem(unsigned number, const unsigned char *identity);
 void put_controller(unsigned number, unsigned place, const unsigned char *identity);
 void put_namespace(unsigned controller, uint32_t nsid, const struct volume *volume);
@@ -74,7 +73,7 @@ void remove_namespace(unsigned controller, uint32_t nsid);
 #define RESCAN_FILE "/sys/bus/pci/rescan"
 
 /* space.c: finds the NVMe nodes of the machine, gives the launcher a /dev and a /sys of its own (0, or -1 with a reason
-   that can be told), and keeps the rights to undo it from the command. */
+   that can be told), and takes from the command the rights to undo it. */
 enum { REASON_ROOM = 400 };
 void find_real_nodes(void);
 const char *a_real_node(void); /* or NULL where the machine has none */
