@@ -1,10 +1,9 @@
 -- Status codes: one row for each, as in the section "Status Code".
-use Rattle.std.specs.Prelude.{ℕ, ◌==◌, ◌&&◌, true, List, Option, codes, find}
+use Rattle.std.specs.Prelude.{ℕ, ◌==◌, ◌&&◌, true, List, [], ◌∷◌, Option, codes, find}
 use Rattle.std.specs.Option.{option_map_or}
 use Rattle.nv_layout.specs.declared.ctrl_list.LayoutError.{LayoutError}
 use Rattle.nv_layout.specs.declared.ctrl_list.LayoutError.TheVariants.{CountTooLarge}
 use Rattle.nv_layout.specs.declared.status.Status.{Status}
-use Rattle.nv_command.specs.declared.status_code.TheConstants.StatusCode.{ALL}
 use Rattle.nv_command.specs.declared.status_code.StatusCode.{StatusCode}
 use Rattle.nv_command.specs.declared.status_code.StatusCode.TheVariants as code
 
@@ -36,6 +35,28 @@ row_of code.NamespaceNotAttached = row 1 0x1a (codes "Namespace Not Attached")
 row_of code.ThinProvisioningNotSupported = row 1 0x1b (codes "Thin Provisioning Not Supported")
 row_of code.ControllerListInvalid = row 1 0x1c (codes "Controller List Invalid")
 
+-- every status code
+abbrev pub status_codes : List StatusCode
+status_codes =
+    code.InvalidCommandOpcode
+    ∷ code.InvalidFieldInCommand
+    ∷ code.DataTransferError
+    ∷ code.InvalidNamespaceOrFormat
+    ∷ code.PrpOffsetInvalid
+    ∷ code.InvalidLogPage
+    ∷ code.InvalidFormat
+    ∷ code.FeatureIdentifierNotSaveable
+    ∷ code.FeatureNotChangeable
+    ∷ code.FeatureNotNamespaceSpecific
+    ∷ code.NamespaceInsufficientCapacity
+    ∷ code.NamespaceIdentifierUnavailable
+    ∷ code.NamespaceAlreadyAttached
+    ∷ code.NamespaceIsPrivate
+    ∷ code.NamespaceNotAttached
+    ∷ code.ThinProvisioningNotSupported
+    ∷ code.ControllerListInvalid
+    ∷ []
+
 -- the status of a refusal: More and Do Not Retry are set
 abbrev pub status_of_code : StatusCode → Status
 status_of_code code = record {
@@ -59,4 +80,4 @@ first_code codes s = find (λ code. (row_of code).sct == s.sct && (row_of code).
 
 -- the name of a status, also of one that has none of these codes
 abbrev pub name_of_status : Status → List ℕ
-name_of_status s = option_map_or name_of_code (first_code ALL s) (codes "Unknown")
+name_of_status s = option_map_or name_of_code (first_code status_codes s) (codes "Unknown")

@@ -5,6 +5,9 @@
 //! Sections are named as in the NVM Express Base Specification, revision 1.4.
 #![tactic(auto)]
 
+ghost use Rattle.std.specs.Prelude.{◌≡◌};
+ghost use Rattle.nv_command.specs.declared.command.TheConstants.{BROADCAST_NSID};
+ghost use Rattle.nv_command.specs.declared.logs.TheConstants.{ERROR_INFORMATION, HEALTH};
 ghost use Rattle.nv_command.specs.Travel.{CommandsTravel, RepliesFit, RepliesTravel};
 
 mod command;
@@ -31,6 +34,13 @@ pub use reply::Reply;
 pub use reply_room::ReplyRoom;
 pub use status_code::StatusCode;
 pub use transfer::Transfer;
+
+/// The constants of this crate are the standard's numbers. A law: the call does nothing.
+pub fn constants()
+    ensures broadcast_nsid { BROADCAST_NSID ≡ 0xffffffff }
+    ensures error_information { ERROR_INFORMATION ≡ 0x01 }
+    ensures health { HEALTH ≡ 0x02 }
+{}
 
 /// The law of this crate, which does nothing when it is called: a command whose fields fit is what
 /// its entry and its data to the controller say, and a reply that fits its record is what its

@@ -9,9 +9,8 @@ use Rattle.std.proofs.lemmas.Bool.Decides.{nat_tests}
 use Rattle.std.proofs.lemmas.List.Folds.{list_any_at}
 use Rattle.std.proofs.lemmas.Nat.{and_assoc, and_comm, and_le_r}
 use Rattle.std.specs.Int.Bits.{and_self}
-use Rattle.nv_layout.specs.Feature.{feature_of, is_accepted, is_selector, is_value, row_of}
+use Rattle.nv_layout.specs.Feature.{feature_of, features, is_accepted, is_selector, is_value, row_of}
 use Rattle.nv_layout.specs.Feature.{stored}
-use Rattle.nv_layout.specs.declared.feature.TheConstants.Feature.{ALL}
 use Rattle.nv_layout.specs.declared.feature.Feature.{Feature}
 use Rattle.nv_layout.specs.declared.feature.Feature.TheVariants as feature
 
@@ -27,7 +26,7 @@ feature_at feature.AsynchronousEventConfiguration = refl
 
 -- a feature that is found has the identifier
 pub feature_with : (fid : ℕ) (f : Feature) → feature_of fid ≡ Some f → fid ≡ (row_of f).fid
-feature_with fid f e = found ALL e
+feature_with fid f e = found features e
   where
     one : (g : Feature) (b : Bool) (rest : Option Feature) → ((row_of g).fid == fid) ≡ b
         → (rest ≡ Some f → fid ≡ (row_of f).fid) → (if b then Some g else rest) ≡ Some f
@@ -79,11 +78,6 @@ other_identifier feature.InterruptCoalescing e = refl
 other_identifier feature.WriteAtomicityNormal e = refl
 other_identifier feature.AsynchronousEventConfiguration e = refl
 
--- it has one value for each of them
-pub one_selector_of_namespaces : (f : Feature) → (row_of f).per_namespace ≡ true
-    → (row_of f).selectors ≡ 0 ∷ []
-one_selector_of_namespaces f e = ap (λ g. (row_of g).selectors) (of_namespaces f e)
-
 -- ---- selectors
 
 is_same : (a b : ℕ) → (a == b) ≡ true → a ≡ b
@@ -116,12 +110,6 @@ one_below (x ∷ xs) s all any =
 
 pub selector_below : (f : Feature) (s : ℕ) → is_selector f s ≡ true → s < 32
 selector_below f s e = one_below (row_of f).selectors s (all_below f) e
-
--- each selector of the table is one of the feature's
-pub selectors_known : (f : Feature) → All (λ s. is_selector f s ≡ true) (row_of f).selectors
-selectors_known f k d h =
-    list_any_at (λ x. x == get_or (row_of f).selectors k d) (row_of f).selectors k d h
-    (same_is (get_or (row_of f).selectors k d) (get_or (row_of f).selectors k d) refl)
 
 -- ---- values
 

@@ -5,7 +5,6 @@ use Rattle.std.specs.Prelude.{ℕ, Bool, true, false, ◌==◌, ◌&&◌, ◌||�
 use Rattle.std.specs.Prelude.{List, [], ◌∷◌, length, Option, codes, find}
 use Rattle.std.specs.List.{filter, list_any}
 use Rattle.nv_layout.specs.Parts.{bits}
-use Rattle.nv_layout.specs.declared.feature.TheConstants.Feature.{ALL}
 use Rattle.nv_layout.specs.declared.feature.Feature.{Feature}
 use Rattle.nv_layout.specs.declared.feature.Feature.TheVariants as feature
 
@@ -57,9 +56,28 @@ row_of feature.WriteAtomicityNormal = row 0x0a (codes "Write Atomicity Normal") 
 row_of feature.AsynchronousEventConfiguration =
     row 0x0b (codes "Asynchronous Event Configuration") 0x7fff 0 false
 
+-- every feature, by identifiers ascending
+abbrev pub features : List Feature
+features =
+    feature.Arbitration
+    ∷ feature.PowerManagement
+    ∷ feature.TemperatureThreshold
+    ∷ feature.ErrorRecovery
+    ∷ feature.VolatileWriteCache
+    ∷ feature.InterruptCoalescing
+    ∷ feature.WriteAtomicityNormal
+    ∷ feature.AsynchronousEventConfiguration
+    ∷ []
+
 -- the feature with an identifier
 abbrev pub feature_of : ℕ → Option Feature
-feature_of fid = find (λ f. (row_of f).fid == fid) ALL
+feature_of fid = find (λ f. (row_of f).fid == fid) features
+
+-- each has a lower identifier than the next
+abbrev pub is_ascending : List Feature → Bool
+is_ascending [] = true
+is_ascending (f ∷ []) = true
+is_ascending (f ∷ g ∷ fs) = nat_lt (row_of f).fid (row_of g).fid && is_ascending (g ∷ fs)
 
 -- ---- selectors
 

@@ -1,8 +1,10 @@
 //! The features that a controller may have.
 
-ghost use Rattle.std.specs.Prelude.{◌≡◌, ◌==◌, Option, [], ◌∷◌, length, nat_lt};
+ghost use Rattle.std.specs.Prelude.{◌≡◌, ◌==◌, true, Option, Some, [], ◌∷◌, length, nat_lt};
 ghost use Rattle.std.specs.List.{list_any};
-ghost use Rattle.nv_layout.specs.Feature.{feature_of, is_accepted, is_for, is_selector, is_value};
+ghost use Rattle.nv_layout.specs.declared.feature.TheConstants.Feature.{ALL};
+ghost use Rattle.nv_layout.specs.Feature.{feature_of, features, is_accepted, is_ascending, is_for};
+ghost use Rattle.nv_layout.specs.Feature.{is_selector, is_value};
 ghost use Rattle.nv_layout.specs.Feature.{row_of, selector_in, selectors_set, stored};
 
 use crate::parts::bits_of;
@@ -90,6 +92,12 @@ impl Feature {
         Feature::AsynchronousEventConfiguration,
     ];
 
+    /// A law: `ALL` has every feature, by identifiers ascending. The call does nothing.
+    pub fn all_ascend()
+        ensures all { ALL ≡ features }
+        ensures ascending { is_ascending ALL ≡ true }
+    {}
+
     /// The table. There is one power state, 0, in bits 4:0 of Power Management.
     fn row(self) -> FeatureRow
         ensures fid { result.fid ≡ (row_of self).fid }
@@ -145,9 +153,11 @@ impl Feature {
         }
     }
 
-    /// Its feature identifier.
+    /// Its feature identifier, which no other feature has.
+    #[tactic(auto, using(crate::proofs::FeatureTableLaws::feature_at))]
     pub fn fid(self) -> u8
-        ensures { result ≡ (row_of self).fid }
+        ensures fid { result ≡ (row_of self).fid }
+        ensures found { feature_of (row_of self).fid ≡ Some self }
     {
         self.row().fid
     }
@@ -213,9 +223,11 @@ impl Feature {
         dword & row.mask == dword && dword & row.clear == 0 && self.sets_some(dword)
     }
 
-    /// What a Set with this dword stores.
+    /// What a Set with this dword stores: a value, where it may have the dword.
+    #[tactic(auto, using(crate::proofs::FeatureTableLaws::stored_is_value))]
     pub fn stored(self, dword: u32) -> u32
-        ensures { result ≡ stored self dword }
+        ensures stored { result ≡ stored self dword }
+        ensures value { is_accepted self dword ≡ true → is_value self (stored self dword) ≡ true }
     {
         dword & self.row().kept
     }

@@ -71,7 +71,12 @@ impl Status {
 
 /// The number, as `0x600b`.
 impl fmt::Display for Status {
+    ghost use Rattle.std.specs.Prelude.{Some};
+    ghost use Rattle.nv_layout.specs.Status.{status_text};
+
+    ghost output = { λ status. Some (status_text status) };
+
     fn fmt<W: fmt::Write>(&self, f: &mut fmt::Formatter<W>) -> fmt::Result {
-        write!(f, "{:#x}", self.number())
+        write!(f, "0x{:x}", self.number())
     }
 }

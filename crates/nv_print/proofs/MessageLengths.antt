@@ -3,11 +3,10 @@ use Rattle.std.proofs.Common.{◌≤◌, arith, Option, None, Some, [], ◌∷�
 use Rattle.std.specs.Prelude.{codes}
 use Rattle.std.specs.Option.{option_map_or}
 use Rattle.std.specs.Fmt.{decimal}
-use Rattle.nv_command.specs.StatusCode.{first_code, name_of_code, name_of_status}
-use Rattle.nv_command.specs.declared.status_code.TheConstants.StatusCode.{ALL}
+use Rattle.nv_command.specs.StatusCode.{first_code, name_of_code, name_of_status, status_codes}
 use Rattle.nv_command.specs.declared.status_code.StatusCode.{StatusCode}
 use Rattle.nv_command.specs.declared.status_code.StatusCode.TheVariants as code
-use Rattle.nv_layout.specs.Status.{number_of_status}
+use Rattle.nv_layout.specs.Status.{number_of_status, status_text}
 use Rattle.nv_layout.specs.declared.status.Status.{Status}
 use Rattle.nv_line.specs.LineFault.{fault_text}
 use Rattle.nv_line.specs.OptionName.{name_of}
@@ -15,7 +14,6 @@ use Rattle.nv_line.specs.declared.fault.LineFault.{LineFault}
 use Rattle.nv_line.specs.declared.fault.LineFault.TheVariants as fault
 use Rattle.nv_line.specs.declared.option.OptionName.{OptionName}
 use Rattle.nv_line.specs.declared.option.OptionName.TheVariants as option
-use Rattle.nv_print.specs.Hexadecimal.{hexadecimal}
 use Rattle.nv_print.specs.Message.{cause_text, message_of, refusal_text}
 use Rattle.nv_print.specs.declared.fault.Fault.{Fault}
 use Rattle.nv_print.specs.declared.fault.FaultCause.{FaultCause}
@@ -42,10 +40,10 @@ fault_length _ = omega arith
 refusal_length : (s : Status) → length (refusal_text s) ≤ 200
 refusal_length s = omega (
   arith,
-  named_length (first_code ALL s),
+  named_length (first_code status_codes s),
   hexadecimal_length (number_of_status s),
-  length-append (name_of_status s) (codes " (" ++ (hexadecimal (number_of_status s) ++ codes ")")),
-  length-append (hexadecimal (number_of_status s)) (codes ")"),
+  length-append (name_of_status s) (codes " (" ++ (status_text s ++ codes ")")),
+  length-append (status_text s) (codes ")"),
 )
 
 cause_length : (c : FaultCause) → length (cause_text c) ≤ 200

@@ -2,10 +2,9 @@
 use Rattle.std.specs.Prelude.{List, ℕ, [], ◌∷◌, ◌++◌, codes}
 use Rattle.std.specs.Fmt.{decimal}
 use Rattle.nv_command.specs.StatusCode.{name_of_status}
-use Rattle.nv_layout.specs.Status.{number_of_status}
+use Rattle.nv_layout.specs.Status.{status_text}
 use Rattle.nv_layout.specs.declared.status.Status.{Status}
 use Rattle.nv_line.specs.LineFault.{fault_text}
-use Rattle.nv_print.specs.Hexadecimal.{hexadecimal}
 use Rattle.nv_print.specs.declared.fault.Fault.{Fault}
 use Rattle.nv_print.specs.declared.fault.FaultCause.{FaultCause}
 use Rattle.nv_print.specs.declared.fault.FaultCause.TheVariants as cause
@@ -13,7 +12,7 @@ use Rattle.nv_print.specs.declared.fault.FaultCause.TheVariants as cause
 -- "NVMe status: Invalid Namespace or Format (0x600b)"
 abbrev pub refusal_text : Status → List ℕ
 refusal_text s = codes "NVMe status: "
-    ++ (name_of_status s ++ (codes " (" ++ (hexadecimal (number_of_status s) ++ codes ")")))
+    ++ (name_of_status s ++ (codes " (" ++ (status_text s ++ codes ")")))
 
 abbrev pub cause_text : FaultCause → List ℕ
 cause_text (cause.Line fault) = fault_text fault

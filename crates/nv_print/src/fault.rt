@@ -3,7 +3,6 @@
 ghost use Rattle.std.specs.Prelude.{◌≡◌, ◌≤◌, IfOk, length, string_bytes};
 ghost use Rattle.nv_print.specs.Message.{message_of};
 
-use crate::hexadecimal::Hexadecimal;
 use nv_command::StatusCode;
 use nv_layout::Status;
 use nv_line::LineFault;
@@ -38,8 +37,7 @@ impl fmt::Display for FaultCause {
             FaultCause::Line(fault) => write!(f, "{fault}"),
             FaultCause::Refused(status) => {
                 let name = StatusCode::name_of(*status);
-                let field = Hexadecimal(u64::from(status.number()));
-                write!(f, "NVMe status: {name} ({field})")
+                write!(f, "NVMe status: {name} ({status})")
             }
         }
     }
