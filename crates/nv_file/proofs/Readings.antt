@@ -1,6 +1,6 @@
 -- Readings of a list, from some index on.
 use Rattle.std.proofs.Common.{◌≡◌, ℕ, ◌+◌, ◌<◌, List, [], ◌∷◌, ◌++◌, length, drop, get_or, Result, Err, BTreeMap}
-use Rattle.std.proofs.Common.{String, Global}
+use Rattle.std.proofs.Common.{String, Global, sym}
 use Rattle.std.proofs.lemmas.List.{drop_more}
 use Rattle.nv_file.specs.declared.error.SubsystemError.{SubsystemError}
 use Rattle.nv_file.specs.declared.error.SubsystemError.TheVariants.{NotToml, Missing, Kind, Range, Repeated, Unknown}
@@ -13,6 +13,19 @@ use Rattle.std.specs.Borrow.{Bor}
 use Rattle.toml.specs.Data.{Members}
 use Rattle.toml.specs.View.{table_view}
 use Rattle.toml.specs.declared.value.Value.{Value}
+
+-- what fails exactly fails so unless memory runs out
+pub fails_exactly : {X A : Type 0} (f : X → A) (e : SubsystemError) (r : Result A SubsystemError)
+    → Err e ≡ r → IsUnlessMemory f (Err e) r
+fails_exactly f NotToml r h = sym h
+fails_exactly f (Missing t k) r h = sym h
+fails_exactly f (Kind t k) r h = sym h
+fails_exactly f (Range t k) r h = sym h
+fails_exactly f (Repeated t k) r h = sym h
+fails_exactly f (Unknown t) r h = sym h
+fails_exactly f Capacity r h = sym h
+fails_exactly f Attachment r h = sym h
+fails_exactly f Memory r h = tt
 
 -- what fails at its first step fails
 fails_first : {X Z A B : Type 0} (f : X → A) (g : Z → B) (e : SubsystemError)

@@ -1,8 +1,8 @@
 //! The default values of the features of a file.
-ghost use Rattle.std.specs.Prelude.{◌≡◌, ◌≤◌, ℕ, true, All, IfOk, IsSomeAnd, length};
+ghost use Rattle.std.specs.Prelude.{◌≡◌, ◌==◌, ◌&&◌, ◌≤◌, ℕ, true, not, All, IfOk, IsSomeAnd, length};
 ghost use Rattle.toml.specs.View.{table_view};
 ghost use Rattle.nv_layout.specs.Feature.{feature_of, is_value};
-ghost use Rattle.nv_model.specs.Defaults.{AreDefaults, AreThresholds, default_at};
+ghost use Rattle.nv_model.specs.Defaults.{AreDefaults, AreThresholds, are_lists, default_at};
 ghost use Rattle.nv_file.specs.Fault.{IsUnlessMemory};
 ghost use Rattle.nv_file.specs.TableChecks.{default_over, nine};
 ghost use Rattle.nv_file.specs.TableReading.{defaults_of, thresholds_or};
@@ -78,10 +78,12 @@ pub(crate) fn defaults_of(
     value: u32,
     table: &Table,
 ) -> Result<Defaults, SubsystemError>
-    requires { IsSomeAnd (feature_of fid) (λ f. is_value f value ≡ true) }
+    requires value { IsSomeAnd (feature_of fid) (λ f. is_value f value ≡ true) }
+    requires in_version { not ((version == 1) && (fid == 0x04)) ≡ true }
     ensures exact { IsUnlessMemory (λ d. d) result
         (defaults_of version wctemp fid value (table_view table.now)) }
     ensures sound { IfOk result AreDefaults }
+    ensures lists { IfOk result (λ d. are_lists d ≡ (fid == 0x04)) }
     ensures values { IfOk result (λ d. IsSomeAnd (feature_of fid)
         (λ f. (s : ℕ) → is_value f (default_at d s) ≡ true)) }
 {

@@ -17,7 +17,7 @@ use toml::Table;
 
 #[tactic(auto, unfolding(crate::specs::TableReading::format_of))]
 fn format_of(table: &Table) -> Result<Format, SubsystemError>
-    ensures exact { IsUnlessMemory (λ f. f) result (format_of (table_view table.now)) }
+    ensures exact { result ≡ format_of (table_view table.now) }
     ensures sound { IfOk result IsFormat }
 {
     let section = Section {

@@ -19,7 +19,7 @@ use toml::Table;
 
 #[tactic(auto, unfolding(crate::specs::TableReading::identity_numbers_of))]
 fn identity_numbers_of(table: &Table) -> Result<IdentityNumbers, SubsystemError>
-    ensures exact { IsUnlessMemory (λ n. n) result (identity_numbers_of (table_view table.now)) }
+    ensures exact { result ≡ identity_numbers_of (table_view table.now) }
     ensures sound { IfOk result IsIdentityNumbers }
 {
     let section = Section {

@@ -45,9 +45,8 @@ impl NamespaceEntry {
 
 fn format_at(formats: &[Format], index: u8) -> Result<Format, SubsystemError>
     requires { All IsFormat formats.now }
-    ensures exact { IsUnlessMemory (λ f. f) result
-        (ok_or (slice_get formats.now index)
-        (SubsystemError.Range TableName.Namespace Key.Format)) }
+    ensures exact { result ≡
+        ok_or (slice_get formats.now index) (SubsystemError.Range TableName.Namespace Key.Format) }
     ensures sound { IfOk result IsFormat }
     ensures at { IfOk result (λ f. slice_get formats.now index ≡ Some f) }
 {

@@ -7,7 +7,7 @@ ghost use Rattle.std.specs.Str.{bytes_eq};
 ghost use Rattle.toml.specs.Data.{get_member, as_table, as_integer};
 ghost use Rattle.toml.specs.View.{view, items_view, table_view};
 ghost use Rattle.nv_file.specs.Names.{key_text};
-ghost use Rattle.nv_file.specs.Fault.{IsUnlessMemory, ensure};
+ghost use Rattle.nv_file.specs.Fault.{IsAnswer, IsUnlessMemory, ensure};
 ghost use Rattle.nv_file.specs.KeyChecks.{has_key, items_as};
 ghost use Rattle.nv_file.specs.KeyReading.{in_range, integer_in_range, integer, integer_or};
 ghost use Rattle.nv_file.specs.KeyReading.{flag_or, text, tables_in, tables, tables_or_none};
@@ -86,8 +86,7 @@ impl<'a> Section<'a> {
 
     #[tactic(auto, unfolding(crate::specs::KeyReading::in_range))]
     fn in_range(&self, key: Key, low: u64, high: u64, integer: i64) -> Result<u64, SubsystemError>
-        ensures exact { IsUnlessMemory (λ n. n) result
-            (in_range self.now.name key low high integer) }
+        ensures exact { result ≡ in_range self.now.name key low high integer }
         ensures range { IfOk result (λ n. (low ≤ n) × (n ≤ high)) }
     {
         if integer < 0 {
@@ -109,8 +108,7 @@ impl<'a> Section<'a> {
         high: u64,
         value: &Value,
     ) -> Result<u64, SubsystemError>
-        ensures exact { IsUnlessMemory (λ n. n) result
-            (integer_in_range self.now.name key low high (view value.now)) }
+        ensures exact { result ≡ integer_in_range self.now.name key low high (view value.now) }
         ensures range { IfOk result (λ n. (low ≤ n) × (n ≤ high)) }
     {
         let integer = value.as_integer().ok_or(self.wrong_kind(key))?;
@@ -120,8 +118,8 @@ impl<'a> Section<'a> {
     /// A required integer from `low` to `high`.
     #[tactic(auto, unfolding(crate::specs::KeyReading::integer))]
     pub(crate) fn integer(&self, key: Key, low: u64, high: u64) -> Result<u64, SubsystemError>
-        ensures exact { IsUnlessMemory (λ n. n) result
-            (integer self.now.name key low high (table_view self.now.table.now)) }
+        ensures exact { result ≡
+            integer self.now.name key low high (table_view self.now.table.now) }
         ensures range { IfOk result (λ n. (low ≤ n) × (n ≤ high)) }
     {
         let value = self.find(key).ok_or(self.missing(key))?;
@@ -139,8 +137,8 @@ impl<'a> Section<'a> {
     ) -> Result<u64, SubsystemError>
         requires low_default { low ≤ default }
         requires high_default { default ≤ high }
-        ensures exact { IsUnlessMemory (λ n. n) result
-            (integer_or self.now.name key default low high (table_view self.now.table.now)) }
+        ensures exact { result ≡
+            integer_or self.now.name key default low high (table_view self.now.table.now) }
         ensures range { IfOk result (λ n. (low ≤ n) × (n ≤ high)) }
     {
         match self.find(key) {
@@ -159,8 +157,7 @@ impl<'a> Section<'a> {
     /// An optional true or false.
     #[tactic(auto, unfolding(crate::specs::KeyReading::flag_or))]
     pub(crate) fn flag_or(&self, key: Key, default: bool) -> Result<bool, SubsystemError>
-        ensures { IsUnlessMemory (λ b. b) result
-            (flag_or self.now.name key default (table_view self.now.table.now)) }
+        ensures { result ≡ flag_or self.now.name key default (table_view self.now.table.now) }
     {
         match self.find(key) {
             Some(value) => value.as_bool().ok_or(self.wrong_kind(key)),
@@ -247,7 +244,7 @@ impl<'a> Section<'a> {
     /// An optional table.
     #[tactic(auto, unfolding(crate::specs::KeyReading::table_or_none))]
     pub(crate) fn table_or_none(&self, key: Key) -> Result<Option<&'a Table>, SubsystemError>
-        ensures { IsUnlessMemory (λ o. option_map (λ t. table_view t.now) o) result
+        ensures { IsAnswer (λ o. option_map (λ t. table_view t.now) o) result
             (table_or_none self.now.name key (table_view self.now.table.now)) }
     {
         match self.find(key) {

@@ -17,7 +17,7 @@ use toml::Table;
 
 #[tactic(auto, unfolding(crate::specs::TableReading::counters_of))]
 fn counters_of(table: &Table) -> Result<Counters, SubsystemError>
-    ensures exact { IsUnlessMemory (λ c. c) result (counters_of (table_view table.now)) }
+    ensures exact { result ≡ counters_of (table_view table.now) }
     ensures sound { IfOk result IsCounters }
 {
     let section = Section {

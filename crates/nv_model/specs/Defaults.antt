@@ -1,6 +1,6 @@
 -- The default values of a feature.
-use Rattle.std.specs.Prelude.{◌≡◌, ℕ, ◌-◌, ◌≤◌, nat_lt, if◌then◌else◌, List, length, All}
-use Rattle.std.specs.Prelude.{slice_index}
+use Rattle.std.specs.Prelude.{◌≡◌, ℕ, ◌-◌, ◌≤◌, Bool, true, false, nat_lt, if◌then◌else◌, List}
+use Rattle.std.specs.Prelude.{length, All, slice_index}
 use Rattle.nv_model.specs.declared.defaults.Defaults.{Defaults}
 use Rattle.nv_model.specs.declared.defaults.Defaults.TheVariants.{One, Thresholds}
 
@@ -10,6 +10,11 @@ abbrev pub default_at : Defaults → ℕ → ℕ
 default_at (One value) selector = value
 default_at (Thresholds over under) selector =
     if nat_lt selector 16 then slice_index over selector else slice_index under (selector - 16)
+
+-- the defaults are lists
+abbrev pub are_lists : Defaults → Bool
+are_lists (One value) = false
+are_lists (Thresholds over under) = true
 
 -- nine temperatures
 abbrev pub AreThresholds : List ℕ → Type 0

@@ -10,7 +10,7 @@ use Rattle.nv_model.specs.declared.smart_base.SmartBase.{SmartBase}
 use Rattle.nv_model.specs.declared.identity.IdentityNumbers.{IdentityNumbers}
 use Rattle.nv_model.specs.Numbers.{greatest_integer}
 use Rattle.nv_layout.specs.Feature.{feature_of, is_value}
-use Rattle.nv_model.specs.Defaults.{AreDefaults, default_at}
+use Rattle.nv_model.specs.Defaults.{AreDefaults, are_lists, default_at}
 use Rattle.nv_model.specs.Identity.{Identity}
 use Rattle.nv_layout.specs.NsList.{most_nsids}
 
@@ -32,8 +32,10 @@ pub record IsFormat (f : Format) : Type 0 where
   pub ms : f.ms ≤ 65535
   pub rp : f.rp ≤ 3
 
--- One of the features, with defaults that are values of it. Error Recovery is never saveable.
+-- One of the features, with defaults that are values of it: lists of Temperature Threshold, one number
+-- of any other. Error Recovery is never saveable.
 pub record IsFeatureRule (r : FeatureRule) : Type 0 where
+  pub lists : are_lists r.defaults ≡ (r.fid == 0x04)
   pub defaults : AreDefaults r.defaults
   pub default : IsSomeAnd (feature_of r.fid)
       (λ f. (s : ℕ) → is_value f (default_at r.defaults s) ≡ true)

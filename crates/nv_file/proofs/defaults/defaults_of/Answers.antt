@@ -11,7 +11,7 @@ for_each None value h = elim h [ ]
 for_each (Some f) value h = λ s. h
 
 pub returns-then-version-eq1-clause-values : goal.returns-then-version-eq1-clause-values
-returns-then-version-eq1-clause-values c = for_each _ c.args.value c.requires
+returns-then-version-eq1-clause-values c = for_each _ c.args.value c.requires.value
 
 pub returns-else-fid-eq4-clause-values : goal.returns-else-fid-eq4-clause-values
-returns-else-fid-eq4-clause-values c = for_each _ c.args.value c.requires
+returns-else-fid-eq4-clause-values c = for_each _ c.args.value c.requires.value
