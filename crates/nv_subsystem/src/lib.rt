@@ -1,4 +1,24 @@
-//! An NVM subsystem: its file, its namespaces, and what each command does to it.
+//! An NVM subsystem: its file, its namespaces, and what each command does to it. What a caller
+//! writes of commands and reads of replies is passed on, so that no other crate has to be named:
+//!
+//! ```
+//! use nv_subsystem::{Command, DEMO, Origin, Reply, ReplyRoom, Subsystem, SubsystemError};
+//! use std::alloc::Global;
+//!
+//! /// How many namespaces are attached to the first controller of the demonstration file.
+//! fn attached(alloc: Global) -> Result<usize, SubsystemError> {
+//!     let mut subsystem = Subsystem::from_toml(alloc, DEMO.as_bytes())?;
+//!     let mut room = ReplyRoom::new();
+//!     let origin = Origin { cid: 0, phase: true };
+//!     if subsystem.controllers() == 0 {
+//!         return Ok(0);
+//!     }
+//!     match subsystem.execute(0, &Command::ActiveList { after: 0 }, origin, &mut room) {
+//!         Ok(Reply::List(list)) => Ok(list.as_slice().len()),
+//!         _ => Ok(0),
+//!     }
+//! }
+//! ```
 #![tactic(auto)]
 
 mod attachment;
@@ -21,10 +41,11 @@ mod row;
 mod subsystem;
 
 pub use nv_command::{
-    Command, ERROR_INFORMATION, FeatureQuery, FeatureSetting, HEALTH, LogQuery, Refusal, Reply,
-    StatusCode,
+    BROADCAST_NSID, Command, DwordCount, ERROR_INFORMATION, FeatureQuery, FeatureSetting, HEALTH,
+    LogQuery, Refusal, Reply, ReplyRoom, StatusCode,
 };
 pub use nv_file::{DEMO, Key, SubsystemError, TableName};
+pub use nv_layout::{ControllerIds, FourBits, NsList, ThreeBits};
 pub use nv_model::{
     Counters, Defaults, FeatureRule, Format, Identity, IdentityNumbers, Namespace, Origin, SERIALS,
     SmartBase,
