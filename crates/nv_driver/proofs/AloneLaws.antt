@@ -18,12 +18,13 @@ use Rattle.nv_bus.specs.Turn as T
 use Rattle.nv_driver.specs.Alone.{Alone, IsAlone, IsAnsweredBy, IsPlaceFor, place_in, world_by, world_of}
 use Rattle.nv_driver.specs.Answer.{Answer}
 use Rattle.nv_driver.specs.Geometry.{IsGeometry}
-use Rattle.nv_driver.specs.Layout.{pages_of_entry}
+use Rattle.nv_driver.specs.Layout.{offset_for, pages_of_entry}
 use Rattle.nv_driver.specs.Schedule.{Bell, Collect, Happens, Holds, Setting, Tell, Turn, World, answer_awaited}
 use Rattle.nv_driver.specs.Schedule.{IsAnswered, awaited, collect_ring, number, numbered, slot, step_of, submit_ring}
 use Rattle.nv_driver.specs.UnderWay.{setting_of}
 use Rattle.nv_driver.specs.declared.geometry.Geometry.{Geometry}
 use Rattle.nv_driver.specs.declared.queue_pair.QueuePair.{QueuePair as QueuePairFields}
+use Rattle.nv_driver.proofs.LayoutLaws.{offset_fits}
 use Rattle.nv_driver.proofs.CountLaws.{number_next}
 use Rattle.nv_driver.proofs.KeptLaws.{bell_keeps, collect_keeps, is_found, tell_keeps}
 use Rattle.nv_driver.proofs.RoundLaws.{bank_set, banks_long, none_untold, set_again}
@@ -256,10 +257,10 @@ length-pages first count numbers are =
 
 -- they hold the data of an entry and its list
 pub place_is : (g : Geometry) (first count len page_size : ℕ) (numbers mem : List ℕ) → IsGeometry g
-    → page_size ≡ g.page_size → ArePages first count numbers → g.offset + len ≤ count * g.page_size
+    → page_size ≡ g.page_size → ArePages first count numbers → offset_for g len + len ≤ count * g.page_size
     → count + 2 ≤ pages_of_entry g.page_size
     → (first + pages_of_entry g.page_size) * g.page_size ≤ length mem
-    → IsPlaceFor mem page_size (place_in (take count (drop 2 numbers)) g.offset (record
+    → IsPlaceFor mem page_size (place_in (take count (drop 2 numbers)) (offset_for g len) (record
     { first = slice_index numbers 0; second = slice_index numbers 1; offset = g.list_offset })) len
 place_is g first count len page_size numbers mem is page are enough few inside =
     let long = length-pages first count numbers are in
@@ -273,8 +274,8 @@ place_is g first count len page_size numbers mem is page are enough few inside =
     rw page (record {
       is_size = is.page_size;
       buffer = record {
-        below = is.offset.1;
-        aligned = is.offset.0;
+        below = (offset_fits g len is).1;
+        aligned = (offset_fits g len is).0;
         enough = rw data_long enough;
         inside = λ i d h. has (suc (suc i)) d (omega (arith, long));
       };

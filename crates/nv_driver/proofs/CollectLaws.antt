@@ -28,14 +28,14 @@ use Rattle.nv_driver.specs.Schedule.{Collect, Happens, Holds, Numbered, Sent, an
 use Rattle.nv_driver.specs.Schedule.{answer_read, answer_to, answers_to, awaited, collect_ring}
 use Rattle.nv_driver.specs.Schedule.{data_length, number, own_pages, places}
 use Rattle.nv_driver.specs.Schedule.{received_from, slot, submit_ring}
-use Rattle.nv_driver.specs.Layout.{pages_of_command}
+use Rattle.nv_driver.specs.Layout.{offset_for, pages_of_command}
 use Rattle.nv_driver.specs.UnderWay.{HasAnswers, IsKept, IsUnderWay, Run, kept_at, pages_of_all, serial_at, setting_of}
 use Rattle.nv_driver.specs.declared.batch.Batch.{Batch}
 use Rattle.nv_driver.specs.declared.command_pages.CommandPages.{CommandPages}
-use Rattle.nv_driver.specs.declared.geometry.Geometry.{Geometry}
 use Rattle.nv_driver.specs.declared.queue_pair.QueuePair.{QueuePair as QueuePairFields}
 use Rattle.nv_driver.proofs.BatchLaws.{answer_at, answers_are, distance_is}
 use Rattle.nv_driver.proofs.CountLaws.{number_next}
+use Rattle.nv_driver.proofs.LayoutLaws.{offset_fits}
 use Rattle.nv_driver.proofs.KeptLaws.{collect_keeps, is_found}
 use Rattle.nv_driver.proofs.ScheduleLaws.{collect_others}
 use Rattle.nv_driver.proofs.PointerLaws.{seven_pages}
@@ -55,7 +55,7 @@ in_some {P = P} o x is all = subst (λ q. OnSome q P) is all
 -- a command that was sent with these pages
 pub record IsOne (r : Run) (o : CommandPages) (x : Sent) : Type 0 where
   pub of_data : x.pages ≡ data_pages o
-  pub offset : x.offset ≡ r.geometry.offset
+  pub offset : x.offset ≡ offset_for r.geometry (data_length x)
   pub few : o.data_pages + 2 ≤ pages_of_command r.geometry.page_size
   pub pages : all_pages o ≡ own_pages x
 
@@ -65,7 +65,7 @@ is_one r found o x k is =
     let same : k.one ≡ o = let both = sym k.is_one ∙ is in cc in
     record {
       of_data = ap (λ (y : Sent). y.pages) k.sent ∙ ap data_pages same;
-      offset = ap (λ (y : Sent). y.offset) k.sent;
+      offset = ap (λ (y : Sent). y.offset) k.sent ∙ ap (offset_for r.geometry) (sym (ap data_length k.sent));
       few = omega (arith, k.few, ap (λ (q : CommandPages). q.data_pages) same);
       pages = ap all_pages (sym same) ∙ pages_are k.one k.seven ∙ ap own_pages (sym k.sent);
     }
@@ -254,15 +254,17 @@ module _ {r : Run} {bells turns : ℕ} {b : Batch} {l : QueuePairFields} {now : 
       -- ---- the answer
 
       -- its data lies in pages of its own, which lie in the memory
-      own_buffer : IsBuffer bytes r.geometry.page_size (data_pages o) r.geometry.offset (data_length next_one)
+      own_buffer : IsBuffer bytes r.geometry.page_size (data_pages o) (offset_for r.geometry (data_length next_one))
+          (data_length next_one)
       own_buffer =
           let x = next_one in
           let size = r.geometry.page_size in
           let own = u.keeps.own b.collected no_command (omega (arith, u.collected))
           (omega (arith, no_more, e.more, u.sent)) in
+          let begins = offset_fits r.geometry (data_length x) u.begun.geometry in
           rw (← one_is.of_data) (record {
-            below = u.begun.geometry.offset.1;
-            aligned = u.begun.geometry.offset.0;
+            below = begins.1;
+            aligned = begins.0;
             enough = rw (one_is.offset) at own.enough;
             inside = λ i d h. of_set r.pair.pages bytes size (get_or x.pages i d)
                 (omega (arith, u.begun.laid.inside, u.size))
@@ -287,17 +289,20 @@ module _ {r : Run} {bells turns : ℕ} {b : Batch} {l : QueuePairFields} {now : 
             subst IsSendable (sym at_next) (u.can b.collected k (omega (arith, no_more, e.more, u.some))).sends
 
         module _ {pages : List ℕ} {from : ℕ} (of_data : pages ≡ data_pages o)
-            (begins : from ≡ b.geometry.offset) where
-          offset_is : from ≡ r.geometry.offset
-          offset_is = begins ∙ ap (λ (g : Geometry). g.offset) u.geometry
+            (begins : from ≡ offset_for b.geometry (length_of (transfer_by k))) where
+          long_is : length_of (transfer_by k) ≡ data_length next_one
+          long_is = ap (λ (q : Request). length_of q.transfer) (sym same)
+
+          offset_is : from ≡ offset_for r.geometry (data_length next_one)
+          offset_is = begins ∙ ap (λ g. offset_for g (length_of (transfer_by k))) u.geometry
+              ∙ ap (offset_for r.geometry) long_is
 
           pub answer_buffer : IsBuffer bytes now pages from (length_of (transfer_by k))
-          answer_buffer = buffer_as (sym u.page_size) (sym of_data) (sym offset_is)
-              (ap (λ (q : Request). length_of q.transfer) same) own_buffer
+          answer_buffer = buffer_as (sym u.page_size) (sym of_data) (sym offset_is) (sym long_is) own_buffer
 
           places_are : buffer_places now pages from (length_of (transfer_by k)) ≡ places r.geometry.page_size next_one
           places_are = places_as u.page_size (of_data ∙ sym one_is.of_data) (offset_is ∙ sym one_is.offset)
-              (ap (λ (q : Request). length_of q.transfer) (sym same))
+              long_is
 
           answer_is : (d : Answer)
               → answer_from k q

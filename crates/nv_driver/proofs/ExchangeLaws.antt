@@ -27,7 +27,7 @@ use Rattle.nv_driver.specs.Alone.{world_of}
 use Rattle.nv_driver.specs.Answer.{Answer}
 use Rattle.nv_driver.specs.Exchange.{IsReady}
 use Rattle.nv_driver.specs.Quiet.{pair_value}
-use Rattle.nv_driver.specs.Layout.{pages_of_entry}
+use Rattle.nv_driver.specs.Layout.{offset_for, pages_of_entry}
 use Rattle.nv_driver.specs.Request.{Asked, IsRequest, padded, request_for, transfer_for}
 use Rattle.nv_driver.specs.Schedule.{AreOutside, Happens, MaySubmit, Sent, Setting, Submit, entry}
 use Rattle.nv_driver.specs.Schedule.{Delivers, bytes_read, collect_ring, numbered, own_pages, received_from, slot}
@@ -278,8 +278,8 @@ pub can_exchange : {g : Geometry} {c first count : ℕ} {e : Sqe} {m : Transfer}
     {list : ListPlace} {bus : BusValue} {l : QueuePairFields} {now : ℕ} {bytes : List ℕ}
     → IsReady g bus c l now bytes → SqeFits e → m ≡ transfer_for e → HasRoom m → length_of m ≤ greatest_limit
     → ArePages first count numbers
-    → pages ≡ take count (drop 2 numbers) → offset ≡ g.offset → list ≡ list_at numbers g.list_offset
-    → g.offset + length_of m ≤ count * g.page_size → count + 2 ≤ pages_of_entry g.page_size
+    → pages ≡ take count (drop 2 numbers) → offset ≡ offset_for g (length_of m) → list ≡ list_at numbers g.list_offset
+    → offset_for g (length_of m) + length_of m ≤ count * g.page_size → count + 2 ≤ pages_of_entry g.page_size
     → (first + pages_of_entry g.page_size) * g.page_size ≤ length bytes → l.pages.first + l.pages.count ≤ first
     → CanExchange g c e m (place_in pages offset list) (side bus l now bytes)
 can_exchange {g} {first = first} {count = count} {m = m} {numbers = numbers} {now = now} {bytes = bytes}
@@ -292,6 +292,8 @@ can_exchange {g} {first = first} {count = count} {m = m} {numbers = numbers} {no
       few = small;
       place = place_is g first count (length_of m) now numbers bytes ready.geometry ready.page_size are enough few
           inside;
+      offset = refl;
+      list_offset = refl;
       first = λ i d h. omega (
         arith,
         are.each 0 (omega arith),

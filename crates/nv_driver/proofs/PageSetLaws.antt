@@ -3,7 +3,7 @@ use Rattle.std.proofs.Common.{◌≡◌, ◌≢◌, ◌∙◌, ℕ, zero, suc, �
 use Rattle.std.proofs.Common.{All, AllPairs, Bool, true, false, List, [], ◌∷◌, ◌++◌, ap, arith, get_or, length}
 use Rattle.std.proofs.Common.{length-append, length-take, nat_eq, refl, take, subst, sym}
 use Rattle.std.proofs.Common.{IfSome, IsSome, MatchOption, None, Option, Some, nat_cmp}
-use Rattle.std.proofs.lemmas.Bool.{both_ways, false_from_ne_true, or_cases, or_from, or_right}
+use Rattle.std.proofs.lemmas.Bool.{both_ways, cases_lt, false_from_ne_true, or_cases, or_from, or_right}
 use Rattle.std.proofs.lemmas.Bool.Decides.{nat_tests}
 use Rattle.std.proofs.lemmas.List.{get_or-take, get_or_default}
 use Rattle.std.proofs.lemmas.List.Elements.{All-push}
@@ -14,7 +14,7 @@ use Rattle.std.specs.FinSet as set
 use Rattle.std.specs.FinSet.{nat_cmp-IsAntisymmetric}
 use Rattle.std.specs.List.{list_any}
 use Rattle.nv_host.specs.PageSets.{IsOf, Pages, consecutive, contains_of_insert, contains_of_remove}
-use Rattle.nv_driver.specs.CommandPages.{AreTaken, with_pages, without}
+use Rattle.nv_driver.specs.CommandPages.{AreLowest, AreTaken, with_pages, without}
 
 abbrev pub Numbers : Type 0
 Numbers = set.FinSet nat_cmp
@@ -83,7 +83,8 @@ taking_none s = record {
 
 pub taking_more : (s now next : Pages) (ps : List ℕ) (p : ℕ) → Taking s now ps
     → set.contains now.members p ≡ true → IsOf s.first s.count p
-    → next ≡ record now { members = set.remove now.members p } → Taking s next (ps ++ p ∷ [])
+    → next ≡ record now { members = set.remove now.members p }
+    → Taking s next (ps ++ p ∷ [])
 taking_more s now next ps p t there own is =
     let parts = left_in s ps p (rw (t.left) at there) in
     let fewer = ap (λ (x : Pages). set.len x.members) is ∙ set.len-remove nat_cmp_total now.members p in
@@ -123,6 +124,41 @@ pub taking_next : (s now new : Pages) (ps : List ℕ) (r : Option ℕ) (p : ℕ)
 taking_next s now new ps r p t is found own =
     let one = rw is at found in
     taking_more s now new ps p t one.0 (subst (λ (x : Pages). IsOf x.first x.count p) t.left (rw is at own)) one.1
+
+-- ---- the lowest pages
+
+pub lowest_none : (s : Pages) → AreLowest s []
+lowest_none s = record { order = λ i k d h j. absurd (omega arith); lowest = λ i d h. absurd (omega arith) }
+
+-- and the lowest one of what is left
+pub lowest_more : (s now : Pages) (ps : List ℕ) (p : ℕ) → now ≡ without s ps → set.contains now.members p ≡ true
+    → ((q : ℕ) → q < p → set.contains now.members q ≡ false) → AreLowest s ps → AreLowest s (ps ++ p ∷ [])
+lowest_more s now ps p left there least low = record {
+  order = all_pairs_push (λ q r. q < r) ps p low.order (λ i d h. low.lowest i d h p (rw left at there));
+  lowest = All-push (λ x. (q : ℕ) → set.contains (without s (ps ++ p ∷ [])).members q ≡ true → x < q) ps p
+      (λ i d h q e. low.lowest i d h q (still q e)) (λ q e. above q (ap (λ (x : Pages). set.contains x.members q) left ∙ still q e) (no_other q e));
+}
+  where
+    -- what is left then was left before
+    still : (q : ℕ) → set.contains (without s (ps ++ p ∷ [])).members q ≡ true
+        → set.contains (without s ps).members q ≡ true
+    still q e = let parts = left_in s (ps ++ p ∷ []) q e in grind (arith, difference_in, in_push, parts.0, parts.1)
+
+    no_other : (q : ℕ) → set.contains (without s (ps ++ p ∷ [])).members q ≡ true → q ≢ p
+    no_other q e = let out = (left_in s (ps ++ p ∷ []) q e).1 in grind (arith, nat_tests, in_push, out)
+
+    above : (q : ℕ) → set.contains now.members q ≡ true → q ≢ p → p < q
+    above q here other = elim (cases_lt q p) [
+      | inl l ↦ absurd (both_ways (set.contains now.members q) (least q l) here)
+      | inr g ↦ omega (arith, other, g)
+    ]
+
+pub lowest_next : (s now new : Pages) (ps : List ℕ) (r : Option ℕ) (p : ℕ) → now ≡ without s ps → r ≡ Some p
+    → MatchOption r ((now.members ≡ set.empty) × (new ≡ now))
+    (λ q. (set.contains now.members q ≡ true) × (new ≡ record now { members = set.remove now.members q }))
+    → IfSome r (λ q. (o : ℕ) → o < q → set.contains now.members o ≡ false) → AreLowest s ps → AreLowest s (ps ++ p ∷ [])
+lowest_next s now new ps r p left is found least low =
+    lowest_more s now ps p left (rw is at found).0 (rw is at least) low
 
 -- ---- giving back
 

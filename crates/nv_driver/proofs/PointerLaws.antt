@@ -31,15 +31,23 @@ use Rattle.nv_driver.proofs.RegionLaws.{length-places}
 -- in how many pages so many bytes lie
 pub enough_of : (greatest from len size pages : ℕ) → IsPageSize size → from < size → len ≤ greatest
     → pages ≡ div_ceil (from + len) size
-    → (from + len ≤ pages * size) × (pages + 2 ≤ pages_for greatest size)
+    → (from + len ≤ pages * size) × (pages + 2 ≤ pages_for greatest size) × (from + len ≡ 0 → pages ≡ 0)
 enough_of greatest from len size pages is low most same =
     let some : 0 < size = omega (arith, page_size_bounds size is) in
     let all = div_ceil_times (from + len) size some in
     let least = div_ceil_times greatest size some in (
       rw same all.0,
       few (div_ceil greatest size) least.0 (rw same all.1),
+      λ empty. none (omega (arith, empty, rw (← same) at all.1)),
     )
   where
+    none : pages * size < size → pages ≡ 0
+    none less =
+        elim (cases_lt pages 1) [
+          | inl l ↦ omega arith
+          | inr g ↦ absurd (omega (arith, mul-le-mul_right size g))
+        ]
+
     few : (m : ℕ) → greatest ≤ m * size → pages * size < from + len + size → pages + 2 ≤ m + 3
     few m whole less =
         elim (cases_lt pages (m + 2)) [

@@ -10,7 +10,9 @@ use Rattle.nv_command.specs.declared.transfer.Transfer.TheVariants.{FromHost, No
 use Rattle.nv_layout.specs.Steps.{◌>>=◌}
 use Rattle.nv_bus.specs.Call.{HasRoom, moves_of, within}
 use Rattle.nv_bus.proofs.CallLaws.{within_few}
-use Rattle.nv_driver.specs.Request.{CanBeSent, IsRequest, entry_as, request_of}
+use Rattle.nv_model.proofs.LimitLaws.{limit_bounds}
+use Rattle.nv_model.specs.Limit.{limit_of}
+use Rattle.nv_driver.specs.Request.{CanBeSent, EveryCommandIsRequest, IsRequest, entry_as, request_of}
 use Rattle.nv_driver.proofs.DataLaws.{HasShape, most, shape}
 
 room_of : (m : Transfer) → HasShape m → HasRoom m
@@ -41,3 +43,7 @@ is_request limit k enough can =
       sends = zero_id.sent;
       command = (refl, zero_id.fits.nsid);
     }
+
+pub every_command : EveryCommandIsRequest
+every_command s c k well below fits sends =
+    is_request (limit_of s c) k (limit_bounds s c well below).0 (record { fits = fits; sends = sends })

@@ -240,10 +240,10 @@ none_free {r} {bells} {turns} {b} {l} {now} {mem} {bus} {most} {count} h none so
     no_slot waiting free more is = omega arith
 
 -- a round comes further: it collects an answer, or tells what wasn't told
-pub comes_further : (n : ℕ) (b b' : Batch) (posted : ℕ) → b.collected < n → b'.collected ≡ b.collected + posted
-    → (posted ≡ 0 → (b.told < b.collected) × (b'.told ≡ b.collected)) → left_of n b' < left_of n b
-comes_further n b b' posted some more none =
-    elim (cases_eq posted 0) [
+pub comes_further : (n : ℕ) (b b' : Batch) → b.collected < n → b.collected ≤ b'.collected
+    → (b'.collected ≡ b.collected → (b.told < b.collected) × (b'.told ≡ b.collected)) → left_of n b' < left_of n b
+comes_further n b b' some more none =
+    elim (cases_eq b'.collected b.collected) [
       | inl e ↦ let told = none e in omega (arith, told.0, told.1)
       | inr e ↦ omega (arith, e)
     ]

@@ -15,12 +15,13 @@ use Rattle.nv_prp.specs.Transfer.{transfer}
 use Rattle.nv_command.specs.Command.{bytes_from_host}
 use Rattle.nv_driver.specs.CommandPages.{AreTaken, all_pages, data_pages}
 use Rattle.nv_driver.specs.Geometry.{IsGeometry}
-use Rattle.nv_driver.specs.Layout.{pages_of_command}
+use Rattle.nv_driver.specs.Layout.{offset_for, pages_of_command}
 use Rattle.nv_bus.specs.Call.{sent_from}
 use Rattle.nv_driver.specs.Schedule.{AreOutside, IsPrepared, Sent, StaysNamed, data_length, own_pages, places, pointed}
 use Rattle.nv_driver.specs.declared.command_pages.CommandPages.{CommandPages}
 use Rattle.nv_driver.specs.declared.geometry.Geometry.{Geometry}
 use Rattle.nv_driver.specs.declared.queue_pair.QueuePair.{QueuePair as QueuePairFields}
+use Rattle.nv_driver.proofs.LayoutLaws.{offset_fits}
 use Rattle.nv_driver.proofs.DataLaws.{ArePlaces, sent_back}
 use Rattle.nv_driver.proofs.RegionLaws.{written_list}
 use Rattle.nv_driver.proofs.PointerLaws.{seven_pages, stays_in}
@@ -74,11 +75,13 @@ each_inside s p page_size bytes h =
 
 pub buffer_of : (g : Geometry) (s : Pages) (p : CommandPages) (bytes : List ℕ) (page_size len : ℕ)
     → IsGeometry g → page_size ≡ g.page_size → Has s p g.page_size (length bytes)
-    → g.offset + len ≤ p.data_pages * g.page_size → IsBuffer bytes page_size (data_pages p) g.offset len
+    → offset_for g len + len ≤ p.data_pages * g.page_size
+    → IsBuffer bytes page_size (data_pages p) (offset_for g len) len
 buffer_of g s p bytes page_size len is page h enough =
-    subst (λ size. IsBuffer bytes size (data_pages p) g.offset len) (sym page) (record {
-      below = is.offset.1;
-      aligned = is.offset.0;
+    let begins = offset_fits g len is in
+    subst (λ size. IsBuffer bytes size (data_pages p) (offset_for g len) len) (sym page) (record {
+      below = begins.1;
+      aligned = begins.0;
       enough = rw (length-data_pages p h.seven h.few) enough;
       inside = λ i d below. each_inside s p g.page_size bytes h (suc (suc i)) d (omega arith);
     })

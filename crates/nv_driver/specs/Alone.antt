@@ -28,11 +28,12 @@ use Rattle.nv_driver.specs.Answer.{Answer}
 use Rattle.nv_driver.specs.Exchange.{IsReady, after_some}
 use Rattle.nv_driver.specs.Keeping.{Keeps, OthersStay}
 use Rattle.nv_driver.specs.QueuePair.{QueuePair}
+use Rattle.nv_driver.specs.Layout.{offset_for}
 use Rattle.nv_driver.specs.Quiet.{pair_value}
 use Rattle.nv_driver.specs.declared.geometry.Geometry.{Geometry}
 use Rattle.nv_driver.specs.Request.{Asked, Request, padded, request_for, transfer_for}
 use Rattle.nv_driver.specs.Schedule.{IsPrepared, Sent, World, collect_ring}
-use Rattle.nv_driver.specs.Schedule.{IsAnswered, is_success, entry, numbered, step_of, submit_ring}
+use Rattle.nv_driver.specs.Schedule.{IsAnswered, IsListedAtPlace, is_success, entry, numbered, step_of, submit_ring}
 use Rattle.nv_driver.specs.Settled.{end_of}
 use Rattle.nv_driver.specs.UnderWay.{Run, setting_of}
 use Rattle.nv_driver.specs.declared.queue_pair.QueuePair.{QueuePair as QueuePairFields}
@@ -117,6 +118,7 @@ pub record IsEntrySubmitted (page_size : ℕ) (at : EntryPlace) (q : Request)
   pub prp2 : ℕ
   pub ready : List ℕ
   pub prepared : IsPrepared page_size (sent_at at q old.serial prp1 prp2) before ready
+  pub list : IsListedAtPlace page_size (sent_at at q old.serial prp1 prp2) ready
   pub mem : after
       ≡ with_submission ready old.submission (entry (sent_at at q old.serial prp1 prp2))
   pub pair : new ≡ record old {
@@ -199,7 +201,7 @@ abbrev pub side : BusValue → QueuePairFields → ℕ → List ℕ → Side
 side bus pair now bytes = record { bus = bus; pair = pair; now = now; bytes = bytes }
 
 -- an entry can be exchanged over a quiet queue pair, with its data at a place whose first page is the
--- list's, behind the queue pair
+-- list's, behind the queue pair; data and list begin in their pages where the geometry says
 pub record CanExchange (g : Geometry) (c : ℕ) (e : Sqe) (m : Transfer) (at : EntryPlace)
     (old : Side) : Type 0 where
   pub ready : IsReady g old.bus c old.pair old.now old.bytes
@@ -208,6 +210,8 @@ pub record CanExchange (g : Geometry) (c : ℕ) (e : Sqe) (m : Transfer) (at : E
   pub room : HasRoom m
   pub few : length_of m ≤ greatest_limit
   pub place : IsPlaceFor old.bytes old.now at (length_of m)
+  pub offset : at.offset ≡ offset_for g (length_of m)
+  pub list_offset : at.list_offset ≡ g.list_offset
   pub first : AreFrom at.first at
   pub last : old.pair.pages.first + old.pair.pages.count ≤ at.first
 

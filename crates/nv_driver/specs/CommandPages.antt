@@ -1,5 +1,5 @@
 -- The pages of a command.
-use Rattle.std.specs.Prelude.{◌≡◌, ◌≢◌, ℕ, ◌+◌, All, AllPairs, List, drop, take, true}
+use Rattle.std.specs.Prelude.{◌≡◌, ◌≢◌, ℕ, ◌+◌, ◌<◌, All, AllPairs, List, drop, take, true}
 use Rattle.std.specs.FinSet as set
 use Rattle.nv_host.specs.PageSets.{IsOf, Pages}
 use Rattle.nv_driver.specs.declared.command_pages.CommandPages.{CommandPages}
@@ -23,3 +23,8 @@ without s pages = record s { members = set.difference s.members (set.from_list p
 
 abbrev pub with_pages : Pages → List ℕ → Pages
 with_pages s pages = record s { members = set.union s.members (set.from_list pages) }
+
+-- the lowest pages of a set, in order
+pub record AreLowest (s : Pages) (pages : List ℕ) : Type 0 where
+  pub order : AllPairs (λ p q. p < q) pages
+  pub lowest : All (λ p. (q : ℕ) → set.contains (without s pages).members q ≡ true → p < q) pages

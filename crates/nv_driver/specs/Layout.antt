@@ -1,6 +1,6 @@
 -- How a driver lays out the host's memory: for each controller in turn its submission ring, its
 -- completion ring and its page set, each in pages of its own.
-use Rattle.std.specs.Prelude.{ℕ, ◌+◌, ◌*◌, List, map}
+use Rattle.std.specs.Prelude.{ℕ, ◌+◌, ◌*◌, ◌==◌, List, if◌then◌else◌, map}
 use Rattle.std.specs.Int.{div_ceil}
 use Rattle.std.specs.List.{range_with_len}
 use Rattle.nv_model.specs.Limit.{greatest_limit}
@@ -22,6 +22,10 @@ most_bytes = 16384
 -- in how many pages they lie at most
 abbrev pub most_data_pages : ℕ
 most_data_pages = 5
+
+-- where data of so many bytes begins in its first page
+abbrev pub offset_for : Geometry → ℕ → ℕ
+offset_for g len = if len == 0 then 0 else g.offset
 
 -- the most pages of so many bytes: one more where they begin inside a page, and two of a PRP list that
 -- begins inside a page

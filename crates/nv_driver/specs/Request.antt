@@ -11,7 +11,9 @@ use Rattle.nv_command.specs.declared.command.Command.{Command}
 use Rattle.nv_command.specs.declared.status_code.StatusCode.{StatusCode}
 use Rattle.nv_command.specs.declared.transfer.Transfer.{Transfer}
 use Rattle.nv_command.specs.declared.transfer.Transfer.TheVariants.{NoData}
-use Rattle.nv_model.specs.Limit.{greatest_limit}
+use Rattle.nv_model.specs.Limit.{greatest_limit, limit_of}
+use Rattle.nv_model.specs.State.{State}
+use Rattle.nv_model.specs.WellFormed.{IsWellFormed}
 use Rattle.nv_bus.specs.Call.{HasRoom, asked_by, moves_of}
 use Rattle.nv_driver.specs.Answer.{Answer}
 
@@ -71,6 +73,12 @@ request_of k = record {
   sends = host_data_of k;
   asked = Ok k;
 }
+
+-- to each controller of a well-formed subsystem, each command that `admin` takes
+abbrev pub EveryCommandIsRequest : Type 0
+EveryCommandIsRequest = (s : State) (c : ℕ) (k : Command) → IsWellFormed s
+    → c < length s.controllers → CommandFits k → IsSendable k
+    → IsRequest (limit_of s c) (request_of k)
 
 -- ---- any entry
 

@@ -13,7 +13,7 @@ ghost use Rattle.nv_driver.specs.Quiet.{pair_value};
 ghost use Rattle.nv_driver.specs.Request.{CanBeSent};
 ghost use Rattle.nv_driver.specs.Schedule.{slot};
 ghost use Rattle.nv_driver.specs.UnderWay.{HasAnswers, IsBusOf, IsUnderWay, Moment, Run};
-ghost use Rattle.nv_driver.specs.UnderWay.{left_of, run_of, setting_of};
+ghost use Rattle.nv_driver.specs.UnderWay.{run_of, setting_of};
 ghost use Rattle.nv_driver.specs.Pace.{IsToldByPace, IsToldInTime, taken_by_turn};
 
 use crate::answer_slot::AnswerSlot;
@@ -22,7 +22,7 @@ use crate::checked_geometry::CheckedGeometry;
 use crate::command_pages::CommandPages;
 use crate::host_side::HostSide;
 use crate::queue_pair::QueuePair;
-use crate::submitting::submit;
+use crate::submitting::{data_length, submit};
 use nv_bus::Bus;
 use nv_command::Command;
 use nv_host::HostMemory;
@@ -141,6 +141,7 @@ impl Batch {
             → self.old.collected < self.new.sent }
         ensures collected { self.new.collected ≡ self.old.collected }
         ensures told { self.new.told ≡ self.old.told }
+        ensures geometry { self.new.geometry ≡ self.old.geometry }
     {
         if let Some(tail) = self.fill(host, pair, commands) {
             bus.write32(self.ctrl, offset::TAIL_DOORBELL, u32::from(tail));
@@ -184,7 +185,7 @@ impl Batch {
             self.new pair.new (M.page_len mem.new) (M.bytes mem.new) }
         ensures bus { IsBusOf run self.new.sent (self.new.collected + result) self.new.told
             (B.meaning bus.new) }
-        ensures collected { self.new.collected ≡ self.old.collected }
+        ensures batch { self.new ≡ record self.old { told = self.new.told } }
         ensures count { result ≡ taken_by_turn run self.old }
         ensures near { IsToldInTime self.new }
         ensures some { 0 < result → self.new.told ≡ self.old.told }
@@ -225,11 +226,13 @@ impl Batch {
         let pages = self.outstanding[number % MOST].unwrap();
         pages.give(&mut pair.pages);
         let geometry = self.geometry;
-        let buffer = pages.buffer(geometry.offset);
+        let command = &commands[number];
+        let offset = geometry.offset_for(data_length(command));
+        let buffer = pages.buffer(offset);
         answer(
             &host.mem,
             &buffer,
-            &commands[number],
+            command,
             &completion,
             &mut answers[number],
             &mut host.scratch,
@@ -259,7 +262,10 @@ impl Batch {
             self.new pair.new (M.page_len host.new.mem) (M.bytes host.new.mem) }
         ensures bus { IsBusOf at.run self.new.sent at.done self.new.told (B.meaning bus.new) }
         ensures answers { HasAnswers at.run self.new.collected answers.new }
-        ensures collected { self.new.collected ≡ at.done }
+        ensures batch { self.new ≡ record self.old {
+          collected = at.done;
+          told = self.new.told;
+        } }
         ensures near { IsToldInTime self.new }
         ensures paced { IsToldByPace self.old.geometry.pace self.old.told self.new.told }
         ensures told { posted ≡ 0 → self.new.told ≡ self.old.told }
@@ -274,7 +280,8 @@ impl Batch {
         }
     }
 
-    /// Submits what can be submitted, gives the controller a turn, and collects the answers.
+    /// Submits what can be submitted, gives the controller a turn, and collects the answers. The head
+    /// is told each time that the geometry's pace is reached, and where the turn took nothing.
     fn round<B: Bus, M: HostMemory>(
         &mut self,
         bus: &mut B,
@@ -298,8 +305,14 @@ impl Batch {
             (B.meaning bus.new) }
         ensures answers { HasAnswers run self.new.collected answers.new }
         ensures near { IsToldInTime self.new }
-        ensures further { left_of (length commands.now) self.new
-            < left_of (length commands.now) self.old }
+        ensures sent { self.new.sent ≡ min (self.old.collected + self.old.geometry.window)
+            (length commands.now) }
+        ensures count { self.new.collected ≡ self.old.collected
+            + taken_by_turn run (record self.old { sent = self.new.sent }) }
+        ensures paced { self.old.collected < self.new.collected
+            → IsToldByPace self.old.geometry.pace self.old.told self.new.told }
+        ensures none { self.new.collected ≡ self.old.collected
+            → (self.old.told < self.old.collected) × (self.new.told ≡ self.old.collected) }
     {
         self.send(bus, host, pair, commands);
         let posted = self.turn(bus, &mut host.mem, pair);

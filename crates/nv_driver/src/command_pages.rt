@@ -3,7 +3,7 @@
 ghost use Rattle.std.specs.Prelude.{◌≡◌, ◌≢◌, ◌+◌, ◌≤◌, All, AllPairs, false, length, slice_index};
 ghost use Rattle.std.specs.FinSet as set;
 ghost use Rattle.nv_host.specs.PageSets.{IsOf};
-ghost use Rattle.nv_driver.specs.CommandPages.{AreTaken, all_pages, data_pages};
+ghost use Rattle.nv_driver.specs.CommandPages.{AreLowest, AreTaken, all_pages, data_pages};
 ghost use Rattle.nv_driver.specs.CommandPages.{with_pages, without};
 ghost use Rattle.nv_driver.specs.Layout.{most_data_pages};
 
@@ -23,8 +23,8 @@ pub struct CommandPages {
 }
 
 impl CommandPages {
-    /// Takes the pages of a command out of a set, in its order: two for a list, and so many for its
-    /// data, at most five.
+    /// Takes the pages of a command out of a set, its lowest ones in order: two for a list, and so
+    /// many for its data, at most five.
     pub(crate) fn take(free: &mut PageSet, data_pages: usize) -> CommandPages
         requires few { data_pages ≤ most_data_pages }
         requires enough { data_pages + 2 ≤ set.len free.old.members }
@@ -32,6 +32,7 @@ impl CommandPages {
         ensures few { result.data_pages ≤ most_data_pages }
         ensures seven { length result.numbers ≡ 7 }
         ensures taken { AreTaken free.old (all_pages result) }
+        ensures lowest { AreLowest free.old (all_pages result) }
         ensures set { free.new ≡ without free.old (all_pages result) }
         ensures len { set.len free.new.members + (data_pages + 2) ≡ set.len free.old.members }
     {

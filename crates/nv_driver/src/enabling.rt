@@ -12,8 +12,8 @@ ghost use Rattle.nv_driver.specs.Exchange.{IsReady, KeepsOthers};
 ghost use Rattle.nv_driver.specs.QueuePair.{IsLaid, idle_bank, renewed_pair};
 ghost use Rattle.nv_driver.specs.Layout.{pair_of, pairs_of};
 ghost use Rattle.nv_driver.specs.Quiet.{IsQuiet, pair_value};
-ghost use Rattle.nv_driver.specs.Registers.{HasQueues, disabled, idle_banks, mps_of};
-ghost use Rattle.nv_driver.specs.Registers.{with_queues};
+ghost use Rattle.nv_driver.specs.Registers.{HasQueues, aqa_of_both, cc_enabling, disabled};
+ghost use Rattle.nv_driver.specs.Registers.{idle_banks, mps_of, with_queues};
 ghost use Rattle.nv_driver.specs.Settled.{IsSettled};
 
 use crate::checked_geometry::CheckedGeometry;
@@ -41,6 +41,21 @@ fn mps(page_size: u32) -> u32
         32768 => 3,
         _ => 4,
     }
+}
+
+/// CC of a controller that is enabled, in pages of this size. Section "Controller Configuration".
+fn configuration(page_size: u32) -> u32
+    ensures { result ≡ cc_enabling page_size }
+{
+    ENABLE + (mps(page_size) << 7)
+}
+
+/// AQA of two queues that have so many entries each, less one. Section "Admin Queue Attributes".
+fn attributes(less_one: u32) -> u32
+    requires deep { less_one ≤ 4095 }
+    ensures { result ≡ aqa_of_both less_one }
+{
+    (less_one << 16) + less_one
 }
 
 /// Awaits that CSTS.RDY has a value. Section "Controller Status".
@@ -87,7 +102,7 @@ fn set_queues<B: Bus>(bus: &mut B, ctrl: u16, less_one: u32, sq: u64, cq: u64)
         (with_queues (bank_at (B.meaning bus.old).banks ctrl) less_one sq cq) }
     ensures bus { IsBus (B.meaning bus.old) → IsBus (B.meaning bus.new) }
 {
-    bus.write32(ctrl, offset::AQA, (less_one << 16) + less_one);
+    bus.write32(ctrl, offset::AQA, attributes(less_one));
     bus.write32(ctrl, offset::ASQ_LOW, (sq % (1 << 32)) as u32);
     bus.write32(ctrl, offset::ASQ_HIGH, (sq >> 32) as u32);
     bus.write32(ctrl, offset::ACQ_LOW, (cq % (1 << 32)) as u32);
@@ -105,7 +120,7 @@ fn start<B: Bus>(bus: &mut B, ctrl: u16, geometry: CheckedGeometry) -> Result<()
         (idle_bank (mps_of geometry.page_size) geometry.page_size (pair_of geometry ctrl)) }
     ensures bus { IsBus (B.meaning bus.old) → IsBus (B.meaning bus.new) }
 {
-    bus.write32(ctrl, offset::CC, ENABLE + (mps(geometry.page_size) << 7));
+    bus.write32(ctrl, offset::CC, configuration(geometry.page_size));
     await_ready(bus, ctrl, true)
 }
 

@@ -2,8 +2,9 @@
 
 ghost use Rattle.std.specs.Prelude.{◌≡◌, ℕ, ◌+◌, ◌*◌, ◌^◌, ◌<◌, ◌≤◌, if◌then◌else◌};
 ghost use Rattle.nv_model.specs.Limit.{greatest_limit};
+ghost use Rattle.nv_driver.specs.Geometry.{IsGeometry};
 ghost use Rattle.nv_driver.specs.Layout.{completion_pages, pages_of_entry, pair_of, pair_pages, pages_of};
-ghost use Rattle.nv_driver.specs.Layout.{pages_for, set_pages, submission_pages};
+ghost use Rattle.nv_driver.specs.Layout.{offset_for, pages_for, set_pages, submission_pages};
 
 use crate::checked_geometry::CheckedGeometry;
 
@@ -93,16 +94,25 @@ impl CheckedGeometry {
         if with_entries { self.entry_pages() } else { 0 }
     }
 
-    /// In how many pages so many bytes lie, from the geometry's offset on: they are no more than
-    /// the pages for the most bytes leave beside a list.
+    /// Where data of so many bytes begins in its first page.
+    pub(crate) fn offset_for(self, len: u32) -> u32
+        ensures value { result ≡ offset_for self len }
+        ensures keeps { IsGeometry self }
+    {
+        if len == 0 { 0 } else { self.offset }
+    }
+
+    /// In how many pages data of so many bytes lies, in none without any: they are no more than the
+    /// pages for the most bytes leave beside a list.
     pub(crate) fn data_pages(self, len: u32) -> usize
         ghost most: { ℕ }
         requires len { len ≤ most }
         requires most { most ≤ greatest_limit }
-        ensures enough { self.offset + len ≤ result * self.page_size }
+        ensures enough { offset_for self len + len ≤ result * self.page_size }
+        ensures none { len ≡ 0 → result ≡ 0 }
         ensures few { result + 2 ≤ pages_for most self.page_size }
     {
-        (self.offset + len).div_ceil(self.page_size) as usize
+        (self.offset_for(len) + len).div_ceil(self.page_size) as usize
     }
 
     /// Where the rings and pages of a controller lie. The page behind them has a number too.

@@ -72,5 +72,5 @@ pub use driver::Driver;
 pub use error::DriverError;
 pub use geometry::Geometry;
 pub use geometry_field::GeometryField;
-pub use law::{any_entry, any_schedule};
+pub use law::{any_command, any_entry, any_schedule};
 pub use nv_bus::Told;

@@ -173,9 +173,10 @@ pub(crate) fn exchange_entry<B: Bus, M: HostMemory>(
         result out.new }
 {
     let transfer = transfer_for(entry);
-    let count = geometry.data_pages(length_of(transfer));
+    let len = length_of(transfer);
+    let count = geometry.data_pages(len);
     let pages = pages_from(first_page, count + 2);
-    let buffer = buffer_in(&pages, count, geometry.offset);
+    let buffer = buffer_in(&pages, count, geometry.offset_for(len));
     let list = list_in(&pages, geometry.list_offset);
     exchange_at(
         bus, ctrl, host, pair, &buffer, &list, transfer, entry, bytes, out,

@@ -13,7 +13,8 @@ ghost use Rattle.nv_queue.specs.Numbers.{next, slot_of};
 ghost use Rattle.nv_queue.specs.Rings.{IsSubmitFull};
 ghost use Rattle.nv_model.specs.Numbers.{serial_count};
 ghost use Rattle.nv_driver.specs.CommandPages.{data_pages};
-ghost use Rattle.nv_driver.specs.Layout.{most_bytes, most_data_pages, pages_of_command};
+ghost use Rattle.nv_driver.specs.Layout.{most_bytes, most_data_pages, offset_for};
+ghost use Rattle.nv_driver.specs.Layout.{pages_of_command};
 ghost use Rattle.nv_driver.specs.Request.{CanBeSent};
 ghost use Rattle.nv_driver.specs.Submitting.{IsSubmitted};
 
@@ -29,7 +30,7 @@ use nv_prp::{Buffer, copy_out};
 
 /// How many bytes of data a command has.
 #[tactic(auto, using(crate::proofs::DataLaws::shape_as, crate::proofs::DataLaws::most))]
-fn data_length(command: &Command) -> u32
+pub(crate) fn data_length(command: &Command) -> u32
     requires { IsSendable command.now }
     ensures length { result ≡ length_of (transfer_by command.now) }
     ensures most { result ≤ most_bytes }
@@ -52,14 +53,14 @@ fn build_pointer<M: HostMemory>(
     requires few { pages.now.data_pages ≤ most_data_pages }
     requires limit { len ≤ most_bytes }
     requires buffer { IsBuffer (M.bytes mem.old) (M.page_len mem.old)
-        (data_pages pages.now) geometry.offset len }
+        (data_pages pages.now) (offset_for geometry len) len }
     requires list { IsListPlace (M.bytes mem.old) (M.page_len mem.old)
         (slice_index pages.now.numbers 0) (slice_index pages.now.numbers 1) geometry.list_offset }
     requires distinct { AreDistinct (slice_index pages.now.numbers 0
         ∷ slice_index pages.now.numbers 1 ∷ data_pages pages.now) }
     ensures stays { 0 < len → StaysFor (transfer (M.page_len mem.new)
-        (M.bytes mem.new) result.0 result.1 len) (data_pages pages.now) geometry.offset
-        (slice_index pages.now.numbers 0) (slice_index pages.now.numbers 1) }
+        (M.bytes mem.new) result.0 result.1 len) (data_pages pages.now)
+        (offset_for geometry len) (slice_index pages.now.numbers 0) (slice_index pages.now.numbers 1) }
     ensures none { len ≡ 0 → (result.0 ≡ 0) × (result.1 ≡ 0) }
     ensures list { 0 < len → 2 < pages_of (transfer (M.page_len mem.new)
         (M.bytes mem.new) result.0 result.1 len) → result.1
@@ -69,7 +70,7 @@ fn build_pointer<M: HostMemory>(
     ensures len { length (M.bytes mem.new) ≡ length (M.bytes mem.old) }
     ensures page { M.page_len mem.new ≡ M.page_len mem.old }
 {
-    let buffer = pages.buffer(geometry.offset);
+    let buffer = pages.buffer(geometry.offset_for(len));
     point_to(mem, &buffer, &pages.list(geometry.list_offset), len)
 }
 
@@ -136,8 +137,8 @@ pub(crate) fn submit<M: HostMemory>(
     ensures len { length (M.bytes mem.new) ≡ length (M.bytes mem.old) }
     ensures page { M.page_len mem.new ≡ M.page_len mem.old }
 {
-    let offset = geometry.offset;
     let len = data_length(command);
+    let offset = geometry.offset_for(len);
     let pages = CommandPages::take(&mut pair.pages, geometry.data_pages(len));
     let (prp1, prp2) = build_pointer(mem, geometry, &pages, len);
     write_data(mem, &pages.buffer(offset), command, scratch);

@@ -1,6 +1,7 @@
 use Rattle.std.proofs.Common.{ap, arith}
 use Rattle.nv_driver.specs.declared.geometry.Geometry.{Geometry}
 use Rattle.nv_driver.proofs.EndLaws.{all_collected, answers_all, begins_all, ends_all}
+use Rattle.nv_driver.proofs.RoundLaws.{comes_further}
 use Rattle.nv_driver.proofs.batch.exchange_all.Goals as goal
 
 pub loop-batch-init : goal.loop-batch-init
@@ -16,6 +17,12 @@ loop-batch-init g c =
       answers = begun.answers_are;
       near = omega (arith, b.collected, b.told, u.begun.geometry.pace, ap (λ (q : Geometry). q.pace) u.geometry);
     }
+
+pub loop-batch-smaller : goal.loop-batch-smaller
+loop-batch-smaller g c =
+    let e = c.round.ensures in
+    comes_further _ c.loop-batch.batch c.round.new.self (omega (arith, c.loop-batch-test.true)) (omega (arith, e.count))
+    e.none
 
 pub returns-clause-answers : goal.returns-clause-answers
 returns-clause-answers g c =

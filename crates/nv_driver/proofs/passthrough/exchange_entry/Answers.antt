@@ -1,6 +1,7 @@
 use Rattle.std.proofs.Common.{◌∙◌, ◌≡◌, ◌+◌, ◌≤◌, [], ap, arith, length, rules, subst, sym}
 use Rattle.nv_prp.specs.declared.builder.ListPlace.{ListPlace}
 use Rattle.nv_driver.specs.Alone.{CanExchange, place_in, side}
+use Rattle.nv_driver.specs.Layout.{offset_for}
 use Rattle.nv_driver.specs.UnderWay.{Run, run_of}
 use Rattle.nv_driver.specs.declared.geometry.Geometry.{Geometry}
 use Rattle.nv_driver.proofs.ExchangeLaws.{can_exchange, list_at}
@@ -38,9 +39,9 @@ exchange_at-requires g c κs within =
     let few : c.data_pages-count.result + 2 ≤ length c.pages_from-pages.result =
     omega (arith, d.few, entry_pages_few c.args.geometry.page_size asked.1.0.geometry.page_size, pages.len) in
     let can = can_exchange asked.1.0 asked.1.1.0 t.value t.room t.few (record { each = pages.each; long = few })
-    buffer.pages (buffer.offset ∙ ap (λ (q : Geometry). q.offset) view)
+    buffer.pages (buffer.offset ∙ c.offset_for.ensures.value ∙ ap (offset_for c.args.geometry) c.length_of-len.ensures)
     (c.list_in-list.ensures ∙ ap (λ (q : Geometry). list_at c.pages_from-pages.result q.list_offset) view)
-    (rw (← c.length_of.ensures) d.enough) d.few asked.1.1.1.1.0 asked.1.1.1.0 in (
+    (rw (← c.length_of-len.ensures) d.enough) d.few asked.1.1.1.1.0 asked.1.1.1.0 in (
       search rules,
       (
         search rules,

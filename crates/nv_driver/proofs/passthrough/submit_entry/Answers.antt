@@ -36,6 +36,7 @@ returns-clause-submitted g c =
       ready = ready;
       prepared = prepared_by size x before built ready place.is_size
           (length-padded (bytes_from_host q.transfer) c.args.bytes.now) is_buffer place.distinct is_built put;
+      list = rw (b.page, c.length_of.ensures ∙ same) at b.list;
       mem = on_ok c.push.result c.unwrap-tail.result ok c.push.ensures.bytes;
       pair = pairs_same (on_ok c.push.result c.unwrap-tail.result ok c.push.ensures.submitted) refl refl refl;
     }

@@ -1,5 +1,6 @@
 use Rattle.std.proofs.Common.{◌≡◌, ◌∙◌, ℕ, ◌+◌, ◌-◌, ◌*◌, ◌≤◌, ap, arith}
 use Rattle.nv_driver.specs.Pace.{IsToldByPace}
+use Rattle.nv_driver.specs.declared.batch.Batch.{Batch}
 use Rattle.nv_driver.specs.declared.geometry.Geometry.{Geometry}
 use Rattle.nv_driver.proofs.RoundLaws.{tells_on}
 use Rattle.nv_driver.proofs.batch.Batch.collect.Goals as goal
@@ -19,6 +20,7 @@ loop-preserved g c =
     let i = c.loop.invariant in
     let one = c.collect_one.ensures in
     let u = i.under_way in
+    let n = c.loop.self.collected in
     let some = u.begun.geometry.pace in
     let run_pace = ap (λ (q : Geometry). q.pace) u.geometry in
     let first_pace = ap (λ (q : Geometry). q.pace) c.requires.1.1.1.0.geometry in
@@ -34,6 +36,7 @@ loop-preserved g c =
             under_way = told.0;
             bus = told.1;
             answers = answers;
+            batch = ap (λ (b : Batch). record b { collected = n + 1; told = n + 1 }) i.batch;
             collected = omega (arith, i.collected);
             near = omega (arith, some, run_pace);
             paced = told_once _ _ i.paced.1 full limit (omega (arith, some, first_pace));
@@ -45,6 +48,7 @@ loop-preserved g c =
             under_way = next;
             bus = i.bus;
             answers = answers;
+            batch = ap (λ (b : Batch). record b { collected = n + 1 }) i.batch;
             collected = omega (arith, i.collected);
             near = omega (arith, more, limit, first_pace, run_pace, i.near);
             paced = i.paced;

@@ -12,6 +12,7 @@ invariant-loop g l = record {
       (g.M.HostMemory.page_len l.host.mem) (g.M.HostMemory.bytes l.host.mem);
   bus : IsBusOf g.at.run l.self.sent g.at.done l.self.told (g.B.Bus.meaning l.bus);
   answers : HasAnswers g.at.run l.self.collected l.answers;
+  batch : l.self ≡ record l.fn.self { collected = l.self.collected; told = l.self.told };
   collected : l.self.collected ≡ l.fn.self.collected + l.counter;
   near : IsToldInTime l.self;
   paced : IsToldByPace l.fn.self.geometry.pace l.fn.self.told l.self.told;

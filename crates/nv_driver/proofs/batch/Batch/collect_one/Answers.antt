@@ -1,5 +1,5 @@
 use Rattle.std.proofs.Common.{◌∙◌, ap, arith, refl}
-use Rattle.nv_driver.specs.declared.geometry.Geometry.{Geometry}
+use Rattle.nv_driver.specs.Layout.{offset_for}
 use Rattle.nv_driver.proofs.CollectLaws.{answer_buffer, answer_sends, answers_more, can_give, cid_below, collects}
 use Rattle.nv_driver.proofs.CollectLaws.{few_data, freed_between, has_place, in_some, is_next, is_there, number_inside}
 use Rattle.nv_driver.proofs.batch.Batch.collect_one.Goals as goal
@@ -44,6 +44,12 @@ bounds-commands-number g c =
     let next = is_next asked.0 asked.1.1 c.unwrap-completion.ensures c.poll.ensures.value c.distance.ensures in
     rw (c.requires.1.0) (number_inside asked.0 next.1)
 
+pub data_length-requires : goal.data_length-requires
+data_length-requires g c =
+    let asked = c.requires.1.1 in
+    let next = is_next asked.0 asked.1.1 c.unwrap-completion.ensures c.poll.ensures.value c.distance.ensures in
+    answer_sends asked.0 next.1 c.unwrap-pages.ensures c.requires.1.0 c.index-commands-number.is
+
 pub answer-requires : goal.answer-requires
 answer-requires g c =
     let asked = c.requires.1.1 in
@@ -51,7 +57,8 @@ answer-requires g c =
     let here = c.unwrap-pages.ensures in
     let is = c.index-commands-number.is in
     let buffer = c.buffer-buffer.ensures in
-    let offset = buffer.offset ∙ ap (λ (q : Geometry). q.offset) c.geometry.view_is in
+    let offset =
+    buffer.offset ∙ c.offset_for-offset.ensures.value ∙ ap (offset_for c.args.self.now.geometry) c.data_length.ensures.length in
     record {
       sends = answer_sends asked.0 next.1 here c.requires.1.0 is;
       buffer = answer_buffer asked.0 next.1 here c.requires.1.0 is buffer.pages offset;
@@ -75,6 +82,7 @@ returns-clause-answers g c =
     let asked = c.requires.1.1 in
     let next = is_next asked.0 asked.1.1 c.unwrap-completion.ensures c.poll.ensures.value c.distance.ensures in
     let buffer = c.buffer-buffer.ensures in
-    let offset = buffer.offset ∙ ap (λ (q : Geometry). q.offset) c.geometry.view_is in
+    let offset =
+    buffer.offset ∙ c.offset_for-offset.ensures.value ∙ ap (offset_for c.args.self.now.geometry) c.data_length.ensures.length in
     answers_more asked.0 next.1 c.unwrap-pages.ensures c.requires.1.0 c.index-commands-number.is buffer.pages offset
     asked.1.0 c.answer.ensures

@@ -15,7 +15,7 @@ returns-then-posted-eq0 g c =
     rw (c.tell.ensures.batch) (record {
       under_way = next.0;
       bus = next.1;
-      collected = refl;
+      batch = refl;
       count = h.number_is;
       near = omega (arith, some, run_pace);
       some = λ more. absurd (omega arith);
@@ -30,7 +30,7 @@ returns-else-posted-eq0 g c =
     record {
       under_way = h.under_way;
       bus = h.bus_is;
-      collected = refl;
+      batch = refl;
       count = h.number_is;
       near = c.requires.1.1.1.1.1;
       some = λ more. refl;
