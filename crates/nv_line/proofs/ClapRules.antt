@@ -17,10 +17,8 @@ use Rattle.nv_line.specs.declared.clap_rule.MadeCommand.{MadeCommand}
 use Rattle.nv_line.specs.declared.fault.LineFault.{LineFault}
 use Rattle.nv_line.specs.declared.fault.LineFault.TheVariants as fault
 use Rattle.nv_line.specs.declared.verb.Verb.{Verb}
-use Rattle.nv_line.specs.declared.verb.Verb.TheVariants.{Of, List as ListAll}
-use Rattle.nv_line.specs.declared.verb.DeviceVerb.TheVariants.{IdCtrl, IdNs, ListNs, CreateNs}
-use Rattle.nv_line.specs.declared.verb.DeviceVerb.TheVariants.{AttachNs, DetachNs, DeleteNs, Format}
-use Rattle.nv_line.specs.declared.verb.DeviceVerb.TheVariants.{GetFeature, SetFeature, SmartLog, ErrorLog, Reset}
+use Rattle.nv_line.specs.declared.verb.Verb.TheVariants.{Of}
+use Rattle.nv_line.specs.declared.verb.DeviceVerb.TheVariants.{IdCtrl}
 
 -- an application that clap builds at its first use, and takes as it is at each later one
 record IsReusable (p : App) : Type 0 where
@@ -29,21 +27,10 @@ record IsReusable (p : App) : Type 0 where
   once : (built p).top.is_built ≡ true
   words : (built p).top.no_binary_name ≡ p.top.no_binary_name
 
+-- each command's is one, by computing
 each_is_reusable : (v : Verb) → IsReusable (app_for v)
 each_is_reusable (Of IdCtrl) = record { simple = refl; still = refl; once = refl; words = refl }
-each_is_reusable (Of IdNs) = record { simple = refl; still = refl; once = refl; words = refl }
-each_is_reusable (Of ListNs) = record { simple = refl; still = refl; once = refl; words = refl }
-each_is_reusable (Of CreateNs) = record { simple = refl; still = refl; once = refl; words = refl }
-each_is_reusable (Of AttachNs) = record { simple = refl; still = refl; once = refl; words = refl }
-each_is_reusable (Of DetachNs) = record { simple = refl; still = refl; once = refl; words = refl }
-each_is_reusable (Of DeleteNs) = record { simple = refl; still = refl; once = refl; words = refl }
-each_is_reusable (Of Format) = record { simple = refl; still = refl; once = refl; words = refl }
-each_is_reusable (Of GetFeature) = record { simple = refl; still = refl; once = refl; words = refl }
-each_is_reusable (Of SetFeature) = record { simple = refl; still = refl; once = refl; words = refl }
-each_is_reusable (Of SmartLog) = record { simple = refl; still = refl; once = refl; words = refl }
-each_is_reusable (Of ErrorLog) = record { simple = refl; still = refl; once = refl; words = refl }
-each_is_reusable (Of Reset) = record { simple = refl; still = refl; once = refl; words = refl }
-each_is_reusable ListAll = record { simple = refl; still = refl; once = refl; words = refl }
+each_is_reusable v = record { simple = refl; still = refl; once = refl; words = refl }
 
 -- an application that answers as p does
 pub record AnswersAs (p a : App) : Type 0 where

@@ -8,7 +8,8 @@ use Rattle.clap.specs.declared.builder.ArgAction.{ArgAction}
 use Rattle.clap.specs.declared.builder.ArgAction.TheVariants.{Set, SetTrue}
 use Rattle.nv_line.specs.NumberOption.{is_required}
 use Rattle.nv_line.specs.OptionName.{name_of}
-use Rattle.nv_line.specs.Verb.{options_of, word_of}
+use Rattle.nv_line.specs.Options.{options_of}
+use Rattle.nv_line.specs.Verb.{word_of}
 use Rattle.nv_line.specs.declared.clap_rule.MadeCommand.{MadeCommand}
 use Rattle.nv_line.specs.declared.fault.LineFault.{LineFault}
 use Rattle.nv_line.specs.declared.fault.LineFault.TheVariants.{Usage}

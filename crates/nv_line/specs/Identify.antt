@@ -7,12 +7,12 @@ use Rattle.nv_command.specs.declared.command.Command.TheVariants.{AllocatedNames
 use Rattle.nv_command.specs.declared.command.Command.TheVariants.{IdentifyNamespace}
 use Rattle.nv_layout.specs.Steps.{◌>>=◌}
 use Rattle.nv_line.specs.OptionValue.{flag_in, number_option_in}
+use Rattle.nv_line.specs.Options.{all_option, first_nsid_option, force_option, nsid_option}
 use Rattle.nv_line.specs.declared.device.Device.{Device}
 use Rattle.nv_line.specs.declared.fault.LineFault.{LineFault}
 use Rattle.nv_line.specs.declared.request.Act.TheVariants.{Send}
 use Rattle.nv_line.specs.declared.request.Ask.{Ask}
 use Rattle.nv_line.specs.declared.request.Ask.TheVariants.{Do}
-use Rattle.nv_line.specs.declared.verb.TheConstants.{ALL, FIRST_NSID, FORCE, NSID}
 
 -- the NSIDs above one: those attached to the controller, or all allocated ones
 abbrev pub list_command : Bool → ℕ → Command
@@ -25,10 +25,10 @@ namespace_command force nsid = if force then AllocatedNamespace nsid else Identi
 -- a list begins at an NSID, and is asked for after the one before it
 abbrev pub list_ns_of : List Row → Device → Result Ask LineFault
 list_ns_of rows device = do
-  first ← number_option_in rows FIRST_NSID device
-  Ok (Do (Send (list_command (flag_in rows ALL) (first - 1))))
+  first ← number_option_in rows first_nsid_option device
+  Ok (Do (Send (list_command (flag_in rows all_option) (first - 1))))
 
 abbrev pub id_ns_of : List Row → Device → Result Ask LineFault
 id_ns_of rows device = do
-  nsid ← number_option_in rows NSID device
-  Ok (Do (Send (namespace_command (flag_in rows FORCE) nsid)))
+  nsid ← number_option_in rows nsid_option device
+  Ok (Do (Send (namespace_command (flag_in rows force_option) nsid)))

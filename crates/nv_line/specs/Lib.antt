@@ -8,6 +8,7 @@ pub mod LineFault
 pub mod NumberOption
 pub mod OutputFormat
 pub mod Verb
+pub mod Options
 pub mod ClapRule
 pub mod OptionValue
 pub mod Ask

@@ -14,6 +14,7 @@ use Rattle.nv_layout.specs.Steps.{◌>>=◌}
 use Rattle.nv_line.specs.Logs.{error_log_of, smart_log_of}
 use Rattle.nv_line.specs.Management.{attachment_of, create_ns_of, delete_ns_of}
 use Rattle.nv_line.specs.OptionValue.{format_in}
+use Rattle.nv_line.specs.Options.{output_format_option}
 use Rattle.nv_line.specs.Verb.{verb_of}
 use Rattle.nv_line.specs.declared.device.Device.{Device}
 use Rattle.nv_line.specs.declared.fault.LineFault.{LineFault}
@@ -30,7 +31,6 @@ use Rattle.nv_line.specs.declared.verb.DeviceVerb.TheVariants.{IdCtrl, IdNs, Lis
 use Rattle.nv_line.specs.declared.verb.DeviceVerb.TheVariants.{AttachNs, DetachNs, DeleteNs, Format}
 use Rattle.nv_line.specs.declared.verb.DeviceVerb.TheVariants.{GetFeature, SetFeature, SmartLog}
 use Rattle.nv_line.specs.declared.verb.DeviceVerb.TheVariants.{ErrorLog, Reset}
-use Rattle.nv_line.specs.declared.verb.TheConstants.{OUTPUT_FORMAT}
 use Rattle.nv_line.specs.declared.verb.Verb.{Verb}
 use Rattle.nv_line.specs.declared.verb.Verb.TheVariants.{Of, List}
 
@@ -69,7 +69,7 @@ request_of controllers [] = Err fault.Usage
 request_of controllers (word ∷ rest) = do
   verb ← ok_or (verb_of word) fault.Usage
   rows ← rows_of_words verb (word ∷ rest)
-  format ← format_in rows OUTPUT_FORMAT
+  format ← format_in rows output_format_option
   asked ← query_of controllers verb rows
   Ok (record { query = asked; format = format })
 

@@ -1,12 +1,7 @@
--- The command words, and the options of each.
-use Rattle.std.specs.Prelude.{List as ListOf, Option, codes, find}
+-- The command words.
+use Rattle.std.specs.Prelude.{List as ListOf, [], ◌∷◌, Option, codes, find}
 use Rattle.std.specs.Str.{bytes_eq}
 use Rattle.clap.specs.Words.{Text}
-use Rattle.nv_line.specs.declared.option.CommandOption.{CommandOption}
-use Rattle.nv_line.specs.declared.verb.TheConstants.{VERBS, ATTACHMENT, CREATE_NS, DELETE_NS}
-use Rattle.nv_line.specs.declared.verb.TheConstants.{ERROR_LOG, FORMAT}
-use Rattle.nv_line.specs.declared.verb.TheConstants.{FORMAT_ALONE, GET_FEATURE, ID_NS, LIST_NS}
-use Rattle.nv_line.specs.declared.verb.TheConstants.{RESET, SET_FEATURE, SMART_LOG}
 use Rattle.nv_line.specs.declared.verb.DeviceVerb.{DeviceVerb}
 use Rattle.nv_line.specs.declared.verb.DeviceVerb.TheVariants.{IdCtrl, IdNs, ListNs, CreateNs}
 use Rattle.nv_line.specs.declared.verb.DeviceVerb.TheVariants.{AttachNs, DetachNs, DeleteNs, Format}
@@ -34,25 +29,24 @@ abbrev pub word_of : Verb → Text
 word_of (Of verb) = device_word_of verb
 word_of List = codes "list"
 
--- the options in order: a row of the table
-abbrev pub device_options_of : DeviceVerb → ListOf CommandOption
-device_options_of IdCtrl = FORMAT_ALONE
-device_options_of IdNs = ID_NS
-device_options_of ListNs = LIST_NS
-device_options_of CreateNs = CREATE_NS
-device_options_of AttachNs = ATTACHMENT
-device_options_of DetachNs = ATTACHMENT
-device_options_of DeleteNs = DELETE_NS
-device_options_of Format = FORMAT
-device_options_of GetFeature = GET_FEATURE
-device_options_of SetFeature = SET_FEATURE
-device_options_of SmartLog = SMART_LOG
-device_options_of ErrorLog = ERROR_LOG
-device_options_of Reset = RESET
-
-abbrev pub options_of : Verb → ListOf CommandOption
-options_of (Of verb) = device_options_of verb
-options_of List = FORMAT_ALONE
+-- the commands, each of which its word names
+abbrev pub verbs : ListOf Verb
+verbs =
+    Of IdCtrl
+    ∷ Of IdNs
+    ∷ Of ListNs
+    ∷ Of CreateNs
+    ∷ Of AttachNs
+    ∷ Of DetachNs
+    ∷ Of DeleteNs
+    ∷ Of Format
+    ∷ Of GetFeature
+    ∷ Of SetFeature
+    ∷ Of SmartLog
+    ∷ Of ErrorLog
+    ∷ Of Reset
+    ∷ List
+    ∷ []
 
 abbrev pub verb_of : Text → Option Verb
-verb_of word = find (λ v. bytes_eq word (word_of v)) VERBS
+verb_of word = find (λ v. bytes_eq word (word_of v)) verbs

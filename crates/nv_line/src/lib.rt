@@ -37,3 +37,4 @@ pub use nv_layout::CtrlList;
 pub use option::OptionName;
 pub use output_format::OutputFormat;
 pub use request::{Act, Ask, Query, Question, Request};
+pub use word::{is_skipped_line, split_words};

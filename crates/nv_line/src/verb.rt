@@ -1,13 +1,8 @@
 //! The command words, each with its options: the table of all commands.
 
 ghost use Rattle.std.specs.Prelude.{◌≡◌, Some};
-ghost use Rattle.nv_line.specs.Verb.{
-  device_options_of,
-  device_word_of,
-  options_of,
-  verb_of,
-  word_of,
-};
+ghost use Rattle.nv_line.specs.Options.{device_options_of, options_of};
+ghost use Rattle.nv_line.specs.Verb.{device_word_of, verb_of, word_of};
 
 use crate::device::NSID_LIMIT;
 use crate::option::{

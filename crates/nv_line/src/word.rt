@@ -3,11 +3,10 @@
 ghost use Rattle.std.specs.Prelude.{◌≡◌, IfOk, map};
 ghost use Rattle.nv_line.specs.Word.{is_skipped, without_nvme, words_of};
 
-use bumpalo::Bump;
-use std::alloc::AllocError;
+use std::alloc::{AllocError, Allocator};
 
 /// Whether a line is blank, or begins with # after its spaces and tabs.
-pub(crate) fn is_skipped_line(line: &[u8]) -> bool
+pub fn is_skipped_line(line: &[u8]) -> bool
     ensures { result ≡ is_skipped line.now }
 {
     match line.iter().find(|b| !(**b == b' ' || **b == b'\t')) {
@@ -16,17 +15,14 @@ pub(crate) fn is_skipped_line(line: &[u8]) -> bool
     }
 }
 
-/// The words of a line, between spaces and tabs, in the room.
-pub(crate) fn split_words<'a>(
-    room: &'a Bump,
-    text: &'a str,
-) -> Result<Vec<&'a str, &'a Bump>, AllocError>
+/// The words of a line, between spaces and tabs.
+pub fn split_words<'a, A: Allocator>(alloc: A, text: &'a str) -> Result<Vec<&'a str, A>, AllocError>
     ensures { IfOk result (λ v. map (λ w. w.now) v.items ≡ words_of text.now) }
 {
     text.split(' ')
         .flat_map(|part| part.split('\t'))
         .filter(|word| !word.is_empty())
-        .collect(room)
+        .collect(alloc)
 }
 
 /// The words without a first word `nvme`.

@@ -10,7 +10,7 @@ use Rattle.nv_line.proofs.Pieces.{split_twice}
 use Rattle.nv_line.proofs.word.split_words.Goals as goal
 
 pub returns : goal.returns
-returns c =
+returns g c =
     let pieces = map_from_collect {v = λ (x : Bor (List ℕ)). x.now} c.collect.result c.collect.ensures.ran
     (YieldsList-from_filter _ (λ w. not (is_empty w))
     (YieldsList-from_flat_map _ _ _ (λ (x : Bor (List ℕ)). x.now) (slice_split (λ b. b == 9)) _
