@@ -4,6 +4,7 @@ ghost use Rattle.std.specs.Prelude.{◌≡◌, ◌≤◌, IfOk, length, string_b
 ghost use Rattle.nv_print.specs.Message.{message_of};
 
 use nv_command::StatusCode;
+use nv_host::Memory;
 use nv_layout::Status;
 use nv_line::LineFault;
 use std::alloc::{AllocError, Global};
@@ -43,15 +44,25 @@ impl fmt::Display for FaultCause {
     }
 }
 
-/// The message of a fault.
-#[tactic(auto, using(crate::proofs::MessageLengths::message_length))]
-pub fn message(alloc: Global, fault: &Fault) -> Result<String, AllocError>
-    ensures exact { IfOk result (λ t. string_bytes t ≡ message_of fault.now) }
-    ensures bound { IfOk result (λ t. length (string_bytes t) ≤ 65536) }
+/// The message of a fault, as a string.
+fn string_of(alloc: Global, fault: &Fault) -> Result<String, AllocError>
+    ensures { IfOk result (λ t. string_bytes t ≡ message_of fault.now) }
 {
     let Fault { line, cause } = *fault;
     // Room for what most messages take.
     let mut text = String::with_capacity(alloc, 128)?;
     write!(text, "line {line}: {cause}\n")?;
     Ok(text)
+}
+
+/// The message of a fault.
+#[tactic(auto, using(crate::proofs::MessageLengths::message_length))]
+pub fn message(alloc: Global, fault: &Fault) -> Result<Vec<u8>, Memory>
+    ensures exact { IfOk result (λ bytes. bytes.items ≡ message_of fault.now) }
+    ensures bound { IfOk result (λ bytes. length bytes.items ≤ 65536) }
+{
+    let Ok(text) = string_of(alloc, fault) else {
+        return Err(Memory);
+    };
+    Ok(text.into_bytes())
 }

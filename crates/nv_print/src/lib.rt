@@ -26,5 +26,6 @@ mod shown;
 pub use device::Device;
 pub use device_list::DeviceList;
 pub use fault::{Fault, FaultCause, message};
+pub use nv_host::Memory;
 pub use select::Select;
 pub use shown::{Shown, json, text};

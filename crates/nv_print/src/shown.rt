@@ -15,6 +15,7 @@ use crate::namespace::{namespace_text, send_namespace};
 use crate::ns_list::{nsids_text, send_nsids};
 use crate::select::Select;
 use crate::sentence::{feature_set, feature_value, reset, success};
+use nv_host::Memory;
 use nv_layout::{ErrorEntries, Feature, IdCtrl, IdNs, NamespaceIds, Smart};
 use serde::{Described, Serialize, Serializer};
 use std::alloc::{AllocError, Global};
@@ -87,8 +88,8 @@ impl Shown<'_> {
     }
 }
 
-/// The text of what a line shows.
-pub fn text(alloc: Global, shown: &Shown) -> Result<String, AllocError>
+/// The text of what a line shows, as a string.
+fn string_of(alloc: Global, shown: &Shown) -> Result<String, AllocError>
     ensures exact { IfOk result (λ t. string_bytes t ≡ text_of shown.now) }
     ensures bound { IfOk result (λ t. length (string_bytes t) ≤ text_limit shown.now) }
 {
@@ -116,6 +117,17 @@ pub fn text(alloc: Global, shown: &Shown) -> Result<String, AllocError>
         } => feature_set(alloc, *feature, *value, *save),
         Shown::Reset => reset(alloc),
     }
+}
+
+/// The text of what a line shows.
+pub fn text(alloc: Global, shown: &Shown) -> Result<Vec<u8>, Memory>
+    ensures exact { IfOk result (λ bytes. bytes.items ≡ text_of shown.now) }
+    ensures bound { IfOk result (λ bytes. length bytes.items ≤ text_limit shown.now) }
+{
+    let Ok(text) = string_of(alloc, shown) else {
+        return Err(Memory);
+    };
+    Ok(text.into_bytes())
 }
 
 /// Sends what a line shows to a writer of JSON; null where it has no JSON form.
@@ -160,15 +172,17 @@ impl Serialize for ShownData<'_, '_> {
 }
 
 /// The JSON of what a line shows, and a newline.
-pub fn json(alloc: Global, shown: &Shown) -> Result<String, AllocError>
+pub fn json(alloc: Global, shown: &Shown) -> Result<Vec<u8>, Memory>
     requires { has_json shown.now ≡ true }
-    ensures exact { IfOk result (λ t. string_bytes t ≡ json_of shown.now) }
-    ensures bound { IfOk result (λ t. length (string_bytes t) ≤ text_limit shown.now) }
+    ensures exact { IfOk result (λ bytes. bytes.items ≡ json_of shown.now) }
+    ensures bound { IfOk result (λ bytes. length bytes.items ≤ text_limit shown.now) }
 {
     // All that is sent has a form in JSON, so what can fail is memory.
     let Ok(mut text) = serde_json::to_string(alloc, &ShownData { shown, alloc }) else {
-        return Err(AllocError);
+        return Err(Memory);
     };
-    text.push('\n')?;
-    Ok(text)
+    let Ok(()) = text.push('\n') else {
+        return Err(Memory);
+    };
+    Ok(text.into_bytes())
 }

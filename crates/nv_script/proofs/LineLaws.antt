@@ -1,7 +1,7 @@
 -- What one line leaves, by how its text was printed.
 use Rattle.std.proofs.Common.{◌≡◌, ◌∙◌, ℕ, ◌+◌, List, [], ◌++◌, length, take, sym, ap, subst, refl, inl, inr}
-use Rattle.std.proofs.Common.{append-nil, arith, Bool, String, string_bytes, Option, Result, Ok, Err}
-use Rattle.std.specs.Prelude.{IfOk, unwrap_or}
+use Rattle.std.proofs.Common.{append-nil, arith, Bool, Option, Result, Ok, Err}
+use Rattle.std.specs.Prelude.{IfOk, Vec, unwrap_or}
 use Rattle.std.specs.Io.KnownBytes.{Appends}
 use Rattle.std.proofs.lemmas.List.{take_all}
 use Rattle.nv_model.specs.State.{State}
@@ -36,8 +36,8 @@ module _ {A E Z : Type 0} (p : Progress) (text : List ℕ) (lr : LineResult) (k 
     (next : serials_of session.driver ≡ lr.serials)
     (number : session.number ≡ p.number + 1) (status : session.status ≡ unwrap_or lr.status p.status)
     (all : lr.state ≡ state_amid p.state p.serials (said_at p text) k) where
-  pub message_leaves : (r : Result A Cut) (t : Result (String Z) E) (messages : Option (List ℕ)) (failed : Bool)
-      → lr.output ≡ [] → IfOk t (λ t. string_bytes t ≡ lr.message)
+  pub message_leaves : (r : Result A Cut) (t : Result (Vec ℕ Z) E) (messages : Option (List ℕ)) (failed : Bool)
+      → lr.output ≡ [] → IfOk t (λ (t : Vec ℕ Z). t.items ≡ lr.message)
       → PrintLeaves r Messages t old.messages messages failed
       → LineLeaves r p text (left_at old.out_before old.out old.messages_before messages new) session
   message_leaves (Ok done) (Ok t) messages failed none is h = record {
@@ -75,8 +75,8 @@ module _ {A E Z : Type 0} (p : Progress) (text : List ℕ) (lr : LineResult) (k 
         },
       )
 
-  pub output_leaves : (r : Result A Cut) (t : Result (String Z) E) (out : Option (List ℕ)) (failed : Bool)
-      → lr.message ≡ [] → IfOk t (λ t. string_bytes t ≡ lr.output) → PrintLeaves r Output t old.out out failed
+  pub output_leaves : (r : Result A Cut) (t : Result (Vec ℕ Z) E) (out : Option (List ℕ)) (failed : Bool)
+      → lr.message ≡ [] → IfOk t (λ (t : Vec ℕ Z). t.items ≡ lr.output) → PrintLeaves r Output t old.out out failed
       → LineLeaves r p text (left_at old.out_before out old.messages_before old.messages new) session
   output_leaves (Ok done) (Ok t) out failed none is h = record {
     holds = record {

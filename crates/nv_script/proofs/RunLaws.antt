@@ -32,6 +32,16 @@ use Rattle.nv_stream.specs.Limits.{read_size}
 use Rattle.nv_script.proofs.PieceLaws.{as_line-some, length-joined, length-pieces, piece-among}
 use Rattle.nv_stream.proofs.Taking.{Appends-same, Consumes-join, Consumes-nothing, Consumes-same, length-taken}
 
+-- a script was read to its end: a read gave no byte, and one more might have been made
+pub read_to_end : (reads : ℕ) (script : SourceState) (count : ℕ) → script.has_failed ≡ false
+    → script.calls ≢ reads → script.has_ended ≡ (count == 0) → (count ≡ 0 → IsAtEnd script.to_come) → count ≡ 0
+    → IsReadToEnd reads script
+read_to_end reads script count not_failed one_more ended at_end none = record {
+  not_stopped = grind (arith, nat_tests, not_failed, one_more);
+  has_ended = grind (arith, nat_tests, ended, none);
+  at_end = at_end none;
+}
+
 -- the last piece was a line
 pub last_line : (bytes : List ℕ) → 0 < length (pieces bytes).last
     → script_lines bytes ≡ (pieces bytes).ended ++ (pieces bytes).last ∷ []

@@ -1,7 +1,6 @@
 -- What the steps of a run leave: a text, a line, a piece of the script, its last piece.
 use Rattle.std.specs.Prelude.{◌≡◌, ℕ, ◌<◌, Bool, true, false, List, [], ◌∷◌, ◌++◌, length, take}
-use Rattle.std.specs.Prelude.{Option, Result, Ok, Err, string_bytes, slice_index}
-use Rattle.std.specs.declared.string.String.{String}
+use Rattle.std.specs.Prelude.{Option, Result, Ok, Err, Vec, slice_index}
 use Rattle.std.specs.Io.KnownBytes.{Appends}
 use Rattle.nv_model.specs.State.{State}
 use Rattle.nv_script.specs.Cuts.{AreFailed, IsCutIn, Holds, Left}
@@ -23,12 +22,12 @@ pub record Stands (p : Progress) (left : Left) (session : Session) : Type 0 wher
 
 -- a text that memory sufficed for was written whole, or a beginning of it up to the sink's fault;
 -- nothing is written of one that was refused
-abbrev pub PrintLeaves : {A E Z : Type 0} → Result A Cut → Cut → Result (String Z) E
+abbrev pub PrintLeaves : {A E Z : Type 0} → Result A Cut → Cut → Result (Vec ℕ Z) E
     → Option (List ℕ) → Option (List ℕ) → Bool → Type 0
 PrintLeaves (Ok done) fault (Ok text) old new failed =
-    Appends old new (string_bytes text) × (failed ≡ false)
+    Appends old new text.items × (failed ≡ false)
 PrintLeaves (Err cut) fault (Ok text) old new failed = (cut ≡ fault)
-    × ((part : List ℕ) × IsBeginning part (string_bytes text) × Appends old new part)
+    × ((part : List ℕ) × IsBeginning part text.items × Appends old new part)
     × (failed ≡ true)
 PrintLeaves (Err cut) fault (Err e) old new failed = (cut ≡ Memory) × (new ≡ old) × (failed ≡ false)
 PrintLeaves (Ok done) fault (Err e) old new failed = ⊥

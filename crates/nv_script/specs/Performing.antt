@@ -1,6 +1,5 @@
 -- What performing a request leaves.
-use Rattle.std.specs.Prelude.{◌≡◌, ℕ, List, take, string_bytes, Option, None, Some, Result, Ok, Err}
-use Rattle.std.specs.declared.string.String.{String}
+use Rattle.std.specs.Prelude.{◌≡◌, ℕ, List, take, Option, None, Some, Result, Ok, Err, Vec}
 use Rattle.nv_command.specs.declared.reply.Reply.{Reply}
 use Rattle.nv_layout.specs.declared.status.Status.{Status}
 use Rattle.nv_model.specs.State.{State}
@@ -52,9 +51,9 @@ ListedAll (Ok devices) s serials state next =
 ListedAll (Err stop) s serials state next = StopLeaves stop query.List s serials state next
 
 -- its text, or why there is none
-abbrev pub RequestLeaves : {Z : Type 0} → Result (String Z) Stop → Request
+abbrev pub RequestLeaves : {Z : Type 0} → Result (Vec ℕ Z) Stop → Request
     → State → List ℕ → State → List ℕ → Type 0
 RequestLeaves (Ok text) r s serials state next =
     let o = outcome_of s serials (orders_of s r.query) in
-    (o.refusal ≡ None) × (string_bytes text ≡ output_for s r o.replies) × IsReached o state next
+    (o.refusal ≡ None) × (text.items ≡ output_for s r o.replies) × IsReached o state next
 RequestLeaves (Err stop) r s serials state next = StopLeaves stop r.query s serials state next

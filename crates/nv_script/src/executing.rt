@@ -15,12 +15,12 @@ use crate::performing::{Stop, perform};
 use crate::session::Session;
 use nv_bus::Bus;
 use nv_line::{CtrlList, Line, LineFault, LineReader};
-use nv_print::{Fault, FaultCause, message};
+use nv_print::{Fault, FaultCause, Memory, message};
 use nv_stream::{Sink, write_all};
-use std::alloc::{AllocError, Global};
+use std::alloc::Global;
 
 /// Writes a line's text, made before its first byte goes out. `fault` is the cut if the sink fails.
-fn print<S: Sink>(sink: &mut S, text: Result<String, AllocError>, fault: Cut) -> Result<(), Cut>
+fn print<S: Sink>(sink: &mut S, text: Result<Vec<u8>, Memory>, fault: Cut) -> Result<(), Cut>
     requires { (S.state sink.old).has_failed ≡ false }
     ensures { PrintLeaves result fault text (S.state sink.old).taken (S.state sink.new).taken
         (S.state sink.new).has_failed }
@@ -28,7 +28,7 @@ fn print<S: Sink>(sink: &mut S, text: Result<String, AllocError>, fault: Cut) ->
     match text {
         Err(_) => Err(Cut::Memory),
         Ok(text) => {
-            if write_all(sink, text.as_bytes()) {
+            if write_all(sink, &text) {
                 Ok(())
             } else {
                 Err(fault)

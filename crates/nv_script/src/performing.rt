@@ -40,6 +40,14 @@ impl From<Status> for Stop {
     }
 }
 
+impl From<nv_print::Memory> for Stop {
+    ghost from_gives = { λ _ stop. stop ≡ Memory };
+
+    fn from(_: nv_print::Memory) -> Stop {
+        Stop::Memory
+    }
+}
+
 impl From<AllocError> for Stop {
     ghost from_gives = { λ _ stop. stop ≡ Memory };
 
@@ -169,7 +177,7 @@ pub(crate) fn perform<B: Bus>(
     driver: &mut Driver,
     answers: &mut Answers,
     request: &Request,
-) -> Result<String, Stop>
+) -> Result<Vec<u8>, Stop>
     requires linked { IsLinked (B.meaning bus.old) driver.old }
     requires known { IsQueryKnown (length driver.old.pairs) request.now.query }
     ensures left { RequestLeaves result request.now

@@ -1,6 +1,6 @@
 //! What a query shows, and how it is written.
 
-ghost use Rattle.std.specs.Prelude.{◌≡◌, IfOk, string_bytes};
+ghost use Rattle.std.specs.Prelude.{◌≡◌, IfOk};
 ghost use Rattle.nv_layout.specs.Feature.{feature_of};
 ghost use Rattle.nv_print.specs.Sentences.{select_of};
 ghost use Rattle.nv_script.specs.EachShown.{EachIsShown};
@@ -10,8 +10,8 @@ ghost use Rattle.nv_script.specs.Shown.{shown_done, shown_number};
 use nv_command::{Command, Reply};
 use nv_layout::{Feature, ThreeBits};
 use nv_line::{Act, Ask, OutputFormat};
-use nv_print::{Select, Shown, json, text};
-use std::alloc::{AllocError, Global};
+use nv_print::{Memory, Select, Shown, json, text};
+use std::alloc::Global;
 
 /// The value of a feature, where both identifiers have a meaning.
 fn feature_value<'a>(fid: u8, sel: ThreeBits, value: u32) -> Option<Shown<'a>>
@@ -94,11 +94,11 @@ pub(crate) fn write(
     alloc: Global,
     format: OutputFormat,
     shown: Option<Shown>,
-) -> Result<String, AllocError>
-    ensures { IfOk result (λ t. string_bytes t ≡ output_of format shown.entry) }
+) -> Result<Vec<u8>, Memory>
+    ensures { IfOk result (λ bytes. bytes.items ≡ output_of format shown.entry) }
 {
     let Some(shown) = shown else {
-        return Ok(String::new(alloc));
+        return Ok(Vec::new(alloc));
     };
     if format == OutputFormat::Json && shown.has_json() {
         json(alloc, &shown)

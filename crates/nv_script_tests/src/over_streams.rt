@@ -1,10 +1,11 @@
 //! Readers and writers of the standard library as the streams of a run: each call of a stream is
-//! one call of what it stands over.
+//! one call of what it stands over. Writers that streams share, and writes that are made again.
 
 ghost use Rattle.std.specs.Prelude.{◌≤◌, length};
 
 use nv_controller::Machine;
 use nv_script::{Geometry, OverRead, OverWrite, Retrying, RunEnd, run};
+use nv_stream::{Held, OverHeld, write_all};
 use nv_subsystem::{DEMO, Subsystem};
 use std::cmp;
 use std::io::{self, ErrorKind, Read, Write};
@@ -17,7 +18,8 @@ enum Turn<'a> {
     Gives(&'a [u8]),
     /// A writer takes this many bytes at most.
     Takes(usize),
-    Fails,
+    /// It fails, and a flush that comes before it too.
+    Fails(ErrorKind),
 }
 
 /// A reader that takes one turn a call, and gives no byte after the last.
@@ -37,7 +39,7 @@ impl<'a> Read for TurnReader<'a> {
                 buf[..count].copy_from_slice(&bytes[..count]);
                 Ok(count)
             }
-            Some(Turn::Fails) => Err(io::Error::from(ErrorKind::Interrupted)),
+            Some(Turn::Fails(kind)) => Err(io::Error::from(kind)),
             Some(Turn::Takes(_)) | None => Ok(0),
         }
     }
@@ -50,6 +52,7 @@ struct TurnWriter<'a> {
     bytes: [u8; 64],
     len: usize,
     calls: usize,
+    flushes: usize,
     ghost room: { len ≤ 64 },
 }
 
@@ -60,6 +63,7 @@ impl<'a> TurnWriter<'a> {
             bytes: [0; 64],
             len: 0,
             calls: 0,
+            flushes: 0,
         }
     }
 
@@ -80,14 +84,18 @@ impl<'a> Write for TurnWriter<'a> {
         self.calls = self.calls.saturating_add(1);
         match turn {
             Some(Turn::Takes(most)) => Ok(self.take(buf, most)),
-            Some(Turn::Fails) => Err(io::Error::from(ErrorKind::Interrupted)),
+            Some(Turn::Fails(kind)) => Err(io::Error::from(kind)),
             Some(Turn::Gives(_)) => Ok(0),
             None => Ok(self.take(buf, 64)),
         }
     }
 
     fn flush(&mut self) -> io::Result<()> {
-        Ok(())
+        self.flushes = self.flushes.saturating_add(1);
+        match self.turns.get(self.calls) {
+            Some(Turn::Fails(kind)) => Err(io::Error::from(*kind)),
+            _ => Ok(()),
+        }
     }
 }
 
@@ -130,7 +138,7 @@ fn tries_no_failing_read_again(rt: HostRuntime) -> Result<(), Fail> {
     let alloc = rt.alloc();
     let turns = [
         Turn::Gives(b"list-ns /dev/nvme0 -n 3\nlist-ns"),
-        Turn::Fails,
+        Turn::Fails(ErrorKind::Interrupted),
         Turn::Gives(b" /dev/nvme0\n"),
     ];
     let mut reader = TurnReader {
@@ -186,7 +194,7 @@ fn writes_the_rest_after_a_short_write(rt: HostRuntime) -> Result<(), Fail> {
 #[test]
 fn tries_no_failing_write_again(rt: HostRuntime) -> Result<(), Fail> {
     let alloc = rt.alloc();
-    for fault in [Turn::Fails, Turn::Takes(0)] {
+    for fault in [Turn::Fails(ErrorKind::Interrupted), Turn::Takes(0)] {
         let turns = [Turn::Takes(7), fault];
         let subsystem = Subsystem::from_toml(alloc, DEMO.as_bytes())?;
         let mut machine = Machine::new(alloc, subsystem)?;
@@ -214,10 +222,10 @@ fn tries_no_failing_write_again(rt: HostRuntime) -> Result<(), Fail> {
 fn writes_again_after_interrupted_writes(rt: HostRuntime) -> Result<(), Fail> {
     let alloc = rt.alloc();
     let turns = [
-        Turn::Fails,
+        Turn::Fails(ErrorKind::Interrupted),
         Turn::Takes(7),
-        Turn::Fails,
-        Turn::Fails,
+        Turn::Fails(ErrorKind::Interrupted),
+        Turn::Fails(ErrorKind::Interrupted),
         Turn::Takes(64),
     ];
     let mut output = TurnWriter::new(&turns);
@@ -240,5 +248,57 @@ fn writes_again_after_interrupted_writes(rt: HostRuntime) -> Result<(), Fail> {
     assert!(rt; &output.bytes[..22] == "[   0]:0x1\n[   1]:0x3\n".as_bytes());
     assert!(rt; told.calls == 5 && told.len == 20);
     assert!(rt; &told.bytes[..20] == "line 2: usage error\n".as_bytes());
+    Ok(())
+}
+
+#[test]
+fn tries_no_write_again_after_another_error(rt: HostRuntime) -> Result<(), Fail> {
+    let turns = [
+        Turn::Fails(ErrorKind::Interrupted),
+        Turn::Fails(ErrorKind::PermissionDenied),
+        Turn::Takes(64),
+    ];
+    let mut inner = TurnWriter::new(&turns);
+    let mut writer = Retrying::new(&mut inner);
+    match writer.write(b"abc") {
+        Ok(_) => assert!(rt; false),
+        Err(error) => assert!(rt; error.kind() == ErrorKind::PermissionDenied),
+    }
+    assert!(rt; writer.flush().is_ok());
+    assert!(rt; inner.calls == 2 && inner.len == 0 && inner.flushes == 1);
+    Ok(())
+}
+
+#[test]
+fn writes_what_it_takes_to_a_shared_writer(rt: HostRuntime) -> Result<(), Fail> {
+    let turns = [Turn::Takes(2), Turn::Takes(64), Turn::Takes(1)];
+    let mut inner = TurnWriter::new(&turns);
+    {
+        let held = Held::new(&mut inner);
+        let mut first = OverHeld::new(&held);
+        let mut second = OverHeld::new(&held);
+        assert!(rt; write_all(&mut first, b"abc"));
+        assert!(rt; write_all(&mut second, b"de"));
+        assert!(rt; held.flush());
+    }
+    assert!(rt; inner.calls == 4 && inner.len == 5 && inner.flushes == 1);
+    assert!(rt; &inner.bytes[..5] == "abcde".as_bytes());
+    Ok(())
+}
+
+#[test]
+fn takes_nothing_after_a_failing_flush_of_a_shared_writer(rt: HostRuntime) -> Result<(), Fail> {
+    let turns = [Turn::Takes(64), Turn::Fails(ErrorKind::Interrupted)];
+    let mut inner = TurnWriter::new(&turns);
+    {
+        let held = Held::new(&mut inner);
+        let mut out = OverHeld::new(&held);
+        let is_written = write_all(&mut out, b"abc");
+        assert!(rt; !held.flush());
+        assert!(rt; is_written && !write_all(&mut out, b"de"));
+        assert!(rt; !held.flush());
+    }
+    assert!(rt; inner.calls == 1 && inner.len == 3);
+    assert!(rt; &inner.bytes[..3] == "abc".as_bytes());
     Ok(())
 }

@@ -2,10 +2,19 @@
 //! message is.
 
 ghost use Rattle.std.specs.Prelude.{◌≡◌, ◌≤◌, IfSome, None, false, length};
+ghost use Rattle.nv_stream.specs.Streams.{IsWritten, Takes, is_failure};
 
 use crate::streams::{Sink, Source};
 use std::cell::{Cell, RefCell};
 use std::io::Write;
+
+/// Hands bytes to a writer: how many it took, or `None` where it failed.
+fn write_to<W: Write>(writer: &mut W, bytes: &[u8]) -> Option<usize>
+    ensures bound { IfSome result (λ n. n ≤ length bytes.now) }
+    ensures bytes { Takes (W.contents writer.old) (W.contents writer.new) result bytes.now }
+{
+    writer.write(bytes).ok()
+}
 
 /// A writer that holds bytes back, and whether a write or a flush of it has failed. Several streams
 /// share it.
@@ -25,7 +34,8 @@ impl<W: Write> Held<W> {
 
     /// Hands bytes to the writer: how many it took, or `None` where it has failed.
     fn write(&self, bytes: &[u8]) -> Option<usize>
-        ensures { IfSome result (λ n. n ≤ length bytes.now) }
+        ensures bound { IfSome result (λ n. n ≤ length bytes.now) }
+        ensures written { IsWritten W.contents result bytes.now }
     {
         if self.failed.get() {
             return None;
@@ -33,7 +43,7 @@ impl<W: Write> Held<W> {
         let Ok(mut writer) = self.writer.try_borrow_mut() else {
             return None;
         };
-        writer.write(bytes).ok()
+        write_to(&mut *writer, bytes)
     }
 
     /// Puts out what the writer holds. Answers whether all that it took is out.
@@ -73,7 +83,12 @@ impl<'a, W: Write> Sink for OverHeld<'a, W> {
 
     ghost state = { λ s. record { taken = None; has_failed = s.failed } };
 
-    fn write(&mut self, bytes: &[u8]) -> Option<usize> {
+    fn write(&mut self, bytes: &[u8]) -> Option<usize>
+        ensures bound { IfSome result (λ n. n ≤ length bytes.now) }
+        ensures bytes { Takes None None result bytes.now }
+        ensures failure { self.new.failed ≡ is_failure result }
+        ensures written { IsWritten W.contents result bytes.now }
+    {
         let taken = self.held.write(bytes);
         self.failed = matches!(taken, None | Some(0));
         taken

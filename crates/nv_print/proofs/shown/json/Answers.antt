@@ -7,9 +7,10 @@ use Rattle.nv_print.proofs.shown.json.Goals as goal
 pub returns-clause-exact : goal.returns-clause-exact
 returns-clause-exact c =
     let h = c.in-Ok.ensures.events in
-    c.in_ok-push.ensures.bytes
+    rw c.into_bytes.ensures.value
+    (c.in-Ok-push.ensures.bytes
     ∙ ap₂ (λ t e. t ++ e) (text_of_sent c.args.shown.now h.0 (string_bytes c.in-Ok.text) h.1.0 h.2)
-    (c.in_ok-push.ensures.ascii (omega arith))
+    (c.in-Ok-push.ensures.ascii (omega arith)))
 
 pub returns-clause-bound : goal.returns-clause-bound
 returns-clause-bound c =

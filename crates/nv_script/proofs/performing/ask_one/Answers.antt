@@ -7,7 +7,8 @@ pub returns-in_default-clause-left : goal.returns-in_default-clause-left
 returns-in_default-clause-left g c =
     let q = c.args.question.now in
     left_shown _ _ _ _ (One q) c.shown.result _
-    (one_accepted _ _ _ _ q _ (rw c.in_ok-reply.was at c.in_ok-begun.ensures.left) c.in_default.ensures.command) c.shown.ensures
+    (one_accepted _ _ _ _ q _ (rw c.in_ok-reply.was at c.in_ok-begun.ensures.left) c.in_default.ensures.command)
+    c.shown.ensures
 
 pub returns-in_err-next-clause-left : goal.returns-in_err-next-clause-left
 returns-in_err-next-clause-left g c =

@@ -1,9 +1,8 @@
 use Rattle.std.proofs.Common.{◌∙◌, ◌≤◌, ◌++◌, [], arith, length, refl, take}
 use Rattle.std.proofs.lemmas.Bool.Decides.{nat_tests}
 use Rattle.std.proofs.lemmas.List.{length-take-le}
-use Rattle.nv_script.specs.ScriptLines.{IsReadToEnd}
 use Rattle.nv_stream.specs.Limits.{read_size}
-use Rattle.nv_script.proofs.RunLaws.{last_cut, piece_cut, read_first, read_more, read_none, stands_first}
+use Rattle.nv_script.proofs.RunLaws.{last_cut, piece_cut, read_first, read_more, read_none, read_to_end, stands_first}
 use Rattle.nv_script.proofs.running.run_session.Goals as goal
 
 pub returns-in-Ok-clause-runs : goal.returns-in-Ok-clause-runs
@@ -17,18 +16,9 @@ returns-in-Ok-clause-runs g c =
       was_read = read;
       left = c.in-Ok.ensures.left (g.B.Bus.meaning c.args.bus.now).state run.0 _ _ run.2 run.3;
       end_of = (
-        record {
-          not_stopped = grind (
-            arith,
-            nat_tests,
-            c.in-Some.ensures.failure,
-            c.in-Some.ensures.call,
-            c.loop-call.invariant.calls,
-            c.if-call-reads.false,
-          );
-          has_ended = grind (arith, nat_tests, c.in-Some.ensures.end, c.if-count-eq0.true);
-          at_end = c.in-Some.ensures.bytes.1 c.if-count-eq0.true;
-        },
+        read_to_end c.args.reads (g.R.Source.state c.read.new.self) c.in-Some.count some.failure
+            (λ e. c.if-call-reads.false (omega (arith, e, some.call, c.loop-call.invariant.calls)))
+            some.end some.bytes.1 c.if-count-eq0.true,
         c.in-Ok.ensures.failure.0,
         c.in-Ok.ensures.failure.1,
       );
@@ -40,19 +30,10 @@ returns-in-Err-clause-runs g c =
     let some = c.in-Some.ensures in
     let run = c.loop-call.invariant.run in
     let s = (g.B.Bus.meaning c.args.bus.now).state in
-    let end : IsReadToEnd c.args.reads (g.R.Source.state c.read.new.self) =
-    record {
-      not_stopped = grind (
-        arith,
-        nat_tests,
-        c.in-Some.ensures.failure,
-        c.in-Some.ensures.call,
-        c.loop-call.invariant.calls,
-        c.if-call-reads.false,
-      );
-      has_ended = grind (arith, nat_tests, c.in-Some.ensures.end, c.if-count-eq0.true);
-      at_end = c.in-Some.ensures.bytes.1 c.if-count-eq0.true;
-    } in
+    let end =
+    read_to_end c.args.reads (g.R.Source.state c.read.new.self) c.in-Some.count some.failure
+    (λ e. c.if-call-reads.false (omega (arith, e, some.call, c.loop-call.invariant.calls)))
+    some.end some.bytes.1 c.if-count-eq0.true in
     let read =
     read_none _ _ _ run.0 c.read.new.buf c.in-Some.count run.1 some.bytes.0 c.if-count-eq0.true some.count in
     record {

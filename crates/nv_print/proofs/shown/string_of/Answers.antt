@@ -3,7 +3,7 @@ use Rattle.nv_print.proofs.Bounds.{text_within}
 use Rattle.nv_print.proofs.ListLengths.{entries_text_length, namespace_text_length, nsids_text_length}
 use Rattle.nv_print.proofs.RecordLengths.{id_ctrl_text, smart_text}
 use Rattle.nv_print.proofs.SentenceLengths.{feature_set_length, feature_value_length, success_length}
-use Rattle.nv_print.proofs.shown.text.Goals as goal
+use Rattle.nv_print.proofs.shown.string_of.Goals as goal
 
 pub returns-in-Controller-clause-bound : goal.returns-in-Controller-clause-bound
 returns-in-Controller-clause-bound c =
