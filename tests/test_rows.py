@@ -1,14 +1,24 @@
 """Rows of operations: what `nvme_bench` answers to each line of `tests/rows/*.txt`.
 
-In a file each operation stands behind `>`, and below it the line that is wanted. Lines of `#` are comments. A file
-is one session, from its first operation to its last. `(HH*N)` stands for N times HH.
+In a file each operation stands behind `>`, and below it the line that is wanted: `done` where there is none. Lines of
+`#` are comments. A file is one session, from its first operation to its last. `(HH*N)` stands for N times HH, and a
+line `> include NAME` for the operations of the file NAME beside it. Rows of rings over many commands are computed.
+
+`@sqe(KEY=NUMBER ..)`, `@cqe(..)` and `@error_entry(..)` stand for the bytes of such an entry, whose other fields are 0,
+and `@id_ns(..)` for the first bytes of the data that creates a namespace.
+
+`@NAME` stands for the bytes of a subsystem file of examples/, as `@demo.toml`, and `@NAME["OLD", "NEW"]` for those of
+the file with NEW in place of OLD; there may be more such pairs. `@"TEXT"` stands for those of a text. In them
+`(TEXT*N)` stands for N times TEXT.
 
     python3 -m unittest tests.test_rows
     NVME_BENCH=path/of/the/program python3 -m unittest tests.test_rows.Rows.test_records_of_queues
 """
 
+import json
 import os
 import re
+import struct
 import subprocess
 import unittest
 from pathlib import Path
@@ -16,8 +26,38 @@ from pathlib import Path
 TOP = Path(__file__).resolve().parent.parent
 PLACE = TOP / "tests" / "rows"
 PROGRAM = Path(os.environ.get("NVME_BENCH", TOP / "crates" / "nvme_bench" / "out" / "nvme_bench"))
-SECONDS = 60
+SECONDS = 300
 REPEATED = re.compile(r"\(([0-9a-f]{2})\*([0-9]+)\)")
+REPEATED_TEXT = re.compile(r"\(([^()]+)\*([0-9]+)\)")
+FILE = re.compile(r'@(?:([a-z_]+\.toml)(\[.*\])?|(".*"))')
+ENTRY = re.compile(r"@(sqe|cqe|error_entry|id_ns)\(([^()]*)\)")
+
+# How the fields of entries lie in their bytes, the lowest byte of each first, and their keys in this order; what is
+# reserved is 0. Sections "Submission Queue Entry - Command Format", "Completion Queue Entry", "Error Information (Log
+# Identifier 01h)" and "Identify Namespace data structure (CNS 00h)".
+LAYOUTS = {
+    "sqe": ("<BBHIQQQQ6I", "opcode flags cid nsid reserved mptr prp1 prp2 cdw10 cdw11 cdw12 cdw13 cdw14 cdw15"),
+    "cqe": ("<IIHHHH", "command_specific reserved sq_head sq_identifier cid status_and_phase"),
+    "error_entry": ("<QHHHHQIB3xQ24x", "count sqid cid status_and_phase location lba nsid vendor specific"),
+    "id_ns": ("<QQQ7B", "nsze ncap nuse nsfeat nlbaf flbas mc dpc dps nmic"),
+}
+
+
+def entry_of(kind, fields):
+    """An entry's bytes, in hexadecimal digits."""
+    layout, keys = LAYOUTS[kind]
+    values = {key: int(number, 0) for key, number in (field.split("=") for field in fields.split())}
+    values["status_and_phase"] = values.pop("status", 0) << 1 | values.pop("phase", 0)
+    values["flags"] = values.pop("fuse", 0) | values.pop("psdt", 0) << 6
+    numbers = [values.pop(key, 0) for key in keys.split()]
+    if any(values.pop(key, 0) for key in ["status_and_phase", "flags"]) or values:
+        raise ValueError(f"{kind} has no {list(values)}")
+    return struct.pack(layout, *numbers).hex()
+
+
+def with_entries(text):
+    """The text with each entry written out."""
+    return ENTRY.sub(lambda entry: entry_of(entry[1], entry[2]), text)
 
 
 def with_repeats(text):
@@ -25,20 +65,54 @@ def with_repeats(text):
     return REPEATED.sub(lambda run: run[1] * int(run[2]), text)
 
 
+def text_of(text):
+    """A text with each `(TEXT*N)` written out."""
+    return REPEATED_TEXT.sub(lambda run: run[1] * int(run[2]), text)
+
+
+def edited(name, *edits):
+    """A subsystem file of examples/, in which each of two texts in turn stands in place of the other."""
+    file = (TOP / "examples" / name).read_text("utf-8")
+    for old, new in zip(edits[::2], edits[1::2]):
+        if old not in file:
+            raise ValueError(f"{name} has no {old!r}")
+        file = file.replace(old, text_of(new))
+    return file
+
+
+def with_file(text):
+    """The text with a subsystem file written out, in hexadecimal digits."""
+
+    def digits(file):
+        if file[3] is not None:
+            return text_of(json.loads(file[3])).encode().hex()
+        return edited(file[1], *json.loads(file[2] or "[]")).encode().hex()
+
+    return FILE.sub(digits, text)
+
+
+def written_out(text):
+    return with_repeats(with_entries(with_file(text)))
+
+
 def rows_of(path):
     """The rows of a file: the number of each operation's line, the operation, and the line that is wanted."""
     rows = []
+    answered = True
     for number, line in enumerate(path.read_text("utf-8").splitlines(), 1):
-        if line.startswith("> "):
-            if rows and rows[-1][2] is None:
-                raise ValueError(f"{path}:{rows[-1][0]}: nothing is wanted of this operation")
-            rows.append([number, with_repeats(line[2:]), None])
+        if line.startswith("> include "):
+            rows += [(number, operation, wanted) for _, operation, wanted in rows_of(path.parent / line[10:])]
+            answered = True
+        elif line.startswith("> "):
+            rows.append((number, written_out(line[2:]), "done"))
+            answered = False
         elif line and not line.startswith("#"):
-            if not rows or rows[-1][2] is not None:
+            if answered:
                 raise ValueError(f"{path}:{number}: no operation stands above this line")
-            rows[-1][2] = with_repeats(line)
-    if not rows or rows[-1][2] is None:
-        raise ValueError(f"{path}: no rows, or nothing is wanted of the last one")
+            rows[-1] = (*rows[-1][:2], written_out(line))
+            answered = True
+    if not rows:
+        raise ValueError(f"{path}: no rows")
     return rows
 
 
@@ -46,20 +120,23 @@ def short(text):
     return text if len(text) <= 160 else f"{text[:100]}.. ({len(text)} characters) ..{text[-40:]}"
 
 
+def answers_to(operations):
+    """What the program answers to each of these operations, of one session."""
+    script = "".join(f"{operation}\n" for operation in operations)
+    run = subprocess.run(
+        [PROGRAM], input=script.encode(), capture_output=True, timeout=SECONDS, check=False
+    )
+    if (run.returncode, run.stderr) != (0, b""):
+        raise AssertionError(f"{PROGRAM} ended with status {run.returncode}: {run.stderr.decode()}")
+    return run.stdout.decode().splitlines()
+
+
 class Rows(unittest.TestCase):
     """A test for each file of rows."""
 
-    def answers(self, rows):
-        script = "".join(f"{operation}\n" for _, operation, _ in rows)
-        run = subprocess.run(
-            [PROGRAM], input=script.encode(), capture_output=True, timeout=SECONDS, check=False
-        )
-        self.assertEqual((run.returncode, run.stderr.decode()), (0, ""))
-        return run.stdout.decode().splitlines()
-
     def check(self, path):
         rows = rows_of(path)
-        answers = self.answers(rows)
+        answers = answers_to(operation for _, operation, _ in rows)
         for (number, operation, wanted), found in zip(rows, answers):
             if found != wanted:
                 self.fail(
@@ -77,6 +154,77 @@ def test_of(path):
 FILES = sorted(PLACE.glob("*.txt"))
 for file in FILES:
     setattr(Rows, f"test_{file.stem}", test_of(file))
+
+
+def command(number):
+    """The fields of a command with this number as its identifier."""
+    fields = {"opcode": 6, "fuse": 0, "psdt": 0, "cid": number, "nsid": 7, "mptr": 0, "prp1": 0x5004, "prp2": 0x9000}
+    dwords = {"cdw10": 1, "cdw11": 0, "cdw12": 0, "cdw13": 0, "cdw14": 0, "cdw15": 0xffffffff}
+    return " ".join(f"{key}={value:#x}" for key, value in {**fields, **dwords}.items())
+
+
+def exchange(depth, number):
+    """A command there and back, by rings that begin with number 0: operations, each with the answer that is wanted.
+    Number n stands in slot n modulo the depth. A completion's phase tag is 1 in the first pass over its ring, and
+    is inverted on each. Sections "Submission Queue & Completion Queue Definition" and "Completion Queue Entry"."""
+    slot, after = number % depth, (number + 1) % depth
+    phase = 1 - number // depth % 2
+    completion = f"command_specific=0x1020304 sq_head={after:#x} sq_identifier=0x0 cid={number:#x}"
+    return [
+        (f"submit {command(number)}", f"tail={after:#x}"),
+        ("slots", f"sq_head={slot:#x} sq_empty=0x1 phase={phase:#x} cq_full=0x0"),
+        (f"tail {after}", "done"),
+        ("take", command(number)),
+        ("slots", f"sq_head={after:#x} sq_empty=0x1 phase={phase:#x} cq_full=0x0"),
+        ("collect", "refused: no completion"),
+        (f"post {completion} status=0x600b", "done"),
+        ("collect", f"{completion} phase={phase:#x} status=0x600b"),
+        ("tell", f"head={after:#x}"),
+        ("tell", "refused: no head to tell"),
+        (f"head {after}", "done"),
+        (f"free {after}", "done"),
+    ]
+
+
+def exchanges(depth, count):
+    """The first commands, one after another; of many only operations that change something."""
+    rows = [row for number in range(count) for row in exchange(depth, number)]
+    if count <= 100:
+        return rows
+    return [(said, wanted) for said, wanted in rows if said not in ("slots", "tell") and "refused" not in wanted]
+
+
+def new_rings(depth):
+    return [("memory 65536 5", "done"), (f"rings {depth} 0 0x40000", "done")]
+
+
+class Rings(unittest.TestCase):
+    """Rings over many commands, past the wraps of both: each a session of rows that are computed."""
+
+    def check(self, rows):
+        answers = answers_to(operation for operation, _ in rows)
+        self.assertEqual(len(answers), len(rows))
+        for (operation, wanted), found in zip(rows, answers):
+            self.assertEqual(found, wanted, operation)
+
+    def test_both_rings_wrap(self):
+        for depth, count in (2, 6), (3, 9), (17, 51), (4096, 8194):
+            with self.subTest(depth=depth):
+                tails = ((count + number) % depth for number in range(1, depth))
+                fill = [("submit", f"tail={tail:#x}") for tail in tails]
+                full = [("submit", "refused: submission ring full")]
+                self.check(new_rings(depth) + exchanges(depth, count) + fill + full)
+
+    def test_both_rings_begin_anew(self):
+        """Whatever number they had come to, and with a command that waits."""
+        for depth, before, count in (2, 1, 6), (2, 2, 6), (2, 3, 6), (17, 20, 51), (4096, 4097, 3):
+            with self.subTest(depth=depth, before=before):
+                after = (before + 1) % depth
+                waiting = [(f"submit {command(before)}", f"tail={after:#x}"), (f"tail {after}", "done")]
+                renewed = [("renew", "done"), ("zero", "done")]
+                begun = [("slots", "sq_head=0x0 sq_empty=0x1 phase=0x1 cq_full=0x0")]
+                rows = exchanges(depth, before) + waiting + renewed + begun + exchanges(depth, count)
+                self.check(new_rings(depth) + rows)
 
 
 class Pipes(unittest.TestCase):

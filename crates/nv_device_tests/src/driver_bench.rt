@@ -9,7 +9,7 @@ ghost use Rattle.nv_driver.specs.Registers.{banks_of};
 use crate::checks::{booked, check_counts, check_ids, check_number};
 use crate::drivers::machine;
 use nv_command::{Command, Reply};
-use nv_controller::{Bus, Machine};
+use nv_controller::Machine;
 use nv_driver::*;
 use nv_layout::ControllerIds;
 use nv_subsystem::Subsystem;
@@ -49,26 +49,6 @@ fn expect(rt: &impl Abort, answer: &Answer, want: Want) {
 /// The answer in a slot is as wanted.
 pub(crate) fn expect_slot(rt: &impl Abort, slot: &AnswerSlot, want: Want) {
     expect(rt, &slot.answer(), want);
-}
-
-/// A register of a controller reads so.
-pub(crate) fn check_register(
-    rt: &impl Abort,
-    machine: &Machine,
-    ctrl: u16,
-    offset: u32,
-    want: u32,
-) {
-    assert!(rt; ctrl < machine.controllers());
-    assert_eq!(rt; machine.read32(ctrl, offset), want, "at {offset}");
-}
-
-/// An entry of a controller's error log has this command identifier.
-fn check_cid(rt: &impl Abort, subsystem: &Subsystem, ctrl: u16, index: usize, want: u16) {
-    match booked(rt, subsystem, ctrl, index) {
-        None => assert!(rt; false, "an entry is missing"),
-        Some(entry) => check_number(rt, u64::from(entry.cid), u64::from(want), "an identifier"),
-    }
 }
 
 /// The newest refusal that a controller booked is its first: a creation under command identifier
@@ -158,12 +138,6 @@ pub(crate) enum Step<'a> {
     Allocated(&'a [u32]),
     /// A namespace that no controller can have.
     Invalid,
-    /// A reset.
-    Reset,
-    /// A register reads so.
-    Reads(u32, u32),
-    /// An entry of its error log, from the newest on, has this command identifier.
-    Booked(usize, u16),
     /// The only entry of its error log is of a creation, under command identifier 1, that needs
     /// these bytes.
     BookedBytes(u64),
@@ -207,17 +181,6 @@ impl Bench {
         expect(rt, &answer, want);
     }
 
-    /// A controller is reset.
-    fn reset(&mut self, rt: &impl Abort, ctrl: u16)
-        requires bus { IsBus self.old.machine }
-        requires left { self.old.machine.banks ≡ banks_of self.old.driver }
-        ensures bus { IsBus self.new.machine }
-        ensures left { self.new.machine.banks ≡ banks_of self.new.driver }
-    {
-        assert!(rt; usize::from(ctrl) < self.driver.controllers());
-        assert!(rt; self.driver.reset(&mut self.machine, ctrl).is_ok());
-    }
-
     /// A namespace is attached or detached.
     fn change(
         &mut self,
@@ -241,10 +204,6 @@ impl Bench {
     fn look(&self, rt: &impl Abort, ctrl: u16, step: &Step) {
         let subsystem = self.machine.subsystem();
         match step {
-            Step::Reads(offset, dword) => {
-                check_register(rt, &self.machine, ctrl, *offset, *dword);
-            }
-            Step::Booked(index, cid) => check_cid(rt, subsystem, ctrl, *index, *cid),
             Step::BookedBytes(bytes) => check_bytes_of(rt, subsystem, ctrl, *bytes),
             Step::Counts(refusals, commands) => {
                 check_counts(rt, subsystem, ctrl, (*refusals, *commands));
@@ -269,14 +228,13 @@ impl Bench {
             Step::Active(ids) => self.expect(rt, ctrl, &list(false), Want::Ids(*ids)),
             Step::Allocated(ids) => self.expect(rt, ctrl, &list(true), Want::Ids(*ids)),
             Step::Invalid => self.expect(rt, ctrl, &invalid(), Want::Refused(0x600b)),
-            Step::Reset => self.reset(rt, ctrl),
             _ => self.look(rt, ctrl, step),
         }
     }
 }
 
 /// Takes these steps in turn, each with its controller.
-pub(crate) fn take_steps(rt: &impl Abort, bench: &mut Bench, steps: &[(u16, Step)])
+fn take_steps(rt: &impl Abort, bench: &mut Bench, steps: &[(u16, Step)])
     requires bus { IsBus bench.old.machine }
     requires left { bench.old.machine.banks ≡ banks_of bench.old.driver }
     ensures bus { IsBus bench.new.machine }

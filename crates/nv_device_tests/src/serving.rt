@@ -5,7 +5,6 @@ ghost use Rattle.std.specs.Prelude.{◌≤◌, length};
 use crate::checks::{check_bytes, check_counts};
 use crate::driver_bench::plain;
 use crate::drivers::machine;
-use crate::drivers_with_entries::geometries;
 use nv_controller::Machine;
 use nv_driver::Geometry;
 use nv_layout::Sqe;
@@ -203,6 +202,24 @@ fn served(
     assert!(rt; end == ServeEnd::Requests(want), "{end:?}");
     check_counts(rt, machine.subsystem(), 0, counts);
     Ok(out.into_inner())
+}
+
+/// Data in one page of the greatest, and in two that are behind a list.
+fn geometries() -> [Geometry; 2] {
+    let plain = plain();
+    [
+        Geometry {
+            page_size: 65536,
+            ..plain
+        },
+        Geometry {
+            depth: 2,
+            window: 1,
+            offset: 4,
+            list_offset: 4088,
+            ..plain
+        },
+    ]
 }
 
 #[test]

@@ -4,3 +4,4 @@ pub mod ShownLaws
 pub mod TransferLaws
 pub mod ListLaws
 pub mod AnswerLaws
+pub mod DeviceLaws

@@ -1,18 +1,26 @@
 -- The operations: the words that name them, and the fields that their lines may have.
 use Rattle.std.specs.Prelude.{ℕ, Bool, true, ◌&&◌, List, [], ◌∷◌, Option, codes, find}
 use Rattle.std.specs.Str.{bytes_eq}
+use Rattle.nv_operations.specs.Commands.{command_rows, command_word}
+use Rattle.nv_operations.specs.ControllerOperations.{controller_rows, controller_word}
+use Rattle.nv_operations.specs.DriverOperations.{bring_up_rows, driver_rows, driver_word}
 use Rattle.nv_operations.specs.Field.{Row}
 use Rattle.nv_operations.specs.IdentityRecords.{id_ctrl_rows, id_ns_rows, lbaf_rows}
 use Rattle.nv_operations.specs.ListRecords.{ctrl_list_rows, ns_list_rows}
 use Rattle.nv_operations.specs.LogRecords.{error_entry_rows, smart_rows}
 use Rattle.nv_operations.specs.QueueRecords.{cqe_rows, sqe_rows, status_rows}
 use Rattle.nv_operations.specs.Records.{record_word}
+use Rattle.nv_operations.specs.Registers.{register_rows, register_word}
+use Rattle.nv_operations.specs.Rings.{ring_rows, ring_word}
 use Rattle.nv_operations.specs.Rows.{bytes_row, dword_row, needed, number_row, numbers_row, qword_row}
 use Rattle.nv_operations.specs.Rows.{word_row}
 use Rattle.nv_operations.specs.declared.operation.Operation.{Operation}
-use Rattle.nv_operations.specs.declared.operation.Operation.TheVariants.{Build, CopyIn, CopyOut, Get}
+use Rattle.nv_operations.specs.declared.operation.Operation.TheVariants.{Build, Command, CopyIn}
+use Rattle.nv_operations.specs.declared.operation.Operation.TheVariants.{CopyOut, Get, Register, Ring}
 use Rattle.nv_operations.specs.declared.operation.Operation.TheVariants.{Load, Memory, Page, Put}
 use Rattle.nv_operations.specs.declared.operation.Operation.TheVariants.{Sizes, Spread, Store, Walk}
+use Rattle.nv_operations.specs.declared.operation.Operation.TheVariants.{BringUp, Controller, Controllers}
+use Rattle.nv_operations.specs.declared.operation.Operation.TheVariants.{Driver, Subsystem}
 use Rattle.nv_operations.specs.declared.operation.TheConstants.{OPERATIONS}
 use Rattle.nv_operations.specs.declared.record.RecordKind.{RecordKind}
 use Rattle.nv_operations.specs.declared.record.RecordKind.TheVariants as kind
@@ -30,6 +38,14 @@ word_of Walk = codes "walk"
 word_of Spread = codes "spans"
 word_of CopyOut = codes "copy_out"
 word_of CopyIn = codes "copy_in"
+word_of (Command o) = command_word o
+word_of (Register o) = register_word o
+word_of (Ring o) = ring_word o
+word_of Subsystem = codes "subsystem"
+word_of Controllers = codes "controllers"
+word_of (Controller o) = controller_word o
+word_of BringUp = codes "bring_up"
+word_of (Driver o) = driver_word o
 
 -- the second word names the record that is put or got
 abbrev pub is_for : List ℕ → Operation → Bool
@@ -110,6 +126,13 @@ spread_rows =
 unfoldable pub copy_rows : List Row
 copy_rows = needed (bytes_row (codes "bytes") most_moved) ∷ []
 
+-- a file may have so many bytes
+abbrev pub most_of_file : ℕ
+most_of_file = 4194304
+
+unfoldable pub subsystem_rows : List Row
+subsystem_rows = bytes_row (codes "file") most_of_file ∷ []
+
 abbrev pub rows_of : Operation → List Row
 rows_of (Put k) = record_rows k
 rows_of (Get k) = get_rows k
@@ -123,3 +146,11 @@ rows_of Walk = walk_rows
 rows_of Spread = spread_rows
 rows_of CopyOut = copy_rows
 rows_of CopyIn = []
+rows_of (Command o) = command_rows o
+rows_of (Register o) = register_rows o
+rows_of (Ring o) = ring_rows o
+rows_of Subsystem = subsystem_rows
+rows_of Controllers = []
+rows_of (Controller o) = controller_rows o
+rows_of BringUp = bring_up_rows
+rows_of (Driver o) = driver_rows o

@@ -4,8 +4,10 @@ ghost use Rattle.std.specs.Prelude.{◌≡◌, IfOk, map};
 ghost use Rattle.nv_operations.specs.Field.{fields_in};
 ghost use Rattle.nv_operations.specs.Operations.{build_rows, copy_rows, get_rows, load_rows};
 ghost use Rattle.nv_operations.specs.Operations.{memory_rows, page_rows, record_rows, rows_of};
-ghost use Rattle.nv_operations.specs.Operations.{spread_rows, store_rows, walk_rows};
+ghost use Rattle.nv_operations.specs.Operations.{spread_rows, store_rows, subsystem_rows, walk_rows};
 
+use crate::commands::read_command_arguments;
+use crate::driver_operation::bring_up_rows;
 use crate::fields::Fields;
 use crate::identity_records::{id_ctrl_rows, id_ns_rows, lbaf_rows};
 use crate::list_records::{ctrl_list_rows, ns_list_rows};
@@ -14,6 +16,8 @@ use crate::operation::Operation;
 use crate::queue_records::{cqe_rows, sqe_rows, status_rows};
 use crate::reading::read_fields;
 use crate::record::RecordKind;
+use crate::registers::read_register_arguments;
+use crate::rings::read_ring_arguments;
 use crate::row::Row;
 use crate::slip::Fault;
 use std::alloc::{AllocError, Global};
@@ -101,6 +105,16 @@ fn copy_rows() -> [Row; 1]
     [Row::bytes("bytes", MOST_MOVED).needed()]
 }
 
+/// The greatest number of bytes of a subsystem file.
+const MOST_OF_FILE: usize = 4_194_304;
+
+#[tactic(auto, unfolding(crate::specs::Operations::subsystem_rows))]
+fn subsystem_rows() -> [Row; 1]
+    ensures { result ≡ subsystem_rows }
+{
+    [Row::bytes("file", MOST_OF_FILE)]
+}
+
 /// The fields of a record that is put.
 fn read_record(
     alloc: Global,
@@ -159,6 +173,15 @@ pub(crate) fn read_arguments(
         Operation::Walk => read_fields(alloc, &walk_rows(), words),
         Operation::Spread => read_fields(alloc, &spread_rows(), words),
         Operation::CopyOut => read_fields(alloc, &copy_rows(), words),
-        Operation::Sizes | Operation::CopyIn => read_fields(alloc, &[], words),
+        Operation::Sizes | Operation::CopyIn | Operation::Controllers => {
+            read_fields(alloc, &[], words)
+        }
+        Operation::Subsystem => read_fields(alloc, &subsystem_rows(), words),
+        Operation::Controller(asked) => asked.read_arguments(alloc, words),
+        Operation::BringUp => read_fields(alloc, &bring_up_rows(), words),
+        Operation::Driver(asked) => asked.read_arguments(alloc, words),
+        Operation::Command(operation) => read_command_arguments(alloc, operation, words),
+        Operation::Register(operation) => read_register_arguments(alloc, operation, words),
+        Operation::Ring(operation) => read_ring_arguments(alloc, operation, words),
     }
 }

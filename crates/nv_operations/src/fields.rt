@@ -55,6 +55,19 @@ impl Fields {
         Ok(fields)
     }
 
+    /// A number alone.
+    pub(crate) fn of_number(
+        alloc: Global,
+        key: &'static str,
+        value: u64,
+    ) -> Result<Fields, AllocError>
+        ensures { IfOk result (λ fields. fields ≡ number key.now value ∷ []) }
+    {
+        let mut fields = Fields::new(alloc);
+        fields.push_number(key, value)?;
+        Ok(fields)
+    }
+
     /// Copies of bytes alone, as the field `bytes`.
     pub(crate) fn copied(alloc: Global, bytes: &[u8]) -> Result<Fields, AllocError>
         ensures { IfOk result (λ fields. fields ≡ bytes_alone bytes.now) }

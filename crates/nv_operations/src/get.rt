@@ -122,7 +122,10 @@ fn get_ctrl_list(alloc: Global, bytes: &[u8]) -> Result<Result<Fields, Refusal>,
     match CtrlList::get(&array_of(bytes)) {
         Ok(list) => {
             let mut fields = Fields::new(alloc);
-            fields.push(Field::new("cntlids", Value::Numbers(wide_cntlids(alloc, &list)?)))?;
+            fields.push(Field::new(
+                "cntlids",
+                Value::Numbers(wide_cntlids(alloc, list.as_slice())?),
+            ))?;
             Ok(Ok(fields))
         }
         Err(LayoutError::CountTooLarge) => Ok(Err(Refusal::CountTooLarge)),

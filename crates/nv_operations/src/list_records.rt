@@ -83,12 +83,12 @@ pub(crate) fn wide_nsids(alloc: Global, list: &NsList) -> Result<Items<u64>, All
     Ok(numbers)
 }
 
-/// The numbers of a list.
-pub(crate) fn wide_cntlids(alloc: Global, list: &CtrlList) -> Result<Items<u64>, AllocError>
+/// The numbers of 16 bits as numbers of 64.
+pub(crate) fn wide_cntlids(alloc: Global, list: &[u16]) -> Result<Items<u64>, AllocError>
     ensures { IfOk result (λ numbers. numbers ≡ list.now) }
 {
     let mut numbers = Items::new(alloc);
-    for number in list.as_slice() {
+    for number in list {
         numbers.push(u64::from(*number))?;
     }
     Ok(numbers)

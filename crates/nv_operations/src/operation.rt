@@ -3,7 +3,12 @@
 ghost use Rattle.std.specs.Prelude.{◌≡◌};
 ghost use Rattle.nv_operations.specs.Operations.{is_for, is_named, operation_named, word_of, words_used};
 
+use crate::commands::CommandOperation;
+use crate::controller_operation::ControllerOperation;
+use crate::driver_operation::DriverOperation;
 use crate::record::RecordKind;
+use crate::registers::RegisterOperation;
+use crate::rings::RingOperation;
 
 /// What a line asks for.
 #[derive(Clone, Copy, Debug, PartialEq, Eq)]
@@ -32,10 +37,26 @@ pub enum Operation {
     CopyOut,
     /// The bytes of the spans.
     CopyIn,
+    /// Of a command's entry.
+    Command(CommandOperation),
+    /// Of a controller's registers.
+    Register(RegisterOperation),
+    /// Of a queue pair's rings.
+    Ring(RingOperation),
+    /// The controllers of another subsystem, after power on.
+    Subsystem,
+    /// How many controllers there are.
+    Controllers,
+    /// Something is asked of a controller.
+    Controller(ControllerOperation),
+    /// A driver of the controllers is brought up.
+    BringUp,
+    /// Something is asked of the driver.
+    Driver(DriverOperation),
 }
 
 /// Every operation.
-pub const OPERATIONS: [Operation; 30] = [
+pub const OPERATIONS: [Operation; 61] = [
     Operation::Put(RecordKind::Sqe),
     Operation::Put(RecordKind::Cqe),
     Operation::Put(RecordKind::Status),
@@ -66,6 +87,37 @@ pub const OPERATIONS: [Operation; 30] = [
     Operation::Spread,
     Operation::CopyOut,
     Operation::CopyIn,
+    Operation::Register(RegisterOperation::PowerOn),
+    Operation::Register(RegisterOperation::Read),
+    Operation::Register(RegisterOperation::Write),
+    Operation::Register(RegisterOperation::State),
+    Operation::Register(RegisterOperation::Fail),
+    Operation::Command(CommandOperation::Read),
+    Operation::Command(CommandOperation::Transfer),
+    Operation::Command(CommandOperation::HostData),
+    Operation::Command(CommandOperation::StatusName),
+    Operation::Ring(RingOperation::Begin),
+    Operation::Ring(RingOperation::Renew),
+    Operation::Ring(RingOperation::Zero),
+    Operation::Ring(RingOperation::Submit),
+    Operation::Ring(RingOperation::Tail),
+    Operation::Ring(RingOperation::Take),
+    Operation::Ring(RingOperation::Post),
+    Operation::Ring(RingOperation::Collect),
+    Operation::Ring(RingOperation::Free),
+    Operation::Ring(RingOperation::Tell),
+    Operation::Ring(RingOperation::Head),
+    Operation::Ring(RingOperation::State),
+    Operation::Subsystem,
+    Operation::Controllers,
+    Operation::Controller(ControllerOperation::Read),
+    Operation::Controller(ControllerOperation::Write),
+    Operation::Controller(ControllerOperation::Turn),
+    Operation::Controller(ControllerOperation::Counts),
+    Operation::Controller(ControllerOperation::LogEntry),
+    Operation::BringUp,
+    Operation::Driver(DriverOperation::Passthrough),
+    Operation::Driver(DriverOperation::Reset),
 ];
 
 impl Operation {
@@ -86,6 +138,14 @@ impl Operation {
             Operation::Spread => "spans",
             Operation::CopyOut => "copy_out",
             Operation::CopyIn => "copy_in",
+            Operation::Command(operation) => operation.word(),
+            Operation::Register(operation) => operation.word(),
+            Operation::Ring(operation) => operation.word(),
+            Operation::Subsystem => "subsystem",
+            Operation::Controllers => "controllers",
+            Operation::Controller(asked) => asked.word(),
+            Operation::BringUp => "bring_up",
+            Operation::Driver(asked) => asked.word(),
         }
     }
 

@@ -1,9 +1,15 @@
 //! What operations work on.
 
-ghost use Rattle.std.specs.Prelude.{◌≡◌, ◌%◌, ◌^◌, IfOk, map};
+ghost use Rattle.std.specs.Prelude.{◌≡◌, ◌∷◌, ◌%◌, ◌^◌, [], IfOk, codes, map};
+ghost use Rattle.nv_operations.specs.Controllers.{file_in};
+ghost use Rattle.nv_operations.specs.Field.{number};
 ghost use Rattle.nv_operations.specs.Transfers.{Builds};
 ghost use Rattle.nv_operations.specs.Session.{done, pages_of, request_in};
 
+use crate::commands::perform_command;
+use crate::controller_operation::ControllerOperation;
+use crate::device::Device;
+use crate::driver_operation::DriverOperation;
 use crate::fields::Fields;
 use crate::get::get_record;
 use crate::items::Items;
@@ -11,16 +17,24 @@ use crate::memory::{load, new_memory, page, sizes, store};
 use crate::operation::Operation;
 use crate::put::put_record;
 use crate::refusal::Refusal;
+use crate::registers::perform_register;
+use crate::rings::{QueuePair, perform_ring};
 use crate::transfers::{build_entries, copy_from_host, copy_to_host, spread_buffer, walk_entries};
 use nv_host::{FlatMemory, PageNo};
 use nv_prp::{Buffer, ListPlace, Spans};
+use nv_register::RegisterBank;
+use nv_subsystem::DEMO;
 use std::alloc::{AllocError, Global};
 
-/// What operations work on: the host's memory, and the spans of the last walk.
+/// What operations work on: the host's memory, the spans of the last walk, the registers of a
+/// controller, rings, and the controllers of the last subsystem.
 #[derive(Drop)]
 pub struct Session {
     pub memory: FlatMemory,
     pub spans: Spans,
+    pub bank: RegisterBank,
+    pub rings: QueuePair,
+    pub device: Option<Device>,
 }
 
 /// What was done without a value.
@@ -43,6 +57,17 @@ fn pages_of(alloc: Global, numbers: &[u64]) -> Result<Items<PageNo>, AllocError>
         pages.push((*number % 0x1_0000_0000) as u32)?;
     }
     Ok(pages)
+}
+
+/// The file that fields have, or else the demonstration file.
+fn file_in(fields: &Fields) -> &[u8]
+    ensures { result.now ≡ file_in fields.now }
+{
+    if fields.has("file") {
+        fields.bytes("file")
+    } else {
+        DEMO.as_bytes()
+    }
 }
 
 /// Builds the entries of the transfer that fields ask for.
@@ -68,10 +93,12 @@ fn build_asked(
 }
 
 impl Session {
-    ghost use Rattle.nv_operations.specs.Session.{BuildsIn, CopiesOutIn, IsNew, Performs, Renews};
-    ghost use Rattle.nv_operations.specs.Session.{SpreadsIn, StoresIn, WalksIn};
+    ghost use Rattle.nv_operations.specs.Session.{Asks, BringsUpIn, BuildsIn, CopiesOutIn, DrivesIn};
+    ghost use Rattle.nv_operations.specs.Session.{IsNew, Performs, Renews, SetsUp, SpreadsIn, StoresIn};
+    ghost use Rattle.nv_operations.specs.Session.{WalksIn, count_of};
 
-    /// A memory of 16 pages of 4,096 bytes, all zeros, and no spans.
+    /// A memory of 16 pages of 4,096 bytes, all zeros, no spans, the registers after power on, rings of
+    /// 16 slots in the first two pages, and no controllers.
     #[tactic(auto, unfolding(nv_host::specs::Pages::IsPageSize))]
     pub fn new(alloc: Global) -> Result<Session, AllocError>
         ensures { IfOk result IsNew }
@@ -80,6 +107,9 @@ impl Session {
             Ok(memory) => Ok(Session {
                 memory,
                 spans: Spans::new(),
+                bank: RegisterBank::new(),
+                rings: QueuePair::new(16, 0x0000, 0x1000),
+                device: None,
             }),
             Err(_) => Err(AllocError),
         }
@@ -168,6 +198,78 @@ impl Session {
         done(alloc, outcome)
     }
 
+    /// Other controllers. After a refusal the old ones stay.
+    fn set_up(
+        &mut self,
+        alloc: Global,
+        fields: &Fields,
+    ) -> Result<Result<Fields, Refusal>, AllocError>
+        ensures { IfOk result (λ outcome. SetsUp fields.now self.old outcome self.new) }
+    {
+        match Device::new(alloc, file_in(fields))? {
+            Ok(device) => {
+                self.device = Some(device);
+                Ok(Ok(Fields::new(alloc)))
+            }
+            Err(refusal) => Ok(Err(refusal)),
+        }
+    }
+
+    /// How many controllers there are, as the field `controllers`.
+    fn controllers(&self, alloc: Global) -> Result<Fields, AllocError>
+        ensures { IfOk result (λ fields. fields
+            ≡ number (codes "controllers") (count_of self.now.device) ∷ []) }
+    {
+        let count = match &self.device {
+            Some(device) => device.controllers(),
+            None => 0,
+        };
+        let mut fields = Fields::new(alloc);
+        fields.push_number("controllers", u64::from(count))?;
+        Ok(fields)
+    }
+
+    fn ask(
+        &mut self,
+        alloc: Global,
+        operation: ControllerOperation,
+        fields: &Fields,
+    ) -> Result<Result<Fields, Refusal>, AllocError>
+        ensures { IfOk result (λ outcome. Asks operation fields.now self.old outcome self.new) }
+    {
+        match &mut self.device {
+            Some(device) => device.ask(alloc, &mut self.memory, operation, fields),
+            None => Ok(Err(Refusal::NoController)),
+        }
+    }
+
+    fn bring_up(
+        &mut self,
+        alloc: Global,
+        fields: &Fields,
+    ) -> Result<Result<Fields, Refusal>, AllocError>
+        ensures { IfOk result (λ outcome. BringsUpIn fields.now self.old outcome self.new) }
+    {
+        match &mut self.device {
+            Some(device) => device.bring_up(alloc, fields),
+            None => Ok(Err(Refusal::NoController)),
+        }
+    }
+
+    fn drive(
+        &mut self,
+        alloc: Global,
+        operation: DriverOperation,
+        fields: &Fields,
+    ) -> Result<Result<Fields, Refusal>, AllocError>
+        ensures { IfOk result (λ outcome. DrivesIn operation fields.now self.old outcome self.new) }
+    {
+        match &mut self.device {
+            Some(device) => device.drive(alloc, operation, fields),
+            None => Ok(Err(Refusal::NoController)),
+        }
+    }
+
     /// Does what an operation asks for, with the fields of its line: the fields that answer it, or why
     /// it was refused.
     pub fn perform(
@@ -197,6 +299,18 @@ impl Session {
             Operation::Spread => self.spread(alloc, fields),
             Operation::CopyOut => Ok(self.copy_out(alloc, fields)),
             Operation::CopyIn => copy_from_host(alloc, &self.memory, &self.spans),
+            Operation::Command(operation) => perform_command(alloc, operation, fields),
+            Operation::Register(operation) => {
+                Ok(Ok(perform_register(alloc, operation, fields, &mut self.bank)?))
+            }
+            Operation::Ring(operation) => {
+                perform_ring(alloc, operation, fields, &mut self.memory, &mut self.rings)
+            }
+            Operation::Subsystem => self.set_up(alloc, fields),
+            Operation::Controllers => Ok(Ok(self.controllers(alloc)?)),
+            Operation::Controller(asked) => self.ask(alloc, asked, fields),
+            Operation::BringUp => self.bring_up(alloc, fields),
+            Operation::Driver(asked) => self.drive(alloc, asked, fields),
         }
     }
 }

@@ -6,20 +6,6 @@ use crate::checks::{check_bytes, check_text};
 use nv_host::*;
 use std::process::Abort;
 
-#[test]
-fn memory_of_zeros(rt: HostRuntime) {
-    for page_size in [4096, 8192, 16384, 32768, 65536] {
-        assert!(rt; is_page_size(page_size));
-        let Ok(mem) = FlatMemory::new(rt.alloc(), page_size, 3) else {
-            assert!(rt; false, "out of memory");
-            return;
-        };
-        assert!(rt; mem.page_size() == page_size);
-        assert!(rt; mem.pages() == 3);
-        assert!(rt; mem.page(2).iter().all(|b| *b == 0));
-    }
-}
-
 /// A load into these bytes fits, or leaves the memory.
 fn check_load(rt: &impl Abort, mem: &FlatMemory, addr: u64, out: &mut [u8], fits: bool) {
     assert!(rt; mem.load(addr, out).is_ok() == fits, "at {addr}");
@@ -32,24 +18,6 @@ fn check_store(rt: &impl Abort, mem: &mut FlatMemory, addr: u64, bytes: &[u8], f
     ensures len { length mem.new.bytes ≡ length mem.old.bytes }
 {
     assert!(rt; mem.store(addr, bytes).is_ok() == fits, "at {addr}");
-}
-
-#[test]
-#[tactic(auto, unfolding(nv_host::specs::Pages::IsPageSize))]
-fn ranges_that_leave_the_memory(rt: HostRuntime) {
-    let Ok(mut mem) = FlatMemory::new(rt.alloc(), 4096, 16) else {
-        assert!(rt; false, "out of memory");
-        return;
-    };
-    let mut two = [7; 2];
-    check_load(&rt, &mem, 0xffff, &mut two, false);
-    check_store(&rt, &mut mem, 0xffff, &two, false);
-    check_load(&rt, &mem, u64::MAX, &mut two, false);
-    check_bytes(&rt, &two, &[7, 7], "not loaded");
-    check_store(&rt, &mut mem, 0xfffe, &two, true);
-    check_load(&rt, &mem, 0x10000, &mut [], true);
-    check_load(&rt, &mem, 0x10001, &mut [], false);
-    check_bytes(&rt, &mem.page(15)[4093..], &[0, 7, 7], "stored");
 }
 
 #[test]

@@ -1,0 +1,187 @@
+-- The controllers of a subsystem with their driver: what each operation on them is answered, and what it leaves.
+use Rattle.std.specs.Prelude.{◌≡◌, ℕ, ◌≤◌, List, [], ◌∷◌, Option, Some, None, Result, Ok, Err, MatchResult}
+use Rattle.std.specs.Prelude.{codes, if◌then◌else◌, length, nat_lt}
+use Rattle.nv_host.specs.Pages.{PagedBytes}
+use Rattle.nv_layout.specs.Status.{number_of_status}
+use Rattle.nv_layout.specs.declared.sqe.Sqe.{Sqe}
+use Rattle.nv_model.specs.Reset.{reset, reset_where}
+use Rattle.nv_bus.specs.Bus.{BusValue, IsBus, enabled_in}
+use Rattle.nv_bus.specs.Entry.{told_by}
+use Rattle.nv_bus.specs.declared.told.Told.{Told}
+use Rattle.nv_driver.specs.Alone.{IsReceived, asked_in, entry_step}
+use Rattle.nv_driver.specs.Driver.{HasEntryPages, after_command, after_reset, driver_with, pair_at}
+use Rattle.nv_driver.specs.Layout.{pages_of_entry}
+use Rattle.nv_driver.specs.Registers.{banks_of}
+use Rattle.nv_driver.specs.Settled.{DriverValue}
+use Rattle.nv_driver.specs.declared.geometry.Geometry.{Geometry}
+use Rattle.nv_driver.specs.declared.geometry_field.GeometryField.{GeometryField}
+use Rattle.nv_operations.specs.Field.{Field, byte_of, bytes, bytes_of, dword_of, has_field, number, number_of}
+use Rattle.nv_operations.specs.Field.{word_of}
+use Rattle.nv_operations.specs.Controllers.{Asked, powered_in}
+use Rattle.nv_operations.specs.declared.controller_operation.ControllerOperation.{ControllerOperation}
+use Rattle.nv_operations.specs.ControllerOperations.{is_by_hand}
+use Rattle.nv_operations.specs.declared.driver_operation.DriverOperation.{DriverOperation}
+use Rattle.nv_operations.specs.declared.driver_operation.DriverOperation.TheVariants.{Passthrough, Reset}
+use Rattle.nv_operations.specs.declared.refusal.Refusal.{Refusal}
+use Rattle.nv_operations.specs.declared.refusal.Refusal.TheVariants as refusal
+
+-- the controllers, and their driver, if they have one
+pub record DeviceValue : Type 0 where
+  pub bus : BusValue
+  pub driver : Option DriverValue
+
+-- the bus is as the driver left it, which has room for the data of any entry
+abbrev pub IsLeft : BusValue → Option DriverValue → Type 0
+IsLeft b None = Unit {0}
+IsLeft b (Some d) = (b.banks ≡ banks_of d) × HasEntryPages d
+
+pub record IsDevice (b : BusValue) (driver : Option DriverValue) : Type 0 where
+  pub bus : IsBus b
+  pub left : IsLeft b driver
+
+-- the controllers of a file's subsystem after power on have no driver
+abbrev pub without_driver : Result BusValue Refusal → Result DeviceValue Refusal
+without_driver (Ok b) = Ok (record { bus = b; driver = None })
+without_driver (Err r) = Err r
+
+abbrev pub device_of : List ℕ → Result DeviceValue Refusal
+device_of file = without_driver (powered_in file)
+
+-- ---- controllers by hand
+
+-- a driver is let go where a register is written or a turn given by hand
+abbrev pub driver_after : ControllerOperation → Option DriverValue → Option DriverValue
+driver_after o driver = if is_by_hand o then None else driver
+
+-- controller c, where there is one
+abbrev pub controller_in : BusValue → ℕ → Result ℕ Refusal
+controller_in b c = if nat_lt c (length b.banks) then Ok c else Err refusal.NoController
+
+-- what is asked of a controller is done where there is the controller
+abbrev pub PerformsOn : ControllerOperation → List Field → DeviceValue → PagedBytes
+    → Result (List Field) Refusal → DeviceValue → PagedBytes → Type 0
+PerformsOn o fs old m outcome new m' =
+    MatchResult (controller_in old.bus (word_of (codes "ctrl") fs))
+    (λ c. Asked o c fs old.bus m outcome new.bus m' × (new.driver ≡ driver_after o old.driver))
+    (λ r. (outcome ≡ Err r) × (new ≡ old) × (m' ≡ m))
+
+-- ---- what the fields of a line ask for
+
+-- a number that a line may leave out
+abbrev pub dword_or : List ℕ → ℕ → List Field → ℕ
+dword_or key otherwise fs = if has_field key fs then dword_of key fs else otherwise
+
+abbrev pub geometry_in : List Field → Geometry
+geometry_in fs = record {
+  depth = dword_or (codes "depth") 32 fs;
+  page_size = dword_or (codes "page_size") 4096 fs;
+  offset = dword_or (codes "offset") 0 fs;
+  list_offset = dword_or (codes "list_offset") 0 fs;
+  window = dword_or (codes "window") 1 fs;
+  pace = dword_or (codes "pace") 1 fs;
+}
+
+-- an entry, whose command identifier and data pointer are the driver's own
+unfoldable pub entry_in : List Field → Sqe
+entry_in fs = record {
+  opcode = byte_of (codes "opcode") fs;
+  fuse = 0;
+  psdt = 0;
+  cid = 0;
+  nsid = dword_of (codes "nsid") fs;
+  mptr = 0;
+  prp1 = 0;
+  prp2 = 0;
+  cdw10 = dword_of (codes "cdw10") fs;
+  cdw11 = dword_of (codes "cdw11") fs;
+  cdw12 = dword_of (codes "cdw12") fs;
+  cdw13 = dword_of (codes "cdw13") fs;
+  cdw14 = dword_of (codes "cdw14") fs;
+  cdw15 = dword_of (codes "cdw15") fs;
+}
+
+-- ---- what is done with a driver
+
+-- a driver of all controllers, which are ready with its rings; each that was enabled is reset
+abbrev pub made_driver : Geometry → BusValue → DriverValue
+made_driver g b = driver_with g (length b.banks) (pages_of_entry g.page_size)
+
+pub record IsBroughtUp (g : Geometry) (b : BusValue) (new : DeviceValue) : Type 0 where
+  pub driver : new.driver ≡ Some (made_driver g b)
+  pub banks : new.bus.banks ≡ banks_of (made_driver g b)
+  pub state : new.bus.state ≡ reset_where (enabled_in b.banks) b.state
+
+abbrev pub pages_alone : ℕ → List Field
+pages_alone n = number (codes "pages") n ∷ []
+
+-- or the first field of the geometry that is out of its limits, and all stays
+abbrev pub BringsUp : Geometry → Option GeometryField → DeviceValue → Result (List Field) Refusal
+    → DeviceValue → Type 0
+BringsUp g (Some field) old outcome new = (outcome ≡ Err (refusal.Geometry field)) × (new ≡ old)
+BringsUp g None old outcome new =
+    (outcome ≡ Ok (pages_alone (made_driver g old.bus).pages)) × IsBroughtUp g old.bus new
+
+-- what the completion of an entry tells, and the bytes that came
+abbrev pub told_fields : Told → List ℕ → List Field
+told_fields told came =
+    number (codes "status") (number_of_status told.status)
+    ∷ number (codes "dword0") told.dword0
+    ∷ bytes (codes "bytes") came
+    ∷ []
+
+-- an entry was sent to controller c with the bytes that the host had to send
+pub record IsSent (c : ℕ) (e : Sqe) (given : List ℕ) (room : ℕ) (fields : List Field)
+    (b : BusValue) (d : DriverValue) (b' : BusValue) (d' : DriverValue) : Type 0 where
+  pub came : List ℕ
+  pub told : fields ≡ told_fields
+      (told_by (entry_step b.state c e given (pair_at d.pairs c).serial).answer) came
+  pub received : IsReceived (asked_in b.state c e given)
+      (entry_step b.state c e given (pair_at d.pairs c).serial).answer came
+  pub filled : length came ≡ room
+  pub state : b'.state ≡ (entry_step b.state c e given (pair_at d.pairs c).serial).state
+  pub driver : d' ≡ after_command d c
+
+abbrev pub SendsBy : ℕ → List Field → List Field → BusValue → DriverValue → BusValue → DriverValue
+    → Type 0
+SendsBy c fs fields b d b' d' =
+    IsSent c (entry_in fs) (bytes_of (codes "data") fs) (number_of (codes "room") fs) fields b d b' d'
+
+-- controller c was reset
+pub record IsReset (c : ℕ) (b : BusValue) (d : DriverValue) (b' : BusValue) (d' : DriverValue)
+    : Type 0 where
+  pub state : b'.state ≡ reset b.state c
+  pub driver : d' ≡ after_reset d c
+
+abbrev pub WithDrivers : Option DriverValue → Option DriverValue → (DriverValue → DriverValue → Type 0)
+    → Type 0
+WithDrivers (Some d) (Some d') Does = Does d d'
+WithDrivers driver driver' Does = ⊥
+
+-- something was done by the driver
+abbrev pub ByDriver : DeviceValue → DeviceValue → (BusValue → DriverValue → BusValue → DriverValue → Type 0)
+    → Type 0
+ByDriver old new Does = WithDrivers old.driver new.driver (λ d d'. Does old.bus d new.bus d')
+
+-- why it isn't: there is no driver, or it has no such controller
+abbrev pub Lacks : Refusal → Option DriverValue → ℕ → Type 0
+Lacks refusal.NoDriver None c = Unit {0}
+Lacks refusal.NoController (Some d) c = length d.pairs ≤ c
+Lacks r driver c = ⊥
+
+abbrev pub Sends : List Field → DeviceValue → Result (List Field) Refusal → DeviceValue → Type 0
+Sends fs old outcome new =
+    let c = word_of (codes "ctrl") fs in
+    MatchResult outcome (λ fields. ByDriver old new (SendsBy c fs fields))
+    (λ r. Lacks r old.driver c × (new ≡ old))
+
+abbrev pub Resets : List Field → DeviceValue → Result (List Field) Refusal → DeviceValue → Type 0
+Resets fs old outcome new =
+    let c = word_of (codes "ctrl") fs in
+    MatchResult outcome (λ fields. (fields ≡ []) × ByDriver old new (IsReset c))
+    (λ r. Lacks r old.driver c × (new ≡ old))
+
+-- what is asked of the driver, or why it isn't, and then all stays
+abbrev pub Drives : DriverOperation → List Field → DeviceValue → Result (List Field) Refusal
+    → DeviceValue → Type 0
+Drives Passthrough fs old outcome new = Sends fs old outcome new
+Drives Reset fs old outcome new = Resets fs old outcome new

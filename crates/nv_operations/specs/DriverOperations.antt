@@ -1,0 +1,42 @@
+-- The operations on a driver of the controllers: their words, and the fields of their lines.
+use Rattle.std.specs.Prelude.{ℕ, List, [], ◌∷◌, codes}
+use Rattle.nv_operations.specs.Field.{Row}
+use Rattle.nv_operations.specs.Rows.{byte_row, bytes_row, dword_row, needed, number_row, word_row}
+use Rattle.nv_operations.specs.declared.driver_operation.DriverOperation.{DriverOperation}
+use Rattle.nv_operations.specs.declared.driver_operation.DriverOperation.TheVariants.{Passthrough, Reset}
+
+abbrev pub driver_word : DriverOperation → List ℕ
+driver_word Passthrough = codes "passthrough"
+driver_word Reset = codes "reset"
+
+unfoldable pub bring_up_rows : List Row
+bring_up_rows =
+    dword_row (codes "depth")
+    ∷ dword_row (codes "page_size")
+    ∷ dword_row (codes "offset")
+    ∷ dword_row (codes "list_offset")
+    ∷ dword_row (codes "window")
+    ∷ dword_row (codes "pace")
+    ∷ []
+
+unfoldable pub passthrough_rows : List Row
+passthrough_rows =
+    needed (word_row (codes "ctrl"))
+    ∷ needed (byte_row (codes "opcode"))
+    ∷ dword_row (codes "nsid")
+    ∷ dword_row (codes "cdw10")
+    ∷ dword_row (codes "cdw11")
+    ∷ dword_row (codes "cdw12")
+    ∷ dword_row (codes "cdw13")
+    ∷ dword_row (codes "cdw14")
+    ∷ dword_row (codes "cdw15")
+    ∷ bytes_row (codes "data") 1048576
+    ∷ number_row (codes "room") 1048576
+    ∷ []
+
+unfoldable pub reset_rows : List Row
+reset_rows = needed (word_row (codes "ctrl")) ∷ []
+
+abbrev pub driver_rows : DriverOperation → List Row
+driver_rows Passthrough = passthrough_rows
+driver_rows Reset = reset_rows

@@ -1,0 +1,86 @@
+"""Commands by the hundred: the error log after 300 refusals, and as many namespaces as there may be.
+
+`nvme_bench` is given them. Single commands stand in tests/rows.
+
+    python3 -m unittest tests.test_many_commands
+"""
+
+import unittest
+
+from tests.test_rows import answers_to, edited, entry_of
+
+REFUSALS = 300
+REFUSED = 'status=0x600b dword0=0x0 bytes='
+
+
+def subsystem(*edits):
+    """The operation that makes the controllers of the demonstration file with these edits."""
+    return f'subsystem {edited("demo.toml", *edits).encode().hex()}'
+
+
+def get_log(lid, offset, length):
+    """The operation that gets a part of a log of the first controller."""
+    numd = length // 4 - 1
+    return f'passthrough 0 0x02 cdw10={(numd & 0xffff) << 16 | lid} cdw11={numd >> 16} cdw12={offset} room={length}'
+
+
+def data_of(answer):
+    """The bytes that came with an accepted command."""
+    beginning = 'status=0x0 dword0=0x0 bytes='
+    if not answer.startswith(beginning):
+        raise AssertionError(answer[:200])
+    return bytes.fromhex(answer[len(beginning):])
+
+
+def booked(number):
+    """The entry of the refusal with this number, from 1 on, in hexadecimal digits. Its command identifier is one less,
+    and its phase tag that of its completion, in a ring of 32 slots that is gone through again and again. Section
+    "Completion Queue Entry", Phase Tag."""
+    phase = 1 - (number - 1) // 32 % 2
+    return entry_of('error_entry', f'count={number} cid={number - 1} status=0x600b phase={phase} location=0xffff')
+
+
+class ManyCommands(unittest.TestCase):
+    def refused(self, elpe, operations):
+        """What these operations are answered after 300 refusals, with an error log of one entry more than `elpe`."""
+        before = [subsystem('elpe = 3', f'elpe = {elpe}'), 'bring_up'] + REFUSALS * ['passthrough 0 0x06']
+        answers = answers_to(before + operations)
+        self.assertEqual(answers[2:len(before)], REFUSALS * [REFUSED])
+        return answers[len(before):]
+
+    def test_newest_errors(self):
+        """The log keeps the newest errors. They are told one by one, and as a log page from each place on. Section
+        "Error Information (Log Identifier 01h)"."""
+        for elpe in 0, 3, 255:
+            with self.subTest(elpe=elpe):
+                log = ''.join(booked(REFUSALS - index) for index in range(elpe + 1))
+                end = len(log) // 2
+                # what is past the log's end is zeros, and a log page begins at its end at the latest
+                whole = bytes.fromhex(log) + bytes(200)
+                around = {place for step in range(0, 140, 4) for place in (step, end - 136 + step)}
+                places = sorted(place for place in around if 0 <= place <= end)
+                entries = [f'log_entry 0 {index}' for index in range(elpe + 2)]
+                answers = self.refused(elpe, entries + [get_log(1, place, 68) for place in places])
+                told = [f'bytes={booked(REFUSALS - index)}' for index in range(elpe + 1)] + ['refused: no such entry']
+                self.assertEqual(answers[:len(entries)], told)
+                for place, answer in zip(places, answers[len(entries):]):
+                    self.assertEqual(data_of(answer), whole[place:place + 68], place)
+
+    def test_errors_in_the_health(self):
+        """Section "SMART / Health Information (Log Identifier 02h)", Number of Error Information Log Entries."""
+        health = data_of(self.refused(3, [get_log(2, 0, 512)])[0])
+        self.assertEqual(health, bytes(176) + REFUSALS.to_bytes(16, 'little') + bytes(320))
+
+    def test_namespaces(self):
+        """Section "Namespace Management command": each of 1,024 NSIDs is given, the least free one first."""
+        create = f'passthrough 0 0x0d data={entry_of("id_ns", "nsze=1 ncap=1")}'
+        full = 'status=0x6116 dword0=0x0 bytes='
+        answers = answers_to([subsystem('nn = 4', 'nn = 1024'), 'bring_up'] + 1023 * [create]
+                             + ['passthrough 0 0x0d nsid=500 cdw10=1', create, create])
+        given = [2] + list(range(4, 1025))
+        self.assertEqual(answers[2:-4], [f'status=0x0 dword0={nsid:#x} bytes=' for nsid in given])
+        self.assertEqual(answers[-4:], [full, 'status=0x0 dword0=0x0 bytes=', 'status=0x0 dword0=0x1f4 bytes=', full])
+
+
+if __name__ == '__main__':
+    unittest.main()
