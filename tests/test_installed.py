@@ -33,10 +33,29 @@ class Installed(Case):
         ended = run(self.prefix / 'bin/nvme-model', '--subsystem', elsewhere, 'sh', '-c', LOOK, cwd='/')
         self.ends(ended, 0, b'S1                  \n', b'')
 
+    def test_library(self):
+        self.ends(run('make', '-s', 'library', limit=3600), 0)
+        self.ends(self.make('install'), 0)
+        made = self.folder / 'bench'
+        flags = f'-I{self.prefix}/include', f'-L{self.prefix}/lib', '-lnvme_controller', f'-Wl,-rpath,{self.prefix}/lib'
+        if shutil.which('pkg-config'):
+            ended = run('pkg-config', '--cflags', '--libs', 'nvme_controller',
+                        env={'PKG_CONFIG_PATH': self.prefix / 'lib/pkgconfig'})
+            self.assertEqual(ended.out.decode().split(), list(flags[:3]), ended)
+        example = self.prefix / 'share/doc/nvme-script/examples/c/bench.c'
+        self.ends(run('cc', '-o', made, example, *flags), 0, b'', b'')
+        self.ends(run(made, cwd='/'), 0)
+        module = self.prefix / 'share/nvme_controller'
+        env = {'PYTHONPATH': module, 'LD_LIBRARY_PATH': self.prefix / 'lib', 'PYTHONDONTWRITEBYTECODE': '1'}
+        use = 'from nvme_controller import Machine; print(Machine().controllers())'
+        ended = run('/usr/bin/env', 'python3', '-c', use, env=env)
+        self.ends(ended, 0, b'2\n', b'')
+
     def test_manual_pages_have_no_warnings(self):
-        for name in 'nvme-script', 'nvme-model':
-            with self.subTest(name):
-                self.has_no_warnings(self.prefix / f'share/man/man1/{name}.1')
+        installed = self.prefix / 'share/man/man1'
+        for page in installed / 'nvme-script.1', installed / 'nvme-model.1', TOP / 'docs/nvme_controller.3':
+            with self.subTest(page.name):
+                self.has_no_warnings(page)
 
     def has_no_warnings(self, page):
         if shutil.which('mandoc'):

@@ -1,0 +1,94 @@
+-- What the calls of a program in C answer, and what they change.
+use Rattle.std.specs.Prelude.{◌≡◌, ◌*◌, ◌<◌, ◌^◌, ℕ, ℤ, pos, Bool, List, length, nat_lt, replicate, slice_set}
+use Rattle.std.specs.Prelude.{Option, None, Some, Result, Ok, Err, ◌⊎◌, if◌then◌else◌, MatchBool}
+use Rattle.nv_layout.specs.ErrorEntry.{bytes_of_error_entry}
+use Rattle.nv_layout.specs.declared.error_entry.ErrorEntry.{ErrorEntry}
+use Rattle.nv_host.specs.Pages.{IsPageSize}
+use Rattle.nv_register.specs.RegisterBank.{new_bank, value_at, with_register_at}
+use Rattle.nv_model.specs.State.{State}
+use Rattle.nv_bus.specs.Bus.{BusValue, bank_at, state_written}
+use Rattle.nv_bus.specs.Turn.{TakesCount, Turn}
+use Rattle.nv_file.specs.declared.error.SubsystemError.{SubsystemError}
+use Rattle.nv_file.specs.declared.error.SubsystemError.TheVariants as fault
+use Rattle.nv_subsystem.specs.Tagged.{untagged, with_phase}
+
+-- ---- opening
+
+-- the number of a fault of a subsystem file
+abbrev pub number_of : SubsystemError → ℤ
+number_of fault.NotToml = pos 1
+number_of (fault.Missing table key) = pos 2
+number_of (fault.Kind table key) = pos 3
+number_of (fault.Range table key) = pos 4
+number_of (fault.Repeated table key) = pos 5
+number_of (fault.Unknown table) = pos 6
+number_of fault.Capacity = pos 7
+number_of fault.Attachment = pos 8
+number_of fault.Memory = pos 9
+
+-- the controllers of a subsystem after power on
+abbrev pub machine_of : State → BusValue
+machine_of s = record {
+  state = untagged s;
+  banks = replicate (length s.controllers) new_bank;
+}
+
+-- opening a file: 0 with the machine of its subsystem, or the number of its first fault with the
+-- handle as it was
+abbrev pub OpensFile : Result State SubsystemError → ℤ → Option BusValue → Option BusValue → Type 0
+OpensFile (Ok s) number m m' = (number ≡ pos 0) × (m' ≡ Some (machine_of s))
+OpensFile (Err e) number m m' = (number ≡ number_of e) × (m' ≡ m)
+
+-- opening, where memory may be refused
+abbrev pub Opens : Result State SubsystemError → ℤ → Option BusValue → Option BusValue → Type 0
+Opens file number m m' =
+    ((number ≡ number_of fault.Memory) × (m' ≡ m)) ⊎ OpensFile file number m m'
+
+-- ---- registers
+
+-- there is a controller of this number
+abbrev pub has : BusValue → ℕ → Bool
+has m c = nat_lt c (length m.banks)
+
+-- what a read of controller c gives: all ones where there is no such controller
+abbrev pub read_of : BusValue → ℕ → ℕ → ℕ
+read_of m c offset = if has m c then value_at (bank_at m.banks c) offset else 4294967295
+
+-- a write, which changes nothing where there is no such controller
+abbrev pub Written : ℕ → ℕ → ℕ → BusValue → BusValue → Type 0
+Written c offset x m m' =
+    MatchBool (has m c)
+    ((m'.state ≡ state_written m c offset x)
+    × (m'.banks ≡ slice_set m.banks c (with_register_at (bank_at m.banks c) offset x)))
+    (m' ≡ m)
+
+-- ---- turns
+
+-- a turn of controller c over a memory of these bytes
+pub record BytesTurn (page_size c most count : ℕ) (m : BusValue) (bytes : List ℕ) (m' : BusValue)
+    (bytes' : List ℕ) : Type 0 where
+  pub turn : Turn page_size c most count m bytes m' bytes'
+  pub takes : TakesCount page_size (length bytes) most (bank_at m.banks c) count
+      (bank_at m'.banks c)
+  pub len : length bytes' ≡ length bytes
+
+-- so many bytes are whole pages of one of the five sizes, fewer than 2^32
+pub record ArePages (page_size size : ℕ) : Type 0 where
+  pub page : IsPageSize page_size
+  pub whole : (pages : ℕ) × (pages < 2 ^ 32) × (pages * page_size ≡ size)
+
+-- such a turn, of a controller that there is over whole pages; or nothing was done
+abbrev pub Turned : ℕ → ℕ → ℕ → ℕ → BusValue → List ℕ → BusValue → List ℕ → Type 0
+Turned c page_size most count m bytes m' bytes' =
+    ((count ≡ 0) × (m' ≡ m) × (bytes' ≡ bytes))
+    ⊎ ((c < length m.banks) × ArePages page_size (length bytes)
+    × BytesTurn page_size c most count m bytes m' bytes')
+
+-- ---- logs
+
+-- an entry of a log, if there is one: 1 with its bytes, of which the phase tag is any; or 0 with the
+-- bytes as they were
+abbrev pub EntryTold : Option ErrorEntry → ℤ → List ℕ → List ℕ → Type 0
+EntryTold None found old new = (found ≡ pos 0) × (new ≡ old)
+EntryTold (Some e) found old new =
+    (found ≡ pos 1) × ((phase : Bool) × (new ≡ bytes_of_error_entry (with_phase phase e)))

@@ -1,0 +1,329 @@
+//! What a program in C calls. A call takes the machine out of its handle, and puts it back.
+ghost use Rattle.std.specs.Prelude.{◌≡◌, ◌*◌, ◌<◌, IfErr, IfOk, IfSome, None, Option, Some};
+ghost use Rattle.std.specs.Prelude.{length, pos};
+ghost use Rattle.nv_bus.specs.Bus.{BusValue, IsBus};
+ghost use Rattle.nv_host.specs.Pages.{IsPageSize};
+ghost use Rattle.nv_model.specs.LogEntry.{counts_of, log_entry_of};
+ghost use Rattle.nv_subsystem.specs.FromFile.{subsystem};
+ghost use Rattle.nvme_controller.specs.Calls.{ArePages, BytesTurn, EntryTold, Opens};
+ghost use Rattle.nvme_controller.specs.Calls.{Turned, Written, number_of, read_of};
+ghost use Rattle.nvme_controller.specs.Open.{Goes, IsOpen};
+
+use crate::handle::Handle;
+use nv_controller::{Bus, Machine};
+use nv_host::{FlatMemory, is_page_size, load_inside, store_inside};
+use nv_subsystem::{DEMO, Subsystem, SubsystemError};
+use std::alloc::Global;
+
+/// What a read of a controller that there isn't gives.
+const ABSENT: u32 = 0xffff_ffff;
+
+/// The machine of a subsystem file, or the file's first fault.
+#[tactic(auto, using(crate::proofs::OpenLaws::opened, crate::proofs::OpenLaws::refused, crate::proofs::OpenLaws::no_memory))]
+fn machine_of(alloc: Global, file: &[u8]) -> Result<Box<Machine>, SubsystemError>
+    ensures bus { IfOk result (λ b. IsBus b.value) }
+    ensures value { IfOk result
+        (λ b. (m : Option BusValue) → Opens (subsystem file.now) (pos 0) m (Some b.value)) }
+    ensures fault { IfErr result
+        (λ e. (m : Option BusValue) → Opens (subsystem file.now) (number_of e) m m) }
+{
+    let subsystem = Subsystem::from_toml(alloc, file)?;
+    let Ok(machine) = Machine::new(alloc, subsystem) else {
+        return Err(SubsystemError::Memory);
+    };
+    let place = Box::new(alloc, machine)?;
+    Ok(place)
+}
+
+/// The number of a fault.
+fn number(fault: SubsystemError) -> i32
+    ensures { result ≡ number_of fault }
+{
+    match fault {
+        SubsystemError::NotToml => 1,
+        SubsystemError::Missing { .. } => 2,
+        SubsystemError::Kind { .. } => 3,
+        SubsystemError::Range { .. } => 4,
+        SubsystemError::Repeated { .. } => 5,
+        SubsystemError::Unknown { .. } => 6,
+        SubsystemError::Capacity => 7,
+        SubsystemError::Attachment => 8,
+        SubsystemError::Memory => 9,
+    }
+}
+
+/// Opens the machine of a subsystem file: 0, or the number of the file's first fault.
+fn open(alloc: Global, file: &[u8], handle: &mut Handle) -> i32
+    ensures opens { Opens (subsystem file.now) result handle.old.machine handle.new.machine }
+    ensures open { result ≡ pos 0 → IsOpen handle.new.machine }
+{
+    match machine_of(alloc, file) {
+        Ok(machine) => {
+            handle.put(machine);
+            0
+        }
+        Err(error) => number(error),
+    }
+}
+
+/// Opens the machine of a subsystem file: 0, or the number of the file's first fault.
+#[unsafe(no_mangle)]
+pub extern "C" fn nvme_handle_open(
+    alloc: Global,
+    file: &[u8],
+    handle: &mut Handle,
+    fault: &mut [u8],
+) -> i32
+    ensures opens { Opens (subsystem file.now) result handle.old.machine handle.new.machine }
+    ensures open { result ≡ pos 0 → IsOpen handle.new.machine }
+    ensures fault { fault.new ≡ fault.old }
+{
+    open(alloc, file, handle)
+}
+
+/// Opens the machine of the demonstration subsystem.
+#[unsafe(no_mangle)]
+pub extern "C" fn nvme_handle_demo(alloc: Global, handle: &mut Handle) -> i32
+    ensures opens { Opens (subsystem DEMO.now) result handle.old.machine handle.new.machine }
+    ensures open { result ≡ pos 0 → IsOpen handle.new.machine }
+{
+    open(alloc, DEMO.as_bytes(), handle)
+}
+
+/// Drops the machine.
+#[unsafe(no_mangle)]
+pub extern "C" fn nvme_handle_close(alloc: Global, handle: &mut Handle)
+    requires open { IsOpen handle.old.machine }
+    ensures { handle.new.machine ≡ None }
+{
+    drop(handle.take(alloc));
+}
+
+/// The number of controllers.
+#[unsafe(no_mangle)]
+pub extern "C" fn nvme_handle_controllers(alloc: Global, handle: &mut Handle) -> u16
+    requires open { IsOpen handle.old.machine }
+    ensures value { IfSome handle.old.machine (λ m. result ≡ length m.banks) }
+    ensures stays { handle.new.machine ≡ handle.old.machine }
+{
+    let machine = handle.take(alloc);
+    let count = machine.controllers();
+    handle.put(machine);
+    count
+}
+
+/// The dword of a controller's registers, or all ones where there is no such controller.
+fn read(machine: &Machine, ctrl: u16, offset: u32) -> u32
+    ensures { result ≡ read_of machine.now ctrl offset }
+{
+    if ctrl < machine.controllers() {
+        machine.read32(ctrl, offset)
+    } else {
+        ABSENT
+    }
+}
+
+/// The dword of a controller's registers at an offset in bytes.
+#[unsafe(no_mangle)]
+pub extern "C" fn nvme_handle_read32(
+    alloc: Global,
+    handle: &mut Handle,
+    ctrl: u16,
+    offset: u32,
+) -> u32
+    requires open { IsOpen handle.old.machine }
+    ensures value { IfSome handle.old.machine (λ m. result ≡ read_of m ctrl offset) }
+    ensures stays { handle.new.machine ≡ handle.old.machine }
+{
+    let machine = handle.take(alloc);
+    let value = read(&machine, ctrl, offset);
+    handle.put(machine);
+    value
+}
+
+/// Writes the dword of a controller's registers, where there is such a controller.
+fn write(machine: &mut Machine, ctrl: u16, offset: u32, value: u32)
+    requires { IsBus machine.old }
+    ensures written { Written ctrl offset value machine.old machine.new }
+    ensures bus { IsBus machine.new }
+{
+    if ctrl < machine.controllers() {
+        machine.write32(ctrl, offset, value);
+    }
+}
+
+/// Writes the dword of a controller's registers at an offset in bytes.
+#[unsafe(no_mangle)]
+pub extern "C" fn nvme_handle_write32(
+    alloc: Global,
+    handle: &mut Handle,
+    ctrl: u16,
+    offset: u32,
+    value: u32,
+)
+    requires open { IsOpen handle.old.machine }
+    ensures written { Goes handle.old.machine handle.new.machine (Written ctrl offset value) }
+    ensures open { IsOpen handle.new.machine }
+{
+    let mut machine = handle.take(alloc);
+    write(&mut machine, ctrl, offset, value);
+    handle.put(machine);
+}
+
+/// How many pages of this size so many bytes are, if they are whole pages.
+#[tactic(auto, using(crate::proofs::PageLaws::are_pages))]
+fn pages_of(size: usize, page_size: u32) -> Option<u32>
+    ensures page { IfSome result (λ _. IsPageSize page_size) }
+    ensures whole { IfSome result (λ pages. pages * page_size ≡ size) }
+    ensures pages { IfSome result (λ _. ArePages page_size size) }
+{
+    if !is_page_size(page_size) {
+        return None;
+    }
+    let pages = size / page_size as usize;
+    if pages > u32::MAX as usize || pages * page_size as usize != size {
+        return None;
+    }
+    Some(pages as u32)
+}
+
+/// Lets a controller take entries over a copy of these bytes, and copies back what that leaves.
+#[tactic(auto, using(crate::proofs::CopyLaws::whole_written, crate::proofs::CopyLaws::whole_read))]
+fn turn(machine: &mut Machine, ctrl: u16, memory: &mut [u8], mut copy: FlatMemory, most: u16) -> u16
+    requires bus { IsBus machine.old }
+    requires ctrl { ctrl < length machine.old.banks }
+    requires len { length copy.bytes ≡ length memory.old }
+    ensures turn { BytesTurn copy.page_size ctrl most result
+        machine.old memory.old machine.new memory.new }
+    ensures bus { IsBus machine.new }
+{
+    store_inside(&mut copy, 0, memory);
+    let count = machine.turn(ctrl, &mut copy, most);
+    load_inside(&copy, 0, memory);
+    count
+}
+
+/// Lets a controller take entries over these bytes. Nothing is done where there is no such
+/// controller or page size, or no memory for a copy.
+fn turn_over(
+    alloc: Global,
+    machine: &mut Machine,
+    ctrl: u16,
+    memory: &mut [u8],
+    page_size: u32,
+    most: u16,
+) -> u16
+    requires { IsBus machine.old }
+    ensures turned { Turned ctrl page_size most result
+        machine.old memory.old machine.new memory.new }
+    ensures bus { IsBus machine.new }
+{
+    if ctrl >= machine.controllers() {
+        return 0;
+    }
+    let Some(pages) = pages_of(memory.len(), page_size) else {
+        return 0;
+    };
+    let Ok(copy) = FlatMemory::new(alloc, page_size, pages) else {
+        return 0;
+    };
+    turn(machine, ctrl, memory, copy, most)
+}
+
+/// Lets a controller take entries over these bytes of the host.
+#[unsafe(no_mangle)]
+pub extern "C" fn nvme_handle_turn(
+    alloc: Global,
+    handle: &mut Handle,
+    ctrl: u16,
+    memory: &mut [u8],
+    page_size: u32,
+    most: u16,
+) -> u16
+    requires open { IsOpen handle.old.machine }
+    ensures turned { Goes handle.old.machine handle.new.machine
+        (λ m m'. Turned ctrl page_size most result m memory.old m' memory.new) }
+    ensures open { IsOpen handle.new.machine }
+{
+    let mut machine = handle.take(alloc);
+    let count = turn_over(alloc, &mut machine, ctrl, memory, page_size, most);
+    handle.put(machine);
+    count
+}
+
+/// How many commands a controller refused, and how many it took: none where there is no such
+/// controller.
+#[tactic(auto, using(crate::proofs::CountLaws::counts_through, crate::proofs::CountLaws::no_counts))]
+fn counts(machine: &Machine, ctrl: u16) -> (u64, u64)
+    requires { IsBus machine.now }
+    ensures { result ≡ counts_of machine.now.state ctrl }
+{
+    if ctrl < machine.controllers() {
+        machine.subsystem().counts(ctrl)
+    } else {
+        (0, 0)
+    }
+}
+
+/// How many commands a controller refused, and how many it took.
+#[unsafe(no_mangle)]
+pub extern "C" fn nvme_handle_counts(
+    alloc: Global,
+    handle: &mut Handle,
+    ctrl: u16,
+    refusals: &mut u64,
+    commands: &mut u64,
+)
+    requires open { IsOpen handle.old.machine }
+    ensures refusals { IfSome handle.old.machine
+        (λ m. refusals.new ≡ (counts_of m.state ctrl).0) }
+    ensures commands { IfSome handle.old.machine
+        (λ m. commands.new ≡ (counts_of m.state ctrl).1) }
+    ensures stays { handle.new.machine ≡ handle.old.machine }
+{
+    let machine = handle.take(alloc);
+    let (refused, taken) = counts(&machine, ctrl);
+    *refusals = refused;
+    *commands = taken;
+    handle.put(machine);
+}
+
+/// Puts the entry of a controller's error log at an index, from the newest on: 1, or 0 where there
+/// is none.
+#[tactic(auto, using(crate::proofs::LogLaws::entry_told, crate::proofs::LogLaws::none_told, crate::proofs::LogLaws::nowhere_told))]
+fn put_entry(machine: &Machine, ctrl: u16, index: usize, entry: &mut [u8; 64]) -> i32
+    requires { IsBus machine.now }
+    ensures { EntryTold (log_entry_of machine.now.state ctrl index) result entry.old entry.new }
+{
+    if ctrl >= machine.controllers() {
+        return 0;
+    }
+    match machine.subsystem().log_entry(ctrl, index) {
+        Some(found) => {
+            found.put(entry);
+            1
+        }
+        None => 0,
+    }
+}
+
+/// The entry of a controller's error log at an index, from the newest on: 1, or 0 where there is
+/// none.
+#[unsafe(no_mangle)]
+pub extern "C" fn nvme_handle_log_entry(
+    alloc: Global,
+    handle: &mut Handle,
+    ctrl: u16,
+    index: usize,
+    entry: &mut [u8; 64],
+) -> i32
+    requires open { IsOpen handle.old.machine }
+    ensures entry { IfSome handle.old.machine
+        (λ m. EntryTold (log_entry_of m.state ctrl index) result entry.old entry.new) }
+    ensures stays { handle.new.machine ≡ handle.old.machine }
+{
+    let machine = handle.take(alloc);
+    let found = put_entry(&machine, ctrl, index, entry);
+    handle.put(machine);
+    found
+}

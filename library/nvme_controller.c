@@ -1,0 +1,111 @@
+/* What stands between the calls of nvme_controller.h and the proved calls of crates/nvme_controller: it tells null from
+ * memory, and gives each machine the place of its handle. */
+#include "nvme_controller.h"
+
+#include <stdlib.h>
+#include <string.h>
+
+/* The handle of a machine: where it lies. */
+struct nvme_machine {
+    void *at;
+};
+
+int nvme_handle_open(const uint8_t *file, size_t length, nvme_machine *handle, uint8_t *fault, size_t room);
+int nvme_handle_demo(nvme_machine *handle);
+void nvme_handle_close(nvme_machine *handle);
+uint16_t nvme_handle_controllers(nvme_machine *handle);
+uint32_t nvme_handle_read32(nvme_machine *handle, uint16_t ctrl, uint32_t offset);
+void nvme_handle_write32(nvme_machine *handle, uint16_t ctrl, uint32_t offset, uint32_t value);
+uint16_t nvme_handle_turn(nvme_machine *handle, uint16_t ctrl, uint8_t *memory, size_t size, uint32_t page_size,
+                          uint16_t most);
+void nvme_handle_counts(nvme_machine *handle, uint16_t ctrl, uint64_t *refusals, uint64_t *commands);
+int nvme_handle_log_entry(nvme_machine *handle, uint16_t ctrl, size_t index, uint8_t *entry);
+
+/* A place of no bytes. */
+static uint8_t nothing[1];
+
+/* (The proved calls want a handle that they can write, and leave it as it was where the machine stays.) */
+static nvme_machine *unlocked(const nvme_machine *machine) {
+    return (nvme_machine *)(uintptr_t)machine;
+}
+
+/* Puts the text of a fault where there is room for it. */
+static void tell(char *fault, size_t room, const char *text) {
+    if (fault != NULL && room != 0) {
+        fault[0] = '\0';
+        strncat(fault, text, room - 1);
+    }
+}
+
+int nvme_machine_open(const uint8_t *file, size_t length, nvme_machine **machine, char *fault, size_t room) {
+    static const char *const texts[] = {"", "not TOML", "missing", "wrong kind", "out of range", "repeated",
+                                        "unknown key", "capacity", "attachment", "out of memory"};
+    int number = NVME_NOT_TOML;
+    nvme_machine *handle = NULL;
+    *machine = NULL;
+    if ((file != NULL || length == 0) && (fault != NULL || room == 0) && length <= PTRDIFF_MAX && room <= PTRDIFF_MAX) {
+        handle = calloc(1, sizeof *handle);
+        number = handle == NULL ? NVME_NO_MEMORY
+                                : nvme_handle_open(length != 0 ? file : nothing, length, handle, nothing, 0);
+    }
+    tell(fault, room, texts[number]);
+    if (number == 0) {
+        *machine = handle;
+    } else {
+        free(handle);
+    }
+    return number;
+}
+
+int nvme_machine_demo(nvme_machine **machine) {
+    *machine = NULL;
+    nvme_machine *handle = calloc(1, sizeof *handle);
+    int number = handle == NULL ? NVME_NO_MEMORY : nvme_handle_demo(handle);
+    if (number == 0) {
+        *machine = handle;
+    } else {
+        free(handle);
+    }
+    return number;
+}
+
+void nvme_machine_close(nvme_machine *machine) {
+    if (machine != NULL) {
+        nvme_handle_close(machine);
+        free(machine);
+    }
+}
+
+uint16_t nvme_machine_controllers(const nvme_machine *machine) {
+    return machine == NULL ? 0 : nvme_handle_controllers(unlocked(machine));
+}
+
+uint32_t nvme_machine_read32(const nvme_machine *machine, uint16_t ctrl, uint32_t offset) {
+    return machine == NULL ? 0xffffffff : nvme_handle_read32(unlocked(machine), ctrl, offset);
+}
+
+void nvme_machine_write32(nvme_machine *machine, uint16_t ctrl, uint32_t offset, uint32_t value) {
+    if (machine != NULL) {
+        nvme_handle_write32(machine, ctrl, offset, value);
+    }
+}
+
+uint16_t nvme_machine_turn(nvme_machine *machine, uint16_t ctrl, uint8_t *memory, size_t pages, uint32_t page_size,
+                           uint16_t most) {
+    if (machine == NULL || (memory == NULL && pages != 0) || page_size == 0 || pages > PTRDIFF_MAX / page_size) {
+        return 0;
+    }
+    return nvme_handle_turn(machine, ctrl, memory == NULL ? nothing : memory, pages * page_size, page_size, most);
+}
+
+void nvme_machine_counts(const nvme_machine *machine, uint16_t ctrl, uint64_t *refusals, uint64_t *commands) {
+    *refusals = 0;
+    *commands = 0;
+    if (machine != NULL) {
+        nvme_handle_counts(unlocked(machine), ctrl, refusals, commands);
+    }
+}
+
+int nvme_machine_log_entry(const nvme_machine *machine, uint16_t ctrl, size_t index, uint8_t entry[64]) {
+    return machine != NULL && nvme_handle_log_entry(unlocked(machine), ctrl, index, entry);
+}

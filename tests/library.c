@@ -1,0 +1,319 @@
+/* What a program in C can get wrong at the calls of nvme_controller.h, and what they promise of its memory. Prints what
+ * fails, and at the end how many checks there were. Linked with --wrap of malloc, calloc, realloc and free, so that it
+ * counts blocks and has one refused. */
+#include <nvme_controller.h>
+
+#include <stdio.h>
+#include <stdlib.h>
+#include <string.h>
+#include <sys/mman.h>
+
+enum { PAGE = 4096, PAGES = 16, SIZE = PAGES * PAGE };
+
+static const char FILE_TEXT[] = "version = 1\nnn = 1\ntnvmcap = 1048576\nsubnqn = \"nqn.2014-08.org.example:c\"\n"
+    "[[format]]\nlbads = 9\n[[controller]]\ncntlid = 0\nsn = \"C-1\"\nmn = \"Bench\"\nfr = \"1.0\"\nelpe = 3\n";
+
+static unsigned checks, failures;
+
+#define CHECK(holds) check(holds, #holds, __LINE__)
+
+static void check(int holds, const char *what, int line) {
+    checks++;
+    if (!holds) {
+        failures++;
+        printf("line %d: %s\n", line, what);
+    }
+}
+
+/* ---- allocations */
+
+static long blocks, refused_at = -1, asked;
+
+void *__real_malloc(size_t size);
+void *__real_calloc(size_t count, size_t size);
+void *__real_realloc(void *block, size_t size);
+void __real_free(void *block);
+
+static int is_refused(void) {
+    return asked++ == refused_at;
+}
+
+static void *counted(void *block) {
+    blocks += block != NULL;
+    return block;
+}
+
+void *__wrap_malloc(size_t size) {
+    return is_refused() ? NULL : counted(__real_malloc(size));
+}
+
+void *__wrap_calloc(size_t count, size_t size) {
+    return is_refused() ? NULL : counted(__real_calloc(count, size));
+}
+
+void *__wrap_realloc(void *block, size_t size) {
+    return is_refused() ? NULL : block == NULL ? counted(__real_realloc(block, size)) : __real_realloc(block, size);
+}
+
+void __wrap_free(void *block) {
+    blocks -= block != NULL;
+    __real_free(block);
+}
+
+/* ---- a host */
+
+/* Pages with one before and one behind them that can't be reached. */
+static uint8_t *guarded(size_t pages) {
+    uint8_t *all = mmap(NULL, (pages + 2) * PAGE, PROT_READ | PROT_WRITE, MAP_PRIVATE | MAP_ANONYMOUS, -1, 0);
+    if (all == MAP_FAILED || mprotect(all, PAGE, PROT_NONE) != 0 ||
+        mprotect(all + (pages + 1) * PAGE, PAGE, PROT_NONE) != 0) {
+        perror("guarded");
+        exit(3);
+    }
+    return all + PAGE;
+}
+
+static nvme_machine *opened(void) {
+    nvme_machine *machine;
+    char fault[64];
+    CHECK(nvme_machine_open((const uint8_t *)FILE_TEXT, strlen(FILE_TEXT), &machine, fault, sizeof fault) == 0);
+    CHECK(machine != NULL && fault[0] == '\0');
+    return machine;
+}
+
+/* Makes a controller ready with rings of four entries, at page 0 and at a page of the completions. */
+static void enable(nvme_machine *machine, uint32_t completions, uint32_t page_size_field) {
+    nvme_machine_write32(machine, 0, NVME_AQA, 0x00030003);
+    nvme_machine_write32(machine, 0, NVME_ASQ, 0);
+    nvme_machine_write32(machine, 0, NVME_ACQ, completions);
+    nvme_machine_write32(machine, 0, NVME_CC, 0x00460001 | page_size_field << 7);
+}
+
+static void put(uint8_t *at, int bytes, uint64_t value) {
+    for (int i = 0; i < bytes; i++) {
+        at[i] = (uint8_t)(value >> 8 * i);
+    }
+}
+
+/* An entry of Identify Controller with its data at these addresses. */
+static void identify(uint8_t *entry, uint16_t cid, uint64_t prp1, uint64_t prp2) {
+    memset(entry, 0, 64);
+    put(entry, 4, 0x06 | (uint32_t)cid << 16);
+    put(entry + 24, 8, prp1);
+    put(entry + 32, 8, prp2);
+    put(entry + 40, 4, 0x01);
+}
+
+static unsigned status_at(const uint8_t *completion) {
+    return (completion[14] | completion[15] << 8) >> 1;
+}
+
+/* ---- what is checked */
+
+static void files(void) {
+    nvme_machine *machine = (nvme_machine *)(uintptr_t)1;
+    char fault[64];
+    const uint8_t *text = (const uint8_t *)FILE_TEXT;
+    static const char missing[] = "version = 1\n";
+    CHECK(nvme_machine_open((const uint8_t *)missing, strlen(missing), &machine, fault, sizeof fault) == NVME_MISSING);
+    CHECK(machine == NULL && strcmp(fault, "missing") == 0);
+    memset(fault, 'x', sizeof fault);
+    CHECK(nvme_machine_open((const uint8_t *)missing, strlen(missing), &machine, fault, 5) == NVME_MISSING);
+    CHECK(memcmp(fault, "miss", 5) == 0 && fault[5] == 'x');
+    CHECK(nvme_machine_open((const uint8_t *)missing, strlen(missing), &machine, fault, 1) == NVME_MISSING);
+    CHECK(fault[0] == '\0' && fault[1] == 'i');
+    CHECK(nvme_machine_open((const uint8_t *)missing, strlen(missing), &machine, NULL, 0) == NVME_MISSING);
+    CHECK(nvme_machine_open((const uint8_t *)"[", 1, &machine, fault, sizeof fault) == NVME_NOT_TOML);
+    CHECK(strcmp(fault, "not TOML") == 0);
+    CHECK(nvme_machine_open(NULL, 1, &machine, fault, sizeof fault) == NVME_NOT_TOML && machine == NULL);
+    CHECK(nvme_machine_open(NULL, 0, &machine, fault, sizeof fault) == NVME_MISSING && machine == NULL);
+    CHECK(nvme_machine_open(text, strlen(FILE_TEXT), &machine, NULL, 5) == NVME_NOT_TOML && machine == NULL);
+    CHECK(nvme_machine_open(text, strlen(FILE_TEXT), &machine, NULL, 0) == 0 && machine != NULL);
+    nvme_machine_close(machine);
+}
+
+static void absent(void) {
+    nvme_machine *machine = opened();
+    uint8_t entry[64], memory[PAGE];
+    uint64_t refusals = 7, commands = 7;
+    memset(entry, 'x', sizeof entry);
+    CHECK(nvme_machine_controllers(machine) == 1 && nvme_machine_controllers(NULL) == 0);
+    CHECK(nvme_machine_read32(machine, 1, NVME_VS) == 0xffffffff);
+    CHECK(nvme_machine_read32(machine, 0xffff, NVME_VS) == 0xffffffff);
+    CHECK(nvme_machine_read32(NULL, 0, NVME_VS) == 0xffffffff);
+    CHECK(nvme_machine_read32(machine, 0, NVME_VS) == 0x00010400);
+    nvme_machine_write32(machine, 1, NVME_CC, 1);
+    nvme_machine_write32(NULL, 0, NVME_CC, 1);
+    CHECK(nvme_machine_read32(machine, 0, NVME_CC) == 0);
+    CHECK(nvme_machine_turn(machine, 1, memory, 1, PAGE, 1) == 0);
+    CHECK(nvme_machine_turn(NULL, 0, memory, 1, PAGE, 1) == 0);
+    nvme_machine_counts(machine, 1, &refusals, &commands);
+    CHECK(refusals == 0 && commands == 0);
+    CHECK(nvme_machine_log_entry(machine, 1, 0, entry) == 0 && nvme_machine_log_entry(machine, 0, 0, entry) == 0);
+    CHECK(nvme_machine_log_entry(machine, 0, SIZE_MAX, entry) == 0 && entry[0] == 'x' && entry[63] == 'x');
+    nvme_machine_close(machine);
+    nvme_machine_close(NULL);
+}
+
+/* No page size but the five, and no memory that can't be, is taken; the ring's entry still waits afterwards. */
+static void sizes(void) {
+    static const uint32_t wrong[] = {0, 1, 2048, 4095, 4097, 6144, 65535, 131072, 0x80000000};
+    nvme_machine *machine = opened();
+    uint8_t *memory = guarded(PAGES);
+    enable(machine, PAGE, 0);
+    identify(memory, 1, 2 * PAGE, 0);
+    nvme_machine_write32(machine, 0, NVME_TAIL_DOORBELL, 1);
+    for (size_t i = 0; i < sizeof wrong / sizeof wrong[0]; i++) {
+        CHECK(nvme_machine_turn(machine, 0, memory, 1, wrong[i], 1) == 0);
+    }
+    CHECK(nvme_machine_turn(machine, 0, NULL, 1, PAGE, 1) == 0);
+    CHECK(nvme_machine_turn(machine, 0, memory, SIZE_MAX, PAGE, 1) == 0);
+    CHECK(nvme_machine_turn(machine, 0, memory, (size_t)1 << 52, PAGE, 1) == 0);
+    CHECK(nvme_machine_turn(machine, 0, memory, (size_t)1 << 32, PAGE, 1) == 0);
+    CHECK(nvme_machine_turn(machine, 0, memory, PAGES, PAGE, 0) == 0);
+    CHECK(nvme_machine_read32(machine, 0, NVME_CSTS) == 1);
+    CHECK(nvme_machine_turn(machine, 0, memory, PAGES, PAGE, 5) == 1 && status_at(memory + PAGE) == 0);
+    /* A page size of one call is none of the next: 8,192 is fatal to a controller that was enabled with 4,096. */
+    identify(memory + 64, 2, 2 * PAGE, 0);
+    nvme_machine_write32(machine, 0, NVME_TAIL_DOORBELL, 2);
+    CHECK(nvme_machine_turn(machine, 0, memory, PAGES / 2, 8192, 1) == 0);
+    CHECK((nvme_machine_read32(machine, 0, NVME_CSTS) & 2) == 2);
+    nvme_machine_write32(machine, 0, NVME_CC, 0);
+    enable(machine, 8192, 1);
+    identify(memory, 3, 2 * 8192, 0);
+    nvme_machine_write32(machine, 0, NVME_TAIL_DOORBELL, 1);
+    CHECK(nvme_machine_turn(machine, 0, memory, PAGES / 2, 8192, 1) == 1 && status_at(memory + 8192) == 0);
+    nvme_machine_close(machine);
+}
+
+/* Of the memory the places of the data and of the completion change, and no other byte. */
+static void places(void) {
+    static uint8_t before[SIZE];
+    nvme_machine *machine = opened();
+    uint8_t *memory = guarded(PAGES);
+    memset(memory, 0xa5, SIZE);
+    enable(machine, 3 * PAGE, 0);
+    identify(memory, 1, 5 * PAGE + 2048, 9 * PAGE);
+    memcpy(before, memory, SIZE);
+    nvme_machine_write32(machine, 0, NVME_TAIL_DOORBELL, 1);
+    CHECK(memcmp(before, memory, SIZE) == 0);
+    CHECK(nvme_machine_turn(machine, 0, memory, PAGES, PAGE, 1) == 1);
+    CHECK(status_at(memory + 3 * PAGE) == 0 && memcmp(memory + 5 * PAGE + 2048 + 4, "C-1  ", 5) == 0);
+    CHECK(memcmp(before + 3 * PAGE, memory + 3 * PAGE, 16) != 0);
+    CHECK(memory[9 * PAGE] == 0 && memory[9 * PAGE + 2047] == 0);
+    memcpy(memory + 3 * PAGE, before + 3 * PAGE, 16);
+    memcpy(memory + 5 * PAGE + 2048, before + 5 * PAGE + 2048, 2048);
+    memcpy(memory + 9 * PAGE, before + 9 * PAGE, 2048);
+    CHECK(memcmp(before, memory, SIZE) == 0);
+    nvme_machine_close(machine);
+}
+
+/* A memory a page short: data in the page that lacks is refused, and rings there are a fatal status. */
+static void short_memory(void) {
+    for (size_t pages = 3; pages >= 2; pages--) {
+        nvme_machine *machine = opened();
+        uint8_t *memory = guarded(pages);
+        enable(machine, PAGE, 0);
+        identify(memory, 1, 2 * PAGE, 0);
+        nvme_machine_write32(machine, 0, NVME_TAIL_DOORBELL, 1);
+        CHECK(nvme_machine_turn(machine, 0, memory, pages, PAGE, 1) == 1);
+        CHECK((status_at(memory + PAGE) & 0xff) == (pages == 3 ? 0x00 : 0x04));
+        nvme_machine_close(machine);
+    }
+    nvme_machine *machine = opened();
+    uint8_t *memory = guarded(1);
+    enable(machine, PAGE, 0);
+    identify(memory, 1, 0, 0);
+    nvme_machine_write32(machine, 0, NVME_TAIL_DOORBELL, 1);
+    CHECK(nvme_machine_turn(machine, 0, memory, 1, PAGE, 1) == 0);
+    CHECK(nvme_machine_read32(machine, 0, NVME_CSTS) == 3);
+    nvme_machine_close(machine);
+    machine = opened();
+    enable(machine, PAGE, 0);
+    nvme_machine_write32(machine, 0, NVME_TAIL_DOORBELL, 1);
+    CHECK(nvme_machine_turn(machine, 0, NULL, 0, PAGE, 1) == 0 && nvme_machine_read32(machine, 0, NVME_CSTS) == 3);
+    nvme_machine_close(machine);
+}
+
+/* Reads change nothing, and machines are independent: one that is read at every offset, and one that is not, answer
+ * the same. */
+static void reads(void) {
+    static const uint8_t reserved = 0xff;
+    nvme_machine *machines[2] = {opened(), opened()};
+    uint8_t *memories[2] = {guarded(PAGES), guarded(PAGES)}, entries[2][64];
+    for (int i = 0; i < 2; i++) {
+        enable(machines[i], PAGE, 0);
+        identify(memories[i], 1, 2 * PAGE, 0);
+        identify(memories[i] + 64, 2, 2 * PAGE, 0);
+        memories[i][64] = reserved;
+        for (uint32_t offset = 0; i == 0 && offset < 0x2000; offset++) {
+            nvme_machine_read32(machines[i], 0, offset);
+        }
+        nvme_machine_write32(machines[i], 0, NVME_TAIL_DOORBELL, 2);
+        for (uint32_t offset = 0; i == 0 && offset < 0x2000; offset++) {
+            nvme_machine_read32(machines[i], 0, offset);
+            nvme_machine_read32(machines[i], 1, offset);
+        }
+        CHECK(nvme_machine_turn(machines[i], 0, memories[i], PAGES, PAGE, 9) == 2);
+        uint64_t refusals, commands;
+        nvme_machine_counts(machines[i], 0, &refusals, &commands);
+        CHECK(refusals == 1 && commands == 2);
+        CHECK(nvme_machine_log_entry(machines[i], 0, 0, entries[i]) == 1);
+        CHECK(nvme_machine_log_entry(machines[i], 0, 1, entries[i]) == 0);
+    }
+    CHECK(memcmp(memories[0], memories[1], SIZE) == 0 && memcmp(entries[0], entries[1], 64) == 0);
+    CHECK(entries[0][0] == 1 && entries[0][10] == 2 && (entries[0][12] >> 1) == 0x01);
+    for (uint32_t offset = 0; offset < 0x2000; offset++) {
+        CHECK(nvme_machine_read32(machines[0], 0, offset) == nvme_machine_read32(machines[1], 0, offset));
+    }
+    nvme_machine_close(machines[0]);
+    CHECK(nvme_machine_read32(machines[1], 0, NVME_CSTS) == 1);
+    nvme_machine_close(machines[1]);
+}
+
+/* Each allocation is refused in turn. That is an answer, and all that was taken is given back; so it is by closing. */
+static void allocations(void) {
+    for (int demo = 0; demo < 2; demo++) {
+        int number = NVME_NO_MEMORY;
+        long count = 0;
+        for (; number == NVME_NO_MEMORY; count++) {
+            nvme_machine *machine = (nvme_machine *)(uintptr_t)1;
+            char fault[64] = "";
+            long had = blocks;
+            asked = 0;
+            refused_at = count;
+            number = demo ? nvme_machine_demo(&machine)
+                          : nvme_machine_open((const uint8_t *)FILE_TEXT, strlen(FILE_TEXT), &machine, fault, 64);
+            refused_at = -1;
+            CHECK(number == 0 || (number == NVME_NO_MEMORY && machine == NULL && blocks == had));
+            CHECK(demo || strcmp(fault, number == 0 ? "" : "out of memory") == 0);
+            if (number == 0) {
+                long held = blocks;
+                uint8_t *memory = guarded(PAGES);
+                enable(machine, PAGE, 0);
+                identify(memory, 1, 2 * PAGE, 0);
+                nvme_machine_write32(machine, 0, NVME_TAIL_DOORBELL, 1);
+                asked = refused_at = 0;
+                CHECK(nvme_machine_turn(machine, 0, memory, PAGES, PAGE, 1) == 0);
+                CHECK(nvme_machine_read32(machine, 0, NVME_CSTS) == 1 && memory[PAGE] == 0 && memory[2 * PAGE] == 0);
+                refused_at = -1;
+                CHECK(nvme_machine_turn(machine, 0, memory, PAGES, PAGE, 1) == 1 && blocks == held);
+                nvme_machine_close(machine);
+                CHECK(blocks == had);
+            }
+        }
+        CHECK(number == 0 && count > 3);
+    }
+}
+
+int main(void) {
+    files();
+    absent();
+    sizes();
+    places();
+    short_memory();
+    reads();
+    allocations();
+    printf("%u checks, %u failed\n", checks, failures);
+    return failures != 0;
+}
