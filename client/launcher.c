@@ -364,6 +364,7 @@ static void hold_streams(void) {
 
 static const char usage[] =
     "usage: nvme-model [OPTION..] [--] COMMAND [ARGUMENT..]\n"
+    "       nvme-model --qemu [OPTION..] [-- QEMU-OPTION..]\n"
     "Runs COMMAND with the NVMe devices of a model as /dev/nvme0, /dev/nvme0n1 and so on.\n\n"
     "  --subsystem FILE     the subsystem of this file; written more than once, a subsystem for each (16 at most)\n"
     "  --trace[=FILE]       write what goes over the bus to standard error, or to FILE\n"
@@ -372,6 +373,7 @@ static const char usage[] =
     "  --without-namespace  give COMMAND the /dev and /sys of this machine, with its devices, at your own risk\n"
     "  --depth N, --page-size N, --offset N, --list-offset N, --window N, --pace N\n"
     "                       the rings and pages through which each command goes, as for nvme-script\n"
+    "  --qemu               run QEMU with the model's controllers in its machine; --qemu --help shows its options\n"
     "  --help               show this\n\n"
     "The status is that of COMMAND, or 72 where nvme-model itself can't go on. nvme-model(1) says more.\n";
 
@@ -449,10 +451,21 @@ static void find_parts(void) {
     limit += ((uint64_t)about.st_size + 4095) / 4096 * 4096;
 }
 
+/* `--qemu` before all else is for a program of its own, which stands beside the library. */
+static void run_qemu(char **arguments) {
+    char program[PATH_MAX + 32];
+    find_parts();
+    snprintf(program, sizeof program, "%s/qemu", parts);
+    execv(program, arguments);
+    fail_by_errno(program);
+}
+
 int main(int count, char **arguments) {
     sigset_t first;
     struct sysinfo machine;
     hold_streams();
+    if (count > 1 && strcmp(arguments[1], "--qemu") == 0)
+        run_qemu(arguments + 1);
     arguments[0] = "nvme-model";
     if (sysinfo(&machine) == 0)
         limit = (uint64_t)machine.totalram * machine.mem_unit / 4;

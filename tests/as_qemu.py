@@ -1,0 +1,414 @@
+"""Stands for QEMU in the tests of `./nvme-model --qemu`, as a program that is run with QEMU's options: it says to the
+PCI functions what a scenario of this file says, `python3 -m tests.as_qemu SCENARIO OPTION..`. What it expects are
+assertions: its status is 0 where they hold."""
+
+import array
+import contextlib
+import fcntl
+import mmap
+import os
+import pathlib
+import random
+import re
+import signal
+import socket
+import struct
+import sys
+import time
+
+PAGE = 4096
+MEMORY, ANSWER, CONFIG_WRITE, CONFIG_READ, BAR_WRITE, BAR_READ, INTERRUPT, RESET = range(8)
+CC, CSTS, AQA, ASQ, ACQ, TAIL, HEAD = 0x14, 0x1c, 0x24, 0x28, 0x30, 0x1000, 0x1004
+COMMAND, BASE = 4, 0x10
+ENABLED, MASTER, NO_INTERRUPT = 0x0046_0001, 6, 0x400
+IDENTIFY, INVALID_FIELD, INVALID_OFFSET, TRANSFER_ERROR = 6, 2, 0x13, 4
+NOWHERE = 0xffff_ffff_ffff_f000
+
+
+def sealed(length, seals=fcntl.F_SEAL_SHRINK):
+    """Memory as a file, sealed as QEMU's is."""
+    file = os.memfd_create('ram', os.MFD_ALLOW_SEALING)
+    os.ftruncate(file, length)
+    fcntl.fcntl(file, fcntl.F_ADD_SEALS, seals)
+    return file
+
+
+class Function:
+    """A PCI function, as QEMU asks it."""
+
+    def __init__(self, number):
+        self.socket = socket.socket(fileno=number)
+        self.ram = self.interrupt = self.seen = None
+
+    def say(self, kind, body=b'', files=(), size=None):
+        """Sends a message: descriptors come with its header."""
+        header = struct.pack('=iiQ', kind, 0, len(body) if size is None else size)
+        with_files = [(socket.SOL_SOCKET, socket.SCM_RIGHTS, array.array('i', files))] if files else []
+        self.socket.sendmsg([header, body], with_files)
+
+    def ask(self, kind, body=b'', files=()):
+        """Sends a message and gives the number that answers it."""
+        self.say(kind, body, files)
+        kind, size, value = struct.unpack('=i4xQQ', self.socket.recv(24, socket.MSG_WAITALL))
+        assert (kind, size) == (ANSWER, 8)
+        return value
+
+    def config(self, address, length=4):
+        return self.ask(CONFIG_READ, struct.pack('=IIi', address, 0, length))
+
+    def set_config(self, address, value, length=4):
+        self.ask(CONFIG_WRITE, struct.pack('=IIi', address, value, length))
+
+    def register(self, offset, size=4):
+        return self.ask(BAR_READ, struct.pack('=QQIB3x', 0xfebd_4000 + offset, 0, size, 1))
+
+    def set_register(self, offset, value, size=4):
+        self.ask(BAR_WRITE, struct.pack('=QQIB3x', 0xfebd_4000 + offset, value, size, 1))
+
+    def sections(self, rows, files):
+        """Tells the memory: rows of an address, a size and an offset in the file."""
+        columns = zip(*[*rows, *[(0, 0, 0)] * 8][:8])
+        self.say(MEMORY, b''.join(struct.pack('=8Q', *column) for column in columns), files)
+
+    def begin(self, pages=64, command=MASTER, power=0):
+        """Gives the function memory without holes, and enables the controller with rings of 16 slots."""
+        file = sealed(pages * PAGE)
+        self.sections([(0, pages * PAGE, 0)], [file])
+        self.ram = mmap.mmap(file, pages * PAGE)
+        os.close(file)
+        self.set_config(COMMAND, command, 2)
+        self.enable(power=power)
+
+    def enable(self, rings=None, power=0):
+        """Enables the controller with pages of 4,096 bytes, and so many times doubled: two are the rings."""
+        self.page = PAGE << power
+        first, second = rings or (0, self.page)
+        for offset, value in (CC, 0), (AQA, 0x000f_000f), (ASQ, first), (ACQ, second), (CC, ENABLED | power << 7):
+            self.set_register(offset, value, 8 if offset in (ASQ, ACQ) else 4)
+        self.tail = self.head = 0
+
+    def put(self, opcode, first=0, second=0, nsid=0, dword10=0):
+        """Writes an entry and tells it."""
+        entry = struct.pack('<BBHIQQQQ6I', opcode, 0, self.tail + 100, nsid, 0, 0, first, second, dword10, *[0] * 5)
+        self.ram[self.tail * 64:self.tail * 64 + 64] = entry
+        self.tail = (self.tail + 1) % 16
+        self.set_register(TAIL, self.tail)
+
+    def completion(self):
+        """The place, command identifier and status of the next completion, without its phase tag."""
+        _, _, identifier, status = struct.unpack_from('<8xHHHH', self.ram, self.page + self.head * 16)
+        return identifier - 100, status >> 1 & 0x7ff
+
+    def status_of(self, *command, **more):
+        """Has a command done, and takes its completion."""
+        wanted = self.tail
+        self.put(*command, **more)
+        identifier, status = self.completion()
+        assert identifier == wanted, (identifier, wanted)
+        self.head = (self.head + 1) % 16
+        self.set_register(HEAD, self.head)
+        return status
+
+    def serial(self):
+        """The serial number that Identify Controller tells, in the page behind the rings."""
+        assert self.status_of(IDENTIFY, 2 * self.page, dword10=1) == 0
+        return self.ram[2 * self.page + 4:2 * self.page + 24].decode().strip()
+
+    def listen(self):
+        """Gives the function its event counters."""
+        self.interrupt, self.seen = [eventfd() for _ in range(2)]
+        self.say(INTERRUPT, files=[self.interrupt, self.seen])
+
+    def is_raised(self):
+        """Whether the interrupt was raised since this was asked. (What was said before is done.)"""
+        self.config(0)
+        with contextlib.suppress(BlockingIOError):
+            return os.read(self.interrupt, 8) != b''
+        return False
+
+    def acknowledge(self):
+        os.write(self.seen, struct.pack('=Q', 1))
+        time.sleep(0.1)
+
+
+def eventfd():
+    """An event counter, of which no call waits. (Python has them from 3.10 on.)"""
+    import ctypes
+    return ctypes.CDLL(None).eventfd(0, os.O_NONBLOCK | os.O_CLOEXEC)
+
+
+def configuration(first, second):
+    """What QEMU reads and writes before its machine begins."""
+    for function in first, second:
+        assert function.config(0) == 0x0010_1b36
+        assert function.config(0x0a, 2) == 0x0108 and function.config(8, 1) == 2 and function.config(9, 1) == 2
+        assert function.config(0x3d, 1) == 1
+        for base in range(BASE, 0x28, 4):
+            function.set_config(base, 0xffff_ffff)
+            assert function.config(base) == (0xffff_c000 if base == BASE else 0)
+            function.set_config(base, 0)
+        function.set_config(0, 0xffff_ffff)
+        function.set_config(COMMAND, 0xffff_ffff)
+        assert function.config(0) == 0x0010_1b36 and function.config(COMMAND) == 0x0000_0406
+        for address, length in (256, 1), (255, 2), (0, 5), (0, -1), (0, 0), (0xffff_ffff, 4), (-4 & 0xffff_ffff, 4):
+            function.set_config(address, 0x1234, length)
+            assert function.config(address, length) == 0
+        function.set_config(0x3c, 11, 1)
+        assert function.config(0x3c, 2) == 0x010b
+
+
+def registers(first, second):
+    """Registers in each size, the bits of which are those of section "Controller Properties"."""
+    assert first.register(0, 8) == 0x0040_0020_0101_0fff and first.register(8) == 0x0001_0400
+    assert first.register(1, 1) == 0x0f and first.register(2, 2) == 0x0101 and first.register(3, 2) == 0x2001
+    for size in 0, 3, 16, 0xffff_ffff:
+        first.register(0, size)
+        first.set_register(ASQ, 0x1000, size)
+    for offset, size in (ASQ, 1), (ASQ, 2), (ASQ + 1, 4), (ASQ + 2, 8):
+        first.set_register(offset, 0x1000, size)
+    assert first.register(ASQ, 8) == 0
+    first.set_register(ASQ, 0x1_0000_2000, 8)
+    assert first.register(ASQ, 8) == 0x1_0000_2000 and second.register(ASQ, 8) == 0
+    first.register(0x3ffc, 8)
+    first.set_register(0x3ffc, 1, 8)
+
+
+def commands(first, second):
+    """Commands of both controllers over one memory each, around the end of the rings, and a reset."""
+    first.begin()
+    second.begin()
+    for _ in range(20):
+        assert first.serial() == 'S0' and second.serial() == 'S1'
+    assert first.register(CSTS) == 1
+    assert first.status_of(0x18) == 1, 'a refused opcode'
+    first.ask(RESET)
+    assert first.register(CC) == 0 and first.register(CSTS) == 0 and first.config(COMMAND) == 0
+    assert second.serial() == 'S1'
+    first.set_config(COMMAND, MASTER, 2)
+    first.enable()
+    assert first.serial() == 'S0'
+
+
+def page_sizes(first, second):
+    """The pages that CC has, over memory that isn't a multiple of the greatest."""
+    for power in range(5):
+        first.begin(pages=65, power=power)
+        assert first.serial() == 'S0'
+    assert first.status_of(IDENTIFY, 64 * PAGE, dword10=1) == TRANSFER_ERROR
+
+
+def stopped(first, second):
+    """QEMU is stopped while a controller works: another process sees it."""
+    itself = os.getpid()
+    child = os.fork()
+    while child == 0:
+        if pathlib.Path(f'/proc/{itself}/stat').read_text().rpartition(')')[2].split()[0] == 'T':
+            os._exit(0)
+    first.begin()
+    seen = False
+    for _ in range(5000):
+        seen = seen or os.waitpid(child, os.WNOHANG) == (child, 0)
+        assert first.serial() == 'S0'
+        if seen:
+            return
+    os.kill(child, signal.SIGKILL)
+    assert seen
+
+
+def bus_master(first, second):
+    """Nothing is taken of a function that may not reach the memory, and all when it may."""
+    first.begin(command=2)
+    first.put(IDENTIFY, 2 * PAGE, dword10=1)
+    assert first.ram[PAGE:3 * PAGE] == bytes(2 * PAGE)
+    first.set_config(COMMAND, MASTER, 2)
+    assert first.completion() == (0, 0)
+
+
+def interrupts(first, second):
+    """The interrupt is raised at completions, and again until they are taken."""
+    first.listen()
+    first.begin()
+    assert not first.is_raised()
+    first.put(IDENTIFY, 2 * PAGE, dword10=1)
+    assert first.is_raised() and not first.is_raised()
+    first.acknowledge()
+    assert first.is_raised()
+    first.set_register(HEAD, 1)
+    first.acknowledge()
+    assert not first.is_raised()
+    first.set_config(COMMAND, MASTER | NO_INTERRUPT, 2)
+    first.put(IDENTIFY, 2 * PAGE, dword10=1)
+    assert not first.is_raised()
+    first.set_register(CC, 0)
+    first.set_config(COMMAND, MASTER, 2)
+    first.acknowledge()
+    assert not first.is_raised()
+    # (others in their place are let go: those before get nothing any more)
+    first.enable()
+    for files in [], [first.interrupt], [os.open('/dev/null', os.O_RDWR)] * 2, [first.interrupt] * 3:
+        first.say(INTERRUPT, files=files)
+        first.put(IDENTIFY, 2 * PAGE, dword10=1)
+        assert not first.is_raised()
+    # (such that can't be written, and such that end)
+    ends = os.pipe2(os.O_NONBLOCK)
+    before = kept()
+    for files in [ends[0], first.interrupt], [first.interrupt, ends[0]]:
+        first.say(INTERRUPT, files=files)
+        first.put(IDENTIFY, 2 * PAGE, dword10=1)
+        if files[1] == ends[0]:
+            os.close(ends[1])
+        assert until(lambda: kept() == before)
+
+
+def holes(first, second):
+    """Where there is no memory, nothing is read or written, wherever an entry points."""
+    first.begin()
+    file = sealed(64 << 20)
+    first.ram = mmap.mmap(file, 64 << 20)
+    # a PC's windows are a hole, and what lies above another one is out of reach
+    low, legacy, high = (0, 0xa0000, 0), (0xc0000, 0x240000, 0xc0000), (0x400000, 0x100000, 0x400000)
+    first.sections([low, legacy, high], [file] * 3)
+    first.enable()
+    assert first.serial() == 'S0'
+    assert first.status_of(IDENTIFY, 0x2ff000, dword10=1) == 0
+    for address in 0x300000, 0x400000, 1 << 32, NOWHERE:
+        assert first.status_of(IDENTIFY, address, dword10=1) == TRANSFER_ERROR, hex(address)
+    assert first.status_of(IDENTIFY, 0x2fff00, 0x300000, dword10=1) == TRANSFER_ERROR
+    assert first.status_of(IDENTIFY, 0xa0000, dword10=1) == 0
+    assert first.ram[0xa0000:0xc0000] == bytes(0x20000) and first.ram[0x300000:] == bytes((64 << 20) - 0x300000)
+    # rings outside of memory are a fatal status
+    for rings in (0x400000, PAGE), (0, 0x400000), (NOWHERE, PAGE), (0, NOWHERE):
+        first.enable(rings)
+        first.set_register(TAIL, 1)
+        assert first.register(CSTS) & 2, rings
+
+
+def until(condition):
+    """Whether the condition comes true within ten seconds."""
+    end = time.monotonic() + 10
+    while not condition() and time.monotonic() < end:
+        time.sleep(0.01)
+    return condition()
+
+
+def sections(first, second):
+    """Sections that no memory has: the function then has none. Nothing of what was given is kept."""
+    plain, short, soft = sealed(1 << 20), sealed(PAGE), sealed(1 << 20, 0)
+    other = os.open('/dev/zero', os.O_RDWR)
+    whole, top = (0, 1 << 20, 0), 1 << 63
+    wrong = [
+        ([], []), ([whole], []), ([whole], [short]), ([whole], [soft]), ([whole], [other]),
+        ([whole], [first.socket.fileno()]),
+        ([whole], [plain] * 2), ([(0, 0, 0)], [plain]), ([(0, 1 << 20, PAGE)], [plain]), ([(0, 1 << 20, top)], [plain]),
+        ([(0, top, 0)], [plain]), ([(0, PAGE, 2 ** 64 - PAGE)], [plain]), ([(2 ** 64 - PAGE, 2 * PAGE, 0)], [plain]),
+        ([(0, 100, 0)], [plain]), ([(7, PAGE, 0)], [plain]), ([(0, PAGE, 8)], [plain]), ([(2 << 20, PAGE, 0)], [plain]),
+        ([(0, 1 << 20, 0), (0x8000, PAGE, 0)], [plain] * 2), ([(PAGE, PAGE, 0), (0, PAGE, 0)], [plain] * 2),
+        ([whole], [plain] * 8), ([whole] * 8, [plain] * 12)]
+    before = kept()
+    for rows, files in wrong:
+        first.begin()
+        assert first.serial() == 'S0'
+        first.sections(rows, files)
+        first.put(IDENTIFY, 2 * PAGE, dword10=1)
+        assert first.register(CSTS) & 2, (rows, files)
+        assert kept() == before, (rows, kept(), before)
+    first.begin()
+    assert first.serial() == 'S0'
+    # more come with the body than there may be
+    first.say(MEMORY, files=[plain] * 5, size=192)
+    for _ in range(2):
+        first.socket.sendmsg([bytes(96)], [(socket.SOL_SOCKET, socket.SCM_RIGHTS, array.array('i', [plain] * 5))])
+    first.config(0)
+    assert kept()[0] == before[0]
+
+
+def kept():
+    """How many descriptors the other process has, and how many pieces of memory are mapped to it."""
+    process = pathlib.Path(f'/proc/{os.getppid()}')
+    return len(list(process.glob('fd/*'))), process.joinpath('maps').read_text().count('memfd:ram')
+
+
+def said(*words, body=b''):
+    return struct.pack('=iiQ', *words) + body
+
+
+BROKEN = {
+    'kind_below': said(-1, 0, 0), 'kind_above': said(8, 0, 0), 'kind_answer': said(ANSWER, 0, 8, body=bytes(8)),
+    'no_size': said(CONFIG_READ, 0, 0), 'other_size': said(CONFIG_READ, 0, 13, body=bytes(13)),
+    'greatest_size': said(BAR_WRITE, 0, 2 ** 64 - 1), 'great_size': said(MEMORY, 0, 1 << 40),
+    'size_of_reset': said(RESET, 0, 1, body=b'x'), 'cut_header': said(RESET, 0, 0)[:15],
+    'cut_body': said(BAR_READ, 0, 24, body=bytes(23)), 'no_body': said(MEMORY, 0, 192), 'first_byte': b'\0'}
+
+
+def broken(name):
+    """A message that is none: the other process ends."""
+    def scenario(first, second):
+        first.socket.sendall(BROKEN[name])
+        first.socket.shutdown(socket.SHUT_WR)
+        signal.pause()
+    return scenario
+
+
+def gone(first, second):
+    """A function that QEMU lets go, as its device is unplugged: the other goes on."""
+    first.socket.close()
+    second.begin()
+    assert second.serial() == 'S1'
+
+
+def chosen(lot):
+    """A number that is apt to be wrong, or to be right."""
+    near = lot.choice((0, 1, 4, PAGE, 2 * PAGE, 0x14, 0x24, 0x28, 0x30, 0x1000, 0x1004, 1 << 20, 1 << 31, 1 << 63))
+    return (lot.choice((near, lot.getrandbits(64), lot.getrandbits(12), near + lot.randrange(-8, 9)))) % 2 ** 64
+
+
+def random_body(lot, kind):
+    if kind == MEMORY:
+        numbers = (chosen(lot) // lot.choice((1, PAGE)) * lot.choice((1, PAGE)) % 2 ** 64 for _ in range(24))
+        return struct.pack('=24Q', *numbers)
+    if kind in (CONFIG_READ, CONFIG_WRITE):
+        address = lot.choice((COMMAND, lot.randrange(260), chosen(lot) % 2 ** 32))
+        return struct.pack('=IIi', address, chosen(lot) % 2 ** 32, lot.choice((1, 2, 4, lot.randrange(-9, 9))))
+    if kind in (BAR_READ, BAR_WRITE):
+        return struct.pack('=QQII', chosen(lot), chosen(lot), lot.choice((4, 4, 8, lot.randrange(20))), 1)
+    return b''
+
+
+def random_messages(seed, count):
+    """Messages of chance, in which memory that is there and rings of chance come again and again."""
+    def scenario(first, second):
+        lot = random.Random(seed)
+        files = [sealed(64 * PAGE), sealed(PAGE), sealed(64 * PAGE, 0), eventfd(), os.open('/dev/null', os.O_RDWR)]
+        for turn in range(count):
+            function = lot.choice((first, second))
+            if turn % 50 == 0:
+                function.begin()
+                function.listen()
+                os.close(function.interrupt), os.close(function.seen)
+            if function.ram and turn % 3 == 0:
+                function.ram[:2 * PAGE] = lot.randbytes(2 * PAGE) if turn % 2 else bytes(2 * PAGE)
+            kind = lot.choice((MEMORY, CONFIG_WRITE, CONFIG_READ, *[BAR_WRITE] * 3, BAR_READ, INTERRUPT, RESET))
+            given = lot.choices(files, k=lot.choice((0, 0, 1, 2, 3, 8, 12)))
+            if kind in (MEMORY, INTERRUPT):
+                function.say(kind, random_body(lot, kind), given)
+            else:
+                function.ask(kind, random_body(lot, kind), given if turn % 7 == 0 else [])
+        first.say(lot.randrange(-3, 12), lot.randbytes(lot.randrange(40)), size=lot.getrandbits(64))
+    return scenario
+
+
+def scenario_of(name):
+    if name in BROKEN:
+        return broken(name)
+    if name.startswith('random'):
+        return random_messages(*map(int, name.split(':')[1:]))
+    return globals()[name]
+
+
+def main(name, *options):
+    numbers = re.findall(r'x-pci-proxy-dev,fd=(\d+)', ' '.join(options))
+    scenario_of(name)(*(Function(int(number)) for number in numbers))
+
+
+if __name__ == '__main__':
+    main(*sys.argv[1:])
