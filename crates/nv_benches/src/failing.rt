@@ -1,0 +1,32 @@
+//! Runs that are cut short: a read, a write or an allocation fails at any place, and what the run
+//! leaves is compared with what its lines write. Reads and writes fail in tests. Allocations fail
+//! where whoever starts this program makes them fail; it then looks at what each run left.
+
+mod case;
+mod cases;
+#[cfg(test)]
+mod cut_sink;
+mod cut_source;
+mod kept;
+mod memory;
+#[cfg(test)]
+mod reads;
+#[cfg(test)]
+mod writes;
+
+use crate::failing::cases::cases;
+use crate::failing::memory::{Left, run_case};
+use std::io;
+
+/// Runs each script, and says of each what it left. Whether none left anything else than whole
+/// lines is answered.
+pub(crate) fn run_all(rt: &HostRuntime) -> io::Result<bool> {
+    let mut is_right = true;
+    for case in &cases(rt.alloc())? {
+        let left = run_case(rt.alloc(), case)?;
+        is_right = is_right && left != Left::Other;
+        let lines = case.lines.len();
+        println!(rt; "{lines} lines: {left}")?;
+    }
+    Ok(is_right)
+}

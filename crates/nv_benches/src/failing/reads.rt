@@ -1,0 +1,117 @@
+//! A read that fails at each call: the lines whose newline was read have been executed.
+
+ghost use Rattle.std.specs.Prelude.{◌<◌};
+
+use crate::failing::case::{Case, Stream};
+use crate::failing::cases::cases;
+use crate::failing::cut_source::CutSource;
+use crate::failing::kept::Kept;
+use nv_controller::Machine;
+use nv_script::{Geometry, OverWrite, RunEnd, run, run_within};
+use nv_subsystem::{DEMO, Subsystem};
+use std::alloc::Global;
+use std::process::Abort;
+use std::test::Fail;
+
+/// How many newlines stand in the first bytes of a script.
+fn newlines(script: &[u8], bytes: usize) -> usize {
+    script
+        .iter()
+        .take(bytes)
+        .filter(|byte| **byte == b'\n')
+        .count()
+}
+
+/// Runs a script whose source gives so many bytes a read and fails at a call. Whether it failed is
+/// answered: a script that was read to its end before has not.
+fn fails_at(
+    rt: &impl Abort,
+    alloc: Global,
+    case: &Case,
+    most: usize,
+    call: u64,
+) -> Result<bool, Fail> {
+    let Some(mut machine) = case.machine(alloc) else {
+        assert!(rt; false, "no controllers");
+        return Ok(false);
+    };
+    let mut script = CutSource::new(case.script.as_bytes(), most, call);
+    let mut out = OverWrite::new(Vec::new(alloc));
+    let mut messages = OverWrite::new(Vec::new(alloc));
+    let end = run(
+        alloc,
+        &mut machine,
+        Geometry::default(),
+        &mut script,
+        &mut out,
+        &mut messages,
+    );
+    let lines = newlines(case.script.as_bytes(), script.given as usize);
+    let output = case.text(alloc, Stream::Output, lines)?;
+    assert!(rt; out.into_inner().as_slice() == output.as_bytes());
+    let message = case.text(alloc, Stream::Messages, lines)?;
+    assert!(rt; messages.into_inner().as_slice() == message.as_bytes());
+    assert!(rt; Kept::of(&machine) == case.kept(lines));
+    match end {
+        RunEnd::Read => Ok(true),
+        RunEnd::Status(_) => {
+            assert!(rt; lines == case.lines.len());
+            Ok(false)
+        }
+        _ => {
+            assert!(rt; false, "another end");
+            Ok(false)
+        }
+    }
+}
+
+/// How many calls a run may make.
+const MOST_CALLS: u64 = 1000;
+
+#[test]
+fn executes_the_lines_that_were_read(rt: HostRuntime) -> Result<(), Fail> {
+    for case in &cases(rt.alloc())? {
+        let most = if case.script.len() > 1000 { 97 } else { 1 };
+        let mut last = MOST_CALLS;
+        for call in 0..MOST_CALLS {
+            if !fails_at(&rt, rt.alloc(), case, most, call)? {
+                last = call;
+                break;
+            }
+        }
+        assert!(rt; last > 10 && last < MOST_CALLS);
+    }
+    Ok(())
+}
+
+/// A line in one read, where so many reads may be made.
+fn ends_within(rt: &impl Abort, alloc: Global, reads: u32) -> Result<RunEnd, Fail>
+    requires { 0 < reads }
+{
+    let subsystem = Subsystem::from_toml(alloc, DEMO.as_bytes())?;
+    let mut machine = Machine::new(alloc, subsystem)?;
+    let mut script = CutSource::new(b"list-ns /dev/nvme0\n", 4096, u64::MAX);
+    let mut out = OverWrite::new(Vec::new(alloc));
+    let mut messages = OverWrite::new(Vec::new(alloc));
+    let end = run_within(
+        alloc,
+        &mut machine,
+        Geometry::default(),
+        &mut script,
+        &mut out,
+        &mut messages,
+        reads,
+    );
+    assert!(rt; out.into_inner().as_slice() == "[   0]:0x1\n[   1]:0x3\n".as_bytes());
+    assert!(rt; messages.into_inner().is_empty());
+    Ok(end)
+}
+
+#[test]
+fn ends_by_a_fault_at_the_last_read(rt: HostRuntime) -> Result<(), Fail> {
+    let alloc = rt.alloc();
+    assert!(rt; ends_within(&rt, alloc, 1)? == RunEnd::Read);
+    assert!(rt; ends_within(&rt, alloc, 2)? == RunEnd::Read);
+    assert!(rt; ends_within(&rt, alloc, 3)? == RunEnd::Status(0));
+    Ok(())
+}
