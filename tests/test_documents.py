@@ -5,6 +5,7 @@ the sources of the crates. A block of code that is said to be from a file stands
 that pages show are those of the sources. What the sentences claim is not looked at."""
 
 import re
+import subprocess
 import textwrap
 import unittest
 
@@ -90,20 +91,15 @@ def code_of(name, language):
 
 
 class Copies(Case):
-    def test_reading_list(self):
-        rows = re.findall(r'^\| `(nv_[a-z]*)` \| .* \| (`[A-Z].*) \| ([0-9,]*) \|$', text_of('docs/MODEL.md'), re.M)
-        self.assertNotEqual(rows, [])
-        all_files = all_lines = 0
-        for crate, files, total in rows:
-            with self.subTest(crate):
-                named = [(name, int(count)) for name, count in re.findall(r'`(\w+)` ([0-9]+)', files)]
-                self.assertEqual(len(named), files.count('`') / 2)
-                there = [(name, text_of(f'crates/{crate}/specs/{name}.antt').count('\n')) for name, _ in named]
-                self.assertEqual(named, there)
-                self.assertEqual(int(total.replace(',', '')), sum(count for _, count in there))
-                all_files += len(there)
-                all_lines += sum(count for _, count in there)
-        self.assertIn(f'\nThese are {all_files} files and {all_lines:,} lines', text_of('docs/MODEL.md'))
+    def test_lists_of_definitions(self):
+        said = subprocess.run([TOP / 'tools/believed', '--page'], capture_output=True, check=True, text=True).stdout
+        for table in said.rstrip('\n').split('\n\n'):
+            is_there = f'\n{table}\n' in text_of('docs/MODEL.md')
+            self.assertTrue(is_there, f'docs/MODEL.md: tools/believed --page prints\n{table}')
+
+    def test_no_public_contract_reaches_inner_definitions(self):
+        said = subprocess.run([TOP / 'tools/believed', '--inner'], capture_output=True, check=True, text=True).stdout
+        self.assertEqual(said, '')
 
     @unittest.skipIf(IS_UNPROVED, 'the first script of README.md is run by the proved program')
     def test_first_script_of_readme(self):

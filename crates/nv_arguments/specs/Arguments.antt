@@ -2,7 +2,7 @@
 use Rattle.std.specs.Prelude.{ℕ, List, Option, Result, Ok, option_map}
 use Rattle.std.specs.Option.{ok_or, option_map_or}
 use Rattle.clap.specs.Words.{Row, Text, first_of}
-use Rattle.nv_line.specs.Number.{number_in}
+use Rattle.nv_line.specs.Values.{number_in}
 use Rattle.nv_driver.specs.declared.geometry.Geometry.{Geometry}
 use Rattle.nv_arguments.specs.ArgumentOption.{name_of}
 use Rattle.nv_layout.specs.Steps.{◌>>=◌}

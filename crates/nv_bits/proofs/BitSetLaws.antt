@@ -12,7 +12,8 @@ use Rattle.std.specs.Ordering.{nat_cmp}
 use Rattle.nv_bits.specs.Numbers.{IsLowest, IsNext, IsOf, NumberSet, all_of, as_member, insert}
 use Rattle.nv_bits.proofs.NumberLaws.{by_place-insert, by_place-remove, by_place_is, get_at, get_outside, len-all_of}
 use Rattle.nv_bits.proofs.NumberLaws.{len_within}
-use Rattle.nv_bits.specs.Words.{ChangesBit, IsLeastFrom, bit_of}
+use Rattle.nv_bits.specs.inner.Words.{ChangesBit, IsLeastFrom}
+use Rattle.nv_bits.specs.Words.{bit_of}
 use Rattle.nv_bits.specs.BitSet.{AreBits, members_of}
 use Rattle.nv_bits.proofs.WordLaws.{bit_of-ones, bit_of-past_ones, bit_of-zeros, first_ones, none_of_zero}
 

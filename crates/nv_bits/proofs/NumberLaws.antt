@@ -13,8 +13,8 @@ use Rattle.std.specs.FinMap as map
 use Rattle.std.specs.FinMap.{get, get-empty, get-insert, get-remove, is_sorted, len-empty}
 use Rattle.std.specs.FinMap.{len-insert, nat_cmp-IsAntisymmetric, same_map}
 use Rattle.std.specs.FinMap.Entries.{below_all}
-use Rattle.nv_bits.specs.Numbers.{IsNext, IsOf, NumberMap, above, all_of, as_member, by_place}
-use Rattle.nv_bits.specs.Numbers.{with_value}
+use Rattle.nv_bits.specs.Numbers.{IsNext, IsOf, NumberMap, all_of, as_member, by_place, with_value}
+use Rattle.nv_bits.specs.Above.{above}
 
 module _ {A : Type 0} where
   -- what is found after a change

@@ -10,7 +10,8 @@ use Rattle.std.specs.FinMap.{len-empty, len-insert, len-remove}
 use Rattle.nv_bits.specs.BitSet.{RangeSet}
 use Rattle.nv_bits.proofs.NumberLaws.{above_next, above_none, by_place-insert, by_place-remove, by_place_is}
 use Rattle.nv_bits.proofs.NumberLaws.{contains-insert, contains-remove, get_at}
-use Rattle.nv_bits.specs.Numbers.{IsLowest, IsNext, IsOf, NumberMap, above, all_of, as_member, insert}
+use Rattle.nv_bits.specs.Numbers.{IsLowest, IsNext, IsOf, NumberMap, all_of, as_member, insert}
+use Rattle.nv_bits.specs.Above.{above}
 use Rattle.nv_bits.specs.Slots.{AreSlots, IsLowestFree, RangeMap, values_of}
 
 not_after : (b y : Bool) → cond b false (not y) ≡ not (cond b true y)

@@ -9,7 +9,8 @@ use Rattle.std.proofs.lemmas.Nat.Bits.{bit_at-trailing_zeros, bit_at-zero, bit_a
 use Rattle.std.proofs.lemmas.Nat.Bits.{bit_at_clear_other, bit_at_clear_same, bit_at_set_other, bit_at_set_same}
 use Rattle.std.proofs.lemmas.List.{get_or-replicate, get_or_past, length-replicate}
 use Rattle.std.specs.Int.{bit_at, bit_not, trailing_zeros}
-use Rattle.nv_bits.specs.Words.{ChangesBit, IsLeastFrom, bit_of}
+use Rattle.nv_bits.specs.inner.Words.{ChangesBit, IsLeastFrom}
+use Rattle.nv_bits.specs.Words.{bit_of}
 
 -- a word is written in which one bit is another
 changed : (words : List ℕ) (k w b : ℕ) → k / 64 < length words → bit_at w (k % 64) ≡ b

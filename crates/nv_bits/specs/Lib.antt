@@ -2,3 +2,5 @@ pub mod Words
 pub mod Numbers
 pub mod BitSet
 pub mod Slots
+pub mod Above
+pub mod inner

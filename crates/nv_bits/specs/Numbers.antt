@@ -1,7 +1,6 @@
 -- Sets and maps of numbers, with a place for each number of a range.
-use Rattle.std.specs.Prelude.{◌≡◌, ℕ, zero, suc, ◌+◌, ◌<◌, ◌≤◌, Bool, true, false, List}
-use Rattle.std.specs.Prelude.{Option, Some, None, nat_lt, if◌then◌else◌}
-use Rattle.std.specs.List.{filter}
+use Rattle.std.specs.Prelude.{◌≡◌, ℕ, zero, suc, ◌+◌, ◌<◌, ◌≤◌, Bool, true, false, Option, Some, None}
+use Rattle.std.specs.Prelude.{if◌then◌else◌}
 use Rattle.std.specs.Ordering.{nat_cmp}
 use Rattle.std.specs.FinMap as map
 
@@ -19,10 +18,6 @@ insert s n = map.insert s n tt
 -- the number is one of the `count` from `first` on
 abbrev pub IsOf : ℕ → ℕ → ℕ → Type 0
 IsOf first count n = (first ≤ n) × (n < first + count)
-
--- those above a number, in the order of the list
-abbrev pub above : ℕ → List ℕ → List ℕ
-above n ns = filter (λ q. nat_lt n q) ns
 
 -- n has a value in the map, and no lower number has
 pub record IsLowest {A : Type 0} (m : NumberMap A) (n : ℕ) : Type 0 where

@@ -4,7 +4,8 @@ ghost use Rattle.std.specs.Prelude.{◌≡◌, ◌+◌, ◌^◌, ◌<◌, ◌≤
 ghost use Rattle.std.specs.Prelude.{IfOk, IfSome, IsTrue, MatchOption};
 ghost use Rattle.std.specs.Bool.{OnTrue};
 ghost use Rattle.std.specs.FinMap as map;
-ghost use Rattle.nv_bits.specs.Numbers.{IsLowest, IsNext, IsOf, above, all_of, insert};
+ghost use Rattle.nv_bits.specs.Numbers.{IsLowest, IsNext, IsOf, all_of, insert};
+ghost use Rattle.nv_bits.specs.Above.{above};
 
 use crate::words::{bit, least_from, next_word, repeated};
 use std::alloc::{AllocError, Global};

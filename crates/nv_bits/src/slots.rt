@@ -4,7 +4,8 @@ ghost use Rattle.std.specs.Prelude.{◌≡◌, ◌+◌, ◌^◌, ◌<◌, ◌≤
 ghost use Rattle.std.specs.Prelude.{IfSome, MatchOption, slice_index_or, vec_len};
 ghost use Rattle.std.specs.Bool.{OnTrue};
 ghost use Rattle.std.specs.FinMap as map;
-ghost use Rattle.nv_bits.specs.Numbers.{IsNext, IsOf, above};
+ghost use Rattle.nv_bits.specs.Numbers.{IsNext, IsOf};
+ghost use Rattle.nv_bits.specs.Above.{above};
 ghost use Rattle.nv_bits.specs.Slots.{IsLowestFree};
 
 use crate::BitSet;

@@ -2,7 +2,8 @@
 
 ghost use Rattle.std.specs.Prelude.{◌≡◌, ◌/◌, ◌^◌, ◌<◌, ◌≤◌, ℕ, false, length, replicate};
 ghost use Rattle.std.specs.Prelude.{slice_index, IfOk, MatchOption};
-ghost use Rattle.nv_bits.specs.Words.{IsLeastFrom, bit_of};
+ghost use Rattle.nv_bits.specs.inner.Words.{IsLeastFrom};
+ghost use Rattle.nv_bits.specs.Words.{bit_of};
 
 use std::alloc::{AllocError, Global};
 

@@ -6,8 +6,10 @@ use Rattle.std.proofs.lemmas.Bool.Decides.{nat_tests}
 use Rattle.std.specs.Option.{option_or}
 use Rattle.nv_layout.specs.declared.sqe.Sqe.{Sqe}
 use Rattle.nv_command.specs.Decoding.{opcode_of, transfer_as, transfer_of}
-use Rattle.nv_command.specs.Identify.{identify_command, identify_data}
-use Rattle.nv_command.specs.Management.{is_detach, page_from_host, select_of}
+use Rattle.nv_command.specs.Identify.{identify_command}
+use Rattle.nv_command.specs.Form.{identify_data}
+use Rattle.nv_command.specs.Management.{is_detach, select_of}
+use Rattle.nv_command.specs.Form.{page_from_host}
 use Rattle.nv_layout.specs.Steps.{◌>>=◌}
 use Rattle.nv_command.specs.declared.entry.Opcode.{Opcode}
 use Rattle.nv_command.specs.declared.entry.Opcode.TheVariants.{Identify, NamespaceManagement}

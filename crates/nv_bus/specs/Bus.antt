@@ -3,7 +3,7 @@ use Rattle.std.specs.Prelude.{◌≡◌, ℕ, Bool, List, if◌then◌else◌, l
 use Rattle.nv_register.specs.RegisterBank.{new_bank, stops_at}
 use Rattle.nv_register.specs.Readiness.{is_enabled}
 use Rattle.nv_register.specs.declared.register_bank.RegisterBank.{RegisterBank}
-use Rattle.nv_model.specs.Reset.{reset}
+use Rattle.nv_model.specs.Step.{reset}
 use Rattle.nv_model.specs.State.{State}
 use Rattle.nv_model.specs.WellFormed.{IsWellFormed}
 

@@ -18,7 +18,7 @@ use Rattle.nv_model.specs.State.{State}
 use Rattle.nv_model.specs.Step.{Step, refused, step, with_command}
 use Rattle.nv_register.specs.declared.rings.Rings.{Rings}
 use Rattle.nv_bus.specs.Call.{Call, call_of, command_in}
-use Rattle.nv_model.specs.Limit.{limit_of}
+use Rattle.nv_model.specs.Conditions.{limit_of}
 use Rattle.nv_bus.specs.declared.told.Told.{Told}
 
 -- what an entry reads and changes: the subsystem, its controller's rings, and the host's memory

@@ -1,10 +1,11 @@
 -- What is asked of Get Features and Set Features arrives.
 use Rattle.std.proofs.Common.{◌≡◌, ◌∙◌, ℕ, ◌+◌, ◌<◌, ◌^◌, ◌==◌, ap, lit<, arith}
-use Rattle.nv_layout.specs.Parts.{at_bits, bit, bits}
+use Rattle.nv_layout.specs.Bits.{at_bits, bit, bits}
 use Rattle.nv_layout.proofs.RecordLaws.{bit_below, flag_back}
 use Rattle.nv_command.proofs.EntryLaws.{FieldsFit, IsDecoded}
 use Rattle.nv_command.specs.Features.{GetFeatureFits, SetFeatureFits, get_feature_command}
-use Rattle.nv_command.specs.Features.{get_feature_fields, set_feature_command, set_feature_fields}
+use Rattle.nv_command.specs.Features.{set_feature_command}
+use Rattle.nv_command.specs.Form.{get_feature_fields, set_feature_fields}
 use Rattle.nv_command.specs.declared.command.Command.TheVariants.{GetFeature, SetFeature}
 use Rattle.nv_command.specs.declared.features.FeatureQuery.{FeatureQuery}
 use Rattle.nv_command.specs.declared.features.FeatureSetting.{FeatureSetting}

@@ -4,8 +4,9 @@ use Rattle.std.proofs.lemmas.Bool.Decides.{nat_tests}
 use Rattle.nv_command.specs.Command.{bytes_to_host, transfer_by}
 use Rattle.nv_command.specs.Form.{form_of}
 use Rattle.nv_command.proofs.LogLaws.{log_size}
-use Rattle.nv_command.specs.Logs.{IsSendable, is_error_log}
-use Rattle.nv_command.specs.Room.{IsSizeOf}
+use Rattle.nv_command.specs.Logs.{IsSendable}
+use Rattle.nv_command.specs.Form.{is_error_log}
+use Rattle.nv_command.specs.inner.Room.{IsSizeOf}
 use Rattle.nv_command.specs.declared.command.Command.{Command}
 use Rattle.nv_command.specs.declared.command.Command.TheVariants.{GetLog}
 use Rattle.nv_command.specs.declared.form.Form.{Form}

@@ -1,9 +1,10 @@
 -- What is asked of Format NVM arrives.
 use Rattle.std.proofs.Common.{◌≡◌, ◌∙◌, ℕ, ◌+◌, ◌<◌, ◌^◌, ◌==◌, Bool, ap, lit<, arith}
-use Rattle.nv_layout.specs.Parts.{at_bits, bit, bits}
+use Rattle.nv_layout.specs.Bits.{at_bits, bit, bits}
 use Rattle.nv_layout.proofs.RecordLaws.{bit_below, flag_back}
 use Rattle.nv_command.proofs.EntryLaws.{FieldsFit, IsDecoded}
-use Rattle.nv_command.specs.Format.{FormatFits, format_command, format_fields}
+use Rattle.nv_command.specs.Format.{FormatFits, format_command}
+use Rattle.nv_command.specs.Form.{format_fields}
 use Rattle.nv_command.specs.declared.command.Command.TheVariants.{Format}
 
 pub format_fits : (lbaf : ℕ) (mset : Bool) (pi : ℕ) (pil : Bool) (ses : ℕ)

@@ -1,7 +1,7 @@
 -- The fields of Identify fit.
 use Rattle.std.proofs.Common.{ℕ, ◌<◌, ◌^◌, lit<, arith}
 use Rattle.nv_command.proofs.EntryLaws.{FieldsFit}
-use Rattle.nv_command.specs.Identify.{identify_fields}
+use Rattle.nv_command.specs.Form.{identify_fields}
 
 pub identify_fits : (cns : ℕ) → cns < 2 ^ 8 → FieldsFit (identify_fields cns)
 identify_fits cns h = record {

@@ -6,19 +6,21 @@ use Rattle.std.specs.List.{AllByRecursion}
 use Rattle.std.specs.Simd.{first_chunks}
 use Rattle.std.proofs.lemmas.List.{drop-drop, get_or-take, length-append, length-map}
 use Rattle.std.proofs.lemmas.List.{length-replicate, length-take-le}
-use Rattle.nv_layout.specs.ErrorEntry.{ErrorEntryFits, bytes_of_entries, bytes_of_error_entry}
-use Rattle.nv_layout.specs.ErrorEntry.{no_entry, without_phase}
+use Rattle.nv_layout.specs.ErrorEntry.{ErrorEntryFits, no_entry}
+use Rattle.nv_layout.specs.ErrorEntryBytes.{bytes_of_entries, bytes_of_error_entry, without_phase}
 use Rattle.nv_layout.proofs.LogLaws.{error_entry_back, fits_with_phase, length-bytes_of_error_entry}
 use Rattle.nv_layout.proofs.LogLaws.{length-bytes_of_smart, no_entry_fits, part_of_entry, smart_back}
 use Rattle.nv_layout.proofs.PartLaws.{get_or-past, length-part, map_read, part-part, part_whole}
-use Rattle.nv_layout.specs.Parts.{at_bits, bits, part}
+use Rattle.nv_layout.specs.Bits.{at_bits, bits}
+use Rattle.nv_layout.specs.Parts.{part}
 use Rattle.nv_layout.specs.Smart.{bytes_of_smart, smart_of_bytes}
 use Rattle.nv_layout.specs.declared.error_entry.ErrorEntry.{ErrorEntry}
 use Rattle.nv_command.proofs.EntryLaws.{FieldsFit, IsDecoded}
-use Rattle.nv_command.specs.Logs.{GetLogFits, IsWhole, entries_in, entry_received, first_entries}
-use Rattle.nv_command.specs.Logs.{first_of_log, get_log_command, get_log_fields, log_kind}
+use Rattle.nv_command.specs.Logs.{GetLogFits, IsWhole, entries_in, entry_received, get_log_command}
 use Rattle.nv_command.specs.Logs.{without_phases}
-use Rattle.nv_command.specs.Room.{IsSizeOf}
+use Rattle.nv_command.specs.Received.{first_entries, first_of_log}
+use Rattle.nv_command.specs.Form.{get_log_fields, log_kind}
+use Rattle.nv_command.specs.inner.Room.{IsSizeOf}
 use Rattle.nv_command.specs.Reply.{FitsRecord, IsReplyTo, dword0_of, kind_of, log_of, reply_by}
 use Rattle.nv_command.specs.declared.command.Command.{Command}
 use Rattle.nv_command.specs.declared.command.Command.TheVariants.{GetLog}

@@ -7,9 +7,9 @@ use Rattle.nv_layout.specs.IdNs.{IdNsFits, LbafFits, bytes_of_id_ns}
 use Rattle.nv_layout.proofs.IdentifyLaws.{id_ns_back, length-bytes_of_id_ns}
 use Rattle.nv_layout.proofs.RecordLaws.{ctrl_list_back, length-bytes_of_ctrl_list}
 use Rattle.nv_command.proofs.EntryLaws.{FieldsFit}
-use Rattle.nv_command.specs.Management.{AttachmentFits, CreateFits, asked, attachment_fields}
-use Rattle.nv_command.specs.Management.{attachment_in, create_in, creation, management_fields}
-use Rattle.nv_command.specs.Management.{no_format}
+use Rattle.nv_command.specs.Management.{AttachmentFits, CreateFits, asked, attachment_in, create_in}
+use Rattle.nv_command.specs.Management.{creation, no_format}
+use Rattle.nv_command.specs.Form.{attachment_fields, management_fields}
 use Rattle.nv_command.specs.declared.command.Command.TheVariants.{Create, Attachment}
 
 pub management_fits : (select : ℕ) → select < 2 ^ 4 → FieldsFit (management_fields select)

@@ -3,7 +3,8 @@
 use Rattle.std.proofs.Common.{◌≡◌, ◌∙◌, ℕ, suc, ◌+◌, ◌-◌, ◌<◌, ◌≤◌, List, [], ◌∷◌, ◌++◌, ap, arith, drop}
 use Rattle.std.proofs.Common.{get_or, length, map, refl, replicate, sym, take}
 use Rattle.std.proofs.lemmas.List.{drop_more, map-append, take-append-drop}
-use Rattle.nv_layout.specs.ErrorEntry.{error_entry_of_bytes, no_entry}
+use Rattle.nv_layout.specs.ErrorEntryBytes.{error_entry_of_bytes}
+use Rattle.nv_layout.specs.ErrorEntry.{no_entry}
 use Rattle.nv_layout.specs.Parts.{number_at}
 use Rattle.nv_layout.specs.Status.{status_of_number}
 use Rattle.nv_layout.specs.declared.error_entry.ErrorEntry.{ErrorEntry}

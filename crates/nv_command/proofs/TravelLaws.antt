@@ -9,12 +9,14 @@ use Rattle.nv_command.specs.Form.{form_of}
 use Rattle.nv_command.proofs.FormatLaws.{format_back, format_fits}
 use Rattle.nv_command.proofs.IdentifyLaws.{identify_fits}
 use Rattle.nv_command.proofs.LogLaws.{dwords_back, get_log_back, get_log_fits, log_arrives}
-use Rattle.nv_command.specs.Logs.{IsSendable, is_error_log, log_data, received, without_phases}
+use Rattle.nv_command.specs.Logs.{IsSendable, without_phases}
+use Rattle.nv_command.specs.Form.{is_error_log, log_data}
+use Rattle.nv_command.specs.Received.{received}
 use Rattle.nv_command.proofs.ManagementLaws.{attachment_back, attachment_fits, create_back}
 use Rattle.nv_command.proofs.ManagementLaws.{length_of_creation, management_fits}
 use Rattle.nv_command.specs.Reply.{FitsRecord, IsReplyTo, data_of, dword0_of, log_of, reply_in}
 use Rattle.nv_command.proofs.ReplyLaws.{length_of_page, page_arrives}
-use Rattle.nv_command.specs.Room.{page_bytes}
+use Rattle.nv_command.specs.inner.Room.{page_bytes}
 use Rattle.nv_command.specs.Travel.{CommandsTravel, RepliesFit, RepliesTravel}
 use Rattle.nv_command.specs.declared.command.Command.{Command}
 use Rattle.nv_command.specs.declared.command.Command.TheVariants.{IdentifyController}

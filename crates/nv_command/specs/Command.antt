@@ -9,17 +9,12 @@ use Rattle.nv_command.specs.Identify.{IdentifyFits}
 use Rattle.nv_command.specs.Logs.{GetLogFits}
 use Rattle.nv_command.specs.Management.{AttachmentFits, CreateFits, asked}
 use Rattle.nv_command.specs.declared.command.Command.{Command}
-use Rattle.nv_command.specs.declared.command.Command.TheVariants.{IdentifyNamespace}
-use Rattle.nv_command.specs.declared.command.Command.TheVariants.{AllocatedNamespace, ActiveList}
-use Rattle.nv_command.specs.declared.command.Command.TheVariants.{AllocatedList, Create, Delete}
-use Rattle.nv_command.specs.declared.command.Command.TheVariants.{Attachment, Format, GetFeature}
+use Rattle.nv_command.specs.declared.command.Command.TheVariants.{IdentifyNamespace, AllocatedNamespace}
+use Rattle.nv_command.specs.declared.command.Command.TheVariants.{ActiveList, AllocatedList, Create}
+use Rattle.nv_command.specs.declared.command.Command.TheVariants.{Delete, Attachment, Format, GetFeature}
 use Rattle.nv_command.specs.declared.command.Command.TheVariants.{SetFeature, GetLog}
 use Rattle.nv_command.specs.declared.transfer.Transfer.{Transfer}
 use Rattle.nv_command.specs.declared.transfer.Transfer.TheVariants.{NoData, ToHost, FromHost}
-
--- the NSID of the entry, with which a refusal is booked
-abbrev pub namespace_of : Command → ℕ
-namespace_of k = (form_of k).nsid
 
 -- which way its data goes, and how many bytes
 abbrev pub transfer_by : Command → Transfer

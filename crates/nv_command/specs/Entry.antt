@@ -1,7 +1,7 @@
 -- Commands as submission queue entries.
 use Rattle.std.specs.Prelude.{ℕ}
 use Rattle.nv_layout.specs.declared.sqe.Sqe.{Sqe}
-use Rattle.nv_command.specs.Command.{namespace_of}
+use Rattle.nv_command.specs.Form.{namespace_of}
 use Rattle.nv_command.specs.Form.{form_of}
 use Rattle.nv_command.specs.declared.command.Command.{Command}
 use Rattle.nv_command.specs.declared.entry.Fields.{Fields}

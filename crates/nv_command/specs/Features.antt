@@ -1,32 +1,13 @@
 -- Get Features (opcode 0Ah) and Set Features (opcode 09h): the feature identifier stands in CDW10
 -- 7:0. To get, CDW10 10:8 selects which value, and CDW11 is the feature's own; to set, CDW11 is the
 -- value, and CDW10 bit 31 saves it too.
-use Rattle.std.specs.Prelude.{◌+◌, ◌^◌, ◌<◌, ◌==◌}
-use Rattle.nv_layout.specs.Parts.{at_bits, bit, bits}
+use Rattle.std.specs.Prelude.{◌^◌, ◌<◌, ◌==◌}
+use Rattle.nv_layout.specs.Bits.{bits}
 use Rattle.nv_layout.specs.declared.sqe.Sqe.{Sqe}
 use Rattle.nv_command.specs.declared.command.Command.{Command}
 use Rattle.nv_command.specs.declared.command.Command.TheVariants.{GetFeature, SetFeature}
-use Rattle.nv_command.specs.declared.entry.Fields.{Fields}
 use Rattle.nv_command.specs.declared.features.FeatureQuery.{FeatureQuery}
 use Rattle.nv_command.specs.declared.features.FeatureSetting.{FeatureSetting}
-
-abbrev pub get_feature_fields : FeatureQuery → Fields
-get_feature_fields q = record {
-  opcode = 0x0a;
-  cdw10 = at_bits 0 8 q.fid + at_bits 8 3 q.sel;
-  cdw11 = q.cdw11;
-  cdw12 = 0;
-  cdw13 = 0;
-}
-
-abbrev pub set_feature_fields : FeatureSetting → Fields
-set_feature_fields x = record {
-  opcode = 0x09;
-  cdw10 = at_bits 0 8 x.fid + at_bits 31 1 (bit x.save);
-  cdw11 = x.value;
-  cdw12 = 0;
-  cdw13 = 0;
-}
 
 pub record GetFeatureFits (q : FeatureQuery) : Type 0 where
   pub fid : q.fid < 2 ^ 8

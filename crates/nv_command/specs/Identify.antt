@@ -6,27 +6,18 @@ use Rattle.nv_layout.specs.NsList.{ns_list_of_bytes}
 use Rattle.nv_layout.specs.declared.sqe.Sqe.{Sqe}
 use Rattle.nv_layout.specs.Steps.{◌>>=◌}
 use Rattle.nv_command.specs.declared.command.Command.{Command}
-use Rattle.nv_command.specs.declared.command.Command.TheVariants.{IdentifyController}
-use Rattle.nv_command.specs.declared.command.Command.TheVariants.{IdentifyNamespace}
+use Rattle.nv_command.specs.declared.command.Command.TheVariants.{IdentifyController, IdentifyNamespace}
 use Rattle.nv_command.specs.declared.command.Command.TheVariants.{AllocatedNamespace, ActiveList}
 use Rattle.nv_command.specs.declared.command.Command.TheVariants.{AllocatedList}
-use Rattle.nv_command.specs.declared.entry.Fields.{Fields}
 use Rattle.nv_command.specs.declared.reply.Reply.{Reply}
 use Rattle.nv_command.specs.declared.reply.Reply.TheVariants as reply
 use Rattle.nv_command.specs.declared.status_code.StatusCode.{StatusCode}
 use Rattle.nv_command.specs.declared.status_code.StatusCode.TheVariants.{InvalidFieldInCommand}
 use Rattle.nv_command.specs.declared.transfer.Transfer.{Transfer}
-use Rattle.nv_command.specs.declared.transfer.Transfer.TheVariants.{ToHost}
-
-abbrev pub identify_fields : ℕ → Fields
-identify_fields cns = record { opcode = 0x06; cdw10 = cns; cdw11 = 0; cdw12 = 0; cdw13 = 0 }
+use Rattle.nv_command.specs.Form.{identify_data}
 
 abbrev pub IdentifyFits : ℕ → Type 0
 IdentifyFits nsid = nsid < 2 ^ 32
-
--- each answers a page
-abbrev pub identify_data : Transfer
-identify_data = ToHost 4096
 
 abbrev pub identify_by : ℕ → ℕ → Result Command StatusCode
 identify_by cns n =

@@ -13,3 +13,5 @@ pub mod Decoding
 pub mod Reply
 pub mod Room
 pub mod Travel
+pub mod Received
+pub mod inner

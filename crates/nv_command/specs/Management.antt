@@ -4,7 +4,6 @@ use Rattle.std.specs.Prelude.{ℕ, ◌%◌, ◌^◌, ◌<◌, ◌==◌, Bool, tr
 use Rattle.std.specs.Prelude.{if◌then◌else◌, length, replicate}
 use Rattle.nv_layout.specs.CtrlList.{CtrlListFits, ctrl_list_of_bytes}
 use Rattle.nv_layout.specs.IdNs.{id_ns_of_bytes}
-use Rattle.nv_layout.specs.Parts.{bit}
 use Rattle.nv_layout.specs.declared.ctrl_list.LayoutError.{LayoutError}
 use Rattle.nv_layout.specs.declared.id_ns.IdNs.{IdNs}
 use Rattle.nv_layout.specs.declared.id_ns.Lbaf.{Lbaf}
@@ -13,20 +12,12 @@ use Rattle.nv_command.specs.StatusCode.{code_of_layout}
 use Rattle.nv_layout.specs.Steps.{◌>>=◌}
 use Rattle.nv_command.specs.declared.command.Command.{Command}
 use Rattle.nv_command.specs.declared.command.Command.TheVariants.{Create, Delete, Attachment}
-use Rattle.nv_command.specs.declared.entry.Fields.{Fields}
 use Rattle.nv_command.specs.declared.status_code.StatusCode.{StatusCode}
 use Rattle.nv_command.specs.declared.status_code.StatusCode.TheVariants.{DataTransferError}
 use Rattle.nv_command.specs.declared.status_code.StatusCode.TheVariants.{InvalidFieldInCommand}
 use Rattle.nv_command.specs.declared.transfer.Transfer.{Transfer}
-use Rattle.nv_command.specs.declared.transfer.Transfer.TheVariants.{NoData, FromHost}
-
-abbrev pub management_fields : ℕ → Fields
-management_fields select = record { opcode = 0x0d; cdw10 = select; cdw11 = 0; cdw12 = 0; cdw13 = 0 }
-
--- select 0h attaches, 1h detaches
-abbrev pub attachment_fields : Bool → Fields
-attachment_fields detach =
-    record { opcode = 0x15; cdw10 = bit detach; cdw11 = 0; cdw12 = 0; cdw13 = 0 }
+use Rattle.nv_command.specs.declared.transfer.Transfer.TheVariants.{NoData}
+use Rattle.nv_command.specs.Form.{page_from_host}
 
 pub record CreateFits (s c f d m : ℕ) : Type 0 where
   pub nsze : s < 2 ^ 64
@@ -38,10 +29,6 @@ pub record CreateFits (s c f d m : ℕ) : Type 0 where
 pub record AttachmentFits (n : ℕ) (ids : List ℕ) : Type 0 where
   pub nsid : n < 2 ^ 32
   pub list : CtrlListFits ids
-
--- to create, attach or detach, the host sends a page
-abbrev pub page_from_host : Transfer
-page_from_host = FromHost 4096
 
 abbrev pub no_format : Lbaf
 no_format = record { ms = 0; lbads = 0; rp = 0 }

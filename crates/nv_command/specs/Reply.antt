@@ -2,10 +2,12 @@
 use Rattle.std.specs.Prelude.{◌≡◌, ◌≢◌, ℕ, ◌*◌, ◌^◌, ◌<◌, ◌≤◌, List, [], ◌++◌, drop}
 use Rattle.std.specs.Prelude.{length}
 use Rattle.std.specs.List.{AllByRecursion}
-use Rattle.nv_layout.specs.ErrorEntry.{ErrorEntryFits, bytes_of_entries}
+use Rattle.nv_layout.specs.ErrorEntry.{ErrorEntryFits}
+use Rattle.nv_layout.specs.ErrorEntryBytes.{bytes_of_entries}
 use Rattle.nv_layout.specs.IdCtrl.{IdCtrlFits, bytes_of_id_ctrl}
 use Rattle.nv_layout.specs.IdNs.{IdNsFits, bytes_of_id_ns}
-use Rattle.nv_layout.specs.NsList.{bytes_of_ns_list, most_nsids}
+use Rattle.nv_layout.specs.NsList.{bytes_of_ns_list}
+use Rattle.nv_layout.specs.Limits.{most_nsids}
 use Rattle.nv_layout.specs.Parts.{part}
 use Rattle.nv_layout.specs.Smart.{SmartFits, bytes_of_smart}
 use Rattle.nv_layout.specs.declared.error_entry.ErrorEntry.{ErrorEntry}

@@ -1,9 +1,7 @@
 -- The reply that is kept in a room.
-use Rattle.std.specs.Prelude.{◌≡◌, ℕ, ◌-◌, ◌/◌, ◌≤◌, List, ◌++◌, replicate, take}
+use Rattle.std.specs.Prelude.{ℕ, ◌-◌, ◌≤◌, List, ◌++◌, replicate, take}
 use Rattle.nv_layout.specs.ErrorEntry.{no_entry}
 use Rattle.nv_layout.specs.declared.error_entry.ErrorEntry.{ErrorEntry}
-use Rattle.nv_command.specs.declared.form.ReplyKind.{ReplyKind}
-use Rattle.nv_command.specs.declared.form.ReplyKind.TheVariants as kind
 use Rattle.nv_command.specs.declared.reply.Reply.{Reply}
 use Rattle.nv_command.specs.declared.reply.Reply.TheVariants as reply
 use Rattle.nv_command.specs.declared.reply_room.Held.{Held}
@@ -27,16 +25,3 @@ reply_held (held.Smart r) ids es = reply.Smart r
 abbrev pub IsRoom : Held → Type 0
 IsRoom (held.Errors count present) = (present ≤ count) × (count ≤ 256)
 IsRoom h = Unit {0}
-
--- the bytes of a page that a reply of a kind has, where it is no log
-abbrev pub page_bytes : ReplyKind → ℕ
-page_bytes kind.Controller = 4096
-page_bytes kind.Namespace = 4096
-page_bytes kind.List = 4096
-page_bytes k = 0
-
--- so many bytes a reply of a kind is read from: of the error log at most 256 entries
-abbrev pub IsSizeOf : ReplyKind → ℕ → Type 0
-IsSizeOf kind.Errors n = n / 64 ≤ 256
-IsSizeOf kind.Smart n = n ≡ 512
-IsSizeOf k n = n ≡ page_bytes k

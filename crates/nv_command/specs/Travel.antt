@@ -5,7 +5,8 @@ use Rattle.nv_command.specs.Command.{CommandFits, bytes_from_host, bytes_to_host
 use Rattle.nv_command.specs.Command.{transfer_by}
 use Rattle.nv_command.specs.Decoding.{command_of, transfer_of}
 use Rattle.nv_command.specs.Entry.{entry_of, with_pointer}
-use Rattle.nv_command.specs.Logs.{IsSendable, received, without_phases}
+use Rattle.nv_command.specs.Logs.{IsSendable, without_phases}
+use Rattle.nv_command.specs.Received.{received}
 use Rattle.nv_command.specs.Reply.{FitsRecord, IsReplyTo, data_of, dword0_of, reply_in}
 use Rattle.nv_command.specs.declared.command.Command.{Command}
 use Rattle.nv_command.specs.declared.reply.Reply.{Reply}

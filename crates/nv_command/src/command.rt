@@ -2,7 +2,8 @@
 
 ghost use Rattle.std.specs.Prelude.{◌≡◌, ◌<◌, ◌^◌};
 ghost use Rattle.nv_layout.specs.Sqe.{SqeFits};
-ghost use Rattle.nv_command.specs.Command.{CommandFits, host_data_of, namespace_of, transfer_by};
+ghost use Rattle.nv_command.specs.Command.{CommandFits, host_data_of, transfer_by};
+ghost use Rattle.nv_command.specs.Form.{namespace_of};
 ghost use Rattle.nv_command.specs.Decoding.{command_of};
 ghost use Rattle.nv_command.specs.Entry.{entry_of};
 ghost use Rattle.nv_command.specs.Form.{form_of};

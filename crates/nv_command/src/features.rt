@@ -3,8 +3,8 @@
 
 ghost use Rattle.std.specs.Prelude.{◌≡◌};
 ghost use Rattle.nv_command.specs.Features.{GetFeatureFits, SetFeatureFits, get_feature_command};
-ghost use Rattle.nv_command.specs.Features.{get_feature_fields, set_feature_command};
-ghost use Rattle.nv_command.specs.Features.{set_feature_fields};
+ghost use Rattle.nv_command.specs.Features.{set_feature_command};
+ghost use Rattle.nv_command.specs.Form.{get_feature_fields, set_feature_fields};
 ghost use Rattle.nv_command.specs.Form.{form};
 
 use crate::command::Command;

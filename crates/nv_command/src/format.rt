@@ -2,7 +2,8 @@
 
 ghost use Rattle.std.specs.Prelude.{◌≡◌};
 ghost use Rattle.nv_command.specs.Form.{form};
-ghost use Rattle.nv_command.specs.Format.{FormatFits, format_command, format_fields};
+ghost use Rattle.nv_command.specs.Format.{FormatFits, format_command};
+ghost use Rattle.nv_command.specs.Form.{format_fields};
 
 use crate::command::Command;
 use crate::entry::Fields;

@@ -2,8 +2,8 @@
 
 ghost use Rattle.std.specs.Prelude.{◌≡◌};
 ghost use Rattle.nv_command.specs.Form.{form};
-ghost use Rattle.nv_command.specs.Identify.{identify_command, identify_data, identify_fields};
-ghost use Rattle.nv_command.specs.Identify.{identify_transfer};
+ghost use Rattle.nv_command.specs.Identify.{identify_command, identify_transfer};
+ghost use Rattle.nv_command.specs.Form.{identify_data, identify_fields};
 
 use crate::command::Command;
 use crate::entry::Fields;

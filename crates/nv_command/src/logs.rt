@@ -2,8 +2,8 @@
 
 ghost use Rattle.std.specs.Prelude.{◌≡◌};
 ghost use Rattle.nv_command.specs.Form.{form};
-ghost use Rattle.nv_command.specs.Logs.{GetLogFits, get_log_command, get_log_fields};
-ghost use Rattle.nv_command.specs.Logs.{get_log_transfer, is_error_log, log_data, log_kind};
+ghost use Rattle.nv_command.specs.Logs.{GetLogFits, get_log_command, get_log_transfer};
+ghost use Rattle.nv_command.specs.Form.{get_log_fields, is_error_log, log_data, log_kind};
 
 use crate::command::Command;
 use crate::dword_count::DwordCount;

@@ -4,11 +4,10 @@
 ghost use Rattle.std.specs.Prelude.{◌≡◌, Err, MatchResult, Ok};
 ghost use Rattle.nv_command.specs.Form.{form};
 ghost use Rattle.nv_command.specs.Management.{AttachmentFits, CreateFits, asked};
-ghost use Rattle.nv_command.specs.Management.{attachment_command, attachment_fields};
-ghost use Rattle.nv_command.specs.Management.{attachment_transfer};
-ghost use Rattle.nv_command.specs.Management.{is_detach, management_command, management_fields};
-ghost use Rattle.nv_command.specs.Management.{management_transfer, page_from_host, page_of};
+ghost use Rattle.nv_command.specs.Management.{attachment_command, attachment_transfer, is_detach};
+ghost use Rattle.nv_command.specs.Management.{management_command, management_transfer, page_of};
 ghost use Rattle.nv_command.specs.Management.{select_of};
+ghost use Rattle.nv_command.specs.Form.{attachment_fields, management_fields, page_from_host};
 
 use crate::command::Command;
 use crate::entry::Fields;

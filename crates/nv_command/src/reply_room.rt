@@ -3,12 +3,13 @@
 ghost use Rattle.std.specs.Prelude.{◌≡◌, ◌-◌, ◌≤◌, List, drop, length, map, replicate};
 ghost use Rattle.std.specs.Simd.{first_chunks};
 ghost use Rattle.nv_layout.specs.ErrorEntry.{no_entry};
-ghost use Rattle.nv_layout.specs.NsList.{most_nsids};
+ghost use Rattle.nv_layout.specs.Limits.{most_nsids};
 ghost use Rattle.nv_layout.specs.declared.error_entry.ErrorEntry.{ErrorEntry};
 ghost use Rattle.nv_command.specs.Command.{bytes_to_host, transfer_by};
 ghost use Rattle.nv_command.specs.Logs.{IsSendable, entry_received};
 ghost use Rattle.nv_command.specs.Reply.{reply_by, reply_in};
-ghost use Rattle.nv_command.specs.Room.{IsSizeOf, entries_held};
+ghost use Rattle.nv_command.specs.inner.Room.{IsSizeOf};
+ghost use Rattle.nv_command.specs.Room.{entries_held};
 ghost use Rattle.nv_command.specs.declared.reply.Reply.TheVariants.{Done};
 
 use crate::command::Command;

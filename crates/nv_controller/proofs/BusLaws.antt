@@ -3,7 +3,7 @@ use Rattle.std.proofs.Common.{◌≡◌, ◌∙◌, ℕ, Bool, true, false, List
 use Rattle.std.proofs.lemmas.List.{length-map}
 use Rattle.std.specs.Prelude.{if◌then◌else◌}
 use Rattle.nv_bus.specs.Bus.{BusValue, IsBus}
-use Rattle.nv_model.specs.Reset.{reset}
+use Rattle.nv_model.specs.Step.{reset}
 use Rattle.nv_model.specs.State.{State}
 use Rattle.nv_model.specs.WellFormed.{IsWellFormed}
 use Rattle.nv_register.specs.declared.register_bank.RegisterBank.{RegisterBank}

@@ -14,18 +14,19 @@ use Rattle.nv_command.specs.Reply.{FitsRecord, IsReplyTo, data_of}
 use Rattle.nv_command.specs.declared.command.Command.{Command}
 use Rattle.nv_command.specs.declared.refusal.Refusal.{Refusal}
 use Rattle.nv_command.specs.declared.reply.Reply.{Reply}
-use Rattle.nv_model.specs.Refusal.{refusal_of}
-use Rattle.nv_model.specs.Reply.{reply_of}
+use Rattle.nv_model.specs.Meaning.{refusal_of}
+use Rattle.nv_model.specs.Meaning.{reply_of}
 use Rattle.nv_model.proofs.ReplyLaws.{reply_fits}
 use Rattle.nv_model.specs.State.{State}
-use Rattle.nv_model.specs.Step.{Step, answer_by, answer_to, answer_without_phases, step, step_by}
+use Rattle.nv_model.specs.Step.{Step, step, step_by}
+use Rattle.nv_model.specs.Answer.{answer_by, answer_to, answer_without_phases}
 use Rattle.nv_model.specs.WellFormed.{IsWellFormed}
 use Rattle.nv_bus.specs.Call.{call_of}
-use Rattle.nv_model.specs.Limit.{limit_of}
+use Rattle.nv_model.specs.Conditions.{limit_of}
 use Rattle.nv_bus.proofs.TagLaws.{dword0_tagged, tagged}
 use Rattle.nv_bus.specs.Entry.{Moves, MovesBy, One, Scene, call_in, completion_with, entry_in, entry_step, step_unless}
 use Rattle.nv_bus.specs.Entry.{success, told_by}
-use Rattle.nv_controller.specs.Tags.{settled_next, settled_unless}
+use Rattle.nv_controller.specs.inner.Tags.{settled_next, settled_unless}
 use Rattle.nv_subsystem.specs.Tagged.{untagged, untagged_log}
 
 -- ---- answers

@@ -1,6 +1,6 @@
 -- A reset makes and takes no controller.
 use Rattle.std.proofs.Common.{◌≡◌, ℕ, length}
-use Rattle.nv_model.specs.Reset.{reset}
+use Rattle.nv_model.specs.Step.{reset}
 use Rattle.nv_model.proofs.ResetLaws.{length-reset}
 use Rattle.nv_model.specs.State.{State}
 

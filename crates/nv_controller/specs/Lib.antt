@@ -1,2 +1,2 @@
 pub mod BusCode
-pub mod Tags
+pub mod inner

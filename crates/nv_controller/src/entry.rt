@@ -6,15 +6,15 @@ ghost use Rattle.nv_command.specs.Command.{transfer_by};
 ghost use Rattle.nv_command.specs.Reply.{FitsRecord, IsReplyTo, data_of, log_of, page_of};
 ghost use Rattle.nv_prp.specs.Place.{LieIn, places, written_at};
 ghost use Rattle.nv_prp.specs.Transfer.{most_bytes};
-ghost use Rattle.nv_model.specs.Refusal.{refusal_of};
+ghost use Rattle.nv_model.specs.Meaning.{refusal_of};
 ghost use Rattle.nv_model.specs.Step.{step};
 ghost use Rattle.nv_model.specs.WellFormed.{IsWellFormed};
 ghost use Rattle.nv_bus.specs.Call.{call_of, length_of};
 ghost use Rattle.nv_bus.specs.Entry.{Moves, MovesBy, One, completion_of, scene};
 ghost use Rattle.nv_bus.specs.Entry.{step_unless, told_by};
-ghost use Rattle.nv_model.specs.Limit.{limit_of};
+ghost use Rattle.nv_model.specs.Conditions.{limit_of};
 ghost use Rattle.nv_bus.specs.Turn.{can_take, reaches};
-ghost use Rattle.nv_controller.specs.Tags.{settled_next, settled_unless};
+ghost use Rattle.nv_controller.specs.inner.Tags.{settled_next, settled_unless};
 ghost use Rattle.nv_subsystem.specs.Tagged.{settled, untagged};
 
 use crate::call::read_call;

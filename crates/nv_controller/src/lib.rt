@@ -22,8 +22,8 @@
 //! let taken = machine.turn(0, &mut mem, 16);
 //! ```
 //!
-//! The tests of `nv_device_tests` have this example at full length, in `src/mistakes.rt`, with a
-//! list that is written over the submission ring itself.
+//! `tests/rows/turns_with_mistakes.txt` has this example at full length, with a list that is
+//! written over the submission ring itself.
 //!
 //! The registers by their offsets in bytes, each of which is read and written as one dword:
 //!

@@ -2,7 +2,7 @@
 
 ghost use Rattle.std.specs.Prelude.{◌≡◌, ◌<◌, IfOk, if◌then◌else◌, length, replicate};
 ghost use Rattle.nv_register.specs.RegisterBank.{new_bank, stops_at, with_register_at};
-ghost use Rattle.nv_model.specs.Reset.{reset};
+ghost use Rattle.nv_model.specs.Step.{reset};
 ghost use Rattle.nv_model.specs.WellFormed.{IsWellFormed};
 ghost use Rattle.nv_bus.specs.Bus.{IsBus};
 ghost use Rattle.nv_subsystem.specs.Tagged.{untagged};

@@ -17,8 +17,9 @@ use Rattle.nv_register.specs.RegisterBank.{new_bank}
 use Rattle.nv_register.specs.declared.register_bank.RegisterBank.{RegisterBank}
 use Rattle.nv_bus.specs.Bus.{BusValue, IsBus, bank_at}
 use Rattle.nv_driver.specs.Driver.{IsDriver, IsPlaced, after_command, after_commands, driver_value, pair_at, no_pair}
-use Rattle.nv_driver.specs.Alone.{KeepsBelow}
-use Rattle.nv_driver.specs.Exchange.{IsReady, KeepsOthers}
+use Rattle.nv_driver.specs.inner.Alone.{KeepsBelow}
+use Rattle.nv_driver.specs.Exchange.{IsReady}
+use Rattle.nv_driver.specs.inner.Exchange.{KeepsOthers}
 use Rattle.nv_driver.specs.QueuePair.{IsLaid, QueuePair, idle_bank}
 use Rattle.nv_driver.specs.Layout.{pages_of_command, set_pages}
 use Rattle.nv_driver.specs.Quiet.{IsQuiet, pair_value}

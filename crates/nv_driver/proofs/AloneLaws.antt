@@ -15,7 +15,8 @@ use Rattle.nv_register.specs.declared.register_bank.RegisterBank.{RegisterBank}
 use Rattle.nv_model.specs.State.{State}
 use Rattle.nv_bus.specs.Bus.{BusValue, IsBus, bank_at}
 use Rattle.nv_bus.specs.Turn as T
-use Rattle.nv_driver.specs.Alone.{Alone, IsAlone, IsAnsweredBy, IsPlaceFor, place_in, world_by, world_of}
+use Rattle.nv_driver.specs.Alone.{Alone, IsAlone, world_by, world_of}
+use Rattle.nv_driver.specs.inner.Alone.{IsAnsweredBy, IsPlaceFor, place_in}
 use Rattle.nv_driver.specs.Answer.{Answer}
 use Rattle.nv_driver.specs.Geometry.{IsGeometry}
 use Rattle.nv_driver.specs.Layout.{offset_for, pages_of_entry}

@@ -3,7 +3,8 @@ use Rattle.std.proofs.Common.{◌≡◌, ℕ, ◌<◌, ◌^◌, Err, List, Ok, a
 use Rattle.std.proofs.Common.{refl, sym, ◌∙◌}
 use Rattle.nv_layout.specs.Cqe.{CqeFits}
 use Rattle.nv_layout.specs.declared.cqe.Cqe.{Cqe}
-use Rattle.nv_command.specs.Logs.{received, without_phases}
+use Rattle.nv_command.specs.Received.{received}
+use Rattle.nv_command.specs.Logs.{without_phases}
 use Rattle.nv_command.specs.Reply.{FitsRecord, data_of, dword0_of, reply_in}
 use Rattle.nv_command.proofs.TravelLaws.{replies_travel}
 use Rattle.nv_command.specs.declared.reply.Reply.{Reply}

@@ -9,8 +9,8 @@ use Rattle.nv_command.specs.Reply.{FitsRecord, IsReplyTo}
 use Rattle.nv_command.specs.declared.command.Command.{Command}
 use Rattle.nv_command.specs.declared.refusal.Refusal.{Refusal}
 use Rattle.nv_command.specs.declared.transfer.Transfer.{Transfer}
-use Rattle.nv_model.specs.Limit.{limit_of}
-use Rattle.nv_model.specs.Refusal.{refusal_of}
+use Rattle.nv_model.specs.Conditions.{limit_of}
+use Rattle.nv_model.specs.Meaning.{refusal_of}
 use Rattle.nv_model.specs.State.{State}
 use Rattle.nv_model.specs.Step.{refused, step_by, with_refusal}
 use Rattle.nv_model.specs.WellFormed.{IsWellFormed}

@@ -21,7 +21,8 @@ use Rattle.nv_command.specs.Logs.{IsSendable}
 use Rattle.nv_command.specs.declared.command.Command.{Command}
 use Rattle.nv_command.specs.declared.command.Command.TheVariants.{ActiveList}
 use Rattle.nv_bus.specs.Call.{length_of}
-use Rattle.nv_driver.specs.CommandPages.{AreTaken, all_pages, data_pages, with_pages, without}
+use Rattle.nv_driver.specs.CommandPages.{AreTaken, data_pages, without}
+use Rattle.nv_driver.specs.inner.CommandPages.{all_pages, with_pages}
 use Rattle.nv_driver.specs.Answer.{Answer}
 use Rattle.nv_driver.specs.Request.{Asked, IsReadable, Request, request_of}
 use Rattle.nv_driver.specs.Schedule.{Collect, Happens, Holds, Numbered, Sent, answer_awaited, answer_from}
@@ -29,7 +30,9 @@ use Rattle.nv_driver.specs.Schedule.{answer_read, answer_to, answers_to, awaited
 use Rattle.nv_driver.specs.Schedule.{data_length, number, own_pages, places}
 use Rattle.nv_driver.specs.Schedule.{received_from, slot, submit_ring}
 use Rattle.nv_driver.specs.Layout.{offset_for, pages_of_command}
-use Rattle.nv_driver.specs.UnderWay.{HasAnswers, IsKept, IsUnderWay, Run, kept_at, pages_of_all, serial_at, setting_of}
+use Rattle.nv_driver.specs.inner.UnderWay.{HasAnswers}
+use Rattle.nv_driver.specs.UnderWay.{IsKept, IsUnderWay, Run, kept_at, pages_of_all, serial_at}
+use Rattle.nv_driver.specs.UnderWay.{setting_of}
 use Rattle.nv_driver.specs.declared.batch.Batch.{Batch}
 use Rattle.nv_driver.specs.declared.command_pages.CommandPages.{CommandPages}
 use Rattle.nv_driver.specs.declared.queue_pair.QueuePair.{QueuePair as QueuePairFields}

@@ -4,7 +4,8 @@ use Rattle.std.proofs.Common.{drop, get_or, length, length-drop, lit<, lit≤, r
 use Rattle.nv_prp.specs.Place.{AreDistinct, read_at, written_at}
 use Rattle.nv_prp.proofs.PlaceLaws.{read_written}
 use Rattle.nv_command.specs.Command.{CommandFits, bytes_from_host, bytes_to_host, host_data_of, transfer_by}
-use Rattle.nv_command.specs.Logs.{IsSendable, IsWhole, is_error_log}
+use Rattle.nv_command.specs.Logs.{IsSendable, IsWhole}
+use Rattle.nv_command.specs.Form.{is_error_log}
 use Rattle.nv_command.specs.Reply.{with_data}
 use Rattle.nv_command.proofs.FormLaws.{a_page, at_most_a_page}
 use Rattle.nv_command.proofs.TravelLaws.{commands_travel}

@@ -9,15 +9,17 @@ use Rattle.nv_host.specs.PageSets.{Pages}
 use Rattle.nv_queue.specs.Slots.{HoldsTags}
 use Rattle.nv_command.specs.declared.command.Command.{Command}
 use Rattle.nv_register.specs.RegisterBank.{new_bank}
-use Rattle.nv_model.specs.Limit.{limit_of}
+use Rattle.nv_model.specs.Conditions.{limit_of}
 use Rattle.nv_bus.specs.Bus.{BusValue, IsBus, bank_at}
 use Rattle.nv_driver.specs.Batch.{answers_of, from_serial, state_after}
-use Rattle.nv_driver.specs.Exchange.{IsReady, KeepsOthers}
+use Rattle.nv_driver.specs.Exchange.{IsReady}
+use Rattle.nv_driver.specs.inner.Exchange.{KeepsOthers}
 use Rattle.nv_driver.specs.Quiet.{pair_value}
 use Rattle.nv_driver.specs.Answer.{Answer}
 use Rattle.nv_driver.specs.Request.{CanBeSent}
 use Rattle.nv_driver.specs.Schedule.{number, device_rings, bank_with}
-use Rattle.nv_driver.specs.UnderWay.{HasAnswers, IsBusOf, IsUnderWay, Run, pair_at, run_of, serial_at, setting_of}
+use Rattle.nv_driver.specs.inner.UnderWay.{HasAnswers, IsBusOf}
+use Rattle.nv_driver.specs.UnderWay.{IsUnderWay, Run, pair_at, run_of, serial_at, setting_of}
 use Rattle.nv_driver.specs.declared.batch.Batch.{Batch}
 use Rattle.nv_driver.specs.declared.geometry.Geometry.{Geometry}
 use Rattle.nv_driver.specs.declared.queue_pair.QueuePair.{QueuePair as QueuePairFields}

@@ -8,11 +8,13 @@ use Rattle.nv_host.proofs.PageLaws.{page_size_bounds}
 use Rattle.nv_layout.specs.Cqe.{cqe_of_bytes, CqeFits}
 use Rattle.nv_layout.specs.declared.sqe.Sqe.{Sqe}
 use Rattle.nv_layout.specs.declared.cqe.Cqe.{Cqe}
-use Rattle.nv_prp.specs.Buffer.{KeepsList, ChangesOnly}
+use Rattle.nv_prp.specs.Buffer.{KeepsList}
+use Rattle.nv_prp.specs.inner.Buffer.{ChangesOnly}
 use Rattle.nv_prp.specs.Place.{AreDistinct, read_at, written_at}
 use Rattle.nv_prp.proofs.PlaceLaws.{length-written_at}
 use Rattle.nv_queue.specs.Numbers.{above}
-use Rattle.nv_queue.specs.Slots.{completion_at, with_completion, HoldsTags, WritesCompletion, posted_as}
+use Rattle.nv_queue.specs.Slots.{completion_at, with_completion, HoldsTags, posted_as}
+use Rattle.nv_queue.specs.inner.Slots.{WritesCompletion}
 use Rattle.nv_queue.proofs.SlotLaws.{length-with_completion, put_written}
 use Rattle.nv_queue.proofs.TagLaws.{tags_after}
 use Rattle.nv_command.specs.Command.{bytes_to_host}
@@ -23,7 +25,7 @@ use Rattle.nv_command.specs.declared.transfer.Transfer.{Transfer}
 use Rattle.nv_register.specs.declared.rings.Rings.{Rings}
 use Rattle.nv_model.specs.State.{State}
 use Rattle.nv_model.specs.Step.{Step}
-use Rattle.nv_model.specs.Limit.{limit_of}
+use Rattle.nv_model.specs.Conditions.{limit_of}
 use Rattle.nv_model.specs.WellFormed.{IsWellFormed}
 use Rattle.nv_bus.specs.Call.{Call, call_of, command_in}
 use Rattle.nv_bus.specs.Entry.{MovesBy, One, asked_step, Scene, completion_with, entry_in, scene, step_unless}

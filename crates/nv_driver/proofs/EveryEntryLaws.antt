@@ -9,8 +9,11 @@ use Rattle.nv_layout.specs.declared.sqe.Sqe.{Sqe}
 use Rattle.nv_layout.specs.CtrlList.{ctrl_list_of_bytes}
 use Rattle.nv_command.specs.Command.{bytes_from_host}
 use Rattle.nv_command.specs.Decoding.{command_as, command_of, opcode_of, transfer_as, transfer_of}
-use Rattle.nv_command.specs.Identify.{identify_by, identify_command, identify_data}
-use Rattle.nv_command.specs.Management.{attachment_in, create_in, is_detach, listed, page_from_host, page_of, select_of}
+use Rattle.nv_command.specs.Identify.{identify_by, identify_command}
+use Rattle.nv_command.specs.Form.{identify_data}
+use Rattle.nv_command.specs.Management.{attachment_in, create_in, is_detach, listed, page_of}
+use Rattle.nv_command.specs.Management.{select_of}
+use Rattle.nv_command.specs.Form.{page_from_host}
 use Rattle.nv_command.specs.declared.command.Command.TheVariants.{ActiveList, AllocatedList, AllocatedNamespace}
 use Rattle.nv_command.specs.declared.command.Command.TheVariants.{Attachment}
 use Rattle.nv_command.specs.declared.command.Command.TheVariants.{Delete, IdentifyController, IdentifyNamespace}
@@ -21,7 +24,7 @@ use Rattle.nv_command.specs.declared.status_code.StatusCode.{StatusCode}
 use Rattle.nv_command.specs.declared.status_code.StatusCode.TheVariants.{InvalidFieldInCommand}
 use Rattle.nv_command.specs.declared.transfer.Transfer.{Transfer}
 use Rattle.nv_command.specs.declared.transfer.Transfer.TheVariants.{NoData}
-use Rattle.nv_model.specs.Limit.{greatest_limit}
+use Rattle.nv_model.specs.Conditions.{greatest_limit}
 use Rattle.nv_bus.specs.Call.{HasRoom, asked_by, length_of, moves_of, within}
 use Rattle.nv_bus.proofs.CallLaws.{has_room, within_few, within_limit}
 use Rattle.nv_driver.specs.Request.{Asked, EveryEntryIsRequest, GoesBy, moved_by, sent_for, transfer_for}

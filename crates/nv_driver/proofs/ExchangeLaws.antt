@@ -13,17 +13,16 @@ use Rattle.nv_bus.specs.declared.told.Told.{Told}
 use Rattle.nv_bus.specs.Bus.{BusValue}
 use Rattle.nv_bus.specs.Entry.{status_in, told_by}
 use Rattle.nv_bus.specs.Call.{HasRoom, length_of}
-use Rattle.nv_model.specs.Limit.{greatest_limit, limit_of}
+use Rattle.nv_model.specs.Conditions.{greatest_limit, limit_of}
 use Rattle.nv_model.proofs.LimitLaws.{limit_bounds}
 use Rattle.nv_layout.specs.Sqe.{SqeFits}
 use Rattle.nv_layout.specs.declared.sqe.Sqe.{Sqe}
 use Rattle.nv_prp.specs.declared.builder.ListPlace.{ListPlace}
 use Rattle.nv_command.specs.declared.transfer.Transfer.{Transfer}
 use Rattle.nv_register.specs.RegisterBank.{new_bank}
-use Rattle.nv_driver.specs.Alone.{CanExchange, EntryPlace, IsAlone, IsAnsweredBy, IsEntrySubmitted, KeepsBelow, alone}
-use Rattle.nv_driver.specs.Alone.{Comes, IsExchanged, IsReceived, asked_in, came_with, entry_step, place_in, sent_at}
-use Rattle.nv_driver.specs.Alone.{side}
-use Rattle.nv_driver.specs.Alone.{world_of}
+use Rattle.nv_driver.specs.inner.Alone.{CanExchange, EntryPlace, IsAnsweredBy, IsEntrySubmitted}
+use Rattle.nv_driver.specs.inner.Alone.{KeepsBelow, IsExchanged, came_with, place_in, sent_at, side}
+use Rattle.nv_driver.specs.Alone.{IsAlone, alone, Comes, IsReceived, asked_in, entry_step, world_of}
 use Rattle.nv_driver.specs.Answer.{Answer}
 use Rattle.nv_driver.specs.Exchange.{IsReady}
 use Rattle.nv_driver.specs.Quiet.{pair_value}

@@ -7,12 +7,12 @@ use Rattle.std.proofs.lemmas.List.{get_or-map, length-map, length-set, map-appen
 use Rattle.std.proofs.lemmas.List.FromFn.{map-range_with_len_more}
 use Rattle.nv_model.specs.Step.{next_serial}
 use Rattle.nv_bus.specs.Bus.{BusValue, enabled_in}
-use Rattle.nv_driver.specs.Driver.{after_command, after_reset, error_without, new_driver, no_pair}
-use Rattle.nv_driver.specs.Driver.{pair_at}
+use Rattle.nv_driver.specs.Driver.{after_command, after_reset, new_driver, no_pair, pair_at}
+use Rattle.nv_driver.specs.inner.Driver.{error_without}
 use Rattle.nv_driver.specs.Geometry.{fault_of}
 use Rattle.nv_driver.specs.Exchange.{after_one}
 use Rattle.nv_driver.specs.Layout.{pair_of, pairs_of}
-use Rattle.nv_driver.specs.Linked.{IsLinked, serials_of}
+use Rattle.nv_driver.specs.inner.Linked.{IsLinked, serials_of}
 use Rattle.nv_driver.specs.QueuePair.{QueuePair, idle_bank, renewed_pair}
 use Rattle.nv_driver.specs.Registers.{mps_of}
 use Rattle.nv_driver.specs.Settled.{DriverValue}

@@ -10,7 +10,7 @@ use Rattle.nv_host.proofs.PageLaws.{page_size_bounds}
 use Rattle.nv_host.specs.Pages.{PagedBytes}
 use Rattle.nv_queue.specs.Slots.{HoldsTags}
 use Rattle.nv_driver.specs.Driver.{IsDriver, driver_value, driver_with, page_count}
-use Rattle.nv_driver.specs.Exchange.{KeepsOthers}
+use Rattle.nv_driver.specs.inner.Exchange.{KeepsOthers}
 use Rattle.nv_driver.specs.Geometry.{IsGeometry}
 use Rattle.nv_driver.specs.QueuePair.{IsLaid, QueuePair}
 use Rattle.nv_driver.specs.Layout.{completion_pages, pair_of, pair_pages, pairs_of, pages_of, set_pages}

@@ -13,8 +13,10 @@ use Rattle.std.specs.Cmp.{nat_cmp_total}
 use Rattle.std.specs.FinSet as set
 use Rattle.std.specs.FinSet.{nat_cmp-IsAntisymmetric}
 use Rattle.std.specs.List.{list_any}
-use Rattle.nv_host.specs.PageSets.{IsOf, Pages, consecutive, contains_of_insert, contains_of_remove}
-use Rattle.nv_driver.specs.CommandPages.{AreLowest, AreTaken, with_pages, without}
+use Rattle.nv_host.specs.PageSets.{IsOf, Pages, consecutive}
+use Rattle.nv_host.specs.inner.PageSets.{contains_of_insert, contains_of_remove}
+use Rattle.nv_driver.specs.inner.CommandPages.{AreLowest, with_pages}
+use Rattle.nv_driver.specs.CommandPages.{AreTaken, without}
 
 abbrev pub Numbers : Type 0
 Numbers = set.FinSet nat_cmp

@@ -5,10 +5,11 @@ use Rattle.std.proofs.Math.Nat.{mul-le-mul_right}
 use Rattle.nv_host.specs.PageSets.{IsOf, Pages}
 use Rattle.nv_prp.specs.Buffer.{IsApart}
 use Rattle.nv_queue.specs.Rings.{CollectNumbers}
-use Rattle.nv_model.specs.Limit.{limit_of}
+use Rattle.nv_model.specs.Conditions.{limit_of}
 use Rattle.nv_model.specs.State.{State}
 use Rattle.nv_bus.specs.Bus.{BusValue}
-use Rattle.nv_driver.specs.Exchange.{IsReady, KeepsOthers}
+use Rattle.nv_driver.specs.Exchange.{IsReady}
+use Rattle.nv_driver.specs.inner.Exchange.{KeepsOthers}
 use Rattle.nv_driver.specs.Keeping.{OthersStay}
 use Rattle.nv_driver.specs.Quiet.{IsQuiet, pair_value}
 use Rattle.nv_driver.specs.Schedule.{bank_with, device_rings, AreOutside, IsIdle, Sent, Setting, World, collect_ring}

@@ -13,7 +13,9 @@ use Rattle.nv_layout.proofs.RecordLaws.{length-bytes_of_cqe, length-bytes_of_sqe
 use Rattle.nv_layout.specs.Sqe.{bytes_of_sqe, sqe_of_bytes}
 use Rattle.nv_layout.specs.declared.cqe.Cqe.{Cqe}
 use Rattle.nv_layout.specs.declared.sqe.Sqe.{Sqe}
-use Rattle.nv_prp.specs.Buffer.{ChangesOnly, IsApart, IsBuffer, IsOutside, buffer_place, buffer_places, KeepsList}
+use Rattle.nv_prp.specs.inner.Buffer.{ChangesOnly}
+use Rattle.nv_prp.specs.Buffer.{IsApart, IsBuffer, IsOutside, buffer_place, buffer_places}
+use Rattle.nv_prp.specs.Buffer.{KeepsList}
 use Rattle.nv_prp.proofs.BufferLaws.{buffer_distinct}
 use Rattle.nv_prp.specs.Place.{AreDistinct, read_at, written_at}
 use Rattle.nv_prp.proofs.PlaceLaws.{get_or-bytes_at, get_or-table, length-read_at, length-table, part_stays}

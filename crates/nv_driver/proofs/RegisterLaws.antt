@@ -9,7 +9,7 @@ use Rattle.std.proofs.lemmas.List.{get_or-map, get_or-set_other, get_or-set_same
 use Rattle.std.proofs.lemmas.List.{same_lists, set-set}
 use Rattle.std.proofs.lemmas.List.FromFn.{get_or-map-range_with_len, length-map-range_with_len}
 use Rattle.nv_host.specs.Pages.{IsPageSize}
-use Rattle.nv_layout.specs.Parts.{bits}
+use Rattle.nv_layout.specs.Bits.{bits}
 use Rattle.nv_register.specs.Dwords.{aqa_of_dword, cc_of_dword}
 use Rattle.nv_register.specs.RegisterBank.{can_start, new_bank, new_rings, with_cc, with_high, with_low}
 use Rattle.nv_register.specs.RegisterBank.{with_register_at}
@@ -21,7 +21,8 @@ use Rattle.nv_bus.specs.Bus.{bank_at}
 use Rattle.nv_driver.specs.Geometry.{IsGeometry}
 use Rattle.nv_driver.specs.QueuePair.{QueuePair, idle_bank}
 use Rattle.nv_driver.specs.Layout.{pair_of, pair_pages, pairs_of, submission_pages}
-use Rattle.nv_driver.specs.Registers.{HasQueues, disabled, idle_banks, mps_of, with_queues}
+use Rattle.nv_driver.specs.inner.Registers.{HasQueues, disabled, with_queues}
+use Rattle.nv_driver.specs.Registers.{idle_banks, mps_of}
 use Rattle.nv_driver.specs.declared.error.DriverError.{DriverError}
 use Rattle.nv_driver.specs.declared.geometry.Geometry.{Geometry}
 

@@ -11,7 +11,7 @@ use Rattle.nv_layout.specs.Steps.{◌>>=◌}
 use Rattle.nv_bus.specs.Call.{HasRoom, moves_of, within}
 use Rattle.nv_bus.proofs.CallLaws.{within_few}
 use Rattle.nv_model.proofs.LimitLaws.{limit_bounds}
-use Rattle.nv_model.specs.Limit.{limit_of}
+use Rattle.nv_model.specs.Conditions.{limit_of}
 use Rattle.nv_driver.specs.Request.{CanBeSent, EveryCommandIsRequest, IsRequest, entry_as, request_of}
 use Rattle.nv_driver.proofs.DataLaws.{HasShape, most, shape}
 

@@ -10,11 +10,12 @@ use Rattle.nv_queue.specs.Slots.{HoldsTags}
 use Rattle.nv_register.specs.RegisterBank.{new_bank}
 use Rattle.nv_register.specs.Readiness.{is_enabled}
 use Rattle.nv_register.specs.declared.register_bank.RegisterBank.{RegisterBank}
-use Rattle.nv_model.specs.Reset.{reset, reset_if, reset_where}
+use Rattle.nv_model.specs.Step.{reset, reset_if, reset_where}
 use Rattle.nv_model.proofs.ResetLaws.{reset_first, reset_first_more}
 use Rattle.nv_model.specs.State.{State}
 use Rattle.nv_bus.specs.Bus.{BusValue, IsBus, enabled_in, bank_at}
-use Rattle.nv_driver.specs.Exchange.{KeepsOthers, IsReady}
+use Rattle.nv_driver.specs.inner.Exchange.{KeepsOthers}
+use Rattle.nv_driver.specs.Exchange.{IsReady}
 use Rattle.nv_driver.specs.QueuePair.{IsLaid, QueuePair, idle_bank, renewed_pair}
 use Rattle.nv_driver.specs.Quiet.{IsQuiet, pair_value}
 use Rattle.nv_driver.specs.declared.queue_pair.QueuePair.{QueuePair as QueuePairFields}

@@ -15,7 +15,8 @@ use Rattle.nv_bus.specs.Turn as T
 use Rattle.nv_bus.specs.Turn.{BankTurn, site}
 use Rattle.nv_driver.specs.Batch.{state_after}
 use Rattle.nv_driver.specs.Schedule.{Bell, Happens, Tell, Turn, bank_with, collect_ring, device_rings, slot}
-use Rattle.nv_driver.specs.UnderWay.{Course, IsBusOf, IsUnderWay, Run, left_of, setting_of, world_at}
+use Rattle.nv_driver.specs.UnderWay.{Course, IsUnderWay, Run, setting_of, world_at}
+use Rattle.nv_driver.specs.inner.UnderWay.{IsBusOf, left_of}
 use Rattle.nv_driver.specs.declared.batch.Batch.{Batch}
 use Rattle.nv_driver.specs.declared.queue_pair.QueuePair.{QueuePair as QueuePairFields}
 use Rattle.nv_driver.proofs.BatchLaws.{state_is}

@@ -13,7 +13,8 @@ use Rattle.nv_prp.proofs.BufferLaws.{rest_distinct}
 use Rattle.nv_prp.specs.Place.{AreDistinct, written_at}
 use Rattle.nv_prp.specs.Transfer.{transfer}
 use Rattle.nv_command.specs.Command.{bytes_from_host}
-use Rattle.nv_driver.specs.CommandPages.{AreTaken, all_pages, data_pages}
+use Rattle.nv_driver.specs.CommandPages.{AreTaken, data_pages}
+use Rattle.nv_driver.specs.inner.CommandPages.{all_pages}
 use Rattle.nv_driver.specs.Geometry.{IsGeometry}
 use Rattle.nv_driver.specs.Layout.{offset_for, pages_of_command}
 use Rattle.nv_bus.specs.Call.{sent_from}

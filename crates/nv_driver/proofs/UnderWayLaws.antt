@@ -16,17 +16,19 @@ use Rattle.nv_queue.specs.Rings.{IsSubmitFull, submitted_one}
 use Rattle.nv_queue.specs.Slots.{with_submission}
 use Rattle.nv_command.specs.declared.command.Command.{Command}
 use Rattle.nv_model.specs.Step.{next_serial}
-use Rattle.nv_model.specs.Limit.{limit_of}
+use Rattle.nv_model.specs.Conditions.{limit_of}
 use Rattle.nv_model.proofs.LimitLaws.{limit_bounds}
 use Rattle.nv_driver.specs.Batch.{numbered_command}
-use Rattle.nv_driver.specs.CommandPages.{AreTaken, all_pages, without}
+use Rattle.nv_driver.specs.CommandPages.{AreTaken, without}
+use Rattle.nv_driver.specs.inner.CommandPages.{all_pages}
 use Rattle.nv_driver.specs.Exchange.{IsReady}
 use Rattle.nv_driver.specs.Keeping.{AreInOrder}
 use Rattle.nv_driver.specs.Layout.{pages_of_command}
 use Rattle.nv_driver.specs.Request.{CanBeSent}
 use Rattle.nv_driver.specs.Schedule.{AreOutside, Happens, MaySubmit, Sent, Submit, World}
 use Rattle.nv_driver.specs.Schedule.{entry, numbered, own_pages, slot, submit_ring}
-use Rattle.nv_driver.specs.Submitting.{IsSubmitted, sent_by}
+use Rattle.nv_driver.specs.inner.Submitting.{IsSubmitted}
+use Rattle.nv_driver.specs.Submitting.{sent_by}
 use Rattle.nv_driver.specs.UnderWay.{IsKept, IsUnderWay, Run, kept_at, numbered_of, pages_of_all, pair_at, serial_at}
 use Rattle.nv_driver.specs.UnderWay.{setting_of, world_at}
 use Rattle.nv_driver.specs.declared.batch.Batch.{Batch}

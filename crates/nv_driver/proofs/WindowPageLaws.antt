@@ -12,7 +12,8 @@ use Rattle.std.proofs.lemmas.List.Elements.{All-append}
 use Rattle.std.proofs.lemmas.List.Folds.{list_any-append}
 use Rattle.std.specs.FinSet as set
 use Rattle.nv_host.specs.PageSets.{IsOf, Pages}
-use Rattle.nv_driver.specs.CommandPages.{AreTaken, with_pages, without}
+use Rattle.nv_driver.specs.CommandPages.{AreTaken, without}
+use Rattle.nv_driver.specs.inner.CommandPages.{with_pages}
 use Rattle.nv_driver.specs.Schedule.{Sent, own_pages}
 use Rattle.nv_driver.specs.UnderWay.{pages_of_all}
 use Rattle.nv_driver.proofs.PageSetLaws.{Taking, difference_in, in_all, is_in, left_in, not_before, not_in, same_pages}

@@ -1,6 +1,6 @@
 -- A list of commands of one controller, one at a time.
 use Rattle.std.specs.Prelude.{ℕ, List, [], ◌∷◌, Ok}
-use Rattle.nv_command.specs.Command.{namespace_of}
+use Rattle.nv_command.specs.Form.{namespace_of}
 use Rattle.nv_command.specs.declared.command.Command.{Command}
 use Rattle.nv_model.specs.State.{State}
 use Rattle.nv_model.specs.Step.{next_serial}

@@ -1,12 +1,8 @@
 -- The pages of a command.
-use Rattle.std.specs.Prelude.{◌≡◌, ◌≢◌, ℕ, ◌+◌, ◌<◌, All, AllPairs, List, drop, take, true}
+use Rattle.std.specs.Prelude.{◌≡◌, ◌≢◌, ℕ, All, AllPairs, List, drop, take, true}
 use Rattle.std.specs.FinSet as set
 use Rattle.nv_host.specs.PageSets.{IsOf, Pages}
 use Rattle.nv_driver.specs.declared.command_pages.CommandPages.{CommandPages}
-
--- all of them: the two of a list, and then those of the data
-abbrev pub all_pages : CommandPages → List ℕ
-all_pages p = take (p.data_pages + 2) p.numbers
 
 abbrev pub data_pages : CommandPages → List ℕ
 data_pages p = take p.data_pages (drop 2 p.numbers)
@@ -20,11 +16,3 @@ pub record AreTaken (s : Pages) (pages : List ℕ) : Type 0 where
 -- a set without these pages, and with them
 abbrev pub without : Pages → List ℕ → Pages
 without s pages = record s { members = set.difference s.members (set.from_list pages) }
-
-abbrev pub with_pages : Pages → List ℕ → Pages
-with_pages s pages = record s { members = set.union s.members (set.from_list pages) }
-
--- the lowest pages of a set, in order
-pub record AreLowest (s : Pages) (pages : List ℕ) : Type 0 where
-  pub order : AllPairs (λ p q. p < q) pages
-  pub lowest : All (λ p. (q : ℕ) → set.contains (without s pages).members q ≡ true → p < q) pages

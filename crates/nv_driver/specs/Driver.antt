@@ -1,6 +1,6 @@
 -- What a driver stands for, by its fields, and what holds of them between two calls.
-use Rattle.std.specs.Prelude.{◌≡◌, ℕ, ◌+◌, ◌*◌, ◌/◌, ◌<◌, ◌≤◌, ◌^◌, All, List, length, map, slice_index_or, Option, None, Some}
-use Rattle.std.specs.Prelude.{slice_set}
+use Rattle.std.specs.Prelude.{◌≡◌, ℕ, ◌+◌, ◌*◌, ◌/◌, ◌<◌, ◌≤◌, ◌^◌, All, List, length, map}
+use Rattle.std.specs.Prelude.{slice_index_or, slice_set}
 use Rattle.nv_host.specs.Pages.{PagedBytes}
 use Rattle.nv_driver.specs.Exchange.{after_one, after_some}
 use Rattle.nv_driver.specs.Geometry.{IsGeometry}
@@ -8,10 +8,7 @@ use Rattle.nv_driver.specs.QueuePair.{QueuePair, renewed_pair}
 use Rattle.nv_driver.specs.Layout.{pages_of_entry, pair_of, pairs_of, pages_of}
 use Rattle.nv_driver.specs.Quiet.{IsQuiet, pair_value}
 use Rattle.nv_driver.specs.Settled.{DriverValue, IsSettled}
-use Rattle.nv_driver.specs.declared.error.DriverError.{DriverError}
-use Rattle.nv_driver.specs.declared.error.DriverError.TheVariants as error
 use Rattle.nv_driver.specs.declared.geometry.Geometry.{Geometry}
-use Rattle.nv_driver.specs.declared.geometry_field.GeometryField.{GeometryField}
 use Rattle.nv_driver.specs.declared.queue_pair.QueuePair.{QueuePair as QueuePairFields}
 
 -- how many pages a memory has
@@ -78,10 +75,3 @@ after_commands d c n = record d { pairs = slice_set d.pairs c (after_some n (pai
 -- the driver after a reset of controller c
 abbrev pub after_reset : DriverValue → ℕ → DriverValue
 after_reset d c = record d { pairs = slice_set d.pairs c (renewed_pair (pair_at d.pairs c)) }
-
--- ---- none
-
--- why there is no driver: the first field of the geometry that is out of its limits, or want of memory
-abbrev pub error_without : Option GeometryField → DriverError
-error_without (Some field) = error.Geometry field
-error_without None = error.Memory

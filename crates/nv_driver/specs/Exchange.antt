@@ -1,18 +1,15 @@
 -- What commands of a driver need of a queue pair, and what they leave.
-use Rattle.std.specs.Prelude.{◌≡◌, ℕ, ◌+◌, ◌-◌, ◌*◌, ◌%◌, ◌<◌, ◌≤◌, List, length}
-use Rattle.nv_host.specs.Bytes.{bytes_at}
-use Rattle.nv_prp.specs.Buffer.{IsApart}
+use Rattle.std.specs.Prelude.{◌≡◌, ℕ, ◌+◌, ◌*◌, ◌%◌, ◌<◌, ◌≤◌, List, length}
 use Rattle.nv_queue.specs.Numbers.{kept_number, next}
 use Rattle.nv_queue.specs.Slots.{HoldsTags}
 use Rattle.nv_model.specs.Step.{next_serial}
-use Rattle.nv_model.specs.Numbers.{serial_count}
+use Rattle.nv_model.specs.Ranges.{serial_count}
 use Rattle.nv_bus.specs.Bus.{BusValue, IsBus, bank_at}
 use Rattle.nv_driver.specs.Geometry.{IsGeometry}
 use Rattle.nv_driver.specs.QueuePair.{IsLaid, QueuePair, idle_bank}
 use Rattle.nv_driver.specs.Layout.{pages_of_command}
 use Rattle.nv_driver.specs.Quiet.{IsQuiet, pair_value}
 use Rattle.nv_driver.specs.Registers.{mps_of}
-use Rattle.nv_driver.specs.Settled.{end_of}
 use Rattle.nv_driver.specs.declared.geometry.Geometry.{Geometry}
 use Rattle.nv_driver.specs.declared.queue_pair.QueuePair.{QueuePair as QueuePairFields}
 
@@ -39,9 +36,3 @@ after_one l = record l { number = next l.depth l.number; serial = next_serial l.
 abbrev pub after_some : ℕ → QueuePair → QueuePair
 after_some n l =
     record l { number = kept_number l.depth (l.number + n); serial = (l.serial + n) % serial_count }
-
--- bytes outside the queue pair stay
-abbrev pub KeepsOthers : ℕ → QueuePair → List ℕ → List ℕ → Type 0
-KeepsOthers page_size l old new =
-    (from n : ℕ) → IsApart l.sq (end_of page_size l - l.sq) from n → bytes_at new from n
-    ≡ bytes_at old from n

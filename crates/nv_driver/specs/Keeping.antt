@@ -6,7 +6,7 @@ use Rattle.nv_prp.specs.Buffer.{IsApart}
 use Rattle.nv_prp.specs.Place.{AreDistinct}
 use Rattle.nv_queue.specs.Numbers.{IsDepth}
 use Rattle.nv_queue.specs.Slots.{HoldsTags, submission_at}
-use Rattle.nv_model.specs.Limit.{limit_of}
+use Rattle.nv_model.specs.Conditions.{limit_of}
 use Rattle.nv_model.specs.State.{State}
 use Rattle.nv_model.specs.WellFormed.{IsWellFormed}
 use Rattle.nv_driver.specs.Request.{IsRequest}

@@ -3,7 +3,7 @@
 use Rattle.std.specs.Prelude.{ℕ, ◌+◌, ◌*◌, ◌==◌, List, if◌then◌else◌, map}
 use Rattle.std.specs.Int.{div_ceil}
 use Rattle.std.specs.List.{range_with_len}
-use Rattle.nv_model.specs.Limit.{greatest_limit}
+use Rattle.nv_model.specs.Conditions.{greatest_limit}
 use Rattle.nv_driver.specs.QueuePair.{QueuePair}
 use Rattle.nv_driver.specs.declared.geometry.Geometry.{Geometry}
 
@@ -18,10 +18,6 @@ completion_pages g = div_ceil (16 * g.depth) g.page_size
 -- the most bytes that a command's data has
 abbrev pub most_bytes : ℕ
 most_bytes = 16384
-
--- in how many pages they lie at most
-abbrev pub most_data_pages : ℕ
-most_data_pages = 5
 
 -- where data of so many bytes begins in its first page
 abbrev pub offset_for : Geometry → ℕ → ℕ

@@ -16,6 +16,5 @@ pub mod Exchange
 pub mod Batch
 pub mod UnderWay
 pub mod Alone
-pub mod Pace
 pub mod Driver
-pub mod Linked
+pub mod inner

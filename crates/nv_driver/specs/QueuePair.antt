@@ -4,7 +4,7 @@ use Rattle.nv_queue.specs.Numbers.{IsDepth}
 use Rattle.nv_register.specs.declared.register_bank.RegisterBank.{RegisterBank}
 use Rattle.nv_register.specs.declared.readiness.Readiness.TheVariants.{Ready}
 use Rattle.nv_register.specs.declared.rings.Rings.{Rings}
-use Rattle.nv_model.specs.Numbers.{serial_count}
+use Rattle.nv_model.specs.Ranges.{serial_count}
 
 -- where its rings and its pages lie, and of its next command the number, as the rings keep it, and
 -- the command identifier

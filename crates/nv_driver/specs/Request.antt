@@ -3,15 +3,16 @@ use Rattle.std.specs.Prelude.{◌≡◌, ℕ, ◌<◌, ◌≤◌, ◌^◌, ◌++
 use Rattle.std.specs.Prelude.{take}
 use Rattle.nv_layout.specs.Sqe.{SqeFits}
 use Rattle.nv_layout.specs.declared.sqe.Sqe.{Sqe}
-use Rattle.nv_command.specs.Command.{CommandFits, bytes_from_host, host_data_of, namespace_of}
-use Rattle.nv_command.specs.Command.{transfer_by}
+use Rattle.nv_command.specs.Command.{CommandFits, bytes_from_host, host_data_of, transfer_by}
+use Rattle.nv_command.specs.Form.{namespace_of}
 use Rattle.nv_command.specs.Entry.{entry_of}
-use Rattle.nv_command.specs.Logs.{IsSendable, answer_received}
+use Rattle.nv_command.specs.Logs.{IsSendable}
+use Rattle.nv_command.specs.Received.{answer_received}
 use Rattle.nv_command.specs.declared.command.Command.{Command}
 use Rattle.nv_command.specs.declared.status_code.StatusCode.{StatusCode}
 use Rattle.nv_command.specs.declared.transfer.Transfer.{Transfer}
 use Rattle.nv_command.specs.declared.transfer.Transfer.TheVariants.{NoData}
-use Rattle.nv_model.specs.Limit.{greatest_limit, limit_of}
+use Rattle.nv_model.specs.Conditions.{greatest_limit, limit_of}
 use Rattle.nv_model.specs.State.{State}
 use Rattle.nv_model.specs.WellFormed.{IsWellFormed}
 use Rattle.nv_bus.specs.Call.{HasRoom, asked_by, moves_of}

@@ -10,7 +10,7 @@ use Rattle.nv_layout.specs.declared.sqe.Sqe.{Sqe}
 use Rattle.nv_layout.specs.declared.status.Status.{Status}
 use Rattle.nv_prp.specs.Buffer.{IsApart, IsBuffer, IsListPlace, IsOutside, StaysFor, buffer_places}
 use Rattle.nv_prp.specs.Place.{AreDistinct, read_at}
-use Rattle.nv_prp.specs.Transfer.{PrpTransfer, data_pages, transfer}
+use Rattle.nv_prp.specs.Transfer.{PrpTransfer, transfer}
 use Rattle.nv_queue.specs.Numbers.{IsDepth, kept_number, slot_of}
 use Rattle.nv_queue.specs.Rings.{CollectNumbers, SubmitNumbers}
 use Rattle.nv_queue.specs.Slots.{HoldsTags, IsAwaitedThere, awaited_completion, completion_at}
@@ -25,7 +25,7 @@ use Rattle.nv_register.specs.RegisterBank.{with_register_at}
 use Rattle.nv_register.specs.declared.register_bank.RegisterBank.{RegisterBank}
 use Rattle.nv_register.specs.declared.rings.Rings.{Rings}
 use Rattle.nv_model.specs.State.{State}
-use Rattle.nv_model.specs.Limit.{limit_of}
+use Rattle.nv_model.specs.Conditions.{limit_of}
 use Rattle.nv_model.specs.Step.{Step}
 use Rattle.nv_model.specs.WellFormed.{IsWellFormed}
 use Rattle.nv_bus.specs.Call.{length_of, sent_from}
@@ -205,12 +205,6 @@ pointed page_size x mem = transfer page_size mem x.prp1 x.prp2 (data_length x)
 abbrev pub StaysNamed : ℕ → Sent → List ℕ → Type 0
 StaysNamed page_size x mem =
     0 < data_length x → StaysFor (pointed page_size x mem) x.pages x.offset x.first x.second
-
--- a list, if the data pointer has one, begins at its place
-abbrev pub IsListedAtPlace : ℕ → Sent → List ℕ → Type 0
-IsListedAtPlace page_size x mem =
-    0 < data_length x → 2 < data_pages (pointed page_size x mem)
-    → x.prp2 ≡ x.first * page_size + x.list_offset
 
 -- the command's pages were made ready: they hold what the host sends, and its data pointer
 pub record IsPrepared (page_size : ℕ) (x : Sent) (old new : List ℕ) : Type 0 where

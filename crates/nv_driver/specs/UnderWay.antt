@@ -1,15 +1,14 @@
 -- A list of commands of one controller on its way, of which several are outstanding.
-use Rattle.std.specs.Prelude.{◌≡◌, ℕ, ◌+◌, ◌-◌, ◌*◌, ◌%◌, ◌<◌, ◌≤◌, All, List, [], ◌++◌, ◌∷◌}
-use Rattle.std.specs.Prelude.{Option, None, Some, drop, length, map, min, slice_index_or}
-use Rattle.std.specs.Prelude.{slice_set, take}
+use Rattle.std.specs.Prelude.{◌≡◌, ℕ, ◌+◌, ◌*◌, ◌%◌, ◌<◌, ◌≤◌, All, List, [], ◌++◌, ◌∷◌, Option, None}
+use Rattle.std.specs.Prelude.{Some, drop, length, map, slice_index_or, take}
 use Rattle.nv_host.specs.PageSets.{IsOf}
 use Rattle.nv_command.specs.declared.command.Command.{Command}
 use Rattle.nv_register.specs.declared.register_bank.RegisterBank.{RegisterBank}
-use Rattle.nv_model.specs.Limit.{limit_of}
-use Rattle.nv_model.specs.Numbers.{serial_count}
+use Rattle.nv_model.specs.Conditions.{limit_of}
+use Rattle.nv_model.specs.Ranges.{serial_count}
 use Rattle.nv_model.specs.State.{State}
-use Rattle.nv_bus.specs.Bus.{BusValue, IsBus, bank_at}
-use Rattle.nv_driver.specs.Batch.{answers_of, from_serial, state_after}
+use Rattle.nv_bus.specs.Bus.{BusValue}
+use Rattle.nv_driver.specs.Batch.{from_serial}
 use Rattle.nv_driver.specs.CommandPages.{AreTaken, without}
 use Rattle.nv_driver.specs.Exchange.{IsReady}
 use Rattle.nv_driver.specs.Keeping.{Keeps, OthersStay}
@@ -19,8 +18,7 @@ use Rattle.nv_driver.specs.Quiet.{pair_value}
 use Rattle.nv_driver.specs.Registers.{mps_of}
 use Rattle.nv_driver.specs.Answer.{Answer}
 use Rattle.nv_driver.specs.Request.{CanBeSent}
-use Rattle.nv_driver.specs.Schedule.{Numbered, Sent, Setting, World}
-use Rattle.nv_driver.specs.Schedule.{collect_ring, device_rings, numbered, own_pages, bank_with}
+use Rattle.nv_driver.specs.Schedule.{Numbered, Sent, Setting, World, collect_ring, numbered, own_pages}
 use Rattle.nv_driver.specs.Schedule.{submit_ring}
 use Rattle.nv_driver.specs.Submitting.{sent_by}
 use Rattle.nv_driver.specs.declared.batch.Batch.{Batch}
@@ -146,24 +144,6 @@ pub record IsUnderWay (r : Run) (bells turns : ℕ) (b : Batch) (l : QueuePairFi
   pub others : OthersStay (setting_of r) 0 r.bytes (world_at course bells turns b.told bytes)
   pub collected : length course.answers ≡ b.collected
   pub pair : l ≡ pair_at r b.sent b.collected b.told (pages_of_all (drop b.collected course.sent))
-
--- the bus where so many commands were told, done, and told to be collected
-pub record IsBusOf (r : Run) (rung done told : ℕ) (b : BusValue) : Type 0 where
-  pub bus : IsBus b
-  pub state : b.state ≡ state_after r.controller r.bus.state r.pair.serial (take done r.commands)
-  pub bank : bank_at b.banks r.controller
-      ≡ bank_with (setting_of r) (device_rings (setting_of r) rung done told)
-  pub banks : b.banks ≡ slice_set r.bus.banks r.controller (bank_at b.banks r.controller)
-
--- the first answers are those of one command at a time
-pub record HasAnswers (r : Run) (collected : ℕ) (answers : List Answer) : Type 0 where
-  pub len : length answers ≡ length r.commands
-  pub first : take collected answers
-      ≡ take collected (answers_of r.controller r.bus.state r.pair.serial r.commands)
-
--- what is to do yet, of so many commands
-abbrev pub left_of : ℕ → Batch → ℕ
-left_of n b = 2 * (n - b.collected) + min 1 (b.collected - b.told)
 
 -- a run, and of how many of its commands the completions were posted
 pub record Moment : Type 0 where

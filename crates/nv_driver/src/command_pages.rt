@@ -3,9 +3,9 @@
 ghost use Rattle.std.specs.Prelude.{◌≡◌, ◌≢◌, ◌+◌, ◌≤◌, All, AllPairs, false, length, slice_index};
 ghost use Rattle.std.specs.FinSet as set;
 ghost use Rattle.nv_host.specs.PageSets.{IsOf};
-ghost use Rattle.nv_driver.specs.CommandPages.{AreLowest, AreTaken, all_pages, data_pages};
-ghost use Rattle.nv_driver.specs.CommandPages.{with_pages, without};
-ghost use Rattle.nv_driver.specs.Layout.{most_data_pages};
+ghost use Rattle.nv_driver.specs.inner.CommandPages.{AreLowest, all_pages, with_pages};
+ghost use Rattle.nv_driver.specs.CommandPages.{AreTaken, data_pages, without};
+ghost use Rattle.nv_driver.specs.inner.Layout.{most_data_pages};
 
 use crate::data_place::{buffer_in, list_in};
 use nv_host::{PageNo, PageSet};

@@ -1,7 +1,7 @@
 //! The place of an entry's data: pages of the host's memory, the first two of which are for a list.
 
 ghost use Rattle.std.specs.Prelude.{◌≡◌, ◌+◌, ◌*◌, ◌<◌, ◌≤◌, ◌∷◌, drop, length, slice_index, take};
-ghost use Rattle.nv_model.specs.Limit.{greatest_limit};
+ghost use Rattle.nv_model.specs.Conditions.{greatest_limit};
 ghost use Rattle.nv_prp.specs.Buffer.{IsBuffer, IsListPlace, KeepsOutside, StaysFor};
 ghost use Rattle.nv_prp.specs.Place.{AreDistinct};
 ghost use Rattle.nv_prp.specs.Transfer.{data_pages as pages_of, transfer};

@@ -4,8 +4,9 @@ ghost use Rattle.std.specs.Prelude.{◌≡◌, ◌≢◌, ◌<◌, ◌≤◌, �
 ghost use Rattle.std.specs.Prelude.{length};
 ghost use Rattle.nv_bus.specs.Bus.{IsBus, enabled_in};
 ghost use Rattle.nv_command.specs.Command.{CommandFits};
-ghost use Rattle.nv_command.specs.Logs.{IsSendable, answer_received};
-ghost use Rattle.nv_model.specs.Reset.{reset, reset_where};
+ghost use Rattle.nv_command.specs.Logs.{IsSendable};
+ghost use Rattle.nv_command.specs.Received.{answer_received};
+ghost use Rattle.nv_model.specs.Step.{reset, reset_where};
 ghost use Rattle.nv_model.specs.Step.{step};
 ghost use Rattle.nv_bus.specs.Entry.{told_by};
 ghost use Rattle.nv_layout.specs.Sqe.{SqeFits};

@@ -3,10 +3,10 @@
 ghost use Rattle.std.specs.Prelude.{◌≡◌, ℕ, ◌<◌, ◌≤◌, length};
 ghost use Rattle.nv_bus.specs.Call.{HasRoom, length_of};
 ghost use Rattle.nv_command.specs.Command.{bytes_from_host};
-ghost use Rattle.nv_model.specs.Limit.{greatest_limit};
+ghost use Rattle.nv_model.specs.Conditions.{greatest_limit};
 ghost use Rattle.nv_prp.specs.Buffer.{IsBuffer, buffer_places};
 ghost use Rattle.nv_prp.specs.Place.{read_at, written_at};
-ghost use Rattle.nv_driver.specs.Alone.{came_with};
+ghost use Rattle.nv_driver.specs.inner.Alone.{came_with};
 ghost use Rattle.nv_driver.specs.Request.{padded, sent_for, transfer_for};
 ghost use Rattle.nv_driver.specs.Schedule.{received_from};
 

@@ -1,7 +1,7 @@
 //! Where each controller's rings and pages lie in the host's memory.
 
 ghost use Rattle.std.specs.Prelude.{◌≡◌, ℕ, ◌+◌, ◌*◌, ◌^◌, ◌<◌, ◌≤◌, if◌then◌else◌};
-ghost use Rattle.nv_model.specs.Limit.{greatest_limit};
+ghost use Rattle.nv_model.specs.Conditions.{greatest_limit};
 ghost use Rattle.nv_driver.specs.Geometry.{IsGeometry};
 ghost use Rattle.nv_driver.specs.Layout.{completion_pages, pages_of_entry, pair_of, pair_pages, pages_of};
 ghost use Rattle.nv_driver.specs.Layout.{offset_for, pages_for, set_pages, submission_pages};

@@ -11,12 +11,12 @@ ghost use Rattle.nv_command.specs.Logs.{IsSendable};
 ghost use Rattle.nv_bus.specs.Call.{length_of};
 ghost use Rattle.nv_queue.specs.Numbers.{next, slot_of};
 ghost use Rattle.nv_queue.specs.Rings.{IsSubmitFull};
-ghost use Rattle.nv_model.specs.Numbers.{serial_count};
+ghost use Rattle.nv_model.specs.Ranges.{serial_count};
 ghost use Rattle.nv_driver.specs.CommandPages.{data_pages};
-ghost use Rattle.nv_driver.specs.Layout.{most_bytes, most_data_pages, offset_for};
-ghost use Rattle.nv_driver.specs.Layout.{pages_of_command};
+ghost use Rattle.nv_driver.specs.Layout.{most_bytes, offset_for, pages_of_command};
+ghost use Rattle.nv_driver.specs.inner.Layout.{most_data_pages};
 ghost use Rattle.nv_driver.specs.Request.{CanBeSent};
-ghost use Rattle.nv_driver.specs.Submitting.{IsSubmitted};
+ghost use Rattle.nv_driver.specs.inner.Submitting.{IsSubmitted};
 
 use crate::checked_geometry::CheckedGeometry;
 use crate::command_pages::CommandPages;

@@ -8,9 +8,9 @@ use Rattle.toml.specs.Data.{Members}
 use Rattle.nv_layout.specs.Steps.{◌>>=◌}
 use Rattle.nv_file.specs.declared.error.SubsystemError.{SubsystemError}
 use Rattle.nv_file.specs.Check.{Check, check, checked}
-use Rattle.nv_file.specs.Fault.{ensure}
+use Rattle.nv_file.specs.inner.Fault.{ensure}
 use Rattle.nv_file.specs.KeyChecks.{each}
-use Rattle.nv_file.specs.KeyReading.{readings}
+use Rattle.nv_file.specs.inner.KeyReading.{readings}
 
 branch : {A B : Type 0} (b : Bool) (r : Result A SubsystemError) (s : Result B SubsystemError)
     (e : SubsystemError) (f : A → Result B SubsystemError) → (r >>= f) ≡ s

@@ -2,24 +2,24 @@
 use Rattle.std.proofs.Common.{◌≡◌, ◌∙◌, ℕ, List, [], ◌++◌, Ok, refl, sym, ap, append_assoc}
 use Rattle.toml.specs.Data.{Members}
 use Rattle.nv_layout.specs.Steps.{◌>>=◌}
-use Rattle.nv_model.specs.Numbers.{greatest_integer}
+use Rattle.nv_model.specs.Ranges.{greatest_integer}
 use Rattle.nv_file.specs.declared.error.SubsystemError.TheVariants.{Attachment, Capacity}
 use Rattle.nv_file.specs.declared.table_name.TableName.TheVariants as table
 use Rattle.nv_file.specs.declared.key.Key.TheVariants as key
 use Rattle.nv_file.specs.Check.{Check, check, checked}
 use Rattle.nv_file.specs.File.{nn_of, top_checks, formats_of, controllers_of, namespaces_of, fits, attaches}
 use Rattle.nv_file.specs.File.{document, file, file_checks, file_value}
-use Rattle.nv_file.specs.FileReading.{Top, top_of, file_of}
+use Rattle.nv_file.specs.inner.FileReading.{Top, top_of, file_of}
 use Rattle.nv_file.specs.KeyChecks as row
 use Rattle.nv_file.specs.Names.{keys_of}
 use Rattle.nv_file.specs.TableChecks.{format_checks, format_value, controller_checks}
 use Rattle.nv_file.specs.TableChecks.{controller_value, namespace_checks, namespace_value}
-use Rattle.nv_file.specs.TableReading.{format_of, controller_entry_of, namespace_entry_of}
+use Rattle.nv_file.specs.inner.TableReading.{format_of, controller_entry_of, namespace_entry_of}
 use Rattle.nv_file.proofs.CheckLaws.{step, done, ensure_law, readings_law}
 use Rattle.nv_file.proofs.KeyLaws.{integer_law, integer_or_law, text_law, tables_law}
 use Rattle.nv_file.proofs.KeyLaws.{tables_or_none_law, only_law}
 use Rattle.nv_file.proofs.TableLaws.{format_law, controller_law, namespace_law}
-use Rattle.nv_layout.specs.NsList.{most_nsids}
+use Rattle.nv_layout.specs.Limits.{most_nsids}
 
 abbrev top_value : Members → Top
 top_value m = record {

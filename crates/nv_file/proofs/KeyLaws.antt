@@ -16,9 +16,9 @@ use Rattle.nv_file.specs.declared.key.Key.{Key}
 use Rattle.nv_file.specs.Names.{key_text}
 use Rattle.nv_file.specs.Check.{Check, check, checked}
 use Rattle.nv_file.specs.KeyChecks as row
-use Rattle.nv_file.specs.KeyReading.{in_range, integer_in_range, integer, integer_or, flag_or, text, tables}
-use Rattle.nv_file.specs.KeyReading.{tables_in, tables_or_none, table_or_none, integers_in}
-use Rattle.nv_file.specs.KeyReading.{integers_or_none, readings, element, only}
+use Rattle.nv_file.specs.inner.KeyReading.{in_range, integer_in_range, integer, integer_or, flag_or}
+use Rattle.nv_file.specs.inner.KeyReading.{text, tables, tables_in, tables_or_none, table_or_none}
+use Rattle.nv_file.specs.inner.KeyReading.{integers_in, integers_or_none, readings, element, only}
 use Rattle.nv_file.proofs.CheckLaws.{ensure_law, some_law}
 
 in_range_law : (t : TableName) (k : Key) (low high : ℕ) (z : ℤ)

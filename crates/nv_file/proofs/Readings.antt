@@ -7,8 +7,8 @@ use Rattle.nv_file.specs.declared.error.SubsystemError.TheVariants.{NotToml, Mis
 use Rattle.nv_file.specs.declared.error.SubsystemError.TheVariants.{Capacity, Attachment, Memory}
 use Rattle.nv_layout.specs.Steps.{◌>>=◌}
 use Rattle.nv_file.specs.Fault.{IsUnlessMemory}
-use Rattle.nv_file.specs.KeyReading.{readings}
-use Rattle.nv_file.specs.SectionView.{tables_view}
+use Rattle.nv_file.specs.inner.KeyReading.{readings}
+use Rattle.nv_file.specs.inner.SectionView.{tables_view}
 use Rattle.std.specs.Borrow.{Bor}
 use Rattle.toml.specs.Data.{Members}
 use Rattle.toml.specs.View.{table_view}

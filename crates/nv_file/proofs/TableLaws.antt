@@ -11,8 +11,8 @@ use Rattle.nv_model.specs.declared.defaults.Defaults.{Defaults}
 use Rattle.nv_model.specs.declared.defaults.Defaults.TheVariants.{One, Thresholds}
 use Rattle.nv_model.specs.declared.feature_rule.FeatureRule.{FeatureRule}
 use Rattle.nv_model.specs.declared.format.Format.{Format}
-use Rattle.nv_model.specs.Formats.{may_extend}
-use Rattle.nv_model.specs.Numbers.{greatest_integer}
+use Rattle.nv_model.specs.Conditions.{may_extend}
+use Rattle.nv_model.specs.Ranges.{greatest_integer}
 use Rattle.nv_file.specs.declared.table_name.TableName.{TableName}
 use Rattle.nv_file.specs.declared.table_name.TableName.TheVariants as table
 use Rattle.nv_file.specs.declared.key.Key.{Key}
@@ -21,17 +21,18 @@ use Rattle.nv_file.specs.FileValue.{ControllerValue, NamespaceValue}
 use Rattle.nv_file.specs.Check.{Check, checked}
 use Rattle.nv_file.specs.KeyChecks as row
 use Rattle.nv_file.specs.Names.{feature_keys, keys_of}
-use Rattle.nv_file.specs.KeyReading.{integer, integers_in_range_or_none}
+use Rattle.nv_file.specs.inner.KeyReading.{integer, integers_in_range_or_none}
 use Rattle.nv_file.specs.KeyChecks.{has_key}
 use Rattle.nv_file.specs.TableChecks as table_of
 use Rattle.nv_file.specs.TableChecks.{format_checks, format_value, feature_checks, feature_value}
 use Rattle.nv_file.specs.TableChecks.{smart_checks, smart_value, identity_checks, identity_value}
 use Rattle.nv_file.specs.TableChecks.{controller_checks, controller_value, namespace_checks}
 use Rattle.nv_file.specs.TableChecks.{namespace_value}
-use Rattle.nv_file.specs.TableReading.{format_of, thresholds_or, defaults_of, feature_of}
+use Rattle.nv_file.specs.inner.TableReading.{format_of, thresholds_or, defaults_of, feature_of}
+use Rattle.nv_file.specs.inner.TableReading.{counters_of, smart_of, smart_or_zero}
+use Rattle.nv_file.specs.inner.TableReading.{identity_numbers_of, identity_of, controller_entry_of}
+use Rattle.nv_file.specs.inner.TableReading.{namespace_entry_of}
 use Rattle.nv_file.specs.TableChecks.{default_over, nine}
-use Rattle.nv_file.specs.TableReading.{counters_of, smart_of, smart_or_zero, identity_numbers_of}
-use Rattle.nv_file.specs.TableReading.{identity_of, controller_entry_of, namespace_entry_of}
 use Rattle.nv_file.proofs.CheckLaws.{step, step_rule, step_some, done, last, ensure_law, readings_law}
 use Rattle.nv_file.proofs.KeyLaws.{integer_law, integer_or_law, flag_or_law, text_law}
 use Rattle.nv_file.proofs.KeyLaws.{tables_or_none_law, table_or_none_law, integers_or_none_law}

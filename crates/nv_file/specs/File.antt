@@ -9,7 +9,7 @@ use Rattle.std.specs.Str.{is_utf8}
 use Rattle.toml.specs.Data.{Members}
 use Rattle.toml.specs.Parse.{parse_document}
 use Rattle.nv_layout.specs.Steps.{◌>>=◌}
-use Rattle.nv_model.specs.Numbers.{greatest_integer}
+use Rattle.nv_model.specs.Ranges.{greatest_integer}
 use Rattle.nv_model.specs.declared.format.Format.{Format}
 use Rattle.nv_file.specs.declared.error.SubsystemError.{SubsystemError}
 use Rattle.nv_file.specs.declared.error.SubsystemError.TheVariants.{NotToml, Capacity, Attachment}
@@ -22,7 +22,7 @@ use Rattle.nv_file.specs.KeyChecks.{no_other, each, number_at, text_at, tables_a
 use Rattle.nv_file.specs.Names.{keys_of}
 use Rattle.nv_file.specs.TableChecks.{format_checks, format_value, controller_checks}
 use Rattle.nv_file.specs.TableChecks.{controller_value, namespace_checks, namespace_value}
-use Rattle.nv_layout.specs.NsList.{most_nsids}
+use Rattle.nv_layout.specs.Limits.{most_nsids}
 
 -- ---- the top table
 

@@ -9,7 +9,8 @@ use Rattle.nv_model.specs.declared.smart_base.SmartBase.{SmartBase}
 use Rattle.nv_file.specs.declared.controller.ControllerEntry.{ControllerEntry}
 use Rattle.nv_file.specs.declared.namespace.NamespaceEntry.{NamespaceEntry}
 use Rattle.nv_file.specs.declared.file.File.{File}
-use Rattle.nv_model.specs.Identity.{Identity, identity_view}
+use Rattle.nv_model.specs.State.{Identity}
+use Rattle.nv_model.specs.Codes.{identity_view}
 
 pub record ControllerValue : Type 0 where
   pub identity : Identity

@@ -1,11 +1,9 @@
 -- What holds of whatever a file gives.
-use Rattle.std.specs.Prelude.{◌≡◌, ◌≢◌, ℕ, pos, ◌≤◌, false, List, length, sum_by, IsSomeAnd, All}
-use Rattle.std.specs.Prelude.{Any, AllPairs, slice_get}
+use Rattle.std.specs.Prelude.{◌≡◌, ◌≢◌, ℕ, pos, ◌≤◌, false, List, length, sum_by, IsSomeAnd, All, Any}
+use Rattle.std.specs.Prelude.{AllPairs, slice_get}
 use Rattle.nv_model.specs.declared.format.Format.{Format}
 use Rattle.nv_file.specs.FileValue.{ControllerValue, NamespaceValue, FileValue}
-use Rattle.nv_file.specs.FileReading.{Top}
-use Rattle.nv_model.specs.Ranges.{AreTopKeys, IsFormat, IsFeatureRule, IsSmart, IsIdentity}
-use Rattle.nv_model.specs.Ranges.{IsInFormat}
+use Rattle.nv_model.specs.Ranges.{AreTopKeys, IsFormat, IsFeatureRule, IsSmart, IsIdentity, IsInFormat}
 
 pub record IsControllerEntry (c : ControllerValue) : Type 0 where
   pub identity : IsIdentity c.identity
@@ -22,13 +20,6 @@ pub record IsAttached (controllers : List ControllerValue) (n : NamespaceValue) 
   pub known : All (λ z. Any (λ c. pos c.identity.cntlid ≡ z) controllers) n.controllers
   pub distinct : AllPairs (λ y z. y ≢ z) n.controllers
   pub private : n.namespace.shared ≡ false → length n.controllers ≤ 1
-
-pub record IsTop (t : Top) : Type 0 where
-  pub version : (1 ≤ t.version) × (t.version ≤ 2)
-  pub keys : AreTopKeys t.nn t.tnvmcap t.mc t.subnqn
-  pub formats : (1 ≤ length t.formats) × (length t.formats ≤ 16)
-  pub controllers : (1 ≤ length t.controllers) × (length t.controllers ≤ 16)
-  pub namespaces : length t.namespaces ≤ t.nn
 
 pub record IsFile (f : FileValue) : Type 0 where
   pub keys : AreTopKeys f.nn f.tnvmcap f.mc f.subnqn

@@ -2,13 +2,9 @@ pub mod Check
 pub mod Fault
 pub mod FaultText
 pub mod File
-pub mod FileReading
 pub mod FileValue
 pub mod IsFile
 pub mod KeyChecks
-pub mod KeyReading
 pub mod Names
-pub mod SectionView
 pub mod TableChecks
-pub mod TableReading
-pub mod TopView
+pub mod inner

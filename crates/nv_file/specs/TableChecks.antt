@@ -11,9 +11,9 @@ use Rattle.nv_model.specs.declared.format.Format.{Format}
 use Rattle.nv_model.specs.declared.defaults.Defaults.TheVariants.{One, Thresholds}
 use Rattle.nv_model.specs.declared.feature_rule.FeatureRule.{FeatureRule}
 use Rattle.nv_model.specs.declared.smart_base.SmartBase.{SmartBase}
-use Rattle.nv_model.specs.Formats.{may_extend}
-use Rattle.nv_model.specs.Identity.{Identity}
-use Rattle.nv_model.specs.Numbers.{greatest_integer}
+use Rattle.nv_model.specs.Conditions.{may_extend}
+use Rattle.nv_model.specs.State.{Identity}
+use Rattle.nv_model.specs.Ranges.{greatest_integer}
 use Rattle.nv_file.specs.declared.table_name.TableName.TheVariants as table
 use Rattle.nv_file.specs.declared.key.Key.{Key}
 use Rattle.nv_file.specs.declared.key.Key.TheVariants as key

@@ -4,9 +4,9 @@ ghost use Rattle.std.specs.List.{list_any};
 ghost use Rattle.toml.specs.View.{table_view};
 ghost use Rattle.nv_file.specs.Fault.{IsUnlessMemory};
 ghost use Rattle.nv_file.specs.FileValue.{controller_entry_view};
-ghost use Rattle.nv_file.specs.KeyReading.{readings};
-ghost use Rattle.nv_file.specs.SectionView.{tables_view};
-ghost use Rattle.nv_file.specs.TableReading.{controller_entry_of};
+ghost use Rattle.nv_file.specs.inner.KeyReading.{readings};
+ghost use Rattle.nv_file.specs.inner.SectionView.{tables_view};
+ghost use Rattle.nv_file.specs.inner.TableReading.{controller_entry_of};
 ghost use Rattle.nv_file.specs.IsFile.{IsControllerEntry};
 
 use crate::error::SubsystemError;
@@ -30,7 +30,7 @@ pub struct ControllerEntry {
     pub smart: SmartBase,
 }
 
-#[tactic(auto, unfolding(crate::specs::TableReading::controller_entry_of))]
+#[tactic(auto, unfolding(crate::specs::inner::TableReading::controller_entry_of))]
 fn controller_entry_of(
     alloc: Global,
     version: u8,

@@ -2,10 +2,10 @@
 ghost use Rattle.std.specs.Prelude.{◌≡◌, ◌==◌, ◌&&◌, ◌≤◌, ℕ, true, not, All, IfOk, IsSomeAnd, length};
 ghost use Rattle.toml.specs.View.{table_view};
 ghost use Rattle.nv_layout.specs.Feature.{feature_of, is_value};
-ghost use Rattle.nv_model.specs.Defaults.{AreDefaults, AreThresholds, are_lists, default_at};
+ghost use Rattle.nv_model.specs.Values.{AreDefaults, AreThresholds, are_lists, default_at};
 ghost use Rattle.nv_file.specs.Fault.{IsUnlessMemory};
 ghost use Rattle.nv_file.specs.TableChecks.{default_over, nine};
-ghost use Rattle.nv_file.specs.TableReading.{defaults_of, thresholds_or};
+ghost use Rattle.nv_file.specs.inner.TableReading.{defaults_of, thresholds_or};
 
 use crate::error::SubsystemError;
 use crate::key::Key;
@@ -34,7 +34,7 @@ fn nine(numbers: &[u16]) -> [u16; 9]
 }
 
 /// What a key of Temperature Threshold holds, or what stands for it where it is missing.
-#[tactic(auto, unfolding(crate::specs::TableReading::thresholds_or))]
+#[tactic(auto, unfolding(crate::specs::inner::TableReading::thresholds_or))]
 fn thresholds_or(
     alloc: Global,
     default: [u16; 9],
@@ -69,7 +69,7 @@ fn default_over(wctemp: u16) -> [u16; 9]
 }
 
 /// The defaults of a feature, of which `value` is what stands at `default`.
-#[tactic(auto, unfolding(crate::specs::TableReading::defaults_of))]
+#[tactic(auto, unfolding(crate::specs::inner::TableReading::defaults_of))]
 pub(crate) fn defaults_of(
     alloc: Global,
     version: u8,

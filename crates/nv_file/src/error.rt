@@ -1,7 +1,7 @@
 //! Why a subsystem file was refused.
 ghost use Rattle.std.specs.Prelude.{◌≡◌, IfOk, true};
 ghost use Rattle.nv_file.specs.declared.error.SubsystemError.TheVariants.{Memory};
-ghost use Rattle.nv_file.specs.Fault.{ensure};
+ghost use Rattle.nv_file.specs.inner.Fault.{ensure};
 
 use crate::key::Key;
 use crate::table_name::TableName;
@@ -70,7 +70,7 @@ impl<T: Drop> From<AllocFailed<T>> for SubsystemError {
 }
 
 /// The fault, unless the rule holds.
-#[tactic(auto, unfolding(crate::specs::Fault::ensure))]
+#[tactic(auto, unfolding(crate::specs::inner::Fault::ensure))]
 pub(crate) fn ensure(holds: bool, fault: SubsystemError) -> Result<(), SubsystemError>
     ensures exact { result ≡ ensure holds fault }
     ensures sound { IfOk result (λ _. holds ≡ true) }

@@ -5,9 +5,9 @@ ghost use Rattle.toml.specs.View.{table_view};
 ghost use Rattle.nv_layout.specs.Feature.{is_value};
 ghost use Rattle.nv_file.specs.Fault.{IsUnlessMemory};
 ghost use Rattle.nv_file.specs.KeyChecks.{has_key};
-ghost use Rattle.nv_file.specs.KeyReading.{readings};
-ghost use Rattle.nv_file.specs.SectionView.{tables_view};
-ghost use Rattle.nv_file.specs.TableReading.{feature_of};
+ghost use Rattle.nv_file.specs.inner.KeyReading.{readings};
+ghost use Rattle.nv_file.specs.inner.SectionView.{tables_view};
+ghost use Rattle.nv_file.specs.inner.TableReading.{feature_of};
 ghost use Rattle.nv_model.specs.Ranges.{IsFeatureRule};
 
 use crate::defaults::defaults_of;
@@ -48,7 +48,7 @@ fn may_save(fid: u8, saveable: bool) -> bool
     !(saveable && fid == 0x05)
 }
 
-#[tactic(auto, unfolding(crate::specs::TableReading::feature_of))]
+#[tactic(auto, unfolding(crate::specs::inner::TableReading::feature_of))]
 fn feature_of(
     alloc: Global,
     version: u8,

@@ -4,7 +4,7 @@ ghost use Rattle.toml.specs.View.{table_view};
 ghost use Rattle.nv_file.specs.Fault.{IsUnlessMemory};
 ghost use Rattle.nv_file.specs.FileValue.{file_view};
 ghost use Rattle.nv_file.specs.File.{document, file};
-ghost use Rattle.nv_file.specs.FileReading.{file_of};
+ghost use Rattle.nv_file.specs.inner.FileReading.{file_of};
 ghost use Rattle.nv_file.specs.IsFile.{IsFile};
 
 use crate::attachment::attaches;
@@ -66,7 +66,7 @@ fn fits(tnvmcap: u64, namespaces: &[NamespaceEntry]) -> bool
     true
 }
 
-#[tactic(auto, using(crate::proofs::Fused::capacities), unfolding(crate::specs::FileReading::file_of))]
+#[tactic(auto, using(crate::proofs::Fused::capacities), unfolding(crate::specs::inner::FileReading::file_of))]
 fn file_of(alloc: Global, table: &Table) -> Result<File, SubsystemError>
     ensures exact { IsUnlessMemory file_view result (file_of (table_view table.now)) }
     ensures sound { IfOk result (λ f. IsFile (file_view f)) }

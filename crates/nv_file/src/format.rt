@@ -2,9 +2,9 @@
 ghost use Rattle.std.specs.Prelude.{◌≡◌, [], length, All, IfOk};
 ghost use Rattle.toml.specs.View.{table_view};
 ghost use Rattle.nv_file.specs.Fault.{IsUnlessMemory};
-ghost use Rattle.nv_file.specs.KeyReading.{readings};
-ghost use Rattle.nv_file.specs.SectionView.{tables_view};
-ghost use Rattle.nv_file.specs.TableReading.{format_of};
+ghost use Rattle.nv_file.specs.inner.KeyReading.{readings};
+ghost use Rattle.nv_file.specs.inner.SectionView.{tables_view};
+ghost use Rattle.nv_file.specs.inner.TableReading.{format_of};
 ghost use Rattle.nv_model.specs.Ranges.{IsFormat};
 
 use crate::error::SubsystemError;
@@ -15,7 +15,7 @@ use nv_model::Format;
 use std::alloc::Global;
 use toml::Table;
 
-#[tactic(auto, unfolding(crate::specs::TableReading::format_of))]
+#[tactic(auto, unfolding(crate::specs::inner::TableReading::format_of))]
 fn format_of(table: &Table) -> Result<Format, SubsystemError>
     ensures exact { result ≡ format_of (table_view table.now) }
     ensures sound { IfOk result IsFormat }

@@ -3,9 +3,9 @@ ghost use Rattle.std.specs.Prelude.{◌≡◌, ◌==◌, map, IfOk, false};
 ghost use Rattle.std.specs.List.{list_any};
 ghost use Rattle.toml.specs.View.{table_view};
 ghost use Rattle.nv_file.specs.Fault.{IsUnlessMemory};
-ghost use Rattle.nv_model.specs.Identity.{identity_view};
+ghost use Rattle.nv_model.specs.Codes.{identity_view};
 ghost use Rattle.nv_file.specs.FileValue.{controller_entry_view};
-ghost use Rattle.nv_file.specs.TableReading.{identity_numbers_of, identity_of};
+ghost use Rattle.nv_file.specs.inner.TableReading.{identity_numbers_of, identity_of};
 ghost use Rattle.nv_model.specs.Ranges.{IsIdentityNumbers, IsIdentity};
 
 use crate::controller::ControllerEntry;
@@ -17,7 +17,7 @@ use nv_model::{Identity, IdentityNumbers};
 use std::alloc::Global;
 use toml::Table;
 
-#[tactic(auto, unfolding(crate::specs::TableReading::identity_numbers_of))]
+#[tactic(auto, unfolding(crate::specs::inner::TableReading::identity_numbers_of))]
 fn identity_numbers_of(table: &Table) -> Result<IdentityNumbers, SubsystemError>
     ensures exact { result ≡ identity_numbers_of (table_view table.now) }
     ensures sound { IfOk result IsIdentityNumbers }
@@ -57,7 +57,7 @@ fn has_cntlid(controllers: &[ControllerEntry], cntlid: u16) -> bool
 }
 
 /// What a controller says of itself, with the controllers before it at hand.
-#[tactic(auto, using(crate::proofs::Fused::cntlids), unfolding(crate::specs::TableReading::identity_of))]
+#[tactic(auto, using(crate::proofs::Fused::cntlids), unfolding(crate::specs::inner::TableReading::identity_of))]
 pub(crate) fn identity_of(
     alloc: Global,
     before: &[ControllerEntry],

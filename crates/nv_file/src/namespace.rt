@@ -6,10 +6,10 @@ ghost use Rattle.std.specs.Option.{ok_or};
 ghost use Rattle.toml.specs.View.{table_view};
 ghost use Rattle.nv_file.specs.Fault.{IsUnlessMemory};
 ghost use Rattle.nv_file.specs.FileValue.{namespace_entry_view};
-ghost use Rattle.nv_file.specs.KeyReading.{readings};
-ghost use Rattle.nv_file.specs.SectionView.{tables_view};
-ghost use Rattle.nv_file.specs.TableReading.{namespace_entry_of};
-ghost use Rattle.nv_model.specs.Formats.{may_extend};
+ghost use Rattle.nv_file.specs.inner.KeyReading.{readings};
+ghost use Rattle.nv_file.specs.inner.SectionView.{tables_view};
+ghost use Rattle.nv_file.specs.inner.TableReading.{namespace_entry_of};
+ghost use Rattle.nv_model.specs.Conditions.{may_extend};
 ghost use Rattle.nv_model.specs.Ranges.{IsFormat};
 ghost use Rattle.nv_file.specs.IsFile.{IsNamespaceEntry};
 
@@ -78,7 +78,7 @@ fn may_extend(mc: u8, format: &Format, extended: bool) -> bool
     !extended || (format.ms > 0 && mc & 1 == 1)
 }
 
-#[tactic(auto, using(crate::proofs::Fused::nsids), unfolding(crate::specs::TableReading::namespace_entry_of))]
+#[tactic(auto, using(crate::proofs::Fused::nsids), unfolding(crate::specs::inner::TableReading::namespace_entry_of))]
 fn namespace_entry_of(
     alloc: Global,
     nn: u32,

@@ -7,14 +7,16 @@ ghost use Rattle.std.specs.Str.{bytes_eq};
 ghost use Rattle.toml.specs.Data.{get_member, as_table, as_integer};
 ghost use Rattle.toml.specs.View.{view, items_view, table_view};
 ghost use Rattle.nv_file.specs.Names.{key_text};
-ghost use Rattle.nv_file.specs.Fault.{IsAnswer, IsUnlessMemory, ensure};
+ghost use Rattle.nv_file.specs.inner.Fault.{IsAnswer, ensure};
+ghost use Rattle.nv_file.specs.Fault.{IsUnlessMemory};
 ghost use Rattle.nv_file.specs.KeyChecks.{has_key, items_as};
-ghost use Rattle.nv_file.specs.KeyReading.{in_range, integer_in_range, integer, integer_or};
-ghost use Rattle.nv_file.specs.KeyReading.{flag_or, text, tables_in, tables, tables_or_none};
-ghost use Rattle.nv_file.specs.KeyReading.{table_or_none, integers_in, integers_or_none, readings};
-ghost use Rattle.nv_file.specs.KeyReading.{element, integers_in_range_or_none, only, only_known};
+ghost use Rattle.nv_file.specs.inner.KeyReading.{in_range, integer_in_range, integer, integer_or};
+ghost use Rattle.nv_file.specs.inner.KeyReading.{flag_or, text, tables_in, tables, tables_or_none};
+ghost use Rattle.nv_file.specs.inner.KeyReading.{table_or_none, integers_in, integers_or_none};
+ghost use Rattle.nv_file.specs.inner.KeyReading.{readings, element, integers_in_range_or_none};
+ghost use Rattle.nv_file.specs.inner.KeyReading.{only, only_known};
 ghost use Rattle.nv_model.specs.Ranges.{is_text};
-ghost use Rattle.nv_file.specs.SectionView.{tables_view};
+ghost use Rattle.nv_file.specs.inner.SectionView.{tables_view};
 
 use crate::error::{SubsystemError, ensure};
 use crate::key::Key;
@@ -84,7 +86,7 @@ impl<'a> Section<'a> {
         }
     }
 
-    #[tactic(auto, unfolding(crate::specs::KeyReading::in_range))]
+    #[tactic(auto, unfolding(crate::specs::inner::KeyReading::in_range))]
     fn in_range(&self, key: Key, low: u64, high: u64, integer: i64) -> Result<u64, SubsystemError>
         ensures exact { result ≡ in_range self.now.name key low high integer }
         ensures range { IfOk result (λ n. (low ≤ n) × (n ≤ high)) }
@@ -100,7 +102,7 @@ impl<'a> Section<'a> {
         }
     }
 
-    #[tactic(auto, unfolding(crate::specs::KeyReading::integer_in_range))]
+    #[tactic(auto, unfolding(crate::specs::inner::KeyReading::integer_in_range))]
     fn integer_in_range(
         &self,
         key: Key,
@@ -116,7 +118,7 @@ impl<'a> Section<'a> {
     }
 
     /// A required integer from `low` to `high`.
-    #[tactic(auto, unfolding(crate::specs::KeyReading::integer))]
+    #[tactic(auto, unfolding(crate::specs::inner::KeyReading::integer))]
     pub(crate) fn integer(&self, key: Key, low: u64, high: u64) -> Result<u64, SubsystemError>
         ensures exact { result ≡
             integer self.now.name key low high (table_view self.now.table.now) }
@@ -127,7 +129,7 @@ impl<'a> Section<'a> {
     }
 
     /// An optional integer from `low` to `high`.
-    #[tactic(auto, unfolding(crate::specs::KeyReading::integer_or))]
+    #[tactic(auto, unfolding(crate::specs::inner::KeyReading::integer_or))]
     pub(crate) fn integer_or(
         &self,
         key: Key,
@@ -155,7 +157,7 @@ impl<'a> Section<'a> {
     }
 
     /// An optional true or false.
-    #[tactic(auto, unfolding(crate::specs::KeyReading::flag_or))]
+    #[tactic(auto, unfolding(crate::specs::inner::KeyReading::flag_or))]
     pub(crate) fn flag_or(&self, key: Key, default: bool) -> Result<bool, SubsystemError>
         ensures { result ≡ flag_or self.now.name key default (table_view self.now.table.now) }
     {
@@ -166,7 +168,7 @@ impl<'a> Section<'a> {
     }
 
     /// A required text of 1 to `most` bytes.
-    #[tactic(auto, unfolding(crate::specs::KeyReading::text))]
+    #[tactic(auto, unfolding(crate::specs::inner::KeyReading::text))]
     pub(crate) fn text(
         &self,
         alloc: Global,
@@ -186,7 +188,7 @@ impl<'a> Section<'a> {
         }
     }
 
-    #[tactic(auto, unfolding(crate::specs::KeyReading::tables_in))]
+    #[tactic(auto, unfolding(crate::specs::inner::KeyReading::tables_in))]
     fn tables_in(
         &self,
         alloc: Global,
@@ -205,7 +207,7 @@ impl<'a> Section<'a> {
     }
 
     /// A required list of 1 to `most` tables.
-    #[tactic(auto, unfolding(crate::specs::KeyReading::tables))]
+    #[tactic(auto, unfolding(crate::specs::inner::KeyReading::tables))]
     pub(crate) fn tables(
         &self,
         alloc: Global,
@@ -226,7 +228,7 @@ impl<'a> Section<'a> {
     }
 
     /// An optional list of tables, of any length.
-    #[tactic(auto, unfolding(crate::specs::KeyReading::tables_or_none))]
+    #[tactic(auto, unfolding(crate::specs::inner::KeyReading::tables_or_none))]
     pub(crate) fn tables_or_none(
         &self,
         alloc: Global,
@@ -242,7 +244,7 @@ impl<'a> Section<'a> {
     }
 
     /// An optional table.
-    #[tactic(auto, unfolding(crate::specs::KeyReading::table_or_none))]
+    #[tactic(auto, unfolding(crate::specs::inner::KeyReading::table_or_none))]
     pub(crate) fn table_or_none(&self, key: Key) -> Result<Option<&'a Table>, SubsystemError>
         ensures { IsAnswer (λ o. option_map (λ t. table_view t.now) o) result
             (table_or_none self.now.name key (table_view self.now.table.now)) }
@@ -256,7 +258,7 @@ impl<'a> Section<'a> {
         }
     }
 
-    #[tactic(auto, unfolding(crate::specs::KeyReading::integers_in))]
+    #[tactic(auto, unfolding(crate::specs::inner::KeyReading::integers_in))]
     fn integers_in(
         &self,
         alloc: Global,
@@ -275,7 +277,7 @@ impl<'a> Section<'a> {
     }
 
     /// An optional list of integers, of any size.
-    #[tactic(auto, unfolding(crate::specs::KeyReading::integers_or_none))]
+    #[tactic(auto, unfolding(crate::specs::inner::KeyReading::integers_or_none))]
     pub(crate) fn integers_or_none(
         &self,
         alloc: Global,
@@ -291,7 +293,7 @@ impl<'a> Section<'a> {
     }
 
     /// The integers of a list, each from 0 to `high`.
-    #[tactic(auto, unfolding(crate::specs::KeyReading::element))]
+    #[tactic(auto, unfolding(crate::specs::inner::KeyReading::element))]
     pub(crate) fn each_in_range(
         &self,
         alloc: Global,
@@ -311,7 +313,7 @@ impl<'a> Section<'a> {
     }
 
     /// An optional list of at most `most` integers from 0 to `high`.
-    #[tactic(auto, unfolding(crate::specs::KeyReading::integers_in_range_or_none))]
+    #[tactic(auto, unfolding(crate::specs::inner::KeyReading::integers_in_range_or_none))]
     pub(crate) fn integers_in_range_or_none(
         &self,
         alloc: Global,

@@ -3,7 +3,7 @@ ghost use Rattle.std.specs.Prelude.{◌≡◌, ◌≤◌, All, IfOk, option_map,
 ghost use Rattle.toml.specs.View.{table_view};
 ghost use Rattle.nv_file.specs.Fault.{IsUnlessMemory};
 ghost use Rattle.nv_file.specs.TableChecks.{eight};
-ghost use Rattle.nv_file.specs.TableReading.{counters_of, smart_of, smart_or_zero};
+ghost use Rattle.nv_file.specs.inner.TableReading.{counters_of, smart_of, smart_or_zero};
 ghost use Rattle.nv_model.specs.Logs.{zero_smart};
 ghost use Rattle.nv_model.specs.Ranges.{IsCounters, IsSmart};
 
@@ -15,7 +15,7 @@ use nv_model::{Counters, GREATEST_INTEGER, SmartBase};
 use std::alloc::Global;
 use toml::Table;
 
-#[tactic(auto, unfolding(crate::specs::TableReading::counters_of))]
+#[tactic(auto, unfolding(crate::specs::inner::TableReading::counters_of))]
 fn counters_of(table: &Table) -> Result<Counters, SubsystemError>
     ensures exact { result ≡ counters_of (table_view table.now) }
     ensures sound { IfOk result IsCounters }
@@ -69,7 +69,7 @@ fn eight(numbers: &[u16]) -> [u16; 8]
     ]
 }
 
-#[tactic(auto, unfolding(crate::specs::TableReading::smart_of))]
+#[tactic(auto, unfolding(crate::specs::inner::TableReading::smart_of))]
 fn smart_of(alloc: Global, table: &Table) -> Result<SmartBase, SubsystemError>
     ensures exact { IsUnlessMemory (λ s. s) result (smart_of (table_view table.now)) }
     ensures sound { IfOk result IsSmart }

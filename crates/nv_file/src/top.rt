@@ -2,9 +2,9 @@
 ghost use Rattle.std.specs.Prelude.{◌≡◌, IfOk};
 ghost use Rattle.toml.specs.View.{table_view};
 ghost use Rattle.nv_file.specs.Fault.{IsUnlessMemory};
-ghost use Rattle.nv_file.specs.FileReading.{top_of};
-ghost use Rattle.nv_file.specs.TopView.{top_view};
-ghost use Rattle.nv_file.specs.IsFile.{IsTop};
+ghost use Rattle.nv_file.specs.inner.FileReading.{top_of};
+ghost use Rattle.nv_file.specs.inner.TopView.{top_view};
+ghost use Rattle.nv_file.specs.inner.IsFile.{IsTop};
 
 use crate::error::SubsystemError;
 use crate::key::Key;
@@ -28,7 +28,7 @@ pub struct Top<'a> {
 }
 
 /// What the top table holds.
-#[tactic(auto, unfolding(crate::specs::FileReading::top_of))]
+#[tactic(auto, unfolding(crate::specs::inner::FileReading::top_of))]
 pub(crate) fn top_of<'a>(alloc: Global, table: &'a Table) -> Result<Top<'a>, SubsystemError>
     ensures exact { IsUnlessMemory top_view result (top_of (table_view table.now)) }
     ensures sound { IfOk result (λ t. IsTop (top_view t)) }

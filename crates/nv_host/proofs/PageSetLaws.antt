@@ -8,7 +8,8 @@ use Rattle.std.specs.FinSet as set
 use Rattle.nv_bits.specs.BitSet.{RangeSet}
 use Rattle.nv_bits.proofs.NumberLaws.{get_of_insert, get_of_remove}
 use Rattle.nv_bits.specs.Numbers.{IsLowest, NumberSet, all_of, by_place, insert}
-use Rattle.nv_host.specs.PageSets.{Pages, as_set, consecutive, contains_of_insert, contains_of_remove, pages_of}
+use Rattle.nv_host.specs.PageSets.{Pages, as_set, consecutive, pages_of}
+use Rattle.nv_host.specs.inner.PageSets.{contains_of_insert, contains_of_remove}
 
 abbrev member : set.FinSet nat_cmp → ℕ → Bool
 member s q = set.contains s q

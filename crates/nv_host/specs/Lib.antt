@@ -2,3 +2,4 @@ pub mod Bytes
 pub mod Pages
 pub mod PageSets
 pub mod FlatMemory
+pub mod inner

@@ -1,8 +1,5 @@
 -- Sets of page numbers out of consecutive ones.
-use Rattle.std.specs.Prelude.{◌≡◌, ℕ, zero, suc, ◌+◌, ◌==◌, ◌||◌, ◌&&◌, not, List, [], ◌∷◌, ◌++◌}
-use Rattle.std.specs.Prelude.{refl}
-use Rattle.std.proofs.Common.{ap, ◌∙◌}
-use Rattle.std.specs.Cmp.{nat_cmp_total, unsigned_tied}
+use Rattle.std.specs.Prelude.{ℕ, zero, suc, ◌+◌, List, [], ◌∷◌, ◌++◌, refl}
 use Rattle.std.specs.Coded.{Coded, code_by, coded×, coded_ℕ}
 use Rattle.std.specs.Ordering.{nat_cmp}
 use Rattle.std.specs.FinMap as map
@@ -35,14 +32,3 @@ pages_of s = record { first = s.first; count = s.count; members = as_set s.membe
 abbrev pub consecutive : ℕ → ℕ → List ℕ
 consecutive first zero = []
 consecutive first (suc count) = consecutive first count ++ (first + count) ∷ []
-
--- what a set has after a change
-pub contains_of_insert : (s : set.FinSet nat_cmp) (p q : ℕ) → set.contains (set.insert s p) q
-    ≡ ((q == p) || set.contains s q)
-contains_of_insert s p q =
-    set.contains-insert nat_cmp_total s p q ∙ ap (λ b. b || set.contains s q) (unsigned_tied q p)
-
-pub contains_of_remove : (s : set.FinSet nat_cmp) (p q : ℕ) → set.contains (set.remove s p) q
-    ≡ (not (q == p) && set.contains s q)
-contains_of_remove s p q = set.contains-remove nat_cmp_total s p q
-    ∙ ap (λ b. not b && set.contains s q) (unsigned_tied q p)

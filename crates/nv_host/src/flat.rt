@@ -3,7 +3,8 @@
 ghost use Rattle.std.specs.Prelude.{◌≡◌, ◌+◌, ◌*◌, ◌≤◌, ◌↔◌, IfOk, IsOk, length, refl, replicate};
 ghost use Rattle.std.specs.Prelude.{take};
 ghost use Rattle.nv_host.specs.Bytes.{with_bytes};
-ghost use Rattle.nv_host.specs.FlatMemory.{page_within, take-with_bytes};
+ghost use Rattle.nv_host.specs.FlatMemory.{page_within};
+ghost use Rattle.nv_host.specs.inner.FlatMemory.{take-with_bytes};
 ghost use Rattle.nv_host.specs.Pages.{IsPageSize};
 
 use crate::{HostMemory, Memory, OutOfMemoryRange};

@@ -9,7 +9,8 @@ use Rattle.nv_layout.specs.IdCtrl.{id_ctrl_parts}
 use Rattle.nv_layout.specs.IdNs.{IdNsReadsBack, LbafFits, bytes_of_id_ns, id_ns_of_bytes}
 use Rattle.nv_layout.specs.IdNs.{LbafReadsBack, bytes_of_lbaf, id_ns_parts, lbaf_of_bytes, lbaf_of_number}
 use Rattle.nv_layout.specs.IdNs.{number_of_lbaf}
-use Rattle.nv_layout.specs.Parts.{at_bits, bits, number}
+use Rattle.nv_layout.specs.Bits.{at_bits, bits}
+use Rattle.nv_layout.specs.Parts.{number}
 use Rattle.nv_layout.specs.declared.id_ctrl.IdCtrl.{IdCtrl}
 use Rattle.nv_layout.specs.declared.id_ns.IdNs.{IdNs}
 use Rattle.nv_layout.specs.declared.id_ns.Lbaf.{Lbaf}

@@ -4,10 +4,12 @@ use Rattle.std.proofs.Common.{Bool, arith, lit<, List, [], ◌∷◌, ◌++◌, 
 use Rattle.std.proofs.lemmas.List.{get_or-append_right, get_or-replicate, get_or_append_left}
 use Rattle.std.proofs.lemmas.List.{length-append, length-replicate}
 use Rattle.std.proofs.Math.Seq.{take-append_seam}
-use Rattle.nv_layout.specs.ErrorEntry.{ErrorEntryReadsBack, bytes_of_entries, bytes_of_error_entry}
-use Rattle.nv_layout.specs.ErrorEntry.{ErrorEntryFits, error_entry_of_bytes, error_entry_parts}
-use Rattle.nv_layout.specs.ErrorEntry.{no_entry}
-use Rattle.nv_layout.specs.Parts.{at_bits, bit, bits, part, placed, zeros}
+use Rattle.nv_layout.specs.ErrorEntryBytes.{ErrorEntryReadsBack, bytes_of_entries}
+use Rattle.nv_layout.specs.ErrorEntryBytes.{bytes_of_error_entry, error_entry_of_bytes}
+use Rattle.nv_layout.specs.ErrorEntryBytes.{error_entry_parts}
+use Rattle.nv_layout.specs.ErrorEntry.{ErrorEntryFits, no_entry}
+use Rattle.nv_layout.specs.Bits.{at_bits, bit, bits}
+use Rattle.nv_layout.specs.Parts.{part, placed, zeros}
 use Rattle.nv_layout.proofs.PartLaws.{get_or-past, same_parts}
 use Rattle.nv_layout.proofs.RecordLaws.{bit_below, flag_back, number_of_status_below, status_back}
 use Rattle.nv_layout.specs.Smart.{SmartReadsBack, bytes_of_smart, smart_of_bytes, smart_parts}

@@ -13,8 +13,9 @@ use Rattle.std.proofs.lemmas.Nat.{mod_below, one_shl, pow_pos, shl_whole}
 use Rattle.std.proofs.Math.Seq.{drop-append_seam, take-append-add, take-append_seam}
 use Rattle.byteorder.specs.Endian.{little_bytes, little_from, little_number}
 use Rattle.byteorder.specs.Numbers.{length-bytes_low_first, little_from-take}
-use Rattle.nv_layout.specs.Parts.{Part, at_bits, bytes_of, number, number_at, numbers, numbers_at}
-use Rattle.nv_layout.specs.Parts.{part, place_of, placed, text, text_at, width_of, zeros}
+use Rattle.nv_layout.specs.Parts.{Part, bytes_of, number, number_at, numbers, numbers_at, part}
+use Rattle.nv_layout.specs.Parts.{place_of, placed, text, text_at, width_of, zeros}
+use Rattle.nv_layout.specs.Bits.{at_bits}
 
 pub length_zeros : (n : ℕ) → length (zeros n) ≡ n
 unfolding zeros

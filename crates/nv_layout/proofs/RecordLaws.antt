@@ -4,9 +4,12 @@ use Rattle.std.proofs.Common.{ap, refl, arith, List, length}
 use Rattle.std.specs.List.{AllByRecursion, before_first}
 use Rattle.nv_layout.specs.Cqe.{CqeReadsBack, bytes_of_cqe, cqe_of_bytes, cqe_parts}
 use Rattle.nv_layout.specs.CtrlList.{CtrlListReadsBack, bytes_of_ctrl_list, ctrl_list_of_bytes}
-use Rattle.nv_layout.specs.CtrlList.{ctrl_list_parts, most_cntlids}
-use Rattle.nv_layout.specs.NsList.{bytes_of_ns_list, is_zero, most_nsids, ns_list_of_bytes, ns_list_parts}
-use Rattle.nv_layout.specs.Parts.{Fits, at_bits, bit, bits, is_table}
+use Rattle.nv_layout.specs.CtrlList.{ctrl_list_parts}
+use Rattle.nv_layout.specs.Limits.{most_cntlids}
+use Rattle.nv_layout.specs.NsList.{bytes_of_ns_list, is_zero, ns_list_of_bytes, ns_list_parts}
+use Rattle.nv_layout.specs.Limits.{most_nsids}
+use Rattle.nv_layout.specs.inner.Parts.{Fits, is_table}
+use Rattle.nv_layout.specs.Bits.{at_bits, bit, bits}
 use Rattle.nv_layout.specs.Sqe.{SqeReadsBack, bytes_of_sqe, sqe_of_bytes, sqe_parts}
 use Rattle.nv_layout.specs.Status.{StatusReadsBack, number_of_status, status_of_number}
 use Rattle.nv_layout.specs.declared.cqe.Cqe.{Cqe}

@@ -8,9 +8,9 @@ use Rattle.std.proofs.Math.Seq.{drop-append_seam, take-append_seam}
 use Rattle.byteorder.specs.Endian.{little_bytes, little_from}
 use Rattle.byteorder.specs.Numbers.{length-bytes_low_first, little_from-take}
 use Rattle.byteorder.specs.Numbers.{little_number-reads_back}
-use Rattle.nv_layout.specs.Parts.{Fits, Holds, Part, bytes_of, is_table, laid_out, number}
-use Rattle.nv_layout.specs.Parts.{number_at, numbers, numbers_at, place_of, placed, text, text_at}
-use Rattle.nv_layout.specs.Parts.{width_of, zeros}
+use Rattle.nv_layout.specs.inner.Parts.{Fits, Holds, is_table}
+use Rattle.nv_layout.specs.Parts.{Part, bytes_of, laid_out, number, number_at, numbers, numbers_at}
+use Rattle.nv_layout.specs.Parts.{place_of, placed, text, text_at, width_of, zeros}
 use Rattle.nv_layout.proofs.PartLaws.{IsSized, length-placed, length_zeros, text_at-placed}
 use Rattle.nv_layout.proofs.PartLaws.{text_at-placed_before, times_suc}
 

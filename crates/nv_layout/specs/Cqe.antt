@@ -1,6 +1,7 @@
 -- A completion queue entry by its offset table.
 use Rattle.std.specs.Prelude.{◌≡◌, ℕ, ◌==◌, ◌+◌, ◌^◌, ◌<◌, List, [], ◌∷◌}
-use Rattle.nv_layout.specs.Parts.{Part, at_bits, bit, bits, laid_out, number, number_at}
+use Rattle.nv_layout.specs.Parts.{Part, laid_out, number, number_at}
+use Rattle.nv_layout.specs.Bits.{at_bits, bit, bits}
 use Rattle.nv_layout.specs.Status.{StatusFits, number_of_status, status_of_number}
 use Rattle.nv_layout.specs.declared.cqe.Cqe.{Cqe}
 

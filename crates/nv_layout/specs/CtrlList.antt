@@ -1,14 +1,11 @@
 -- A controller list: how many identifiers there are, then the identifiers, then zeros.
-use Rattle.std.specs.Prelude.{◌≡◌, ◌≤◌, ◌^◌, ◌<◌, ℕ, nat_le, if◌then◌else◌, List, [], ◌∷◌, Result}
-use Rattle.std.specs.Prelude.{Ok, Err, length}
+use Rattle.std.specs.Prelude.{◌≡◌, ◌≤◌, ◌^◌, ◌<◌, ℕ, nat_le, if◌then◌else◌, List, [], ◌∷◌, Result, Ok}
+use Rattle.std.specs.Prelude.{Err, length}
 use Rattle.std.specs.List.{AllByRecursion}
 use Rattle.nv_layout.specs.Parts.{Part, laid_out, number, number_at, numbers, numbers_at}
 use Rattle.nv_layout.specs.declared.ctrl_list.LayoutError.{LayoutError}
 use Rattle.nv_layout.specs.declared.ctrl_list.LayoutError.TheVariants.{CountTooLarge}
-
--- the most identifiers of a list
-abbrev pub most_cntlids : ℕ
-most_cntlids = 2047
+use Rattle.nv_layout.specs.Limits.{most_cntlids}
 
 abbrev pub ctrl_list_parts : List ℕ → List Part
 ctrl_list_parts ids = number 0 2 (length ids) ∷ numbers 2 2 (length ids) ids ∷ []

@@ -1,46 +1,8 @@
 -- An entry of the error log by its offset table.
-use Rattle.std.specs.Prelude.{◌≡◌, ℕ, false, ◌==◌, ◌+◌, ◌^◌, ◌<◌, List, [], ◌∷◌}
-use Rattle.std.specs.List.{flat_map}
-use Rattle.nv_layout.specs.Parts.{Part, at_bits, bit, bits, laid_out, number, number_at}
-use Rattle.nv_layout.specs.Status.{StatusFits, number_of_status, status_of_number}
+use Rattle.std.specs.Prelude.{false, ◌^◌, ◌<◌}
+use Rattle.nv_layout.specs.Status.{StatusFits}
 use Rattle.nv_layout.specs.declared.error_entry.ErrorEntry.{ErrorEntry}
 use Rattle.nv_layout.specs.declared.status.Status.{Status}
-
--- the phase tag below the status field
-abbrev pub status_word : ErrorEntry → ℕ
-status_word r = at_bits 0 1 (bit r.phase) + at_bits 1 15 (number_of_status r.status)
-
-abbrev pub error_entry_parts : ErrorEntry → List Part
-error_entry_parts r =
-    number 0 8 r.count
-    ∷ number 8 2 r.sqid
-    ∷ number 10 2 r.cid
-    ∷ number 12 2 (status_word r)
-    ∷ number 14 2 r.location
-    ∷ number 16 8 r.lba
-    ∷ number 24 4 r.nsid
-    ∷ number 28 1 r.vendor
-    ∷ number 32 8 r.specific
-    ∷ []
-
-unfoldable pub bytes_of_error_entry : ErrorEntry → List ℕ
-bytes_of_error_entry r = laid_out 64 (error_entry_parts r)
-
-unfoldable pub error_entry_of_bytes : List ℕ → ErrorEntry
-error_entry_of_bytes bytes =
-    let word = number_at 12 2 bytes in
-    record {
-      count = number_at 0 8 bytes;
-      sqid = number_at 8 2 bytes;
-      cid = number_at 10 2 bytes;
-      status = status_of_number (bits 1 15 word);
-      phase = bits 0 1 word == 1;
-      location = number_at 14 2 bytes;
-      lba = number_at 16 8 bytes;
-      nsid = number_at 24 4 bytes;
-      vendor = number_at 28 1 bytes;
-      specific = number_at 32 8 bytes;
-    }
 
 -- each field fits its bits
 pub record ErrorEntryFits (r : ErrorEntry) : Type 0 where
@@ -53,10 +15,6 @@ pub record ErrorEntryFits (r : ErrorEntry) : Type 0 where
   pub nsid : r.nsid < 2 ^ 32
   pub vendor : r.vendor < 2 ^ 8
   pub specific : r.specific < 2 ^ 64
-
-abbrev pub ErrorEntryReadsBack : Type 0
-ErrorEntryReadsBack =
-    (r : ErrorEntry) → ErrorEntryFits r → error_entry_of_bytes (bytes_of_error_entry r) ≡ r
 
 abbrev success : Status
 success = record { sc = 0; sct = 0; crd = 0; more = false; dnr = false }
@@ -75,11 +33,3 @@ no_entry = record {
   vendor = 0;
   specific = 0;
 }
-
--- one entry after the other
-abbrev pub bytes_of_entries : List ErrorEntry → List ℕ
-bytes_of_entries es = flat_map bytes_of_error_entry es
-
--- entries that differ in the phase tag alone count as the same
-abbrev pub without_phase : ErrorEntry → ErrorEntry
-without_phase e = record e { phase = false }

@@ -4,7 +4,7 @@
 use Rattle.std.specs.Prelude.{ℕ, Bool, true, false, ◌==◌, ◌&&◌, ◌||◌, nat_lt, ◌/◌, ◌%◌, bit_and}
 use Rattle.std.specs.Prelude.{List, [], ◌∷◌, length, Option, codes, find}
 use Rattle.std.specs.List.{filter, list_any}
-use Rattle.nv_layout.specs.Parts.{bits}
+use Rattle.nv_layout.specs.Bits.{bits}
 use Rattle.nv_layout.specs.declared.feature.Feature.{Feature}
 use Rattle.nv_layout.specs.declared.feature.Feature.TheVariants as feature
 

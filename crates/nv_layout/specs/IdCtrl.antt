@@ -1,6 +1,7 @@
 -- A controller's Identify data by its offset table.
 use Rattle.std.specs.Prelude.{◌≡◌, ℕ, ◌^◌, ◌<◌, List, [], ◌∷◌, length}
-use Rattle.nv_layout.specs.Parts.{Part, at_bits, laid_out, number, number_at, text, text_at}
+use Rattle.nv_layout.specs.Parts.{Part, laid_out, number, number_at, text, text_at}
+use Rattle.nv_layout.specs.Bits.{at_bits}
 use Rattle.nv_layout.specs.declared.id_ctrl.IdCtrl.{IdCtrl}
 
 abbrev pub id_ctrl_parts : IdCtrl → List Part

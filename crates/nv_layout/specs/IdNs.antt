@@ -1,8 +1,8 @@
 -- A namespace's Identify data by its offset table.
 use Rattle.std.specs.Prelude.{◌≡◌, ℕ, ◌+◌, ◌^◌, ◌<◌, List, [], ◌∷◌, length, map}
 use Rattle.std.specs.List.{AllByRecursion}
-use Rattle.nv_layout.specs.Parts.{Part, at_bits, bits, laid_out, number, number_at, numbers}
-use Rattle.nv_layout.specs.Parts.{numbers_at}
+use Rattle.nv_layout.specs.Parts.{Part, laid_out, number, number_at, numbers, numbers_at}
+use Rattle.nv_layout.specs.Bits.{at_bits, bits}
 use Rattle.nv_layout.specs.declared.id_ns.IdNs.{IdNs}
 use Rattle.nv_layout.specs.declared.id_ns.Lbaf.{Lbaf}
 

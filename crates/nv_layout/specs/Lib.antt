@@ -10,3 +10,7 @@ pub mod Smart
 pub mod ErrorEntry
 pub mod Feature
 pub mod Steps
+pub mod Bits
+pub mod ErrorEntryBytes
+pub mod Limits
+pub mod inner

@@ -1,12 +1,8 @@
 -- A namespace list: its identifiers, then zeros.
-use Rattle.std.specs.Prelude.{◌≡◌, ◌≢◌, ◌≤◌, ◌<◌, ◌-◌, ◌==◌, ◌^◌, Bool, ℕ, List, [], ◌∷◌, ◌++◌}
-use Rattle.std.specs.Prelude.{length}
+use Rattle.std.specs.Prelude.{◌≡◌, ◌≢◌, ◌≤◌, ◌<◌, ◌-◌, ◌==◌, ◌^◌, Bool, ℕ, List, [], ◌∷◌, ◌++◌, length}
 use Rattle.std.specs.List.{AllByRecursion, before_first}
 use Rattle.nv_layout.specs.Parts.{Part, laid_out, numbers, numbers_at, zeros}
-
--- the most identifiers of a list
-abbrev pub most_nsids : ℕ
-most_nsids = 1024
+use Rattle.nv_layout.specs.Limits.{most_nsids}
 
 abbrev pub padded : ℕ → List ℕ → List ℕ
 padded size xs = xs ++ zeros (size - length xs)

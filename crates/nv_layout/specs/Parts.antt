@@ -1,8 +1,6 @@
 -- A record as bytes: a table of its fields, each at its place.
-use Rattle.std.specs.Prelude.{◌≡◌, ℕ, zero, suc, Bool, ◌&&◌, nat_le, if◌then◌else◌, ◌+◌, ◌*◌, ◌/◌}
-use Rattle.std.specs.Prelude.{◌%◌, ◌^◌, ◌<◌, List, [], ◌∷◌, ◌++◌, take, drop, fold, replicate}
-use Rattle.std.specs.Prelude.{length}
-use Rattle.std.specs.List.{AllByRecursion, flat_map}
+use Rattle.std.specs.Prelude.{ℕ, zero, suc, ◌+◌, ◌*◌, List, [], ◌∷◌, ◌++◌, take, drop, fold, replicate}
+use Rattle.std.specs.List.{flat_map}
 use Rattle.byteorder.specs.Endian.{little_bytes, little_number}
 
 -- a field of a record: its first byte, how many bytes it has, and its value. `numbers` stand one
@@ -59,36 +57,3 @@ unfoldable pub numbers_at : ℕ → ℕ → ℕ → List ℕ → List ℕ
 numbers_at at width zero bytes = []
 numbers_at at width (suc count) bytes =
     number_at at width bytes ∷ numbers_at (at + width) width count bytes
-
--- ---- the bits of a number
-
--- the `count` bits from bit `low` on
-abbrev pub bits : ℕ → ℕ → ℕ → ℕ
-bits low count x = x / 2 ^ low % 2 ^ count
-
--- a number with the lowest `count` bits of x from bit `low` on, and zeros elsewhere
-abbrev pub at_bits : ℕ → ℕ → ℕ → ℕ
-at_bits low count x = x % 2 ^ count * 2 ^ low
-
--- a flag's bit
-abbrev pub bit : Bool → ℕ
-bit flag = if flag then 1 else 0
-
--- ---- tables
-
--- the fields stand in order, without overlap, from a place on and within the size
-abbrev pub is_table : ℕ → ℕ → List Part → Bool
-is_table from size [] = nat_le from size
-is_table from size (p ∷ ps) = nat_le from (place_of p) && is_table (place_of p + width_of p) size ps
-
--- the value fits its bytes
-abbrev pub Fits : Part → Type 0
-Fits (number at width x) = x < 256 ^ width
-Fits (numbers at width count xs) = (length xs ≡ count) × AllByRecursion (λ x. x < 256 ^ width) xs
-Fits (text at width bytes) = length bytes ≡ width
-
--- the bytes hold the value
-abbrev pub Holds : List ℕ → Part → Type 0
-Holds bytes (number at width x) = number_at at width bytes ≡ x
-Holds bytes (numbers at width count xs) = numbers_at at width count bytes ≡ xs
-Holds bytes (text at width t) = text_at at width bytes ≡ t

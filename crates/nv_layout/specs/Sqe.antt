@@ -1,6 +1,7 @@
 -- A submission queue entry by its offset table.
 use Rattle.std.specs.Prelude.{◌≡◌, ℕ, ◌+◌, ◌^◌, ◌<◌, List, [], ◌∷◌}
-use Rattle.nv_layout.specs.Parts.{Part, at_bits, bits, laid_out, number, number_at}
+use Rattle.nv_layout.specs.Parts.{Part, laid_out, number, number_at}
+use Rattle.nv_layout.specs.Bits.{at_bits, bits}
 use Rattle.nv_layout.specs.declared.sqe.Sqe.{Sqe}
 
 -- command dword 0: opcode, fused operation, data transfer by PRP or SGL, command identifier

@@ -1,7 +1,7 @@
 -- The status field of a completion, a number of 15 bits.
 use Rattle.std.specs.Prelude.{◌≡◌, ℕ, ◌==◌, ◌+◌, ◌^◌, ◌<◌, false, List, ◌++◌, codes}
 use Rattle.std.specs.Fmt.{digits}
-use Rattle.nv_layout.specs.Parts.{at_bits, bit, bits}
+use Rattle.nv_layout.specs.Bits.{at_bits, bit, bits}
 use Rattle.nv_layout.specs.declared.status.Status.{Status}
 
 -- status code, status code type, command retry delay, more, do not retry

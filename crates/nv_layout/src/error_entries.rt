@@ -2,7 +2,8 @@
 
 ghost use Rattle.std.specs.Prelude.{◌≡◌, ◌≤◌, ◌<◌, ◌+◌, ◌-◌, ◌*◌, ◌++◌, List, get_or, length};
 ghost use Rattle.std.specs.Prelude.{replicate, take};
-ghost use Rattle.nv_layout.specs.ErrorEntry.{bytes_of_entries, bytes_of_error_entry, no_entry};
+ghost use Rattle.nv_layout.specs.ErrorEntryBytes.{bytes_of_entries, bytes_of_error_entry};
+ghost use Rattle.nv_layout.specs.ErrorEntry.{no_entry};
 ghost use Rattle.nv_layout.specs.Parts.{part};
 ghost use Rattle.nv_layout.specs.declared.error_entry.ErrorEntry.{ErrorEntry};
 

@@ -33,8 +33,8 @@ pub struct ErrorEntry {
 
 impl ErrorEntry {
     ghost use Rattle.std.specs.Prelude.{◌≡◌};
-    ghost use Rattle.nv_layout.specs.ErrorEntry.{bytes_of_error_entry, error_entry_of_bytes};
-    ghost use Rattle.nv_layout.specs.ErrorEntry.{status_word};
+    ghost use Rattle.nv_layout.specs.ErrorEntryBytes.{bytes_of_error_entry, error_entry_of_bytes};
+    ghost use Rattle.nv_layout.specs.ErrorEntryBytes.{status_word};
 
     /// The entry that holds no error: all of it is 0.
     pub const NONE: ErrorEntry = ErrorEntry {
@@ -59,7 +59,7 @@ impl ErrorEntry {
 
     /// Writes the entry's bytes. The status code type is cut to its three bits, and the retry delay
     /// to its two.
-    #[tactic(auto, unfolding(crate::specs::ErrorEntry::bytes_of_error_entry))]
+    #[tactic(auto, unfolding(crate::specs::ErrorEntryBytes::bytes_of_error_entry))]
     pub fn put(&self, out: &mut [u8; 64])
         ensures { out.new ≡ bytes_of_error_entry self.now }
     {
@@ -76,7 +76,7 @@ impl ErrorEntry {
     }
 
     /// Reads an entry from its bytes.
-    #[tactic(auto, unfolding(crate::specs::ErrorEntry::error_entry_of_bytes))]
+    #[tactic(auto, unfolding(crate::specs::ErrorEntryBytes::error_entry_of_bytes))]
     pub fn get(bytes: &[u8; 64]) -> ErrorEntry
         ensures { result ≡ error_entry_of_bytes bytes.now }
     {

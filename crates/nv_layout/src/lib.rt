@@ -19,7 +19,7 @@
 
 ghost use Rattle.nv_layout.specs.Cqe.{CqeReadsBack};
 ghost use Rattle.nv_layout.specs.CtrlList.{CtrlListReadsBack};
-ghost use Rattle.nv_layout.specs.ErrorEntry.{ErrorEntryReadsBack};
+ghost use Rattle.nv_layout.specs.ErrorEntryBytes.{ErrorEntryReadsBack};
 ghost use Rattle.nv_layout.specs.IdCtrl.{IdCtrlReadsBack};
 ghost use Rattle.nv_layout.specs.IdNs.{IdNsReadsBack, LbafReadsBack};
 ghost use Rattle.nv_layout.specs.NsList.{NsListReadsBack};

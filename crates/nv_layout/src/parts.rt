@@ -2,8 +2,9 @@
 
 ghost use Rattle.std.specs.Prelude.{◌≡◌, ◌≤◌, ◌<◌, ◌+◌, ◌*◌, ◌^◌, length};
 ghost use Rattle.std.specs.List.{AllByRecursion};
-ghost use Rattle.nv_layout.specs.Parts.{at_bits, bits, number, number_at, numbers, numbers_at};
-ghost use Rattle.nv_layout.specs.Parts.{placed, text, text_at, zeros};
+ghost use Rattle.nv_layout.specs.Bits.{at_bits, bits};
+ghost use Rattle.nv_layout.specs.Parts.{number, number_at, numbers, numbers_at, placed, text};
+ghost use Rattle.nv_layout.specs.Parts.{text_at, zeros};
 
 use byteorder::{ByteOrder, LittleEndian};
 

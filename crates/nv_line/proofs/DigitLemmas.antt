@@ -10,7 +10,7 @@ use Rattle.std.proofs.lemmas.Str.Parse.{without_leading_plus_none}
 use Rattle.std.proofs.lemmas.Bool.{cases_lt}
 use Rattle.clap.proofs.WalkLemmas.{both}
 use Rattle.clap.specs.Walk.{is_empty}
-use Rattle.nv_line.specs.Number.{digits_of, within}
+use Rattle.nv_line.specs.Values.{digits_of, within}
 
 abbrev most_of_64 : ℕ
 most_of_64 = 18446744073709551615

@@ -13,7 +13,7 @@ use Rattle.nv_line.specs.declared.fault.LineFault.{LineFault}
 use Rattle.nv_line.specs.declared.fault.LineFault.TheVariants as fault
 use Rattle.nv_line.specs.declared.line.Line.{Line}
 use Rattle.nv_line.specs.declared.line.Line.TheVariants as line
-use Rattle.nv_line.specs.Limits.{line_limit}
+use Rattle.nv_line.specs.Word.{line_limit}
 use Rattle.nv_line.specs.declared.request.Request.{Request}
 
 pub no_text : (text : Text) (controllers : ℕ) → length text ≤ line_limit → is_skipped text ≡ false

@@ -5,9 +5,9 @@ use Rattle.std.proofs.Common.{length-append, option_and_then, option_map}
 use Rattle.std.proofs.lemmas.List.{at_drop_all, at_drop_more}
 use Rattle.std.specs.List.{slice_split}
 use Rattle.clap.specs.Words.{Text}
-use Rattle.nv_layout.specs.CtrlList.{most_cntlids}
-use Rattle.nv_line.specs.ControllerList.{identifiers_in, is_comma, list_in}
-use Rattle.nv_line.specs.Number.{number_in}
+use Rattle.nv_layout.specs.Limits.{most_cntlids}
+use Rattle.nv_line.specs.Values.{identifiers_in, is_comma, list_in}
+use Rattle.nv_line.specs.Values.{number_in}
 
 -- the identifiers of the first n pieces, before those of the rest
 pub record IsReadTo (pieces : List Text) (ids : List ℕ) (n : ℕ) : Type 0 where

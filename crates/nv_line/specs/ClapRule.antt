@@ -6,7 +6,7 @@ use Rattle.clap.specs.Words.{new_app, new_rule, with_rule}
 use Rattle.clap.specs.Walk.{is_empty}
 use Rattle.clap.specs.declared.builder.ArgAction.{ArgAction}
 use Rattle.clap.specs.declared.builder.ArgAction.TheVariants.{Set, SetTrue}
-use Rattle.nv_line.specs.NumberOption.{is_required}
+use Rattle.nv_line.specs.OptionName.{is_required}
 use Rattle.nv_line.specs.OptionName.{name_of}
 use Rattle.nv_line.specs.Options.{options_of}
 use Rattle.nv_line.specs.Verb.{word_of}

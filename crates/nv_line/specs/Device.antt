@@ -4,9 +4,9 @@ use Rattle.std.specs.Prelude.{Option, Some, None, option_map, option_and_then}
 use Rattle.std.specs.List.{after_first, before_first, position_or_len}
 use Rattle.std.specs.Str.{bytes_eq}
 use Rattle.clap.specs.Words.{Text}
-use Rattle.nv_line.specs.Number.{plain_number, within}
+use Rattle.nv_line.specs.Values.{plain_number, within}
 use Rattle.nv_line.specs.declared.device.Device.{Device}
-use Rattle.nv_line.specs.Limits.{nsid_limit}
+use Rattle.nv_line.specs.Word.{nsid_limit}
 
 -- X, the place of a controller in the subsystem's file
 abbrev pub controller_index : ℕ → Text → Option ℕ

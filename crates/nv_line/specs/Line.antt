@@ -9,7 +9,7 @@ use Rattle.nv_line.specs.declared.fault.LineFault.{LineFault}
 use Rattle.nv_line.specs.declared.fault.LineFault.TheVariants.{NotText, TooLong}
 use Rattle.nv_line.specs.declared.line.Line.{Line}
 use Rattle.nv_line.specs.declared.line.Line.TheVariants as line
-use Rattle.nv_line.specs.Limits.{line_limit}
+use Rattle.nv_line.specs.Word.{line_limit}
 
 abbrev pub reading : Text → ℕ → Result Line LineFault
 reading text controllers =

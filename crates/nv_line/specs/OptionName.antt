@@ -1,13 +1,22 @@
 -- The long names of the options, which are clap's ids too.
-use Rattle.std.specs.Prelude.{codes}
+use Rattle.std.specs.Prelude.{ℕ, Bool, not, ◌&&◌, is_none, if◌then◌else◌, Option, codes}
+use Rattle.std.specs.Option.{option_or}
+use Rattle.nv_line.specs.declared.device.Device.{Device}
+use Rattle.nv_line.specs.declared.option.NumberOption.{NumberOption}
 use Rattle.clap.specs.Words.{Text}
 use Rattle.nv_line.specs.declared.option.OptionName.{OptionName}
-use Rattle.nv_line.specs.declared.option.OptionName.TheVariants.{NamespaceId, All, Force, Nsze}
-use Rattle.nv_line.specs.declared.option.OptionName.TheVariants.{Ncap, Flbas, Dps}
-use Rattle.nv_line.specs.declared.option.OptionName.TheVariants.{Nmic, Controllers, Lbaf, Ses, Pi}
-use Rattle.nv_line.specs.declared.option.OptionName.TheVariants.{Pil, Ms}
-use Rattle.nv_line.specs.declared.option.OptionName.TheVariants.{FeatureId, Sel, Cdw11, Value, Save}
-use Rattle.nv_line.specs.declared.option.OptionName.TheVariants.{LogEntries, OutputFormat}
+use Rattle.nv_line.specs.declared.option.OptionName.TheVariants.{NamespaceId, All, Force, Nsze, Ncap}
+use Rattle.nv_line.specs.declared.option.OptionName.TheVariants.{Flbas, Dps, Nmic, Controllers, Lbaf}
+use Rattle.nv_line.specs.declared.option.OptionName.TheVariants.{Ses, Pi, Pil, Ms, FeatureId, Sel, Cdw11}
+use Rattle.nv_line.specs.declared.option.OptionName.TheVariants.{Value, Save, LogEntries, OutputFormat}
+
+-- nothing can stand in where it isn't written
+abbrev pub is_required : NumberOption → Bool
+is_required o = not o.takes_path && is_none o.default
+
+-- what stands in: the path's NSID if the option takes it, else the default
+abbrev pub fallback_of : NumberOption → Device → Option ℕ
+fallback_of o device = if o.takes_path then option_or device.nsid o.default else o.default
 
 abbrev pub name_of : OptionName → Text
 name_of NamespaceId = codes "namespace-id"

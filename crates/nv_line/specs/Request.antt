@@ -7,13 +7,13 @@ use Rattle.nv_command.specs.declared.command.Command.TheVariants.{IdentifyContro
 use Rattle.nv_line.specs.Ask.{IsAskable}
 use Rattle.nv_line.specs.ClapRule.{rows_of_words}
 use Rattle.nv_line.specs.Device.{device_of}
-use Rattle.nv_line.specs.Features.{get_feature_of, set_feature_of}
-use Rattle.nv_line.specs.Format.{format_of}
-use Rattle.nv_line.specs.Identify.{id_ns_of, list_ns_of}
+use Rattle.nv_line.specs.Commands.{get_feature_of, set_feature_of}
+use Rattle.nv_line.specs.Commands.{format_of}
+use Rattle.nv_line.specs.Commands.{id_ns_of, list_ns_of}
 use Rattle.nv_layout.specs.Steps.{◌>>=◌}
-use Rattle.nv_line.specs.Logs.{error_log_of, smart_log_of}
-use Rattle.nv_line.specs.Management.{attachment_of, create_ns_of, delete_ns_of}
-use Rattle.nv_line.specs.OptionValue.{format_in}
+use Rattle.nv_line.specs.Commands.{error_log_of, smart_log_of}
+use Rattle.nv_line.specs.Commands.{attachment_of, create_ns_of, delete_ns_of}
+use Rattle.nv_line.specs.Values.{format_in}
 use Rattle.nv_line.specs.Options.{output_format_option}
 use Rattle.nv_line.specs.Verb.{verb_of}
 use Rattle.nv_line.specs.declared.device.Device.{Device}

@@ -1,11 +1,18 @@
 -- The words of a line.
-use Rattle.std.specs.Prelude.{ℕ, Bool, true, not, ◌||◌, ◌==◌, List, [], ◌∷◌, codes, if◌then◌else◌}
-use Rattle.std.specs.Prelude.{find}
+use Rattle.std.specs.Prelude.{ℕ, Bool, true, not, ◌||◌, ◌==◌, List, [], ◌∷◌, codes, if◌then◌else◌, find}
 use Rattle.std.specs.List.{filter, slice_split}
 use Rattle.std.specs.Option.{option_map_or}
 use Rattle.std.specs.Str.{bytes_eq}
 use Rattle.clap.specs.Words.{Text}
 use Rattle.clap.specs.Walk.{is_empty}
+
+-- the most bytes of a line, without its newline
+abbrev pub line_limit : ℕ
+line_limit = 4095
+
+-- the greatest NSID
+abbrev pub nsid_limit : ℕ
+nsid_limit = 4294967295
 
 -- a space or a tab
 abbrev pub is_blank : ℕ → Bool

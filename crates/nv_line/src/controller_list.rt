@@ -1,7 +1,7 @@
 //! The lists of controller identifiers of a line.
 
 ghost use Rattle.std.specs.Prelude.{◌≡◌};
-ghost use Rattle.nv_line.specs.ControllerList.{list_in};
+ghost use Rattle.nv_line.specs.Values.{list_in};
 
 use crate::number::parse_number;
 use nv_layout::{ControllerIds, CtrlList, MOST_CNTLIDS};

@@ -4,7 +4,7 @@ ghost use Rattle.std.specs.Prelude.{◌≡◌, IfOk};
 ghost use Rattle.clap.specs.Words.{found_of, rows_of};
 ghost use Rattle.nv_command.specs.Logs.{IsSendable};
 ghost use Rattle.nv_line.specs.Ask.{IsAskable};
-ghost use Rattle.nv_line.specs.Identify.{id_ns_of, list_command, list_ns_of, namespace_command};
+ghost use Rattle.nv_line.specs.Commands.{id_ns_of, list_command, list_ns_of, namespace_command};
 
 use crate::device::Device;
 use crate::fault::LineFault;

@@ -3,7 +3,7 @@
 ghost use Rattle.std.specs.Prelude.{◌≡◌, IfOk};
 ghost use Rattle.clap.specs.Words.{found_of, rows_of};
 ghost use Rattle.nv_line.specs.Ask.{IsAskable};
-ghost use Rattle.nv_line.specs.Logs.{error_log_of, smart_log_of};
+ghost use Rattle.nv_line.specs.Commands.{error_log_of, smart_log_of};
 
 use crate::device::Device;
 use crate::fault::LineFault;

@@ -4,7 +4,7 @@
 ghost use Rattle.std.specs.Prelude.{◌≡◌, IfOk};
 ghost use Rattle.clap.specs.Words.{found_of, rows_of};
 ghost use Rattle.nv_line.specs.Ask.{IsAskable};
-ghost use Rattle.nv_line.specs.Management.{attachment_of, create_ns_of, delete_ns_of};
+ghost use Rattle.nv_line.specs.Commands.{attachment_of, create_ns_of, delete_ns_of};
 
 use crate::device::Device;
 use crate::fault::LineFault;

@@ -1,7 +1,7 @@
 //! The numbers of a line.
 
 ghost use Rattle.std.specs.Prelude.{◌≡◌, ◌≤◌, option_and_then};
-ghost use Rattle.nv_line.specs.Number.{digits_of, number_in, number_of, plain_number, within};
+ghost use Rattle.nv_line.specs.Values.{digits_of, number_in, number_of, plain_number, within};
 
 /// The number that digits of a base write.
 fn digits(text: &str, base: u32) -> Option<u64>

@@ -1,8 +1,8 @@
 //! The options of the commands: how they are named and written, and what they take.
 
 ghost use Rattle.std.specs.Prelude.{◌≡◌, ◌≤◌, IfSome};
-ghost use Rattle.nv_line.specs.NumberOption.{IsSound, fallback_of, is_required};
-ghost use Rattle.nv_line.specs.OptionName.{name_of};
+ghost use Rattle.nv_line.specs.inner.OptionName.{IsSound};
+ghost use Rattle.nv_line.specs.OptionName.{fallback_of, is_required, name_of};
 
 use crate::device::Device;
 use std::fmt;

@@ -2,8 +2,8 @@
 
 ghost use Rattle.std.specs.Prelude.{◌≡◌, ◌≤◌, IfOk};
 ghost use Rattle.clap.specs.Words.{found_of, rows_of};
-ghost use Rattle.nv_line.specs.NumberOption.{IsSound};
-ghost use Rattle.nv_line.specs.OptionValue.{flag_in, format_in, list_option_in, number_option_in};
+ghost use Rattle.nv_line.specs.inner.OptionName.{IsSound};
+ghost use Rattle.nv_line.specs.Values.{flag_in, format_in, list_option_in, number_option_in};
 
 use crate::clap_rule::text_of;
 use crate::controller_list::parse_list;

@@ -1,7 +1,7 @@
 //! How answers are written.
 
 ghost use Rattle.std.specs.Prelude.{◌≡◌};
-ghost use Rattle.nv_line.specs.OutputFormat.{format_named};
+ghost use Rattle.nv_line.specs.Values.{format_named};
 
 /// How an answer is written.
 #[derive(Clone, Copy, Debug, PartialEq, Eq)]

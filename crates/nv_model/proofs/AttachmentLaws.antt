@@ -18,8 +18,8 @@ use Rattle.nv_model.proofs.FeatureLaws.{values-with, values-without}
 use Rattle.nv_model.specs.Management.{with_attached, with_nsids, without}
 use Rattle.nv_model.proofs.ManagementLaws.{AllRefuse, attached_keep, left, none_holds}
 use Rattle.nv_model.proofs.MappedLaws.{count_by-map, count_by-map_le}
-use Rattle.nv_model.specs.Nsid.{is_allocated}
-use Rattle.nv_model.specs.Row.{first_refusal}
+use Rattle.nv_model.specs.Conditions.{is_allocated}
+use Rattle.nv_model.specs.Conditions.{first_refusal}
 use Rattle.nv_model.specs.State.{Controller, State}
 use Rattle.nv_model.specs.WellFormed.{AreValues, IsController, IsWellFormed}
 

@@ -10,7 +10,7 @@ use Rattle.std.specs.Cmp.{Equal-is, IsTotalOrder}
 use Rattle.std.specs.FinMap as map_of
 use Rattle.std.specs.FinMap.{FinMap, IsAntisymmetric, find, get-entries, get-from_entries}
 use Rattle.std.specs.FinMap.{get-insert, same_map}
-use Rattle.nv_model.specs.ChangedKeys.{changed_at_keys}
+use Rattle.nv_model.specs.Change.{changed_at_keys}
 
 -- what a key has, changed
 abbrev changed_if : {X : Type 0} → Bool → (X → X) → Option X → Option X

@@ -13,14 +13,14 @@ use Rattle.nv_layout.proofs.FeatureTableLaws.{default_is_value, feature_at}
 use Rattle.nv_layout.proofs.FeatureTableLaws.{feature_with, of_namespaces, other_identifier}
 use Rattle.nv_layout.specs.declared.feature.Feature.{Feature}
 use Rattle.nv_layout.specs.declared.feature.Feature.TheVariants as feature
-use Rattle.nv_model.specs.Defaults.{default_at}
+use Rattle.nv_model.specs.Values.{default_at}
 use Rattle.nv_model.specs.declared.defaults.Defaults.{Defaults}
 use Rattle.nv_model.specs.declared.feature_rule.FeatureRule.{FeatureRule}
-use Rattle.nv_model.specs.FeatureRules.{FeatureRules, first_value, rule_of}
-use Rattle.nv_model.specs.FeatureValue.{default_of, default_rule}
+use Rattle.nv_model.specs.Values.{FeatureRules, first_value, rule_of}
+use Rattle.nv_model.specs.Values.{default_of, default_rule}
 use Rattle.nv_model.specs.State.{Nsids}
-use Rattle.nv_model.specs.Supported.{is_supported}
-use Rattle.nv_model.specs.ValueKey.{FeatureValues, ValueKey, is_alone, key_of, recovery_key}
+use Rattle.nv_model.specs.WellFormed.{is_supported}
+use Rattle.nv_model.specs.Values.{FeatureValues, ValueKey, is_alone, key_of, recovery_key}
 use Rattle.nv_model.proofs.ValueLaws.{by_numbers, is_key, same_key, value_of_insert}
 use Rattle.nv_model.proofs.ValueLaws.{value_of_remove, value_of_retain}
 use Rattle.nv_model.specs.WellFormed.{AreRules, AreValues, has_value, is_value_at, may_have}

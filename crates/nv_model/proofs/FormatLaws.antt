@@ -10,20 +10,20 @@ use Rattle.std.proofs.lemmas.Bool.Decides.{nat_tests}
 use Rattle.std.proofs.lemmas.List.Elements.{All-weaker}
 use Rattle.nv_bits.proofs.NumberLaws.{contains-insert, get_of_insert}
 use Rattle.nv_model.specs.Ranges.{IsInFormat}
-use Rattle.nv_model.specs.Formats.{may_extend}
+use Rattle.nv_model.specs.Conditions.{may_extend, can_have, format_at}
 use Rattle.nv_model.specs.declared.format.Format.{Format}
 use Rattle.nv_model.specs.declared.namespace.Namespace.{Namespace}
 use Rattle.nv_command.proofs.RefusalLaws.{is_refusal-refusal_by}
-use Rattle.nv_model.specs.Format.{format_rows, formatted, in_format, is_below, with_format}
+use Rattle.nv_model.specs.Format.{format_rows, formatted, in_format, is_below}
+use Rattle.nv_model.specs.inner.Format.{with_format}
 use Rattle.std.specs.Cmp.{nat_cmp_total}
 use Rattle.std.specs.FinMap.{nat_cmp-IsAntisymmetric}
-use Rattle.nv_model.specs.ChangedKeys.{changed_at_keys}
+use Rattle.nv_model.specs.Change.{changed_at_keys}
 use Rattle.nv_model.proofs.ChangedKeysLaws.{folded}
 use Rattle.nv_model.proofs.ChoiceLaws.{not_false}
-use Rattle.nv_model.specs.Formats.{can_have, format_at}
 use Rattle.nv_model.proofs.ManagementLaws.{AllRefuse, extends_by, none_holds}
-use Rattle.nv_model.specs.Nsid.{concerned}
-use Rattle.nv_model.specs.Row.{first_refusal}
+use Rattle.nv_model.specs.Conditions.{concerned}
+use Rattle.nv_model.specs.Conditions.{first_refusal}
 use Rattle.nv_model.specs.State.{Namespaces, State}
 use Rattle.nv_model.proofs.UsedLaws.{used-change}
 use Rattle.nv_model.specs.WellFormed.{IsController, IsNamespace, IsWellFormed}

@@ -1,7 +1,7 @@
 -- A change of one controller leaves a well-formed subsystem well formed.
 use Rattle.std.proofs.Common.{◌≡◌, ◌∙◌, ℕ, ◌≤◌, ap, sym, refl, subst, arith}
 use Rattle.std.specs.FinMap as map_of
-use Rattle.nv_model.specs.Identity.{Identity}
+use Rattle.nv_model.specs.State.{Identity}
 use Rattle.nv_model.proofs.ChangedAtLaws.{All-changed_at, count_by-changed_at, each_place}
 use Rattle.nv_model.proofs.ChangedAtLaws.{length-changed_at}
 use Rattle.nv_model.specs.State.{Controller, Namespaces, Nsids, State, with_controller}

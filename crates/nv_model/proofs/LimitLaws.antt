@@ -13,17 +13,17 @@ use Rattle.nv_command.specs.declared.command.Command.TheVariants.{Attachment, Cr
 use Rattle.nv_command.specs.declared.command.Command.TheVariants.{SetFeature}
 use Rattle.nv_command.specs.declared.refusal.Refusal.{Refusal}
 use Rattle.nv_model.specs.Attachment.{fewer, more}
-use Rattle.nv_model.specs.Effect.{effect_of}
+use Rattle.nv_model.specs.Meaning.{effect_of}
 use Rattle.nv_model.specs.Features.{changed_nsids, with_values}
-use Rattle.nv_model.specs.Identity.{Identity}
+use Rattle.nv_model.specs.State.{Identity}
 use Rattle.nv_model.specs.Management.{new_namespace, wanted, with_nsids}
 use Rattle.nv_model.specs.Management.{without, without_all, without_any, without_one}
-use Rattle.nv_model.specs.Nsid.{free_nsid}
-use Rattle.nv_model.specs.Refusal.{refusal_of}
+use Rattle.nv_model.specs.Conditions.{free_nsid}
+use Rattle.nv_model.specs.Meaning.{refusal_of}
 use Rattle.nv_model.specs.State.{Controller, State, changed_at, with_controller}
 use Rattle.nv_model.specs.Step.{refused, step, step_by, with_command, with_refusal}
 use Rattle.nv_model.specs.WellFormed.{IsController, IsWellFormed}
-use Rattle.nv_model.specs.Limit.{greatest_limit, limit_of, mdts_of}
+use Rattle.nv_model.specs.Conditions.{greatest_limit, limit_of, mdts_of}
 
 pub limit_within : (m : ℕ) → m ≤ 8 → 4096 * 2 ^ m ≤ greatest_limit
 limit_within m high =

@@ -13,8 +13,8 @@ use Rattle.std.proofs.lemmas.Bool.Decides.{nat_tests}
 use Rattle.std.proofs.lemmas.List.{length-map}
 use Rattle.std.proofs.lemmas.List.Sums.{count_by-le-length, length-filter}
 use Rattle.nv_command.specs.Reply.{IsNsidList}
-use Rattle.nv_bits.specs.Numbers.{above}
-use Rattle.nv_layout.specs.NsList.{most_nsids}
+use Rattle.nv_bits.specs.Above.{above}
+use Rattle.nv_layout.specs.Limits.{most_nsids}
 
 first : (a b : Bool) → T (a && b) → T a
 first true b p = tt

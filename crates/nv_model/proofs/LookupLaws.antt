@@ -9,15 +9,15 @@ use Rattle.std.proofs.lemmas.Bool.Decides.{nat_tests}
 use Rattle.std.proofs.lemmas.Cmp.{eq_by_cmp_equiv, nat_cmp_total}
 use Rattle.std.proofs.lemmas.Map.Views.{All-from_any}
 use Rattle.std.proofs.lemmas.Option.{get_or_from_slice_get, slice_get_within}
-use Rattle.nv_command.specs.Logs.{answer_received}
+use Rattle.nv_command.specs.Received.{answer_received}
 use Rattle.nv_command.specs.Nsid.{broadcast_nsid}
 use Rattle.nv_command.specs.declared.command.Command.{Command}
 use Rattle.nv_command.specs.declared.command.Command.TheVariants.{IdentifyController}
 use Rattle.nv_command.specs.declared.command.Command.TheVariants.{IdentifyNamespace, ActiveList}
 use Rattle.nv_command.specs.declared.status_code.StatusCode.TheVariants.{InvalidNamespaceOrFormat}
-use Rattle.nv_model.specs.Nsid.{active_nsids}
-use Rattle.nv_model.specs.Reply.{reply_of}
-use Rattle.nv_model.specs.Row.{first_refusal, row}
+use Rattle.nv_model.specs.Conditions.{active_nsids}
+use Rattle.nv_model.specs.Meaning.{reply_of}
+use Rattle.nv_model.specs.Conditions.{first_refusal, row}
 use Rattle.nv_model.specs.State.{Controller, State, ascending, changed_at, controller_at}
 use Rattle.nv_model.specs.Step.{Step, next_count, step, step_by, with_command}
 use Rattle.nv_model.specs.WellFormed.{IsController, IsWellFormed}

@@ -16,30 +16,29 @@ use Rattle.nv_bits.specs.Numbers.{NumberMap}
 use Rattle.nv_bits.proofs.NumberLaws.{contains-insert, contains-remove, get_of_insert, get_of_remove}
 use Rattle.nv_bits.proofs.NumberLaws.{remove_absent}
 use Rattle.nv_model.specs.Ranges.{IsInFormat}
-use Rattle.nv_model.specs.Formats.{may_extend}
+use Rattle.nv_model.specs.Conditions.{may_extend, format_at}
 use Rattle.nv_model.specs.declared.format.Format.{Format}
 use Rattle.nv_model.specs.declared.namespace.Namespace.{Namespace}
 use Rattle.nv_command.specs.Refusal.{IsRefusal}
 use Rattle.nv_command.proofs.RefusalLaws.{is_refusal-refusal_by}
 use Rattle.nv_command.specs.Nsid.{broadcast_nsid}
 use Rattle.nv_command.specs.declared.status_code.StatusCode.TheVariants.{NamespaceInsufficientCapacity}
-use Rattle.nv_model.specs.Capacity.{unallocated, used}
+use Rattle.nv_model.specs.WellFormed.{unallocated, used}
 use Rattle.nv_model.proofs.ChoiceLaws.{not_false}
-use Rattle.nv_model.specs.Formats.{format_at}
 use Rattle.nv_model.specs.Management.{Attached, bytes_needed, capacity_refusal, create_rows}
 use Rattle.nv_model.specs.Management.{created, created_nsid, delete_rows, deleted, format_index}
 use Rattle.nv_model.specs.Management.{is_extended, new_namespace, with_attached, with_nsids}
 use Rattle.nv_model.specs.Management.{without, without_all, without_any, without_one}
 use Rattle.nv_model.proofs.FeatureLaws.{values-without, values-without_any}
 use Rattle.nv_model.proofs.MappedLaws.{count_by-map_le, none_pass, pairs_map, untrue}
-use Rattle.nv_model.specs.Nsid.{free_nsid, is_allocated}
-use Rattle.nv_model.specs.Row.{first_refusal}
+use Rattle.nv_model.specs.Conditions.{free_nsid, is_allocated}
+use Rattle.nv_model.specs.Conditions.{first_refusal}
 use Rattle.nv_model.specs.State.{Controller, Namespaces, State}
 use Rattle.nv_model.proofs.UsedLaws.{used-empty, used-insert, used-remove}
 use Rattle.nv_model.specs.WellFormed.{AreValues, IsController, IsNamespace, IsWellFormed}
 use Rattle.nv_model.specs.declared.new_namespace.NewNamespace.{NewNamespace}
 use Rattle.nv_model.specs.declared.row.Row.{Row}
-use Rattle.nv_layout.specs.NsList.{most_nsids}
+use Rattle.nv_layout.specs.Limits.{most_nsids}
 
 -- ---- rows
 

@@ -10,7 +10,7 @@ use Rattle.nv_layout.specs.IdNs.{IdNsFits}
 use Rattle.nv_layout.specs.declared.error_entry.ErrorEntry.{ErrorEntry}
 use Rattle.nv_layout.specs.declared.smart.Smart.{Smart}
 use Rattle.nv_command.specs.Form.{form_of}
-use Rattle.nv_command.specs.Logs.{is_error_log, log_kind}
+use Rattle.nv_command.specs.Form.{is_error_log, log_kind}
 use Rattle.nv_command.specs.Refusal.{IsRefusal}
 use Rattle.nv_command.proofs.RefusalLaws.{is_refusal-refusal_by}
 use Rattle.nv_command.specs.Reply.{FitsRecord, IsNsidList, kind_of}
@@ -25,7 +25,7 @@ use Rattle.nv_command.specs.Nsid.{broadcast_nsid}
 use Rattle.nv_command.specs.declared.form.ReplyKind.{ReplyKind}
 use Rattle.nv_command.specs.declared.reply.Reply.TheVariants as reply
 use Rattle.nv_command.specs.declared.status_code.StatusCode.TheVariants.{InvalidNamespaceOrFormat}
-use Rattle.nv_bits.specs.Numbers.{above}
+use Rattle.nv_bits.specs.Above.{above}
 use Rattle.nv_model.proofs.AttachmentLaws.{attachment_controllers, attachment_keeps}
 use Rattle.nv_model.proofs.AttachmentLaws.{attachment_rows_fit}
 use Rattle.nv_model.proofs.ChoiceLaws.{chosen_fits}
@@ -43,8 +43,8 @@ use Rattle.nv_model.proofs.ManagementLaws.{create_keeps, create_rows_fit, create
 use Rattle.nv_model.proofs.ManagementLaws.{created_nsid_fits, delete_keeps, delete_rows_fit}
 use Rattle.nv_model.proofs.ManagementLaws.{deleted_controllers}
 use Rattle.nv_model.specs.Meaning.{Meaning, meaning_of}
-use Rattle.nv_model.specs.Nsid.{is_active}
-use Rattle.nv_model.specs.Row.{first_refusal}
+use Rattle.nv_model.specs.Conditions.{is_active}
+use Rattle.nv_model.specs.Conditions.{first_refusal}
 use Rattle.nv_model.proofs.SetFeatureLaws.{feature_controllers, feature_keeps}
 use Rattle.nv_model.proofs.SetFeatureLaws.{feature_number_fits, get_feature_rows_fit}
 use Rattle.nv_model.proofs.SetFeatureLaws.{set_feature_rows_fit}

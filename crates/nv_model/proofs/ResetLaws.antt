@@ -14,12 +14,12 @@ use Rattle.nv_layout.proofs.FeatureTableLaws.{feature_with}
 use Rattle.nv_layout.specs.declared.feature.Feature.{Feature}
 use Rattle.nv_model.proofs.ChangedAtLaws.{length-changed_at}
 use Rattle.nv_model.proofs.FeatureLaws.{AreSound, default_is_sound}
-use Rattle.nv_model.specs.FeatureRules.{FeatureRules, first_value, rule_for, rule_of}
-use Rattle.nv_model.specs.FeatureValue.{default_of, restored}
+use Rattle.nv_model.specs.Values.{FeatureRules, first_value, rule_for, rule_of}
+use Rattle.nv_model.specs.Values.{default_of, restored}
 use Rattle.nv_model.proofs.KeepingLaws.{KeepsController, keeps}
-use Rattle.nv_model.specs.Reset.{all_restored, reset, reset_if, reset_where, with_restored}
+use Rattle.nv_model.specs.Step.{all_restored, reset, reset_if, reset_where, with_restored}
 use Rattle.nv_model.specs.State.{State}
-use Rattle.nv_model.specs.ValueKey.{FeatureValues, ValueKey, key_cmp}
+use Rattle.nv_model.specs.Values.{FeatureValues, ValueKey, key_cmp}
 use Rattle.nv_model.proofs.ValueLaws.{is_key, key_cmp_total, same_key}
 use Rattle.nv_model.specs.WellFormed.{AreRules, IsWellFormed, is_value_at, may_have}
 use Rattle.nv_model.specs.declared.feature_value.FeatureValue.{FeatureValue}

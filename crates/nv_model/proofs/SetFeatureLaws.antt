@@ -19,23 +19,22 @@ use Rattle.nv_model.specs.Change.{changed, changed_at}
 use Rattle.nv_model.proofs.ChangedAtLaws.{length-changed_at}
 use Rattle.nv_model.proofs.ChoiceLaws.{chosen_fits, not_false}
 use Rattle.nv_model.proofs.FeatureLaws.{default_is_sound, sound_at, values-written}
-use Rattle.nv_model.specs.FeatureRules.{FeatureRules, rule_of}
+use Rattle.nv_model.specs.Values.{FeatureRules, rule_of}
 use Rattle.nv_model.specs.Features.{changed_nsids, feature_number, get_feature_rows}
 use Rattle.nv_model.specs.Features.{get_rows, is_set}
 use Rattle.nv_model.specs.Features.{selected, set_feature_rows, set_rows, supported_at, told}
 use Rattle.nv_model.specs.Features.{with_feature, with_value, with_values, write}
-use Rattle.nv_model.specs.FeatureValue.{default_of, written}
+use Rattle.nv_model.specs.Values.{default_of, written}
 use Rattle.nv_model.proofs.KeepingLaws.{KeepsController, keeps}
 use Rattle.nv_model.proofs.ManagementLaws.{AllRefuse, none_holds}
 use Rattle.nv_command.specs.declared.status_code.StatusCode.TheVariants.{InvalidFieldInCommand}
-use Rattle.nv_model.specs.Row.{first_refusal, row}
+use Rattle.nv_model.specs.Conditions.{first_refusal, row}
 use Rattle.nv_model.specs.State.{Controller, Nsids, State, controller_at}
 use Rattle.nv_model.specs.State.{with_controller}
-use Rattle.nv_model.specs.Supported.{is_supported, supported}
-use Rattle.nv_model.specs.ValueKey.{FeatureValues, key_of}
+use Rattle.nv_model.specs.WellFormed.{is_supported, supported}
+use Rattle.nv_model.specs.Values.{FeatureValues, key_of}
 use Rattle.nv_model.proofs.ValueLaws.{put_back, removed_absent}
-use Rattle.nv_model.specs.WellFormed.{AreValues, IsController, IsWellFormed, is_value_at}
-use Rattle.nv_model.specs.WellFormed.{may_have}
+use Rattle.nv_model.specs.WellFormed.{AreValues, IsController, IsWellFormed, is_value_at, may_have}
 use Rattle.nv_model.specs.declared.feature_value.FeatureValue.{FeatureValue}
 use Rattle.nv_model.specs.declared.row.Row.{Row}
 

@@ -6,14 +6,14 @@ use Rattle.std.proofs.lemmas.List.Elements.{All-cons, All-take}
 use Rattle.std.specs.Prelude.{All, if◌then◌else◌}
 use Rattle.std.specs.List.{AllByRecursion}
 use Rattle.nv_model.specs.State.{State}
-use Rattle.nv_model.specs.Numbers.{greatest_count}
+use Rattle.nv_model.specs.Ranges.{greatest_count}
 use Rattle.nv_model.specs.Step.{next_count, refused, step, step_by, with_command, with_refusal}
-use Rattle.nv_model.specs.Effect.{effect_of}
-use Rattle.nv_model.specs.ErrorLog.{log_entry}
-use Rattle.nv_model.specs.Refusal.{refusal_of, rows_of}
-use Rattle.nv_model.specs.Row.{first_refusal}
+use Rattle.nv_model.specs.Meaning.{effect_of}
+use Rattle.nv_model.specs.Step.{log_entry}
+use Rattle.nv_model.specs.Meaning.{refusal_of, rows_of}
+use Rattle.nv_model.specs.Conditions.{first_refusal}
 use Rattle.nv_model.specs.declared.row.Row.{Row}
-use Rattle.nv_command.specs.Command.{namespace_of}
+use Rattle.nv_command.specs.Form.{namespace_of}
 use Rattle.nv_command.specs.Refusal.{IsRefusal}
 use Rattle.nv_model.specs.WellFormed.{IsWellFormed}
 use Rattle.nv_command.specs.declared.command.Command.{Command}

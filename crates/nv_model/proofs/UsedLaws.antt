@@ -12,7 +12,7 @@ use Rattle.std.proofs.lemmas.Bool.{eq-eqb}
 use Rattle.std.proofs.lemmas.Bool.Decides.{nat_tests}
 use Rattle.std.proofs.lemmas.List.Sums.{sum_by-cons}
 use Rattle.nv_bits.proofs.NumberLaws.{get_of_insert, get_of_remove, same_numbers}
-use Rattle.nv_model.specs.Capacity.{used}
+use Rattle.nv_model.specs.WellFormed.{used}
 use Rattle.nv_model.specs.State.{Namespaces}
 use Rattle.nv_model.specs.declared.namespace.Namespace.{Namespace}
 

@@ -10,7 +10,7 @@ use Rattle.std.specs.Cmp.Lexicographic.{nat_list_cmp_total}
 use Rattle.std.specs.FinMap as map_of
 use Rattle.std.specs.FinMap.{IsAntisymmetric, get-insert, get-remove, get-retain_keys}
 use Rattle.std.specs.FinMap.{nat_cmp-IsAntisymmetric, same_map, slice_cmp-IsAntisymmetric}
-use Rattle.nv_model.specs.ValueKey.{FeatureValues, ValueKey, key_cmp, numbers_of}
+use Rattle.nv_model.specs.Values.{FeatureValues, ValueKey, key_cmp, numbers_of}
 use Rattle.nv_model.specs.declared.feature_value.FeatureValue.{FeatureValue}
 
 -- ---- the order of keys

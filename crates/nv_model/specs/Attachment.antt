@@ -10,12 +10,12 @@ use Rattle.nv_command.specs.declared.status_code.StatusCode.TheVariants.{Invalid
 use Rattle.nv_command.specs.declared.status_code.StatusCode.TheVariants.{NamespaceAlreadyAttached}
 use Rattle.nv_command.specs.declared.status_code.StatusCode.TheVariants.{NamespaceIsPrivate}
 use Rattle.nv_command.specs.declared.status_code.StatusCode.TheVariants.{NamespaceNotAttached}
-use Rattle.nv_model.specs.FeatureRules.{first_value}
+use Rattle.nv_model.specs.Values.{first_value}
 use Rattle.nv_model.specs.Management.{Attached, with_attached, without}
-use Rattle.nv_model.specs.Nsid.{is_allocated, is_valid}
-use Rattle.nv_model.specs.Row.{row}
+use Rattle.nv_model.specs.Conditions.{is_allocated, is_valid}
+use Rattle.nv_model.specs.Conditions.{row}
 use Rattle.nv_model.specs.State.{Controller, State}
-use Rattle.nv_model.specs.ValueKey.{recovery_key}
+use Rattle.nv_model.specs.Values.{recovery_key}
 use Rattle.nv_model.specs.declared.row.Row.{Row}
 
 -- ---- the list of controller identifiers

@@ -1,25 +1,8 @@
 -- The error log as a value.
-use Rattle.std.specs.Prelude.{ℕ, Bool, false, List, refl}
+use Rattle.std.specs.Prelude.{ℕ, Bool, List, refl}
 use Rattle.std.specs.Coded.{Coded, code_by, coded×, coded_ℕ, coded_bool, coded_list}
-use Rattle.nv_command.specs.declared.refusal.Refusal.{Refusal}
 use Rattle.nv_layout.specs.declared.error_entry.ErrorEntry.{ErrorEntry}
 use Rattle.nv_layout.specs.declared.status.Status.{Status}
-
--- the entry of a refusal: no field of the command is told, and no logical block, and here no phase
--- tag
-abbrev pub log_entry : ℕ → ℕ → ℕ → Refusal → ErrorEntry
-log_entry count cid nsid r = record {
-  count = count;
-  sqid = 0;
-  cid = cid;
-  status = r.status;
-  phase = false;
-  location = 0xffff;
-  lba = 0;
-  nsid = nsid;
-  vendor = 0;
-  specific = r.specific;
-}
 
 -- the entries newest first, and how many there may be
 pub record Log : Type 0 where

@@ -17,13 +17,13 @@ use Rattle.nv_command.specs.declared.status_code.StatusCode.TheVariants.{Feature
 use Rattle.nv_command.specs.declared.status_code.StatusCode.TheVariants.{InvalidFieldInCommand}
 use Rattle.nv_command.specs.declared.status_code.StatusCode.TheVariants.{InvalidNamespaceOrFormat}
 use Rattle.nv_model.specs.Change.{Change, changed}
-use Rattle.nv_model.specs.FeatureRules.{rule_of}
-use Rattle.nv_model.specs.FeatureValue.{default_of, default_rule, written}
-use Rattle.nv_model.specs.Nsid.{concerned, is_active, is_valid}
-use Rattle.nv_model.specs.Row.{row}
+use Rattle.nv_model.specs.Values.{rule_of}
+use Rattle.nv_model.specs.Values.{default_of, default_rule, written}
+use Rattle.nv_model.specs.Conditions.{concerned, is_active, is_valid}
+use Rattle.nv_model.specs.Conditions.{row}
 use Rattle.nv_model.specs.State.{Controller, State, controller_at, with_controller}
-use Rattle.nv_model.specs.Supported.{supported}
-use Rattle.nv_model.specs.ValueKey.{FeatureValues, key_of, keys_of}
+use Rattle.nv_model.specs.WellFormed.{supported}
+use Rattle.nv_model.specs.Values.{FeatureValues, key_of, keys_of}
 use Rattle.nv_model.specs.declared.feature_value.FeatureValue.{FeatureValue}
 use Rattle.nv_model.specs.declared.row.Row.{Row}
 

@@ -2,7 +2,7 @@
 use Rattle.std.specs.Prelude.{ℕ}
 use Rattle.nv_command.specs.Reply.{FitsRecord, IsReplyTo}
 use Rattle.nv_command.specs.declared.command.Command.{Command}
-use Rattle.nv_model.specs.Reply.{reply_of}
+use Rattle.nv_model.specs.Meaning.{reply_of}
 use Rattle.nv_model.specs.State.{State}
 use Rattle.nv_model.specs.WellFormed.{IsWellFormed}
 

@@ -8,11 +8,9 @@ use Rattle.nv_command.specs.declared.status_code.StatusCode.TheVariants.{Invalid
 use Rattle.nv_command.specs.declared.status_code.StatusCode.TheVariants.{InvalidFormat}
 use Rattle.nv_command.specs.declared.status_code.StatusCode.TheVariants.{InvalidNamespaceOrFormat}
 use Rattle.nv_model.specs.declared.namespace.Namespace.{Namespace}
-use Rattle.nv_model.specs.ChangedKeys.{changed_at_keys}
-use Rattle.nv_model.specs.Formats.{can_have, format_at}
-use Rattle.nv_model.specs.Nsid.{concerned, is_active, is_valid}
-use Rattle.nv_model.specs.Row.{row}
-use Rattle.nv_model.specs.State.{Namespaces, State, controller_at}
+use Rattle.nv_model.specs.Change.{changed_at_keys}
+use Rattle.nv_model.specs.Conditions.{can_have, format_at, concerned, is_active, is_valid, row}
+use Rattle.nv_model.specs.State.{State, controller_at}
 use Rattle.nv_model.specs.declared.new_format.NewFormat.{NewFormat}
 use Rattle.nv_model.specs.declared.row.Row.{Row}
 
@@ -52,11 +50,6 @@ format_rows s c n f =
 -- a namespace in another format, with its metadata elsewhere; its capacity stays
 abbrev pub in_format : ℕ → Bool → Namespace → Namespace
 in_format lbaf mset x = record x { format = lbaf; extended = mset }
-
--- one of the namespaces, where it is there
-abbrev pub with_format : ℕ → Bool → Namespaces → ℕ → Namespaces
-with_format lbaf mset m n =
-    option_map_or (λ x. map_of.insert m n (in_format lbaf mset x)) (map_of.get m n) m
 
 abbrev pub formatted : State → ℕ → ℕ → NewFormat → State
 formatted s c n f =

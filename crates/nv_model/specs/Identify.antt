@@ -3,16 +3,16 @@ use Rattle.std.specs.Prelude.{ℕ, ◌+◌, ◌-◌, ◌==◌, ◌||◌, not, na
 use Rattle.std.specs.Prelude.{map, replicate, if◌then◌else◌}
 use Rattle.std.specs.Option.{option_map_or}
 use Rattle.std.specs.FinMap as map_of
-use Rattle.nv_bits.specs.Numbers.{above}
+use Rattle.nv_bits.specs.Above.{above}
 use Rattle.nv_layout.specs.declared.id_ns.IdNs.{IdNs}
 use Rattle.nv_layout.specs.declared.id_ns.Lbaf.{Lbaf}
 use Rattle.nv_command.specs.Nsid.{broadcast_nsid}
 use Rattle.nv_command.specs.declared.reply.Reply.{Reply}
 use Rattle.nv_command.specs.declared.reply.Reply.TheVariants as reply
 use Rattle.nv_command.specs.declared.status_code.StatusCode.TheVariants.{InvalidNamespaceOrFormat}
-use Rattle.nv_model.specs.Capacity.{blocks}
-use Rattle.nv_model.specs.Nsid.{active_nsids, is_active, is_valid}
-use Rattle.nv_model.specs.Row.{row}
+use Rattle.nv_model.specs.WellFormed.{blocks}
+use Rattle.nv_model.specs.Conditions.{active_nsids, is_active, is_valid}
+use Rattle.nv_model.specs.Conditions.{row}
 use Rattle.nv_model.specs.declared.row.Row.{Row}
 use Rattle.nv_model.specs.State.{State, allocated_nsids}
 use Rattle.nv_model.specs.declared.format.Format.{Format}

@@ -4,7 +4,7 @@ use Rattle.std.specs.Option.{option_map_or}
 use Rattle.nv_layout.specs.declared.id_ctrl.IdCtrl.{IdCtrl}
 use Rattle.nv_command.specs.declared.reply.Reply.{Reply}
 use Rattle.nv_command.specs.declared.reply.Reply.TheVariants as reply
-use Rattle.nv_model.specs.Capacity.{unallocated}
+use Rattle.nv_model.specs.WellFormed.{unallocated}
 use Rattle.nv_model.specs.State.{Controller, State, controller_at}
 
 -- a text with padding after it, so many bytes in all

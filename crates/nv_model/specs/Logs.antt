@@ -5,15 +5,15 @@ use Rattle.std.specs.Option.{option_map_or}
 use Rattle.nv_layout.specs.ErrorEntry.{no_entry}
 use Rattle.nv_layout.specs.declared.error_entry.ErrorEntry.{ErrorEntry}
 use Rattle.nv_layout.specs.declared.smart.Smart.{Smart}
-use Rattle.nv_command.specs.Logs.{is_error_log}
+use Rattle.nv_command.specs.Form.{is_error_log}
 use Rattle.nv_command.specs.Nsid.{broadcast_nsid}
 use Rattle.nv_command.specs.declared.logs.LogQuery.{LogQuery}
 use Rattle.nv_command.specs.declared.reply.Reply.{Reply}
 use Rattle.nv_command.specs.declared.reply.Reply.TheVariants as reply
 use Rattle.nv_command.specs.declared.status_code.StatusCode.TheVariants.{InvalidFieldInCommand}
 use Rattle.nv_command.specs.declared.status_code.StatusCode.TheVariants.{InvalidLogPage}
-use Rattle.nv_model.specs.Limit.{limit_of}
-use Rattle.nv_model.specs.Row.{row}
+use Rattle.nv_model.specs.Conditions.{limit_of}
+use Rattle.nv_model.specs.Conditions.{row}
 use Rattle.nv_model.specs.State.{Controller, State, controller_at}
 use Rattle.nv_model.specs.declared.row.Row.{Row}
 use Rattle.nv_model.specs.declared.smart_base.SmartBase.{SmartBase}

@@ -13,12 +13,12 @@ use Rattle.nv_command.specs.declared.status_code.StatusCode.TheVariants.{Namespa
 use Rattle.nv_command.specs.declared.status_code.StatusCode.TheVariants.{NamespaceInsufficientCapacity}
 use Rattle.nv_command.specs.declared.status_code.StatusCode.TheVariants.{ThinProvisioningNotSupported}
 use Rattle.nv_model.specs.declared.namespace.Namespace.{Namespace}
-use Rattle.nv_model.specs.Capacity.{unallocated}
-use Rattle.nv_model.specs.Formats.{can_have, format_at}
-use Rattle.nv_model.specs.Nsid.{free_nsid, is_allocated, is_valid}
-use Rattle.nv_model.specs.Row.{row}
+use Rattle.nv_model.specs.WellFormed.{unallocated}
+use Rattle.nv_model.specs.Conditions.{can_have, format_at}
+use Rattle.nv_model.specs.Conditions.{free_nsid, is_allocated, is_valid}
+use Rattle.nv_model.specs.Conditions.{row}
 use Rattle.nv_model.specs.State.{Controller, Nsids, State}
-use Rattle.nv_model.specs.ValueKey.{FeatureValues, is_alone, recovery_key}
+use Rattle.nv_model.specs.Values.{FeatureValues, is_alone, recovery_key}
 use Rattle.nv_model.specs.declared.new_namespace.NewNamespace.{NewNamespace}
 use Rattle.nv_model.specs.declared.row.Row.{Row}
 

@@ -1,8 +1,7 @@
 -- What each command means: the one table of refusals, replies and effects.
-use Rattle.std.specs.Prelude.{ℕ, List, []}
+use Rattle.std.specs.Prelude.{ℕ, List, [], Option}
 use Rattle.nv_command.specs.declared.command.Command.{Command}
-use Rattle.nv_command.specs.declared.command.Command.TheVariants.{IdentifyController}
-use Rattle.nv_command.specs.declared.command.Command.TheVariants.{IdentifyNamespace}
+use Rattle.nv_command.specs.declared.command.Command.TheVariants.{IdentifyController, IdentifyNamespace}
 use Rattle.nv_command.specs.declared.command.Command.TheVariants.{AllocatedNamespace, ActiveList}
 use Rattle.nv_command.specs.declared.command.Command.TheVariants.{AllocatedList, Create, Delete}
 use Rattle.nv_command.specs.declared.command.Command.TheVariants.{Attachment, Format, GetFeature}
@@ -10,20 +9,19 @@ use Rattle.nv_command.specs.declared.command.Command.TheVariants.{SetFeature, Ge
 use Rattle.nv_command.specs.declared.reply.Reply.{Reply}
 use Rattle.nv_command.specs.declared.reply.Reply.TheVariants.{Done, Number}
 use Rattle.nv_model.specs.Attachment.{attachment_rows, with_attachments}
-use Rattle.nv_model.specs.Features.{feature_number, get_feature_rows, set_feature_rows}
-use Rattle.nv_model.specs.Features.{with_feature}
+use Rattle.nv_model.specs.Features.{feature_number, get_feature_rows, set_feature_rows, with_feature}
 use Rattle.nv_model.specs.Format.{format_rows, formatted, new_format}
-use Rattle.nv_model.specs.Identify.{active_list_reply, active_reply, active_rows}
-use Rattle.nv_model.specs.Identify.{allocated_list_reply, allocated_reply, allocated_rows}
-use Rattle.nv_model.specs.Identify.{list_rows}
+use Rattle.nv_model.specs.Identify.{active_list_reply, active_reply, active_rows, allocated_list_reply}
+use Rattle.nv_model.specs.Identify.{allocated_reply, allocated_rows, list_rows}
 use Rattle.nv_model.specs.IdentifyController.{controller_reply}
 use Rattle.nv_model.specs.Logs.{log_reply, log_rows}
-use Rattle.nv_model.specs.Management.{create_rows, created, created_nsid, delete_rows, deleted}
-use Rattle.nv_model.specs.Management.{wanted}
+use Rattle.nv_model.specs.Management.{create_rows, created, created_nsid, delete_rows, deleted, wanted}
 use Rattle.nv_model.specs.State.{State}
 use Rattle.nv_model.specs.declared.new_format.NewFormat.{NewFormat}
 use Rattle.nv_model.specs.declared.new_namespace.NewNamespace.{NewNamespace}
 use Rattle.nv_model.specs.declared.row.Row.{Row}
+use Rattle.nv_command.specs.declared.refusal.Refusal.{Refusal}
+use Rattle.nv_model.specs.Conditions.{first_refusal}
 
 -- in state s, of a command of controller c: the rows by which it is refused, and where none applies
 -- what it is answered and the state after it
@@ -69,3 +67,16 @@ meaning_of (GetFeature q) =
 meaning_of (SetFeature x) =
     changing (λ s c. set_feature_rows s c x) (λ s c. with_feature s c x)
 meaning_of (GetLog q) = telling (λ s c. log_rows s c q) (λ s c. log_reply s c q.lid)
+
+abbrev pub effect_of : State → ℕ → Command → State
+effect_of s c k = (meaning_of k).effect s c
+
+-- the rows of a command of controller c
+abbrev pub rows_of : State → ℕ → Command → List Row
+rows_of s c k = (meaning_of k).rows s c
+
+abbrev pub refusal_of : State → ℕ → Command → Option Refusal
+refusal_of s c k = first_refusal (rows_of s c k)
+
+abbrev pub reply_of : State → ℕ → Command → Reply
+reply_of s c k = (meaning_of k).reply s c

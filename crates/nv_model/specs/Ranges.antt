@@ -1,6 +1,6 @@
 -- The ranges of what a subsystem is made of.
-use Rattle.std.specs.Prelude.{◌≡◌, ℕ, ◌-◌, ◌^◌, ◌<◌, ◌≤◌, Bool, true, false, not, ◌&&◌, List}
-use Rattle.std.specs.Prelude.{length, All, bit_and, nat_le, ◌==◌, slice_index, IsSomeAnd}
+use Rattle.std.specs.Prelude.{ℕ, ◌≡◌, ◌-◌, ◌^◌, ◌<◌, ◌≤◌, Bool, true, false, not, ◌&&◌, List, length}
+use Rattle.std.specs.Prelude.{All, bit_and, nat_le, ◌==◌, slice_index, IsSomeAnd}
 use Rattle.std.specs.List.{list_all}
 use Rattle.nv_model.specs.declared.format.Format.{Format}
 use Rattle.nv_model.specs.declared.namespace.Namespace.{Namespace}
@@ -8,11 +8,22 @@ use Rattle.nv_model.specs.declared.feature_rule.FeatureRule.{FeatureRule}
 use Rattle.nv_model.specs.declared.smart_base.Counters.{Counters}
 use Rattle.nv_model.specs.declared.smart_base.SmartBase.{SmartBase}
 use Rattle.nv_model.specs.declared.identity.IdentityNumbers.{IdentityNumbers}
-use Rattle.nv_model.specs.Numbers.{greatest_integer}
 use Rattle.nv_layout.specs.Feature.{feature_of, is_value}
-use Rattle.nv_model.specs.Defaults.{AreDefaults, are_lists, default_at}
-use Rattle.nv_model.specs.Identity.{Identity}
-use Rattle.nv_layout.specs.NsList.{most_nsids}
+use Rattle.nv_model.specs.Values.{AreDefaults, are_lists, default_at}
+use Rattle.nv_model.specs.State.{Identity}
+use Rattle.nv_layout.specs.Limits.{most_nsids}
+
+-- the greatest value of a count, where it stays
+abbrev pub greatest_count : ℕ
+greatest_count = 18446744073709551615
+
+-- the greatest integer that a file can spell
+abbrev pub greatest_integer : ℕ
+greatest_integer = 9223372036854775807
+
+-- the command identifiers that a host gives in turn, 0 to FFFEh: FFFFh stands for no command
+abbrev pub serial_count : ℕ
+serial_count = 65535
 
 -- 1 to most bytes, each 20h to 7Eh and the last one not a space
 abbrev pub is_text : ℕ → List ℕ → Bool

@@ -1,15 +1,22 @@
 -- An NVM subsystem as a value: what commands read and change, and nothing of how they travel.
-use Rattle.std.specs.Prelude.{ℕ, zero, suc, List, [], ◌∷◌, Option, slice_get}
+use Rattle.std.specs.Prelude.{ℕ, Bool, List, zero, suc, [], ◌∷◌, Option, slice_get}
 use Rattle.std.specs.Ordering.{nat_cmp}
 use Rattle.std.specs.FinMap as map_of
 use Rattle.std.specs.FinSet as set_of
-use Rattle.nv_model.specs.Identity.{Identity}
-use Rattle.nv_model.specs.FeatureRules.{FeatureRules}
-use Rattle.nv_model.specs.ValueKey.{FeatureValues}
+use Rattle.nv_model.specs.declared.identity.IdentityNumbers.{IdentityNumbers}
+use Rattle.nv_model.specs.Values.{FeatureRules, FeatureValues}
 use Rattle.nv_layout.specs.declared.error_entry.ErrorEntry.{ErrorEntry}
 use Rattle.nv_model.specs.declared.format.Format.{Format}
 use Rattle.nv_model.specs.declared.namespace.Namespace.{Namespace}
 use Rattle.nv_model.specs.declared.smart_base.SmartBase.{SmartBase}
+
+pub record Identity : Type 0 where
+  pub cntlid : ℕ
+  pub sn : List ℕ
+  pub mn : List ℕ
+  pub fr : List ℕ
+  pub numbers : IdentityNumbers
+  pub crypto_erase : Bool
 
 -- what finds what by its NSID
 abbrev pub Namespaces : Type 0

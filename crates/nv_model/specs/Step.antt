@@ -1,17 +1,55 @@
 -- What one command does: its answer, and the state after it.
-use Rattle.std.specs.Prelude.{ℕ, ◌+◌, ◌%◌, min, ◌∷◌, take, Option, Some, None, Result, Ok, Err}
-use Rattle.nv_layout.specs.declared.status.Status.{Status}
-use Rattle.nv_command.specs.Command.{namespace_of}
-use Rattle.nv_command.specs.Logs.{without_phases}
-use Rattle.nv_command.specs.declared.command.Command.{Command}
+use Rattle.std.specs.Prelude.{ℕ, false, Bool, List, length, map, slice_index_or, if◌then◌else◌, ◌+◌, ◌%◌}
+use Rattle.std.specs.Prelude.{min, ◌∷◌, take, Option, Some, None, Result, Ok, Err}
+use Rattle.std.specs.List.{fold, range_with_len}
+use Rattle.std.specs.FinMap as map_of
 use Rattle.nv_command.specs.declared.refusal.Refusal.{Refusal}
-use Rattle.nv_command.specs.declared.reply.Reply.{Reply}
-use Rattle.nv_model.specs.Effect.{effect_of}
-use Rattle.nv_model.specs.ErrorLog.{log_entry}
-use Rattle.nv_model.specs.Refusal.{refusal_of}
-use Rattle.nv_model.specs.Reply.{reply_of}
+use Rattle.nv_layout.specs.declared.error_entry.ErrorEntry.{ErrorEntry}
+use Rattle.nv_model.specs.Values.{FeatureRules, first_value, restored, FeatureValues}
 use Rattle.nv_model.specs.State.{Controller, State, with_controller}
-use Rattle.nv_model.specs.Numbers.{greatest_count, serial_count}
+use Rattle.nv_layout.specs.declared.status.Status.{Status}
+use Rattle.nv_command.specs.Form.{namespace_of}
+use Rattle.nv_command.specs.declared.command.Command.{Command}
+use Rattle.nv_command.specs.declared.reply.Reply.{Reply}
+use Rattle.nv_model.specs.Meaning.{effect_of, refusal_of, reply_of}
+use Rattle.nv_model.specs.Ranges.{greatest_count, serial_count}
+
+-- the entry of a refusal: no field of the command is told, and no logical block, and here no phase
+-- tag
+abbrev pub log_entry : ℕ → ℕ → ℕ → Refusal → ErrorEntry
+log_entry count cid nsid r = record {
+  count = count;
+  sqid = 0;
+  cid = cid;
+  status = r.status;
+  phase = false;
+  location = 0xffff;
+  lba = 0;
+  nsid = nsid;
+  vendor = 0;
+  specific = r.specific;
+}
+
+-- each current value becomes the saved one, or the default of its key where nothing was saved
+abbrev pub all_restored : FeatureRules → FeatureValues → FeatureValues
+all_restored rules values = map_of.from_entries
+    (map (λ e. (e.0, restored (first_value rules e.0).current e.1)) (map_of.entries values))
+
+-- all else of the controller stays
+abbrev pub with_restored : Controller → Controller
+with_restored x = record x { values = all_restored x.rules x.values }
+
+-- controller c is reset
+abbrev pub reset : State → ℕ → State
+reset s c = with_controller s c with_restored
+
+-- controller c is reset where it is enabled
+abbrev pub reset_if : List Bool → State → ℕ → State
+reset_if enabled s c = if slice_index_or enabled c false then reset s c else s
+
+-- each enabled controller is reset
+abbrev pub reset_where : List Bool → State → State
+reset_where enabled s = fold (reset_if enabled) s (range_with_len 0 (length enabled))
 
 -- one more, up to the greatest count
 abbrev pub next_count : ℕ → ℕ
@@ -33,19 +71,6 @@ refused s c nsid cid r = with_controller s c (with_refusal nsid cid r)
 -- each command that a controller takes is counted
 abbrev pub with_command : State → ℕ → State
 with_command s c = with_controller s c (λ x. record x { commands = next_count x.commands })
-
--- the answer, with the whole refusal
-abbrev pub answer_by : Option Refusal → Reply → Result Reply Refusal
-answer_by None reply = Ok reply
-answer_by (Some r) reply = Err r
-
--- the same, where entries of logs that differ in the phase tag alone count as the same
-abbrev pub answer_without_phases : Result Reply Refusal → Result Reply Refusal
-answer_without_phases (Ok reply) = Ok (without_phases reply)
-answer_without_phases (Err r) = Err r
-
-abbrev pub answer_to : State → ℕ → Command → Result Reply Refusal
-answer_to s c k = answer_by (refusal_of s c k) (reply_of s c k)
 
 pub record Step : Type 0 where
   pub answer : Result Reply Status

@@ -1,22 +1,47 @@
 -- What holds of every subsystem that a file gives, and after every command.
-use Rattle.std.specs.Prelude.{◌≡◌, ◌≢◌, ℕ, ◌+◌, ◌≤◌, ◌==◌, ◌&&◌, Bool, min, true}
-use Rattle.std.specs.Prelude.{false, if◌then◌else◌, length, count_by, All, AllPairs, Some, IsSomeAnd, slice_get}
-use Rattle.std.specs.FinMap as map_of
-use Rattle.nv_model.specs.Capacity.{used}
-use Rattle.nv_model.specs.Ranges.{AreTopKeys, IsFeatureRule, IsFormat, IsIdentity, IsInFormat}
-use Rattle.nv_model.specs.Ranges.{IsSmart}
+use Rattle.std.specs.Prelude.{ℕ, ◌-◌, ◌/◌, ◌^◌, List, sum_by, slice_get, Bool, true, ◌==◌, Option, Some}
+use Rattle.std.specs.Prelude.{None, bit_and, if◌then◌else◌, ◌≡◌, ◌≢◌, ◌+◌, ◌≤◌, ◌&&◌, min, false, length}
+use Rattle.std.specs.Prelude.{count_by, All, AllPairs, IsSomeAnd}
 use Rattle.std.specs.Option.{option_map_or}
-use Rattle.nv_layout.specs.Feature.{feature_of, is_selector, is_value, row_of}
-use Rattle.nv_layout.specs.declared.feature.Feature.{Feature}
-use Rattle.nv_model.specs.declared.feature_rule.FeatureRule.{FeatureRule}
-use Rattle.nv_model.specs.Supported.{is_supported}
-use Rattle.nv_model.specs.FeatureRules.{FeatureRules}
-use Rattle.nv_model.specs.ValueKey.{FeatureValues, ValueKey}
-use Rattle.nv_model.specs.declared.feature_value.FeatureValue.{FeatureValue}
-use Rattle.nv_model.specs.State.{Controller, Namespaces, Nsids, State}
-use Rattle.nv_model.specs.Numbers.{greatest_count}
-use Rattle.nv_layout.specs.ErrorEntry.{ErrorEntryFits}
+use Rattle.std.specs.FinMap as map_of
+use Rattle.nv_model.specs.State.{State, Namespaces, Controller, Nsids}
+use Rattle.nv_model.specs.declared.format.Format.{Format}
 use Rattle.nv_model.specs.declared.namespace.Namespace.{Namespace}
+use Rattle.nv_layout.specs.Feature.{feature_of, row_of, is_selector, is_value}
+use Rattle.nv_layout.specs.declared.feature.Feature.{Feature}
+use Rattle.nv_layout.specs.declared.feature.Feature.TheVariants.{TemperatureThreshold}
+use Rattle.nv_layout.specs.declared.feature.Feature.TheVariants.{VolatileWriteCache}
+use Rattle.nv_model.specs.Values.{FeatureRules, FeatureValues, ValueKey}
+use Rattle.nv_model.specs.Ranges.{AreTopKeys, IsFeatureRule, IsFormat, IsIdentity, IsInFormat, IsSmart}
+use Rattle.nv_model.specs.Ranges.{greatest_count}
+use Rattle.nv_model.specs.declared.feature_rule.FeatureRule.{FeatureRule}
+use Rattle.nv_model.specs.declared.feature_value.FeatureValue.{FeatureValue}
+use Rattle.nv_layout.specs.ErrorEntry.{ErrorEntryFits}
+
+-- the capacities of all namespaces, added up
+abbrev pub used : Namespaces → ℕ
+used namespaces = sum_by (λ x. x.capacity) (map_of.values namespaces)
+
+-- the capacity that no namespace has: UNVMCAP
+abbrev pub unallocated : State → ℕ
+unallocated s = s.tnvmcap - used s.namespaces
+
+-- the size of a namespace in logical blocks of its format, rounded down
+abbrev pub blocks : List Format → Namespace → ℕ
+blocks formats x = option_map_or (λ f. x.capacity / 2 ^ f.lbads) (slice_get formats x.format) 0
+
+-- by the file's rules and VWC: Temperature Threshold where the file has a table of it, Volatile
+-- Write Cache where there is such a cache (VWC bit 0), and each other one
+abbrev pub is_supported : FeatureRules → ℕ → Feature → Bool
+is_supported rules vwc TemperatureThreshold =
+    map_of.contains_key rules (row_of TemperatureThreshold).fid
+is_supported rules vwc VolatileWriteCache = bit_and vwc 1 == 1
+is_supported rules vwc f = true
+
+-- the supported feature with an identifier
+abbrev pub supported : FeatureRules → ℕ → ℕ → Option Feature
+supported rules vwc fid =
+    option_map_or (λ f. if is_supported rules vwc f then Some f else None) (feature_of fid) None
 
 -- each rule stands under its feature identifier
 abbrev pub AreRules : FeatureRules → Type 0

@@ -1,7 +1,7 @@
 //! The default values of a feature.
 
 ghost use Rattle.std.specs.Prelude.{◌≡◌};
-ghost use Rattle.nv_model.specs.Defaults.{default_at};
+ghost use Rattle.nv_model.specs.Values.{default_at};
 
 /// The values of a feature before any is set.
 #[derive(Clone, Copy, Debug, PartialEq, Eq)]

@@ -1,7 +1,7 @@
 //! The value of a feature.
 
 ghost use Rattle.std.specs.Prelude.{◌≡◌};
-ghost use Rattle.nv_model.specs.FeatureValue.{at_default, restored, written};
+ghost use Rattle.nv_model.specs.Values.{at_default, restored, written};
 
 use crate::feature_rule::FeatureRule;
 

@@ -1,7 +1,7 @@
 //! Refusals as ordered rows.
 
 ghost use Rattle.std.specs.Prelude.{◌≡◌};
-ghost use Rattle.nv_model.specs.Row.{row};
+ghost use Rattle.nv_model.specs.Conditions.{row};
 
 use nv_command::{Refusal, StatusCode};
 

@@ -7,7 +7,7 @@ use Rattle.std.specs.Prelude.{Result, option_map, slice_get}
 use Rattle.nv_file.specs.Fault.{IsUnlessMemory}
 use Rattle.nv_file.specs.declared.error.SubsystemError.{SubsystemError}
 use Rattle.nv_file.specs.declared.error.SubsystemError.TheVariants as fault
-use Rattle.nv_layout.specs.ErrorEntry.{without_phase}
+use Rattle.nv_layout.specs.ErrorEntryBytes.{without_phase}
 use Rattle.nv_bus.specs.Bus.{BusValue, IsBus}
 use Rattle.nv_model.specs.LogEntry.{counts_of, log_entry_of}
 use Rattle.nv_model.specs.State.{Controller, State}

@@ -4,7 +4,7 @@ use Rattle.std.proofs.Common.{append-nil, append_assoc, List, [], ◌∷◌, ◌
 use Rattle.std.proofs.Common.{length-append, option_and_then, option_map}
 use Rattle.std.proofs.lemmas.List.{at_drop_all, at_drop_more}
 use Rattle.std.specs.List.{slice_split}
-use Rattle.nv_line.specs.Number.{number_in}
+use Rattle.nv_line.specs.Values.{number_in}
 use Rattle.nv_operations.specs.Numbers.{is_comma, numbers_in, numbers_of}
 
 -- the numbers of the first n pieces, before those of the rest

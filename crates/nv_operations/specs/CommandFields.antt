@@ -1,6 +1,6 @@
 -- Commands by their fields: the name of each with an NSID, and its own fields behind it.
 use Rattle.std.specs.Prelude.{ℕ, ◌-◌, Bool, List, [], ◌∷◌, codes, if◌then◌else◌}
-use Rattle.nv_layout.specs.Parts.{bit}
+use Rattle.nv_layout.specs.Bits.{bit}
 use Rattle.nv_command.specs.declared.command.Command.{Command}
 use Rattle.nv_command.specs.declared.command.Command.TheVariants.{ActiveList, AllocatedList}
 use Rattle.nv_command.specs.declared.command.Command.TheVariants.{AllocatedNamespace, Attachment}

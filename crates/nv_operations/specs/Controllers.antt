@@ -2,7 +2,7 @@
 use Rattle.std.specs.Prelude.{◌≡◌, ℕ, List, [], ◌∷◌, Option, Some, None, Result, Ok, Err}
 use Rattle.std.specs.Prelude.{MatchResult, codes, if◌then◌else◌, length, replicate, slice_set}
 use Rattle.nv_host.specs.Pages.{PagedBytes}
-use Rattle.nv_layout.specs.ErrorEntry.{bytes_of_error_entry, without_phase}
+use Rattle.nv_layout.specs.ErrorEntryBytes.{bytes_of_error_entry, without_phase}
 use Rattle.nv_layout.specs.declared.error_entry.ErrorEntry.{ErrorEntry}
 use Rattle.nv_file.specs.declared.demo.TheConstants.{DEMO}
 use Rattle.nv_file.specs.declared.error.SubsystemError.{SubsystemError}

@@ -4,7 +4,7 @@ use Rattle.std.specs.Prelude.{codes, if◌then◌else◌, length, nat_lt}
 use Rattle.nv_host.specs.Pages.{PagedBytes}
 use Rattle.nv_layout.specs.Status.{number_of_status}
 use Rattle.nv_layout.specs.declared.sqe.Sqe.{Sqe}
-use Rattle.nv_model.specs.Reset.{reset, reset_where}
+use Rattle.nv_model.specs.Step.{reset, reset_where}
 use Rattle.nv_bus.specs.Bus.{BusValue, IsBus, enabled_in}
 use Rattle.nv_bus.specs.Entry.{told_by}
 use Rattle.nv_bus.specs.declared.told.Told.{Told}

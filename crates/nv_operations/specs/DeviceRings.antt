@@ -2,7 +2,7 @@
 use Rattle.std.specs.Prelude.{◌≡◌, ◌≢◌, ◌+◌, ◌-◌, ◌≤◌, ◌==◌, Bool, length}
 use Rattle.std.specs.Prelude.{List, [], ◌∷◌, MatchResult, Result, codes}
 use Rattle.nv_host.specs.Pages.{PagedBytes}
-use Rattle.nv_layout.specs.Parts.{bit}
+use Rattle.nv_layout.specs.Bits.{bit}
 use Rattle.nv_layout.specs.declared.cqe.Cqe.{Cqe}
 use Rattle.nv_queue.specs.Numbers.{above, phase_of, slot_of}
 use Rattle.nv_queue.specs.Rings.{FetchNumbers, IsPostFull, PostNumbers, fetched_one, posted_one}

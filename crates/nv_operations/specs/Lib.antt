@@ -26,3 +26,4 @@ pub mod Device
 pub mod DeviceCode
 pub mod Session
 pub mod Answers
+pub mod inner

@@ -1,7 +1,7 @@
 -- Lists of namespaces and of controllers by their fields.
 use Rattle.std.specs.Prelude.{ℕ, ◌%◌, ◌^◌, List, [], ◌∷◌, codes, map, take}
-use Rattle.nv_layout.specs.CtrlList.{most_cntlids}
-use Rattle.nv_layout.specs.NsList.{most_nsids}
+use Rattle.nv_layout.specs.Limits.{most_cntlids}
+use Rattle.nv_layout.specs.Limits.{most_nsids}
 use Rattle.nv_operations.specs.Field.{Field, Row, numbers_of}
 use Rattle.nv_operations.specs.Rows.{numbers_row}
 

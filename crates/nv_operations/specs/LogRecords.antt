@@ -2,7 +2,8 @@
 use Rattle.std.specs.Prelude.{List, [], ◌∷◌, ◌++◌, codes, flat_map}
 use Rattle.std.specs.Int.{to_le_bytes, w128}
 use Rattle.byteorder.specs.Endian.{little_bytes}
-use Rattle.nv_layout.specs.Parts.{bit, numbers_at}
+use Rattle.nv_layout.specs.Bits.{bit}
+use Rattle.nv_layout.specs.Parts.{numbers_at}
 use Rattle.nv_layout.specs.Status.{number_of_status, status_of_number}
 use Rattle.nv_layout.specs.declared.error_entry.ErrorEntry.{ErrorEntry}
 use Rattle.nv_layout.specs.declared.smart.Smart.{Smart}

@@ -2,7 +2,7 @@
 use Rattle.std.specs.Prelude.{ℕ, Bool, ◌==◌, nat_le, length, if◌then◌else◌, List, [], ◌∷◌, Option}
 use Rattle.std.specs.Prelude.{Some, None, option_and_then, option_map}
 use Rattle.std.specs.List.{slice_split}
-use Rattle.nv_line.specs.Number.{number_in}
+use Rattle.nv_line.specs.Values.{number_in}
 
 abbrev pub is_comma : ℕ → Bool
 is_comma b = b == 44

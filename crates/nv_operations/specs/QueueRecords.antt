@@ -1,6 +1,6 @@
 -- The records of queues by their fields.
 use Rattle.std.specs.Prelude.{List, [], ◌∷◌, codes}
-use Rattle.nv_layout.specs.Parts.{bit}
+use Rattle.nv_layout.specs.Bits.{bit}
 use Rattle.nv_layout.specs.Status.{number_of_status, status_of_number}
 use Rattle.nv_layout.specs.declared.cqe.Cqe.{Cqe}
 use Rattle.nv_layout.specs.declared.sqe.Sqe.{Sqe}

@@ -10,7 +10,7 @@ use Rattle.nv_layout.specs.IdCtrl.{bytes_of_id_ctrl, id_ctrl_of_bytes}
 use Rattle.nv_layout.specs.NsList.{bytes_of_ns_list, ns_list_of_bytes}
 use Rattle.nv_layout.specs.CtrlList.{bytes_of_ctrl_list, ctrl_list_of_bytes}
 use Rattle.nv_layout.specs.Smart.{bytes_of_smart, smart_of_bytes}
-use Rattle.nv_layout.specs.ErrorEntry.{bytes_of_error_entry, error_entry_of_bytes}
+use Rattle.nv_layout.specs.ErrorEntryBytes.{bytes_of_error_entry, error_entry_of_bytes}
 use Rattle.nv_layout.specs.declared.ctrl_list.LayoutError.{LayoutError}
 use Rattle.nv_operations.specs.Field.{Field, bytes_alone, bytes_of, number, numbers, word_of}
 use Rattle.nv_operations.specs.IdentityRecords.{fields_of_id_ctrl, fields_of_id_ns, fields_of_lbaf}

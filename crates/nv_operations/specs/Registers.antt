@@ -1,6 +1,6 @@
 -- Operations on the registers of a controller: their words, what they are answered and what they leave.
 use Rattle.std.specs.Prelude.{ℕ, true, List, [], ◌∷◌, ◌++◌, codes}
-use Rattle.nv_layout.specs.Parts.{bit}
+use Rattle.nv_layout.specs.Bits.{bit}
 use Rattle.nv_register.specs.Readiness.{is_enabled, is_fatal, is_ready}
 use Rattle.nv_register.specs.RegisterBank.{new_bank, stops_at, value_at, with_register_at}
 use Rattle.nv_register.specs.declared.readiness.Readiness.{Readiness}

@@ -1,6 +1,6 @@
 -- What operations on transfers are answered, and what they leave.
-use Rattle.std.specs.Prelude.{◌≡◌, ◌≢◌, ℕ, ◌+◌, ◌*◌, ◌%◌, ◌<◌, ◌≤◌, length, map, All}
-use Rattle.std.specs.Prelude.{List, [], ◌∷◌, MatchOption, MatchResult, Option, Result, Some, codes}
+use Rattle.std.specs.Prelude.{◌≡◌, ◌≢◌, ℕ, ◌+◌, ◌*◌, ◌%◌, ◌<◌, ◌≤◌, length, map, All, List, [], ◌∷◌}
+use Rattle.std.specs.Prelude.{MatchResult, Result, Some, codes}
 use Rattle.nv_host.specs.Pages.{HasPage, PagedBytes}
 use Rattle.nv_prp.specs.Buffer.{KeepsOutside, buffer_place, buffer_places}
 use Rattle.nv_prp.specs.Place.{AreDistinct, LieIn, places, read_at, written_at}
@@ -107,10 +107,6 @@ FailsFor refusal.NoPage m r = ¬ HasPages m r
 FailsFor refusal.TooFewPages m r = ¬ HoldsAll m.page_size r
 FailsFor refusal.SamePages m r = ¬ AreDistinct (all_pages r)
 FailsFor other m r = ⊥
-
--- why a transfer can't be built, if it can't
-abbrev pub Decides : Option Refusal → PagedBytes → Request → Type 0
-Decides reason m r = MatchOption reason (CanBuild m r) (λ refused. FailsFor refused m r)
 
 -- the entries of a legal transfer of the buffer's bytes, in a memory where only the list's pages
 -- are other ones

@@ -3,7 +3,7 @@ use Rattle.std.specs.Prelude.{ℕ, Bool, nat_le, length, if◌then◌else◌, Li
 use Rattle.std.specs.Prelude.{option_and_then, option_map}
 use Rattle.std.specs.Result.{result_ok}
 use Rattle.hex.specs.Hex.{decode_of}
-use Rattle.nv_line.specs.Number.{number_in}
+use Rattle.nv_line.specs.Values.{number_in}
 use Rattle.nv_operations.specs.Numbers.{numbers_in}
 use Rattle.nv_operations.specs.declared.form.Form.{Form}
 use Rattle.nv_operations.specs.declared.form.Form.TheVariants as form

@@ -1,7 +1,7 @@
 //! The device's side of rings.
 
 ghost use Rattle.std.specs.Prelude.{◌≡◌, ◌∷◌, ◌++◌, [], IfOk, codes};
-ghost use Rattle.nv_layout.specs.Parts.{bit};
+ghost use Rattle.nv_layout.specs.Bits.{bit};
 ghost use Rattle.nv_queue.specs.Numbers.{slot_of};
 ghost use Rattle.nv_operations.specs.DeviceRings.{Posts, Takes, fields_of_fetch};
 ghost use Rattle.nv_operations.specs.DeviceRings.{fields_of_post, is_empty, is_full};

@@ -9,7 +9,7 @@ ghost use Rattle.nv_layout.specs.IdCtrl.{id_ctrl_of_bytes};
 ghost use Rattle.nv_layout.specs.NsList.{ns_list_of_bytes};
 ghost use Rattle.nv_layout.specs.CtrlList.{ctrl_list_of_bytes};
 ghost use Rattle.nv_layout.specs.Smart.{smart_of_bytes};
-ghost use Rattle.nv_layout.specs.ErrorEntry.{error_entry_of_bytes};
+ghost use Rattle.nv_layout.specs.ErrorEntryBytes.{error_entry_of_bytes};
 ghost use Rattle.nv_layout.specs.Parts.{part};
 ghost use Rattle.nv_layout.specs.Status.{status_of_number};
 ghost use Rattle.nv_operations.specs.IdentityRecords.{fields_of_id_ctrl, fields_of_id_ns};

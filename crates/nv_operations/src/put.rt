@@ -9,7 +9,7 @@ ghost use Rattle.nv_layout.specs.IdCtrl.{bytes_of_id_ctrl};
 ghost use Rattle.nv_layout.specs.NsList.{bytes_of_ns_list};
 ghost use Rattle.nv_layout.specs.CtrlList.{bytes_of_ctrl_list};
 ghost use Rattle.nv_layout.specs.Smart.{bytes_of_smart};
-ghost use Rattle.nv_layout.specs.ErrorEntry.{bytes_of_error_entry};
+ghost use Rattle.nv_layout.specs.ErrorEntryBytes.{bytes_of_error_entry};
 ghost use Rattle.nv_layout.specs.Status.{number_of_status};
 ghost use Rattle.nv_operations.specs.Field.{bytes_alone};
 ghost use Rattle.nv_operations.specs.IdentityRecords.{id_ctrl_of, id_ns_of, lbaf_of};

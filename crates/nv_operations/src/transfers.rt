@@ -3,8 +3,9 @@
 
 ghost use Rattle.std.specs.Prelude.{◌≡◌, ◌∷◌, IfOk};
 ghost use Rattle.nv_prp.specs.Transfer.{transfer};
-ghost use Rattle.nv_operations.specs.Transfers.{Builds, CopiesIn, CopiesOut, Decides, Spreads};
-ghost use Rattle.nv_operations.specs.Transfers.{Walks, fields_of_spans, refusal_of, request};
+ghost use Rattle.nv_operations.specs.Transfers.{Builds, CopiesIn, CopiesOut, Spreads, Walks};
+ghost use Rattle.nv_operations.specs.Transfers.{fields_of_spans, refusal_of, request};
+ghost use Rattle.nv_operations.specs.inner.Transfers.{Decides};
 
 use crate::conditions::{
     are_distinct, bytes_in, has_page, has_pages, holds_all, is_length, is_offset, lie_in,

@@ -51,7 +51,7 @@ fn check_take(rt: &impl Abort, pages: &mut PageSet, want: Option<PageNo>) {
 }
 
 #[test]
-#[tactic(auto, using(nv_host::specs::PageSets::contains_of_insert, nv_host::specs::PageSets::contains_of_remove, std::proofs::lemmas::Bool::Decides::nat_tests))]
+#[tactic(auto, using(nv_host::specs::inner::PageSets::contains_of_insert, nv_host::specs::inner::PageSets::contains_of_remove, std::proofs::lemmas::Bool::Decides::nat_tests))]
 fn pages_given_in_reverse(rt: HostRuntime) {
     let Ok(mut pages) = PageSet::new(rt.alloc(), 0, 2) else {
         assert!(rt; false, "out of memory");
@@ -89,7 +89,7 @@ fn errors_as_text(rt: HostRuntime) {
 
 /// The crate page's example.
 #[test]
-#[tactic(auto, using(nv_host::specs::PageSets::contains_of_remove, std::proofs::lemmas::Bool::Decides::nat_tests), unfolding(nv_host::specs::Pages::IsPageSize))]
+#[tactic(auto, using(nv_host::specs::inner::PageSets::contains_of_remove, std::proofs::lemmas::Bool::Decides::nat_tests), unfolding(nv_host::specs::Pages::IsPageSize))]
 fn page_taken_and_filled(rt: HostRuntime) {
     let (Ok(mut mem), Ok(mut free)) = (
         FlatMemory::new(rt.alloc(), 4096, 16),

@@ -9,10 +9,10 @@ use Rattle.std.proofs.lemmas.List.Elements.{All-append, All-take}
 use Rattle.std.proofs.lemmas.List.Sums.{AllPass-from_list_all}
 use Rattle.json.specs.Print.{escape, escape_byte, quoted}
 use Rattle.serde_json.specs.Written.{compact_text}
-use Rattle.nv_print.specs.DeviceList.{device_line, fields_of_device, node_of}
+use Rattle.nv_print.specs.Devices.{device_line, fields_of_device, node_of}
 use Rattle.nv_print.specs.Field.{object_of}
-use Rattle.nv_print.specs.Padding.{left, right}
-use Rattle.nv_print.specs.Printable.{is_printable, printable}
+use Rattle.nv_print.specs.Text.{left, right}
+use Rattle.nv_print.specs.Text.{is_printable, printable}
 use Rattle.nv_print.specs.declared.device.Device.{Device}
 use Rattle.nv_print.proofs.JsonLengths.{object_length}
 use Rattle.nv_print.proofs.Lengths.{decimal_length, decimal_short, left_length, printable_length, right_length}

@@ -5,9 +5,9 @@ use Rattle.std.specs.Fmt.{decimal}
 use Rattle.serde_json.specs.Written.{compact_text}
 use Rattle.nv_print.specs.Field.{Field, Shape, as_text, in_decimal, in_hexadecimal, in_six_digits, wide, field_line}
 use Rattle.nv_print.specs.Field.{fields_text, object_of, shape_data, shape_text}
-use Rattle.nv_print.specs.Hexadecimal.{six_digits}
-use Rattle.nv_print.specs.IdNs.{field_within}
-use Rattle.nv_print.specs.Padding.{left}
+use Rattle.nv_print.specs.Text.{six_digits}
+use Rattle.nv_print.specs.Records.{field_within}
+use Rattle.nv_print.specs.Text.{left}
 use Rattle.nv_print.proofs.JsonLengths.{members_length, object_length}
 use Rattle.nv_print.proofs.Lengths.{decimal_length, hexadecimal_length, left_length, quoted_length, six_digits_length}
 

@@ -8,12 +8,13 @@ use Rattle.nv_layout.specs.declared.id_ctrl.IdCtrl.{IdCtrl}
 use Rattle.nv_layout.specs.declared.id_ns.IdNs.{IdNs}
 use Rattle.nv_layout.specs.declared.id_ns.Lbaf.{Lbaf}
 use Rattle.nv_layout.specs.declared.smart.Smart.{Smart}
-use Rattle.nv_print.specs.DeviceList.{fields_of_device}
+use Rattle.nv_print.specs.Devices.{fields_of_device}
 use Rattle.nv_print.specs.Field.{members_of}
-use Rattle.nv_print.specs.IdCtrl.{fields_of_id_ctrl}
-use Rattle.nv_print.specs.IdNs.{fields_of_id_ns, fields_of_lbaf}
-use Rattle.nv_print.specs.Logs.{fields_of_entry, fields_of_smart}
-use Rattle.nv_print.specs.Sends.{AreInOrder, ArePlaces, SendsField, SendsMember, before, picked}
+use Rattle.nv_print.specs.Records.{fields_of_id_ctrl}
+use Rattle.nv_print.specs.Records.{fields_of_id_ns, fields_of_lbaf}
+use Rattle.nv_print.specs.Records.{fields_of_entry, fields_of_smart}
+use Rattle.nv_print.specs.inner.Sends.{AreInOrder, ArePlaces, SendsField, SendsMember, before}
+use Rattle.nv_print.specs.inner.Sends.{picked}
 use Rattle.nv_print.specs.declared.device.Device.{Device}
 use Rattle.nv_print.specs.declared.devices.TheConstants.{DEVICE_ORDER}
 use Rattle.nv_print.specs.declared.identity.TheConstants.{AFTER_LBAFS, BEFORE_LBAFS, ID_CTRL_ORDER, LBAF_ORDER}

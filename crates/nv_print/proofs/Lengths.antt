@@ -7,9 +7,9 @@ use Rattle.std.proofs.lemmas.Fmt.{length-decimal-le}
 use Rattle.std.proofs.lemmas.List.{length-replicate, length-take}
 use Rattle.std.proofs.lemmas.Bool.Decides.{nat_tests}
 use Rattle.json.specs.Print.{escape, escape_byte, quoted}
-use Rattle.nv_print.specs.Hexadecimal.{hexadecimal, six_digits}
-use Rattle.nv_print.specs.Padding.{left, right}
-use Rattle.nv_print.specs.Printable.{printable}
+use Rattle.nv_print.specs.Text.{hexadecimal, six_digits}
+use Rattle.nv_print.specs.Text.{left, right}
+use Rattle.nv_print.specs.Text.{printable}
 
 either : (t : Bool) (x y : List ℕ) (n : ℕ) → length x ≤ n → length y ≤ n → length (if t then x else y) ≤ n
 either true x y n hx hy = hx

@@ -8,17 +8,18 @@ use Rattle.std.proofs.lemmas.List.{length-take}
 use Rattle.serde_json.specs.Data.{Data, array, no_members, number, unsigned}
 use Rattle.serde_json.specs.View.{items_of}
 use Rattle.serde_json.specs.Written.{compact_text}
-use Rattle.nv_layout.specs.NsList.{most_nsids}
+use Rattle.nv_layout.specs.Limits.{most_nsids}
 use Rattle.nv_layout.specs.declared.error_entry.ErrorEntry.{ErrorEntry}
 use Rattle.nv_layout.specs.declared.id_ns.IdNs.{IdNs}
 use Rattle.nv_layout.specs.declared.id_ns.Lbaf.{Lbaf}
 use Rattle.nv_print.specs.Field.{field, field_line, fields_text, in_decimal, members_of, object_of}
-use Rattle.nv_print.specs.Hexadecimal.{hexadecimal}
-use Rattle.nv_print.specs.IdNs.{field_within, fields_of_id_ns, fields_of_lbaf, formats_of, lbaf_key, lbaf_line, mark_of}
-use Rattle.nv_print.specs.IdNs.{namespace_data, namespace_text}
-use Rattle.nv_print.specs.Logs.{entries_data, entries_text, entry_text, fields_of_entry, holds_error}
-use Rattle.nv_print.specs.NsList.{nsid_line, nsids_data, nsids_text}
-use Rattle.nv_print.specs.Padding.{lines_of, right}
+use Rattle.nv_print.specs.Text.{hexadecimal}
+use Rattle.nv_print.specs.Records.{field_within, fields_of_id_ns, fields_of_lbaf, formats_of}
+use Rattle.nv_print.specs.Records.{lbaf_key, lbaf_line, mark_of, namespace_data, namespace_text}
+use Rattle.nv_print.specs.Records.{entries_data, entries_text, entry_text, fields_of_entry}
+use Rattle.nv_print.specs.Records.{holds_error}
+use Rattle.nv_print.specs.Records.{nsid_line, nsids_data, nsids_text}
+use Rattle.nv_print.specs.Text.{lines_of, right}
 use Rattle.nv_print.proofs.FieldLengths.{field_line-length, members_length-width, within_length}
 use Rattle.nv_print.proofs.JsonLengths.{items_length, list_object_length, put_length, with_fields_length}
 use Rattle.nv_print.proofs.Lengths.{decimal_length, decimal_short, hexadecimal_short, quoted_length, right_length}

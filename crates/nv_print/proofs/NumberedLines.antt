@@ -1,7 +1,7 @@
 -- Lines, one after another.
 use Rattle.std.proofs.Common.{◌≡◌, ◌∙◌, ℕ, zero, suc, ◌+◌, ◌<◌, ap, sym, arith, List, [], ◌∷◌, ◌++◌, append_assoc}
 use Rattle.std.proofs.Common.{append-nil, length, take, get_or}
-use Rattle.nv_print.specs.Padding.{lines_of}
+use Rattle.nv_print.specs.Text.{lines_of}
 
 module _ {A : Type 0} (line : ℕ → A → List ℕ) where
   -- one line more

@@ -11,7 +11,7 @@ use Rattle.std.proofs.lemmas.Str.Ascii.{IsAscii-cons, IsAscii-nil}
 use Rattle.std.specs.Fmt.{char_count, decimal, format_spec, padded_integral, styled_decimal, styled_text}
 use Rattle.std.specs.Fmt.{fill_after_digits, number_padding, padded, take_chars}
 use lib.Utf8.{encode}
-use Rattle.nv_print.specs.Padding.{right}
+use Rattle.nv_print.specs.Text.{right}
 
 repeated : (n x : ℕ) → repeat n (x ∷ []) ≡ replicate n x
 repeated zero x = refl

@@ -4,8 +4,8 @@ use Rattle.std.proofs.Common.{sym, take}
 use Rattle.std.specs.Prelude.{filter, if◌then◌else◌}
 use Rattle.nv_layout.specs.ErrorEntry.{no_entry}
 use Rattle.nv_layout.specs.declared.error_entry.ErrorEntry.{ErrorEntry}
-use Rattle.nv_print.specs.Logs.{entries_text, entry_text, holds_error}
-use Rattle.nv_print.specs.Padding.{lines_of}
+use Rattle.nv_print.specs.Records.{entries_text, entry_text, holds_error}
+use Rattle.nv_print.specs.Text.{lines_of}
 
 lines_past : (i : ℕ) (es : List ErrorEntry) (m : ℕ)
     → lines_of entry_text i (es ++ replicate m no_entry) ≡ lines_of entry_text i es

@@ -10,7 +10,7 @@ use Rattle.std.proofs.lemmas.List.Folds.{length-prefix_len}
 use Rattle.std.proofs.lemmas.List.Sums.{prefix_len_passes, suffix_len_is}
 use Rattle.std.proofs.lemmas.Str.{IsUtf8-from_ascii, IsAscii-take}
 use Rattle.std.proofs.lemmas.Str.Ascii.{IsAscii-from_reads}
-use Rattle.nv_print.specs.Printable.{is_printable, printable}
+use Rattle.nv_print.specs.Text.{is_printable, printable}
 
 pub each_printable : (bs : List ℕ) (k d : ℕ) → k < length (take_while is_printable bs)
     → is_printable (get_or (take_while is_printable bs) k d) ≡ true

@@ -7,9 +7,9 @@ use Rattle.nv_layout.specs.declared.id_ns.IdNs.{IdNs}
 use Rattle.nv_layout.specs.declared.id_ns.Lbaf.{Lbaf}
 use Rattle.nv_layout.specs.declared.smart.Smart.{Smart}
 use Rattle.nv_print.specs.Field.{fields_text, object_of}
-use Rattle.nv_print.specs.IdCtrl.{fields_of_id_ctrl, texts_length}
-use Rattle.nv_print.specs.IdNs.{fields_of_id_ns, fields_of_lbaf}
-use Rattle.nv_print.specs.Logs.{fields_of_entry, fields_of_smart}
+use Rattle.nv_print.specs.Records.{fields_of_id_ctrl, fields_of_id_ns, fields_of_lbaf}
+use Rattle.nv_print.specs.Records.{fields_of_entry, fields_of_smart}
+use Rattle.nv_print.specs.inner.Records.{texts_length}
 use Rattle.nv_print.proofs.FieldLengths.{fields_text-length, fields_width, members_width, object_width}
 use Rattle.nv_print.proofs.Lengths.{printable_length}
 

@@ -12,7 +12,7 @@ use Rattle.serde_json.specs.Data.{Data, Members, array, no_members, number, obje
 use Rattle.serde_json.specs.Events.{SendsItems, SendsMembers, SendsValue, items_len, members_len}
 use Rattle.serde_json.specs.View.{items_of}
 use Rattle.nv_print.specs.Field.{Field, field, in_decimal}
-use Rattle.nv_print.specs.Sends.{ArePlaces, SendsField, SendsMember, before, picked}
+use Rattle.nv_print.specs.inner.Sends.{ArePlaces, SendsField, SendsMember, before, picked}
 
 -- ---- one more
 

@@ -3,11 +3,11 @@ use Rattle.std.proofs.Common.{ℕ, ◌+◌, ◌≤◌, arith, Bool, List, [], �
 use Rattle.std.specs.Prelude.{codes}
 use Rattle.std.specs.Fmt.{decimal}
 use Rattle.nv_layout.specs.Feature.{row_of}
-use Rattle.nv_layout.specs.Parts.{bit}
+use Rattle.nv_layout.specs.Bits.{bit}
 use Rattle.nv_layout.specs.declared.feature.Feature.{Feature}
 use Rattle.nv_layout.specs.declared.feature.Feature.TheVariants as feature
-use Rattle.nv_print.specs.Hexadecimal.{hexadecimal}
-use Rattle.nv_print.specs.Sentences.{feature_set, feature_text, feature_value, select_text, success}
+use Rattle.nv_print.specs.Text.{hexadecimal}
+use Rattle.nv_print.specs.Message.{feature_set, feature_text, feature_value, select_text, success}
 use Rattle.nv_print.specs.declared.select.Select.{Select}
 use Rattle.nv_print.specs.declared.select.Select.TheVariants as select
 use Rattle.nv_print.proofs.Lengths.{decimal_length, hexadecimal_length}

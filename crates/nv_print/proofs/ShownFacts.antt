@@ -7,11 +7,11 @@ use Rattle.serde_json.specs.Events.{SendsValue}
 use Rattle.serde_json.specs.Sent.{IsTextOf}
 use Rattle.serde_json.specs.Written.{compact_text, has_float}
 use Rattle.serde_json.proofs.FreeTexts.{text_of_value}
-use Rattle.nv_print.specs.DeviceList.{fields_of_device}
+use Rattle.nv_print.specs.Devices.{fields_of_device}
 use Rattle.nv_print.specs.Field.{members_of, object_of}
-use Rattle.nv_print.specs.IdCtrl.{fields_of_id_ctrl}
-use Rattle.nv_print.specs.IdNs.{fields_of_id_ns, fields_of_lbaf, formats_of}
-use Rattle.nv_print.specs.Logs.{fields_of_entry, fields_of_smart, holds_error}
+use Rattle.nv_print.specs.Records.{fields_of_id_ctrl}
+use Rattle.nv_print.specs.Records.{fields_of_id_ns, fields_of_lbaf, formats_of}
+use Rattle.nv_print.specs.Records.{fields_of_entry, fields_of_smart, holds_error}
 use Rattle.nv_print.specs.Shown.{data_of}
 use Rattle.nv_print.specs.declared.shown.Shown.{Shown}
 use Rattle.nv_print.specs.declared.shown.Shown.TheVariants as shown

@@ -2,8 +2,8 @@
 use Rattle.std.specs.Prelude.{ℕ, List, [], ◌∷◌, ◌++◌, codes, flat_map}
 use Rattle.std.specs.Fmt.{decimal}
 use Rattle.serde_json.specs.Data.{Data, number, unsigned, string, object, Members, no_members, put}
-use Rattle.nv_print.specs.Hexadecimal.{hexadecimal, six_digits}
-use Rattle.nv_print.specs.Padding.{left}
+use Rattle.nv_print.specs.Text.{hexadecimal, six_digits}
+use Rattle.nv_print.specs.Text.{left}
 use Rattle.nv_print.specs.declared.field.FieldValue.{FieldValue}
 use Rattle.nv_print.specs.declared.field.FieldValue.TheVariants as value
 

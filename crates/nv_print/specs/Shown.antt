@@ -3,13 +3,13 @@ use Rattle.std.specs.Prelude.{ℕ, ◌+◌, ◌*◌, Bool, true, false, List, []
 use Rattle.std.specs.Prelude.{length}
 use Rattle.serde_json.specs.Data.{Data, null}
 use Rattle.serde_json.specs.Written.{compact_text}
-use Rattle.nv_print.specs.DeviceList.{devices_data, devices_text}
+use Rattle.nv_print.specs.Devices.{devices_data, devices_text}
 use Rattle.nv_print.specs.Field.{fields_text, object_of}
-use Rattle.nv_print.specs.IdCtrl.{fields_of_id_ctrl}
-use Rattle.nv_print.specs.IdNs.{namespace_data, namespace_text}
-use Rattle.nv_print.specs.Logs.{entries_data, entries_text, fields_of_smart, holds_error}
-use Rattle.nv_print.specs.NsList.{nsids_data, nsids_text}
-use Rattle.nv_print.specs.Sentences.{feature_set, feature_value, reset_done, success}
+use Rattle.nv_print.specs.Records.{fields_of_id_ctrl}
+use Rattle.nv_print.specs.Records.{namespace_data, namespace_text}
+use Rattle.nv_print.specs.Records.{entries_data, entries_text, fields_of_smart, holds_error}
+use Rattle.nv_print.specs.Records.{nsids_data, nsids_text}
+use Rattle.nv_print.specs.Message.{feature_set, feature_value, reset_done, success}
 use Rattle.nv_print.specs.declared.shown.Shown.{Shown}
 use Rattle.nv_print.specs.declared.shown.Shown.TheVariants as shown
 

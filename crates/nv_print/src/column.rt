@@ -11,7 +11,7 @@ pub(crate) struct Left<'a> {
 
 impl<'a> fmt::Display for Left<'a> {
     ghost use Rattle.std.specs.Prelude.{Some};
-    ghost use Rattle.nv_print.specs.Padding.{left};
+    ghost use Rattle.nv_print.specs.Text.{left};
 
     ghost output = { λ column. Some (left column.width column.text.now) };
 
@@ -32,7 +32,7 @@ pub(crate) struct Right {
 impl fmt::Display for Right {
     ghost use Rattle.std.specs.Prelude.{Some};
     ghost use Rattle.std.specs.Fmt.{decimal};
-    ghost use Rattle.nv_print.specs.Padding.{right};
+    ghost use Rattle.nv_print.specs.Text.{right};
 
     ghost output = { λ column. Some (right column.width (decimal column.number)) };
 

@@ -21,7 +21,7 @@ pub struct Device {
 
 impl Device {
     ghost use Rattle.std.specs.Prelude.{◌≡◌};
-    ghost use Rattle.nv_print.specs.Device.{block_size_of, device_of};
+    ghost use Rattle.nv_print.specs.Devices.{block_size_of, device_of};
 
     /// The bytes of a logical block of the format in use.
     fn block_size_of(namespace: &IdNs) -> u64

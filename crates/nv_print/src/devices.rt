@@ -3,8 +3,8 @@
 ghost use Rattle.std.specs.Prelude.{◌≡◌, ◌≤◌, ◌+◌, ◌*◌, ◌++◌, IfOk, OnOk, length, string_bytes};
 ghost use Rattle.serde_json.specs.Events.{SendsValue};
 ghost use Rattle.serde_json.specs.Written.{compact_text};
-ghost use Rattle.nv_print.specs.DeviceList.{device_line, devices_data, devices_text};
-ghost use Rattle.nv_print.specs.DeviceList.{fields_of_device, node_of};
+ghost use Rattle.nv_print.specs.Devices.{device_line, devices_data, devices_text, fields_of_device};
+ghost use Rattle.nv_print.specs.Devices.{node_of};
 ghost use Rattle.nv_print.specs.Field.{object_of};
 
 use crate::column::{Left, Right};
@@ -89,7 +89,7 @@ pub(crate) fn devices_text(alloc: Global, devices: &[Device]) -> Result<String, 
 }
 
 /// The fields of a device, whose node has this name.
-#[tactic(auto, using(crate::proofs::DeviceLengths::device_json_length), unfolding(crate::specs::DeviceList::fields_of_device))]
+#[tactic(auto, using(crate::proofs::DeviceLengths::device_json_length), unfolding(crate::specs::Devices::fields_of_device))]
 fn device_fields<'a>(node: &'a str, device: &'a Device) -> [Field<'a>; 6]
     requires name { node.now ≡ node_of device.now.controller device.now.nsid }
     requires short { length node.now ≤ 64 }

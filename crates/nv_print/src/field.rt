@@ -7,9 +7,9 @@ ghost use Rattle.serde_json.specs.Events.{SendsValue};
 ghost use Rattle.nv_print.specs.Field.{as_text, field, field_line, fields_text, in_decimal};
 ghost use Rattle.nv_print.specs.Field.{in_hexadecimal, in_six_digits, object_of, shape_data};
 ghost use Rattle.nv_print.specs.Field.{shape_of, shape_text, wide};
-ghost use Rattle.nv_print.specs.IdNs.{field_within};
-ghost use Rattle.nv_print.specs.Printable.{printable};
-ghost use Rattle.nv_print.specs.Sends.{AreInOrder, ArePlaces, SendsField, picked};
+ghost use Rattle.nv_print.specs.Records.{field_within};
+ghost use Rattle.nv_print.specs.Text.{printable};
+ghost use Rattle.nv_print.specs.inner.Sends.{AreInOrder, ArePlaces, SendsField, picked};
 
 use crate::hexadecimal::SixDigits;
 use crate::printable::printable;

@@ -8,7 +8,7 @@ pub(crate) struct Hexadecimal(pub(crate) u64);
 
 impl fmt::Display for Hexadecimal {
     ghost use Rattle.std.specs.Prelude.{Some};
-    ghost use Rattle.nv_print.specs.Hexadecimal.{hexadecimal};
+    ghost use Rattle.nv_print.specs.Text.{hexadecimal};
 
     ghost output = { λ n. Some (hexadecimal n.0) };
 
@@ -23,7 +23,7 @@ pub(crate) struct SixDigits(pub(crate) u32);
 
 impl fmt::Display for SixDigits {
     ghost use Rattle.std.specs.Prelude.{Some};
-    ghost use Rattle.nv_print.specs.Hexadecimal.{six_digits};
+    ghost use Rattle.nv_print.specs.Text.{six_digits};
 
     ghost output = { λ n. Some (six_digits n.0) };
 

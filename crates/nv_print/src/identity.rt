@@ -3,8 +3,8 @@
 ghost use Rattle.std.specs.Prelude.{◌≡◌, OnOk};
 ghost use Rattle.serde_json.specs.Events.{SendsValue};
 ghost use Rattle.nv_print.specs.Field.{object_of};
-ghost use Rattle.nv_print.specs.IdCtrl.{fields_of_id_ctrl, texts_length};
-ghost use Rattle.nv_print.specs.IdNs.{fields_of_id_ns, fields_of_lbaf};
+ghost use Rattle.nv_print.specs.Records.{fields_of_id_ctrl, fields_of_id_ns, fields_of_lbaf};
+ghost use Rattle.nv_print.specs.inner.Records.{texts_length};
 
 use crate::field::{Field, send_object};
 use nv_layout::{IdCtrl, IdNs, Lbaf};
@@ -76,7 +76,7 @@ pub(crate) fn send_id_ctrl<S: Serializer>(
 }
 
 /// The fields of a namespace before its formats ("Identify Namespace data structure").
-#[tactic(auto, unfolding(crate::specs::IdNs::fields_of_id_ns))]
+#[tactic(auto, unfolding(crate::specs::Records::fields_of_id_ns))]
 pub(crate) fn id_ns_fields<'a>(namespace: &IdNs) -> [Field<'a>; 11]
     ensures { result ≡ fields_of_id_ns namespace.now }
 {
@@ -96,7 +96,7 @@ pub(crate) fn id_ns_fields<'a>(namespace: &IdNs) -> [Field<'a>; 11]
 }
 
 /// The fields of a format.
-#[tactic(auto, unfolding(crate::specs::IdNs::fields_of_lbaf))]
+#[tactic(auto, unfolding(crate::specs::Records::fields_of_lbaf))]
 pub(crate) fn lbaf_fields<'a>(format: &Lbaf) -> [Field<'a>; 3]
     ensures { result ≡ fields_of_lbaf format.now }
 {

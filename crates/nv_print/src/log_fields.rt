@@ -3,7 +3,7 @@
 ghost use Rattle.std.specs.Prelude.{◌≡◌, OnOk};
 ghost use Rattle.serde_json.specs.Events.{SendsValue};
 ghost use Rattle.nv_print.specs.Field.{object_of};
-ghost use Rattle.nv_print.specs.Logs.{fields_of_entry, fields_of_smart};
+ghost use Rattle.nv_print.specs.Records.{fields_of_entry, fields_of_smart};
 
 use crate::field::{Field, send_object};
 use nv_layout::{ErrorEntry, Smart};
@@ -65,7 +65,7 @@ pub(crate) fn send_smart<S: Serializer>(
 }
 
 /// The fields of an entry of an error log, but for its index ("Error Information").
-#[tactic(auto, unfolding(crate::specs::Logs::fields_of_entry))]
+#[tactic(auto, unfolding(crate::specs::Records::fields_of_entry))]
 pub(crate) fn entry_fields<'a>(entry: &ErrorEntry) -> [Field<'a>; 9]
     ensures { result ≡ fields_of_entry entry.now }
 {

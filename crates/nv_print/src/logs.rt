@@ -5,8 +5,8 @@ ghost use Rattle.std.specs.Prelude.{length, string_bytes};
 ghost use Rattle.serde.specs.Event.{WritesEach};
 ghost use Rattle.serde_json.specs.Events.{SendsValue};
 ghost use Rattle.nv_print.specs.Field.{object_of};
-ghost use Rattle.nv_print.specs.Logs.{entries_data, entries_text, entry_text, fields_of_entry};
-ghost use Rattle.nv_print.specs.Logs.{holds_error};
+ghost use Rattle.nv_print.specs.Records.{entries_data, entries_text, entry_text, fields_of_entry};
+ghost use Rattle.nv_print.specs.Records.{holds_error};
 
 use crate::field::{Field, push_fields};
 use crate::log_fields::{entry_fields, send_entry};

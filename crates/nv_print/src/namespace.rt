@@ -5,9 +5,9 @@ ghost use Rattle.serde_json.specs.Data.{array};
 ghost use Rattle.serde_json.specs.Events.{SendsValue};
 ghost use Rattle.serde_json.specs.View.{items_of};
 ghost use Rattle.nv_print.specs.Field.{object_of};
-ghost use Rattle.nv_print.specs.IdNs.{fields_of_lbaf, formats_of, lbaf_line, mark_of};
-ghost use Rattle.nv_print.specs.IdNs.{namespace_data, namespace_text};
-ghost use Rattle.nv_print.specs.Padding.{lines_of};
+ghost use Rattle.nv_print.specs.Records.{fields_of_lbaf, formats_of, lbaf_line, mark_of};
+ghost use Rattle.nv_print.specs.Records.{namespace_data, namespace_text};
+ghost use Rattle.nv_print.specs.Text.{lines_of};
 
 use crate::column::Right;
 use crate::field::{push_fields, push_within, send_fields};

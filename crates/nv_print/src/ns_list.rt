@@ -3,7 +3,7 @@
 ghost use Rattle.std.specs.Prelude.{◌≡◌, ◌<◌, ◌^◌, IfOk, OnOk, string_bytes};
 ghost use Rattle.std.specs.List.{All};
 ghost use Rattle.serde_json.specs.Events.{SendsValue};
-ghost use Rattle.nv_print.specs.NsList.{nsids_data, nsids_text};
+ghost use Rattle.nv_print.specs.Records.{nsids_data, nsids_text};
 
 use crate::column::Right;
 use crate::hexadecimal::Hexadecimal;
@@ -20,7 +20,7 @@ struct NsidLine {
 
 impl fmt::Display for NsidLine {
     ghost use Rattle.std.specs.Prelude.{Some};
-    ghost use Rattle.nv_print.specs.NsList.{nsid_line};
+    ghost use Rattle.nv_print.specs.Records.{nsid_line};
 
     ghost output = { λ line. Some (nsid_line line.index line.nsid) };
 

@@ -3,7 +3,7 @@
 ghost use Rattle.std.specs.Prelude.{◌≡◌};
 ghost use Rattle.std.specs.List.{prefix_len};
 ghost use Rattle.std.specs.Str.{IsUtf8};
-ghost use Rattle.nv_print.specs.Printable.{is_printable, printable};
+ghost use Rattle.nv_print.specs.Text.{is_printable, printable};
 
 use std::str;
 

@@ -1,7 +1,7 @@
 //! Which value of a feature is shown.
 
 ghost use Rattle.std.specs.Prelude.{◌≡◌};
-ghost use Rattle.nv_print.specs.Sentences.{select_of};
+ghost use Rattle.nv_print.specs.Message.{select_of};
 
 use nv_layout::ThreeBits;
 use std::fmt;
@@ -33,7 +33,7 @@ impl Select {
 
 impl fmt::Display for Select {
     ghost use Rattle.std.specs.Prelude.{Some};
-    ghost use Rattle.nv_print.specs.Sentences.{select_text};
+    ghost use Rattle.nv_print.specs.Message.{select_text};
 
     ghost output = { λ select. Some (select_text select) };
 

@@ -1,7 +1,7 @@
 //! What is shown of a command that has no record: one line.
 
 ghost use Rattle.std.specs.Prelude.{◌≡◌, IfOk, string_bytes};
-ghost use Rattle.nv_print.specs.Sentences.{feature_set, feature_value, reset_done, success};
+ghost use Rattle.nv_print.specs.Message.{feature_set, feature_value, reset_done, success};
 
 use crate::hexadecimal::Hexadecimal;
 use crate::select::Select;
@@ -27,7 +27,7 @@ struct FeatureName(Feature);
 
 impl fmt::Display for FeatureName {
     ghost use Rattle.std.specs.Prelude.{Some};
-    ghost use Rattle.nv_print.specs.Sentences.{feature_text};
+    ghost use Rattle.nv_print.specs.Message.{feature_text};
 
     ghost output = { λ feature. Some (feature_text feature.0) };
 

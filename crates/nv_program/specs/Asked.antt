@@ -1,6 +1,6 @@
 -- What a program makes of what its arguments ask for.
-use Rattle.std.specs.Prelude.{◌≡◌, ◌⊎◌, ℕ, List, Bool, true, false, IsTrue, Option, None, Some, Result, Ok}
-use Rattle.std.specs.Prelude.{Err}
+use Rattle.std.specs.Prelude.{◌≡◌, ◌⊎◌, ℕ, List, Bool, true, false, IsTrue, Option, None, Some, Result}
+use Rattle.std.specs.Prelude.{Ok, Err}
 use Rattle.nv_arguments.specs.Arguments.{Told}
 use Rattle.nv_arguments.specs.declared.fault.ArgumentsFault.{ArgumentsFault}
 use Rattle.nv_driver.specs.declared.geometry.Geometry.{Geometry}
@@ -25,6 +25,11 @@ is_of_file (stop.Subsystem e) = true
 is_of_file stop.Memory = true
 is_of_file _ = false
 
+-- what any file is: a well-formed subsystem, or a stop for it
+abbrev pub IsRead : Result State Stop → Type 0
+IsRead (Ok s) = IsWellFormed s
+IsRead (Err why) = IsTrue (is_of_file why)
+
 -- what stops the program without a file: a fault of the built-in one, or want of memory
 abbrev pub IsBuiltInStop : Stop → Type 0
 IsBuiltInStop (stop.Subsystem e) = subsystem DEMO.now ≡ Err e
@@ -35,8 +40,7 @@ IsBuiltInStop _ = ⊥
 abbrev pub IsSubsystemAt : Option (List ℕ) → Result State Stop → Type 0
 IsSubsystemAt None (Ok s) = IsWellFormed s × (subsystem DEMO.now ≡ Ok s)
 IsSubsystemAt None (Err why) = IsBuiltInStop why
-IsSubsystemAt (Some path) (Ok s) = IsWellFormed s
-IsSubsystemAt (Some path) (Err why) = IsTrue (is_of_file why)
+IsSubsystemAt (Some path) r = IsRead r
 
 abbrev pub IsAskedBy : Told → Result (State × Geometry) Stop → Type 0
 IsAskedBy told (Ok asked) = IsSubsystemAt told.subsystem (Ok asked.0) × (asked.1 ≡ told.geometry)

@@ -1,45 +1,71 @@
 //! What the arguments of a program ask for.
 
-ghost use Rattle.std.specs.Prelude.{IfErr, IfOk, IsTrue, map, option_map};
+ghost use Rattle.std.specs.Prelude.{◌≡◌, ◌≤◌, IfErr, IfOk, IfSome, IsSome, IsTrue, length, map};
+ghost use Rattle.std.specs.Prelude.{option_map};
 ghost use Rattle.nv_arguments.specs.Arguments.{arguments_of};
 ghost use Rattle.nv_model.specs.WellFormed.{IsWellFormed};
-ghost use Rattle.nv_program.specs.Asked.{IsAsked, IsSubsystemAt, is_of_arguments, is_of_file};
+ghost use Rattle.nv_program.specs.Asked.{IsAsked, IsRead, IsSubsystemAt, is_of_arguments};
+ghost use Rattle.nv_program.specs.inner.Asked.{IsOfSomeFile, IsSubsystemIn, is_unread, most_bytes};
 
 use crate::stop::Stop;
 use nv_arguments::Arguments;
 use nv_script::Geometry;
 use nv_subsystem::{DEMO, Subsystem};
 use std::alloc::Global;
-use std::io::Read;
+use std::fs::Files;
+use std::io::{self, Read};
 use std::{env, fs};
 
 /// The longest subsystem file in bytes.
 const MOST_BYTES: u64 = 1_048_576;
 
-/// The bytes of a file.
-fn bytes_of(rt: &HostRuntime, path: &str) -> Result<Vec<u8>, Stop>
-    ensures { IfErr result (λ why. IsTrue (is_of_file why)) }
+/// What stops the program where a file can't be read.
+fn unreadable(error: io::Error) -> Stop
+    ensures { IsTrue (is_unread result) }
 {
-    let unreadable = |error| Stop::of_fault(error, Stop::Unreadable);
-    let mut file = fs::open(rt, path).map_err(unreadable)?.take(MOST_BYTES + 1);
-    let mut bytes = Vec::new(rt.alloc());
-    let count = file.read_to_end(&mut bytes).map_err(unreadable)?;
+    Stop::of_fault(error, Stop::Unreadable)
+}
+
+/// All bytes of an open file.
+fn bytes_of<F: Read + Drop>(alloc: Global, file: F) -> Result<Vec<u8>, Stop>
+    ensures all { IfSome (F.remaining file) (λ all. IfOk result (λ bytes. bytes.items ≡ all)) }
+    ensures few { IfOk result (λ bytes. length bytes.items ≤ most_bytes) }
+    ensures unread { IfErr result (λ why. IsTrue (is_unread why)) }
+{
+    let mut bytes = Vec::new(alloc);
+    let mut limited = file.take(MOST_BYTES + 1);
+    let count = match limited.read_to_end(&mut bytes) {
+        Ok(count) => count,
+        Err(error) => return Err(unreadable(error)),
+    };
     if count as u64 > MOST_BYTES {
         return Err(Stop::Unreadable);
     }
     Ok(bytes)
 }
 
+/// The subsystem of an open file, of which all is read.
+#[tactic(auto, using(crate::proofs::Files::unread_in, crate::proofs::Files::unread))]
+fn subsystem_in<F: Read + Drop>(alloc: Global, file: F) -> Result<Subsystem, Stop>
+    ensures exact { IfSome (F.remaining file) (λ all. IsSubsystemIn all result) }
+    ensures read { IsRead result }
+{
+    let bytes = bytes_of(alloc, file)?;
+    Ok(Subsystem::from_toml(alloc, &bytes)?)
+}
+
 /// The subsystem of a file, or the built-in one.
-fn subsystem_at(rt: &HostRuntime, path: Option<&str>) -> Result<Subsystem, Stop>
-    ensures { IsSubsystemAt (option_map (λ p. p.now) path.entry) result }
+#[tactic(auto, using(crate::proofs::Files::of_some, crate::proofs::Files::no_file, crate::proofs::Files::unread))]
+fn subsystem_at<S: Files>(files: &S, alloc: Global, path: Option<&str>) -> Result<Subsystem, Stop>
+    ensures exact { IsSubsystemAt (option_map (λ p. p.now) path.entry) result }
+    ensures file { IsSome path.entry → IsOfSomeFile S.File.remaining result }
 {
     match path {
-        Some(path) => {
-            let bytes = bytes_of(rt, path)?;
-            Ok(Subsystem::from_toml(rt.alloc(), &bytes)?)
-        }
-        None => Ok(Subsystem::from_toml(rt.alloc(), DEMO.as_bytes())?),
+        Some(path) => match fs::open(files, path) {
+            Ok(file) => subsystem_in(alloc, file),
+            Err(error) => Err(unreadable(error)),
+        },
+        None => Ok(Subsystem::from_toml(alloc, DEMO.as_bytes())?),
     }
 }
 
@@ -59,6 +85,6 @@ pub fn asked(rt: &HostRuntime, words: &[&str]) -> Result<(Subsystem, Geometry), 
     ensures well_formed { IfOk result (λ asked. IsWellFormed asked.0) }
 {
     let arguments = Arguments::read(rt.alloc(), words)?;
-    let subsystem = subsystem_at(rt, arguments.subsystem)?;
+    let subsystem = subsystem_at(rt, rt.alloc(), arguments.subsystem)?;
     Ok((subsystem, arguments.geometry))
 }

@@ -8,7 +8,8 @@ use Rattle.nv_host.specs.Bytes.{bytes_at}
 use Rattle.nv_host.proofs.BytesLaws.{bytes_at-bytes_at}
 use Rattle.nv_host.specs.Pages.{HasPage, IsPageSize}
 use Rattle.nv_host.proofs.PageLaws.{page_size_bounds, page_size_in_qwords}
-use Rattle.nv_prp.specs.Buffer.{IsBuffer, IsFor, IsListPlace, KeepsList, NamesPages, buffer_place}
+use Rattle.nv_prp.specs.Buffer.{IsBuffer, IsFor, IsListPlace, KeepsList, buffer_place}
+use Rattle.nv_prp.specs.inner.Buffer.{NamesPages}
 use Rattle.nv_prp.specs.Transfer.{PrpTransfer, data_pages, entry_fault, list_qwords, naming_number, naming_qword}
 use Rattle.nv_prp.specs.Transfer.{offset, page_base, place_of, prp2_fault, qword, qword_fault, qword_place, qwords}
 use Rattle.nv_prp.specs.Transfer.{room}

@@ -6,7 +6,7 @@ use Rattle.std.proofs.lemmas.Bool.Decides.{nat_tests}
 use Rattle.std.proofs.lemmas.Nat.{div-add-mod'}
 use Rattle.nv_host.specs.Pages.{IsPageSize}
 use Rattle.nv_host.proofs.PageLaws.{page_size_bounds, page_size_in_qwords}
-use Rattle.nv_prp.specs.ListWalk.{Comes, IsList, ListTurn, cursor_of, used_of}
+use Rattle.nv_prp.specs.inner.ListWalk.{Comes, IsList, ListTurn, cursor_of, used_of}
 use Rattle.nv_prp.specs.Transfer.{PrpTransfer, data_pages, entry_fault, fault_after_prp1, first_qword_fault, list_place}
 use Rattle.nv_prp.specs.Transfer.{list_qwords, naming_number, naming_qword, page_base, qword, qword_fault, qword_place}
 use Rattle.nv_prp.specs.Transfer.{room, second_page}

@@ -10,7 +10,8 @@ use Rattle.nv_host.specs.Bytes.{bytes_at, with_bytes}
 use Rattle.nv_host.proofs.BytesLaws.{bytes_at-with_after, bytes_at-with_before, bytes_at-with_same}
 use Rattle.nv_host.specs.Pages.{IsPageSize}
 use Rattle.nv_host.proofs.PageLaws.{page_size_bounds, page_size_in_qwords}
-use Rattle.nv_prp.specs.Buffer.{ChangesOnly, IsApart, IsListPlace, NamesPages}
+use Rattle.nv_prp.specs.inner.Buffer.{ChangesOnly, NamesPages}
+use Rattle.nv_prp.specs.Buffer.{IsApart, IsListPlace}
 use Rattle.nv_prp.proofs.FaultLaws.{multiple_stays}
 use Rattle.nv_prp.proofs.ListLaws.{whole_room}
 use Rattle.nv_prp.specs.Transfer.{list_place, naming_number, qword}

@@ -1,11 +1,9 @@
 -- A buffer in pages, and the list that names them.
-use Rattle.std.specs.Prelude.{◌≡◌, ℕ, ◌+◌, ◌-◌, ◌*◌, ◌/◌, ◌%◌, ◌<◌, ◌≤◌, ◌⊎◌, All, List, length}
-use Rattle.std.specs.Prelude.{slice_index}
+use Rattle.std.specs.Prelude.{◌≡◌, ℕ, ◌+◌, ◌*◌, ◌/◌, ◌%◌, ◌<◌, ◌≤◌, ◌⊎◌, All, List, length, slice_index}
 use Rattle.nv_host.specs.Bytes.{bytes_at}
 use Rattle.nv_host.specs.Pages.{HasPage}
 use Rattle.nv_prp.specs.Place.{AreDistinct, table}
-use Rattle.nv_prp.specs.Transfer.{IsLegal, PrpTransfer, data_pages, list_place, naming_number}
-use Rattle.nv_prp.specs.Transfer.{place_of, qword, transfer_places}
+use Rattle.nv_prp.specs.Transfer.{IsLegal, PrpTransfer, data_pages, place_of, transfer_places}
 
 -- the place of byte i of a buffer: its pages by their numbers, and where it begins in the first one
 unfoldable pub buffer_place : ℕ → List ℕ → ℕ → ℕ → ℕ
@@ -47,22 +45,6 @@ abbrev pub KeepsOutside : ℕ → ℕ → ℕ → List ℕ → List ℕ → Type
 KeepsOutside page_size first second old new =
     (from n : ℕ) → IsOutside page_size first from n → IsOutside page_size second from n
     → bytes_at new from n ≡ bytes_at old from n
-
--- only the n bytes from an address on are other ones
-abbrev pub ChangesOnly : ℕ → ℕ → List ℕ → List ℕ → Type 0
-ChangesOnly addr n old new = (from k : ℕ) → IsApart addr n from k → bytes_at new from k
-    ≡ bytes_at old from k
-
--- ---- what a list says
-
--- a list that begins at `first` and goes on at `second` names the first pages of a buffer, but for
--- page 0
-pub record NamesPages (bytes : List ℕ) (page_size room first second : ℕ) (pages : List ℕ)
-    (count : ℕ) : Type 0 where
-  pub chain : room < count - 1 → qword bytes (first + 8 * (room - 1)) ≡ second
-  pub each : (j : ℕ) → 0 < j → j < count
-      → qword bytes (list_place room first second (naming_number room count j))
-      ≡ slice_index pages j * page_size
 
 -- ---- what a transfer that was built is
 

@@ -1,4 +1,4 @@
 pub mod Place
 pub mod Transfer
-pub mod ListWalk
 pub mod Buffer
+pub mod inner

@@ -1,15 +1,13 @@
 -- A transfer between a memory and a controller, described by two PRP entries: which byte lies
 -- where.
-use Rattle.std.specs.Prelude.{◌≡◌, ℕ, zero, suc, ◌==◌, ◌+◌, ◌-◌, ◌*◌, ◌/◌, ◌%◌, ◌&&◌, ◌<◌, List}
-use Rattle.std.specs.Prelude.{MatchResult, None, Option, Result, Some, if◌then◌else◌, length, min}
-use Rattle.std.specs.Prelude.{nat_le, nat_lt}
+use Rattle.std.specs.Prelude.{◌≡◌, ℕ, zero, suc, ◌==◌, ◌+◌, ◌-◌, ◌*◌, ◌/◌, ◌%◌, ◌&&◌, ◌<◌, List, None}
+use Rattle.std.specs.Prelude.{Option, Some, if◌then◌else◌, length, min, nat_le, nat_lt}
 use Rattle.std.specs.Int.{div_ceil, from_le_bytes, w64}
 use Rattle.std.specs.Option.{option_or}
 use Rattle.nv_host.specs.Bytes.{bytes_at}
 use Rattle.nv_prp.specs.Place.{table}
 use Rattle.nv_prp.specs.declared.error.PrpError.{PrpError}
 use Rattle.nv_prp.specs.declared.error.PrpError.TheVariants.{Offset, Outside}
-use Rattle.nv_prp.specs.declared.pointer.DataPointer.{DataPointer}
 use Rattle.nv_prp.specs.declared.spans.Span.{Span}
 
 -- the most bytes of a transfer: 1 MiB
@@ -26,9 +24,6 @@ pub record PrpTransfer : Type 0 where
 abbrev pub transfer : ℕ → List ℕ → ℕ → ℕ → ℕ → PrpTransfer
 transfer page_size bytes prp1 prp2 len =
     record { page_size = page_size; bytes = bytes; prp1 = prp1; prp2 = prp2; len = len }
-
-abbrev pub transfer_of : ℕ → List ℕ → DataPointer → PrpTransfer
-transfer_of page_size bytes pointer = transfer page_size bytes pointer.prp1 pointer.prp2 pointer.len
 
 -- where the first byte lies in its page
 abbrev pub offset : PrpTransfer → ℕ
@@ -142,16 +137,6 @@ pub record IsLegal (t : PrpTransfer) : Type 0 where
   pub prp1 : prp1_fault t ≡ None
   pub prp2 : prp2_fault t ≡ None
   pub list : (n : ℕ) → n < qwords t → qword_fault t n ≡ None
-
--- the result is the fault, if there is one
-abbrev pub HasFault : {X : Type 0} → Result X PrpError → Option PrpError → Type 0
-HasFault result fault = MatchResult result (λ _. fault ≡ None) (λ e. fault ≡ Some e)
-
--- a walk ended with the fault, or without one and with the spans of all data pages
-abbrev pub HasWalked : {X : Type 0} → PrpTransfer → Option PrpError → Result X PrpError
-    → List Span → Type 0
-HasWalked t fault result spans =
-    MatchResult result (λ _. (fault ≡ None) × (spans ≡ spans_of t)) (λ e. fault ≡ Some e)
 
 -- the fault at the first of the n Qwords that has one
 abbrev pub first_qword_fault : PrpTransfer → ℕ → Option PrpError

@@ -1,8 +1,8 @@
 //! Transfers built for a buffer in pages.
 
 ghost use Rattle.std.specs.Prelude.{◌≡◌, ◌≢◌, ℕ, ◌+◌, ◌-◌, ◌*◌, ◌/◌, ◌%◌, ◌<◌, ◌≤◌, ◌∷◌, length};
-ghost use Rattle.nv_prp.specs.Buffer.{IsBuffer, IsListPlace, KeepsOutside, NamesPages, StaysFor};
-ghost use Rattle.nv_prp.specs.Buffer.{buffer_place};
+ghost use Rattle.nv_prp.specs.Buffer.{IsBuffer, IsListPlace, KeepsOutside, StaysFor, buffer_place};
+ghost use Rattle.nv_prp.specs.inner.Buffer.{NamesPages};
 ghost use Rattle.nv_prp.specs.Place.{AreDistinct};
 ghost use Rattle.nv_prp.specs.Transfer.{IsLegal, data_pages as pages_of, most_bytes, place_of};
 ghost use Rattle.nv_prp.specs.Transfer.{transfer};

@@ -3,7 +3,8 @@
 ghost use Rattle.std.specs.Prelude.{◌≡◌, ◌+◌, ◌-◌, ◌%◌, ◌*◌, ◌/◌, ◌<◌, ◌≤◌, ◌^◌, length, min};
 ghost use Rattle.std.specs.Int.{div_ceil};
 ghost use Rattle.nv_host.specs.Pages.{IsPageSize};
-ghost use Rattle.nv_prp.specs.Transfer.{first_byte, most_bytes, transfer_of};
+ghost use Rattle.nv_prp.specs.Transfer.{first_byte, most_bytes};
+ghost use Rattle.nv_prp.specs.inner.Transfer.{transfer_of};
 
 use crate::Span;
 use nv_host::{HostMemory, PageNo};

@@ -2,8 +2,9 @@
 
 ghost use Rattle.std.specs.Prelude.{◌≡◌, ◌%◌, ◌+◌, ◌<◌, ◌≤◌, ◌^◌, IfOk, OnOk, length};
 ghost use Rattle.nv_host.specs.Pages.{IsPageSize};
-ghost use Rattle.nv_prp.specs.Buffer.{ChangesOnly};
-ghost use Rattle.nv_prp.specs.Transfer.{HasFault, entry_fault, qword};
+ghost use Rattle.nv_prp.specs.inner.Buffer.{ChangesOnly};
+ghost use Rattle.nv_prp.specs.inner.Transfer.{HasFault};
+ghost use Rattle.nv_prp.specs.Transfer.{entry_fault, qword};
 
 use crate::PrpError;
 use nv_host::{HostMemory, load_inside, size_of_memory, store_inside};

@@ -3,11 +3,12 @@
 ghost use Rattle.std.specs.Prelude.{◌≡◌, ◌+◌, ◌-◌, ◌/◌, ◌<◌, ◌≤◌, ◌↔◌, [], IfErr, IfOk, IsOk};
 ghost use Rattle.std.specs.Prelude.{OnErr, OnOk, Some, length};
 ghost use Rattle.nv_host.specs.Pages.{IsPageSize};
-ghost use Rattle.nv_prp.specs.ListWalk.{Comes, IsList, ListTurn};
+ghost use Rattle.nv_prp.specs.inner.ListWalk.{Comes, IsList, ListTurn};
 ghost use Rattle.nv_prp.specs.Place.{LieIn, places, table};
-ghost use Rattle.nv_prp.specs.Transfer.{HasWalked, IsLegal, data_pages as pages_of};
-ghost use Rattle.nv_prp.specs.Transfer.{fault_after_prp1, first_fault, most_bytes, room, span_of};
-ghost use Rattle.nv_prp.specs.Transfer.{spans_of, transfer, transfer_of, transfer_places};
+ghost use Rattle.nv_prp.specs.inner.Transfer.{HasWalked, transfer_of};
+ghost use Rattle.nv_prp.specs.Transfer.{IsLegal, data_pages as pages_of, fault_after_prp1};
+ghost use Rattle.nv_prp.specs.Transfer.{first_fault, most_bytes, room, span_of, spans_of, transfer};
+ghost use Rattle.nv_prp.specs.Transfer.{transfer_places};
 
 use crate::list_shape::ListShape;
 use crate::pointer::{DataPointer, qwords_in_page};

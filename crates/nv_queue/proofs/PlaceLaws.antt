@@ -1,6 +1,7 @@
 -- The numbers of places in a ring.
 use Rattle.std.proofs.Common.{◌≡◌, ℕ, ◌+◌, ◌-◌, ◌*◌, ◌<◌, ◌≤◌, Bool, true, false, not, arith}
-use Rattle.nv_queue.specs.Numbers.{above, ahead, first_in_slot, next, number_of, phase_of, slot_of}
+use Rattle.nv_queue.specs.Numbers.{above, ahead, first_in_slot, next, phase_of, slot_of}
+use Rattle.nv_queue.specs.inner.Numbers.{number_of}
 use Rattle.nv_queue.proofs.NumberLaws.{ahead_cases, ahead_slot, next_cases, phase_high, phase_low}
 use Rattle.nv_queue.proofs.NumberLaws.{slot_high, slot_low}
 use Rattle.nv_queue.proofs.NumberLaws.{within_filled, within_freed, within_more, within_taken}

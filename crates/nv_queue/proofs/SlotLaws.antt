@@ -21,10 +21,9 @@ use Rattle.nv_queue.proofs.NumberLaws.{phase_low, slot_low}
 use Rattle.nv_queue.proofs.KeptLaws.{phase_again, phase_kept, slot_again, slot_kept, slots_apart}
 use Rattle.nv_queue.specs.Rings.{CollectNumbers, IsCollectRing, PostNumbers, SubmitNumbers}
 use Rattle.nv_queue.specs.Slots.{CollectsPosted, HoldsOneMore, HoldsPosted, IsAwaitedThere}
-use Rattle.nv_queue.specs.Slots.{WritesCompletion, WritesSubmission, awaited_completion}
-use Rattle.nv_queue.specs.Slots.{completion_at}
-use Rattle.nv_queue.specs.Slots.{completion_place, posted_as, put_as, submission_place}
-use Rattle.nv_queue.specs.Slots.{with_completion, with_submission}
+use Rattle.nv_queue.specs.Slots.{awaited_completion, completion_at, completion_place, posted_as}
+use Rattle.nv_queue.specs.Slots.{put_as, submission_place, with_completion, with_submission}
+use Rattle.nv_queue.specs.inner.Slots.{WritesCompletion, WritesSubmission}
 
 -- ---- the awaited slot
 

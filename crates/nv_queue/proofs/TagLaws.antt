@@ -10,9 +10,9 @@ use Rattle.nv_queue.specs.Numbers.{above, next, phase_of, slot_of, tag_below}
 use Rattle.nv_queue.proofs.NumberLaws.{above_cases, next_below, next_cases, phase_high, phase_low}
 use Rattle.nv_queue.proofs.NumberLaws.{slot_below, slot_cases, slot_high, slot_low}
 use Rattle.nv_queue.specs.Rings.{CollectNumbers, IsCollectRing, PostNumbers}
-use Rattle.nv_queue.specs.Slots.{FindsByTags, HoldsTags, IsAwaitedThere, KeepsTags}
-use Rattle.nv_queue.specs.Slots.{WritesCompletion}
-use Rattle.nv_queue.specs.Slots.{completion_at, posted_as, with_completion}
+use Rattle.nv_queue.specs.Slots.{FindsByTags, HoldsTags, IsAwaitedThere, KeepsTags, completion_at}
+use Rattle.nv_queue.specs.Slots.{posted_as, with_completion}
+use Rattle.nv_queue.specs.inner.Slots.{WritesCompletion}
 use Rattle.nv_queue.proofs.SlotLaws.{holds_one_more, not_own, put_written}
 
 -- at numbers of the first pass tag 1 stands in the slots below, at those of the second in the rest

@@ -2,3 +2,4 @@ pub mod Numbers
 pub mod Rings
 pub mod Slots
 pub mod Runs
+pub mod inner

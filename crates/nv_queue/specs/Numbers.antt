@@ -51,10 +51,6 @@ pub record IsWithinRing (depth low high : ℕ) : Type 0 where
 abbrev pub IsFull : ℕ → ℕ → ℕ → Type 0
 IsFull depth low high = above depth high low ≡ depth - 1
 
--- the number that a slot in the first or the second pass stands for
-abbrev pub number_of : ℕ → ℕ → Bool → ℕ
-number_of depth slot second = if second then depth + slot else slot
-
 -- the phase tag of a slot where the numbers below n were posted: that of the greatest of them that
 -- falls on it, or 0
 unfoldable pub tag_below : ℕ → ℕ → ℕ → Bool

@@ -53,11 +53,6 @@ IsFetchRing ring = IsWithinRing ring.depth ring.fetched ring.rung
 abbrev pub IsPostRing : PostNumbers → Type 0
 IsPostRing ring = IsWithinRing ring.depth ring.told ring.posted
 
-pub record IsRing (ring : RingNumbers) : Type 0 where
-  pub deep : IsDepth ring.depth
-  pub own : ring.own < 2 * ring.depth
-  pub told : ring.told < 2 * ring.depth
-
 -- the told place lies behind the own one, or ahead of it
 abbrev pub IsToldBehind : RingNumbers → Type 0
 IsToldBehind ring = IsWithinRing ring.depth ring.told ring.own

@@ -1,8 +1,6 @@
 -- What the slots of a ring hold.
-use Rattle.std.specs.Prelude.{◌≡◌, ◌≢◌, ◌↔◌, ℕ, ◌+◌, ◌*◌, ◌<◌, ◌≤◌, false, List, [], ◌∷◌, ◌++◌}
-use Rattle.std.specs.Prelude.{length}
-use Rattle.std.specs.Prelude.{slice_index_or}
-use Rattle.std.specs.Prelude.{Option, IfSome, IsNone, IsSome}
+use Rattle.std.specs.Prelude.{◌≡◌, ◌↔◌, ℕ, ◌+◌, ◌*◌, ◌<◌, ◌≤◌, false, List, [], ◌∷◌, ◌++◌, length}
+use Rattle.std.specs.Prelude.{slice_index_or, Option, IfSome, IsNone, IsSome}
 use Rattle.nv_host.specs.Bytes.{bytes_at, with_bytes}
 use Rattle.nv_layout.specs.Cqe.{CqeFits, bytes_of_cqe, cqe_of_bytes}
 use Rattle.nv_layout.specs.Sqe.{bytes_of_sqe, sqe_of_bytes}
@@ -56,16 +54,6 @@ abbrev pub with_completion : List ℕ → PostNumbers → Cqe → List ℕ
 with_completion bytes ring completion =
     with_bytes bytes (completion_place ring.base ring.depth ring.posted)
     (bytes_of_cqe (put_as ring completion))
-
--- ---- one slot is written, and the others stay
-
-pub record WritesSubmission (old new : List ℕ) (base depth slot : ℕ) (c : Sqe) : Type 0 where
-  pub here : submission_at new base slot ≡ c
-  pub others : (s : ℕ) → s < depth → s ≢ slot → submission_at new base s ≡ submission_at old base s
-
-pub record WritesCompletion (old new : List ℕ) (base depth slot : ℕ) (c : Cqe) : Type 0 where
-  pub here : completion_at new base slot ≡ c
-  pub others : (s : ℕ) → s < depth → s ≢ slot → completion_at new base s ≡ completion_at old base s
 
 -- ---- what the slots hold along a run
 

@@ -2,7 +2,7 @@
 
 ghost use Rattle.std.specs.Prelude.{◌≡◌, ◌<◌, ◌↔◌, IsTrue, false};
 ghost use Rattle.nv_queue.specs.Numbers.{IsDepth, IsSlotBetween, above, ahead, first_in_slot, next};
-ghost use Rattle.nv_queue.specs.Numbers.{number_of};
+ghost use Rattle.nv_queue.specs.inner.Numbers.{number_of};
 
 /// A slot, and whether it is met in the second of two passes over the ring.
 #[derive(Clone, Copy)]

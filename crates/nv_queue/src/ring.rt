@@ -5,7 +5,8 @@ ghost use Rattle.std.specs.Prelude.{length, replicate};
 ghost use Rattle.nv_host.specs.Bytes.{with_bytes};
 ghost use Rattle.nv_queue.specs.Numbers.{IsDepth, IsFull, IsSlotBetween, first_in_slot, next};
 ghost use Rattle.nv_queue.specs.Numbers.{phase_of, slot_of};
-ghost use Rattle.nv_queue.specs.Rings.{IsRing, IsToldAhead, IsToldBehind};
+ghost use Rattle.nv_queue.specs.inner.Rings.{IsRing};
+ghost use Rattle.nv_queue.specs.Rings.{IsToldAhead, IsToldBehind};
 
 use crate::place::Place;
 use nv_host::{HostMemory, size_of_memory, store_inside};
@@ -24,7 +25,8 @@ pub struct Ring {
 impl Model for Ring {
     ghost use Rattle.std.specs.Prelude.{◌<◌};
     ghost use Rattle.nv_queue.specs.Rings.{RingNumbers};
-    ghost use Rattle.nv_queue.specs.Numbers.{IsDepth, number_of};
+    ghost use Rattle.nv_queue.specs.Numbers.{IsDepth};
+    ghost use Rattle.nv_queue.specs.inner.Numbers.{number_of};
 
     ghost Value = { RingNumbers };
 

@@ -1,7 +1,7 @@
 -- Registers of several fields as dwords. Bits that no field has read 0 and are ignored where they
 -- are written.
 use Rattle.std.specs.Prelude.{ℕ, ◌==◌, ◌+◌}
-use Rattle.nv_layout.specs.Parts.{at_bits, bit, bits}
+use Rattle.nv_layout.specs.Bits.{at_bits, bit, bits}
 use Rattle.nv_register.specs.declared.admin_queue_attributes.AdminQueueAttributes.{AdminQueueAttributes}
 use Rattle.nv_register.specs.declared.controller_configuration.ControllerConfiguration.{ControllerConfiguration}
 use Rattle.nv_register.specs.declared.controller_status.ControllerStatus.{ControllerStatus}

@@ -6,7 +6,7 @@ use Rattle.std.proofs.Math.Nat.{mod-add-mod}
 use Rattle.std.proofs.Math.Seq.{take-append_seam}
 use Rattle.std.proofs.lemmas.List.{ext_get_or, get_or-map, get_or-set_same, get_or-take, length-map, length-set}
 use Rattle.std.proofs.lemmas.List.{length-take-le, map-append, map-set, set-set, take-append-drop}
-use Rattle.nv_command.specs.Logs.{answer_received}
+use Rattle.nv_command.specs.Received.{answer_received}
 use Rattle.nv_command.specs.declared.command.Command.{Command}
 use Rattle.nv_command.specs.declared.command.Command.TheVariants.{IdentifyController, IdentifyNamespace}
 use Rattle.nv_driver.specs.Batch.{answers_of, state_after}
@@ -17,10 +17,11 @@ use Rattle.nv_driver.specs.Answer.{Answer}
 use Rattle.nv_driver.specs.Settled.{DriverValue}
 use Rattle.nv_model.specs.State.{State}
 use Rattle.nv_model.specs.Step.{next_serial, step}
-use Rattle.nv_model.specs.Numbers.{serial_count}
-use Rattle.nv_script.specs.Exchange.{order_of}
-use Rattle.nv_driver.specs.Linked.{serials_of}
-use Rattle.nv_script.specs.Listing.{IsHandedOn, IsListed, ListLeaves, Standing, answers_to, asked, asked_all}
+use Rattle.nv_model.specs.Ranges.{serial_count}
+use Rattle.nv_script.specs.Outcomes.{order_of}
+use Rattle.nv_driver.specs.inner.Linked.{serials_of}
+use Rattle.nv_script.specs.inner.Listing.{IsHandedOn, IsListed, ListLeaves, Standing, answers_to}
+use Rattle.nv_script.specs.inner.Listing.{asked, asked_all}
 use Rattle.nv_script.specs.Orders.{namespace_orders}
 use Rattle.nv_script.specs.Shown.{listing_of}
 use Rattle.nv_script.specs.declared.listing.Listing.{Listing}

@@ -8,9 +8,10 @@ use Rattle.std.specs.Prelude.{Option, Some}
 use Rattle.memchr.specs.Find.{IsFirstByte, is_byte}
 use Rattle.nv_model.specs.State.{State}
 use Rattle.nv_script.specs.Cuts.{IsCutIn, Left}
-use Rattle.nv_script.specs.Feeding.{Stands}
+use Rattle.nv_script.specs.inner.Feeding.{Stands}
 use Rattle.nv_script.specs.Results.{Progress, after, whole}
-use Rattle.nv_script.specs.ScriptLines.{Pieces, buffer_after, buffer_of, pieces}
+use Rattle.nv_script.specs.ScriptLines.{Pieces, pieces}
+use Rattle.nv_script.specs.inner.ScriptLines.{buffer_after, buffer_of}
 use Rattle.nv_script.specs.declared.ends.Cut.{Cut}
 use Rattle.nv_script.specs.declared.session.Session.{Session}
 use Rattle.nv_script.proofs.PieceLaws.{HasNoNewline, buffer_after-buffer_of, pieces-newline, pieces-others}

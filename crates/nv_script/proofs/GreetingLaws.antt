@@ -2,8 +2,8 @@
 use Rattle.std.proofs.Common.{◌≡◌, ◌∙◌, ℕ, ◌<◌, ap, sym, subst, refl, List, [], ◌∷◌, ◌++◌, length, Ok, Err}
 use Rattle.std.specs.Prelude.{Contains}
 use Rattle.std.proofs.lemmas.List.Elements.{Contains-append_left}
-use Rattle.nv_bits.specs.Numbers.{above}
-use Rattle.nv_command.specs.Logs.{answer_received}
+use Rattle.nv_bits.specs.Above.{above}
+use Rattle.nv_command.specs.Received.{answer_received}
 use Rattle.nv_command.specs.declared.command.Command.{Command}
 use Rattle.nv_command.specs.declared.command.Command.TheVariants.{ActiveList, IdentifyController}
 use Rattle.nv_command.specs.declared.reply.Reply.{Reply}
@@ -13,12 +13,13 @@ use Rattle.nv_driver.specs.Driver.{after_command, pair_at}
 use Rattle.nv_driver.specs.Answer.{Answer}
 use Rattle.nv_driver.specs.Settled.{DriverValue}
 use Rattle.nv_model.proofs.LookupLaws.{controller}
-use Rattle.nv_model.specs.Nsid.{active_nsids}
+use Rattle.nv_model.specs.Conditions.{active_nsids}
 use Rattle.nv_model.specs.State.{State}
 use Rattle.nv_model.specs.Step.{step}
-use Rattle.nv_script.specs.Exchange.{Exchange, Order, exchange_of, exchange_with, order_of}
-use Rattle.nv_driver.specs.Linked.{serials_of}
-use Rattle.nv_script.specs.Listing.{IsHandedOn, IsListed, ListLeaves, Standing, answers_to, asked, nsids_told}
+use Rattle.nv_script.specs.Outcomes.{Exchange, Order, exchange_of, exchange_with, order_of}
+use Rattle.nv_driver.specs.inner.Linked.{serials_of}
+use Rattle.nv_script.specs.inner.Listing.{IsHandedOn, IsListed, ListLeaves, Standing, answers_to}
+use Rattle.nv_script.specs.inner.Listing.{asked, nsids_told}
 use Rattle.nv_script.specs.Orders.{namespace_orders, orders_of_controller}
 use Rattle.nv_script.specs.Shown.{listing_told}
 use Rattle.nv_script.specs.declared.listing.Listing.{Listing}

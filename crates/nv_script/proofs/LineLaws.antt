@@ -6,13 +6,13 @@ use Rattle.std.specs.Io.KnownBytes.{Appends}
 use Rattle.std.proofs.lemmas.List.{take_all}
 use Rattle.nv_model.specs.State.{State}
 use Rattle.nv_script.specs.Cuts.{IsCutIn, Holds, Left, left_at, state_amid}
-use Rattle.nv_script.specs.Feeding.{LineLeaves, PrintLeaves}
+use Rattle.nv_script.specs.inner.Feeding.{LineLeaves, PrintLeaves}
 use Rattle.nv_line.specs.LineFault.{IsUnlessMemory}
 use Rattle.nv_script.specs.Orders.{orders_of}
 use Rattle.nv_script.specs.Outcomes.{outcome_of}
 use Rattle.nv_line.specs.Line.{reading}
 use Rattle.nv_script.specs.Results.{LineResult, Progress, line_result, request_result, result_at, said_at}
-use Rattle.nv_driver.specs.Linked.{serials_of}
+use Rattle.nv_driver.specs.inner.Linked.{serials_of}
 use Rattle.nv_script.specs.declared.ends.Cut.{Cut}
 use Rattle.nv_script.specs.declared.ends.Cut.TheVariants.{Output, Messages}
 use Rattle.nv_script.specs.declared.session.Session.{Session}

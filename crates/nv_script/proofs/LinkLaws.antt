@@ -3,22 +3,22 @@ use Rattle.std.proofs.Common.{◌≡◌, ◌∙◌, ℕ, ◌<◌, ap, length, su
 use Rattle.std.specs.Prelude.{replicate}
 use Rattle.std.proofs.lemmas.List.{length-map, length-replicate}
 use Rattle.nv_layout.specs.declared.status.Status.{Status}
-use Rattle.nv_command.specs.Logs.{answer_received}
+use Rattle.nv_command.specs.Received.{answer_received}
 use Rattle.nv_command.specs.declared.command.Command.{Command}
 use Rattle.nv_command.specs.declared.reply.Reply.{Reply}
 use Rattle.nv_command.specs.declared.reply.Reply.TheVariants.{Done}
-use Rattle.nv_model.specs.Reset.{reset}
+use Rattle.nv_model.specs.Step.{reset}
 use Rattle.nv_model.specs.Step.{step}
 use Rattle.nv_bus.specs.Bus.{BusValue}
 use Rattle.nv_driver.specs.Driver.{after_command, after_reset, new_driver, pair_at}
-use Rattle.nv_driver.specs.Linked.{IsLinked, serials_of}
+use Rattle.nv_driver.specs.inner.Linked.{IsLinked, serials_of}
 use Rattle.nv_driver.specs.QueuePair.{QueuePair}
 use Rattle.nv_driver.specs.Settled.{DriverValue}
 use Rattle.nv_driver.specs.declared.geometry.Geometry.{Geometry}
 use Rattle.nv_driver.proofs.LinkedLaws.{first_serials, pair_count, same_pairs, serial_at, serials_after, serials_reset}
 use Rattle.nv_line.specs.declared.request.Act.TheVariants.{Reset}
-use Rattle.nv_script.specs.Exchange.{exchange_of, exchange_with, order_of}
-use Rattle.nv_script.specs.Link.{IsFirst}
+use Rattle.nv_script.specs.Outcomes.{exchange_of, exchange_with, order_of}
+use Rattle.nv_script.specs.inner.Link.{IsFirst}
 use Rattle.nv_script.specs.declared.session.Session.{Session}
 
 pub first_session : (g : Geometry) (old new : BusValue) (d : DriverValue) (session : Session) → IsLinked new d

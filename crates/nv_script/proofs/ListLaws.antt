@@ -9,8 +9,9 @@ use Rattle.nv_command.specs.declared.command.Command.{Command}
 use Rattle.nv_driver.specs.Answer.{Answer}
 use Rattle.nv_line.specs.declared.request.Act.TheVariants.{Send}
 use Rattle.nv_model.specs.State.{State}
-use Rattle.nv_script.specs.Exchange.{Order, exchange_of, order_of}
-use Rattle.nv_script.specs.Listing.{AreBegun, IsListed, ListLeaves, Standing, answers_to, asked, asked_all}
+use Rattle.nv_script.specs.Outcomes.{Order, exchange_of, order_of}
+use Rattle.nv_script.specs.inner.Listing.{AreBegun, IsListed, ListLeaves, Standing, answers_to}
+use Rattle.nv_script.specs.inner.Listing.{asked, asked_all}
 use Rattle.nv_script.specs.Shown.{listing_of, listing_told, no_listing}
 use Rattle.nv_script.specs.declared.listing.Listing.{Listing}
 use Rattle.nv_script.specs.declared.performing.Stop.{Stop}

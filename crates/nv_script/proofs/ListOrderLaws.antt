@@ -5,12 +5,12 @@ use Rattle.std.specs.Prelude.{All, filter, flat_map, if◌then◌else◌, nat_lt
 use Rattle.std.specs.List.{range_with_len}
 use Rattle.std.proofs.lemmas.List.Elements.{All-tail}
 use Rattle.nv_command.specs.declared.command.Command.TheVariants.{ActiveList, IdentifyController}
-use Rattle.nv_bits.specs.Numbers.{above}
+use Rattle.nv_bits.specs.Above.{above}
 use Rattle.nv_model.proofs.LookupLaws.{IsAlike, IsInside, active_inside, attached, controller, namespace}
-use Rattle.nv_model.specs.Nsid.{active_nsids}
+use Rattle.nv_model.specs.Conditions.{active_nsids}
 use Rattle.nv_model.specs.State.{State}
 use Rattle.nv_model.specs.WellFormed.{IsWellFormed}
-use Rattle.nv_script.specs.Exchange.{Order, order_of}
+use Rattle.nv_script.specs.Outcomes.{Order, order_of}
 use Rattle.nv_script.specs.Orders.{namespace_orders, orders_of_controller, orders_of_list}
 use Rattle.nv_script.proofs.LookupLaws.{AreLookups, sends}
 

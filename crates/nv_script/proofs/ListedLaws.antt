@@ -5,10 +5,10 @@ use Rattle.nv_line.specs.declared.request.Query.TheVariants as query
 use Rattle.nv_print.specs.declared.shown.Shown.TheVariants as shown
 use Rattle.nv_model.specs.State.{State}
 use Rattle.nv_model.specs.WellFormed.{IsWellFormed}
-use Rattle.nv_script.specs.Listing.{AreBegun, IsListed, ListLeaves, Standing, asked_all}
+use Rattle.nv_script.specs.inner.Listing.{AreBegun, IsListed, ListLeaves, Standing, asked_all}
 use Rattle.nv_script.specs.Orders.{orders_of_list}
 use Rattle.nv_script.specs.Outcomes.{Outcome, outcome_of}
-use Rattle.nv_script.specs.Performing.{QueryLeaves, StopLeaves}
+use Rattle.nv_script.specs.inner.Performing.{QueryLeaves, StopLeaves}
 use Rattle.nv_script.specs.Shown.{listing_of, no_listing}
 use Rattle.nv_script.specs.declared.listing.Listing.{Listing}
 use Rattle.nv_script.specs.declared.performing.Stop.{Stop}

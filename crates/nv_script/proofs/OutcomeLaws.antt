@@ -3,7 +3,7 @@ use Rattle.std.proofs.Common.{◌≡◌, ℕ, ap, sym, List, [], ◌∷◌, None
 use Rattle.nv_layout.specs.declared.status.Status.{Status}
 use Rattle.nv_model.specs.State.{State}
 use Rattle.nv_command.specs.declared.reply.Reply.{Reply}
-use Rattle.nv_script.specs.Exchange.{Exchange, Order, exchange_of}
+use Rattle.nv_script.specs.Outcomes.{Exchange, Order, exchange_of}
 use Rattle.nv_script.specs.Outcomes.{Outcome, outcome_after, outcome_of}
 
 -- commands that were all accepted, and some of which the last one was refused

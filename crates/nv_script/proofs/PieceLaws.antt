@@ -9,7 +9,8 @@ use Rattle.memchr.specs.Find.{Nowhere, Passes, is_byte}
 use Rattle.nv_model.specs.State.{State}
 use Rattle.nv_script.specs.Cuts.{joined_lines}
 use Rattle.nv_script.specs.Results.{after, start, whole}
-use Rattle.nv_script.specs.ScriptLines.{Pieces, as_line, buffer_after, buffer_of, pieces, with_byte}
+use Rattle.nv_script.specs.ScriptLines.{Pieces, as_line, pieces, with_byte}
+use Rattle.nv_script.specs.inner.ScriptLines.{buffer_after, buffer_of}
 
 -- a piece of which one byte more was read
 pub taken-more : (bytes piece : List ℕ) (i : ℕ) → i < length piece

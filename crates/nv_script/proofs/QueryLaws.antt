@@ -4,7 +4,7 @@ use Rattle.std.proofs.Common.{Result, Ok, Err}
 use Rattle.std.specs.Option.{option_map_or}
 use Rattle.std.proofs.lemmas.List.{take_all}
 use Rattle.nv_layout.specs.declared.status.Status.{Status}
-use Rattle.nv_command.specs.Logs.{answer_received}
+use Rattle.nv_command.specs.Received.{answer_received}
 use Rattle.nv_command.specs.declared.command.Command.{Command}
 use Rattle.nv_command.specs.declared.command.Command.TheVariants.{IdentifyController}
 use Rattle.nv_command.specs.declared.refusal.Refusal.{Refusal}
@@ -12,7 +12,7 @@ use Rattle.nv_command.specs.declared.reply.Reply.{Reply}
 use Rattle.nv_command.specs.declared.reply.Reply.TheVariants as reply
 use Rattle.nv_model.specs.IdentifyController.{id_ctrl_of, no_controller}
 use Rattle.nv_model.specs.Logs.{entry_count}
-use Rattle.nv_model.specs.Refusal.{refusal_of}
+use Rattle.nv_model.specs.Meaning.{refusal_of}
 use Rattle.nv_model.specs.State.{Controller, State, controller_at}
 use Rattle.nv_model.specs.Step.{step_by}
 use Rattle.nv_line.specs.declared.request.Ask.{Ask}
@@ -20,10 +20,13 @@ use Rattle.nv_line.specs.declared.request.Ask.TheVariants as ask
 use Rattle.nv_line.specs.declared.request.Query.{Query}
 use Rattle.nv_line.specs.declared.request.Query.TheVariants.{One}
 use Rattle.nv_line.specs.declared.request.Question.{Question}
-use Rattle.nv_script.specs.Exchange.{Exchange, Order, exchange_by, exchange_of, exchange_with, order_of}
-use Rattle.nv_script.specs.Orders.{errors_command, first_act, later_orders, next_command, orders_of, second_command}
+use Rattle.nv_script.specs.Outcomes.{Exchange, Order, exchange_by, exchange_of, exchange_with}
+use Rattle.nv_script.specs.Outcomes.{order_of}
+use Rattle.nv_script.specs.Orders.{errors_command, first_act, later_orders, orders_of}
+use Rattle.nv_script.specs.Orders.{second_command}
+use Rattle.nv_script.specs.inner.Orders.{next_command}
 use Rattle.nv_script.specs.Outcomes.{Outcome, outcome_after, outcome_of}
-use Rattle.nv_script.specs.Performing.{IsReached, OrderLeaves, QueryLeaves, StopLeaves}
+use Rattle.nv_script.specs.inner.Performing.{IsReached, OrderLeaves, QueryLeaves, StopLeaves}
 use Rattle.nv_script.specs.Shown.{shown_of}
 use Rattle.nv_script.specs.declared.performing.Stop.TheVariants as stop
 use Rattle.nv_print.specs.declared.shown.Shown.{Shown}

@@ -8,7 +8,7 @@ use Rattle.std.proofs.lemmas.Bool.Decides.{nat_tests}
 use Rattle.std.proofs.lemmas.List.{length-append, length-take-le}
 use Rattle.nv_model.specs.State.{State}
 use Rattle.nv_script.specs.Cuts.{IsCutShort, Holds, Left}
-use Rattle.nv_driver.specs.Driver.{error_without}
+use Rattle.nv_driver.specs.inner.Driver.{error_without}
 use Rattle.nv_driver.specs.Geometry.{fault_of}
 use Rattle.nv_driver.specs.declared.error.DriverError.{DriverError}
 use Rattle.nv_driver.specs.declared.error.DriverError.TheVariants as error
@@ -16,10 +16,10 @@ use Rattle.nv_driver.specs.declared.geometry.Geometry.{Geometry as DriverGeometr
 use Rattle.nv_driver.specs.declared.geometry_field.GeometryField.{GeometryField}
 use Rattle.nv_script.specs.Ends.{AllEnabled, AreFaults, Headline, IsEndOf, IsRun, Leaves, LeavesAll, RunState, Runs}
 use Rattle.nv_script.specs.Ends.{RunsFrom, WasRead, begun, end_with, end_without, left_by}
-use Rattle.nv_script.specs.Feeding.{LastLeaves, PieceLeaves, Stands}
+use Rattle.nv_script.specs.inner.Feeding.{LastLeaves, PieceLeaves, Stands}
 use Rattle.nv_script.specs.Results.{Progress, whole}
 use Rattle.nv_script.specs.ScriptLines.{IsReadToEnd, as_line, has_stopped, pieces, script_lines}
-use Rattle.nv_driver.specs.Linked.{serials_of}
+use Rattle.nv_driver.specs.inner.Linked.{serials_of}
 use Rattle.nv_stream.specs.Streams.{IsFresh, SourceState}
 use Rattle.nv_script.specs.declared.ends.Cut.{Cut}
 use Rattle.nv_script.specs.declared.ends.Cut.TheVariants as cut
@@ -28,7 +28,7 @@ use Rattle.nv_script.specs.declared.ends.RunEnd.TheVariants.{Status, Geometry, N
 use Rattle.nv_script.specs.declared.ends.SessionEnd.{SessionEnd}
 use Rattle.nv_script.specs.declared.ends.SessionEnd.TheVariants as ended
 use Rattle.nv_script.specs.declared.session.Session.{Session}
-use Rattle.nv_stream.specs.Limits.{read_size}
+use Rattle.nv_stream.specs.Streams.{read_size}
 use Rattle.nv_script.proofs.PieceLaws.{as_line-some, length-joined, length-pieces, piece-among}
 use Rattle.nv_stream.proofs.Taking.{Appends-same, Consumes-join, Consumes-nothing, Consumes-same, length-taken}
 

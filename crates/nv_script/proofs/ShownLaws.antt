@@ -8,8 +8,9 @@ use Rattle.std.specs.Option.{option_map_or}
 use Rattle.std.proofs.lemmas.Bool.Decides.{nat_tests}
 use Rattle.std.proofs.lemmas.List.{map-append}
 use Rattle.std.proofs.lemmas.List.Concat.{flat_map-append}
-use Rattle.nv_bits.specs.Numbers.{above}
-use Rattle.nv_command.specs.Logs.{answer_received, first_of_log, is_error_log, received}
+use Rattle.nv_bits.specs.Above.{above}
+use Rattle.nv_command.specs.Received.{answer_received, first_of_log, received}
+use Rattle.nv_command.specs.Form.{is_error_log}
 use Rattle.nv_command.specs.declared.command.Command.{Command}
 use Rattle.nv_command.specs.declared.command.Command.TheVariants as command
 use Rattle.nv_command.specs.declared.refusal.Refusal.{Refusal}
@@ -31,19 +32,19 @@ use Rattle.nv_model.proofs.ManagementLaws.{none_holds}
 use Rattle.nv_model.specs.Features.{get_rows, set_rows, supported_rows}
 use Rattle.nv_model.specs.Identify.{active_reply}
 use Rattle.nv_model.specs.Logs.{entry_count}
-use Rattle.nv_model.specs.Nsid.{active_nsids}
-use Rattle.nv_model.specs.Refusal.{refusal_of}
-use Rattle.nv_model.specs.Reply.{reply_of}
-use Rattle.nv_model.specs.Row.{first_refusal, row}
+use Rattle.nv_model.specs.Conditions.{active_nsids}
+use Rattle.nv_model.specs.Meaning.{refusal_of}
+use Rattle.nv_model.specs.Meaning.{reply_of}
+use Rattle.nv_model.specs.Conditions.{first_refusal, row}
 use Rattle.nv_model.specs.State.{Controller, State, controller_at}
 use Rattle.nv_model.specs.Step.{step_by}
-use Rattle.nv_model.specs.Supported.{is_supported, supported}
+use Rattle.nv_model.specs.WellFormed.{is_supported, supported}
 use Rattle.nv_model.specs.declared.row.Row.{Row}
-use Rattle.nv_print.specs.Sentences.{select_of}
+use Rattle.nv_print.specs.Message.{select_of}
 use Rattle.nv_print.specs.declared.select.Select.{Select}
 use Rattle.nv_print.specs.declared.shown.Shown.{Shown}
 use Rattle.nv_script.specs.EachShown.{EachIsShown, IsListed, IsShown, place_of, places_of}
-use Rattle.nv_script.specs.Exchange.{Exchange, Order, exchange_by, exchange_of, order_of}
+use Rattle.nv_script.specs.Outcomes.{Exchange, Order, exchange_by, exchange_of, order_of}
 use Rattle.nv_script.specs.Orders.{errors_command, namespace_orders, orders_of_controller, orders_of_list}
 use Rattle.nv_script.specs.Outcomes.{Outcome, outcome_after, outcome_of}
 use Rattle.nv_script.specs.Shown.{feature_set, feature_value, listing_of, listing_told, no_listing}

@@ -13,7 +13,7 @@ use Rattle.nv_script.specs.declared.ends.Cut.TheVariants.{Output, Messages, Memo
 use Rattle.nv_line.specs.declared.fault.LineFault.{LineFault}
 use Rattle.nv_line.specs.declared.line.Line.{Line}
 use Rattle.nv_line.specs.declared.line.Line.TheVariants as line
-use Rattle.nv_stream.specs.Limits.{read_size}
+use Rattle.nv_stream.specs.Streams.{read_size}
 
 -- the streams and the subsystem: what each sink had taken before a run and has taken since, where
 -- that is told

@@ -1,9 +1,9 @@
 -- What is accepted is shown.
 use Rattle.std.specs.Prelude.{◌≡◌, ℕ, List, None, Ok, IsSome, flat_map, length, map}
 use Rattle.std.specs.List.{range_with_len}
-use Rattle.nv_bits.specs.Numbers.{above}
+use Rattle.nv_bits.specs.Above.{above}
 use Rattle.nv_line.specs.declared.request.Query.{Query}
-use Rattle.nv_model.specs.Nsid.{active_nsids}
+use Rattle.nv_model.specs.Conditions.{active_nsids}
 use Rattle.nv_model.specs.State.{State}
 use Rattle.nv_print.specs.declared.device.Device.{Device}
 use Rattle.nv_script.specs.Orders.{orders_of, orders_of_list}

@@ -1,16 +1,11 @@
-pub mod Limits
 pub use Rattle.nv_line.specs.LineFault
 pub use Rattle.nv_line.specs.Line
-pub mod Link
-pub mod Exchange
 pub mod Orders
 pub mod Outcomes
 pub mod Shown
 pub mod EachShown
 pub mod ScriptLines
 pub mod Results
-pub mod Listing
-pub mod Performing
 pub mod Cuts
 pub mod Ends
-pub mod Feeding
+pub mod inner

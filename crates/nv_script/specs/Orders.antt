@@ -1,18 +1,14 @@
 -- What a query has controllers do.
-use Rattle.std.specs.Prelude.{ℕ, ◌+◌, ◌*◌, max, min, List, [], ◌∷◌, Option, Some, None}
-use Rattle.std.specs.Prelude.{flat_map, length, map}
+use Rattle.std.specs.Prelude.{ℕ, ◌*◌, max, min, List, [], ◌∷◌, Option, Some, None, flat_map, length, map}
 use Rattle.std.specs.List.{range_with_len}
-use Rattle.nv_bits.specs.Numbers.{above}
+use Rattle.nv_bits.specs.Above.{above}
 use Rattle.nv_model.specs.Logs.{entry_count}
-use Rattle.nv_model.specs.Nsid.{active_nsids}
+use Rattle.nv_model.specs.Conditions.{active_nsids}
 use Rattle.nv_model.specs.State.{State}
 use Rattle.nv_command.specs.declared.command.Command.{Command}
-use Rattle.nv_command.specs.declared.command.Command.TheVariants.{IdentifyController}
-use Rattle.nv_command.specs.declared.command.Command.TheVariants.{IdentifyNamespace}
+use Rattle.nv_command.specs.declared.command.Command.TheVariants.{IdentifyController, IdentifyNamespace}
 use Rattle.nv_command.specs.declared.command.Command.TheVariants.{ActiveList, GetLog}
-use Rattle.nv_command.specs.declared.reply.Reply.{Reply}
-use Rattle.nv_command.specs.declared.reply.Reply.TheVariants as reply
-use Rattle.nv_script.specs.Exchange.{Order, order_of}
+use Rattle.nv_script.specs.Outcomes.{Order, order_of}
 use Rattle.nv_line.specs.declared.request.Act.{Act}
 use Rattle.nv_line.specs.declared.request.Act.TheVariants.{Send}
 use Rattle.nv_line.specs.declared.request.Ask.{Ask}
@@ -42,12 +38,6 @@ errors_command entries kept = GetLog (record {
 abbrev pub second_command : ℕ → Ask → Option Command
 second_command kept (ask.ErrorLog entries) = Some (errors_command entries kept)
 second_command kept _ = None
-
--- the same by the first reply, which tells how many it keeps
-abbrev pub next_command : Ask → Reply → Option Command
-next_command (ask.ErrorLog entries) (reply.Controller r) =
-    Some (errors_command entries (r.elpe + 1))
-next_command _ _ = None
 
 abbrev pub later_orders : ℕ → Option Command → List Order
 later_orders c None = []

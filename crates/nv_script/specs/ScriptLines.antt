@@ -1,10 +1,13 @@
 -- The lines of a script, and which of them were read.
-use Rattle.std.specs.Prelude.{◌≡◌, ◌⊎◌, ℕ, List, [], ◌∷◌, ◌++◌, fold, length, nat_le, if◌then◌else◌}
-use Rattle.std.specs.Prelude.{Bool, true, false, ◌==◌, ◌||◌, Option, None, Some}
+use Rattle.std.specs.Prelude.{ℕ, ◌≡◌, ◌⊎◌, List, [], ◌∷◌, ◌++◌, fold, if◌then◌else◌, Bool, true, false}
+use Rattle.std.specs.Prelude.{◌==◌, ◌||◌}
 use Rattle.std.specs.Char.{is_newline}
 use Rattle.std.specs.Io.KnownBytes.{IsAtEnd}
-use Rattle.nv_line.specs.Limits.{line_limit}
 use Rattle.nv_stream.specs.Streams.{SourceState}
+
+-- the most reads of one run
+abbrev pub read_limit : ℕ
+read_limit = 4294967295
 
 -- bytes cut at their newlines: the lines that a newline ended, and what follows the last newline
 pub record Pieces : Type 0 where
@@ -44,12 +47,3 @@ pub record IsReadToEnd (reads : ℕ) (script : SourceState) : Type 0 where
 abbrev pub AreRead : ℕ → SourceState → List ℕ → List (List ℕ) → Type 0
 AreRead reads script bytes lines =
     ((pieces bytes).ended ≡ lines) ⊎ (IsReadToEnd reads script × (script_lines bytes ≡ lines))
-
--- a line as a buffer has it: all of it, or none where it is above 4,095 bytes
-abbrev pub buffer_of : List ℕ → Option (List ℕ)
-buffer_of line = if nat_le (length line) line_limit then Some line else None
-
--- the same with these bytes more
-abbrev pub buffer_after : Option (List ℕ) → List ℕ → Option (List ℕ)
-buffer_after None bytes = None
-buffer_after (Some line) bytes = buffer_of (line ++ bytes)

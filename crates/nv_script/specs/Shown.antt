@@ -18,13 +18,13 @@ use Rattle.nv_line.specs.declared.request.Ask.{Ask}
 use Rattle.nv_line.specs.declared.request.Ask.TheVariants as ask
 use Rattle.nv_line.specs.declared.request.Query.{Query}
 use Rattle.nv_line.specs.declared.request.Query.TheVariants as query
-use Rattle.nv_print.specs.Device.{device_of}
-use Rattle.nv_print.specs.Sentences.{select_of}
+use Rattle.nv_print.specs.Devices.{device_of}
+use Rattle.nv_print.specs.Message.{select_of}
 use Rattle.nv_print.specs.Shown.{has_json, json_of, text_of}
 use Rattle.nv_print.specs.declared.select.Select.{Select}
 use Rattle.nv_print.specs.declared.shown.Shown.{Shown}
 use Rattle.nv_print.specs.declared.shown.Shown.TheVariants as shown
-use Rattle.nv_script.specs.Exchange.{Order}
+use Rattle.nv_script.specs.Outcomes.{Order}
 use Rattle.nv_script.specs.declared.listing.Listing.{Listing}
 use Rattle.nv_line.specs.declared.request.Act.{Act}
 use Rattle.nv_line.specs.declared.request.Act.TheVariants.{Send, Reset}

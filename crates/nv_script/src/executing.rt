@@ -3,12 +3,12 @@
 ghost use Rattle.std.specs.Prelude.{◌≡◌, ◌+◌, ◌<◌, ◌^◌, ℕ, List, Option, false, IfOk, length};
 ghost use Rattle.std.specs.Option.{option_copied};
 ghost use Rattle.nv_script.specs.Cuts.{left_at};
-ghost use Rattle.nv_script.specs.Feeding.{IsFailureOf, LineLeaves, PrintLeaves, Stands};
+ghost use Rattle.nv_script.specs.inner.Feeding.{IsFailureOf, LineLeaves, PrintLeaves, Stands};
 ghost use Rattle.nv_line.specs.LineFault.{IsUnlessMemory};
 ghost use Rattle.nv_line.specs.Line.{IsKnown, reading};
 ghost use Rattle.nv_script.specs.Results.{Progress};
-ghost use Rattle.nv_script.specs.ScriptLines.{buffer_of};
-ghost use Rattle.nv_driver.specs.Linked.{IsLinked};
+ghost use Rattle.nv_script.specs.inner.ScriptLines.{buffer_of};
+ghost use Rattle.nv_driver.specs.inner.Linked.{IsLinked};
 
 use crate::ends::Cut;
 use crate::performing::{Stop, perform};

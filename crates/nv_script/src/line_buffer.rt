@@ -3,8 +3,8 @@
 ghost use Rattle.std.specs.Prelude.{◌≡◌, ◌≤◌, [], List, ℕ, Option, Some, None, if◌then◌else◌, take};
 ghost use Rattle.std.specs.Prelude.{IsTrue, ◌↔◌};
 ghost use Rattle.std.specs.Option.{option_copied};
-ghost use Rattle.nv_script.specs.ScriptLines.{buffer_after};
-ghost use Rattle.nv_line.specs.Limits.{line_limit};
+ghost use Rattle.nv_script.specs.inner.ScriptLines.{buffer_after};
+ghost use Rattle.nv_line.specs.Word.{line_limit};
 
 use nv_line::LINE_LIMIT;
 use std::marker::Model;

@@ -5,11 +5,12 @@ ghost use Rattle.std.specs.Prelude.{slice_index, slice_index_or, [], ◌∷◌};
 ghost use Rattle.nv_command.specs.declared.command.Command.{Command};
 ghost use Rattle.nv_command.specs.declared.command.Command.TheVariants.{IdentifyNamespace};
 ghost use Rattle.nv_model.specs.IdentifyController.{no_controller};
-ghost use Rattle.nv_script.specs.Exchange.{order_of};
-ghost use Rattle.nv_driver.specs.Linked.{IsLinked, serials_of};
-ghost use Rattle.nv_script.specs.Listing.{IsHandedOn, IsListed, ListLeaves, Standing, nsids_told};
+ghost use Rattle.nv_script.specs.Outcomes.{order_of};
+ghost use Rattle.nv_driver.specs.inner.Linked.{IsLinked, serials_of};
+ghost use Rattle.nv_script.specs.inner.Listing.{IsHandedOn, IsListed, ListLeaves, Standing};
+ghost use Rattle.nv_script.specs.inner.Listing.{nsids_told};
 ghost use Rattle.nv_script.specs.Orders.{namespace_orders, orders_of_controller};
-ghost use Rattle.nv_script.specs.Performing.{ListedAll};
+ghost use Rattle.nv_script.specs.inner.Performing.{ListedAll};
 ghost use Rattle.nv_script.specs.Shown.{listing_of, listing_told, no_listing};
 ghost use Rattle.nv_line.specs.declared.request.Act.TheVariants.{Send};
 

@@ -2,7 +2,8 @@
 
 ghost use Rattle.std.specs.Prelude.{◌≡◌, ◌+◌, IfSome};
 ghost use Rattle.nv_command.specs.Logs.{IsSendable};
-ghost use Rattle.nv_script.specs.Orders.{errors_command, next_command};
+ghost use Rattle.nv_script.specs.Orders.{errors_command};
+ghost use Rattle.nv_script.specs.inner.Orders.{next_command};
 
 use nv_command::{Command, DwordCount, ERROR_INFORMATION, LogQuery, Reply};
 use nv_line::Ask;

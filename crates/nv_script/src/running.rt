@@ -6,12 +6,12 @@ ghost use Rattle.nv_model.specs.State.{State};
 ghost use Rattle.nv_bus.specs.Bus.{IsBus};
 ghost use Rattle.nv_script.specs.Cuts.{left_at};
 ghost use Rattle.nv_script.specs.Ends.{IsRun, RunsFrom, run_state};
-ghost use Rattle.nv_script.specs.Feeding.{IsFailureOf, LastLeaves, PieceLeaves, Stands};
-ghost use Rattle.nv_script.specs.Limits.{read_limit};
-ghost use Rattle.nv_driver.specs.Linked.{IsLinked};
-ghost use Rattle.nv_script.specs.Link.{IsFirst};
+ghost use Rattle.nv_script.specs.inner.Feeding.{IsFailureOf, LastLeaves, PieceLeaves, Stands};
+ghost use Rattle.nv_script.specs.ScriptLines.{read_limit, pieces};
+ghost use Rattle.nv_script.specs.inner.ScriptLines.{buffer_of};
+ghost use Rattle.nv_driver.specs.inner.Linked.{IsLinked};
+ghost use Rattle.nv_script.specs.inner.Link.{IsFirst};
 ghost use Rattle.nv_script.specs.Results.{whole};
-ghost use Rattle.nv_script.specs.ScriptLines.{buffer_of, pieces};
 ghost use Rattle.nv_stream.specs.Streams.{IsFresh};
 
 use crate::ends::{Cut, RunEnd, SessionEnd};

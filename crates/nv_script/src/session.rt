@@ -45,10 +45,10 @@ impl Session {
     ghost use Rattle.std.specs.Prelude.{◌≡◌, IfOk, MatchResult, None, OnErr};
     ghost use Rattle.nv_bus.specs.Bus.{IsBus, enabled_in};
     ghost use Rattle.nv_driver.specs.Geometry.{fault_of};
-    ghost use Rattle.nv_model.specs.Reset.{reset_where};
+    ghost use Rattle.nv_model.specs.Step.{reset_where};
     ghost use Rattle.nv_script.specs.Ends.{end_without};
-    ghost use Rattle.nv_driver.specs.Linked.{IsLinked};
-    ghost use Rattle.nv_script.specs.Link.{IsFirst};
+    ghost use Rattle.nv_driver.specs.inner.Linked.{IsLinked};
+    ghost use Rattle.nv_script.specs.inner.Link.{IsFirst};
 
     /// Before the first line: there is room for answers, and a driver of this geometry is brought
     /// up, by which each controller that was enabled is reset. Where there is none, the bus is

@@ -2,7 +2,7 @@
 
 ghost use Rattle.std.specs.Prelude.{◌≡◌, IfOk};
 ghost use Rattle.nv_layout.specs.Feature.{feature_of};
-ghost use Rattle.nv_print.specs.Sentences.{select_of};
+ghost use Rattle.nv_print.specs.Message.{select_of};
 ghost use Rattle.nv_script.specs.EachShown.{EachIsShown};
 ghost use Rattle.nv_script.specs.Shown.{feature_set, feature_value, output_of, shown_by};
 ghost use Rattle.nv_script.specs.Shown.{shown_done, shown_number};

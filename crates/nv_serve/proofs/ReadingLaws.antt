@@ -10,7 +10,7 @@ use Rattle.nv_stream.specs.Streams.{SourceState}
 use Rattle.nv_stream.proofs.Taking.{Consumes-join}
 use Rattle.nv_serve.specs.Header.{IsCutShort, header_of, sent_length}
 use Rattle.nv_serve.specs.declared.header.Header.{Header}
-use Rattle.nv_serve.specs.Reading.{Fills, Reads, request}
+use Rattle.nv_serve.specs.inner.Reading.{Fills, Reads, request}
 
 -- the beginning of a list whose middle was read
 take_part : (a k n : ℕ) (xs ys : List ℕ) → a ≤ length xs → n ≤ length ys

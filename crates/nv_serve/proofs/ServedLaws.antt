@@ -14,20 +14,23 @@ use Rattle.nv_serve.specs.Header.{sends_data, sent_by_kind}
 use Rattle.nv_serve.specs.declared.header.Header.{Header}
 use Rattle.nv_serve.specs.declared.header.Kind.{Kind}
 use Rattle.nv_serve.specs.declared.header.Kind.TheVariants.{Entry, Reset, List as ListKind, Unknown}
-use Rattle.nv_serve.specs.Reading.{HasEnded, HasFailed, IsReady, Reads, request}
+use Rattle.nv_serve.specs.Reading.{HasEnded, HasFailed}
+use Rattle.nv_serve.specs.inner.Reading.{IsReady, Reads, request}
 use Rattle.nv_serve.specs.Served.{HasTaken, HasTakenPart, IsEnd, IsOpen, IsRest, IsServed, Streams, begun, end_without}
 use Rattle.nv_serve.specs.Served.{request_limit, texts}
-use Rattle.nv_model.specs.Reset.{reset_where}
+use Rattle.nv_model.specs.Step.{reset_where}
 use Rattle.nv_bus.specs.Bus.{BusValue, enabled_in}
-use Rattle.nv_driver.specs.Driver.{driver_with, error_without}
-use Rattle.nv_driver.specs.Linked.{serials_of}
+use Rattle.nv_driver.specs.Driver.{driver_with}
+use Rattle.nv_driver.specs.inner.Driver.{error_without}
+use Rattle.nv_driver.specs.inner.Linked.{serials_of}
 use Rattle.nv_driver.specs.Settled.{DriverValue}
 use Rattle.nv_driver.specs.declared.error.DriverError.{DriverError}
 use Rattle.nv_driver.specs.declared.error.DriverError.TheVariants as error
 use Rattle.nv_driver.specs.declared.geometry.Geometry.{Geometry}
 use Rattle.nv_driver.specs.declared.geometry_field.GeometryField.{GeometryField}
 use Rattle.nv_driver.proofs.LinkedLaws.{first_serials}
-use Rattle.nv_serve.specs.Serving.{AreAnswered, IsAnswer, Point, after_all, after_one, point, point_of}
+use Rattle.nv_serve.specs.Serving.{AreAnswered, IsAnswer, Point, after_all, after_one, point}
+use Rattle.nv_serve.specs.inner.Serving.{point_of}
 use Rattle.nv_serve.specs.declared.ends.ServeEnd.{ServeEnd}
 use Rattle.nv_serve.specs.declared.ends.ServeEnd.TheVariants as stop
 use Rattle.nv_serve.specs.declared.ends.RequestsEnd.{RequestsEnd}

@@ -1,13 +1,14 @@
 -- What requests leave, one after another.
 use Rattle.std.proofs.Common.{◌≡◌, ◌∙◌, ℕ, ◌<◌, List, ap, length}
 use Rattle.nv_layout.specs.declared.sqe.Sqe.{Sqe}
-use Rattle.nv_model.specs.Reset.{reset}
+use Rattle.nv_model.specs.Step.{reset}
 use Rattle.nv_bus.specs.Bus.{BusValue}
 use Rattle.nv_driver.specs.Alone.{entry_step}
 use Rattle.nv_driver.specs.Driver.{after_command, after_reset as driver_reset, pair_at}
 use Rattle.nv_driver.specs.Settled.{DriverValue}
 use Rattle.nv_driver.proofs.LinkedLaws.{serial_at, serials_after, serials_reset}
-use Rattle.nv_serve.specs.Serving.{after_entry, after_reset, point, point_of}
+use Rattle.nv_serve.specs.Serving.{after_entry, after_reset, point}
+use Rattle.nv_serve.specs.inner.Serving.{point_of}
 
 -- an entry was sent
 pub sent_on : (b b' : BusValue) (d : DriverValue) {d' : DriverValue} (c : ℕ) (e : Sqe) (bytes : List ℕ)

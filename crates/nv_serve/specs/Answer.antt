@@ -29,8 +29,5 @@ pub record Answer : Type 0 where
   pub header : AnswerHeader
   pub payload : List ℕ
 
-abbrev pub answer : AnswerHeader → List ℕ → Answer
-answer header payload = record { header = header; payload = payload }
-
 abbrev pub bytes_of : Answer → List ℕ
 bytes_of a = bytes_of_header a.header ++ a.payload

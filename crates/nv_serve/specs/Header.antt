@@ -1,6 +1,7 @@
 -- A request's bytes: a header, and what the host sends with it.
 use Rattle.std.specs.Prelude.{◌≡◌, ℕ, Bool, ◌==◌, ◌<◌, ◌≤◌, ◌++◌, List, [], drop, if◌then◌else◌, length, take}
-use Rattle.nv_layout.specs.Parts.{bits, number_at}
+use Rattle.nv_layout.specs.Bits.{bits}
+use Rattle.nv_layout.specs.Parts.{number_at}
 use Rattle.nv_layout.specs.Sqe.{sqe_of_bytes}
 use Rattle.nv_layout.specs.declared.sqe.Sqe.{Sqe}
 use Rattle.nv_serve.specs.declared.header.Header.{Header}

@@ -3,3 +3,4 @@ pub mod Answer
 pub mod Serving
 pub mod Reading
 pub mod Served
+pub mod inner

@@ -3,7 +3,7 @@ use Rattle.std.specs.Prelude.{◌≡◌, ◌≢◌, ℕ, ◌+◌, false, true, L
 use Rattle.std.specs.Prelude.{length}
 use Rattle.std.specs.Prelude.{replicate}
 use Rattle.std.specs.Io.KnownBytes.{Appends, Consumes}
-use Rattle.nv_model.specs.Reset.{reset_where}
+use Rattle.nv_model.specs.Step.{reset_where}
 use Rattle.nv_model.specs.State.{State}
 use Rattle.nv_bus.specs.Bus.{BusValue, enabled_in}
 use Rattle.nv_driver.specs.Geometry.{fault_of}
@@ -16,7 +16,7 @@ use Rattle.nv_serve.specs.Reading.{HasEnded, HasFailed}
 use Rattle.nv_serve.specs.Serving.{AreAnswered, Point, after_all, point}
 use Rattle.nv_serve.specs.declared.answer.Outcome.TheVariants as outcome
 use Rattle.nv_serve.specs.declared.ends.RequestsEnd.{RequestsEnd}
-use Rattle.nv_serve.specs.declared.ends.RequestsEnd.TheVariants.{Done, Short, TooLong, Read, Write}
+use Rattle.nv_serve.specs.declared.ends.RequestsEnd.TheVariants.{Done, Short, TooLong, Read, Write, NoReady}
 use Rattle.nv_serve.specs.declared.ends.ServeEnd.{ServeEnd}
 use Rattle.nv_serve.specs.declared.ends.ServeEnd.TheVariants.{Geometry, Memory, Requests}
 
@@ -66,6 +66,7 @@ pub record IsOpen (source : SourceState) : Type 0 where
 
 -- The source ended between two requests, or in one. A request was too long. The source failed, or there
 -- were as many requests as there may be. The sink failed, and nothing is read while an answer isn't out.
+-- Each controller of a lawful bus is ready.
 abbrev pub IsEnd : RequestsEnd → Request → List Request → List Answer → Streams → Streams → Type 0
 IsEnd Done rest requests said old new =
     (bytes_of rest ≡ []) × HasEnded new.source × HasTaken old.out new.out said
@@ -78,6 +79,7 @@ IsEnd Read rest requests said old new = ((IsCutShort rest × HasFailed new.sourc
     × HasTaken old.out new.out said
 IsEnd Write rest requests said old new =
     (IsTooLong rest ⊎ (bytes_of rest ≡ [])) × IsOpen new.source × HasTakenPart old.out new.out said
+IsEnd NoReady rest requests said old new = ⊥
 
 -- Requests were served from p on: those that were read whole are answered in order, and the subsystem
 -- is that after them. Of what was read further nothing was executed.

@@ -5,15 +5,11 @@ use Rattle.nv_layout.specs.declared.sqe.Sqe.{Sqe}
 use Rattle.nv_layout.specs.declared.status.Status.{Status}
 use Rattle.nv_command.specs.Entry.{entry_of}
 use Rattle.nv_command.specs.declared.command.Command.TheVariants.{ActiveList}
-use Rattle.nv_model.specs.Reset.{reset}
+use Rattle.nv_model.specs.Step.{reset, Step, next_serial}
 use Rattle.nv_model.specs.State.{State}
-use Rattle.nv_model.specs.Step.{Step, next_serial}
-use Rattle.nv_bus.specs.Bus.{BusValue}
 use Rattle.nv_bus.specs.Entry.{told_by}
 use Rattle.nv_bus.specs.declared.told.Told.{Told}
 use Rattle.nv_driver.specs.Alone.{IsReceived, asked_in, entry_step}
-use Rattle.nv_driver.specs.Linked.{serials_of}
-use Rattle.nv_driver.specs.Settled.{DriverValue}
 use Rattle.nv_serve.specs.Answer.{Answer, bare}
 use Rattle.nv_serve.specs.Header.{IsWhole, Request, header_of, wanted_length}
 use Rattle.nv_serve.specs.declared.answer.AnswerHeader.{AnswerHeader}
@@ -118,7 +114,3 @@ AreAnswered p [] (a ∷ answers) = ⊥
 AreAnswered p (r ∷ requests) [] = ⊥
 AreAnswered p (r ∷ requests) (a ∷ answers) =
     IsWhole r × IsAnswer p r a × AreAnswered (after_one p r) requests answers
-
--- where a bus and its driver stand
-abbrev pub point_of : BusValue → DriverValue → Point
-point_of b d = point b.state (serials_of d)

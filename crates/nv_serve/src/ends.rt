@@ -20,6 +20,8 @@ pub enum RequestsEnd {
     Read,
     /// The sink failed.
     Write,
+    /// A controller isn't ready after a reset: a bus that keeps its contract has none.
+    NoReady,
 }
 
 /// How serving ended.

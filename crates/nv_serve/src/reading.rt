@@ -2,7 +2,7 @@
 
 ghost use Rattle.std.specs.Prelude.{◌≡◌, ◌+◌, ◌<◌, ◌≤◌, ◌^◌, length};
 ghost use Rattle.nv_serve.specs.Header.{most_data};
-ghost use Rattle.nv_serve.specs.Reading.{IsFilled, IsReady, IsTaken};
+ghost use Rattle.nv_serve.specs.inner.Reading.{IsFilled, IsReady, IsTaken};
 
 use crate::header::{HEADER_SIZE, Header, MOST_DATA};
 use nv_stream::{READ_SIZE, Source};

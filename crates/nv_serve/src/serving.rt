@@ -3,12 +3,12 @@
 ghost use Rattle.std.specs.Prelude.{◌≡◌, IfOk, false, length, not};
 ghost use Rattle.nv_bus.specs.Bus.{IsBus};
 ghost use Rattle.nv_driver.specs.Driver.{HasEntryPages};
-ghost use Rattle.nv_driver.specs.Linked.{IsLinked};
+ghost use Rattle.nv_driver.specs.inner.Linked.{IsLinked};
 ghost use Rattle.nv_stream.specs.Streams.{IsFresh, WritesAll};
 ghost use Rattle.nv_serve.specs.Answer.{bytes_of};
 ghost use Rattle.nv_serve.specs.Header.{most_data};
 ghost use Rattle.nv_serve.specs.Served.{IsServed, Serves, streams};
-ghost use Rattle.nv_serve.specs.Serving.{point_of};
+ghost use Rattle.nv_serve.specs.inner.Serving.{point_of};
 
 use crate::answer::{AnswerHeader, Outcome};
 use crate::ends::{RequestsEnd, ServeEnd};
@@ -73,7 +73,9 @@ fn serve_all<B: Bus, R: Source, O: Sink>(
             Taken::Failed => return RequestsEnd::Read,
         };
         let len = header.sent_length() as usize;
-        let answer = handle(bus, driver, &header, &sent[..len], received);
+        let Ok(answer) = handle(bus, driver, &header, &sent[..len], received) else {
+            return RequestsEnd::NoReady;
+        };
         if !respond(out, &answer, &received[..answer.length as usize]) {
             return RequestsEnd::Write;
         }

@@ -1,2 +1,2 @@
-pub mod Limits
 pub mod Streams
+pub mod inner

@@ -2,7 +2,8 @@
 //! message is.
 
 ghost use Rattle.std.specs.Prelude.{◌≡◌, ◌≤◌, IfSome, None, false, length};
-ghost use Rattle.nv_stream.specs.Streams.{IsWritten, Takes, is_failure};
+ghost use Rattle.nv_stream.specs.inner.Streams.{IsWritten};
+ghost use Rattle.nv_stream.specs.Streams.{Takes, is_failure};
 
 use crate::streams::{Sink, Source};
 use std::cell::{Cell, RefCell};

@@ -2,7 +2,7 @@
 
 ghost use Rattle.std.specs.Prelude.{◌≡◌, ◌+◌, ◌^◌, ◌<◌, ◌≤◌, length, is_none, IfSome, unwrap_or};
 ghost use Rattle.std.specs.Prelude.{false};
-ghost use Rattle.nv_stream.specs.Limits.{read_size};
+ghost use Rattle.nv_stream.specs.Streams.{read_size};
 ghost use Rattle.nv_stream.specs.Streams.{Gives, IsFresh, SinkState, SourceState, Takes, is_end};
 ghost use Rattle.nv_stream.specs.Streams.{is_failure};
 

@@ -2,7 +2,7 @@
 use Rattle.std.proofs.Common.{◌≡◌, Option, Some, None, Result, Ok, Err, refl}
 use Rattle.nv_command.specs.declared.refusal.Refusal.{Refusal}
 use Rattle.nv_command.specs.declared.reply.Reply.{Reply}
-use Rattle.nv_model.specs.Step.{answer_by}
+use Rattle.nv_model.specs.Answer.{answer_by}
 
 abbrev pub refusal_in : Result Reply Refusal → Option Refusal
 refusal_in (Ok r) = None

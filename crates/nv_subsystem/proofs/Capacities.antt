@@ -6,7 +6,7 @@ use Rattle.std.specs.FinMap as map_of
 use Rattle.std.proofs.lemmas.Bool.{ne_eqb}
 use Rattle.std.proofs.lemmas.List.Sums.{sum_by-cons}
 use Rattle.nv_bits.proofs.NumberLaws.{get_of_insert}
-use Rattle.nv_model.specs.Capacity.{used}
+use Rattle.nv_model.specs.WellFormed.{used}
 use Rattle.nv_model.proofs.UsedLaws.{used-insert}
 use Rattle.nv_file.specs.FileValue.{NamespaceValue}
 use Rattle.nv_subsystem.specs.FromFile.{with_namespace}

@@ -5,13 +5,13 @@ use Rattle.std.specs.Prelude.{All, sum_by}
 use Rattle.std.specs.Ordering.{nat_cmp}
 use Rattle.std.specs.FinMap.{get-empty}
 use Rattle.std.proofs.lemmas.List.Sums.{sum_by-cons}
-use Rattle.nv_model.specs.Capacity.{used}
+use Rattle.nv_model.specs.WellFormed.{used}
 use Rattle.nv_model.proofs.UsedLaws.{used-empty}
 use Rattle.nv_subsystem.proofs.Capacities.{used-all}
 use Rattle.std.specs.FinMap as map_of
 use Rattle.std.proofs.lemmas.List.{get_or-map, length-map}
 use Rattle.std.proofs.lemmas.List.Elements.{All-weaker}
-use Rattle.nv_subsystem.specs.ControllerView.{controller_view}
+use Rattle.nv_subsystem.specs.inner.ControllerView.{controller_view}
 use Rattle.nv_file.specs.FileValue.{controller_entry_view, file_view, namespace_entry_view}
 use Rattle.nv_subsystem.specs.FromFile.{controller_of, state_of}
 use Rattle.nv_file.specs.IsFile.{IsFile}
@@ -25,7 +25,7 @@ use Rattle.nv_file.specs.declared.namespace.NamespaceEntry.{NamespaceEntry}
 use Rattle.nv_model.specs.declared.namespace.Namespace.{Namespace}
 use Rattle.nv_subsystem.proofs.FileStates.{state_ok}
 use Rattle.nv_model.proofs.InFormatLaws.{format_below}
-use Rattle.nv_layout.specs.NsList.{most_nsids}
+use Rattle.nv_layout.specs.Limits.{most_nsids}
 
 pub nsids_within : (f : File) → IsFile (file_view f) → (k : ℕ) (d : NamespaceEntry)
     → k < length f.namespaces.items → IsOf 1 f.nn (get_or f.namespaces.items k d).nsid

@@ -19,12 +19,12 @@ use Rattle.nv_model.specs.Ranges.{IsFeatureRule}
 use Rattle.nv_model.specs.declared.feature_rule.FeatureRule.{FeatureRule}
 use Rattle.nv_model.specs.Change.{changed}
 use Rattle.nv_model.proofs.FeatureLaws.{AreSound, first_is_sound, has_inserted, sound-insert, values-with}
-use Rattle.nv_model.specs.FeatureRules.{FeatureRules, first_value}
+use Rattle.nv_model.specs.Values.{FeatureRules, first_value}
 use Rattle.nv_subsystem.specs.FromFile.{defaults_of, fill, rules_of, with_attachment, with_default, with_recovery}
 use Rattle.nv_subsystem.specs.FromFile.{with_rule}
 use Rattle.nv_model.specs.State.{Nsids}
-use Rattle.nv_model.specs.Supported.{is_supported}
-use Rattle.nv_model.specs.ValueKey.{FeatureValues, ValueKey, key_cmp, key_of, recovery_key}
+use Rattle.nv_model.specs.WellFormed.{is_supported}
+use Rattle.nv_model.specs.Values.{FeatureValues, ValueKey, key_cmp, key_of, recovery_key}
 use Rattle.nv_model.proofs.ValueLaws.{by_numbers, is_key}
 use Rattle.nv_model.specs.WellFormed.{AreRules, AreValues}
 

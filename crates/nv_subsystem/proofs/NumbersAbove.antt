@@ -5,7 +5,8 @@ use Rattle.std.specs.FinMap as map_of
 use Rattle.std.specs.FinMap.{len-entries}
 use Rattle.std.proofs.lemmas.List.{length-append, length-map}
 use Rattle.std.proofs.lemmas.List.Sums.{count_by-le-length, length-filter}
-use Rattle.nv_bits.specs.Numbers.{NumberMap, above}
+use Rattle.nv_bits.specs.Numbers.{NumberMap}
+use Rattle.nv_bits.specs.Above.{above}
 
 -- so many are listed, and those above the last one are left
 pub record Lists {A : Type 0} (m : NumberMap A) (after : ℕ) (list : List ℕ) (last count : ℕ) : Type 0 where

@@ -7,13 +7,14 @@ use Rattle.std.specs.FinMap as map_of
 use Rattle.nv_bits.proofs.NumberLaws.{get_of_insert}
 use Rattle.nv_bits.specs.Numbers.{NumberMap}
 use Rattle.nv_bits.specs.Slots.{RangeMap}
-use Rattle.nv_model.specs.FeatureRules.{FeatureRules, first_value}
-use Rattle.nv_model.specs.FeatureValue.{restored}
-use Rattle.nv_model.specs.Reset.{all_restored}
+use Rattle.nv_model.specs.Values.{FeatureRules, first_value}
+use Rattle.nv_model.specs.Values.{restored}
+use Rattle.nv_model.specs.Step.{all_restored}
 use Rattle.nv_model.proofs.ResetLaws.{get-all_restored}
-use Rattle.nv_model.specs.ValueKey.{ValueKey}
+use Rattle.nv_model.specs.Values.{ValueKey}
 use Rattle.nv_model.proofs.ValueLaws.{same_key, same_values}
-use Rattle.nv_subsystem.specs.ValueTable.{IsTable, key_at, slot_of, values_of}
+use Rattle.nv_subsystem.specs.ValueTable.{IsTable, key_at, values_of}
+use Rattle.nv_subsystem.specs.inner.ValueTable.{slot_of}
 use Rattle.nv_model.specs.declared.feature_value.FeatureValue.{FeatureValue}
 use Rattle.nv_subsystem.proofs.ValueTableLaws.{get_in, is_kept, table_inserted}
 

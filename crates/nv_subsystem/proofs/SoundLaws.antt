@@ -9,7 +9,7 @@ use Rattle.nv_bits.proofs.NumberLaws.{get_of_insert, get_of_remove, remove_absen
 use Rattle.nv_bits.specs.Slots.{RangeMap}
 use Rattle.nv_model.specs.declared.format.Format.{Format}
 use Rattle.nv_model.specs.declared.namespace.Namespace.{Namespace}
-use Rattle.nv_model.specs.Capacity.{used}
+use Rattle.nv_model.specs.WellFormed.{used}
 use Rattle.nv_model.proofs.ManagementLaws.{left}
 use Rattle.nv_subsystem.specs.Sound.{IsSized, IsSound}
 use Rattle.nv_model.proofs.UsedLaws.{used-change, used-empty, used-insert, used-remove}

@@ -7,7 +7,8 @@ use Rattle.std.specs.FinMap as map_of
 use Rattle.std.specs.List.{All, list_all}
 use Rattle.std.specs.Option.{option_map_or}
 use Rattle.std.specs.Prelude.{if◌then◌else◌, nat_le, nat_lt, replicate, slice_get}
-use Rattle.nv_command.specs.Logs.{is_error_log, without_phases}
+use Rattle.nv_command.specs.Form.{is_error_log}
+use Rattle.nv_command.specs.Logs.{without_phases}
 use Rattle.nv_command.specs.Nsid.{broadcast_nsid}
 use Rattle.nv_command.specs.declared.command.Command.{Command}
 use Rattle.nv_command.specs.declared.command.Command.TheVariants.{IdentifyController}
@@ -22,7 +23,8 @@ use Rattle.nv_command.specs.declared.status_code.StatusCode.TheVariants.{Invalid
 use Rattle.nv_command.specs.declared.status_code.StatusCode.TheVariants.{NamespaceAlreadyAttached}
 use Rattle.nv_command.specs.declared.status_code.StatusCode.TheVariants.{NamespaceIsPrivate}
 use Rattle.nv_command.specs.declared.status_code.StatusCode.TheVariants.{NamespaceNotAttached}
-use Rattle.nv_layout.specs.ErrorEntry.{ErrorEntryFits, no_entry, without_phase}
+use Rattle.nv_layout.specs.ErrorEntry.{ErrorEntryFits, no_entry}
+use Rattle.nv_layout.specs.ErrorEntryBytes.{without_phase}
 use Rattle.nv_layout.proofs.LogLaws.{fits_with_phase}
 use Rattle.nv_layout.specs.declared.error_entry.ErrorEntry.{ErrorEntry}
 use Rattle.nv_layout.specs.declared.feature.Feature.{Feature}
@@ -32,25 +34,25 @@ use Rattle.nv_model.proofs.MappedLaws.{count_by-map, list_any-map, pairs_map}
 use Rattle.nv_model.specs.Attachment.{attach_rows, attachment_rows, count_with, detach_rows, fewer, first_rows}
 use Rattle.nv_model.specs.Attachment.{has_attached, has_one_attached, is_ascending, is_known, is_listed}
 use Rattle.nv_model.specs.Attachment.{is_private, lacks_one_attached, more}
-use Rattle.nv_model.specs.ChangedKeys.{changed_at_keys}
-use Rattle.nv_model.specs.Effect.{effect_of}
-use Rattle.nv_model.specs.ErrorLog.{log_entry}
+use Rattle.nv_model.specs.Change.{changed_at_keys}
+use Rattle.nv_model.specs.Meaning.{effect_of}
+use Rattle.nv_model.specs.Step.{log_entry}
 use Rattle.nv_model.specs.Features.{changed_nsids, with_values}
 use Rattle.nv_layout.specs.Feature.{feature_of}
 use Rattle.nv_model.specs.Format.{in_format}
 use Rattle.nv_model.specs.IdentifyController.{id_ctrl_of, no_controller}
-use Rattle.nv_model.specs.Limit.{limit_of}
+use Rattle.nv_model.specs.Conditions.{limit_of}
 use Rattle.nv_model.specs.Logs.{errors_of, no_health, smart_of}
 use Rattle.nv_model.specs.Management.{Attached, new_namespace, wanted, with_nsids, without, without_all, without_any}
 use Rattle.nv_model.specs.Management.{without_one}
-use Rattle.nv_model.specs.Nsid.{concerned, free_nsid, is_allocated, is_valid}
-use Rattle.nv_model.specs.Refusal.{refusal_of, rows_of}
-use Rattle.nv_model.specs.Reply.{reply_of}
-use Rattle.nv_model.specs.Reset.{reset}
-use Rattle.nv_model.specs.Row.{first_refusal, row}
+use Rattle.nv_model.specs.Conditions.{concerned, free_nsid, is_allocated, is_valid}
+use Rattle.nv_model.specs.Meaning.{refusal_of, rows_of}
+use Rattle.nv_model.specs.Meaning.{reply_of}
+use Rattle.nv_model.specs.Step.{reset}
+use Rattle.nv_model.specs.Conditions.{first_refusal, row}
 use Rattle.nv_model.specs.State.{Controller, Namespaces, State, changed_at, controller_at, with_controller}
-use Rattle.nv_model.specs.Step.{answer_by, answer_to, answer_without_phases, next_count, refused, step, step_by}
-use Rattle.nv_model.specs.Step.{with_command, with_refusal}
+use Rattle.nv_model.specs.Answer.{answer_by, answer_to, answer_without_phases}
+use Rattle.nv_model.specs.Step.{next_count, refused, step, step_by, with_command, with_refusal}
 use Rattle.nv_model.specs.WellFormed.{IsController, IsWellFormed}
 use Rattle.nv_model.specs.declared.origin.Origin.{Origin}
 use Rattle.nv_model.specs.declared.row.Row.{Row}

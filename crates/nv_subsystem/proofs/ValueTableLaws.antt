@@ -19,14 +19,15 @@ use Rattle.nv_layout.proofs.FeatureTableLaws.{fid_below, of_namespaces}
 use Rattle.nv_layout.proofs.FeatureTableLaws.{selector_below}
 use Rattle.nv_layout.specs.declared.feature.Feature.{Feature}
 use Rattle.nv_layout.specs.declared.feature.Feature.TheVariants.{ErrorRecovery}
-use Rattle.nv_model.specs.ValueKey.{FeatureValues, ValueKey, is_alone, key_cmp, key_of}
+use Rattle.nv_model.specs.Values.{FeatureValues, ValueKey, is_alone, key_cmp, key_of}
 use Rattle.nv_model.specs.Change.{changed_at}
 use Rattle.nv_model.specs.Features.{is_set, write}
-use Rattle.nv_model.specs.FeatureValue.{written}
+use Rattle.nv_model.specs.Values.{written}
 use Rattle.nv_model.proofs.ValueLaws.{is_itself, is_key, key_cmp_total, put_back, removed_absent}
 use Rattle.nv_model.proofs.ValueLaws.{same_key, same_values}
 use Rattle.nv_model.proofs.ValueLaws.{value_of_insert, value_of_remove, value_of_retain}
-use Rattle.nv_subsystem.specs.ValueTable.{IsTable, ValueTable, key_at, slot_of, slots_alone, values_of}
+use Rattle.nv_subsystem.specs.ValueTable.{IsTable, ValueTable, key_at, slots_alone, values_of}
+use Rattle.nv_subsystem.specs.inner.ValueTable.{slot_of}
 use Rattle.nv_model.specs.declared.feature_value.FeatureValue.{FeatureValue}
 
 abbrev Numbered : Type 0

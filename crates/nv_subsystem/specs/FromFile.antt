@@ -11,10 +11,10 @@ use Rattle.nv_layout.specs.declared.feature.Feature.{Feature}
 use Rattle.nv_layout.specs.declared.feature.TheConstants.Feature.{ALL}
 use Rattle.nv_model.specs.declared.feature_rule.FeatureRule.{FeatureRule}
 use Rattle.nv_model.specs.Change.{Change, changed}
-use Rattle.nv_model.specs.FeatureRules.{FeatureRules, first_value}
-use Rattle.nv_model.specs.Supported.{is_supported}
+use Rattle.nv_model.specs.Values.{FeatureRules, first_value}
+use Rattle.nv_model.specs.WellFormed.{is_supported}
 use Rattle.nv_model.specs.State.{Controller, Namespaces, Nsids, State}
-use Rattle.nv_model.specs.ValueKey.{FeatureValues, keys_of, recovery_key}
+use Rattle.nv_model.specs.Values.{FeatureValues, keys_of, recovery_key}
 
 abbrev pub with_namespace : Namespaces → NamespaceValue → Namespaces
 with_namespace namespaces n = map_of.insert namespaces n.nsid n.namespace

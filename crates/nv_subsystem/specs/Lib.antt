@@ -1,9 +1,9 @@
 pub use Rattle.nv_file.specs.Fault
-pub use Rattle.nv_model.specs.Identity
+pub use Rattle.nv_model.specs.State
 pub use Rattle.nv_model.specs.Ranges
 pub mod ValueTable
 pub mod StateCode
-pub mod ControllerView
 pub mod Sound
 pub mod FromFile
 pub mod Tagged
+pub mod inner

@@ -5,7 +5,7 @@ use Rattle.nv_bits.specs.Slots.{RangeMap}
 use Rattle.nv_subsystem.specs.declared.controller.Controller.{Controller}
 use Rattle.nv_model.specs.declared.format.Format.{Format}
 use Rattle.nv_model.specs.declared.namespace.Namespace.{Namespace}
-use Rattle.nv_layout.specs.NsList.{most_nsids}
+use Rattle.nv_layout.specs.Limits.{most_nsids}
 
 -- a bit for each NSID, room for a value of each, room for ELPE + 1 log entries, and a greatest
 -- transfer within its limit

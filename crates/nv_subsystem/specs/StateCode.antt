@@ -5,10 +5,11 @@ use Rattle.std.specs.FinMap as map_of
 use Rattle.std.specs.FinSet as set_of
 use Rattle.std.specs.Coded.{Coded, code_by, coded×, coded⊎, coded_ℕ, coded_bool, coded_list}
 use Rattle.nv_model.specs.ErrorLog.{entry_code}
-use Rattle.nv_model.specs.Identity.{Identity}
-use Rattle.nv_model.specs.FeatureRules.{FeatureRules}
+use Rattle.nv_model.specs.State.{Identity}
+use Rattle.nv_model.specs.Values.{FeatureRules}
 use Rattle.nv_model.specs.State.{Controller, State, Namespaces, Nsids}
-use Rattle.nv_model.specs.ValueKey.{FeatureValues, feature_values_code}
+use Rattle.nv_model.specs.Values.{FeatureValues}
+use Rattle.nv_model.specs.Codes.{feature_values_code}
 use Rattle.nv_layout.specs.declared.error_entry.ErrorEntry.{ErrorEntry}
 use Rattle.nv_model.specs.declared.smart_base.Counters.{Counters}
 use Rattle.nv_model.specs.declared.defaults.Defaults.{Defaults}

@@ -1,12 +1,12 @@
 -- The phase tags that the entries of error logs hold: a subsystem in memory is a state whose logs
 -- have them, and the abstract step's state is the same without them.
 use Rattle.std.specs.Prelude.{ℕ, Bool, List, [], ◌∷◌, map, Option, None, Some}
-use Rattle.nv_command.specs.Command.{namespace_of}
+use Rattle.nv_command.specs.Form.{namespace_of}
 use Rattle.nv_command.specs.declared.command.Command.{Command}
 use Rattle.nv_command.specs.declared.refusal.Refusal.{Refusal}
-use Rattle.nv_layout.specs.ErrorEntry.{without_phase}
+use Rattle.nv_layout.specs.ErrorEntryBytes.{without_phase}
 use Rattle.nv_layout.specs.declared.error_entry.ErrorEntry.{ErrorEntry}
-use Rattle.nv_model.specs.Effect.{effect_of}
+use Rattle.nv_model.specs.Meaning.{effect_of}
 use Rattle.nv_model.specs.State.{Controller, State, with_controller}
 use Rattle.nv_model.specs.Step.{with_command, with_refusal}
 use Rattle.nv_model.specs.declared.origin.Origin.{Origin}

@@ -1,13 +1,14 @@
 -- The slots that stand for the values of features.
-use Rattle.std.specs.Prelude.{◌≡◌, ℕ, ◌+◌, ◌-◌, ◌*◌, ◌/◌, ◌%◌, ◌^◌, ◌<◌, ◌≤◌, ◌==◌, nat_lt, map, refl}
-use Rattle.std.specs.Prelude.{true, if◌then◌else◌}
+use Rattle.std.specs.Prelude.{◌≡◌, ℕ, ◌-◌, ◌/◌, ◌%◌, ◌^◌, ◌<◌, ◌≤◌, nat_lt, map, refl, true}
+use Rattle.std.specs.Prelude.{if◌then◌else◌}
 use Rattle.std.specs.Coded.{Coded, code_by, coded×, coded_ℕ}
 use Rattle.std.specs.FinMap as map_of
 use Rattle.nv_bits.specs.Numbers.{NumberMap}
 use Rattle.nv_bits.specs.Slots.{RangeMap}
 use Rattle.nv_layout.specs.Feature.{row_of}
 use Rattle.nv_layout.specs.declared.feature.Feature.TheVariants.{ErrorRecovery}
-use Rattle.nv_model.specs.ValueKey.{FeatureValues, ValueKey, feature_values_code}
+use Rattle.nv_model.specs.Values.{FeatureValues, ValueKey}
+use Rattle.nv_model.specs.Codes.{feature_values_code}
 use Rattle.nv_model.specs.declared.feature_value.FeatureValue.{FeatureValue}
 
 -- the values, where NSIDs go up to a greatest one
@@ -22,10 +23,6 @@ value_table_code = code_by (ℕ × FeatureValues) (coded× coded_ℕ feature_val
 -- the slots of keys without an NSID: 32 selectors for each feature identifier below 12
 abbrev pub slots_alone : ℕ
 slots_alone = 384
-
--- the slot of a key: those of namespaces come after all others
-abbrev pub slot_of : ValueKey → ℕ
-slot_of k = if k.nsid == 0 then k.fid * 32 + k.selector else k.nsid + 383
 
 -- the key of a slot
 abbrev pub key_at : ℕ → ValueKey

@@ -8,10 +8,10 @@ ghost use Rattle.nv_model.specs.Attachment.{detach_rows, detached, fewer, first_
 ghost use Rattle.nv_model.specs.Attachment.{has_one_attached, is_ascending, is_known};
 ghost use Rattle.nv_model.specs.Attachment.{is_list_of, is_listed, is_private};
 ghost use Rattle.nv_model.specs.Attachment.{lacks_one_attached, more, with_attachments};
-ghost use Rattle.nv_subsystem.specs.ControllerView.{controller_view};
+ghost use Rattle.nv_subsystem.specs.inner.ControllerView.{controller_view};
 ghost use Rattle.nv_model.specs.Management.{with_nsids, without, without_any};
-ghost use Rattle.nv_model.specs.Nsid.{is_valid};
-ghost use Rattle.nv_model.specs.Row.{Checks};
+ghost use Rattle.nv_model.specs.Conditions.{is_valid};
+ghost use Rattle.nv_model.specs.inner.Conditions.{Checks};
 ghost use Rattle.nv_subsystem.specs.Sound.{IsSized};
 
 use crate::controller::Controller;

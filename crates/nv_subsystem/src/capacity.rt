@@ -2,9 +2,9 @@
 
 ghost use Rattle.std.specs.Prelude.{◌≡◌, ◌≤◌, ◌<◌, false};
 ghost use Rattle.std.specs.FinMap as map_of;
-ghost use Rattle.nv_model.specs.Capacity.{unallocated};
-ghost use Rattle.nv_model.specs.Format.{with_format};
-ghost use Rattle.nv_model.specs.Nsid.{is_allocated};
+ghost use Rattle.nv_model.specs.WellFormed.{unallocated};
+ghost use Rattle.nv_model.specs.inner.Format.{with_format};
+ghost use Rattle.nv_model.specs.Conditions.{is_allocated};
 
 use crate::subsystem::Subsystem;
 use nv_layout::FourBits;

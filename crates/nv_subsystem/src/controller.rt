@@ -1,12 +1,12 @@
 //! A controller of a subsystem.
 
 ghost use Rattle.std.specs.Prelude.{◌≡◌, ◌+◌, ◌<◌, ◌^◌, ℕ};
-ghost use Rattle.nv_subsystem.specs.ControllerView.{controller_view};
+ghost use Rattle.nv_subsystem.specs.inner.ControllerView.{controller_view};
 ghost use Rattle.nv_bits.specs.Numbers.{IsOf};
 ghost use Rattle.nv_model.specs.Attachment.{with_one};
 ghost use Rattle.nv_model.specs.Management.{with_nsids, without, without_any};
 ghost use Rattle.nv_subsystem.specs.Sound.{IsSized};
-ghost use Rattle.nv_model.specs.FeatureRules.{rule_for, rule_of};
+ghost use Rattle.nv_model.specs.Values.{rule_for, rule_of};
 ghost use Rattle.nv_model.specs.Step.{next_count};
 ghost use Rattle.nv_subsystem.specs.Tagged.{with_booked};
 

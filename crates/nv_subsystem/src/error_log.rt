@@ -3,7 +3,7 @@
 ghost use Rattle.std.specs.Prelude.{◌≡◌, ◌-◌, ◌≤◌, ◌∷◌, ◌++◌, [], length, replicate, take};
 ghost use Rattle.std.specs.Prelude.{slice_get, IfOk};
 ghost use Rattle.nv_layout.specs.ErrorEntry.{no_entry};
-ghost use Rattle.nv_model.specs.ErrorLog.{log_entry};
+ghost use Rattle.nv_model.specs.Step.{log_entry};
 ghost use Rattle.nv_subsystem.specs.Tagged.{with_phase};
 
 use circular_buffer::HeapCircularBuffer;

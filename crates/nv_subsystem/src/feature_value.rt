@@ -1,8 +1,8 @@
 //! The features that a controller has, and their defaults.
 
 ghost use Rattle.std.specs.Prelude.{◌≡◌};
-ghost use Rattle.nv_model.specs.FeatureValue.{default_of, default_rule};
-ghost use Rattle.nv_model.specs.Supported.{is_supported};
+ghost use Rattle.nv_model.specs.Values.{default_of, default_rule};
+ghost use Rattle.nv_model.specs.WellFormed.{is_supported};
 
 use nv_bits::Slots;
 use nv_layout::Feature;

@@ -5,12 +5,13 @@ ghost use Rattle.std.specs.FinMap as map_of;
 ghost use Rattle.nv_bits.specs.Numbers.{IsOf};
 ghost use Rattle.nv_layout.specs.Feature.{is_selector, row_of};
 ghost use Rattle.nv_model.specs.Change.{changed, changed_at};
-ghost use Rattle.nv_model.specs.FeatureRules.{first_value};
+ghost use Rattle.nv_model.specs.Values.{first_value};
 ghost use Rattle.nv_model.specs.Features.{write};
-ghost use Rattle.nv_model.specs.Reset.{all_restored};
-ghost use Rattle.nv_model.specs.ValueKey.{is_alone, key_of, recovery_key};
-ghost use Rattle.nv_subsystem.specs.ValueTable.{key_at, slot_of};
-ghost use Rattle.nv_layout.specs.NsList.{most_nsids};
+ghost use Rattle.nv_model.specs.Step.{all_restored};
+ghost use Rattle.nv_model.specs.Values.{is_alone, key_of, recovery_key};
+ghost use Rattle.nv_subsystem.specs.ValueTable.{key_at};
+ghost use Rattle.nv_subsystem.specs.inner.ValueTable.{slot_of};
+ghost use Rattle.nv_layout.specs.Limits.{most_nsids};
 
 use crate::controller::{rule_for, rule_of};
 use crate::feature_value::default_of;

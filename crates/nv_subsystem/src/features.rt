@@ -5,15 +5,15 @@ ghost use Rattle.std.specs.Prelude.{◌≡◌, ◌<◌, ℕ, true, length, map, 
 ghost use Rattle.std.specs.List.{fold};
 ghost use Rattle.nv_layout.specs.Feature.{is_selector};
 ghost use Rattle.nv_model.specs.Change.{changed};
-ghost use Rattle.nv_subsystem.specs.ControllerView.{controller_view};
+ghost use Rattle.nv_subsystem.specs.inner.ControllerView.{controller_view};
 ghost use Rattle.nv_model.specs.Features.{capabilities, feature_number, get_feature_rows};
 ghost use Rattle.nv_model.specs.Features.{get_rows, rule_at, selected, set_feature_rows};
 ghost use Rattle.nv_model.specs.Features.{set_rows, supported_at, told, with_feature};
 ghost use Rattle.nv_model.specs.Features.{with_value, with_values, write};
-ghost use Rattle.nv_model.specs.Row.{Checks};
+ghost use Rattle.nv_model.specs.inner.Conditions.{Checks};
 ghost use Rattle.nv_subsystem.specs.Sound.{IsSized};
 ghost use Rattle.nv_model.specs.State.{with_controller};
-ghost use Rattle.nv_model.specs.ValueKey.{key_of};
+ghost use Rattle.nv_model.specs.Values.{key_of};
 
 use crate::controller::{Controller, rule_of};
 use crate::feature_value::{default_of, is_supported};

@@ -1,7 +1,7 @@
 //! The table of formats.
 
 ghost use Rattle.std.specs.Prelude.{◌≡◌, ◌≤◌, IfSome};
-ghost use Rattle.nv_model.specs.Formats.{can_have, format_at};
+ghost use Rattle.nv_model.specs.Conditions.{can_have, format_at};
 
 use crate::subsystem::Subsystem;
 use nv_model::Format;

@@ -7,14 +7,14 @@ ghost use Rattle.nv_bits.specs.Numbers.{IsOf};
 ghost use Rattle.nv_model.specs.Ranges.{IsFeatureRule};
 ghost use Rattle.nv_layout.specs.Feature.{is_selector, row_of};
 ghost use Rattle.nv_model.specs.Change.{changed};
-ghost use Rattle.nv_model.specs.ValueKey.{key_of};
-ghost use Rattle.nv_subsystem.specs.ControllerView.{controller_view};
+ghost use Rattle.nv_model.specs.Values.{key_of};
+ghost use Rattle.nv_subsystem.specs.inner.ControllerView.{controller_view};
 ghost use Rattle.nv_file.specs.FileValue.{controller_entry_view, namespace_entry_view};
 ghost use Rattle.nv_subsystem.specs.FromFile.{controller_of, defaults_of, fill, rules_of};
 ghost use Rattle.nv_subsystem.specs.FromFile.{with_attachment, with_default, with_namespace};
 ghost use Rattle.nv_subsystem.specs.FromFile.{with_recovery, with_rule};
 ghost use Rattle.nv_subsystem.specs.Sound.{IsSized};
-ghost use Rattle.nv_layout.specs.NsList.{most_nsids};
+ghost use Rattle.nv_layout.specs.Limits.{most_nsids};
 
 use crate::controller::{Controller, rule_of};
 use crate::error_log::ErrorLog;

@@ -1,14 +1,14 @@
 //! The Identify commands: when they are refused, and what they answer. Section "Identify command".
 
 ghost use Rattle.std.specs.Prelude.{◌≡◌, ◌≤◌, ◌<◌, length, All};
-ghost use Rattle.nv_model.specs.Capacity.{blocks};
+ghost use Rattle.nv_model.specs.WellFormed.{blocks};
 ghost use Rattle.nv_model.specs.Identify.{active_list_reply, active_namespace, active_reply};
 ghost use Rattle.nv_model.specs.Identify.{active_rows, allocated_list_reply};
 ghost use Rattle.nv_model.specs.Identify.{allocated_namespace, allocated_reply, allocated_rows};
 ghost use Rattle.nv_model.specs.Identify.{blank, common_of, flbas_of, id_ns_of, lbaf_of};
 ghost use Rattle.nv_model.specs.Identify.{lbafs_of, list_rows};
-ghost use Rattle.nv_model.specs.Nsid.{is_active};
-ghost use Rattle.nv_model.specs.Row.{Checks};
+ghost use Rattle.nv_model.specs.Conditions.{is_active};
+ghost use Rattle.nv_model.specs.inner.Conditions.{Checks};
 
 use crate::nsid_lists::{allocated_above, attached_above};
 use crate::row::refuse_if;

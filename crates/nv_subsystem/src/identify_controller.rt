@@ -1,7 +1,7 @@
 //! What Identify tells of a controller. Section "Identify Controller data structure (CNS 01h)".
 
 ghost use Rattle.std.specs.Prelude.{◌≡◌, ◌<◌, length};
-ghost use Rattle.nv_subsystem.specs.ControllerView.{controller_view};
+ghost use Rattle.nv_subsystem.specs.inner.ControllerView.{controller_view};
 ghost use Rattle.nv_model.specs.IdentifyController.{cmic_of, controller_reply, fna_of};
 ghost use Rattle.nv_model.specs.IdentifyController.{id_ctrl_of, padded};
 

@@ -2,10 +2,10 @@
 //! Page command".
 
 ghost use Rattle.std.specs.Prelude.{◌≡◌, ◌+◌, ◌<◌, ◌≤◌, length};
-ghost use Rattle.nv_subsystem.specs.ControllerView.{controller_view};
+ghost use Rattle.nv_subsystem.specs.inner.ControllerView.{controller_view};
 ghost use Rattle.nv_model.specs.Logs.{entry_count, errors_of, log_length, log_reply, log_rows};
 ghost use Rattle.nv_model.specs.Logs.{smart_of};
-ghost use Rattle.nv_model.specs.Row.{Checks};
+ghost use Rattle.nv_model.specs.inner.Conditions.{Checks};
 
 use crate::controller::Controller;
 use crate::row::check;

@@ -2,13 +2,13 @@
 //! changes. Section "Namespace Management command".
 
 ghost use Rattle.std.specs.Prelude.{◌≡◌, ◌≤◌, None};
-ghost use Rattle.nv_model.specs.Capacity.{unallocated};
+ghost use Rattle.nv_model.specs.WellFormed.{unallocated};
 ghost use Rattle.nv_model.specs.Management.{bytes_needed, capacity_refusal, create_rows};
 ghost use Rattle.nv_model.specs.Management.{created, created_nsid, delete_rows, deleted};
 ghost use Rattle.nv_model.specs.Management.{format_index, is_extended, new_namespace};
 ghost use Rattle.nv_model.specs.Management.{without_all, without_one};
-ghost use Rattle.nv_model.specs.Nsid.{free_nsid};
-ghost use Rattle.nv_model.specs.Row.{Checks, first_refusal};
+ghost use Rattle.nv_model.specs.Conditions.{free_nsid, first_refusal};
+ghost use Rattle.nv_model.specs.inner.Conditions.{Checks};
 
 use crate::attachment::{detach_all, detach_everywhere};
 use crate::row::check;

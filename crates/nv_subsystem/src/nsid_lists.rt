@@ -2,10 +2,10 @@
 
 ghost use Rattle.std.specs.Prelude.{◌≡◌, ◌≤◌, ◌<◌, length};
 ghost use Rattle.std.specs.FinMap as map_of;
-ghost use Rattle.nv_bits.specs.Numbers.{above};
-ghost use Rattle.nv_model.specs.Nsid.{concerned};
+ghost use Rattle.nv_bits.specs.Above.{above};
+ghost use Rattle.nv_model.specs.Conditions.{concerned};
 ghost use Rattle.nv_model.specs.State.{ascending};
-ghost use Rattle.nv_layout.specs.NsList.{most_nsids};
+ghost use Rattle.nv_layout.specs.Limits.{most_nsids};
 
 use crate::subsystem::Subsystem;
 use nv_bits::{BitSet, Slots};

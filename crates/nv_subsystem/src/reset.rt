@@ -1,8 +1,8 @@
 //! The reset of a controller. Section "Controller Level Reset".
 
 ghost use Rattle.std.specs.Prelude.{◌≡◌, ◌<◌, ℕ, length};
-ghost use Rattle.nv_subsystem.specs.ControllerView.{controller_view};
-ghost use Rattle.nv_model.specs.Reset.{reset, with_restored};
+ghost use Rattle.nv_subsystem.specs.inner.ControllerView.{controller_view};
+ghost use Rattle.nv_model.specs.Step.{reset, with_restored};
 ghost use Rattle.nv_subsystem.specs.Sound.{IsSized};
 ghost use Rattle.nv_model.specs.WellFormed.{IsWellFormed};
 

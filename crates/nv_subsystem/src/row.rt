@@ -1,7 +1,8 @@
 //! Refusals as ordered rows.
 
 ghost use Rattle.std.specs.Prelude.{◌∷◌, []};
-ghost use Rattle.nv_model.specs.Row.{Checks, row};
+ghost use Rattle.nv_model.specs.inner.Conditions.{Checks};
+ghost use Rattle.nv_model.specs.Conditions.{row};
 
 use nv_command::{Refusal, StatusCode};
 use nv_model::Row;

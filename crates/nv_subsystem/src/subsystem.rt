@@ -7,15 +7,14 @@ ghost use Rattle.nv_file.specs.FileValue.{file_view};
 ghost use Rattle.nv_subsystem.specs.FromFile.{state_of, subsystem};
 ghost use Rattle.nv_subsystem.specs.Tagged.{booked, settled, untagged};
 ghost use Rattle.nv_file.specs.IsFile.{IsFile};
-ghost use Rattle.nv_model.specs.Effect.{effect_of};
+ghost use Rattle.nv_model.specs.Meaning.{effect_of};
 ghost use Rattle.nv_model.specs.Fits.{RepliesFit};
-ghost use Rattle.nv_model.specs.Limit.{greatest_limit, limit_of, mdts_of};
-ghost use Rattle.nv_model.specs.Nsid.{is_valid};
-ghost use Rattle.nv_model.specs.Refusal.{refusal_of, rows_of};
-ghost use Rattle.nv_model.specs.Reply.{reply_of};
-ghost use Rattle.nv_model.specs.Row.{Checks};
-ghost use Rattle.nv_model.specs.Step.{answer_to, answer_without_phases, refused, step};
-ghost use Rattle.nv_model.specs.Step.{with_command};
+ghost use Rattle.nv_model.specs.Conditions.{greatest_limit, limit_of, mdts_of, is_valid};
+ghost use Rattle.nv_model.specs.inner.Conditions.{Checks};
+ghost use Rattle.nv_model.specs.Meaning.{refusal_of, rows_of};
+ghost use Rattle.nv_model.specs.Meaning.{reply_of};
+ghost use Rattle.nv_model.specs.Answer.{answer_to, answer_without_phases};
+ghost use Rattle.nv_model.specs.Step.{refused, step, with_command};
 ghost use Rattle.nv_model.specs.WellFormed.{IsWellFormed};
 ghost use Rattle.nv_command.specs.Refusal.{IsRefusal};
 
@@ -53,8 +52,8 @@ impl Model for Subsystem {
 
     ghost coded = { state_code };
 
-    ghost use Rattle.nv_model.specs.Capacity.{used};
-    ghost use Rattle.nv_subsystem.specs.ControllerView.{controller_view};
+    ghost use Rattle.nv_model.specs.WellFormed.{used};
+    ghost use Rattle.nv_subsystem.specs.inner.ControllerView.{controller_view};
     ghost use Rattle.nv_subsystem.specs.Sound.{IsSound};
 
     ghost view = { λ s. record {

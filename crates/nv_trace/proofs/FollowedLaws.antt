@@ -7,7 +7,7 @@ use Rattle.std.proofs.Math.ListN.{get_or-eq_default}
 use Rattle.std.specs.Prelude.{MatchOption, Option, Some, None, slice_index_or, slice_set}
 use Rattle.std.specs.Prelude.{nat_lt, nat_le, ◌&&◌, if◌then◌else◌}
 use Rattle.std.specs.Option.{option_map_or}
-use Rattle.nv_layout.specs.Parts.{bits}
+use Rattle.nv_layout.specs.Bits.{bits}
 use Rattle.nv_queue.specs.Numbers.{above, ahead}
 use Rattle.nv_queue.specs.Rings.{rung_to, told_to}
 use Rattle.nv_register.specs.Dwords.{aqa_dword, aqa_of_dword, cc_dword, cc_of_dword}
@@ -33,7 +33,8 @@ use Rattle.nv_bus.specs.Turn.{Site, Turn, TurnBy, site}
 use Rattle.nv_bus.proofs.TurnLaws.{rings_after, rings_one, taken_rings}
 use Rattle.nv_trace.specs.declared.admin_queues.AdminQueues.{AdminQueues}
 use Rattle.nv_trace.specs.declared.slots.Slots.{Slots}
-use Rattle.nv_trace.specs.Followed.{AreAhead, AreFollowed, AreFurther, Follows, IsAt, IsFurther}
+use Rattle.nv_trace.specs.Followed.{AreAhead, AreFollowed, Follows, IsAt}
+use Rattle.nv_trace.specs.inner.Followed.{AreFurther, IsFurther}
 use Rattle.nv_trace.proofs.SlotLaws.{slot_ahead}
 
 -- ---- what registers read

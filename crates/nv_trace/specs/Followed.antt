@@ -1,10 +1,6 @@
 -- What a trace keeps of the rings of controllers: which slots come next.
-use Rattle.std.specs.Prelude.{◌≡◌, ℕ, ◌+◌, ◌*◌, ◌≤◌, ◌↔◌, Bool, List, IfSome, IsSome, MatchOption, Option, Some, None}
-use Rattle.std.specs.Prelude.{length, slice_index_or, slice_set}
-use Rattle.nv_layout.specs.declared.cqe.Cqe.{Cqe}
-use Rattle.nv_layout.specs.declared.sqe.Sqe.{Sqe}
+use Rattle.std.specs.Prelude.{◌≡◌, ℕ, ◌+◌, Bool, List, Option, Some, None, slice_index_or}
 use Rattle.nv_queue.specs.Numbers.{slot_of}
-use Rattle.nv_queue.specs.Slots.{completion_at, submission_at}
 use Rattle.nv_register.specs.declared.readiness.Readiness.TheVariants.{Ready}
 use Rattle.nv_register.specs.declared.register_bank.RegisterBank.{RegisterBank}
 use Rattle.nv_register.specs.declared.rings.Rings.{Rings}
@@ -23,19 +19,6 @@ pub record AreAhead (n : ℕ) (q : AdminQueues) (r : Rings) : Type 0 where
   pub submission : IsAt (r.submission.fetched + n) r.submission.base r.submission.depth q.submission
   pub completion : IsAt (r.completion.posted + n) r.completion.base r.completion.depth q.completion
 
--- n entries further along the same rings
-abbrev pub IsFurther : ℕ → AdminQueues → AdminQueues → Type 0
-IsFurther n old new = (r : Rings) (k : ℕ) → AreAhead k old r → AreAhead (k + n) new r
-
--- what stands in the next slot of a submission ring, and of a completion ring, where the memory reaches it
-abbrev pub IsEntryIn : Option Sqe → List ℕ → Slots → Type 0
-IsEntryIn found bytes s = (IsSome found ↔ (s.base + 64 * s.next + 64 ≤ length bytes))
-    × IfSome found (λ entry. entry ≡ submission_at bytes s.base s.next)
-
-abbrev pub IsCompletionIn : Option Cqe → List ℕ → Slots → Type 0
-IsCompletionIn found bytes s = (IsSome found ↔ (s.base + 16 * s.next + 16 ≤ length bytes))
-    × IfSome found (λ completion. completion ≡ completion_at bytes s.base s.next)
-
 -- where the controller is ready, what comes next is what its rings say
 abbrev pub Follows : AdminQueues → RegisterBank → Type 0
 Follows q p = (r : Rings) (fatal : Bool) → p.readiness ≡ Ready r fatal → AreAhead 0 q r
@@ -44,8 +27,3 @@ Follows q p = (r : Rings) (fatal : Bool) → p.readiness ≡ Ready r fatal → A
 abbrev pub AreFollowed : List (Option AdminQueues) → List RegisterBank → Type 0
 AreFollowed queues banks =
     (c : ℕ) (q : AdminQueues) → slice_index_or queues c None ≡ Some q → Follows q (bank_at banks c)
-
--- so many entries of controller c further; the queues of others stay
-abbrev pub AreFurther : ℕ → ℕ → List (Option AdminQueues) → List (Option AdminQueues) → Type 0
-AreFurther c n old new = MatchOption (slice_index_or old c None) (new ≡ old)
-    (λ q. (q' : AdminQueues) × IsFurther n q q' × (new ≡ slice_set old c (Some q')))

@@ -3,7 +3,8 @@
 ghost use Rattle.std.specs.Prelude.{◌≡◌, ◌+◌, ◌*◌, ◌^◌, ◌<◌, length, true};
 ghost use Rattle.nv_register.specs.RegisterBank.{can_start, new_rings, value_at};
 ghost use Rattle.nv_bus.specs.Bus.{bank_at};
-ghost use Rattle.nv_trace.specs.Followed.{AreAhead, IsCompletionIn, IsEntryIn, IsFurther};
+ghost use Rattle.nv_trace.specs.Followed.{AreAhead};
+ghost use Rattle.nv_trace.specs.inner.Followed.{IsCompletionIn, IsEntryIn, IsFurther};
 
 use crate::slots::Slots;
 use nv_bus::Bus;

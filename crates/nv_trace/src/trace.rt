@@ -4,7 +4,7 @@ ghost use Rattle.std.specs.Prelude.{◌≡◌, ◌<◌, ℕ, None, Some, false, 
 ghost use Rattle.std.specs.Prelude.{slice_set};
 ghost use Rattle.nv_register.specs.Readiness.{is_enabled};
 ghost use Rattle.nv_bus.specs.Bus.{bank_at};
-ghost use Rattle.nv_trace.specs.Followed.{AreFurther, IsFurther};
+ghost use Rattle.nv_trace.specs.inner.Followed.{AreFurther, IsFurther};
 
 use crate::admin_queues::{AdminQueues, Exchange};
 use crate::posted::Posted;

@@ -3,7 +3,7 @@ use Rattle.std.proofs.Common.{◌≡◌, ◌∙◌, ℕ, ◌≤◌, zero, suc, L
 use Rattle.std.proofs.lemmas.Option.{slice_get_past}
 use Rattle.std.specs.Option.{option_map, option_map_or}
 use Rattle.std.specs.Prelude.{pos, slice_get, Option, None, Some}
-use Rattle.nv_layout.specs.ErrorEntry.{bytes_of_error_entry, without_phase}
+use Rattle.nv_layout.specs.ErrorEntryBytes.{bytes_of_error_entry, without_phase}
 use Rattle.nv_layout.specs.declared.error_entry.ErrorEntry.{ErrorEntry}
 use Rattle.nv_model.specs.LogEntry.{log_entry_of}
 use Rattle.nv_model.specs.State.{Controller, State}

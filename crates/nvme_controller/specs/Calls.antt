@@ -1,7 +1,7 @@
 -- What the calls of a program in C answer, and what they change.
 use Rattle.std.specs.Prelude.{◌≡◌, ◌*◌, ◌<◌, ◌^◌, ℕ, ℤ, pos, Bool, List, length, nat_lt, replicate, slice_set}
 use Rattle.std.specs.Prelude.{Option, None, Some, Result, Ok, Err, ◌⊎◌, if◌then◌else◌, MatchBool}
-use Rattle.nv_layout.specs.ErrorEntry.{bytes_of_error_entry}
+use Rattle.nv_layout.specs.ErrorEntryBytes.{bytes_of_error_entry}
 use Rattle.nv_layout.specs.declared.error_entry.ErrorEntry.{ErrorEntry}
 use Rattle.nv_host.specs.Pages.{IsPageSize}
 use Rattle.nv_register.specs.RegisterBank.{new_bank, value_at, with_register_at}

@@ -13,6 +13,7 @@ ended (Requests requests.Short) = Err stop.Short
 ended (Requests requests.TooLong) = Err stop.TooLong
 ended (Requests requests.Read) = Err stop.Read
 ended (Requests requests.Write) = Err stop.Write
+ended (Requests requests.NoReady) = Err stop.NoReady
 ended (Geometry field) = Err (stop.Geometry field)
 ended NoReady = Err stop.NoReady
 ended Memory = Err stop.Memory

@@ -28,6 +28,7 @@ fn status_of(end: ServeEnd) -> Result<u8, Stop>
         ServeEnd::Requests(RequestsEnd::TooLong) => Err(Stop::TooLong),
         ServeEnd::Requests(RequestsEnd::Read) => Err(Stop::Read),
         ServeEnd::Requests(RequestsEnd::Write) => Err(Stop::Write),
+        ServeEnd::Requests(RequestsEnd::NoReady) => Err(Stop::NoReady),
         ServeEnd::Geometry(field) => Err(Stop::Geometry(field)),
         ServeEnd::NoReady => Err(Stop::NoReady),
         ServeEnd::Memory => Err(Stop::Memory),

@@ -1,7 +1,7 @@
 use Rattle.std.proofs.Common.{◌∙◌, ◌++◌, ◌∷◌, [], ◌+◌, ◌≡◌, ap, arith, get_or, length-set, map, refl, subst, sym, take}
 use Rattle.std.proofs.lemmas.Grind.{take-set_at}
 use Rattle.std.proofs.lemmas.List.{get_or-take, length-take-le, map-append, take_more}
-use Rattle.nv_layout.specs.ErrorEntry.{without_phase}
+use Rattle.nv_layout.specs.ErrorEntryBytes.{without_phase}
 use Rattle.nv_command.specs.Logs.{entry_received}
 use Rattle.nv_command.proofs.RoomLaws.{entries_read}
 use Rattle.nv_command.proofs.reply_room.read_entries.Goals as goal

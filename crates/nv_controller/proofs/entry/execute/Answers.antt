@@ -1,8 +1,8 @@
 use Rattle.std.proofs.Common.{◌≡◌, ◌∙◌, Option, ap, sym}
 use Rattle.nv_prp.specs.Place.{places}
 use Rattle.nv_command.specs.declared.refusal.Refusal.{Refusal}
-use Rattle.nv_model.specs.Refusal.{refusal_of}
-use Rattle.nv_model.specs.Reply.{reply_of}
+use Rattle.nv_model.specs.Meaning.{refusal_of}
+use Rattle.nv_model.specs.Meaning.{reply_of}
 use Rattle.nv_subsystem.proofs.AnswerLaws.{refusal_in, refused_as}
 use Rattle.nv_subsystem.proofs.TaggedLaws.{untagged_keeps}
 use Rattle.nv_subsystem.specs.Tagged.{settled}

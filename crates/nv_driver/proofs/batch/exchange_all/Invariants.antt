@@ -1,6 +1,7 @@
 use Rattle.std.proofs.Common.{length}
-use Rattle.nv_driver.specs.Pace.{IsToldInTime}
-use Rattle.nv_driver.specs.UnderWay.{HasAnswers, IsBusOf, IsUnderWay, left_of}
+use Rattle.nv_driver.specs.inner.Pace.{IsToldInTime}
+use Rattle.nv_driver.specs.inner.UnderWay.{HasAnswers, IsBusOf, left_of}
+use Rattle.nv_driver.specs.UnderWay.{IsUnderWay}
 use Rattle.nv_driver.proofs.batch.exchange_all.Given as goal
 
 abbrev pub ghost-round : goal.ghost-round

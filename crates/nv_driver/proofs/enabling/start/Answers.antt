@@ -1,6 +1,6 @@
 use Rattle.std.proofs.Common.{◌∙◌, ap, subst}
 use Rattle.nv_driver.specs.Geometry.{IsGeometry}
-use Rattle.nv_driver.specs.Registers.{cc_enabling}
+use Rattle.nv_driver.specs.inner.Registers.{cc_enabling}
 use Rattle.nv_driver.specs.declared.geometry.Geometry.{Geometry}
 use Rattle.nv_driver.proofs.RegisterLaws.{is_started, started}
 use Rattle.nv_driver.proofs.enabling.start.Goals as goal

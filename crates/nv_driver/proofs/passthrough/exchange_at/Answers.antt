@@ -1,5 +1,5 @@
 use Rattle.std.proofs.Common.{◌∙◌, ap, length, rules, sym}
-use Rattle.nv_model.specs.Limit.{limit_of}
+use Rattle.nv_model.specs.Conditions.{limit_of}
 use Rattle.nv_driver.specs.UnderWay.{Run}
 use Rattle.nv_driver.proofs.ExchangeLaws.{answered_as, begins_as, begun_by, buffer_later, exchanged, has_slot}
 use Rattle.nv_driver.proofs.ExchangeLaws.{ring_inside, sent, tail_is}

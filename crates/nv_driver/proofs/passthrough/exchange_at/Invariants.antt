@@ -1,4 +1,4 @@
-use Rattle.nv_model.specs.Limit.{limit_of}
+use Rattle.nv_model.specs.Conditions.{limit_of}
 use Rattle.nv_driver.proofs.passthrough.exchange_at.Given as goal
 
 abbrev pub ghost-submit_entry : goal.ghost-submit_entry

@@ -1,6 +1,6 @@
 use Rattle.std.proofs.Common.{◌∙◌, ◌≡◌, ◌+◌, ◌≤◌, [], ap, arith, length, rules, subst, sym}
 use Rattle.nv_prp.specs.declared.builder.ListPlace.{ListPlace}
-use Rattle.nv_driver.specs.Alone.{CanExchange, place_in, side}
+use Rattle.nv_driver.specs.inner.Alone.{CanExchange, place_in, side}
 use Rattle.nv_driver.specs.Layout.{offset_for}
 use Rattle.nv_driver.specs.UnderWay.{Run, run_of}
 use Rattle.nv_driver.specs.declared.geometry.Geometry.{Geometry}

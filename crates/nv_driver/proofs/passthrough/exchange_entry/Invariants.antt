@@ -1,4 +1,4 @@
-use Rattle.nv_model.specs.Limit.{greatest_limit}
+use Rattle.nv_model.specs.Conditions.{greatest_limit}
 use Rattle.nv_driver.proofs.passthrough.exchange_entry.Given as goal
 
 abbrev pub ghost-exchange_at : goal.ghost-exchange_at

@@ -3,7 +3,7 @@ use Rattle.nv_prp.specs.Place.{written_at}
 use Rattle.nv_prp.specs.Buffer.{buffer_places}
 use Rattle.nv_command.specs.Command.{bytes_from_host}
 use Rattle.nv_bus.specs.Call.{length_of}
-use Rattle.nv_driver.specs.Alone.{place_in, sent_at}
+use Rattle.nv_driver.specs.inner.Alone.{place_in, sent_at}
 use Rattle.nv_driver.specs.Request.{request_for, sent_for}
 use Rattle.nv_driver.proofs.PaddingLaws.{length-padded}
 use Rattle.nv_driver.proofs.SubmittingLaws.{built_by, on_ok, pairs_same, prepared_by}

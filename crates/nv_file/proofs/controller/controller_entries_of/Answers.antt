@@ -7,7 +7,7 @@ use Rattle.nv_file.specs.IsFile.{IsControllerEntry}
 use Rattle.nv_file.proofs.Distinct.{fresh_controller}
 use Rattle.std.proofs.Common.{rules, Err, Vec, Global}
 use Rattle.nv_file.specs.declared.controller.ControllerEntry.{ControllerEntry}
-use Rattle.nv_file.specs.TableReading.{controller_entry_of}
+use Rattle.nv_file.specs.inner.TableReading.{controller_entry_of}
 use Rattle.nv_file.proofs.Readings.{tables_fail}
 use Rattle.nv_file.proofs.controller.controller_entries_of.Goals as goal
 

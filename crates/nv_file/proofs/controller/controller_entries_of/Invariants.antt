@@ -2,9 +2,9 @@ use Rattle.std.proofs.Common.{◌≡◌, ◌≢◌, [], drop, length, map}
 use Rattle.std.specs.Prelude.{All, AllPairs}
 use Rattle.nv_file.specs.FileValue.{controller_entry_view}
 use Rattle.nv_file.specs.IsFile.{IsControllerEntry}
-use Rattle.nv_file.specs.KeyReading.{readings}
-use Rattle.nv_file.specs.SectionView.{tables_view}
-use Rattle.nv_file.specs.TableReading.{controller_entry_of}
+use Rattle.nv_file.specs.inner.KeyReading.{readings}
+use Rattle.nv_file.specs.inner.SectionView.{tables_view}
+use Rattle.nv_file.specs.inner.TableReading.{controller_entry_of}
 use Rattle.nv_file.proofs.controller.controller_entries_of.Given as goal
 
 abbrev pub invariant-loop-table : goal.invariant-loop-table

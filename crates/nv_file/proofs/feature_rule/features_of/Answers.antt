@@ -5,7 +5,7 @@ use Rattle.nv_model.specs.Ranges.{IsFeatureRule}
 use Rattle.nv_file.proofs.Distinct.{fresh_rule}
 use Rattle.std.proofs.Common.{rules, Err, Vec, Global}
 use Rattle.nv_model.specs.declared.feature_rule.FeatureRule.{FeatureRule}
-use Rattle.nv_file.specs.TableReading.{feature_of}
+use Rattle.nv_file.specs.inner.TableReading.{feature_of}
 use Rattle.nv_file.proofs.Readings.{tables_fail}
 use Rattle.nv_file.proofs.feature_rule.features_of.Goals as goal
 

@@ -1,9 +1,9 @@
 use Rattle.std.proofs.Common.{◌≡◌, ◌≢◌, [], drop}
 use Rattle.std.specs.Prelude.{All, AllPairs}
 use Rattle.nv_model.specs.Ranges.{IsFeatureRule}
-use Rattle.nv_file.specs.KeyReading.{readings}
-use Rattle.nv_file.specs.SectionView.{tables_view}
-use Rattle.nv_file.specs.TableReading.{feature_of}
+use Rattle.nv_file.specs.inner.KeyReading.{readings}
+use Rattle.nv_file.specs.inner.SectionView.{tables_view}
+use Rattle.nv_file.specs.inner.TableReading.{feature_of}
 use Rattle.nv_file.proofs.feature_rule.features_of.Given as goal
 
 abbrev pub invariant-loop-table : goal.invariant-loop-table

@@ -3,7 +3,7 @@ use Rattle.std.proofs.lemmas.Bool.{leb-true}
 use Rattle.std.proofs.lemmas.List.{length-map}
 use Rattle.nv_file.proofs.Attached.{attached}
 use Rattle.nv_file.proofs.Fused.{capacities}
-use Rattle.nv_file.specs.FileReading.{file_of}
+use Rattle.nv_file.specs.inner.FileReading.{file_of}
 use Rattle.nv_file.proofs.file.file_of.Goals as goal
 
 pub returns-clause-sound : goal.returns-clause-sound

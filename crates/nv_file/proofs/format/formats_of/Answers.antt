@@ -3,7 +3,7 @@ use Rattle.std.proofs.lemmas.Grind.{common_steps}
 use Rattle.std.proofs.lemmas.List.Elements.{All-push}
 use Rattle.nv_model.specs.Ranges.{IsFormat}
 use Rattle.nv_model.specs.declared.format.Format.{Format}
-use Rattle.nv_file.specs.TableReading.{format_of}
+use Rattle.nv_file.specs.inner.TableReading.{format_of}
 use Rattle.nv_file.proofs.Readings.{fails_exactly, tables_fail}
 use Rattle.nv_file.proofs.format.formats_of.Goals as goal
 

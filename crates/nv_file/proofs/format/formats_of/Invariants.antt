@@ -1,9 +1,9 @@
 use Rattle.std.proofs.Common.{◌≡◌, [], drop, length}
 use Rattle.std.specs.Prelude.{All}
 use Rattle.nv_model.specs.Ranges.{IsFormat}
-use Rattle.nv_file.specs.KeyReading.{readings}
-use Rattle.nv_file.specs.SectionView.{tables_view}
-use Rattle.nv_file.specs.TableReading.{format_of}
+use Rattle.nv_file.specs.inner.KeyReading.{readings}
+use Rattle.nv_file.specs.inner.SectionView.{tables_view}
+use Rattle.nv_file.specs.inner.TableReading.{format_of}
 use Rattle.nv_file.proofs.format.formats_of.Given as goal
 
 abbrev pub invariant-loop-table : goal.invariant-loop-table

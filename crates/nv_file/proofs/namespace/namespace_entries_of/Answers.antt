@@ -7,7 +7,7 @@ use Rattle.nv_file.specs.IsFile.{IsNamespaceEntry}
 use Rattle.nv_file.proofs.Distinct.{fresh_namespace}
 use Rattle.std.proofs.Common.{rules, Err, Vec, Global}
 use Rattle.nv_file.specs.declared.namespace.NamespaceEntry.{NamespaceEntry}
-use Rattle.nv_file.specs.TableReading.{namespace_entry_of}
+use Rattle.nv_file.specs.inner.TableReading.{namespace_entry_of}
 use Rattle.nv_file.proofs.Readings.{tables_fail}
 use Rattle.nv_file.proofs.namespace.namespace_entries_of.Goals as goal
 

@@ -3,7 +3,7 @@ use Rattle.std.specs.List.{slice_split}
 use Rattle.std.proofs.lemmas.Iterator.Consumers.{YieldsList-end, YieldsList-turn}
 use Rattle.std.proofs.lemmas.Iterator.Splits.{YieldsList-from_str_split}
 use Rattle.std.proofs.lemmas.List.{length_push}
-use Rattle.nv_line.specs.ControllerList.{is_comma}
+use Rattle.nv_line.specs.Values.{is_comma}
 use Rattle.nv_line.proofs.ListReading.{all_read, no_number, piece_read, too_many}
 use Rattle.nv_line.proofs.controller_list.parse_list.Goals as goal
 

@@ -1,6 +1,6 @@
 use Rattle.std.proofs.Common.{length}
 use Rattle.std.specs.List.{slice_split}
-use Rattle.nv_line.specs.ControllerList.{is_comma}
+use Rattle.nv_line.specs.Values.{is_comma}
 use Rattle.nv_line.proofs.ListReading.{IsReadTo}
 use Rattle.nv_line.proofs.controller_list.parse_list.Given as goal
 

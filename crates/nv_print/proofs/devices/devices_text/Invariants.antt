@@ -1,5 +1,5 @@
 use Rattle.std.proofs.Common.{◌≡◌, ◌*◌, ◌≤◌, length, string_bytes, take}
-use Rattle.nv_print.specs.DeviceList.{devices_text}
+use Rattle.nv_print.specs.Devices.{devices_text}
 use Rattle.nv_print.proofs.devices.devices_text.Given as goal
 
 abbrev pub invariant-loop-device : goal.invariant-loop-device

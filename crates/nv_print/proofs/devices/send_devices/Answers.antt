@@ -4,7 +4,7 @@ use Rattle.std.proofs.lemmas.Result.{on_ok_weaker}
 use Rattle.serde_json.specs.Data.{Data, array}
 use Rattle.serde_json.specs.View.{items_of}
 use Rattle.serde_json.specs.Written.{items_text}
-use Rattle.nv_print.specs.DeviceList.{fields_of_device}
+use Rattle.nv_print.specs.Devices.{fields_of_device}
 use Rattle.nv_print.specs.Field.{object_of}
 use Rattle.nv_print.specs.declared.device.Device.{Device}
 use Rattle.nv_print.proofs.JsonLengths.{items_next_length, one_list_length}

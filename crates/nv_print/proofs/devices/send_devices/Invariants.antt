@@ -3,7 +3,7 @@ use Rattle.serde.specs.Event.{WritesEach}
 use Rattle.serde_json.specs.Events.{SendsValue}
 use Rattle.serde_json.specs.View.{items_of}
 use Rattle.serde_json.specs.Written.{items_text}
-use Rattle.nv_print.specs.DeviceList.{fields_of_device}
+use Rattle.nv_print.specs.Devices.{fields_of_device}
 use Rattle.nv_print.specs.Field.{object_of}
 use Rattle.nv_print.proofs.devices.send_devices.Given as goal
 

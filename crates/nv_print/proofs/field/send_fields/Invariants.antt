@@ -1,6 +1,6 @@
 use Rattle.std.proofs.Common.{take}
 use Rattle.serde.specs.Event.{WritesEach}
-use Rattle.nv_print.specs.Sends.{SendsField, picked}
+use Rattle.nv_print.specs.inner.Sends.{SendsField, picked}
 use Rattle.nv_print.proofs.field.send_fields.Given as goal
 
 abbrev pub invariant-loop-place : goal.invariant-loop-place

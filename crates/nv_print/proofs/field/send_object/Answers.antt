@@ -4,7 +4,7 @@ use Rattle.std.proofs.lemmas.Result.{on_ok_weaker}
 use Rattle.serde_json.specs.Data.{Members, object}
 use Rattle.serde_json.specs.Events.{SendsValue}
 use Rattle.nv_print.proofs.Sent.{object_sent}
-use Rattle.nv_print.specs.Sends.{picked}
+use Rattle.nv_print.specs.inner.Sends.{picked}
 use Rattle.nv_print.proofs.field.send_object.Goals as goal
 
 pub send_fields-requires : goal.send_fields-requires

@@ -1,5 +1,5 @@
 use Rattle.std.proofs.Common.{refl}
-use Rattle.nv_print.specs.IdCtrl.{fields_of_id_ctrl}
+use Rattle.nv_print.specs.Records.{fields_of_id_ctrl}
 use Rattle.nv_print.proofs.Fields.{and_field}
 use Rattle.nv_print.proofs.identity.id_ctrl_fields.Goals as goal
 

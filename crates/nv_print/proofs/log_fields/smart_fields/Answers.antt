@@ -1,5 +1,5 @@
 use Rattle.std.proofs.Common.{refl}
-use Rattle.nv_print.specs.Logs.{fields_of_smart}
+use Rattle.nv_print.specs.Records.{fields_of_smart}
 use Rattle.nv_print.proofs.Fields.{and_field}
 use Rattle.nv_print.proofs.log_fields.smart_fields.Goals as goal
 

@@ -1,7 +1,7 @@
 use Rattle.std.proofs.Common.{◌∙◌, ap, arith, length}
 use Rattle.std.proofs.lemmas.List.Filters.{length-filter_more}
 use Rattle.nv_layout.specs.ErrorEntry.{no_entry}
-use Rattle.nv_print.specs.Logs.{holds_error}
+use Rattle.nv_print.specs.Records.{holds_error}
 use Rattle.nv_print.proofs.PresentEntries.{chosen_present}
 use Rattle.nv_print.proofs.logs.errors_count.Goals as goal
 

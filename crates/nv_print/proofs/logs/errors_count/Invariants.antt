@@ -1,6 +1,6 @@
 use Rattle.std.proofs.Common.{◌≡◌, ◌≤◌, length, take}
 use Rattle.std.specs.Prelude.{filter}
-use Rattle.nv_print.specs.Logs.{holds_error}
+use Rattle.nv_print.specs.Records.{holds_error}
 use Rattle.nv_print.proofs.logs.errors_count.Given as goal
 
 abbrev pub invariant-loop-index : goal.invariant-loop-index

@@ -9,7 +9,7 @@ use Rattle.serde_json.specs.View.{items_of}
 use Rattle.nv_layout.specs.ErrorEntry.{no_entry}
 use Rattle.nv_layout.specs.declared.error_entry.ErrorEntry.{ErrorEntry}
 use Rattle.nv_print.specs.Field.{object_of}
-use Rattle.nv_print.specs.Logs.{fields_of_entry, holds_error}
+use Rattle.nv_print.specs.Records.{fields_of_entry, holds_error}
 use Rattle.nv_print.proofs.Items.{chosen_next}
 use Rattle.nv_print.proofs.PresentEntries.{chosen_present}
 use Rattle.nv_print.proofs.Sent.{array_sent, each_append, lone_member_sent}

@@ -3,7 +3,7 @@ use Rattle.std.specs.Prelude.{filter}
 use Rattle.serde.specs.Event.{WritesEach}
 use Rattle.serde_json.specs.Events.{SendsValue}
 use Rattle.nv_print.specs.Field.{object_of}
-use Rattle.nv_print.specs.Logs.{fields_of_entry, holds_error}
+use Rattle.nv_print.specs.Records.{fields_of_entry, holds_error}
 use Rattle.nv_print.proofs.logs.send_entries.Given as goal
 
 abbrev pub invariant-loop-index : goal.invariant-loop-index

@@ -1,6 +1,6 @@
 use Rattle.std.proofs.Common.{◌≡◌, ◌++◌, take, string_bytes}
-use Rattle.nv_print.specs.IdNs.{lbaf_line}
-use Rattle.nv_print.specs.Padding.{lines_of}
+use Rattle.nv_print.specs.Records.{lbaf_line}
+use Rattle.nv_print.specs.Text.{lines_of}
 use Rattle.nv_print.proofs.namespace.push_formats.Given as goal
 
 abbrev pub invariant-loop-index : goal.invariant-loop-index

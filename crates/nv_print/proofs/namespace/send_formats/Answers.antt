@@ -1,7 +1,7 @@
 use Rattle.std.proofs.Common.{length, rules}
 use Rattle.std.proofs.lemmas.Result.{on_ok_weaker}
 use Rattle.nv_print.specs.Field.{object_of}
-use Rattle.nv_print.specs.IdNs.{fields_of_lbaf}
+use Rattle.nv_print.specs.Records.{fields_of_lbaf}
 use Rattle.nv_print.proofs.Sent.{each_next, elements_sent}
 use Rattle.nv_print.proofs.namespace.send_formats.Goals as goal
 

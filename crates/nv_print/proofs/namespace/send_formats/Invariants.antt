@@ -2,7 +2,7 @@ use Rattle.std.proofs.Common.{map, take}
 use Rattle.serde.specs.Event.{WritesEach}
 use Rattle.serde_json.specs.Events.{SendsValue}
 use Rattle.nv_print.specs.Field.{object_of}
-use Rattle.nv_print.specs.IdNs.{fields_of_lbaf}
+use Rattle.nv_print.specs.Records.{fields_of_lbaf}
 use Rattle.nv_print.proofs.namespace.send_formats.Given as goal
 
 abbrev pub invariant-loop-format : goal.invariant-loop-format

@@ -6,8 +6,8 @@ use Rattle.serde_json.specs.Events.{SendsValue}
 use Rattle.serde_json.specs.View.{items_of}
 use Rattle.nv_layout.specs.declared.id_ns.Lbaf.{Lbaf}
 use Rattle.nv_print.specs.Field.{Field, object_of}
-use Rattle.nv_print.specs.IdNs.{fields_of_lbaf}
-use Rattle.nv_print.specs.Sends.{SendsField, picked}
+use Rattle.nv_print.specs.Records.{fields_of_lbaf}
+use Rattle.nv_print.specs.inner.Sends.{SendsField, picked}
 use Rattle.nv_print.specs.declared.identity.TheConstants.{AFTER_LBAFS, BEFORE_LBAFS}
 use Rattle.nv_print.proofs.KeyOrder.{after_lbafs, before_lbafs, id_ns_sent}
 use Rattle.nv_print.proofs.namespace.send_namespace.Goals as goal

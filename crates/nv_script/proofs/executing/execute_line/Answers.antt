@@ -3,7 +3,7 @@ use Rattle.nv_script.specs.Cuts.{left_at}
 use Rattle.nv_script.specs.Orders.{orders_of}
 use Rattle.nv_script.specs.Outcomes.{outcome_of}
 use Rattle.nv_script.specs.Results.{LineResult, answer_result, message_at, output_for, quiet_result}
-use Rattle.nv_driver.specs.Linked.{serials_of}
+use Rattle.nv_driver.specs.inner.Linked.{serials_of}
 use Rattle.nv_print.specs.declared.fault.FaultCause.TheVariants as cause
 use Rattle.nv_line.specs.declared.line.Line.TheVariants as line
 use Rattle.nv_script.proofs.LineLaws.{amid-all, amid-some, amid-zero, fault_said, line_said, message_leaves}

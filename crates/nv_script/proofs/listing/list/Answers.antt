@@ -2,8 +2,8 @@ use Rattle.std.proofs.Common.{◌∙◌, ◌+◌, ◌++◌, ap, append_assoc, sy
 use Rattle.std.proofs.lemmas.Result.{err_from_is_err_and}
 use Rattle.nv_model.proofs.LookupLaws.{IsAlike, alike-join}
 use Rattle.nv_model.specs.WellFormed.{IsWellFormed}
-use Rattle.nv_driver.specs.Linked.{serials_of}
-use Rattle.nv_script.specs.Listing.{IsListed, asked_all}
+use Rattle.nv_driver.specs.inner.Linked.{serials_of}
+use Rattle.nv_script.specs.inner.Listing.{IsListed, asked_all}
 use Rattle.nv_script.specs.Orders.{orders_of_controller, orders_of_list}
 use Rattle.nv_script.proofs.ListLaws.{first_standing, listed_after, stopped_within}
 use Rattle.nv_script.proofs.ListOrderLaws.{controller_lookups, next_controller, no_controller_left, orders_from}

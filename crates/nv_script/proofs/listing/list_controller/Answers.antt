@@ -1,10 +1,10 @@
 use Rattle.std.proofs.Common.{refl, [], ◌∷◌}
 use Rattle.std.proofs.lemmas.Result.{err_from_is_err_and}
-use Rattle.nv_bits.specs.Numbers.{above}
+use Rattle.nv_bits.specs.Above.{above}
 use Rattle.nv_command.specs.declared.command.Command.TheVariants.{ActiveList, IdentifyController}
-use Rattle.nv_model.specs.Nsid.{active_nsids}
-use Rattle.nv_script.specs.Exchange.{order_of}
-use Rattle.nv_driver.specs.Linked.{serials_of}
+use Rattle.nv_model.specs.Conditions.{active_nsids}
+use Rattle.nv_script.specs.Outcomes.{order_of}
+use Rattle.nv_driver.specs.inner.Linked.{serials_of}
 use Rattle.nv_script.specs.Orders.{namespace_orders, orders_of_controller}
 use Rattle.nv_script.proofs.GreetingLaws.{greeted_listed, greeted_orders, stopped_there}
 use Rattle.nv_script.proofs.ListLaws.{leaves_after}

@@ -1,7 +1,7 @@
 use Rattle.std.proofs.Common.{◌∙◌, ◌++◌, take, drop}
 use Rattle.std.proofs.lemmas.Result.{err_from_is_err_and}
-use Rattle.nv_driver.specs.Linked.{serials_of}
-use Rattle.nv_script.specs.Listing.{asked_all}
+use Rattle.nv_driver.specs.inner.Linked.{serials_of}
+use Rattle.nv_script.specs.inner.Listing.{asked_all}
 use Rattle.nv_script.specs.Orders.{namespace_orders}
 use Rattle.nv_script.proofs.BatchLaws.{namespaces_join, namespaces_split}
 use Rattle.nv_script.proofs.ListLaws.{listed_after, stopped_within}

@@ -1,7 +1,7 @@
 use Rattle.std.proofs.Common.{◌∙◌, ◌≤◌, ◌++◌, [], arith, length, refl, take}
 use Rattle.std.proofs.lemmas.Bool.Decides.{nat_tests}
 use Rattle.std.proofs.lemmas.List.{length-take-le}
-use Rattle.nv_stream.specs.Limits.{read_size}
+use Rattle.nv_stream.specs.Streams.{read_size}
 use Rattle.nv_script.proofs.RunLaws.{last_cut, piece_cut, read_first, read_more, read_none, read_to_end, stands_first}
 use Rattle.nv_script.proofs.running.run_session.Goals as goal
 

@@ -1,5 +1,5 @@
 use Rattle.std.proofs.Common.{◌≡◌, ◌-◌, ◌≤◌, length}
-use Rattle.nv_serve.specs.Reading.{Fills, IsReady}
+use Rattle.nv_serve.specs.inner.Reading.{Fills, IsReady}
 use Rattle.nv_serve.proofs.reading.fill.Given as goal
 
 abbrev pub invariant-loop-filled : goal.invariant-loop-filled

@@ -1,6 +1,6 @@
 use Rattle.std.proofs.Common.{◌∙◌, [], arith, take}
 use Rattle.std.proofs.lemmas.List.{length-take-le}
-use Rattle.nv_serve.specs.Reading.{request}
+use Rattle.nv_serve.specs.inner.Reading.{request}
 use Rattle.nv_serve.proofs.ReadingLaws.{data_cut, header_cut, not_empty, reads_both}
 use Rattle.nv_serve.proofs.reading.take_request.Goals as goal
 

@@ -1,10 +1,10 @@
 use Rattle.std.proofs.Common.{◌∙◌, ◌++◌, [], ◌∷◌, arith, refl, take, inl}
 use Rattle.std.proofs.lemmas.List.{length-append}
-use Rattle.nv_serve.specs.Answer.{answer}
+use Rattle.nv_serve.specs.inner.Answer.{answer}
 use Rattle.nv_serve.specs.Header.{sent_length}
-use Rattle.nv_serve.specs.Reading.{request}
+use Rattle.nv_serve.specs.inner.Reading.{request}
 use Rattle.nv_serve.specs.Served.{IsRest, streams, too_long}
-use Rattle.nv_serve.specs.Serving.{point_of}
+use Rattle.nv_serve.specs.inner.Serving.{point_of}
 use Rattle.nv_serve.specs.declared.ends.RequestsEnd.TheVariants.{TooLong, Write}
 use Rattle.nv_serve.proofs.ServedLaws.{Stands, ends_at, ends_done, ends_failed, ends_full, ends_short, ends_unwritten}
 use Rattle.nv_serve.proofs.ServedLaws.{still_open, request_few, stands_first, stands_more, taken_first, taken_more}
@@ -96,17 +96,18 @@ returns-then-not-respond-clause-served g c =
     let after = streams (g.R.Source.state c.take_request.new.source) (g.O.Sink.state c.respond-in-loop.new.out) in
     let s = c.loop.invariant.stands in
     let t = c.in-Request.ensures.taken in
-    let h = c.handle-answer in
+    let h = c.handle in
+    let done = c.in-Ok in
     let r = request c.take_request.new.header (take (sent_length c.in-Request.header) c.take_request.new.sent) in
-    let a = answer h.result (take h.result.length h.new.received) in
+    let a = answer done.answer (take done.answer.length h.new.received) in
     let len = c.sent_length-len.ensures.length in
     let part = taken_part (g.O.Sink.state c.args.out.now) (g.O.Sink.state c.loop.out)
     (g.O.Sink.state c.respond-in-loop.new.out) s.1 a s.3 c.if-not-respond.ensures.text
     c.if-not-respond.ensures.failure in
     let more : Stands p (point_of (g.B.Bus.meaning h.new.bus) h.new.driver) (g.R.Source.state c.args.source.now)
     (g.R.Source.state c.take_request.new.source) (s.0 ++ r ∷ []) (s.1 ++ a ∷ []) =
-    stands_more p now r a s.2 t.2 t.3 (rw (← t.0) (rw len at h.ensures.answer))
-    (rw (← t.0) (rw len at h.ensures.reached)) in
+    stands_more p now r a s.2 t.2 t.3 (rw (← t.0) (rw len at done.ensures.answer))
+    (rw (← t.0) (rw len at done.ensures.reached)) in
     ends_unwritten p more before after refl refl (still_open t.4) part
 
 pub loop-preserved : goal.loop-preserved
@@ -116,23 +117,24 @@ loop-preserved g c =
     let inv = c.loop.invariant in
     let s = inv.stands in
     let t = c.in-Request.ensures.taken in
-    let h = c.handle-answer in
+    let h = c.handle in
+    let done = c.in-Ok in
     let r = request c.take_request.new.header (take (sent_length c.in-Request.header) c.take_request.new.sent) in
-    let a = answer h.result (take h.result.length h.new.received) in
+    let a = answer done.answer (take done.answer.length h.new.received) in
     let len = c.sent_length-len.ensures.length in
     record {
       ready = t.4;
       out_ready = c.if-not-respond.ensures.failure;
       few = omega (arith, inv.few, t.3.given, request_few t.2);
       sent_long = c.in-Request.ensures.long;
-      received_long = h.ensures.long;
-      linked = h.ensures.linked;
-      room = h.ensures.room;
+      received_long = done.ensures.long;
+      linked = done.ensures.linked;
+      room = done.ensures.room;
       stands = (
         s.0 ++ r ∷ [],
         s.1 ++ a ∷ [],
-        stands_more p now r a s.2 t.2 t.3 (rw (← t.0) (rw len at h.ensures.answer))
-            (rw (← t.0) (rw len at h.ensures.reached)),
+        stands_more p now r a s.2 t.2 t.3 (rw (← t.0) (rw len at done.ensures.answer))
+            (rw (← t.0) (rw len at done.ensures.reached)),
         taken_more (g.O.Sink.state c.args.out.now) (g.O.Sink.state c.loop.out)
             (g.O.Sink.state c.respond-in-loop.new.out) s.1 a s.3 c.if-not-respond.ensures.text
             c.if-not-respond.ensures.failure,

@@ -1,11 +1,11 @@
 use Rattle.std.proofs.Common.{◌≡◌, ◌≤◌, ◌*◌, ◌+◌, false, length, List}
 use Rattle.nv_driver.specs.Driver.{HasEntryPages}
-use Rattle.nv_driver.specs.Linked.{IsLinked}
+use Rattle.nv_driver.specs.inner.Linked.{IsLinked}
 use Rattle.nv_serve.specs.Answer.{Answer}
 use Rattle.nv_serve.specs.Header.{Request, most_data}
-use Rattle.nv_serve.specs.Reading.{IsReady}
+use Rattle.nv_serve.specs.inner.Reading.{IsReady}
 use Rattle.nv_serve.specs.Served.{HasTaken}
-use Rattle.nv_serve.specs.Serving.{point_of}
+use Rattle.nv_serve.specs.inner.Serving.{point_of}
 use Rattle.nv_serve.proofs.ServedLaws.{Stands}
 use Rattle.nv_serve.proofs.serving.serve_all.Given as goal
 

@@ -1,6 +1,6 @@
 use Rattle.std.proofs.Common.{◌∙◌, ◌+◌, arith, sym, subst, get_or}
 use Rattle.nv_model.specs.Attachment.{more, unchanged, with_one}
-use Rattle.nv_subsystem.specs.ControllerView.{controller_view}
+use Rattle.nv_subsystem.specs.inner.ControllerView.{controller_view}
 use Rattle.nv_subsystem.proofs.EachController.{Changed, chosen, one_more, other}
 use Rattle.nv_subsystem.proofs.attachment.attach_listed.Goals as goal
 use Rattle.nv_subsystem.proofs.attachment.attach_listed.Goals.{then-is_listed, else-is_listed}

@@ -1,6 +1,6 @@
 use Rattle.std.proofs.Common.{◌∙◌, ◌+◌, arith, sym, subst, get_or}
 use Rattle.nv_model.specs.Attachment.{fewer, unchanged}
-use Rattle.nv_subsystem.specs.ControllerView.{controller_view}
+use Rattle.nv_subsystem.specs.inner.ControllerView.{controller_view}
 use Rattle.nv_model.specs.Management.{without}
 use Rattle.nv_subsystem.proofs.EachController.{Changed, chosen, one_more, other}
 use Rattle.nv_subsystem.proofs.attachment.detach_listed.Goals as goal

@@ -2,7 +2,7 @@ use Rattle.std.proofs.Common.{◌≡◌, ◌∙◌, ◌++◌, ◌∷◌, [], ap,
 use Rattle.std.specs.Prelude.{All}
 use Rattle.std.proofs.lemmas.List.{map_push}
 use Rattle.std.proofs.lemmas.List.Elements.{All-push}
-use Rattle.nv_subsystem.specs.ControllerView.{controller_view}
+use Rattle.nv_subsystem.specs.inner.ControllerView.{controller_view}
 use Rattle.nv_file.specs.FileValue.{controller_entry_view, namespace_entry_view}
 use Rattle.nv_subsystem.specs.FromFile.{controller_of}
 use Rattle.nv_subsystem.specs.Sound.{IsSized}

@@ -1,5 +1,5 @@
 use Rattle.std.proofs.Common.{◌≡◌, drop}
-use Rattle.nv_model.specs.Row.{first_refusal}
+use Rattle.nv_model.specs.Conditions.{first_refusal}
 use Rattle.nv_subsystem.proofs.row.check.Given as goal
 
 abbrev pub invariant-loop-row : goal.invariant-loop-row

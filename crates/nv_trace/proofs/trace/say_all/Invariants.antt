@@ -1,4 +1,4 @@
-use Rattle.nv_trace.specs.Followed.{IsFurther}
+use Rattle.nv_trace.specs.inner.Followed.{IsFurther}
 use Rattle.nv_trace.proofs.trace.say_all.Given as goal
 
 abbrev pub invariant-loop : goal.invariant-loop

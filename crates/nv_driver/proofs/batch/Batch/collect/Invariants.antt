@@ -1,6 +1,7 @@
 use Rattle.std.proofs.Common.{◌≡◌, ◌+◌}
-use Rattle.nv_driver.specs.Pace.{IsToldByPace, IsToldInTime}
-use Rattle.nv_driver.specs.UnderWay.{HasAnswers, IsBusOf, IsUnderWay}
+use Rattle.nv_driver.specs.inner.Pace.{IsToldByPace, IsToldInTime}
+use Rattle.nv_driver.specs.inner.UnderWay.{HasAnswers, IsBusOf}
+use Rattle.nv_driver.specs.UnderWay.{IsUnderWay}
 use Rattle.nv_driver.proofs.batch.Batch.collect.Given as goal
 
 abbrev pub ghost-collect_one : goal.ghost-collect_one

@@ -2,7 +2,7 @@ use Rattle.std.proofs.Common.{◌≡◌, ◌∙◌, ap, arith, get_or, length, s
 use Rattle.std.proofs.lemmas.List.{take_more}
 use Rattle.std.proofs.Math.Seq.{take-length}
 use Rattle.nv_host.specs.PageSets.{IsOf, Pages}
-use Rattle.nv_driver.specs.CommandPages.{all_pages, with_pages}
+use Rattle.nv_driver.specs.inner.CommandPages.{all_pages, with_pages}
 use Rattle.nv_driver.proofs.PageSetLaws.{giving_more, giving_none, not_given}
 use Rattle.nv_driver.proofs.command_pages.CommandPages.give.Goals as goal
 

@@ -1,7 +1,7 @@
 use Rattle.std.proofs.Common.{◌≡◌, ◌+◌, ◌<◌, ◌∙◌, arith, length, length-take, refl, subst, sym, take}
 use Rattle.std.proofs.Math.ListN.{length-set}
 use Rattle.std.proofs.lemmas.List.{take_more_set}
-use Rattle.nv_driver.specs.CommandPages.{AreLowest}
+use Rattle.nv_driver.specs.inner.CommandPages.{AreLowest}
 use Rattle.nv_driver.proofs.PageSetLaws.{Taking, has_one, lowest_next, lowest_none, some_taken, taking_next, taking_none}
 use Rattle.nv_driver.proofs.command_pages.CommandPages.take.Goals as goal
 

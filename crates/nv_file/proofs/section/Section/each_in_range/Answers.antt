@@ -1,7 +1,7 @@
 use Rattle.std.proofs.Common.{arith, rules, pos, get_or, Err, ◌≡◌, w64, ℕ, Vec, Global}
 use Rattle.std.proofs.lemmas.Grind.{common_steps}
 use Rattle.std.proofs.lemmas.Int.{to_z-of_z}
-use Rattle.nv_file.specs.KeyReading.{element}
+use Rattle.nv_file.specs.inner.KeyReading.{element}
 use Rattle.nv_file.proofs.Readings.{fails_exactly, readings_fail}
 use Rattle.nv_file.proofs.section.Section.each_in_range.Goals as goal
 use mir.Val.{SFits}

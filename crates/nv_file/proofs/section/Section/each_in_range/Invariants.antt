@@ -1,5 +1,5 @@
 use Rattle.std.proofs.Common.{◌≡◌, [], drop}
-use Rattle.nv_file.specs.KeyReading.{element, readings}
+use Rattle.nv_file.specs.inner.KeyReading.{element, readings}
 use Rattle.nv_file.proofs.section.Section.each_in_range.Given as goal
 
 abbrev pub invariant-loop-integer : goal.invariant-loop-integer

@@ -1,7 +1,7 @@
 use Rattle.std.proofs.Common.{ap, ◌∙◌}
 use Rattle.nv_file.specs.declared.error.SubsystemError.TheVariants.{Unknown}
-use Rattle.nv_file.specs.Fault.{ensure}
-use Rattle.nv_file.specs.KeyReading.{only}
+use Rattle.nv_file.specs.inner.Fault.{ensure}
+use Rattle.nv_file.specs.inner.KeyReading.{only}
 use Rattle.nv_file.proofs.Keys.{known_keys}
 use Rattle.nv_file.proofs.section.Section.only.Goals as goal
 

@@ -1,6 +1,6 @@
 use Rattle.std.proofs.Common.{◌≡◌, ◌∙◌, ℕ, ◌-◌, ◌*◌, ◌++◌, ap, arith, drop, length, min, replicate, sym, take}
 use Rattle.std.proofs.lemmas.List.{length-take-le}
-use Rattle.nv_layout.specs.ErrorEntry.{bytes_of_entries}
+use Rattle.nv_layout.specs.ErrorEntryBytes.{bytes_of_entries}
 use Rattle.nv_layout.proofs.LogLaws.{length-entries, part_past_blanks}
 use Rattle.nv_layout.proofs.PartLaws.{part_in_two, part_within}
 use Rattle.nv_layout.specs.Parts.{part}

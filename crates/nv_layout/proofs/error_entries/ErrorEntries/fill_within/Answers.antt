@@ -2,7 +2,7 @@ use Rattle.std.proofs.Common.{◌≡◌, ◌++◌, ◌∙◌, ◌-◌, ◌+◌, 
 use Rattle.std.proofs.Common.{length-take, refl, sym, take}
 use Rattle.std.proofs.lemmas.List.{take_all}
 use Rattle.std.proofs.lemmas.Slice.{take-put_mid}
-use Rattle.nv_layout.specs.ErrorEntry.{bytes_of_entries, bytes_of_error_entry}
+use Rattle.nv_layout.specs.ErrorEntryBytes.{bytes_of_entries, bytes_of_error_entry}
 use Rattle.nv_layout.proofs.LogLaws.{part_of_entry}
 use Rattle.nv_layout.proofs.PartLaws.{part-append}
 use Rattle.nv_layout.specs.Parts.{part}

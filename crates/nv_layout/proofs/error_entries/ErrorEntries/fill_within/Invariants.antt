@@ -1,5 +1,5 @@
 use Rattle.std.proofs.Common.{◌≡◌, ◌-◌, ◌≤◌, length, take}
-use Rattle.nv_layout.specs.ErrorEntry.{bytes_of_entries}
+use Rattle.nv_layout.specs.ErrorEntryBytes.{bytes_of_entries}
 use Rattle.nv_layout.specs.Parts.{part}
 use Rattle.nv_layout.proofs.error_entries.ErrorEntries.fill_within.Given as goal
 

@@ -1,5 +1,6 @@
 use Rattle.std.proofs.Common.{◌∙◌, arith, sym}
-use Rattle.nv_layout.specs.NsList.{most_nsids, ns_list_of_bytes}
+use Rattle.nv_layout.specs.Limits.{most_nsids}
+use Rattle.nv_layout.specs.NsList.{ns_list_of_bytes}
 use Rattle.nv_layout.proofs.NsListLaws.{list_read}
 use Rattle.nv_layout.proofs.ns_list.Few+u32+MOST_NSIDS.read.Goals as goal
 

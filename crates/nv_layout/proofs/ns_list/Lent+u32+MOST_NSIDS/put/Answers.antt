@@ -1,5 +1,6 @@
 use Rattle.std.proofs.Common.{◌∙◌, ap, length}
-use Rattle.nv_layout.specs.NsList.{bytes_of_ns_list, most_nsids}
+use Rattle.nv_layout.specs.NsList.{bytes_of_ns_list}
+use Rattle.nv_layout.specs.Limits.{most_nsids}
 use Rattle.nv_layout.proofs.NsListLaws.{placed-padded}
 use Rattle.nv_layout.specs.Parts.{numbers, placed, zeros}
 use Rattle.nv_layout.proofs.ns_list.Lent+u32+MOST_NSIDS.put.Goals as goal

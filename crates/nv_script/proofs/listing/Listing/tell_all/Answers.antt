@@ -4,7 +4,7 @@ use Rattle.std.proofs.lemmas.List.Elements.{at_read}
 use borrow.Author.Count.{below_more}
 use Rattle.nv_driver.specs.Answer.{Answer}
 use Rattle.nv_line.specs.declared.request.Act.TheVariants.{Send}
-use Rattle.nv_script.specs.Exchange.{order_of}
+use Rattle.nv_script.specs.Outcomes.{order_of}
 use Rattle.nv_script.specs.Shown.{listing_of, listing_told}
 use Rattle.nv_script.proofs.ListLaws.{told_more}
 use Rattle.nv_script.proofs.listing.Listing.tell_all.Goals as goal

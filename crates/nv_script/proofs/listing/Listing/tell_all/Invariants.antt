@@ -1,7 +1,7 @@
 use Rattle.std.proofs.Common.{◌≡◌, ◌<◌, ℕ, drop, get_or, map}
 use Rattle.std.specs.Prelude.{IsOk}
 use Rattle.nv_driver.specs.Answer.{Answer}
-use Rattle.nv_script.specs.Exchange.{order_of}
+use Rattle.nv_script.specs.Outcomes.{order_of}
 use Rattle.nv_script.specs.Shown.{listing_of}
 use Rattle.nv_script.proofs.listing.Listing.tell_all.Given as goal
 

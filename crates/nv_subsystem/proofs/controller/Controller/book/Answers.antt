@@ -1,8 +1,8 @@
 use Rattle.std.proofs.Common.{◌∙◌, ℕ, ◌+◌, ◌∷◌, List, ap, sym, take}
 use Rattle.nv_layout.specs.declared.error_entry.ErrorEntry.{ErrorEntry}
-use Rattle.nv_model.specs.ErrorLog.{log_entry}
+use Rattle.nv_model.specs.Step.{log_entry}
 use Rattle.nv_model.specs.Step.{next_count}
-use Rattle.nv_subsystem.specs.ControllerView.{controller_view}
+use Rattle.nv_subsystem.specs.inner.ControllerView.{controller_view}
 use Rattle.nv_subsystem.specs.Tagged.{with_phase}
 use Rattle.nv_subsystem.proofs.TaggedLaws.{newest_of_taken}
 use Rattle.nv_subsystem.proofs.controller.Controller.book.Goals as goal

@@ -1,7 +1,7 @@
 use Rattle.std.proofs.Common.{◌∙◌, ◌-◌, ap}
 use Rattle.std.specs.FinMap as map_of
 use Rattle.nv_subsystem.specs.ValueTable.{ValueTable}
-use Rattle.nv_model.specs.ValueKey.{is_alone}
+use Rattle.nv_model.specs.Values.{is_alone}
 use Rattle.nv_subsystem.proofs.ValueTableLaws.{all_cleared, in_values, len_smaller, other_kept, table_removed}
 use Rattle.nv_subsystem.proofs.feature_values.FeatureValues.clear.Goals as goal
 

@@ -1,7 +1,7 @@
 use Rattle.std.proofs.Common.{◌∙◌, ap, sym, arith}
 use Rattle.std.specs.FinMap as map_of
 use Rattle.nv_subsystem.specs.ValueTable.{ValueTable}
-use Rattle.nv_model.specs.ValueKey.{key_of}
+use Rattle.nv_model.specs.Values.{key_of}
 use Rattle.nv_subsystem.proofs.ValueTableLaws.{absent_above, get_of_key, is_kept_key}
 use Rattle.nv_subsystem.proofs.feature_values.FeatureValues.get.Goals as goal
 

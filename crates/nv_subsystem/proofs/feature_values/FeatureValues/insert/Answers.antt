@@ -1,7 +1,7 @@
 use Rattle.std.proofs.Common.{◌∙◌, ◌-◌, ap, arith}
 use Rattle.std.specs.FinMap as map_of
 use Rattle.nv_subsystem.specs.ValueTable.{ValueTable, values_of}
-use Rattle.nv_model.specs.ValueKey.{key_of}
+use Rattle.nv_model.specs.Values.{key_of}
 use Rattle.nv_subsystem.proofs.ValueTableLaws.{in_values, is_kept_key, slot_inserted, slot_within, table_inserted}
 use Rattle.nv_subsystem.proofs.feature_values.FeatureValues.insert.Goals as goal
 

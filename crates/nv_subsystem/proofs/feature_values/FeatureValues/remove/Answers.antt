@@ -2,7 +2,7 @@ use Rattle.std.proofs.Common.{◌∙◌, ◌-◌, ap, sym, refl, arith}
 use Rattle.std.specs.FinMap as map_of
 use Rattle.nv_layout.specs.declared.feature.Feature.TheVariants.{ErrorRecovery}
 use Rattle.nv_subsystem.specs.ValueTable.{ValueTable, values_of}
-use Rattle.nv_model.specs.ValueKey.{recovery_key}
+use Rattle.nv_model.specs.Values.{recovery_key}
 use Rattle.nv_model.proofs.ValueLaws.{removed_absent}
 use Rattle.nv_subsystem.proofs.ValueTableLaws.{absent_above, in_values, is_kept_key, slot_removed, table_removed}
 use Rattle.nv_subsystem.proofs.feature_values.FeatureValues.remove.Goals as goal

@@ -1,6 +1,6 @@
 use Rattle.std.proofs.Common.{◌≡◌, ◌∙◌, ◌-◌, ap, sym, subst, arith}
-use Rattle.nv_model.specs.FeatureValue.{restored}
-use Rattle.nv_model.specs.Reset.{all_restored}
+use Rattle.nv_model.specs.Values.{restored}
+use Rattle.nv_model.specs.Step.{all_restored}
 use Rattle.nv_subsystem.specs.ValueTable.{ValueTable}
 use Rattle.nv_subsystem.proofs.Restoring.{RestoredBelow, each_restored, next_empty, next_restored, none_restored}
 use Rattle.nv_subsystem.proofs.ValueTableLaws.{in_values}

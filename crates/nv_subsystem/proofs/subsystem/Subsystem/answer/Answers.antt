@@ -1,5 +1,5 @@
 use Rattle.std.proofs.Common.{◌∙◌, ap, rules}
-use Rattle.nv_model.specs.Step.{answer_without_phases}
+use Rattle.nv_model.specs.Answer.{answer_without_phases}
 use Rattle.nv_subsystem.proofs.TaggedLaws.{answer_untagged}
 use Rattle.nv_subsystem.proofs.subsystem.Subsystem.answer.Goals as goal
 

@@ -1,6 +1,6 @@
 use Rattle.std.proofs.Common.{◌≡◌, ◌≤◌, ℕ, nat_lt, false, sym, arith}
 use Rattle.std.proofs.lemmas.Bool.Decides.{nat_tests}
-use Rattle.nv_model.specs.Capacity.{unallocated}
+use Rattle.nv_model.specs.WellFormed.{unallocated}
 use Rattle.nv_model.specs.Management.{bytes_needed, create_rows}
 use Rattle.nv_model.proofs.ManagementLaws.{free_is, none_holds}
 use Rattle.nv_subsystem.proofs.subsystem.Subsystem.create.Goals as goal

@@ -1,6 +1,6 @@
 use Rattle.std.proofs.Common.{◌≡◌, ◌∙◌, ap, sym}
-use Rattle.nv_model.specs.Refusal.{refusal_of}
-use Rattle.nv_model.specs.Reply.{reply_of}
+use Rattle.nv_model.specs.Meaning.{refusal_of}
+use Rattle.nv_model.specs.Meaning.{reply_of}
 use Rattle.nv_subsystem.proofs.AnswerLaws.{refusal_in, refused_as}
 use Rattle.nv_subsystem.specs.Tagged.{settled}
 use Rattle.nv_subsystem.proofs.subsystem.Subsystem.execute.Goals.{in-Ok, in-Err}

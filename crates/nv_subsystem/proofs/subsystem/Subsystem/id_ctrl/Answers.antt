@@ -1,5 +1,5 @@
 use Rattle.std.proofs.Common.{ap}
-use Rattle.nv_subsystem.specs.ControllerView.{controller_view}
+use Rattle.nv_subsystem.specs.inner.ControllerView.{controller_view}
 use Rattle.nv_model.specs.IdentifyController.{id_ctrl_of, padded}
 use Rattle.nv_model.specs.State.{State}
 use Rattle.nv_subsystem.proofs.subsystem.Subsystem.id_ctrl.Goals as goal

@@ -1,0 +1,12 @@
+-- What a driver stands for, by its fields, and what holds of them between two calls.
+use Rattle.std.specs.Prelude.{Option, None, Some}
+use Rattle.nv_driver.specs.declared.error.DriverError.{DriverError}
+use Rattle.nv_driver.specs.declared.error.DriverError.TheVariants as error
+use Rattle.nv_driver.specs.declared.geometry_field.GeometryField.{GeometryField}
+
+-- ---- none
+
+-- why there is no driver: the first field of the geometry that is out of its limits, or want of memory
+abbrev pub error_without : Option GeometryField → DriverError
+error_without (Some field) = error.Geometry field
+error_without None = error.Memory

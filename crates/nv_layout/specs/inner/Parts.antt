@@ -1,0 +1,24 @@
+-- A record as bytes: a table of its fields, each at its place.
+use Rattle.std.specs.Prelude.{◌≡◌, ℕ, Bool, ◌&&◌, nat_le, ◌+◌, ◌^◌, ◌<◌, List, [], ◌∷◌, length}
+use Rattle.std.specs.List.{AllByRecursion}
+use Rattle.nv_layout.specs.Parts.{Part, place_of, width_of, text_at, number_at, numbers_at, number}
+use Rattle.nv_layout.specs.Parts.{numbers, text}
+
+-- ---- tables
+
+-- the fields stand in order, without overlap, from a place on and within the size
+abbrev pub is_table : ℕ → ℕ → List Part → Bool
+is_table from size [] = nat_le from size
+is_table from size (p ∷ ps) = nat_le from (place_of p) && is_table (place_of p + width_of p) size ps
+
+-- the value fits its bytes
+abbrev pub Fits : Part → Type 0
+Fits (number at width x) = x < 256 ^ width
+Fits (numbers at width count xs) = (length xs ≡ count) × AllByRecursion (λ x. x < 256 ^ width) xs
+Fits (text at width bytes) = length bytes ≡ width
+
+-- the bytes hold the value
+abbrev pub Holds : List ℕ → Part → Type 0
+Holds bytes (number at width x) = number_at at width bytes ≡ x
+Holds bytes (numbers at width count xs) = numbers_at at width count bytes ≡ xs
+Holds bytes (text at width t) = text_at at width bytes ≡ t

@@ -1,0 +1,3 @@
+-- What only contracts inside of the crate say.
+pub mod Conditions
+pub mod Format

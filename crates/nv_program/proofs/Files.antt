@@ -1,0 +1,77 @@
+-- What the bytes of a file give.
+use Rattle.std.proofs.Common.{◌≡◌, ◌∙◌, ℕ, ◌+◌, ◌≤◌, List, [], ◌++◌, length, take, ap, subst, arith, refl, IsTrue}
+use Rattle.std.proofs.Common.{Option, None, Some, Result, Ok, Err, IfSome}
+use Rattle.std.proofs.lemmas.List.{length-take, take_all}
+use Rattle.std.specs.Option.{option_map}
+use Rattle.std.specs.Io.Take.{take_inner, take_limit, take_remaining}
+use Rattle.std.specs.declared.io.traits.Take.{Take}
+use Rattle.nv_file.specs.Fault.{IsUnlessMemory}
+use Rattle.nv_file.specs.declared.error.SubsystemError.{SubsystemError}
+use Rattle.nv_file.specs.declared.error.SubsystemError.TheVariants as error
+use Rattle.nv_model.specs.State.{State}
+use Rattle.nv_program.specs.inner.Asked.{IsOfSomeFile, IsSubsystemIn, is_unread, most_bytes}
+use Rattle.nv_program.specs.Asked.{is_of_file}
+use Rattle.nv_program.specs.Stops.{of_file}
+use Rattle.nv_program.specs.declared.stop.Stop.{Stop}
+use Rattle.nv_program.specs.declared.stop.Stop.TheVariants as stop
+use Rattle.nv_subsystem.specs.FromFile.{subsystem}
+
+-- a file of which so few bytes came, where one more was asked for, has no more
+all_came : (n : ℕ) (bytes : List ℕ) → length (take (n + 1) bytes) ≤ n → take (n + 1) bytes ≡ bytes
+all_came n bytes few = take_all (n + 1) bytes (omega (arith, few, length-take (n + 1) bytes))
+
+came_of : (told : Option (List ℕ)) (start bytes : List ℕ) → start ≡ []
+    → IfSome (option_map (take (most_bytes + 1)) told) (λ came. bytes ≡ start ++ came)
+    → length bytes ≤ most_bytes → IfSome told (λ all. bytes ≡ all)
+came_of None start bytes none came few = tt
+came_of (Some all) start bytes none came few =
+    let is : bytes ≡ take (most_bytes + 1) all = came ∙ ap (λ s. s ++ take (most_bytes + 1) all) none in
+    is ∙ all_came most_bytes all (omega (arith, few, ap (λ (x : List ℕ). length x) is))
+
+-- so all of it was read
+pub all_read : {F : Type 0} (remaining : F → Option (List ℕ)) (file : F) (limited : Take F)
+    (start bytes : List ℕ) → take_limit limited ≡ most_bytes + 1 → take_inner limited ≡ file → start ≡ []
+    → IfSome (take_remaining remaining limited) (λ came. bytes ≡ start ++ came)
+    → length bytes ≤ most_bytes → IfSome (remaining file) (λ all. bytes ≡ all)
+all_read {F} remaining file limited start bytes limit inner none came few =
+    let P : List ℕ → Type 0 = λ xs. bytes ≡ start ++ xs in
+    came_of (remaining file) start bytes none
+    (subst (λ (f : F). IfSome (option_map (take (most_bytes + 1)) (remaining f)) P) inner
+    (subst (λ (n : ℕ). IfSome (option_map (take n) (remaining (take_inner limited))) P) limit came)) few
+
+-- what these bytes give is what the file gives
+pub in_file : (told : Option (List ℕ)) (bytes : List ℕ) (r : Result State Stop)
+    → IfSome told (λ all. bytes ≡ all) → IsSubsystemIn bytes r → IfSome told (λ all. IsSubsystemIn all r)
+in_file None bytes r is gives = tt
+in_file (Some all) bytes r is gives = subst (λ x. IsSubsystemIn x r) is gives
+
+-- a file that wasn't read
+pub unread_in : (told : Option (List ℕ)) (why : Stop) → IsTrue (is_unread why)
+    → IfSome told (λ all. IsSubsystemIn all (Err why))
+unread_in None why is = tt
+unread_in (Some all) stop.Unreadable is = is
+unread_in (Some all) stop.Memory is = is
+unread_in (Some all) _ is = absurd (cc)
+
+-- what refuses the bytes of a file
+pub refused_in : (bytes : List ℕ) (e : SubsystemError) → length bytes ≤ most_bytes
+    → IsUnlessMemory (λ (s : State). s) (Err e) (subsystem bytes) → IsSubsystemIn bytes (Err (of_file e))
+refused_in bytes error.Memory few is = refl
+refused_in bytes e few is = (few, is)
+
+-- what a file gives is what some file gives
+pub of_some : {F : Type 0} (remaining : F → Option (List ℕ)) (file : F) (r : Result State Stop)
+    → IfSome (remaining file) (λ all. IsSubsystemIn all r) → IsOfSomeFile remaining r
+of_some remaining file (Ok s) gives = (file, gives)
+of_some remaining file (Err (stop.Subsystem e)) gives = (file, gives)
+of_some remaining file (Err _) gives = tt
+
+pub unread : (why : Stop) → IsTrue (is_unread why) → IsTrue (is_of_file why)
+unread stop.Unreadable is = is
+unread stop.Memory is = is
+unread _ is = absurd (cc)
+
+pub no_file : {F : Type 0} (remaining : F → Option (List ℕ)) (why : Stop) → IsTrue (is_unread why)
+    → IsOfSomeFile remaining (Err why)
+no_file remaining (stop.Subsystem e) is = absurd (cc)
+no_file remaining _ is = tt

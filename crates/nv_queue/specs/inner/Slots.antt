@@ -1,0 +1,15 @@
+-- What the slots of a ring hold.
+use Rattle.std.specs.Prelude.{◌≡◌, ◌≢◌, ℕ, ◌<◌, List}
+use Rattle.nv_layout.specs.declared.cqe.Cqe.{Cqe}
+use Rattle.nv_layout.specs.declared.sqe.Sqe.{Sqe}
+use Rattle.nv_queue.specs.Slots.{submission_at, completion_at}
+
+-- ---- one slot is written, and the others stay
+
+pub record WritesSubmission (old new : List ℕ) (base depth slot : ℕ) (c : Sqe) : Type 0 where
+  pub here : submission_at new base slot ≡ c
+  pub others : (s : ℕ) → s < depth → s ≢ slot → submission_at new base s ≡ submission_at old base s
+
+pub record WritesCompletion (old new : List ℕ) (base depth slot : ℕ) (c : Cqe) : Type 0 where
+  pub here : completion_at new base slot ≡ c
+  pub others : (s : ℕ) → s < depth → s ≢ slot → completion_at new base s ≡ completion_at old base s

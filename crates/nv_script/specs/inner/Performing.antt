@@ -1,0 +1,58 @@
+-- What performing a request leaves.
+use Rattle.std.specs.Prelude.{◌≡◌, ℕ, List, take, Option, None, Some, Result, Ok, Err, Vec}
+use Rattle.nv_command.specs.declared.reply.Reply.{Reply}
+use Rattle.nv_layout.specs.declared.status.Status.{Status}
+use Rattle.nv_model.specs.State.{State}
+use Rattle.nv_line.specs.declared.request.Query.{Query}
+use Rattle.nv_line.specs.declared.request.Query.TheVariants as query
+use Rattle.nv_line.specs.declared.request.Request.{Request}
+use Rattle.nv_print.specs.declared.device.Device.{Device}
+use Rattle.nv_print.specs.declared.shown.Shown.{Shown}
+use Rattle.nv_print.specs.declared.shown.Shown.TheVariants as shown
+use Rattle.nv_script.specs.Outcomes.{Order, exchange_of, exchange_with, Outcome, outcome_of}
+use Rattle.nv_script.specs.Orders.{orders_of}
+use Rattle.nv_script.specs.Results.{output_for}
+use Rattle.nv_script.specs.Shown.{shown_of}
+use Rattle.nv_script.specs.declared.performing.Stop.{Stop}
+use Rattle.nv_script.specs.declared.performing.Stop.TheVariants as stop
+
+-- an order was carried out, with this reply or refusal
+abbrev pub OrderLeaves : Result Reply Status → Order → State → List ℕ → State → List ℕ → Type 0
+OrderLeaves answer o s serials state next =
+    exchange_with answer state next ≡ exchange_of s serials o
+
+-- the subsystem and the serials are those that an outcome leads to
+pub record IsReached (o : Outcome) (state : State) (serials : List ℕ) : Type 0 where
+  pub subsystem : state ≡ o.state
+  pub next : serials ≡ o.serials
+
+-- a query was refused, or memory was, after some of its orders; each controller was ready
+abbrev pub StopLeaves : Stop → Query → State → List ℕ → State → List ℕ → Type 0
+StopLeaves (stop.Refused status) q s serials state next =
+    let o = outcome_of s serials (orders_of s q) in
+    (o.refusal ≡ Some status) × IsReached o state next
+StopLeaves stop.Memory q s serials state next = (k : ℕ)
+    × IsReached (outcome_of s serials (take k (orders_of s q))) state next
+StopLeaves stop.NoReady q s serials state next = ⊥
+
+-- what the replies to all orders show, or why there is nothing to show
+abbrev pub QueryLeaves : Result (Option Shown) Stop → Query → State → List ℕ → State
+    → List ℕ → Type 0
+QueryLeaves (Ok shown) q s serials state next =
+    let o = outcome_of s serials (orders_of s q) in
+    (o.refusal ≡ None) × (shown ≡ shown_of (orders_of s q) q o.replies) × IsReached o state next
+QueryLeaves (Err stop) q s serials state next = StopLeaves stop q s serials state next
+
+-- the devices that `list` shows, or why there are none
+abbrev pub ListedAll : Result (List Device) Stop → State → List ℕ → State → List ℕ → Type 0
+ListedAll (Ok devices) s serials state next =
+    QueryLeaves (Ok (Some (shown.Devices devices))) query.List s serials state next
+ListedAll (Err stop) s serials state next = StopLeaves stop query.List s serials state next
+
+-- its text, or why there is none
+abbrev pub RequestLeaves : {Z : Type 0} → Result (Vec ℕ Z) Stop → Request
+    → State → List ℕ → State → List ℕ → Type 0
+RequestLeaves (Ok text) r s serials state next =
+    let o = outcome_of s serials (orders_of s r.query) in
+    (o.refusal ≡ None) × (text.items ≡ output_for s r o.replies) × IsReached o state next
+RequestLeaves (Err stop) r s serials state next = StopLeaves stop r.query s serials state next

@@ -1,0 +1,7 @@
+-- An answer's bytes: a header, and what came.
+use Rattle.std.specs.Prelude.{ℕ, List}
+use Rattle.nv_serve.specs.declared.answer.AnswerHeader.{AnswerHeader}
+use Rattle.nv_serve.specs.Answer.{Answer}
+
+abbrev pub answer : AnswerHeader → List ℕ → Answer
+answer header payload = record { header = header; payload = payload }
