@@ -49,6 +49,17 @@ def program(name):
     return str(path)
 
 
+def library():
+    """The folder of the library nvme_controller, where `make library` made it of the sources as they stand. The gate
+    makes none: that proves each crate below the library once more."""
+    if run(TOP / 'tools/stamp', 'is-current', 'nvme_controller').status != 0:
+        raise unittest.SkipTest('the library of these sources does not stand: make library')
+    ended = run(TOP / 'tools/library', limit=600)
+    if ended.status != 0:
+        raise AssertionError(f'the library could not be made\n{ended}')
+    return TOP / 'out/library'
+
+
 @functools.lru_cache(maxsize=None)
 def process_folder():
     """The temporary folder of this process, which is removed at its end."""

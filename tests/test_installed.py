@@ -6,7 +6,7 @@ import re
 import shutil
 import unittest
 
-from tests.support import DEMO, TOP, Case, run
+from tests.support import DEMO, TOP, Case, library, run
 
 SYNOPSIS = re.search(r'(?m)^nvme-script \[.*', (TOP / 'docs/COMMANDS.md').read_text()).group()
 OPTIONS = re.findall(r'\[(--[a-z-]+)', SYNOPSIS)
@@ -34,7 +34,7 @@ class Installed(Case):
         self.ends(ended, 0, b'S1                  \n', b'')
 
     def test_library(self):
-        self.ends(run('make', '-s', 'library', limit=3600), 0)
+        library()
         self.ends(self.make('install'), 0)
         made = self.folder / 'bench'
         flags = f'-I{self.prefix}/include', f'-L{self.prefix}/lib', '-lnvme_controller', f'-Wl,-rpath,{self.prefix}/lib'

@@ -1,12 +1,11 @@
 """The library nvme_controller, from programs in C, C++, Python and SystemVerilog: what its callers can get wrong, what
-it does to their memory, and the examples of examples/c, which print what nvme-script prints. Where the library does
-not stand it is made, with its proofs."""
+it does to their memory, and the examples of examples/c, which print what nvme-script prints. These tests want the library
+that `make library` made of the sources as they stand."""
 
-import functools
 import shutil
 import unittest
 
-from tests.support import DEMO, TOP, Case, program, run
+from tests.support import DEMO, TOP, Case, library, program, run
 
 FLAGS = '-Wall', '-Wextra', '-Werror', '-fsanitize=address,undefined', '-fno-sanitize-recover=all', '-g'
 WRAPPED = [f'-Wl,--wrap={name}' for name in ('malloc', 'calloc', 'realloc', 'free')]
@@ -17,15 +16,6 @@ list-ns /dev/nvme0
 create-ns /dev/nvme0 -s 14328 -c 14328 -f 0
 error-log /dev/nvme0 -e 1
 """
-
-
-@functools.lru_cache(maxsize=None)
-def library():
-    """The folder of the library, which is made once in this process."""
-    ended = run(TOP / 'tools/library', limit=3600)
-    if ended.status != 0:
-        raise AssertionError(f'the library is not there\n{ended}')
-    return TOP / 'out/library'
 
 
 class Library(Case):

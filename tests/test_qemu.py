@@ -15,9 +15,8 @@ import subprocess
 
 from tests.as_qemu import BROKEN
 from tests.modelled import CLIENT, ModelCase, installed, is_there
-from tests.support import DEMO, TOP, Case, Running, difference, process_folder, run
+from tests.support import DEMO, TOP, Case, Running, difference, library, process_folder, run
 
-LIBRARY = TOP / 'out/library/libnvme_controller.a'
 SCENARIOS = ('configuration', 'registers', 'commands', 'page_sizes', 'stopped', 'bus_master', 'interrupts', 'holes',
              'sections', 'gone')
 SEEDS = range(8)
@@ -58,13 +57,11 @@ sleep 60
 
 @functools.lru_cache(maxsize=None)
 def program(*options):
-    """The program, over the proved library, which is made where it isn't there."""
-    if not LIBRARY.exists():
-        ended = run(TOP / 'tools/library', limit=3600)
-        assert ended.status == 0, ended
+    """The program, over the library that `make library` made."""
+    place = library()
     made = process_folder() / f'qemu{len(options)}'
-    subprocess.run(['cc', '-g', '-O1', '-Wall', '-Wextra', '-Werror', *options, '-o', made, f'-I{LIBRARY.parent}',
-                    CLIENT / 'qemu.c', LIBRARY], check=True)
+    subprocess.run(['cc', '-g', '-O1', '-Wall', '-Wextra', '-Werror', *options, '-o', made, f'-I{place}',
+                    CLIENT / 'qemu.c', place / 'libnvme_controller.a'], check=True)
     return made
 
 
