@@ -12,7 +12,7 @@ import unittest
 
 from tests.support import TOP, environment, process_folder
 
-LONGEST = 'test_refused', 'test_program', 'test_wrapper', 'unproved.Tests.test_nv_benches'
+LONGEST = 'test_refused', 'test_program', 'test_wrapper', 'unproved.Tests.test_nv_failing_tests'
 SUMS = '{} passed, {} failed, {} skipped'
 
 

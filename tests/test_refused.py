@@ -42,7 +42,7 @@ class EachAllocation(Refusing):
         self.assertIn(6, statuses, 'no refused allocation shows')
 
     def test_failing_tests(self):
-        self.each('nv_benches', 'failing', source=b'', looks_itself=True)
+        self.each('nv_failing_tests', source=b'', looks_itself=True)
 
     def test_script(self):
         self.each('nvme_script', source=self.script)

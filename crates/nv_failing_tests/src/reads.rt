@@ -2,10 +2,10 @@
 
 ghost use Rattle.std.specs.Prelude.{◌<◌};
 
-use crate::failing::case::{Case, Stream};
-use crate::failing::cases::cases;
-use crate::failing::cut_source::CutSource;
-use crate::failing::kept::Kept;
+use crate::case::{Case, Stream};
+use crate::cases::cases;
+use crate::cut_source::CutSource;
+use crate::kept::Kept;
 use nv_controller::Machine;
 use nv_script::{Geometry, OverWrite, RunEnd, run, run_within};
 use nv_subsystem::{DEMO, Subsystem};

@@ -3,7 +3,7 @@
 ghost use Rattle.std.specs.Prelude.{IfSome};
 ghost use Rattle.nv_bus.specs.Bus.{IsBus};
 
-use crate::failing::kept::Kept;
+use crate::kept::Kept;
 use nv_controller::Machine;
 use nv_script::READ_SIZE;
 use nv_subsystem::Subsystem;

@@ -1,9 +1,9 @@
 //! Memory that is refused at any place: all texts of the lines before stand whole, nothing of the
 //! line's own, and of its commands none, some or all were executed.
 
-use crate::failing::case::{Case, Stream};
-use crate::failing::cut_source::CutSource;
-use crate::failing::kept::Kept;
+use crate::case::{Case, Stream};
+use crate::cut_source::CutSource;
+use crate::kept::Kept;
 use nv_script::{Geometry, OverWrite, RunEnd, run};
 use std::alloc::{AllocError, Global};
 use std::{fmt, io};

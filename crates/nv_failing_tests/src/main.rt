@@ -1,6 +1,7 @@
 //! Runs that are cut short: a read, a write or an allocation fails at any place, and what the run
 //! leaves is compared with what its lines write. Reads and writes fail in tests. Allocations fail
 //! where whoever starts this program makes them fail; it then looks at what each run left.
+#![tactic(auto)]
 
 mod case;
 mod cases;
@@ -14,13 +15,14 @@ mod reads;
 #[cfg(test)]
 mod writes;
 
-use crate::failing::cases::cases;
-use crate::failing::memory::{Left, run_case};
+use cases::cases;
+use memory::{Left, run_case};
 use std::io;
+use std::process::ExitCode;
 
 /// Runs each script, and says of each what it left. Whether none left anything else than whole
 /// lines is answered.
-pub(crate) fn run_all(rt: &HostRuntime) -> io::Result<bool> {
+fn run_all(rt: &HostRuntime) -> io::Result<bool> {
     let mut is_right = true;
     for case in &cases(rt.alloc())? {
         let left = run_case(rt.alloc(), case)?;
@@ -29,4 +31,12 @@ pub(crate) fn run_all(rt: &HostRuntime) -> io::Result<bool> {
         println!(rt; "{lines} lines: {left}")?;
     }
     Ok(is_right)
+}
+
+fn main(rt: HostRuntime) -> ExitCode {
+    match run_all(&rt) {
+        Ok(true) => ExitCode::from(0),
+        Ok(false) => ExitCode::from(1),
+        Err(_) => ExitCode::from(6),
+    }
 }

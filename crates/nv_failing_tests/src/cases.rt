@@ -1,7 +1,7 @@
 //! The scripts that are cut short.
 
-use crate::failing::case::Case;
-use crate::failing::kept::Kept;
+use crate::case::Case;
+use crate::kept::Kept;
 use nv_subsystem::DEMO;
 use std::alloc::{AllocError, Global};
 

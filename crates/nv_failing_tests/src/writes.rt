@@ -1,10 +1,10 @@
 //! A write that fails at each call: all texts of the lines before stand whole, of the line's own
 //! text a beginning, and the line has been executed.
 
-use crate::failing::case::{Case, Stream};
-use crate::failing::cases::cases;
-use crate::failing::cut_sink::CutSink;
-use crate::failing::kept::Kept;
+use crate::case::{Case, Stream};
+use crate::cases::cases;
+use crate::cut_sink::CutSink;
+use crate::kept::Kept;
 use nv_script::{Geometry, OverRead, RunEnd, run};
 use std::alloc::Global;
 use std::process::Abort;
