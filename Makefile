@@ -1,11 +1,11 @@
-# For those who look for one: each target is a command of README.md.
+# For anyone who looks for a Makefile: each target is a command of README.md.
 .PHONY: help run build library test ci install uninstall
 
 PREFIX = /usr/local
 prefix = $(DESTDIR)$(PREFIX)
-manuals = docs/COMMANDS.md docs/DIFFERENCES.md docs/SUBSYSTEM-FILE.md docs/PASSTHROUGH.md docs/QEMU.md docs/TRACE.md \
-    docs/EMBEDDING.md
+manuals = GUIDE COMMANDS DIFFERENCES SUBSYSTEM-FILE PASSTHROUGH QEMU TRACE EMBEDDING
 parts = $(prefix)/lib/nvme-model
+pages = $(prefix)/share/doc/nvme-script
 
 help:
 	@echo 'make run ARGS="OPTION.." < SCRIPT   ./nvme-script: runs a script'
@@ -32,8 +32,8 @@ test:
 ci:
 	@.ci/run
 
-# The programs need nothing else of this folder. (nvme-model has its parts in lib/nvme-model, beside bin. The library is
-# installed where `make library` made it of these sources.)
+# The programs need nothing else from this folder. (The parts of nvme-model are in lib/nvme-model, next to bin. The
+# library is installed if `make library` made it from these sources.)
 install:
 	@for program in nvme_script nvme_device; do \
 	    tools/stamp is-current $$program < /dev/null > /dev/null 2>&1 || \
@@ -51,29 +51,38 @@ install:
 	install -D -m 644 docs/nvme-script.1 $(prefix)/share/man/man1/nvme-script.1
 	install -D -m 644 docs/nvme-model.1 $(prefix)/share/man/man1/nvme-model.1
 	install -D -m 644 docs/nvme-script.bash $(prefix)/share/bash-completion/completions/nvme-script
-	install -d $(prefix)/share/doc/nvme-script/examples
-	install -m 644 $(manuals) $(prefix)/share/doc/nvme-script
-	install -m 644 examples/*.* $(prefix)/share/doc/nvme-script/examples
+	@$(MAKE) --no-print-directory install-pages
 	@if tools/stamp is-current nvme_controller && [ -e out/library/libnvme_controller.a ]; then \
 	    $(MAKE) --no-print-directory install-library; \
 	fi
+
+# (a link to what isn't installed becomes its text)
+.PHONY: install-pages
+install-pages:
+	install -d $(pages)/examples
+	install -m 644 examples/*.* $(pages)/examples
+	for page in $(manuals); do \
+	    sed -e 's|](\.\./examples/|](examples/|g' -e 's|\[\([^]]*\)\](\.\./[^)]*)|\1|g' \
+	        -e 's|\[\([^]]*\)\](PROOFS\.md[^)]*)|\1|g' docs/$$page.md > $(pages)/$$page.md && \
+	        chmod 644 $(pages)/$$page.md || exit; \
+	done
 
 .PHONY: install-library
 install-library:
 	install -D -m 644 library/nvme_controller.h $(prefix)/include/nvme_controller.h
 	install -D -m 644 out/library/libnvme_controller.a $(prefix)/lib/libnvme_controller.a
 	install -D -m 755 out/library/libnvme_controller.so $(prefix)/lib/libnvme_controller.so
-	install -d $(prefix)/lib/pkgconfig $(prefix)/share/nvme_controller $(prefix)/share/doc/nvme-script/examples/c
+	install -d $(prefix)/lib/pkgconfig $(prefix)/share/nvme_controller $(pages)/examples/c
 	sed 's|@PREFIX@|$(PREFIX)|' library/nvme_controller.pc.in > $(prefix)/lib/pkgconfig/nvme_controller.pc
 	install -m 644 library/nvme_controller.py $(prefix)/share/nvme_controller
 	install -D -m 644 docs/nvme_controller.3 $(prefix)/share/man/man3/nvme_controller.3
-	install -m 644 examples/c/* $(prefix)/share/doc/nvme-script/examples/c
+	install -m 644 examples/c/* $(pages)/examples/c
 
 uninstall:
 	rm -f $(prefix)/bin/nvme-script $(prefix)/share/man/man1/nvme-script.1
 	rm -f $(prefix)/bin/nvme-model $(prefix)/share/man/man1/nvme-model.1
 	rm -f $(prefix)/share/bash-completion/completions/nvme-script
-	rm -rf $(prefix)/share/doc/nvme-script $(parts)
+	rm -rf $(pages) $(parts)
 	rm -f $(prefix)/include/nvme_controller.h $(prefix)/lib/libnvme_controller.a $(prefix)/lib/libnvme_controller.so
 	rm -f $(prefix)/lib/pkgconfig/nvme_controller.pc $(prefix)/share/man/man3/nvme_controller.3
 	rm -rf $(prefix)/share/nvme_controller

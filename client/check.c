@@ -1,8 +1,8 @@
-/* Tries the client: sends ioctls to /dev/nvme0 and /dev/nvme1 of the demonstration subsystem, and looks at each answer.
-   It is run by ./nvme-model, each time over a new subsystem:
+/* Tests the client: sends ioctls to /dev/nvme0 and /dev/nvme1 of the demonstration subsystem, and checks each answer.
+   ./nvme-model runs it, each time over a new subsystem:
        check commands | wide | lengths | many | broken | killed | nodes | gone
-   Here is what the commands are answered, and in check_client.c how the client does it. The status is 0 where all was
-   as it should be. */
+   This file checks the answers to commands, and check_client.c how the client works. The status is 0 if everything was
+   as expected. */
 #define _GNU_SOURCE
 #include "check.h"
 #include "wire.h"
@@ -20,9 +20,9 @@ int files[2];
 static int is_wide;  /* whether commands have results of 64 bits */
 static unsigned tried, wrong;
 
-/* What was sent to each controller, as its error log tells it. */
+/* What was sent to each controller, as its error log reports it. */
 static unsigned commands[2], refusals[2], last_status[2], last_identifier[2], last_nsid[2];
-/* How many commands the launcher had sent of itself, by which it looks for nodes, and how many changes let it look. */
+/* How many commands the launcher has sent itself, to look for nodes, and how many changes made it look. */
 static unsigned own[2], changes;
 
 void must(int is_so, const char *format, ...) {
@@ -69,7 +69,7 @@ int send_command(int file, const struct command *command, uint64_t *result) {
     return value;
 }
 
-/* Sends a command to a controller, which must have this status and dword 0. */
+/* Sends a command to a controller. It must have this status and dword 0. */
 static void told(unsigned controller, struct command command, int status, uint32_t dword_0) {
     uint64_t result;
     int value = send_command(files[controller], &command, &result);
@@ -96,7 +96,7 @@ static void refused(unsigned controller, struct command command, int status) {
     told(controller, command, status, 0);
 }
 
-/* Commands with data of a page. */
+/* Commands with a page of data. */
 
 struct command identify(uint32_t cns, uint32_t nsid) {
     memset(common, UNTOUCHED, PAGE);
@@ -149,14 +149,14 @@ static struct command get_log(uint32_t nsid, uint32_t identifier, uint32_t bytes
     return (struct command){GET_LOG, nsid, dwords << 16 | identifier, bytes, dwords >> 16, offset, 0, NULL};
 }
 
-/* What must stand in the common buffer. */
+/* What the common buffer must hold. */
 
 static void is_number(unsigned at, unsigned bytes, uint64_t value) {
     must(number(common, at, bytes) == value, "byte %u holds %llu, not %llu", at, (unsigned long long)value,
          (unsigned long long)number(common, at, bytes));
 }
 
-/* (a text is filled up with spaces, or with zeros) */
+/* (a text is padded with spaces or with zeros) */
 static void is_text(unsigned at, size_t bytes, const char *text, unsigned char filling) {
     size_t length = strlen(text);
     must(memcmp(common + at, text, length) == 0 && all_are(common, at + length, at + bytes, filling),
@@ -183,7 +183,7 @@ static void is_namespace(uint64_t blocks, unsigned flbas, unsigned nmic, uint64_
     must(all_are(common, 140, PAGE, 0), "a namespace ends with zeros");
 }
 
-/* What the demonstration file says of a controller. */
+/* What the demonstration file says about a controller. */
 static void is_controller(const char *serial, unsigned identifier, unsigned elpe, unsigned vwc, uint64_t unallocated) {
     static const struct {
         unsigned at, bytes;
@@ -356,7 +356,7 @@ static void try_formats(void) {
     is_list(0, NULL);
 }
 
-/* Opcodes that are none of the model's, and fields that it refuses. */
+/* Opcodes that the model doesn't have, and fields that it refuses. */
 static void try_others(void) {
     static const unsigned char known[] = {GET_LOG,    IDENTIFY,   SET_FEATURES, GET_FEATURES,
                                           MANAGEMENT, ATTACHMENT, FORMAT};
@@ -380,7 +380,7 @@ static void try_commands(void) {
     try_others();
 }
 
-/* Data that comes: as many of these bytes as there is room for, then zeros, and nothing behind the room. */
+/* Data from the controller: as many of these bytes as there is room for, then zeros, and nothing past the room. */
 static void comes(struct command command, int status, const unsigned char *bytes, size_t count) {
     memset(common, UNTOUCHED, sizeof common);
     told(0, command, status, 0);
@@ -390,18 +390,18 @@ static void comes(struct command command, int status, const unsigned char *bytes
     must(all_are(common, length, sizeof common, UNTOUCHED), "nothing comes behind %zu bytes", length);
 }
 
-/* Data that doesn't come. */
+/* Data that isn't transferred. */
 static void stays(struct command command, int status) {
     memset(common, UNTOUCHED, sizeof common);
     told(0, command, status, 0);
     must(all_are(common, 0, sizeof common, UNTOUCHED), "no data come of opcode %02xh", command.opcode);
 }
 
-/* Data that is sent: as many bytes as there are, and zeros behind them. */
+/* Data from the host: as many bytes as there are, and zeros after them. */
 static void try_sent(uint32_t length) {
     struct command attach = attachment(0, 1, 1, 1, 0), detach = attachment(1, 1, 1, 1, 0);
     attach.length = detach.length = length;
-    /* (one byte is the count of a list, whose first identifier is 0 then: the namespace is there already) */
+    /* (one byte is the count of a list, whose first identifier is then 0: the namespace exists already) */
     int status = length == 0 ? INVALID_LIST : length == 1 ? ALREADY_ATTACHED : 0;
     told(1, attach, status, 0);
     if (status == 0)

@@ -1,4 +1,4 @@
-/* What the two parts of the check share. */
+/* Declarations that the two parts of the check share. */
 #ifndef CHECK_H
 #define CHECK_H
 #include <stddef.h>
@@ -19,22 +19,22 @@ struct command {
     uint32_t nsid, cdw10, length;
     uint32_t cdw11, cdw12;
     uint8_t flags;
-    void *data; /* the common buffer where it isn't told */
+    void *data; /* the common buffer unless another is given */
 };
 
 extern unsigned char common[];
 extern int files[2]; /* of both controllers */
 
-/* Counts a case, and tells where it isn't so. */
+/* Counts a case, and reports it if it fails. */
 void must(int is_so, const char *format, ...);
 
-/* Sends a command by an ioctl, and gives its value; the dword 0 of the completion goes to *result. */
+/* Sends a command by an ioctl, and returns its value. The dword 0 of the completion is stored in *result. */
 int send_command(int file, const struct command *command, uint64_t *result);
 
-/* Sends a command to a controller, which must carry it out with this dword 0. */
+/* Sends a command to a controller. It must succeed with this dword 0. */
 void done(unsigned controller, struct command command, uint32_t dword_0);
 
-/* Commands; those with data have it in the common buffer. */
+/* Commands. Those with data use the common buffer. */
 struct command identify(uint32_t cns, uint32_t nsid);
 struct command create(uint64_t nsze, uint64_t ncap, unsigned char flbas, unsigned char dps, unsigned char nmic);
 struct command attachment(int detaches, uint32_t nsid, unsigned count, unsigned first, unsigned second);
@@ -42,14 +42,14 @@ struct command delete(uint32_t nsid);
 struct command get_feature(uint32_t nsid, uint32_t identifier, uint32_t selector);
 struct command set_feature(uint32_t nsid, uint32_t identifier, uint32_t value, uint32_t saves);
 
-/* A little-endian number of so many bytes, and whether bytes are all the same. */
+/* A little-endian number of `bytes` bytes, and whether bytes are all equal to one. */
 uint64_t number(const unsigned char *data, unsigned at, unsigned bytes);
 int all_are(const unsigned char *data, size_t from, size_t to, unsigned char byte);
 
-/* What must stand in the common buffer: a list of namespaces. */
+/* What the common buffer must hold: a list of namespaces. */
 void is_list(unsigned count, const uint32_t *ids);
 
-/* The parts that try the client (check_client.c). */
+/* The parts that test the client (check_client.c). */
 void try_many(void);
 void try_broken(void);
 void try_killed(void);

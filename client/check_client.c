@@ -1,5 +1,5 @@
-/* The check's other part: many processes at once, clients of the launcher that don't do as they should, processes that
-   are killed, nodes with their descriptors, and a device that is gone. */
+/* The other part of the check: many processes at once, clients of the launcher that misbehave, processes that are
+   killed, nodes and their descriptors, and a device that is gone. */
 #define _GNU_SOURCE
 #include "check.h"
 #include "wire.h"
@@ -21,7 +21,7 @@
 #include <time.h>
 #include <unistd.h>
 
-/* Eight at once, each of which must see its own answers and no others. */
+/* Eight processes at once. Each must see its own answers and no others. */
 
 enum { WORKERS = 8, ROUNDS = 150 };
 
@@ -94,7 +94,7 @@ void try_many(void) {
     }
 }
 
-/* Clients of the launcher that don't do as they should. */
+/* Clients of the launcher that misbehave. */
 
 static double seconds(void) {
     struct timespec now;
@@ -139,7 +139,7 @@ static int ask(uint16_t controller, uint16_t kind, uint32_t length, uint8_t opco
     return file;
 }
 
-/* Receives an answer, and gives its outcome, or -1 where there is none. */
+/* Receives an answer, and returns its outcome, or -1 if there is none. */
 static int hear(int file, uint32_t length) {
     struct answer_header answer;
     static unsigned char data[MOST_DATA];
@@ -175,7 +175,8 @@ static void pause_for(unsigned milliseconds) {
     nanosleep(&moment, NULL);
 }
 
-/* Requests that became whole while the device was busy are carried out in this order: each creates a namespace. */
+/* Requests that were completely received while the device was busy are executed in this order: each creates a
+   namespace. */
 static void try_order(void) {
     static const uint32_t wanted[] = {2, 4, 0};
     pid_t device = device_of(getppid());
@@ -231,7 +232,7 @@ void try_broken(void) {
     is_list(4, (uint32_t[]){1, 2, 3, 4});
 }
 
-/* What a process that was killed asked for last may still be carried out: waits until the list stays as it is. */
+/* The last request of a process that was killed may still be executed, so this waits until the list stops changing. */
 static void settle(void) {
     unsigned char before[PAGE];
     uint64_t result;
@@ -244,7 +245,7 @@ static void settle(void) {
     }
 }
 
-/* A process is killed anywhere between creating and deleting: the namespace is there or it isn't. */
+/* A process is killed at any time between creating and deleting: the namespace exists or it doesn't. */
 void try_killed(void) {
     for (unsigned round = 0; round < 40; round++) {
         uint64_t result;
@@ -334,7 +335,7 @@ static void try_requests(void) {
     close(generic);
 }
 
-/* Whether a program that is run with this descriptor can use it. */
+/* Returns whether a program that is run with this descriptor can use it. */
 static int is_handed_on(int file) {
     char text[16];
     int how;
@@ -376,7 +377,7 @@ void try_nodes(void) {
     try_descriptors();
 }
 
-/* Once the device has gone, each call says so, and so does one that waits for its answer. */
+/* After the device is gone, each call reports that, and so does one that is waiting for its answer. */
 void try_gone(void) {
     uint64_t result;
     struct stat about;

@@ -1,5 +1,5 @@
-/* The preloaded library's way to the device: requests to the launcher, and what an ioctl of a node means. Each request
-   has a connection of its own, so that no answer goes to another thread or process. No part of what is proved. */
+/* The preloaded library's connection to the device: requests to the launcher, and what an ioctl of a node means. Each
+   request has a connection of its own, so that no answer goes to another thread or process. None of this is proved. */
 #define _GNU_SOURCE
 #include "library.h"
 #include <errno.h>
@@ -14,10 +14,10 @@
 #include <sys/un.h>
 #include <unistd.h>
 
-/* The two lowest bits of an opcode say which way its data goes. */
+/* The two lowest bits of an opcode give the direction of its data. */
 enum { TO_DEVICE = 1, FROM_DEVICE = 2 };
 
-/* The launcher or the device is gone, unless the fault is this process's own. */
+/* The launcher or the device is gone, unless the error is this process's own. */
 static int is_lost(void) {
     int is_own = errno == EFAULT || errno == EMFILE || errno == ENFILE || errno == ENOMEM || errno == ENOBUFS;
     return fails_by(is_own ? errno : ENXIO);
@@ -51,7 +51,7 @@ static int receive_all(int file, void *into, size_t size) {
     return 0;
 }
 
-/* Sends a request with its data, and receives its answer. Nothing is received but the bytes that were asked for. */
+/* Sends a request with its data, and receives its answer. Only the bytes that were asked for are received. */
 static int talk(int file, const struct request_header *header, void *data, struct answer_header *answer) {
     uint32_t sent = data_sent(header);
     uint32_t wanted = sent > 0 ? 0 : le32toh(header->length);
@@ -90,7 +90,7 @@ static int ask(const struct node *node, unsigned kind) {
 
 int is_alive(const struct node *node) { return ask(node, KIND_ALIVE); }
 
-/* Sends an entry as it was given. The status is the result, and dword 0 of the completion the other one. */
+/* Sends an entry as it was given. Returns the status, and stores dword 0 of the completion. */
 static int pass_through(const struct node *node, const struct nvme_passthru_cmd *given, uint32_t *dword_0) {
     int direction = given->opcode & (TO_DEVICE | FROM_DEVICE);
     uint32_t length = direction && given->addr ? given->data_len : 0;
@@ -112,7 +112,7 @@ static int pass_through(const struct node *node, const struct nvme_passthru_cmd 
     return le16toh(answer.status) & 0x7fff;
 }
 
-/* The two forms of a command are the same but for the result, which stands behind the fields in both. */
+/* The two forms of a command differ only in the result, which comes after the other fields in both. */
 static int admin_ioctl(const struct node *node, uint32_t request, unsigned char *argument) {
     struct nvme_passthru_cmd given;
     uint32_t dword_0 = 0;
@@ -128,7 +128,7 @@ static int admin_ioctl(const struct node *node, uint32_t request, unsigned char 
     return status;
 }
 
-/* What a block device tells of itself by a number of so many bytes, as Linux does of one with one queue. */
+/* What a block device reports about itself as a number of this size, as Linux does for one with one queue. */
 static int tell_number(const struct node *node, uint32_t request, void *argument) {
     uint64_t block = 1ULL << node->power, size = node->blocks << node->power;
     const struct {
@@ -149,7 +149,7 @@ static int tell_number(const struct node *node, uint32_t request, void *argument
     return fails_by(ENOTTY);
 }
 
-/* Gives blocks up, which are zeros then. */
+/* Discards blocks, which are zeros afterwards. */
 static int discard(int file, const struct node *node, const uint64_t range[2]) {
     uint64_t size = node->blocks << node->power, mask = (1ULL << node->power) - 1;
     if (!range)

@@ -1,6 +1,6 @@
-/* What the preloaded library does without a namespace: nodes are names in /dev alone, which lead to files of the
-   launcher's folder, and what is or leads to a device of the machine is refused, however it is spelled.
-   No part of what is proved. */
+/* What the preloaded library does without a namespace: nodes are only names in /dev, which stand for files of the
+   launcher's folder, and a path that is or leads to a device of the machine is refused, however it is spelled. None of
+   this is proved. */
 #define _GNU_SOURCE
 #include "library.h"
 #include <ctype.h>
@@ -23,7 +23,7 @@ static struct {
 } real[MOST_REAL];
 static unsigned real_count;
 
-/* (behind the folder: c240:0 b259:0 and so on) */
+/* (after the folder: c240:0 b259:0 and so on) */
 void read_real_nodes(const char *text) {
     char kind;
     unsigned numbers[2];
@@ -42,7 +42,7 @@ static int is_real(const struct stat *about) {
     return 0;
 }
 
-/* The name in /dev that a path gives to a node, or NULL. The folder before the name is put into `parent`. */
+/* Returns the name in /dev by which a path names a node, or NULL. The folder before the name is stored in `parent`. */
 static const char *name_in_dev(int directory, const char *path, char parent[PATH_MAX]) {
     struct stat about, dev;
     const char *name = strrchr(path, '/') ? strrchr(path, '/') + 1 : path;
@@ -81,7 +81,7 @@ const char *find(int directory, const char *path, char room[PATH_MAX]) {
     return path;
 }
 
-/* Whether a path is that of a node, or leads to a device of the machine: such a one is not to be changed. */
+/* Returns whether a path is that of a node, or leads to a device of the machine: such a path must not be changed. */
 static int is_refused(int directory, const char *path) {
     char room[PATH_MAX];
     const char *found = find(directory, path, room);

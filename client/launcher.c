@@ -1,7 +1,7 @@
 /* Runs a command whose NVMe commands are answered by device programs, one for each subsystem file. It starts the
    devices behind pipes, makes a /dev and a /sys for the command (space.c), listens on a socket in that /dev, runs the
    command with the library preloaded, and serves the library's requests (relay.c). It ends when the command ends, with
-   its status, and leaves nothing. No part of what is proved. */
+   its status, and leaves nothing behind. None of this is proved. */
 #define _GNU_SOURCE
 #include "launcher.h"
 #include <dirent.h>
@@ -33,7 +33,7 @@ uint64_t geometry[] = {[DEPTH] = 32, [PAGE_SIZE] = 4096, [WINDOW] = 1};
 
 static pid_t command;
 static int status = -1;        /* of the command, once it has ended */
-static sigset_t mask, watched; /* the signals that were blocked at the start, and that are waited for */
+static sigset_t mask, watched; /* the signals that were blocked at the start, and those that are waited for */
 static char parts[PATH_MAX], library[PATH_MAX + 32];
 
 /* What the options ask for. */
@@ -44,7 +44,7 @@ static int has_trace, without_namespace;
 static const char *trace_file;
 static uint64_t limit;
 
-/* (a device has nothing to put away) */
+/* (a device has nothing to clean up) */
 static void end_devices(void) {
     for (struct device *device = devices; device < devices + device_count; device++) {
         device->is_lost = 1;
@@ -60,13 +60,13 @@ static int remove_one(const char *path, const struct stat *about, int type, stru
     return remove(path);
 }
 
-/* (what the command left behind may still write there) */
+/* (whatever the command left running may still write there) */
 void remove_all(const char *path) {
     for (int tries = 0; tries < 3 && nftw(path, remove_one, 16, FTW_DEPTH | FTW_PHYS) != 0; tries++)
         continue;
 }
 
-/* Without a namespace the folder stands in the machine's /tmp. */
+/* Without a namespace the folder is in the machine's /tmp. */
 static void remove_folder(void) {
     if (folder[0] && !has_namespace)
         remove_all(folder);
@@ -88,7 +88,7 @@ void fail(const char *format, ...) {
 
 void fail_by_errno(const char *what) { fail("%s: %s", what, strerror(errno)); }
 
-/* Sees which processes have ended. */
+/* Finds out which processes have ended. */
 static void reap(void) {
     int how;
     pid_t ended;
@@ -105,8 +105,8 @@ static void reap(void) {
     }
 }
 
-/* Waits for the command's end. What was typed on the terminal reaches the command by itself. Any other signal is passed
-   on to it. */
+/* Waits for the command to end. What is typed on the terminal reaches the command anyway. Any other signal is passed on
+   to it. */
 static void await_end(void) {
     siginfo_t signal;
     while (status < 0) {
@@ -119,7 +119,7 @@ static void await_end(void) {
     }
 }
 
-/* Blocks the signals that are taken one by one. */
+/* Blocks the signals that are received one by one. */
 static void block_signals(void) {
     static const int numbers[] = {SIGCHLD, SIGINT, SIGTERM, SIGHUP, SIGQUIT};
     sigemptyset(&watched);
@@ -133,8 +133,8 @@ static void open_pipe(int ends[2]) {
         fail_by_errno("pipe");
 }
 
-/* Runs a device's program, in a session of its own, so that nothing that is typed on the terminal ends it. It is killed
-   where the launcher is. */
+/* Runs a device's program in a session of its own, so that nothing that is typed on the terminal ends it. It is killed
+   when the launcher is. */
 static void run_device(const char *file, int in, int out, int said) {
     char program[PATH_MAX + 32], *arguments[24] = {program};
     unsigned count = 1;
@@ -181,7 +181,8 @@ static void start_device(const char *file) {
     greet_device(device);
 }
 
-/* Whether a namespace can be made here is tried by another process, since half of one can't be taken back. */
+/* Another process tests whether a namespace can be made here, because a namespace that is only half made can't be
+   undone. */
 static int can_enter(char reason[REASON_ROOM]) {
     int ends[2], how;
     open_pipe(ends);
@@ -200,8 +201,8 @@ static int can_enter(char reason[REASON_ROOM]) {
     return waitpid(child, &how, 0) == child && how == 0;
 }
 
-/* Gives folders that are open the same paths in the command's /dev, /sys and all else: by a descriptor of the machine's
-   own folders its nodes could be reached. */
+/* Opens the folders that are open again by the same paths in the command's /dev, /sys and so on: through a descriptor
+   of the machine's own folders its nodes could be reached. */
 static void renew_folders(void) {
     DIR *open_files = opendir("/proc/self/fd");
     struct dirent *entry;
@@ -223,7 +224,7 @@ static void renew_folders(void) {
         closedir(open_files);
 }
 
-/* No descriptor of a real device is handed on. */
+/* No descriptor of a real device is passed on. */
 static void check_descriptors(void) {
     DIR *open_files = opendir("/proc/self/fd");
     struct dirent *entry;
@@ -237,7 +238,7 @@ static void check_descriptors(void) {
         closedir(open_files);
 }
 
-/* Removes the folder when the launcher has ended, also where it was killed. */
+/* Removes the folder when the launcher has ended, even if it was killed. */
 static void start_sweeper(void) {
     int ends[2];
     char byte;
@@ -257,7 +258,7 @@ static void start_sweeper(void) {
     _exit(0);
 }
 
-/* Without a namespace a folder in /tmp stands for the one in the command's own /dev. */
+/* Without a namespace, a folder in /tmp takes the place of the one in the command's own /dev. */
 static void make_folder(const char *reason) {
     const char *node = a_real_node();
     if (node && !without_namespace)
@@ -287,7 +288,7 @@ static void choose_space(void) {
     has_namespace = 1;
     strcpy(folder, MODEL_FOLDER);
     renew_folders();
-    /* (the folder may be the machine's /dev, or another namespace's: it is taken anew by its path) */
+    /* (the folder may be the machine's /dev, or another namespace's, so it is opened again by its path) */
     if (is_told && chdir(here) < 0 && errno != EACCES)
         fail("the folder %s isn't there for the command: run it from another one", here);
 }
@@ -353,7 +354,7 @@ static void start_command(char **arguments) {
     _exit(is_found ? NOT_EXECUTABLE : NOT_FOUND);
 }
 
-/* Takes the places of streams that are closed, until a program is started, so that no other file gets them. */
+/* Occupies the numbers of streams that are closed until a program is started, so that no other file gets them. */
 static void hold_streams(void) {
     int file;
     do {
@@ -365,17 +366,17 @@ static void hold_streams(void) {
 static const char usage[] =
     "usage: nvme-model [OPTION..] [--] COMMAND [ARGUMENT..]\n"
     "       nvme-model --qemu [OPTION..] [-- QEMU-OPTION..]\n"
-    "Runs COMMAND with the NVMe devices of a model as /dev/nvme0, /dev/nvme0n1 and so on.\n\n"
-    "  --subsystem FILE     the subsystem of this file; written more than once, a subsystem for each (16 at most)\n"
-    "  --trace[=FILE]       write what goes over the bus to standard error, or to FILE\n"
-    "  --data-limit SIZE    the most bytes that the data of namespaces take, as 512M (a quarter of the memory)\n"
-    "  --no-notice          nodes come and go at `nvme ns-rescan` or a reset only\n"
+    "Run COMMAND with the NVMe devices of a model as /dev/nvme0, /dev/nvme0n1 and so on.\n\n"
+    "  --subsystem FILE     use the subsystem of FILE; repeat it for several subsystems, at most 16\n"
+    "  --trace[=FILE]       write what goes over the bus to standard error or to FILE\n"
+    "  --data-limit SIZE    limit the memory for data of namespaces, such as 512M (default: a quarter of all memory)\n"
+    "  --no-notice          let nodes come and go only at `nvme ns-rescan` or a reset\n"
     "  --without-namespace  give COMMAND the /dev and /sys of this machine, with its devices, at your own risk\n"
     "  --depth N, --page-size N, --offset N, --list-offset N, --window N, --pace N\n"
-    "                       the rings and pages through which each command goes, as for nvme-script\n"
-    "  --qemu               run QEMU with the model's controllers in its machine; --qemu --help shows its options\n"
-    "  --help               show this\n\n"
-    "The status is that of COMMAND, or 72 where nvme-model itself can't go on. nvme-model(1) says more.\n";
+    "                       choose the layout of queues and memory, as for nvme-script\n"
+    "  --qemu               as the first option, run QEMU with the controllers in its machine; see --qemu --help\n"
+    "  --help               show this help\n\n"
+    "The exit status is that of COMMAND, or 72 if nvme-model itself can't go on. See nvme-model(1).\n";
 
 static void refuse_options(void) {
     fputs(usage, stderr);
@@ -412,7 +413,7 @@ static int read_options(int count, char **arguments) {
     int option, place;
     while ((option = getopt_long(count, arguments, "+", options, &place)) != -1) {
         if (option == 0)
-            continue; /* (a flag, which is set) */
+            continue; /* (a flag, which is now set) */
         if (option == SUBSYSTEM && file_count < MOST_DEVICES)
             files[file_count++] = optarg;
         else if (option == TRACE) {
@@ -427,7 +428,7 @@ static int read_options(int count, char **arguments) {
             refuse_options();
         else if (asprintf(&device_options[device_option_count++], "--%s=%s", options[place].name, optarg) < 0)
             fail("out of memory");
-        /* (the devices see whether they are numbers) */
+        /* (the devices check whether they are numbers) */
         if (option >= GEOMETRY && option < OTHER)
             geometry[option - GEOMETRY] = strtoul(optarg, NULL, 0);
     }
@@ -436,7 +437,7 @@ static int read_options(int count, char **arguments) {
     return optind;
 }
 
-/* The library and the device's program stand beside the launcher, in ../lib/nvme-model. */
+/* The library and the device's program are next to the launcher, in ../lib/nvme-model. */
 static void find_parts(void) {
     ssize_t length = readlink("/proc/self/exe", parts, sizeof parts - 64);
     parts[length < 0 ? 0 : length] = '\0';
@@ -444,14 +445,14 @@ static void find_parts(void) {
         *(strrchr(parts, '/') ?: parts) = '\0';
     strcat(parts, "/lib/nvme-model");
     snprintf(library, sizeof library, "%s/library.so", parts);
-    /* (the library stands beside the data, in whole pages) */
+    /* (the library is next to the data, in whole pages) */
     struct stat about;
     if (stat(library, &about) < 0)
         fail_by_errno(library);
     limit += ((uint64_t)about.st_size + 4095) / 4096 * 4096;
 }
 
-/* `--qemu` before all else is for a program of its own, which stands beside the library. */
+/* `--qemu` as the first argument is for a program of its own, which is next to the library. */
 static void run_qemu(char **arguments) {
     char program[PATH_MAX + 32];
     find_parts();

@@ -1,7 +1,7 @@
 /* Preloaded into a command: its calls of the C library on the files that stand for nodes are answered as those on
-   Linux's nodes are. A node's file is told by its device and inode (node.c); its descriptor is the file's, so that the
-   kernel knows whose it is through dup, fork and exec, and reads and writes go to the file itself. All else goes to the
-   C library. Nothing is kept that a fork or a thread could break. No part of what is proved. */
+   Linux's nodes are. A node's file is recognized by its device and inode (node.c); its descriptor is the file's, so
+   that the kernel follows it through dup, fork and exec, and reads and writes go to the file itself. Everything else
+   goes to the C library. Nothing is stored that a fork or a thread could break. None of this is proved. */
 #define _GNU_SOURCE
 #include "library.h"
 #include <assert.h>
@@ -19,11 +19,11 @@
 #include <sys/uio.h>
 #include <unistd.h>
 
-/* (so calls with 64 at the end of their names are the same as those without) */
+/* (so calls with 64 at the end of their names do the same as those without) */
 static_assert(sizeof(struct stat) == sizeof(struct stat64) && O_LARGEFILE == 0, "files have 64-bit sizes");
 
-/* The calls that open. Those whose name ends with 2 have no mode. A node isn't made, cut, or opened for direct access,
-   and one whose device is gone isn't opened. */
+/* The calls that open. Those whose names end with 2 have no mode. A node isn't created, truncated, or opened for direct
+   access, and a node whose device is gone isn't opened. */
 
 static int open_place(int directory, const char *given, int flags, mode_t mode) {
     char room[PATH_MAX];
@@ -41,7 +41,7 @@ static int open_place(int directory, const char *given, int flags, mode_t mode) 
     return fails_by(ENXIO);
 }
 
-/* The mode behind the flags, which is there only where a file may be made. */
+/* The mode after the flags, which is there only if a file may be created. */
 #define TAKE_MODE(mode, flags) \
     mode_t mode = 0; \
     if (flags & O_CREAT || (flags & O_TMPFILE) == O_TMPFILE) { \
@@ -72,7 +72,7 @@ SAME(__open64_2, __open_2);
 SAME(__openat64_2, __openat_2);
 SAME(creat64, creat);
 
-/* (the C library would cut the file of a node by itself) */
+/* (the C library would truncate the file of a node by itself) */
 PUBLIC FILE *fopen(const char *given, const char *mode) {
     char room[PATH_MAX];
     const char *path = find(AT_FDCWD, given, room);
@@ -87,7 +87,7 @@ PUBLIC FILE *fopen(const char *given, const char *mode) {
 }
 SAME(fopen64, fopen);
 
-/* The calls that describe. */
+/* The calls that describe a file. */
 
 static unsigned major_of(const struct node *node) {
     return node->kind == 'b' ? BLOCK_MAJOR : node->kind == 'g' ? GENERIC_MAJOR : CONTROLLER_MAJOR;
@@ -141,7 +141,7 @@ PUBLIC int statx(int directory, const char *given, int flags, unsigned mask, str
     return result;
 }
 
-/* What programs call that were made for older versions of the C library. */
+/* Calls of programs that were built for older versions of the C library. */
 int __xstat(int version, const char *path, struct stat *about);
 int __lxstat(int version, const char *path, struct stat *about);
 int __fxstat(int version, int file, struct stat *about);
@@ -172,7 +172,7 @@ PUBLIC int access(const char *path, int mode) { return faccessat(AT_FDCWD, path,
 PUBLIC int eaccess(const char *path, int mode) { return faccessat(AT_FDCWD, path, mode, AT_EACCESS); }
 SAME(euidaccess, eaccess);
 
-/* (what a folder's entry is told to be, which is a file, isn't what `stat` tells) */
+/* (a folder's entry says that it is a file, which isn't what `stat` says) */
 PUBLIC struct dirent *readdir(DIR *directory) {
     struct dirent *entry = NEXT(readdir)(directory);
     struct stat about;
@@ -182,11 +182,10 @@ PUBLIC struct dirent *readdir(DIR *directory) {
 }
 SAME(readdir64, readdir);
 
-/* The calls that write. A namespace's block device doesn't grow: a write ends where it ends, and one behind it finds no
-   space. A character device takes none. */
+/* The calls that write. A namespace's block device doesn't grow: a write ends where it ends, and a write after its end
+   finds no space. A character device takes none. */
 
-/* How many of so many bytes can be written at a place: -1 with errno where none can. (-1: where the file's offset is)
- */
+/* How many of `count` bytes can be written at a place, or -1 with errno if none can. (-1 is the file's offset.) */
 static ssize_t room_at(int file, off_t at, size_t count) {
     struct stat about;
     struct node node;
@@ -213,7 +212,7 @@ PUBLIC ssize_t pwrite(int file, const void *from, size_t count, off_t at) {
     return room < 0 ? -1 : NEXT(pwrite)(file, from, (size_t)room, at);
 }
 
-/* (a node takes the first piece, which is as well as all: a write may be short) */
+/* (a node takes the first piece, which is enough, because a write may be short) */
 PUBLIC ssize_t writev(int file, const struct iovec *pieces, int count) {
     struct stat about;
     if (count < 1 || !folder[0] || !is_block_node(file, &about))
@@ -239,7 +238,7 @@ PUBLIC ssize_t pwritev2(int file, const struct iovec *pieces, int count, off_t a
     return at < 0 ? writev(file, pieces, count) : pwritev(file, pieces, count, at);
 }
 
-/* (who copies so writes instead, where it is told that it can't be done) */
+/* (a caller that copies like this writes instead if it learns that it can't be done) */
 PUBLIC ssize_t copy_file_range(int from, off_t *at, int to, off_t *into, size_t count, unsigned flags) {
     struct stat about;
     return folder[0] && is_block_node(to, &about) ? fails_by(EXDEV)

@@ -1,4 +1,4 @@
-/* What the parts of the preloaded library ask of each other. */
+/* Declarations that the parts of the preloaded library share. */
 #ifndef LIBRARY_H
 #define LIBRARY_H
 #include "wire.h"
@@ -15,7 +15,7 @@
         next; \
     })
 
-/* The calls that stand for those of the C library are seen from outside. SAME gives one a second name. */
+/* The calls that take the place of those of the C library are visible from outside. SAME gives one a second name. */
 #define PUBLIC __attribute__((visibility("default")))
 #define SAME(name, as) __asm__(".globl " #name "\n.type " #name ", @function\n.set " #name ", " #as)
 
@@ -24,35 +24,36 @@
 /* What a file stands for: a controller ('c'), a generic node of a namespace ('g') or its block device ('b'). */
 struct node {
     char kind;
-    unsigned controller, nsid, power; /* a block has 2 to this power bytes */
+    unsigned controller, nsid, power; /* a block has two to this power bytes */
     unsigned long long blocks;
 };
 
-/* The launcher's folder, "" where there is no launcher, and this library's own path. */
+/* The launcher's folder, "" if there is no launcher, and this library's own path. */
 extern char folder[PATH_MAX], library[PATH_MAX];
 
-/* Whether nodes are files of a /dev of the launcher's, and not names alone (guard.c). */
+/* Whether nodes are files of a /dev of the launcher's, and not only names (guard.c). */
 extern int has_space;
 
-/* What is kept in the environment of each program: NULL, or FOLDER_VARIABLE with its value. */
+/* What the environment of each program must have: NULL, or FOLDER_VARIABLE with its value. */
 extern const char *kept_variable;
 
 int fails_by(int number);
 
-/* node.c: whether a descriptor is a node's, whether a path leads to one, -1 where it leads nowhere, and whether a path
-   leads to a node of which a given description is. */
+/* node.c: whether a descriptor is a node's; whether a path leads to a node, -1 if it leads nowhere; and whether a path
+   leads to the node with a given description. */
 int is_node(int file, struct node *node);
 int is_block_node(int file, struct stat *about);
 int find_node(int directory, const char *path, int flags, struct stat *about, struct node *node);
 int is_on_nodes(const struct stat *about);
 
-/* guard.c: the path that the C library is to be given for a path, which is another one for a node without a namespace,
-   or `refused`, with errno. */
+/* guard.c: the path to give to the C library for a path, which is another one for a node without a namespace, or
+   `refused`, with errno. */
 extern const char refused[1];
 const char *find(int directory, const char *path, char room[PATH_MAX]);
 void read_real_nodes(const char *text);
 
-/* device.c: these give 0, or -1 with errno, ENXIO where the device is gone. An ioctl may also give a status. */
+/* device.c: these return 0, or -1 with errno, which is ENXIO if the device is gone. An ioctl may also return a
+   status. */
 int is_alive(const struct node *node);
 int node_ioctl(int file, const struct node *node, uint32_t request, void *argument);
 

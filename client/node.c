@@ -1,5 +1,5 @@
-/* The preloaded library's nodes: a file is one by its device and inode numbers, whatever its name. What it stands for
-   is the text of a link of the launcher's (nodes.c). No part of what is proved. */
+/* The preloaded library's nodes: a file is recognized by its device and inode numbers, whatever its name is. The text
+   of one of the launcher's links says what it stands for (nodes.c). None of this is proved. */
 #define _GNU_SOURCE
 #include "library.h"
 #include <errno.h>
@@ -46,7 +46,8 @@ int fails_by(int number) {
 
 int is_on_nodes(const struct stat *about) { return nodes_device != 0 && about->st_dev == nodes_device; }
 
-/* Which of several controllers it is by whose name the file was opened: the kernel tells the name, links followed. */
+/* If a node is of several controllers, the one by whose name the file was opened: the kernel says the name, with links
+   followed. */
 static unsigned controller_of(int file, const char *controllers) {
     char link[64], path[PATH_MAX];
     unsigned first = (unsigned)strtoul(controllers, NULL, 10), named, nsid;
@@ -63,7 +64,7 @@ static unsigned controller_of(int file, const char *controllers) {
     return first;
 }
 
-/* Whether a regular file is a node, and which. */
+/* Returns whether a regular file is a node, and which. */
 static int read_node(const struct stat *about, int file, struct node *node) {
     char link[PATH_MAX + 32], text[256];
     int before = errno, behind = 0;

@@ -1,7 +1,7 @@
-/* The launcher's nodes: the files that stand for controllers and namespaces, brought up to date with what the devices
-   answer, and the data of namespaces, which no device knows of. The file of a namespace's data is its node, under the
+/* The launcher's nodes: the files that stand for controllers and namespaces, which are updated after what the devices
+   answer, and the data of namespaces, which no device stores. The file of a namespace's data is its node, under the
    name of each controller that it is attached to: a hole as long as the namespace, in the memory that /dev is made of.
-   No part of what is proved. */
+   None of this is proved. */
 #define _GNU_SOURCE
 #include "launcher.h"
 #include <errno.h>
@@ -17,12 +17,12 @@
 
 enum { CNS_NAMESPACE = 0, CNS_CONTROLLER = 1 };
 
-/* What each controller's nodes show: the generation of the namespace plus 1, or 0 where there is no node. */
+/* What each controller's nodes show: the generation of the namespace plus 1, or 0 if there is no node. */
 static unsigned shown[MOST_CONTROLLERS][MOST_NSID + 1];
-/* What they showed last: a node that is still open after it has gone belongs to its controller. */
+/* What they showed last, because a node that is still open after it was removed belongs to its controller. */
 static unsigned last_shown[MOST_CONTROLLERS][MOST_NSID + 1];
 static struct volume volumes[MOST_DEVICES][MOST_NSID + 1];
-static pthread_mutex_t changing = PTHREAD_MUTEX_INITIALIZER; /* of all that is made here */
+static pthread_mutex_t changing = PTHREAD_MUTEX_INITIALIZER; /* for everything that is changed here */
 int watcher = -1;
 static int rescan_watch = -1;
 
@@ -38,8 +38,8 @@ static int identify(struct device *device, unsigned controller, uint32_t nsid, u
     return exchange(device, &header, data, &answer) == 0 && answer.status == 0 ? 0 : -1;
 }
 
-/* The paths of a node, of a namespace's data, and of what says what a file stands for. Without a namespace nodes stand
-   in the launcher's folder. */
+/* The paths of a node, of a namespace's data, and of the link that says what a file stands for. Without a namespace,
+   nodes are in the launcher's folder. */
 static const char *place(void) { return has_namespace ? "/dev" : folder; }
 
 static void node_path(char path[PATH_MAX], unsigned controller, uint32_t nsid, int is_generic) {
@@ -52,8 +52,8 @@ static void data_path(char path[PATH_MAX], const struct device *device, uint32_t
     snprintf(path, PATH_MAX, "%s/data/%u-%u", folder, (unsigned)(device - devices), nsid);
 }
 
-/* Says what the file of this inode stands for: a controller (c), a generic node (g) or a block device (b), an NSID, the
-   number and the power of blocks, and the controllers under whose names it is there. */
+/* Records what the file of this inode stands for: a controller (c), a generic node (g) or a block device (b), an NSID,
+   the number and the power of blocks, and the controllers under whose names it exists. */
 static void print_node(const struct stat *about, char kind, uint32_t nsid, const struct volume *volume,
                        const char *controllers) {
     char path[PATH_MAX], new[PATH_MAX], text[PATH_MAX];
@@ -66,7 +66,7 @@ static void print_node(const struct stat *about, char kind, uint32_t nsid, const
         fail_by_errno(path);
 }
 
-/* (root's nodes belong to it, and block devices to the group disk besides, as on Linux) */
+/* (root's nodes belong to it, and block devices also to the group disk, as on Linux) */
 static int make_file(const char *path, mode_t mode, struct stat *about) {
     struct group *disk = mode & S_IWGRP && geteuid() == 0 ? getgrnam("disk") : NULL;
     int file = open(path, O_RDWR | O_CREAT | O_EXCL | O_CLOEXEC, 0600);
@@ -88,13 +88,13 @@ static void make_character_node(unsigned controller, uint32_t nsid, int is_gener
         fail_by_errno(path);
 }
 
-/* The greatest length that a file can have stands for what is longer. Without a namespace there are no data. */
+/* The greatest length of a file takes the place of any greater one. Without a namespace there is no data. */
 static off_t length_of(const struct volume *volume) {
     uint64_t most = (uint64_t)INT64_MAX >> volume->power;
     return has_namespace ? (off_t)((volume->blocks < most ? volume->blocks : most) << volume->power) : 0;
 }
 
-/* Makes the file of a namespace's data where there is none, and tells about it. */
+/* Makes the file of a namespace's data if there is none, and describes it in `about`. */
 static void make_data(const struct device *device, uint32_t nsid, struct stat *about) {
     char path[PATH_MAX];
     struct volume *volume = volume_at(device, nsid);
@@ -181,7 +181,7 @@ static int list_active(struct device *device, unsigned controller, unsigned char
     return 0;
 }
 
-/* Brings a controller's nodes up to date with its list. */
+/* Updates a controller's nodes after its list. */
 static void scan_controller(struct device *device, unsigned controller) {
     unsigned char is_active[MOST_NSID + 1];
     if (list_active(device, controller, is_active) < 0)
@@ -202,7 +202,7 @@ void scan(struct device *device, unsigned first, unsigned count) {
     pthread_mutex_unlock(&changing);
 }
 
-/* A namespace is there no more: its data is gone, also for who has it open. */
+/* A namespace doesn't exist any more: its data is gone, even for processes that have it open. */
 static void forget_namespace(struct device *device, uint32_t nsid) {
     char path[PATH_MAX];
     struct volume *volume = volume_at(device, nsid);
@@ -214,7 +214,7 @@ static void forget_namespace(struct device *device, uint32_t nsid) {
     *volume = (struct volume){.generation = volume->generation + 1};
 }
 
-/* A namespace was formatted: its data are zeros, and as long as its new format makes it. */
+/* A namespace was formatted: its data is all zeros, and as long as its new format makes it. */
 static void clear_namespace(struct device *device, unsigned controller, uint32_t nsid) {
     char path[PATH_MAX];
     struct volume *volume = volume_at(device, nsid);
@@ -232,7 +232,7 @@ static void clear_namespace(struct device *device, unsigned controller, uint32_t
             put_namespace(at, nsid, volume);
 }
 
-/* A format of all namespaces is one of those that are active on its controller. */
+/* A format of all namespaces formats those that are active on its controller. */
 static void clear_namespaces(struct device *device, unsigned controller, uint32_t nsid) {
     unsigned char is_active[MOST_NSID + 1];
     int is_every = nsid == EVERY_NSID && list_active(device, controller, is_active) == 0;
@@ -262,7 +262,7 @@ void look_for_changes(struct device *device, const struct request_header *reques
         scan(device, device->first, device->count);
 }
 
-/* Makes what tells of the controllers, and then the nodes. */
+/* Makes the files that describe the controllers, and then the nodes. */
 static void make_controllers(struct device *device) {
     unsigned char data[IDENTIFY_BYTES];
     for (unsigned at = device->first; at < device->first + device->count; at++) {
@@ -290,7 +290,7 @@ void make_nodes(void) {
         make_controllers(devices + at);
 }
 
-/* Gives the data of the namespace that was written its length back. */
+/* Restores the length of the data of the namespace that was written. */
 static void repair_file(struct device *device, int watch) {
     char path[PATH_MAX];
     struct stat about;
@@ -303,8 +303,8 @@ static void repair_file(struct device *device, int watch) {
     }
 }
 
-/* What doesn't see the library can make the file of a namespace shorter or longer, until it is closed. A write to the
-   file that stands for the rescan of PCI has all nodes looked at. */
+/* A process that doesn't see the library can make the file of a namespace shorter or longer until it closes it. A write
+   to the file that stands for the rescan of PCI causes all nodes to be scanned. */
 void *repair_files(void *unused) {
     char events[4096] __attribute__((aligned(__alignof__(struct inotify_event))));
     ssize_t length;

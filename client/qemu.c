@@ -443,12 +443,12 @@ static void tell_summary(void) {
 
 static const char usage[] =
     "usage: nvme-model --qemu [OPTION..] [-- QEMU-OPTION..]\n"
-    "Runs QEMU (qemu-system-x86_64) with the controllers of a model as PCI functions, without I/O queues.\n\n"
-    "  --subsystem FILE  the subsystem of this file\n"
-    "  --memory SIZE     the memory of QEMU's machine, as 128M (the default); at most 2G\n"
+    "Run QEMU (qemu-system-x86_64) with the controllers of a model as PCI functions, without I/O queues.\n\n"
+    "  --subsystem FILE  use the subsystem of FILE\n"
+    "  --memory SIZE     give the machine this memory, such as 256M (default: 128M; at most 2G)\n"
     "  --summary         when QEMU has ended, write each controller's counts and error log to standard error\n"
-    "  --help            show this\n\n"
-    "The status is that of QEMU, or 72 where nvme-model itself can't go on. QEMU.md says more.\n";
+    "  --help            show this help\n\n"
+    "The exit status is that of QEMU, or 72 if nvme-model itself can't go on. See QEMU.md.\n";
 
 static void show_usage(FILE *to) {
     fputs(usage, to);

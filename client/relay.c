@@ -1,6 +1,6 @@
-/* The launcher's exchange between clients and the devices. Each client has a thread, which reads a request whole, has
-   its turn at the controller's device, and sends the answer, so that no client waits for another one's reading or
-   writing. Turns at a device are in the order in which requests became whole. No part of what is proved. */
+/* The launcher's exchange between clients and the devices. Each client has a thread, which reads a whole request, waits
+   for its turn at the controller's device, and sends the answer, so that no client waits while another one reads or
+   writes. Turns at a device are in the order in which requests were completed. None of this is proved. */
 #define _GNU_SOURCE
 #include "launcher.h"
 #include <errno.h>
@@ -14,7 +14,7 @@
 
 int trace = -1;
 
-/* Moves all of some bytes: 0, or -1 where no more can be moved. */
+/* Transfers all bytes. Returns 0, or -1 if no more can be transferred. */
 static int move_all(int file, void *at, size_t size, int outwards) {
     for (char *byte = at; size > 0;) {
         ssize_t count = outwards ? write(file, byte, size) : read(file, byte, size);
@@ -42,13 +42,13 @@ void end_turn(struct device *device) {
     pthread_mutex_unlock(&device->lock);
 }
 
-/* (the one that doesn't even start says why itself) */
+/* (a device that doesn't even start reports why itself) */
 void lose_device(struct device *device) {
     if (!atomic_exchange(&device->is_lost, 1) && device->count > 0)
         fputs("nvme-model: the device ended, or answered what was not asked\n", stderr);
 }
 
-/* An answer has at most as many bytes of data as were asked for, and none where data was sent. */
+/* An answer has at most as many bytes of data as were asked for, and none if data was sent. */
 int exchange(struct device *device, const struct request_header *header, void *data, struct answer_header *answer) {
     struct request_header request = *header;
     uint32_t sent = data_sent(header), most = sent > 0 ? 0 : le32toh(header->length);
@@ -64,7 +64,7 @@ int exchange(struct device *device, const struct request_header *header, void *d
     return -1;
 }
 
-/* Carries a request out. A controller's number among all is put in the place of that among those of its device. */
+/* Executes a request. A controller's number among all controllers is replaced by that among those of its device. */
 static int carry_out(struct request_header *header, void *data, struct answer_header *answer) {
     unsigned controller = le16toh(header->controller), kind = le16toh(header->kind);
     struct device *device = devices;
@@ -104,7 +104,7 @@ static void *serve_client(void *given) {
     return NULL;
 }
 
-/* (where there is no room for another client, the next one waits a little) */
+/* (if there is no room for another client, the next one waits a little) */
 static void *serve_clients(void *unused) {
     (void)unused;
     for (;;) {
@@ -127,7 +127,7 @@ void start_serving(void) {
         fail("no thread can be started");
 }
 
-/* (the list is that of the controller 0, which tells how many there are) */
+/* (the list is that of controller 0, and says how many there are) */
 void greet_device(struct device *device) {
     struct request_header header = {.kind = htole16(KIND_LIST)};
     struct answer_header answer;
@@ -142,7 +142,7 @@ void greet_device(struct device *device) {
         fail("the device does not answer as it should");
 }
 
-/* A line of a trace begins with a controller, which has another number among those of all devices. */
+/* A line of a trace begins with a controller, whose number is another one among those of all devices. */
 static void copy_line(const struct device *device, const char *line, size_t length) {
     unsigned number;
     int behind = 0;

@@ -1,6 +1,6 @@
-/* The launcher's namespace: a /dev that has what the machine's has, but for NVMe nodes and what leads to one, and a
-   /sys in which other files stand for what Linux tells of NVMe devices. They are seen by the command's processes alone,
-   and go with the last of them. No part of what is proved. */
+/* The launcher's namespace: a /dev with everything from the machine's except NVMe nodes and what leads to one, and a
+   /sys in which other files take the place of what Linux says about NVMe devices. Only the command's processes see
+   them, and they disappear with the last of these. None of this is proved. */
 #define _GNU_SOURCE
 #include "launcher.h"
 #include <ctype.h>
@@ -22,7 +22,7 @@
 #include <sys/sysmacros.h>
 #include <unistd.h>
 
-/* What is made is made here, and then moved to its place: this folder is there on each machine. */
+/* Everything is made here, and then moved to its place, because this folder exists on each machine. */
 #define MAKING "/tmp"
 
 enum { MOST_REAL = 4096 };
@@ -42,7 +42,7 @@ static int is_nvme_name(const char *name) {
     return begins(name, "nvme") || (begins(name, "ng") && isdigit((unsigned char)name[2]));
 }
 
-/* Calls a function with each entry's path of a folder. One that isn't there has none. */
+/* Calls a function with the path of each of a folder's entries. A folder that doesn't exist has none. */
 static int each(const char *folder_of, int (*visit)(const char *path, const char *name, void *with), void *with) {
     DIR *entries = opendir(folder_of);
     struct dirent *entry;
@@ -109,7 +109,7 @@ char *tell_real_nodes(const char *first) {
 
 static int stands_on_real(const char *path, const char *name, void *with);
 
-/* Whether a loop device stands on a file that is an NVMe device. */
+/* Returns whether a loop device is on a file that is an NVMe device. */
 static int loops_to_real(dev_t number) {
     char path[PATH_MAX];
     snprintf(path, sizeof path, "/sys/dev/block/%u:%u/loop/backing_file", major(number), minor(number));
@@ -121,7 +121,7 @@ static int loops_to_real(dev_t number) {
     return is_told && is_real_node(path);
 }
 
-/* Whether a device is an NVMe device, or stands on one, as a volume of LVM does. */
+/* Returns whether a device is an NVMe device, or is on one, as a volume of LVM is. */
 static int leads_to_real(mode_t mode, dev_t number) {
     char path[PATH_MAX];
     mode_t type = mode & S_IFMT;
@@ -153,9 +153,9 @@ int is_real_node(const char *path) {
 
 static char *why;
 static dev_t machine_dev; /* the file system of the machine's /dev */
-static int is_mapped;     /* whether there is a user namespace too */
+static int is_mapped;     /* whether there is also a user namespace */
 
-/* Tells what could not be done, and gives -1. */
+/* Reports what could not be done, and returns -1. */
 __attribute__((format(printf, 1, 2))) static int cannot(const char *format, ...) {
     int number = errno;
     va_list values;
@@ -182,7 +182,7 @@ static int bind_to(const char *from, const char *to) {
     return mount(from, to, NULL, MS_BIND | MS_REC, NULL) == 0 ? 0 : cannot("bind of %s", from);
 }
 
-/* A file or a folder that is the machine's. (It may go meanwhile.) */
+/* A file or a folder of the machine's. (It may disappear meanwhile.) */
 static int bind_entry(const char *from, const char *to, mode_t mode) {
     int file = S_ISDIR(mode) ? -1 : open(to, O_WRONLY | O_CREAT | O_EXCL | O_CLOEXEC, 0600);
     if (S_ISDIR(mode) ? mkdir(to, 0755) < 0 : file < 0 || close(file) < 0)
@@ -213,8 +213,8 @@ static int look_for_real(const char *path, const char *name, void *with) {
     return S_ISDIR(about.st_mode) && about.st_dev == machine_dev ? each(path, look_for_real, with) : 0;
 }
 
-/* Puts an entry of the machine's /dev into another folder. A folder that has what leads to an NVMe device is put
-   together anew without that. */
+/* Puts an entry of the machine's /dev into another folder. A folder with something that leads to an NVMe device is
+   assembled anew without that. */
 static int fill_dev(const char *from, const char *name, void *into) {
     static const char *const left_out[] = {"disk", "block", "char", "mapper", "vfio"};
     char to[PATH_MAX];
@@ -234,7 +234,7 @@ static int fill_dev(const char *from, const char *name, void *into) {
     return bind_entry(from, to, about.st_mode);
 }
 
-/* A bound /dev/ptmx doesn't find the terminals beside it. Where no node can be made, and the one among the terminals
+/* A bound /dev/ptmx doesn't find the terminals next to it. If no node can be made, and the one among the terminals
    can't be opened, the command gets terminals of its own. */
 static int make_terminals(void) {
     if (access(MAKING "/pts", F_OK) < 0 || mknod(MAKING "/ptmx", S_IFCHR, makedev(5, 2)) == 0)
@@ -262,7 +262,7 @@ static int make_dev(uint64_t limit) {
     return mount(MAKING, "/dev", NULL, MS_MOVE, NULL) == 0 ? 0 : cannot("/dev");
 }
 
-/* Puts an entry of a folder of /sys into the one that takes its place. */
+/* Puts an entry of a folder of /sys into the folder that takes its place. */
 static int fill_sys(const char *from, const char *name, void *into) {
     char to[PATH_MAX], target[PATH_MAX];
     struct stat about;
@@ -274,7 +274,7 @@ static int fill_sys(const char *from, const char *name, void *into) {
     return S_ISLNK(about.st_mode) ? copy_link(from, to) : bind_entry(from, to, about.st_mode);
 }
 
-/* The folder of a real controller below /sys/devices, which is seen to be empty. */
+/* The folder of a real controller below /sys/devices, which will look empty. */
 static int cover_controller(const char *path, const char *name, void *with) {
     char *whole = realpath(path, NULL), *end = whole ? strrchr(whole, '/') : NULL;
     (void)name, (void)with;
@@ -295,8 +295,8 @@ static int see_domain(const char *path, const char *name, void *with) {
     return 0;
 }
 
-/* The folders of /sys that are put together anew, those within others first. /sys/bus, which is the last, only where it
-   has no PCI. */
+/* The folders of /sys that are assembled anew, those within others first. /sys/bus is the last, and only used if it has
+   no PCI. */
 static const char *const remade[] = {"class/block", "class", "block", "devices/virtual", "devices", "dev/block",
                                      "dev/char",    "dev",   "bus"};
 static const char *const made[] = {".none",
@@ -331,7 +331,7 @@ static int fill_folders(int has_pci) {
     return 0;
 }
 
-/* Whether the machine's /sys has all folders that are put together anew. */
+/* Returns whether the machine's /sys has all folders that are assembled anew. */
 static int is_whole(void) {
     char path[64];
     for (unsigned at = 0; at < sizeof remade / sizeof *remade; at++) {
@@ -342,7 +342,7 @@ static int is_whole(void) {
     return 1;
 }
 
-/* Binds what was put together to its place. Where /sys isn't whole, all of it is put together anew. */
+/* Binds the assembled folders to their places. If /sys isn't complete, all of it is assembled anew. */
 static int place_folders(int has_pci) {
     char from[64], to[64];
     if (!is_whole())
@@ -373,8 +373,8 @@ static int make_sys(void) {
     return place_folders(has_pci);
 }
 
-/* Whether nodes of a file system are to stay as they are: the devices in /dev itself, and what has none. (A look at
-   what is mounted on demand, or from another machine, may never end.) */
+/* Returns whether the nodes of a file system may stay as they are: the devices in /dev itself, and a file system
+   without nodes. (Looking at what is mounted on demand, or from another machine, may never end.) */
 static int is_left(const struct mntent *one, struct stat *about) {
     static const char *const kinds[] = {"sysfs", "proc", "devpts", "autofs", "nfs", "fuse"};
     for (unsigned at = 0; at < sizeof kinds / sizeof *kinds; at++)
@@ -385,8 +385,8 @@ static int is_left(const struct mntent *one, struct stat *about) {
            (is_in_dev && (about->st_dev == machine_dev || !S_ISDIR(about->st_mode)));
 }
 
-/* No node that stands elsewhere, as in a folder for chroot, opens a device; and where the machine's /dev itself is seen
-   elsewhere, nothing of it can be changed. (What can't be reached here can't be by the command.) */
+/* No node that is elsewhere, such as in a folder for chroot, opens a device; and if the machine's /dev itself is
+   visible elsewhere, nothing in it can be changed. (What can't be reached here can't be reached by the command.) */
 static int close_nodes(void) {
     FILE *mounts = setmntent("/proc/self/mounts", "re");
     struct mntent *one;
@@ -407,7 +407,7 @@ static int close_nodes(void) {
     return result;
 }
 
-/* Maps the caller's own identifiers, and no others. */
+/* Maps the caller's own identifiers and no others. */
 static int map_identifiers(uid_t user, gid_t group) {
     char users[32], groups[32];
     snprintf(users, sizeof users, "%u %u 1", user, user);
@@ -434,10 +434,10 @@ int enter_space(uint64_t limit, char reason[REASON_ROOM]) {
     return make_dev(limit) < 0 || make_sys() < 0 || close_nodes() < 0 ? -1 : 0;
 }
 
-/* Root can look into processes that have no rights, or those of a user whose name it takes, and so reach the machine's
-   /dev. Where the kernel has Landlock, a process that it restricts looks into none outside. (In the place of a file
-   there is a number for each call of it, since older systems have no header. Nothing else is restricted but to make
-   block devices: files may go from one folder to another below /.) */
+/* Root can look into processes that have no rights, or into those of a user whose identity it takes, and so reach the
+   machine's /dev. If the kernel has Landlock, a process that it restricts can look into none outside. (There is a
+   number for each call instead of a header file, because older systems have none. Nothing else is restricted except
+   making block devices: files may move from one folder to another below /.) */
 static int confine(void) {
     enum { CREATE_RULESET = 444, ADD_RULE, RESTRICT_SELF };
     enum { VERSION = 1, PATH_BENEATH = 1, MAKE_BLOCK = 1 << 11, REFER = 1 << 13 };
@@ -453,8 +453,8 @@ static int confine(void) {
                                                                              : (int)syscall(RESTRICT_SELF, rules, 0);
 }
 
-/* Without these rights root itself can't make a node of a device, mount one of the machine's file systems of nodes,
-   reach the machine's /dev through another process, or open a file of it without a path. */
+/* Without these rights even root can't make a node of a device, mount one of the machine's file systems of nodes, reach
+   the machine's /dev through another process, or open a file of it without a path. */
 int drop_rights(void) {
     static const unsigned rights[] = {CAP_MKNOD, CAP_SYS_ADMIN, CAP_SYS_PTRACE, CAP_DAC_READ_SEARCH};
     struct __user_cap_header_struct header = {.version = _LINUX_CAPABILITY_VERSION_3};

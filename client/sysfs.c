@@ -1,6 +1,6 @@
-/* The launcher's part of /sys: files that tell what Linux tells of NVMe subsystems, controllers and namespaces without
+/* The launcher's part of /sys: files that say what Linux says about NVMe subsystems, controllers and namespaces without
    native multipath, and the links between them that a kernel makes. Each controller has a PCI bus of its own, in a
-   domain that the machine doesn't have. No part of what is proved. */
+   domain that the machine doesn't have. None of this is proved. */
 #define _GNU_SOURCE
 #include "launcher.h"
 #include <errno.h>
@@ -12,8 +12,8 @@
 #include <sys/stat.h>
 #include <unistd.h>
 
-/* A file below /sys with its line, or a link, whose text begins with >. What stands in braces is put in by its value.
- */
+/* A file below /sys with its line, or a link, whose text begins with >. Names in braces are replaced by their
+   values. */
 struct row {
     const char *path, *text;
 };
@@ -63,7 +63,7 @@ static const struct row controller_rows[] = {
     {SUBSYSTEM "/nvme{x}", ">../../../../" CONTROLLER},
     {0}};
 
-/* (sizes are told in units of 512 bytes; what is below `queue` is as of a device with one queue) */
+/* (sizes are in units of 512 bytes; what is below `queue` is that of a device with one queue) */
 static const struct row block_rows[] = {
     {BLOCK "/size", "{size}"},
     {BLOCK "/nsid", "{n}"},
@@ -112,13 +112,13 @@ static const struct row generic_rows[] = {{GENERIC "/dev", "{major}:{minor}"},
                                           {"dev/char/{major}:{minor}", ">../../" GENERIC},
                                           {0}};
 
-/* The values, each behind its name. */
+/* The values, each after its name. */
 static struct {
     const char *name;
     char text[300];
 } values[24];
 
-/* What is known of each controller: the vendor and the texts of its namespaces' identifiers. */
+/* What is known about each controller: the vendor and the texts of its namespaces' identifiers. */
 static char identifiers[MOST_CONTROLLERS][2][2 * 40 + 1], vendors[MOST_CONTROLLERS][8];
 
 __attribute__((format(printf, 2, 3))) static void set(const char *name, const char *format, ...) {
@@ -132,7 +132,7 @@ __attribute__((format(printf, 2, 3))) static void set(const char *name, const ch
     va_end(texts);
 }
 
-/* Puts the values into a text. */
+/* Replaces the names in a text by their values. */
 static void expand(char *into, const char *text) {
     for (; *text; text++) {
         size_t length = *text == '{' ? strcspn(text + 1, "}") : 0;
@@ -158,7 +158,7 @@ static void make_folders(char *path) {
     }
 }
 
-/* Makes a row's link, or its file, which takes the place of the one that is there. */
+/* Makes a row's link, or its file, which replaces an existing one. */
 static void put_row(const struct row *row) {
     char path[PATH_MAX], text[PATH_MAX], new[] = "/sys/devices/.new";
     expand_path(path, row->path);
@@ -181,7 +181,7 @@ static void put_rows(const struct row *row) {
         put_row(row);
 }
 
-/* The rows' links from elsewhere go, and then their folder. */
+/* Removes the rows' links from elsewhere, and then their folder. */
 static void remove_rows(const struct row *row, const char *folder_of) {
     char path[PATH_MAX];
     for (; row->path; row++) {
@@ -218,8 +218,8 @@ static void set_identity(const unsigned char *identity) {
     set("nqn", "%.256s", text + 768);
 }
 
-/* The registers as they stand in the controller's first page of memory, while it is ready. Where its queues lie follows
-   from the geometry: each controller's rings, and behind them the pages of its outstanding commands. */
+/* The registers as they are in the controller's first page of memory while it is ready. The addresses of its queues
+   follow from the geometry: each controller's rings, and after them the pages of its outstanding commands. */
 static void put_registers(unsigned place) {
     const uint64_t page = geometry[PAGE_SIZE], submission = (64 * geometry[DEPTH] + page - 1) / page;
     const uint64_t completion = (16 * geometry[DEPTH] + page - 1) / page;

@@ -1,6 +1,6 @@
-/* What the library, the launcher and the device say to each other. All numbers are little-endian. A request is a header
-   and, where an entry sends data (the lowest bit of its opcode is 1), that data. An answer is a header and its data.
-   No part of what is proved. */
+/* The messages between the library, the launcher and the device. All numbers are little-endian. A request is a header
+   and, if an entry sends data (the lowest bit of its opcode is 1), that data. An answer is a header and its data. None
+   of this is proved. */
 #ifndef WIRE_H
 #define WIRE_H
 #include <assert.h>
@@ -9,11 +9,12 @@
 
 enum { ENTRY_BYTES = 64, IDENTIFY_BYTES = 4096, MOST_DATA = 1 << 20 };
 
-/* The greatest NSID that a subsystem has. */
+/* The greatest NSID of a subsystem. */
 enum { MOST_NSID = 1024 };
 
-/* Kinds of requests: a submission queue entry, a reset of a controller, a controller's list of active namespaces. The
-   launcher answers the others itself: whether a controller's device still answers, and a scan for its namespaces. */
+/* The kinds of requests: a submission queue entry, a reset of a controller, and a controller's list of active
+   namespaces. The launcher answers the others itself: whether a controller's device still answers, and a scan for its
+   namespaces. */
 enum { KIND_ENTRY = 0, KIND_RESET = 1, KIND_LIST = 2, KIND_ALIVE = 0x100, KIND_RESCAN = 0x101 };
 
 /* Outcomes of requests. */
@@ -28,12 +29,12 @@ enum { OPCODE_IDENTIFY = 0x06, OPCODE_MANAGEMENT = 0x0d, OPCODE_ATTACHMENT = 0x1
 struct request_header {
     uint16_t controller;
     uint16_t kind;
-    uint32_t length; /* of the data that is sent, or that is wanted back */
+    uint32_t length; /* of the data that is sent, or that is wanted */
     unsigned char entry[ENTRY_BYTES];
 };
 
 struct answer_header {
-    uint32_t dword_0; /* of the completion; of a list the number of controllers */
+    uint32_t dword_0; /* of the completion; for a list, the number of controllers */
     uint16_t status;  /* without its phase tag */
     uint16_t outcome;
     uint32_t length;
@@ -42,14 +43,13 @@ struct answer_header {
 static_assert(sizeof(struct request_header) == 72, "a request's header has 72 bytes");
 static_assert(sizeof(struct answer_header) == 12, "an answer's header has 12 bytes");
 
-/* Where the launcher keeps what the library needs, in the /dev that the command sees; without a namespace it is the
+/* Where the launcher stores what the library needs: in the /dev that the command sees or, without a namespace, in the
    folder that the variable names. It has `socket`, `library.so` and, for each node, the link `nodes/INODE`, whose text
-   says what the file of that inode number stands for (see print_node of nodes.c and read_node of node.c). */
+   says what the file of that inode number stands for (see print_node in nodes.c and read_node in node.c). */
 #define MODEL_FOLDER "/dev/.model"
 #define FOLDER_VARIABLE "NVME_MODEL_FOLDER"
 
-/* The device numbers of nodes. Linux gives no driver such a major, so that a node that is made with one reaches none.
- */
+/* The device numbers of nodes. Linux gives no driver such a major number, so a node with one reaches no device. */
 enum { CONTROLLER_MAJOR = 4092, GENERIC_MAJOR = 4093, BLOCK_MAJOR = 4094 };
 
 static inline unsigned minor_of(unsigned controller, uint32_t nsid) {

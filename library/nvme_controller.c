@@ -1,11 +1,11 @@
-/* What stands between the calls of nvme_controller.h and the proved calls of crates/nvme_controller: it tells null from
- * memory, and gives each machine the place of its handle. */
+/* The layer between the calls of nvme_controller.h and the proved calls of crates/nvme_controller: it handles null
+ * pointers, and stores the handle of each machine. */
 #include "nvme_controller.h"
 
 #include <stdlib.h>
 #include <string.h>
 
-/* The handle of a machine: where it lies. */
+/* A machine, which stores its handle. */
 struct nvme_machine {
     void *at;
 };
@@ -21,15 +21,15 @@ uint16_t nvme_handle_turn(nvme_machine *handle, uint16_t ctrl, uint8_t *memory, 
 void nvme_handle_counts(nvme_machine *handle, uint16_t ctrl, uint64_t *refusals, uint64_t *commands);
 int nvme_handle_log_entry(nvme_machine *handle, uint16_t ctrl, size_t index, uint8_t *entry);
 
-/* A place of no bytes. */
+/* A pointer to no bytes. */
 static uint8_t nothing[1];
 
-/* (The proved calls want a handle that they can write, and leave it as it was where the machine stays.) */
+/* (The proved calls need a handle that they can write. They don't change it if the machine stays open.) */
 static nvme_machine *unlocked(const nvme_machine *machine) {
     return (nvme_machine *)(uintptr_t)machine;
 }
 
-/* Puts the text of a fault where there is room for it. */
+/* Copies the text of a fault if there is room for it. */
 static void tell(char *fault, size_t room, const char *text) {
     if (fault != NULL && room != 0) {
         fault[0] = '\0';
@@ -38,17 +38,18 @@ static void tell(char *fault, size_t room, const char *text) {
 }
 
 int nvme_machine_open(const uint8_t *file, size_t length, nvme_machine **machine, char *fault, size_t room) {
-    static const char *const texts[] = {"", "not TOML", "missing", "wrong kind", "out of range", "repeated",
-                                        "unknown key", "capacity", "attachment", "out of memory"};
-    int number = NVME_NOT_TOML;
-    nvme_machine *handle = NULL;
     *machine = NULL;
-    if ((file != NULL || length == 0) && (fault != NULL || room == 0) && length <= PTRDIFF_MAX && room <= PTRDIFF_MAX) {
-        handle = calloc(1, sizeof *handle);
-        number = handle == NULL ? NVME_NO_MEMORY
-                                : nvme_handle_open(length != 0 ? file : nothing, length, handle, nothing, 0);
+    if ((file == NULL && length != 0) || (fault == NULL && room != 0) || length > PTRDIFF_MAX || room > PTRDIFF_MAX) {
+        tell(fault, room, "not TOML");
+        return NVME_NOT_TOML;
     }
-    tell(fault, room, texts[number]);
+    nvme_machine *handle = calloc(1, sizeof *handle);
+    if (handle == NULL) {
+        tell(fault, room, "out of memory");
+        return NVME_NO_MEMORY;
+    }
+    int number = nvme_handle_open(length != 0 ? file : nothing, length, handle,
+                                  room != 0 ? (uint8_t *)fault : nothing, room);
     if (number == 0) {
         *machine = handle;
     } else {

@@ -9,8 +9,8 @@
         machine.write32(0, TAIL_DOORBELL, 1)
         machine.turn(0, memory)                          # its completion lies at 1000h
 
-The calls are those of nvme_controller.h. The shared library is found beside this file, where the variable
-NVME_CONTROLLER says, or where the system looks."""
+The calls are those of nvme_controller.h. The shared library is loaded from the folder of this file, from the path in
+the variable NVME_CONTROLLER, or from where the system finds it."""
 
 import ctypes
 import os
@@ -21,7 +21,7 @@ TAIL_DOORBELL, HEAD_DOORBELL = 0x1000, 0x1004
 
 
 class Fault(Exception):
-    """A subsystem file was refused, or memory: `number`, from 1 to 9, and the text."""
+    """A subsystem file was refused, or there was no memory: `number`, from 1 to 9, and the text."""
 
     def __init__(self, number, text):
         super().__init__(text)
@@ -48,8 +48,8 @@ def _library():
 
 
 class Machine:
-    """The controllers of one subsystem: of the bytes of a file, or the demonstration subsystem. One thread uses it at
-    a time."""
+    """The controllers of one subsystem, which is that of a file's bytes or the demonstration subsystem. Only one thread
+    may use it at a time."""
 
     _calls = None
 
@@ -66,7 +66,7 @@ class Machine:
             raise Fault(number, text.value.decode())
 
     def close(self):
-        """Closes it. No other call can be made afterwards."""
+        """Closes the machine. It must not be used afterwards."""
         machine, self._machine = self._machine, ctypes.c_void_p()
         self._calls.nvme_machine_close(machine)
 
@@ -95,7 +95,7 @@ class Machine:
         self._calls.nvme_machine_write32(self._open(), ctrl, offset, value)
 
     def turn(self, ctrl, memory, page_size=4096, most=0xffff):
-        """Lets a controller take entries over a bytearray, or another buffer that can be written, of whole pages."""
+        """Lets a controller take entries, over a bytearray or another writable buffer of whole pages."""
         view = memoryview(memory).cast('B')
         pages, rest = divmod(len(view), page_size) if page_size else (0, len(view))
         if rest:
@@ -104,12 +104,12 @@ class Machine:
         return self._calls.nvme_machine_turn(self._open(), ctrl, ctypes.addressof(lent), pages, page_size, most)
 
     def counts(self, ctrl):
-        """How many commands a controller refused, and how many it took."""
+        """Returns how many commands a controller refused, and how many it took."""
         refusals, commands = ctypes.c_uint64(), ctypes.c_uint64()
         self._calls.nvme_machine_counts(self._open(), ctrl, refusals, commands)
         return refusals.value, commands.value
 
     def log_entry(self, ctrl, index):
-        """The 64 bytes of an entry of a controller's error log, from the newest on, or None."""
+        """Returns the 64 bytes of an entry of a controller's error log, counted from the newest, or None."""
         entry = ctypes.create_string_buffer(64)
         return entry.raw if self._calls.nvme_machine_log_entry(self._open(), ctrl, index, entry) else None

@@ -1,6 +1,6 @@
-"""Stands for QEMU in the tests of `./nvme-model --qemu`, as a program that is run with QEMU's options: it says to the
-PCI functions what a scenario of this file says, `python3 -m tests.as_qemu SCENARIO OPTION..`. What it expects are
-assertions: its status is 0 where they hold."""
+"""Takes QEMU's place in the tests of `./nvme-model --qemu`, as a program that is run with QEMU's options: it sends the
+PCI functions the messages of a scenario of this file, `python3 -m tests.as_qemu SCENARIO OPTION..`. Its expectations
+are assertions, and its status is 0 if they hold."""
 
 import array
 import contextlib
@@ -34,20 +34,20 @@ def sealed(length, seals=fcntl.F_SEAL_SHRINK):
 
 
 class Function:
-    """A PCI function, as QEMU asks it."""
+    """A PCI function, as QEMU sees it."""
 
     def __init__(self, number):
         self.socket = socket.socket(fileno=number)
         self.ram = self.interrupt = self.seen = None
 
     def say(self, kind, body=b'', files=(), size=None):
-        """Sends a message: descriptors come with its header."""
+        """Sends a message. Descriptors are sent with its header."""
         header = struct.pack('=iiQ', kind, 0, len(body) if size is None else size)
         with_files = [(socket.SOL_SOCKET, socket.SCM_RIGHTS, array.array('i', files))] if files else []
         self.socket.sendmsg([header, body], with_files)
 
     def ask(self, kind, body=b'', files=()):
-        """Sends a message and gives the number that answers it."""
+        """Sends a message, and returns the number in its answer."""
         self.say(kind, body, files)
         kind, size, value = struct.unpack('=i4xQQ', self.socket.recv(24, socket.MSG_WAITALL))
         assert (kind, size) == (ANSWER, 8)
@@ -66,12 +66,12 @@ class Function:
         self.ask(BAR_WRITE, struct.pack('=QQIB3x', 0xfebd_4000 + offset, value, size, 1))
 
     def sections(self, rows, files):
-        """Tells the memory: rows of an address, a size and an offset in the file."""
+        """Sends the memory: rows of an address, a size and an offset in the file."""
         columns = zip(*[*rows, *[(0, 0, 0)] * 8][:8])
         self.say(MEMORY, b''.join(struct.pack('=8Q', *column) for column in columns), files)
 
     def begin(self, pages=64, command=MASTER, power=0):
-        """Gives the function memory without holes, and enables the controller with rings of 16 slots."""
+        """Gives the function memory without holes, and enables the controller with queues of 16 slots."""
         file = sealed(pages * PAGE)
         self.sections([(0, pages * PAGE, 0)], [file])
         self.ram = mmap.mmap(file, pages * PAGE)
@@ -80,7 +80,7 @@ class Function:
         self.enable(power=power)
 
     def enable(self, rings=None, power=0):
-        """Enables the controller with pages of 4,096 bytes, and so many times doubled: two are the rings."""
+        """Enables the controller with pages of 4,096 bytes, doubled `power` times. Two pages are the queues."""
         self.page = PAGE << power
         first, second = rings or (0, self.page)
         for offset, value in (CC, 0), (AQA, 0x000f_000f), (ASQ, first), (ACQ, second), (CC, ENABLED | power << 7):
@@ -88,19 +88,19 @@ class Function:
         self.tail = self.head = 0
 
     def put(self, opcode, first=0, second=0, nsid=0, dword10=0):
-        """Writes an entry and tells it."""
+        """Writes an entry, and rings the tail doorbell."""
         entry = struct.pack('<BBHIQQQQ6I', opcode, 0, self.tail + 100, nsid, 0, 0, first, second, dword10, *[0] * 5)
         self.ram[self.tail * 64:self.tail * 64 + 64] = entry
         self.tail = (self.tail + 1) % 16
         self.set_register(TAIL, self.tail)
 
     def completion(self):
-        """The place, command identifier and status of the next completion, without its phase tag."""
+        """Returns the place, command identifier and status of the next completion, without its phase tag."""
         _, _, identifier, status = struct.unpack_from('<8xHHHH', self.ram, self.page + self.head * 16)
         return identifier - 100, status >> 1 & 0x7ff
 
     def status_of(self, *command, **more):
-        """Has a command done, and takes its completion."""
+        """Sends a command, and takes its completion."""
         wanted = self.tail
         self.put(*command, **more)
         identifier, status = self.completion()
@@ -110,7 +110,7 @@ class Function:
         return status
 
     def serial(self):
-        """The serial number that Identify Controller tells, in the page behind the rings."""
+        """Returns the serial number in the Identify Controller data, which is in the page after the queues."""
         assert self.status_of(IDENTIFY, 2 * self.page, dword10=1) == 0
         return self.ram[2 * self.page + 4:2 * self.page + 24].decode().strip()
 
@@ -120,7 +120,7 @@ class Function:
         self.say(INTERRUPT, files=[self.interrupt, self.seen])
 
     def is_raised(self):
-        """Whether the interrupt was raised since this was asked. (What was said before is done.)"""
+        """Returns whether the interrupt was raised since the last call. (Earlier messages have been handled.)"""
         self.config(0)
         with contextlib.suppress(BlockingIOError):
             return os.read(self.interrupt, 8) != b''
@@ -132,7 +132,7 @@ class Function:
 
 
 def eventfd():
-    """An event counter, of which no call waits. (Python has them from 3.10 on.)"""
+    """An event counter on which no call waits. (Python has them from 3.10 on.)"""
     import ctypes
     return ctypes.CDLL(None).eventfd(0, os.O_NONBLOCK | os.O_CLOEXEC)
 
@@ -158,7 +158,7 @@ def configuration(first, second):
 
 
 def registers(first, second):
-    """Registers in each size, the bits of which are those of section "Controller Properties"."""
+    """Registers in each size. Section "Controller Properties" defines their bits."""
     assert first.register(0, 8) == 0x0040_0020_0101_0fff and first.register(8) == 0x0001_0400
     assert first.register(1, 1) == 0x0f and first.register(2, 2) == 0x0101 and first.register(3, 2) == 0x2001
     for size in 0, 3, 16, 0xffff_ffff:
@@ -174,7 +174,7 @@ def registers(first, second):
 
 
 def commands(first, second):
-    """Commands of both controllers over one memory each, around the end of the rings, and a reset."""
+    """Commands of both controllers over one memory each, past the end of the queues, and a reset."""
     first.begin()
     second.begin()
     for _ in range(20):
@@ -190,7 +190,7 @@ def commands(first, second):
 
 
 def page_sizes(first, second):
-    """The pages that CC has, over memory that isn't a multiple of the greatest."""
+    """The page sizes that CC can have, over memory that isn't a multiple of the greatest."""
     for power in range(5):
         first.begin(pages=65, power=power)
         assert first.serial() == 'S0'
@@ -198,7 +198,7 @@ def page_sizes(first, second):
 
 
 def stopped(first, second):
-    """QEMU is stopped while a controller works: another process sees it."""
+    """QEMU is stopped while a controller works: another process notices."""
     itself = os.getpid()
     child = os.fork()
     while child == 0:
@@ -216,7 +216,7 @@ def stopped(first, second):
 
 
 def bus_master(first, second):
-    """Nothing is taken of a function that may not reach the memory, and all when it may."""
+    """Nothing is taken from a function that may not access the memory, and everything once it may."""
     first.begin(command=2)
     first.put(IDENTIFY, 2 * PAGE, dword10=1)
     assert first.ram[PAGE:3 * PAGE] == bytes(2 * PAGE)
@@ -243,13 +243,13 @@ def interrupts(first, second):
     first.set_config(COMMAND, MASTER, 2)
     first.acknowledge()
     assert not first.is_raised()
-    # (others in their place are let go: those before get nothing any more)
+    # (others replace them: the earlier ones get nothing any more)
     first.enable()
     for files in [], [first.interrupt], [os.open('/dev/null', os.O_RDWR)] * 2, [first.interrupt] * 3:
         first.say(INTERRUPT, files=files)
         first.put(IDENTIFY, 2 * PAGE, dword10=1)
         assert not first.is_raised()
-    # (such that can't be written, and such that end)
+    # (some that can't be written, and some that end)
     ends = os.pipe2(os.O_NONBLOCK)
     before = kept()
     for files in [ends[0], first.interrupt], [first.interrupt, ends[0]]:
@@ -261,11 +261,11 @@ def interrupts(first, second):
 
 
 def holes(first, second):
-    """Where there is no memory, nothing is read or written, wherever an entry points."""
+    """If there is no memory, nothing is read or written, wherever an entry points."""
     first.begin()
     file = sealed(64 << 20)
     first.ram = mmap.mmap(file, 64 << 20)
-    # a PC's windows are a hole, and what lies above another one is out of reach
+    # a PC's windows are a hole, and what is above another one is out of reach
     low, legacy, high = (0, 0xa0000, 0), (0xc0000, 0x240000, 0xc0000), (0x400000, 0x100000, 0x400000)
     first.sections([low, legacy, high], [file] * 3)
     first.enable()
@@ -276,7 +276,7 @@ def holes(first, second):
     assert first.status_of(IDENTIFY, 0x2fff00, 0x300000, dword10=1) == TRANSFER_ERROR
     assert first.status_of(IDENTIFY, 0xa0000, dword10=1) == 0
     assert first.ram[0xa0000:0xc0000] == bytes(0x20000) and first.ram[0x300000:] == bytes((64 << 20) - 0x300000)
-    # rings outside of memory are a fatal status
+    # queues outside of memory cause a fatal status
     for rings in (0x400000, PAGE), (0, 0x400000), (NOWHERE, PAGE), (0, NOWHERE):
         first.enable(rings)
         first.set_register(TAIL, 1)
@@ -284,7 +284,7 @@ def holes(first, second):
 
 
 def until(condition):
-    """Whether the condition comes true within ten seconds."""
+    """Returns whether the condition comes true within ten seconds."""
     end = time.monotonic() + 10
     while not condition() and time.monotonic() < end:
         time.sleep(0.01)
@@ -292,7 +292,7 @@ def until(condition):
 
 
 def sections(first, second):
-    """Sections that no memory has: the function then has none. Nothing of what was given is kept."""
+    """Sections that aren't memory: the function has none then, and keeps nothing of what was given."""
     plain, short, soft = sealed(1 << 20), sealed(PAGE), sealed(1 << 20, 0)
     other = os.open('/dev/zero', os.O_RDWR)
     whole, top = (0, 1 << 20, 0), 1 << 63
@@ -314,7 +314,7 @@ def sections(first, second):
         assert kept() == before, (rows, kept(), before)
     first.begin()
     assert first.serial() == 'S0'
-    # more come with the body than there may be
+    # more descriptors come with the body than are allowed
     first.say(MEMORY, files=[plain] * 5, size=192)
     for _ in range(2):
         first.socket.sendmsg([bytes(96)], [(socket.SOL_SOCKET, socket.SCM_RIGHTS, array.array('i', [plain] * 5))])
@@ -323,7 +323,7 @@ def sections(first, second):
 
 
 def kept():
-    """How many descriptors the other process has, and how many pieces of memory are mapped to it."""
+    """Returns how many descriptors the other process has, and how many pieces of memory are mapped into it."""
     process = pathlib.Path(f'/proc/{os.getppid()}')
     return len(list(process.glob('fd/*'))), process.joinpath('maps').read_text().count('memfd:ram')
 
@@ -341,7 +341,7 @@ BROKEN = {
 
 
 def broken(name):
-    """A message that is none: the other process ends."""
+    """A message that is invalid: the other process ends."""
     def scenario(first, second):
         first.socket.sendall(BROKEN[name])
         first.socket.shutdown(socket.SHUT_WR)
@@ -350,14 +350,14 @@ def broken(name):
 
 
 def gone(first, second):
-    """A function that QEMU lets go, as its device is unplugged: the other goes on."""
+    """A function that QEMU releases because its device is unplugged: the other one continues."""
     first.socket.close()
     second.begin()
     assert second.serial() == 'S1'
 
 
 def chosen(lot):
-    """A number that is apt to be wrong, or to be right."""
+    """Returns a number that is likely to be wrong, or to be right."""
     near = lot.choice((0, 1, 4, PAGE, 2 * PAGE, 0x14, 0x24, 0x28, 0x30, 0x1000, 0x1004, 1 << 20, 1 << 31, 1 << 63))
     return (lot.choice((near, lot.getrandbits(64), lot.getrandbits(12), near + lot.randrange(-8, 9)))) % 2 ** 64
 
@@ -375,7 +375,7 @@ def random_body(lot, kind):
 
 
 def random_messages(seed, count):
-    """Messages of chance, in which memory that is there and rings of chance come again and again."""
+    """Random messages, in which valid memory and random queues recur."""
     def scenario(first, second):
         lot = random.Random(seed)
         files = [sealed(64 * PAGE), sealed(PAGE), sealed(64 * PAGE, 0), eventfd(), os.open('/dev/null', os.O_RDWR)]

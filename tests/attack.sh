@@ -1,7 +1,8 @@
-# Read by a shell inside ./nvme-model, on a machine that has nodes of its own: looks for these by each spelling, and does
-# to what it finds what must not reach them. It prints a line for each that it reached, and how often it read the model's
-# data. $place is a folder with the file `number`, the device number of /dev/nvme0n1; $caller is a process outside, and
-# descriptors 7 and 8 are / and /dev. $more are further spellings, and with $static no static program takes part.
+# Read by a shell inside ./nvme-model, on a machine that has nodes of its own: looks for these under each spelling of
+# their paths, and does to what it finds what must not reach them. It prints a line for each node that it reached, and
+# how often it read the model's data. $place is a folder with the file `number`, the device number of /dev/nvme0n1;
+# $caller is a process outside, and descriptors 7 and 8 are / and /dev. $more has further spellings; if $static is set,
+# no static program is used.
 PATH=$PATH:/usr/sbin:/sbin
 launcher=${launcher:-$PPID}
 [ -n "${device-}" ] || read -r device rest < "/proc/$launcher/task/$launcher/children"
@@ -19,8 +20,7 @@ paths() {
         /dev/disk/by-id/nvme-machine /dev/folder/inner/node "$place/link" "$place/chain" $more
 }
 
-# Reads a path by a command. (What gives zeros and isn't the namespace is the machine's: the model's have nothing to
-# read.)
+# Reads a path by a command. (Anything that doesn't return zeros and isn't the namespace is the machine's.)
 reads() {
     path=$1
     shift
@@ -32,7 +32,7 @@ reads() {
     esac
 }
 
-# each COMMAND..: does this to each path
+# each COMMAND..: runs this for each path
 each() {
     for path in $(paths); do
         "$@" "$path"

@@ -1,7 +1,7 @@
-/* Loaded before a program: of its reads from standard input the one that FAIL_READ names, counted from 1, fails as one
-   of a broken device does, and of its writes to standard output or standard error the one that INTERRUPT_1 or
-   INTERRUPT_2 names is interrupted. All else goes to the C library. Where the call that is named never came, the program
-   ends with status 99. */
+/* Preloaded into a program. The read from standard input that FAIL_READ names, counted from 1, fails as that of a
+   broken device does, and the write to standard output or standard error that INTERRUPT_1 or INTERRUPT_2 names is
+   interrupted. Everything else goes to the C library. If the call that is named never came, the program ends with
+   status 99. */
 #define _GNU_SOURCE
 #include <dlfcn.h>
 #include <errno.h>
@@ -37,7 +37,7 @@ ssize_t write(int file, const void *from, size_t size) {
     return next(file, from, size);
 }
 
-/* (what a call of write with checks of its size is linked to) */
+/* (a call of write that checks its size is linked to this) */
 ssize_t __write(int file, const void *from, size_t size) { return write(file, from, size); }
 
 __attribute__((destructor)) static void end(void) {

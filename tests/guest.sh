@@ -1,5 +1,5 @@
-# What tests/test_qemu.py runs in a guest, over Linux's driver, and over ./nvme-model: what it writes must be the same.
-# Each command with its status and, where it was refused, what the newest entry of the error log tells of it.
+# Run by tests/test_qemu.py in a guest, over Linux's driver, and over ./nvme-model. Both outputs must be the same: each
+# command with its status and, if it was refused, what the newest entry of the error log says about it.
 t() {
     echo "> $*"
     "$@" 2>&1

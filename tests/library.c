@@ -1,6 +1,6 @@
-/* What a program in C can get wrong at the calls of nvme_controller.h, and what they promise of its memory. Prints what
- * fails, and at the end how many checks there were. Linked with --wrap of malloc, calloc, realloc and free, so that it
- * counts blocks and has one refused. */
+/* Tests the mistakes that a program in C can make with the calls of nvme_controller.h, and what they promise about its
+ * memory. Prints what fails, and at the end how many checks there were. It is linked with --wrap of malloc, calloc,
+ * realloc and free, to count blocks and to refuse one. */
 #include <nvme_controller.h>
 
 #include <stdio.h>
@@ -62,7 +62,7 @@ void __wrap_free(void *block) {
 
 /* ---- a host */
 
-/* Pages with one before and one behind them that can't be reached. */
+/* Pages with an inaccessible one before and one after them. */
 static uint8_t *guarded(size_t pages) {
     uint8_t *all = mmap(NULL, (pages + 2) * PAGE, PROT_READ | PROT_WRITE, MAP_PRIVATE | MAP_ANONYMOUS, -1, 0);
     if (all == MAP_FAILED || mprotect(all, PAGE, PROT_NONE) != 0 ||
@@ -81,7 +81,7 @@ static nvme_machine *opened(void) {
     return machine;
 }
 
-/* Makes a controller ready with rings of four entries, at page 0 and at a page of the completions. */
+/* Makes a controller ready with queues of four entries, at page 0 and at a page for the completions. */
 static void enable(nvme_machine *machine, uint32_t completions, uint32_t page_size_field) {
     nvme_machine_write32(machine, 0, NVME_AQA, 0x00030003);
     nvme_machine_write32(machine, 0, NVME_ASQ, 0);
@@ -116,7 +116,7 @@ static void files(void) {
     const uint8_t *text = (const uint8_t *)FILE_TEXT;
     static const char missing[] = "version = 1\n";
     CHECK(nvme_machine_open((const uint8_t *)missing, strlen(missing), &machine, fault, sizeof fault) == NVME_MISSING);
-    CHECK(machine == NULL && strcmp(fault, "missing") == 0);
+    CHECK(machine == NULL && strcmp(fault, "missing top.nn") == 0);
     memset(fault, 'x', sizeof fault);
     CHECK(nvme_machine_open((const uint8_t *)missing, strlen(missing), &machine, fault, 5) == NVME_MISSING);
     CHECK(memcmp(fault, "miss", 5) == 0 && fault[5] == 'x');
@@ -155,7 +155,8 @@ static void absent(void) {
     nvme_machine_close(NULL);
 }
 
-/* No page size but the five, and no memory that can't be, is taken; the ring's entry still waits afterwards. */
+/* Only the five page sizes, and only memories that can exist, are accepted; the entry in the queue is still waiting
+ * afterwards. */
 static void sizes(void) {
     static const uint32_t wrong[] = {0, 1, 2048, 4095, 4097, 6144, 65535, 131072, 0x80000000};
     nvme_machine *machine = opened();
@@ -173,7 +174,8 @@ static void sizes(void) {
     CHECK(nvme_machine_turn(machine, 0, memory, PAGES, PAGE, 0) == 0);
     CHECK(nvme_machine_read32(machine, 0, NVME_CSTS) == 1);
     CHECK(nvme_machine_turn(machine, 0, memory, PAGES, PAGE, 5) == 1 && status_at(memory + PAGE) == 0);
-    /* A page size of one call is none of the next: 8,192 is fatal to a controller that was enabled with 4,096. */
+    /* The page size of one call has no effect on the next: 8,192 is fatal to a controller that was enabled with
+     * 4,096. */
     identify(memory + 64, 2, 2 * PAGE, 0);
     nvme_machine_write32(machine, 0, NVME_TAIL_DOORBELL, 2);
     CHECK(nvme_machine_turn(machine, 0, memory, PAGES / 2, 8192, 1) == 0);
@@ -186,7 +188,7 @@ static void sizes(void) {
     nvme_machine_close(machine);
 }
 
-/* Of the memory the places of the data and of the completion change, and no other byte. */
+/* Only the bytes of the data and of the completion change in the memory. */
 static void places(void) {
     static uint8_t before[SIZE];
     nvme_machine *machine = opened();
@@ -208,7 +210,7 @@ static void places(void) {
     nvme_machine_close(machine);
 }
 
-/* A memory a page short: data in the page that lacks is refused, and rings there are a fatal status. */
+/* A memory that is a page short: data in the missing page is refused, and queues there cause a fatal status. */
 static void short_memory(void) {
     for (size_t pages = 3; pages >= 2; pages--) {
         nvme_machine *machine = opened();
@@ -235,8 +237,8 @@ static void short_memory(void) {
     nvme_machine_close(machine);
 }
 
-/* Reads change nothing, and machines are independent: one that is read at every offset, and one that is not, answer
- * the same. */
+/* Reads change nothing, and machines are independent: one that is read at every offset, and one that is not, give the
+ * same answers. */
 static void reads(void) {
     static const uint8_t reserved = 0xff;
     nvme_machine *machines[2] = {opened(), opened()};
@@ -271,7 +273,8 @@ static void reads(void) {
     nvme_machine_close(machines[1]);
 }
 
-/* Each allocation is refused in turn. That is an answer, and all that was taken is given back; so it is by closing. */
+/* Each allocation is refused in turn. The call reports it, and everything that was allocated is freed, as it is by
+ * closing. */
 static void allocations(void) {
     for (int demo = 0; demo < 2; demo++) {
         int number = NVME_NO_MEMORY;

@@ -1,5 +1,5 @@
-"""What the tests of ./nvme-model share: the launcher with its parts at a place that every user can read, runs of it,
-and what it must leave behind, which is nothing."""
+"""What the tests of ./nvme-model share: the launcher with its parts in a place that every user can read, runs of it,
+and checks that it leaves nothing behind."""
 
 import functools
 import glob
@@ -17,7 +17,7 @@ PARTS = {'bin/nvme-model': ('launcher', 'relay', 'nodes', 'sysfs', 'space'),
          'lib/nvme-model/library.so': ('library', 'node', 'device', 'exec', 'guard')}
 WARNINGS = '-Wall', '-Wextra', '-Werror'
 
-# Programs that need not be installed. What calls one is skipped where it isn't.
+# Programs that need not be installed. A test that calls one is skipped if it isn't.
 TOOLS = ('nvme', 'smartctl', 'busybox', 'inotifywait', 'lsblk', 'blkid', 'blkdiscard', 'wipefs', 'mkfs.ext4', 'debugfs',
          'e2fsck', 'sudo', 'strace', 'script')
 # (an ordinary user's PATH may lack those that root uses)
@@ -26,19 +26,19 @@ os.environ['PATH'] += ':/usr/sbin:/sbin'
 
 @functools.lru_cache(maxsize=None)
 def is_there(tool):
-    """Whether a tool is installed: nvme-cli in the version whose texts are known."""
+    """Returns whether a tool is installed; nvme-cli must have the version whose texts are known."""
     if not shutil.which(tool):
         return False
     return tool != 'nvme' or b'nvme version 2.3 ' in subprocess.run(['nvme', 'version'], capture_output=True).stdout
 
 
 def missing_tools(text):
-    """Which of the tools a script calls that aren't there."""
+    """Returns the tools that a script calls and that aren't installed."""
     called = [tool for tool in TOOLS if re.search(rf'(?<![\w/.-]){re.escape(tool)}(?![\w/.=-])', text)]
     return [tool for tool in called if not is_there(tool)]
 
 
-# The tests of a machine with NVMe devices cover these first, so that a fault of the launcher's can harm none.
+# The tests of a machine with NVMe devices cover these first, so that no bug of the launcher can harm one.
 REAL = glob.glob('/dev/nvme*') + glob.glob('/dev/ng[0-9]*')
 COVERED = ('unshare', '-m', 'sh', '-c', 'mount --make-rprivate / && for node in /dev/nvme* /dev/ng[0-9]*; do '
            'test ! -e "$node" || mount --bind /dev/full "$node" || exit; done; exec "$@"', 'sh')
@@ -46,12 +46,12 @@ COVERED = ('unshare', '-m', 'sh', '-c', 'mount --make-rprivate / && for node in 
 
 @functools.lru_cache(maxsize=None)
 def has_namespaces(*command):
-    """Whether a mount namespace can be made, by this command or as the launcher makes it."""
+    """Returns whether a mount namespace can be made, by this command or as the launcher makes it."""
     return run(*command or ('unshare', '-m' if os.geteuid() == 0 else '-Urm'), 'true').status == 0
 
 
 def compiled_c(made, sources, *options):
-    """A program or a library of C files, with which the compiler must find nothing wrong."""
+    """Compiles C files to a program or a library. The compiler must give no warning."""
     made.parent.mkdir(parents=True, exist_ok=True)
     files = [CLIENT / f'{name}.c' for name in sources]
     subprocess.run(['cc', '-g', '-O1', *WARNINGS, '-o', made, *files, *options], check=True)
@@ -60,7 +60,7 @@ def compiled_c(made, sources, *options):
 
 @functools.lru_cache(maxsize=None)
 def installed():
-    """The launcher, with the library and the device where it looks for them."""
+    """Makes the launcher, with the library and the device where it looks for them."""
     place = process_folder() / 'installed'
     compiled_c(place / 'bin/nvme-model', PARTS['bin/nvme-model'])
     compiled_c(place / 'lib/nvme-model/library.so', PARTS['lib/nvme-model/library.so'], '-shared', '-fPIC', '-ldl')
@@ -69,7 +69,7 @@ def installed():
 
 
 def static_program(text):
-    """A program of these lines of C that is linked statically."""
+    """Makes a program of these lines of C, which is linked statically."""
     made = process_folder() / f'static{abs(hash(text))}'
     if not made.exists():
         subprocess.run(['cc', *WARNINGS, '-static', '-o', made, '-x', 'c', '-'], input=text.encode(), check=True)
@@ -77,12 +77,12 @@ def static_program(text):
 
 
 def mounts(process='self'):
-    """The mounts that a process sees."""
+    """Returns the mounts that a process sees."""
     return pathlib.Path(f'/proc/{process}/mountinfo').read_text().splitlines()
 
 
 def processes_of(word):
-    """The processes with this word in their arguments."""
+    """Returns the processes with this word in their arguments."""
     found = []
     for entry in pathlib.Path('/proc').glob('[0-9]*/cmdline'):
         try:
@@ -93,7 +93,7 @@ def processes_of(word):
 
 
 class ModelCase(Case):
-    """A test with a subsystem file of its own, by whose name the devices that it starts are known."""
+    """A test with a subsystem file of its own, whose name identifies the devices that it starts."""
 
     def setUp(self):
         super().setUp()
@@ -106,7 +106,7 @@ class ModelCase(Case):
         self.addCleanup(self.leaves_nothing)
 
     def needs(self, *texts):
-        """Skips a test that calls what isn't installed, itself or in a script that it runs."""
+        """Skips a test that calls something that isn't installed, itself or in a script that it runs."""
         files = [pathlib.Path(text) for text in texts if os.fspath(text).endswith('.sh')]
         text = '\n'.join([*map(os.fspath, texts), *(file.read_text() for file in files)])
         if missing_tools(text):
@@ -118,27 +118,27 @@ class ModelCase(Case):
         return [*covered, installed(), '--subsystem', self.subsystem, *options, *arguments]
 
     def model(self, *arguments, options=(), **more):
-        """A command over the demonstration file."""
+        """Runs a command over the demonstration file."""
         return run(*self.command(*arguments, options=options), **more)
 
     def shell(self, script, *words, options=(), **more):
-        """A script of the shell, over it."""
+        """Runs a shell script over it."""
         return self.model('sh', '-c', script, 'sh', *words, options=options, **more)
 
     def python(self, script, options=(), **more):
-        """A script of Python, over it."""
+        """Runs a Python script over it."""
         head = 'import ctypes, errno, glob, mmap, os\n'
         return self.model(sys.executable, '-c', head + script, options=options, **more)
 
     def leaves_nothing(self):
-        """No device and no mount is left, and nothing of the launcher's in the machine's folders."""
+        """Checks that no device and no mount is left, and nothing of the launcher's in the machine's folders."""
         self.assertTrue(until(lambda: not processes_of(self.subsystem)), 'a device was left running')
         new = [line for line in mounts() if line not in self.mounts and 'nvme-model' in line]
         self.assertEqual(new, [], 'mounts are seen outside')
         self.assertFalse(os.path.exists('/dev/.model') or os.path.exists('/dev/nvme1n1'), 'nodes are seen outside')
 
     def says(self, ended, status, text):
-        """A run ended with this status, and a last message that begins so."""
+        """Checks that a run ended with this status, and with a last message that begins so."""
         self.ends(ended, status)
         last = (ended.err.splitlines() or [b''])[-1]
         self.assertTrue(last.startswith(os.fsencode(text)), f'{ended}\nThe test alone: python3 -m unittest {self.id()}')

@@ -11,7 +11,7 @@ ITEM = re.compile(r' *([-*+]|[0-9]+\.) ')
 
 
 def kinds(lines):
-    """The kind of each line: 'code' (with the marks around it), 'blank', 'row' of a table, or 'text'."""
+    """Returns the kind of each line: 'code' (with the marks around it), 'blank', 'row' of a table, or 'text'."""
     is_fenced = is_list = False
     before = 'blank'
     for line in lines:
@@ -31,7 +31,7 @@ def kinds(lines):
 
 
 def files_in(code):
-    """The files that a piece of code names, as patterns. NAME and its like, and my_bench, stand for any name."""
+    """Returns the files that a piece of code names, as patterns. NAME, my_bench and the like stand for any name."""
     for word in code.split():
         word = re.sub(r':[0-9]+$', '', re.sub(r'[,;:)]+$', '', re.sub(r'^\./', '', word)))
         word = re.sub(r'(?<![^/])((NAME|FILE|MODULE|TYPE|FUNCTION)(?=(\.[a-z]+)?(/|$))|my_[a-z_]+)', '*', word)
@@ -43,7 +43,7 @@ def files_in(code):
 
 class Page:
     """What a page names, each with its line: links, files, and words of clauses; its wide lines, and its blocks of code
-    that are said to be from a file."""
+    that are said to come from a file."""
 
     def __init__(self, name):
         self.name = name
@@ -60,7 +60,7 @@ class Page:
     def read_lines(self):
         is_code = False
         for number, line, kind in self.lines:
-            # code may go on from the line before
+            # code may continue from the line before
             if kind != 'text' or ITEM.match(line) or line.startswith('#'):
                 is_code = False
             if kind in ('text', 'row'):
@@ -74,7 +74,7 @@ class Page:
                 self.wide.append((number, len(line)))
 
     def read_rows(self):
-        """The words in the last column of tables of clauses, or of where to look."""
+        """Returns the words in the last column of tables of clauses, or of where to look."""
         has_clauses = None
         for number, line, kind in self.lines:
             if kind != 'row':
@@ -88,8 +88,8 @@ class Page:
                 self.words += [(number, word) for word in re.findall(r'\b[A-Za-z_][A-Za-z0-9_]*', code)]
 
     def anchors(self):
-        """Those of its headings, by the rule of GitHub: in small letters, without marks, a hyphen for each space, and a
-        number behind those that came before."""
+        """Returns the anchors of its headings, by GitHub's rule: in lower case, without punctuation, with a hyphen for
+        each space, and a number if an earlier heading has the same."""
         before = Counter()
         for _, line, kind in self.lines:
             if kind == 'text' and re.match('#+ ', line):

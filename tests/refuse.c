@@ -1,5 +1,6 @@
-/* Loaded before a program: counts its calls for memory, and refuses the one that REFUSE names, counted from 1. At its
-   end it writes to the file that CALLS names how many calls there were, and how many bytes were held at most. */
+/* Preloaded into a program: counts its allocations, and refuses the one that REFUSE names, counted from 1. At its end
+   it writes to the file that CALLS names how many calls there were, and the greatest number of bytes that were
+   allocated at once. */
 #define _GNU_SOURCE
 #include <dlfcn.h>
 #include <malloc.h>

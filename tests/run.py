@@ -1,6 +1,6 @@
-"""Runs the test modules side by side, each as a process: `python3 -m tests.run`, or with `--quick` what needs no proof.
-What a failed one wrote is shown whole. The last line is `N passed, N failed, N skipped`, where each row of a table
-counts, and the status is 1 where anything failed."""
+"""Runs the test modules side by side, each as a process: `python3 -m tests.run`, or with `--quick` those that need no
+proof. The output of a failed one is shown in full. The last line is `N passed, N failed, N skipped`, where each row of
+a table counts, and the status is 1 if anything failed."""
 
 import os
 import re
@@ -45,7 +45,8 @@ def run_one(name):
 
 
 class Part:
-    """A module that runs as a process. Where that is killed, its files and what it started are found by this one."""
+    """A module that runs as a process. If it is killed, its files and the processes that it started are found through
+    this object."""
 
     def __init__(self, name):
         self.name = name
@@ -56,7 +57,8 @@ class Part:
             stdin=subprocess.DEVNULL, stdout=self.written, stderr=subprocess.STDOUT)
 
     def counts(self):
-        """Tells how it ended, and gives how many passed, failed and were skipped. Where it ran nothing, it failed."""
+        """Reports how it ended, and returns how many tests passed, failed and were skipped. If it ran nothing, it
+        failed."""
         self.written.seek(0)
         text = self.written.read().decode(errors='replace')
         found = re.search(r'^(\d+) passed, (\d+) failed, (\d+) skipped\n\Z', text, re.M)
@@ -72,7 +74,7 @@ class Part:
 
 
 def run_all(names):
-    """Runs modules, as many at once as there are processors, and gives the sums of their counts."""
+    """Runs modules, as many at once as there are processors, and returns the sums of their counts."""
     waiting, running, sums = list(names), [], [0, 0, 0]
     try:
         while waiting or running:

@@ -1,7 +1,7 @@
 """What the tests share: running programs with given streams, talking to them, and leaving nothing behind.
 
-A test's files lie in a folder of its own, `Case.folder`. Whatever it starts carries a mark in its environment, by which
-it is found, and ended when the test ends, also where a signal ends that.
+A test's files are in a folder of its own, `Case.folder`. Each process that it starts has a mark in its environment, by
+which it is found, and is killed when the test ends, even if a signal ends that.
 """
 
 import atexit
@@ -25,24 +25,24 @@ import unittest
 
 TOP = pathlib.Path(__file__).resolve().parent.parent
 DEMO = TOP / 'examples/demo.toml'
-# Whether the sources are to be run, by `rt try`, and not the proved programs.
+# Whether the sources are to be run by `rt try`, instead of the proved programs.
 IS_UNPROVED = os.environ.get('UNPROVED') == '1'
 MARK = f'NVME_TESTS_{secrets.token_hex(8)}'
 
 
 def interrupt(number, frame):
-    """Ends the tests at a signal as Ctrl-C does, so that what is to be done at the end is done."""
+    """Ends the tests at a signal as Ctrl-C does, so that their cleanup is done."""
     raise KeyboardInterrupt(signal.Signals(number).name)
 
 
-# A program gets the default action for these, also where a shell had the tests ignore some. (nohup is heeded.)
+# A program gets the default action for these, even if a shell made the tests ignore some. (nohup is respected.)
 for end_signal in signal.SIGHUP, signal.SIGINT, signal.SIGQUIT, signal.SIGTERM:
     if end_signal != signal.SIGHUP or signal.getsignal(end_signal) != signal.SIG_IGN:
         signal.signal(end_signal, interrupt)
 
 
 def program(name):
-    """The proved program of a crate."""
+    """Returns the proved program of a crate."""
     path = TOP / 'crates' / name / 'out' / name
     if not path.exists():
         raise FileNotFoundError(f'{path} is not built')
@@ -50,8 +50,8 @@ def program(name):
 
 
 def library():
-    """The folder of the library nvme_controller, where `make library` made it of the sources as they stand. The gate
-    makes none: that proves each crate below the library once more."""
+    """Returns the folder of the library nvme_controller, if `make library` made it from the current sources. The gate
+    doesn't make it, because that proves each crate below the library once more."""
     if run(TOP / 'tools/stamp', 'is-current', 'nvme_controller').status != 0:
         raise unittest.SkipTest('the library of these sources does not stand: make library')
     ended = run(TOP / 'tools/library', limit=600)
@@ -62,7 +62,7 @@ def library():
 
 @functools.lru_cache(maxsize=None)
 def process_folder():
-    """The temporary folder of this process, which is removed at its end."""
+    """Returns the temporary folder of this process, which is removed at its end."""
     folder = pathlib.Path(tempfile.mkdtemp(prefix='nvme-tests.')).resolve()
     folder.chmod(0o755)  # (some programs are run by other users)
     atexit.register(shutil.rmtree, folder, ignore_errors=True)
@@ -71,14 +71,14 @@ def process_folder():
 
 @functools.lru_cache(maxsize=None)
 def compiled(source, *options):
-    """A library made of a C file of tests/, compiled once in this process."""
+    """Returns a library that is made from a C file of tests/, compiled once in this process."""
     made = process_folder() / f'{source}.so'
     subprocess.run(['cc', '-O2', '-shared', '-fPIC', '-o', made, TOP / 'tests' / source, *options], check=True)
     return made
 
 
 def copy_sources(folder):
-    """Copies the sources of all crates to a folder, with the files that go with them."""
+    """Copies the sources of all crates to a folder, with the files that belong to them."""
     for name in 'crates.txt', 'HANDLES':
         shutil.copy(TOP / name, folder)
     for part in 'src', 'specs', 'proofs':
@@ -87,7 +87,7 @@ def copy_sources(folder):
 
 
 def until(condition, limit=60):
-    """Whether the condition comes true within so many seconds."""
+    """Returns whether the condition comes true within this number of seconds."""
     end = time.monotonic() + limit
     while not condition():
         if time.monotonic() > end:
@@ -97,7 +97,7 @@ def until(condition, limit=60):
 
 
 def left_running():
-    """The processes that run of those that the tests of this process started, themselves or through others."""
+    """Returns the running processes that the tests of this process started, directly or through others."""
     found = []
     for entry in pathlib.Path('/proc').glob('[0-9]*/environ'):
         # (a process may end meanwhile, or be another user's)
@@ -109,7 +109,7 @@ def left_running():
 
 @atexit.register
 def end_all():
-    """Kills all that is left running."""
+    """Kills everything that is still running."""
     while left_running():
         for number in left_running():
             with contextlib.suppress(ProcessLookupError):
@@ -118,12 +118,12 @@ def end_all():
 
 
 def environment(variables=()):
-    """This process's environment, with the mark and these variables."""
+    """Returns this process's environment, with the mark and these variables."""
     return {**os.environ, MARK: '1', **{name: str(value) for name, value in dict(variables).items()}}
 
 
 def shell_line(command, source=b'', out=None, err=None, env=(), cwd=TOP):
-    """A run as a line for a shell, which repeats it."""
+    """Returns a run as a line for a shell, which repeats it."""
     words = ['env'] * bool(env) + [f'{name}={value}' for name, value in dict(env).items()] + list(command)
     line = ' '.join(shlex.quote(os.fsdecode(word)) for word in words)
     if not isinstance(source, bytes):
@@ -136,7 +136,7 @@ def shell_line(command, source=b'', out=None, err=None, env=(), cwd=TOP):
 
 
 class Ended:
-    """How a run ended: its line for a shell, status (below zero the number of a signal), output and messages."""
+    """How a run ended: its line for a shell, status (below zero, the number of a signal), output and messages."""
 
     def __init__(self, line, status, out=b'', err=b''):
         self.line, self.status, self.out, self.err = line, status, out, err
@@ -149,7 +149,7 @@ class Ended:
 
 
 def opened(files, path, mode):
-    """A file that is closed with these files: that of the path, or a temporary one."""
+    """Returns a file that is closed with these files: that of the path, or a temporary one."""
     if path is None:
         return files.enter_context(tempfile.TemporaryFile()).fileno()
     number = os.open(path, mode, 0o666)
@@ -158,10 +158,10 @@ def opened(files, path, mode):
 
 
 def run(*command, source=b'', out=None, err=None, env=(), cwd=TOP, limit=120):
-    """Runs a command to its end. Its input is `source`, bytes or the path of a file. Its output and its messages are
-    kept, or go to the files `out` and `err`; `err='&1'` keeps both in their order as output.
+    """Runs a command to its end. Its input is `source`, which is bytes or the path of a file. Its output and its
+    messages are returned, or go to the files `out` and `err`; with `err='&1'` both are returned in order as output.
 
-    All of them are files, so that what a command leaves running can't hold up the test.
+    All of them are files, so that a process that the command leaves running can't delay the test.
     """
     line = shell_line(command, source, out, err, env, cwd)
     with contextlib.ExitStack() as files:
@@ -183,7 +183,7 @@ def run(*command, source=b'', out=None, err=None, env=(), cwd=TOP, limit=120):
 
 
 class Running:
-    """A command in the background, to which a test talks through pipes, or on a terminal that is its own."""
+    """A command in the background that a test talks to through pipes, or on a terminal of its own."""
 
     def __init__(self, *command, terminal=False, env=(), cwd=TOP):
         self.line = shell_line(command, env=env, cwd=cwd)
@@ -206,7 +206,7 @@ class Running:
         os.write(self.speaks, text)
 
     def hear(self, limit):
-        """Takes what it writes within so many seconds. Returns whether there was something."""
+        """Reads what it writes within this number of seconds. Returns whether there was anything."""
         if not select.select([self.hears], [], [], max(0, limit))[0]:
             return False
         try:
@@ -217,14 +217,14 @@ class Running:
         return piece != b''
 
     def comes(self, text, limit=60):
-        """Waits until what was heard ends with this text."""
+        """Waits until what was read ends with this text."""
         end = time.monotonic() + limit
         while not self.heard.endswith(text):
             if not self.hear(end - time.monotonic()):
                 raise AssertionError(f'{self.line}\n{text} did not come, only {self.heard[-2000:]}')
 
     def end(self, limit=60):
-        """Ends its input, and tells how it ended, with all that was heard as its output."""
+        """Ends its input, and returns how it ended, with everything that was read as its output."""
         if self.is_on_terminal:
             self.say(b'\x04')
         else:
@@ -241,14 +241,14 @@ def own_terminal():
 
 
 def difference(name, wanted, got):
-    """The first line in which an output isn't the wanted one, in words; nothing where there is none."""
+    """Describes the first line in which an output isn't the wanted one. Returns nothing if there is none."""
     lines = itertools.zip_longest(wanted.splitlines(True), got.splitlines(True))
     return [f'{name}, line {number}: wanted {one}, got {other}'
             for number, (one, other) in enumerate(lines, 1) if one != other][:1]
 
 
 class Case(unittest.TestCase):
-    """A test with a folder of its own, which leaves no process."""
+    """A test with a folder of its own, which leaves no process behind."""
 
     def setUp(self):
         self.folder = pathlib.Path(tempfile.mkdtemp(dir=process_folder()))
@@ -262,13 +262,13 @@ class Case(unittest.TestCase):
             self.fail(f'these processes were left running: {numbers}')
 
     def file(self, name, data):
-        """A file in the test's folder."""
+        """Makes a file in the test's folder."""
         path = self.folder / name
         path.write_bytes(data)
         return path
 
     def ends(self, ended, status, out=None, err=None):
-        """Compares how a run ended with this status, output and messages; what is None may be anything."""
+        """Compares how a run ended with this status, output and messages. What is None may be anything."""
         wrong = [] if ended.status == status else [f'wanted status {status}, got {ended.end()}']
         wrong += [] if out is None else difference('output', out, ended.out)
         wrong += [] if err is None else difference('messages', err, ended.err)

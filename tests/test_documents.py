@@ -1,10 +1,12 @@
 """Looks at the pages of the repository, as far as a program can. What a link leads to is there, its heading too. What
 is named as a file or folder is there. The words of the last column of a table of clauses, or of where to look, stand in
 the sources of the crates. A block of code that is said to be from a file stands there as it is. No line is wider than
-140 columns outside of tables and code, and none names a folder of a machine. Numbers of lines, programs and scripts
-that pages show are those of the sources. What the sentences claim is not looked at."""
+140 columns outside of tables and code, and none names a folder of a machine. Numbers of lines, programs, files and
+definitions that pages show are those of the sources, and scripts write what is shown. Words are spelled as codespell
+knows them. What the sentences claim is not looked at."""
 
 import re
+import shutil
 import subprocess
 import textwrap
 import unittest
@@ -13,6 +15,9 @@ from tests.pages import PAGES, Page
 from tests.support import IS_UNPROVED, TOP, Case, program, run
 
 ALL = [Page(str(path.relative_to(TOP))) for pattern in PAGES for path in sorted(TOP.glob(pattern))]
+MANUAL = sorted(TOP.glob('docs/*.[13]'))
+# "crate" is Rust's word, "to and fro" is English, and Nd and Fo are macros of manual pages.
+NO_MISTAKES = 'crate,fro,nd,fo'
 
 
 def text_of(name):
@@ -20,14 +25,14 @@ def text_of(name):
 
 
 def of_kind(kind):
-    """All that the pages have of a kind, each with its page and its line as an editor takes them."""
+    """Returns all items of a kind in the pages, each with its page and its line as an editor takes them."""
     found = [(page, f'{page.name}:{number}', *what) for page in ALL for number, *what in getattr(page, kind)]
     assert found or kind == 'wide', f'no page has {kind}'
     return found
 
 
 def words_of_sources():
-    """The words in the sources, and in the names of their files and of the proofs'."""
+    """Returns the words in the sources, and in the names of their files and of the proofs' files."""
     words = set()
     for part in 'src', 'specs', 'proofs':
         for path in TOP.glob(f'crates/*/{part}/**/*'):
@@ -38,7 +43,8 @@ def words_of_sources():
 
 
 def stands(block, text):
-    """Whether the lines of a block stand in a text one after another, all of them indented by as much more."""
+    """Returns whether the lines of a block occur in a text one after another, all of them indented by the same
+    amount."""
     block = textwrap.dedent(block).splitlines()
     lines = text.splitlines()
     spans = (lines[at:at + len(block)] for at in range(len(lines) - len(block) + 1))
@@ -57,9 +63,19 @@ class Pages(Case):
                 if heading:
                     self.assertIn(heading, list(Page(str(target.relative_to(TOP))).anchors()), place)
 
+    def test_links_of_installed_pages(self):
+        self.ends(run('make', '-s', 'install-pages', f'PREFIX={self.folder}'), 0)
+        pages = self.folder / 'share/doc/nvme-script'
+        links = [(page.name, link) for page in pages.glob('*.md')
+                 for link in re.findall(r'\]\(([^)#]+)', page.read_text()) if '://' not in link]
+        self.assertNotEqual(links, [])
+        for name, link in links:
+            with self.subTest(name):
+                self.assertTrue((pages / link).exists(), f'{name}: the link {link} leads to nothing')
+
     def test_files(self):
         for _, place, path in of_kind('files'):
-            # what a build makes is there after one
+            # what a build makes exists only after one
             if not re.match(r'crates/[^/]*/out(/|$)', path):
                 with self.subTest(place):
                     self.assertTrue(any(TOP.glob(path)), f'{place}: there is no {path}')
@@ -79,29 +95,27 @@ class Pages(Case):
     def test_lines_are_not_wide(self):
         self.assertEqual([place for _, place, _ in of_kind('wide')], [])
 
+    @unittest.skipIf(shutil.which('codespell') is None, 'codespell is not installed')
+    def test_spelling(self):
+        paths = [TOP / page.name for page in ALL] + MANUAL
+        said = subprocess.run(['codespell', '--ignore-words-list', NO_MISTAKES, *paths], cwd=TOP,
+                              capture_output=True, text=True)
+        self.assertEqual((said.stdout, said.returncode), ('', 0), said.stderr)
+
     def test_no_folder_of_a_machine(self):
         for page in ALL:
             with self.subTest(page.name):
                 self.assertNotRegex(page.text, r'/(work|opt|farm)/|[Pp]aper 0[1-4]')
 
 
-def code_of(name, language):
-    """The blocks of code of this language in a page, one behind the other."""
-    return ''.join(re.findall(rf'^```{language}\n(.*?)^```$', text_of(name), re.M | re.S))
+class Examples(Case):
+    """What pages show of the program is what it writes."""
 
+    def setUp(self):
+        super().setUp()
+        if IS_UNPROVED:
+            self.skipTest('the examples of the pages are run by the proved program')
 
-class Copies(Case):
-    def test_lists_of_definitions(self):
-        said = subprocess.run([TOP / 'tools/believed', '--page'], capture_output=True, check=True, text=True).stdout
-        for table in said.rstrip('\n').split('\n\n'):
-            is_there = f'\n{table}\n' in text_of('docs/MODEL.md')
-            self.assertTrue(is_there, f'docs/MODEL.md: tools/believed --page prints\n{table}')
-
-    def test_no_public_contract_reaches_inner_definitions(self):
-        said = subprocess.run([TOP / 'tools/believed', '--inner'], capture_output=True, check=True, text=True).stdout
-        self.assertEqual(said, '')
-
-    @unittest.skipIf(IS_UNPROVED, 'the first script of README.md is run by the proved program')
     def test_first_script_of_readme(self):
         readme = text_of('README.md')
         shown = re.search(r"<<'SCRIPT'\n(.*?)^    SCRIPT$.*?^prints\n\n(.*?)\n^and, on", readme, re.M | re.S)
@@ -109,6 +123,47 @@ class Copies(Case):
         ended = run(program('nvme_script'), source=script)
         self.ends(ended, 0, output)
         self.assertIn(f'`{ended.err.decode().strip()}`', readme)
+
+    def test_scripts(self):
+        """The lines after `>` in a block of `nvme`, which can name a subsystem file, write all its other lines."""
+        for name in 'COMMANDS', 'GUIDE':
+            blocks = re.findall(r'^```nvme *(.*?)\n(.*?)^```$', text_of(f'docs/{name}.md'), re.M | re.S)
+            self.assertNotEqual(blocks, [])
+            for subsystem, block in blocks:
+                script = ''.join(re.findall(r'(?m)^> (.*\n)', block))
+                arguments = ['--subsystem', TOP / subsystem] if subsystem else []
+                with self.subTest(f'{name}: {script}'):
+                    ended = run(program('nvme_script'), *arguments, source=script.encode(), err='&1')
+                    self.assertEqual(ended.out.decode(), re.sub(r'(?m)^> .*\n', '', block), ended)
+
+    def test_faults_of_subsystem_files(self):
+        """Each row of the table is a fault of the demonstration file with one text in place of another."""
+        rows = re.findall(r'^\| `(.+?)` \| `(.+?)` \| (?:`(.+?)`)? ?\| .*\|$', text_of('docs/SUBSYSTEM-FILE.md'), re.M)
+        self.assertEqual(len(rows), 9)
+        demo = text_of('examples/demo.toml')
+        for fault, old, new in rows:
+            with self.subTest(fault):
+                self.assertEqual(demo.count(old), 1)
+                path = self.file('subsystem.toml', demo.replace(old, new).encode())
+                ended = run(program('nvme_script'), '--subsystem', path)
+                self.ends(ended, 3, b'', f'nvme-script: subsystem: {fault}\n'.encode())
+
+
+def code_of(name, language):
+    """Returns the blocks of code of this language in a page, one after another."""
+    return ''.join(re.findall(rf'^```{language}\n(.*?)^```$', text_of(name), re.M | re.S))
+
+
+class Copies(Case):
+    def test_lists_of_definitions(self):
+        said = subprocess.run([TOP / 'tools/believed', '--page'], capture_output=True, check=True, text=True).stdout
+        for table in said.rstrip('\n').split('\n\n'):
+            is_there = f'\n{table}\n' in text_of('docs/PROOFS.md')
+            self.assertTrue(is_there, f'docs/PROOFS.md: tools/believed --page prints\n{table}')
+
+    def test_no_public_contract_reaches_inner_definitions(self):
+        said = subprocess.run([TOP / 'tools/believed', '--inner'], capture_output=True, check=True, text=True).stdout
+        self.assertEqual(said, '')
 
     def test_demonstration_file(self):
         source_file, = TOP.glob('crates/*/src/demo.rt')
@@ -119,7 +174,10 @@ class Copies(Case):
         for copy in source, document:
             self.assertEqual([line for line in copy.splitlines() if line], wanted)
 
+    def test_file_of_guide(self):
+        self.assertEqual(code_of('docs/GUIDE.md', 'toml'), text_of('examples/guide.toml'))
+
     def test_programs_of_benches(self):
-        names = 'by_hand', 'by_list', 'own_bus', 'in_memory', 'from_file'
+        names = 'by_hand', 'own_bus', 'in_memory'
         source = ''.join(text_of(f'crates/nv_benches/src/{name}.rt') for name in names)
         self.assertEqual(code_of('docs/BENCHES.md', 'rust'), source)

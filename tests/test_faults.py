@@ -1,6 +1,6 @@
-"""Runs nvme-script and nvme-device over standard streams of which one call fails: a read in mid-script, also where the
-output can't be written any more, and writes that are interrupted; the device also over requests that are cut short or
-too long."""
+"""Runs nvme-script and nvme-device over standard streams of which one call fails: a read in the middle of a script,
+even when the output can't be written any more, and writes that are interrupted; the device also over requests that are
+cut short or too long."""
 
 from tests.support import DEMO, TOP, Case, compiled, program, run
 
@@ -12,7 +12,7 @@ class Faulty(Case):
         self.subsystem = self.file('subsystem.toml', DEMO.read_bytes().replace(b'\nelpe = 3\n', b'\nelpe = 255\n'))
 
     def faulty(self, source, out=None, **faults):
-        """A run over this input, in which these calls fail."""
+        """Returns a run over this input in which these calls fail."""
         faults['LD_PRELOAD'] = compiled('faults.c', '-ldl')
         return run(program(self.crate), '--subsystem', self.subsystem, source=source, out=out, env=faults)
 
@@ -23,11 +23,11 @@ class Script(Faulty):
     three_lines = line + b'list-ns\n' + line
 
     def test_read_fault(self):
-        # the first line's output is held back when the second read fails
+        # the first line's output is still buffered when the second read fails
         self.ends(self.faulty(self.line, FAIL_READ=2), 4, b'[   0]:0x3\n', b'nvme-script: read fault\n')
 
     def test_full_device(self):
-        # after another end than a status a flush that fails is not told
+        # after any end other than a status, a flush that fails is not reported
         self.ends(self.faulty(self.line, '/dev/full', FAIL_READ=2), 4, err=b'nvme-script: read fault\n')
         self.ends(self.faulty(self.line, '/dev/full'), 5, err=b'nvme-script: write fault\n')
 
@@ -42,7 +42,7 @@ class Script(Faulty):
                 self.ends(ended, 0, b'[   0]:0x3\n' * 2, b'line 2: usage error\n')
 
     def test_interrupted_log(self):
-        # a line that writes more than is held back: the log is some 16,000 bytes
+        # a line that writes more than the buffer holds: the log has some 16,000 bytes
         script = b'create-ns /dev/nvme0 -s 1 -c 1 -f 0\n' * 64 + b'error-log /dev/nvme0 -e 64\n'
         whole = self.faulty(script)
         self.ends(whole, 0)

@@ -1,6 +1,5 @@
-"""Installs the built programs with their manual in a folder, as a user would, and looks at each: the programs answer
-from there, the manual pages have no warnings, and each option of a program has its place there and in the
-completion."""
+"""Installs the built programs with their manual in a folder, as a user would, and checks each: the programs work from
+there, the manual pages have no warnings, and each option of a program is described there and is in the completion."""
 
 import re
 import shutil
@@ -10,7 +9,7 @@ from tests.support import DEMO, TOP, Case, library, run
 
 SYNOPSIS = re.search(r'(?m)^nvme-script \[.*', (TOP / 'docs/COMMANDS.md').read_text()).group()
 OPTIONS = re.findall(r'\[(--[a-z-]+)', SYNOPSIS)
-# A look at the demonstration's nodes that needs no NVMe tool.
+# A check of the demonstration's nodes that needs no NVMe tool.
 LOOK = 'test -c /dev/nvme0 && test -b /dev/nvme0n3 && cat /sys/class/nvme/nvme1/serial'
 
 
@@ -89,7 +88,7 @@ class Installed(Case):
                 self.ends(self.completed(words), 0, wanted.encode() + b'\n', b'')
 
     def completed(self, words):
-        """What the last of these words can become."""
+        """Returns what the last of these words can be completed to."""
         line = '. "$0"; compopt() { :; }; COMP_WORDS=("$@"); COMP_CWORD=$(($# - 1)); _nvme_script; echo ${COMPREPLY[*]}'
         completion = self.prefix / 'share/bash-completion/completions/nvme-script'
         return run('bash', '-c', line, completion, 'nvme-script', *words)

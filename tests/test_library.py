@@ -1,6 +1,6 @@
-"""The library nvme_controller, from programs in C, C++, Python and SystemVerilog: what its callers can get wrong, what
-it does to their memory, and the examples of examples/c, which print what nvme-script prints. These tests want the library
-that `make library` made of the sources as they stand."""
+"""Tests the library nvme_controller from programs in C, C++, Python and SystemVerilog: the mistakes that its callers
+can make, what it does to their memory, and the examples of examples/c, which print what nvme-script prints. These tests
+need the library that `make library` made from the current sources."""
 
 import shutil
 import unittest
@@ -45,9 +45,17 @@ class Library(Case):
                 ended = run(*words, env={'PYTHONPATH': self.library, 'PYTHONDONTWRITEBYTECODE': '1'})
                 self.ends(ended, 0, wanted.out, b'NVMe status: 0x6115\n')
 
-    def test_bench_over_a_file_with_a_fault(self):
-        fault = self.file('fault.toml', DEMO.read_bytes().replace(b'nn = 4', b'nn = 0'))
-        self.ends(run(self.compile(TOP / 'examples/c/bench.c'), fault), 3, b'', b'bench: out of range\n')
+    def test_texts_of_faults(self):
+        made = self.compile(TOP / 'examples/c/bench.c')
+        for old, new, text in ((b'nn = 4', b'nn = 0', b'out of range top.nn'), (b'nn = 4', b'', b'missing top.nn'),
+                               (b'nn = 4', b'nn = "4"', b'wrong kind top.nn'), (b'nn = 4', b'nn = ', b'not TOML'),
+                               (b'nn = 4', b'nn = 4\nmm = 4', b'unknown key in top'),
+                               (b'tnvmcap = ', b'tnvmcap = 1 # ', b'capacity')):
+            with self.subTest(text):
+                fault = self.file('fault.toml', DEMO.read_bytes().replace(old, new, 1))
+                self.ends(run(program('nvme_script'), '--subsystem', fault), 3, b'',
+                          b'nvme-script: subsystem: ' + text + b'\n')
+                self.ends(run(made, fault), 3, b'', b'bench: ' + text + b'\n')
 
     @unittest.skipUnless(shutil.which('c++'), 'there is no C++ compiler')
     def test_header_in_cpp(self):
@@ -76,7 +84,7 @@ import nvme_controller as nvme
 machine = nvme.Machine()
 assert machine.controllers() == 2 and machine.read32(2, nvme.VS) == 0xffffffff and machine.counts(0) == (0, 0)
 assert machine.log_entry(0, 0) is None and machine.turn(0, bytearray(4096)) == 0
-for file, number, text in (b'[', 1, 'not TOML'), (b'', 2, 'missing'):
+for file, number, text in (b'[', 1, 'not TOML'), (b'', 2, 'missing top.version'):
     try:
         nvme.Machine(file)
         raise AssertionError(file)

@@ -1,5 +1,5 @@
 """Runs ./nvme-model on machines that have NVMe nodes of their own, in a mount namespace that a test makes: as root with
-true device nodes, else with files. Whatever a command does there, the machine is what it was."""
+real device nodes, otherwise with files. Whatever a command does there, the machine doesn't change."""
 
 import contextlib
 import os
@@ -20,7 +20,7 @@ BEGIN = 'echo MODELLED | dd of=/dev/nvme0n1 conv=notrunc 2> /dev/null; . "$place
 LATER = 'sleep 1; . "$place/attack.sh"; attack > "$place/late" 2>&1; echo end >> "$place/late"'
 AGAIN = 'sh -c \'. "$place/attack.sh"; attack\''
 
-# What runs the attack: at once, or after the command's end.
+# How the attack is run: at once, or after the command has ended.
 AT_ONCE = {
     'the command itself': 'attack', 'a static shell': f'busybox {AGAIN}', 'without an environment':
     f'env -i PATH="$PATH" static="$static" place="$place" caller=$caller launcher=$launcher device=$device {AGAIN}',
@@ -75,7 +75,7 @@ class Machine:
                 (self.case.folder / name).unlink()
 
     def looks(self):
-        """All that must stay as it is."""
+        """Returns everything that must not change."""
         found = {}
         for folder, folders, files in os.walk(self.root / 'dev'):
             folders[:] = [name for name in folders if name not in ('pts', 'shm')]
@@ -96,7 +96,7 @@ class Machine:
             self.case.assertEqual(sorted(set(pairs[0]) ^ set(pairs[1])), [], f'a {kind} has changed')
 
     def model(self, script, user=(), options=(), where='/', by=(), **more):
-        """A script of the shell under ./nvme-model on this machine, by a user."""
+        """Returns a shell script under ./nvme-model on this machine, run by a user."""
         self.case.needs(script)
         for name in 'seven', 'plain', 'reached':
             self.case.file(name, b'CLOBBER').chmod(0o666)
@@ -117,7 +117,8 @@ class MachineCase(ModelCase):
         (self.folder / 'chain').symlink_to('/dev/disk/by-id/nvme-machine')
 
     def reached_nothing(self, machine, ended, text, least=1):
-        """An attack came to its end, found the model's data this often at least, and nothing of the machine."""
+        """Checks that an attack ran to its end, and found the model's data at least this often and nothing of the
+        machine."""
         found = re.findall(rb"(?m)^(\d+) times the model's$", text)
         self.assertTrue(found, ended)
         self.assertNotIn(b'reached', text, ended)
@@ -160,7 +161,7 @@ class Machines(MachineCase):
     """What else holds on a machine with nodes, for root and for another user."""
 
     def users(self):
-        """Machines, each with a user."""
+        """Returns machines, each with a user."""
         kinds = [('devices', ()), ('devices', NOBODY)] if IS_ROOT else []
         for kind, user in (*kinds, ('files', ()), ('files', NESTED)):
             with self.subTest(kind=kind, user=user), contextlib.closing(Machine(self, kind)) as machine:
@@ -179,7 +180,7 @@ class Machines(MachineCase):
         script = 'echo MODELLED | dd of=nvme0n1 conv=notrunc 2> /dev/null; head -c 8 ./nvme0n1 ../dev/nvme0n1 -q; pwd'
         for machine, user in self.users():
             self.ends(machine.model(script, user, where='/dev'), 0, b'MODELLEDMODELLED/dev\n', b'')
-            # the machine's /dev by another path, and the machine's / as another namespace has it
+            # the machine's /dev by another path, and the machine's / as another namespace sees it
             for far in ('cd "/proc/$caller/root/dev"; exec "$@"',
                         'exec 9< /; exec unshare -m sh -c \'cd /proc/self/fd/9; exec "$@"\' sh "$@"'):
                 ended = machine.model('head -c 8 nvme0n1 dev/nvme0n1', user, by=('sh', '-c', far, 'sh'))
@@ -199,7 +200,7 @@ class Machines(MachineCase):
             (self.folder / 'kept').unlink()
 
     def test_less_than_all_rights(self):
-        # root that may make no mount namespace gets one by a user namespace
+        # root that can't make a mount namespace gets one through a user namespace
         less = 'setpriv', '--bounding-set=-sys_admin', '--inh-caps=-sys_admin'
         if not IS_ROOT:
             self.skipTest('root alone has rights to give up')
@@ -242,7 +243,7 @@ class NoNamespace(MachineCase):
             machine.is_unchanged()
 
     def test_at_the_callers_risk(self):
-        # what sees the library reaches no device of the machine; a static program would
+        # a process that sees the library reaches no device of the machine; a static program would
         contexts = {'itself': 'attack', 'another library': f'LD_PRELOAD=x {AGAIN} 2> /dev/null',
                     'without an environment': AT_ONCE['without an environment'],
                     'in the background': f'({LATER}) & exit 0',
@@ -259,7 +260,7 @@ class NoNamespace(MachineCase):
                 self.assertEqual(ended.err.splitlines()[0][:len(MISSING)], MISSING)
 
     def test_killed_launcher(self):
-        # its folder stays, and what the command left reaches nothing
+        # its folder stays, and what the command left running reaches nothing
         with contextlib.closing(Machine(self, 'none')) as machine:
             ended = machine.model('kill -9 $PPID; sleep 0.3; nvme id-ctrl /dev/nvme0 2> "$place/late"; '
                                   'test -c /dev/nvme0 || echo end >> "$place/late"', options=['--without-namespace'])

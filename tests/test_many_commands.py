@@ -14,18 +14,18 @@ REFUSED = 'status=0x600b dword0=0x0 bytes='
 
 
 def subsystem(*edits):
-    """The operation that makes the controllers of the demonstration file with these edits."""
+    """Returns the operation that makes the controllers of the demonstration file with these edits."""
     return f'subsystem {edited("demo.toml", *edits).encode().hex()}'
 
 
 def get_log(lid, offset, length):
-    """The operation that gets a part of a log of the first controller."""
+    """Returns the operation that reads a part of a log of the first controller."""
     numd = length // 4 - 1
     return f'passthrough 0 0x02 cdw10={(numd & 0xffff) << 16 | lid} cdw11={numd >> 16} cdw12={offset} room={length}'
 
 
 def data_of(answer):
-    """The bytes that came with an accepted command."""
+    """Returns the data of an accepted command."""
     beginning = 'status=0x0 dword0=0x0 bytes='
     if not answer.startswith(beginning):
         raise AssertionError(answer[:200])
@@ -42,7 +42,7 @@ def booked(number):
 
 class ManyCommands(unittest.TestCase):
     def refused(self, elpe, operations):
-        """What these operations are answered after 300 refusals, with an error log of one entry more than `elpe`."""
+        """Returns the answers to these operations after 300 refusals, with an error log of `elpe` + 1 entries."""
         before = [subsystem('elpe = 3', f'elpe = {elpe}'), 'bring_up'] + REFUSALS * ['passthrough 0 0x06']
         answers = answers_to(before + operations)
         self.assertEqual(answers[2:len(before)], REFUSALS * [REFUSED])
@@ -55,7 +55,7 @@ class ManyCommands(unittest.TestCase):
             with self.subTest(elpe=elpe):
                 log = ''.join(booked(REFUSALS - index) for index in range(elpe + 1))
                 end = len(log) // 2
-                # what is past the log's end is zeros, and a log page begins at its end at the latest
+                # there are zeros past the log's end, and a log page begins no later than its end
                 whole = bytes.fromhex(log) + bytes(200)
                 around = {place for step in range(0, 140, 4) for place in (step, end - 136 + step)}
                 places = sorted(place for place in around if 0 <= place <= end)
@@ -71,8 +71,18 @@ class ManyCommands(unittest.TestCase):
         health = data_of(self.refused(3, [get_log(2, 0, 512)])[0])
         self.assertEqual(health, bytes(176) + REFUSALS.to_bytes(16, 'little') + bytes(320))
 
+    def test_counts_beyond_the_command_identifiers(self):
+        """Identifiers go from 0 to fffeh and begin anew, so that the 65,537th command has 1; counts go on. Section
+        "Submission Queue Entry - Command Format": FFFFh is used for no command."""
+        accepted = 65536 * ['passthrough 0 0x0a cdw10=6']
+        told = ['passthrough 0 0x06', 'counts 0', 'log_entry 0 0']
+        answers = answers_to(['subsystem', 'bring_up'] + accepted + told)
+        self.assertEqual(answers[2:-3], 65536 * ['status=0x0 dword0=0x1 bytes='])
+        entry = entry_of('error_entry', 'count=1 cid=1 status=0x600b phase=1 location=0xffff')
+        self.assertEqual(answers[-3:], [REFUSED, 'refusals=0x1 commands=0x10001', f'bytes={entry}'])
+
     def test_namespaces(self):
-        """Section "Namespace Management command": each of 1,024 NSIDs is given, the least free one first."""
+        """Section "Namespace Management command": each of 1,024 NSIDs is assigned, the least free one first."""
         create = f'passthrough 0 0x0d data={entry_of("id_ns", "nsze=1 ncap=1")}'
         full = 'status=0x6116 dword0=0x0 bytes='
         answers = answers_to([subsystem('nn = 4', 'nn = 1024'), 'bring_up'] + 1023 * [create]

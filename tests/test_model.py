@@ -1,4 +1,4 @@
-"""Tries ./nvme-model: the ioctls of client/check.c over drivers of several geometries, arguments, several subsystems,
+"""Tests ./nvme-model: the ioctls of client/check.c with drivers of several geometries, arguments, several subsystems,
 nodes and the data of namespaces, signals, and the tools that are installed."""
 
 import itertools
@@ -28,7 +28,7 @@ class Ioctls(ModelCase):
                 self.says(self.model(check, 'gone', options=geometry.split()), 0, 'nvme-model: the device ended')
 
     def test_sanitized(self):
-        # the library's sources stand in the check itself; what is preloaded is another library
+        # the library's sources are compiled into the check itself; the preloaded library is another one
         sanitizers = '-fsanitize=address,undefined', '-fno-sanitize-recover=all', '-ldl', '-pthread'
         launcher = compiled_c(self.folder / 'bin/nvme-model', PARTS['bin/nvme-model'], *sanitizers)
         check = compiled_c(self.folder / 'check', CHECK + PARTS['lib/nvme-model/library.so'], *sanitizers)
@@ -45,7 +45,7 @@ class Ioctls(ModelCase):
                     self.assertNotIn(word, ended.err, ended)
 
     def test_device_is_killed_in_a_call(self):
-        # each of several that wait for an answer has one, and what comes later is told at once
+        # each of several calls that wait for an answer gets one, and later calls fail at once
         check = compiled_c(self.folder / 'check', CHECK, '-pthread')
         ended = self.shell('for i in 1 2 3 4; do "$1" many & done; sleep 0.3; '
                            'kill -9 $(cat /proc/$PPID/task/*/children | tr " " "\\n" | grep -vx $$); wait; '
@@ -119,7 +119,8 @@ class Arguments(ModelCase):
         self.says(self.model('true', options=['--trace=/none/x']), 72, 'nvme-model: /none/x: ')
 
     def test_script_in_a_copy(self):
-        # no command is run without a device; two that build the client at once do no harm; paths have spaces, and links
+        # no command is run without a device; two launchers that build the client at the same time do no harm; paths
+        # have spaces, and links
         copy, link = self.folder / 'a folder: here', self.folder / 'link'
         copy.mkdir()
         shutil.copy(TOP / 'nvme-model', copy)
@@ -208,7 +209,7 @@ class Signals(ModelCase):
             with self.subTest(name):
                 running = self.begun('echo $$ > "$1"; ' + script, self.folder / 'group')
                 running.process.send_signal(signal.Signals['SIG' + name])
-                # what the command left in the background has no device any more, and isn't the launcher's to end
+                # a process that the command left running has no device any more, and the launcher doesn't end it
                 self.assertTrue(until(lambda: running.process.poll() is not None))
                 self.assertEqual(running.process.returncode, {**BY_SIGNAL, 'KILL': -9}[name])
                 self.assertTrue(until(lambda: not processes_of('nvme_device\0--subsystem\0' + str(self.subsystem))))
@@ -216,7 +217,7 @@ class Signals(ModelCase):
                 self.leaves_nothing()
 
     def test_killed_launcher(self):
-        # the command goes on, and each of its calls is answered at once
+        # the command continues, and each of its calls is answered at once
         ended = self.shell('exec 3<> /dev/nvme0n1; kill -9 $PPID; sleep 0.3; for f in nvme0 nvme0n1 ng0n1; do '
                            'stat /dev/$f; cat /dev/$f; nvme id-ctrl /dev/$f; done 2> "$1"; '
                            'grep -c -e "No such device or address" "$1" > "$2"',

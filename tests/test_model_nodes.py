@@ -1,4 +1,4 @@
-"""Tries what ./nvme-model shows to programs: nodes in /dev and files in /sys, the data of namespaces, a library that
+"""Tests what ./nvme-model shows to programs: nodes in /dev and files in /sys, the data of namespaces, a library that
 stays with the processes, and the tools as they are installed."""
 
 import json
@@ -6,12 +6,13 @@ import os
 import re
 import subprocess
 import sys
+import textwrap
 import unittest
 
 from tests.modelled import WARNINGS, ModelCase, installed, static_program
 from tests.support import TOP, run
 
-# Run inside: calls that write to a node, with what must come of them.
+# Run inside: calls that write to a node, with their expected results.
 CALLS = """
 def fails(number, call, *words):
     try:
@@ -47,7 +48,7 @@ print(libc.splice(r, None, f, None, 99, 0) == 8 or ctypes.get_errno() in (errno.
 print(os.lseek(f, 0, 2))
 """
 
-# Run inside: the numbers of /sys are those of the nodes.
+# Run inside: the numbers in /sys are those of the nodes.
 NUMBERS = """
 names = set()
 for folder in glob.glob('/sys/dev/*/409*') + glob.glob('/sys/class/nvme*/n*') + glob.glob('/sys/block/nvme*'):
@@ -162,7 +163,8 @@ class Data(ModelCase):
                   b'full\nfull\n4608\n512 bytes\n12\n4608\n4608\n')
 
     def test_streams_past_the_end(self):
-        # (a stream of the C library writes by no call that the preloaded one sees: what is past the end is cut off)
+        # (a stream of the C library writes by a call that the preloaded library doesn't see: what is past the end is
+        # cut off)
         script = 'seq 2000 > /dev/nvme0n3; sleep 0.5; busybox wc -c < /dev/nvme0n3; head -n 2 /dev/nvme0n3'
         self.ends(self.shell(script), 0, b'4608\n1\n2\n', b'')
 
@@ -181,7 +183,7 @@ class Data(ModelCase):
             with self.subTest(length):
                 self.ends(self.model('sh', '-c', script, cuts, str(length)), 0,
                           b'0\n' + first + b'\n4608\nregular file 4608\n', b'')
-        # its ioctl comes to a file
+        # its ioctl reaches a file
         asks = static_program('#include <fcntl.h>\n#include <stdio.h>\n#include <sys/ioctl.h>\n'
                               'int main(int n, char **a) '
                               '{ int f = open(a[n - 1], O_RDWR); ioctl(f, 0x4e40); perror("ioctl"); return 0; }\n')
@@ -334,3 +336,9 @@ class Tools(ModelCase):
         for script in sorted((TOP / 'examples').glob('*.sh')):
             with self.subTest(script.name):
                 self.ends(self.model('sh', script), 0, script.with_suffix('.txt').read_bytes(), b'')
+
+    def test_tools_of_readme(self):
+        text = (TOP / 'README.md').read_text()
+        shown = re.search(r"nvme-model sh <<'SCRIPT'\n(.*?)^    SCRIPT$.*?prints\n\n(.*?)\n\n", text, re.M | re.S)
+        script, output = map(textwrap.dedent, shown.groups())
+        self.ends(self.shell(script), 0, f'{output}\n'.encode(), b'')

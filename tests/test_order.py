@@ -1,5 +1,5 @@
-"""Talks to nvme-script line by line, through pipes and on a terminal: what a line prints is there before the next one
-is written, and messages stand among the outputs in the order of the lines."""
+"""Talks to nvme-script line by line, through pipes and on a terminal: what a line prints is there before the next line
+is written, and messages are among the outputs in the order of the lines."""
 
 import time
 
@@ -24,7 +24,7 @@ class Order(Case):
         talk.comes(b'[   0]:0x3\n')
         talk.say(b'list-ns /dev/nvme9\n')
         talk.comes(b'line 2: no such device\n')
-        # a part of a line is no line
+        # a part of a line isn't a line
         talk.say(b'delete-ns /dev/nvme0')
         self.assertFalse(talk.hear(0.3), talk.heard)
         talk.say(b' -n 3\n')

@@ -14,7 +14,7 @@ from tests.support import DEMO, IS_UNPROVED, TOP, Case, Ended, process_folder, p
 SCRIPT = 'nvme_script' if IS_UNPROVED else program('nvme_script')
 TEXT = DEMO.read_text()
 MISSING = str(process_folder() / 'missing.toml')
-# What is special in a row that an unproved run can't be given, and why.
+# What is special in a row that can't be given to an unproved run, and why.
 ONLY_BUILT = {
     'failing input': 'rt try gives a run its own streams',
     'failing output': 'rt try gives a run its own streams',
@@ -26,7 +26,7 @@ unproved = {}
 
 
 class Row(typing.NamedTuple):
-    """What the program is given, and what it must give. An output of None may be any."""
+    """What the program is given, and the expected result. An output of None may be any."""
 
     arguments: tuple = ()
     status: int = 0
@@ -41,12 +41,12 @@ class Row(typing.NamedTuple):
 
 
 def told(text, *arguments, **more):
-    """A row with status 3, in which the program says why."""
+    """A row with status 3, in which the program reports why."""
     return Row(arguments, 3, b'nvme-script: %s\n' % text.encode(), **more)
 
 
 def file(name, text):
-    """The path of a file with this text."""
+    """Returns the path of a file with this text."""
     path = process_folder() / name
     path.write_bytes(text if isinstance(text, bytes) else text.encode())
     return str(path)
@@ -66,12 +66,14 @@ def refused_arguments():
         yield told('arguments', argument)
     yield told('arguments', b'\xff', special='not UTF-8')
     yield told('arguments', '--subsystem', b'examples/\xff', special='not UTF-8')
+    yield told('arguments', '--script=one.nvme')
     yield told('arguments', '--subsystem', str(DEMO), '--subsystem', str(DEMO))
+    yield told('arguments', '--depth=8', '--depth=8')
     yield told('arguments', '--subsystem', '-demo.toml')
 
 
 def refused_options():
-    """Options that are no numbers of 32 bits, and geometries out of their limits, by their first such field."""
+    """Options that are no 32-bit numbers, and geometries outside their limits, by the first such field."""
     for option in 'depth', 'page-size', 'offset', 'list-offset', 'window', 'pace':
         for value in '', 'x', '-1', '08', '4294967296':
             yield told('arguments', f'--{option}={value}')
@@ -123,7 +125,7 @@ def unreadable_files():
 
 
 def faults_of_files():
-    """A file's first fault, of each kind."""
+    """The first fault of a file, of each kind."""
     yield told('subsystem: not TOML', '--subsystem', file('equals.toml', '=\n'))
     yield told('subsystem: not TOML', '--subsystem', file('bytes.toml', b'\xff\n'))
     for text, old, new in (
@@ -140,7 +142,7 @@ def faults_of_files():
 
 
 def examples():
-    """What each script writes lies beside it; the last line of its file .err is the status."""
+    """What each script writes is in the files next to it; the last line of its file .err is the status."""
     for script in sorted(TOP.glob('examples/*.nvme')):
         *messages, last = script.with_suffix('.err').read_bytes().splitlines(True)
         subsystem = script.with_suffix('.toml')
@@ -150,7 +152,7 @@ def examples():
 
 
 def scripts_of(path):
-    """The scripts of a file of tests/scripts, with what they write, what they say and their status."""
+    """Returns the scripts of a file of tests/scripts, with their outputs, their messages and their status."""
     script = None
     for line in path.read_bytes().splitlines(True):
         if line == b'\n' or line.startswith(b'#'):
@@ -170,18 +172,33 @@ def scripts_of(path):
     assert script is None, f'{path}: the last script has no status'
 
 
+def geometries():
+    """The options of drivers of every kind, and none."""
+    greatest = '--depth 4096 --page-size 65536 --offset 65532 --list-offset 65528 --window 16 --pace 4096'
+    return [()] if IS_UNPROVED else [(), tuple(greatest.split())] + [
+        ('--page-size', str(page), '--depth', str(depth), '--offset', str(offset))
+        for page in (4096, 8192, 16384, 32768, 65536) for depth in (2, 4096) for offset in (0, 4, page - 4)]
+
+
+def unended_lines():
+    """Scripts that aren't lines of text with an end each."""
+    for options in geometries():
+        yield Row(options, 0, b'', b'', b'')
+        yield Row(options, 0, b'', b'[   0]:0x1\n[   1]:0x3\n', b'list-ns /dev/nvme0')
+        yield Row(options, 1, b'line 1: not UTF-8 text\n', b'', b'\xff')
+        yield Row(options, 1, b'line 1: line too long\n', b'', b'a' * 4096)
+
+
 def scripts():
     """By drivers of every kind of geometry, over the file beside the scripts or the demonstration file, and over that
     in version 2."""
-    geometries = [('--page-size', str(page), '--depth', str(depth), '--offset', str(offset))
-                  for page in (4096, 8192, 16384, 32768, 65536) for depth in (2, 4096) for offset in (0, 4, page - 4)]
     for path in sorted(TOP.glob('tests/scripts/*.txt')):
         subsystem = path.with_suffix('.toml') if path.with_suffix('.toml').exists() else DEMO
         version_2 = re.sub(r'(?m)^version = 1$', 'version = 2', subsystem.read_text())
         found = list(scripts_of(path))
         assert found, f'{path} has no script'
         for script, output, messages, status in found:
-            for options in [()] + ([] if IS_UNPROVED else geometries):
+            for options in geometries():
                 yield Row(('--subsystem', str(subsystem), *options), status, messages, output, script, source=path.name)
             if version_2 != subsystem.read_text():
                 yield Row(('--subsystem', file(subsystem.name, version_2)), status, messages, output, script,
@@ -195,13 +212,13 @@ def failing_streams():
 
 
 def want_of_memory():
-    """The least room in which the program starts has none for a file of a mebibyte."""
+    """The least memory with which the program starts has no room for a file of 1 MiB."""
     whole = file('whole.toml', mebibyte())
     yield Row(('--subsystem', whole), 6, b'nvme-script: out of memory\n', special='little memory')
 
 
 def given_to_rt_try(rows, *options):
-    """Gives rows to the sources, and keeps how each run ended."""
+    """Gives rows to the unproved sources, and stores how each run ended."""
     folder = process_folder() / f'cases{len(unproved)}'
     folder.mkdir()
     for number, row in enumerate(rows):
@@ -212,7 +229,7 @@ def given_to_rt_try(rows, *options):
                 cwd=TOP / 'crates/nvme_script', limit=1800)
     if not re.search(rb'\ncases=.*proved=no\n\Z', ended.err):
         raise AssertionError(ended)
-    # `== NAME` stands before a case's output, and `case=NAME run=ended status=N` after its messages
+    # `== NAME` comes before a case's output, and `case=NAME run=ended status=N` after its messages
     outputs = re.split(rb'(?m)^== ([0-9]+)\n', ended.out)
     messages = re.split(rb'(?m)^case=([0-9]+) run=(.*)\n', ended.err)
     output_of = dict(zip(outputs[1::2], outputs[2::2]))
@@ -225,7 +242,7 @@ def given_to_rt_try(rows, *options):
 
 
 def with_little_memory(row):
-    """A run with the least room, in KiB, in which the program starts."""
+    """Returns a run with the least memory, in KiB, with which the program starts."""
     for room in range(1250, 100000, 250):
         ended = run('sh', '-c', 'ulimit -v "$0" && exec "$@"', str(room), SCRIPT, *row.arguments, source=row.script)
         if ended.status != 127:
@@ -234,7 +251,7 @@ def with_little_memory(row):
 
 
 def outcome(row):
-    """How the run of a row ended."""
+    """Returns how the run of a row ended."""
     if IS_UNPROVED:
         return unproved[row.given()]
     if row.special == 'little memory':
@@ -245,7 +262,7 @@ def outcome(row):
 
 
 TABLES = (statuses, refused_arguments, refused_options, geometry_shows_in_no_byte, largest_list, unreadable_files,
-          faults_of_files, examples, scripts, failing_streams, want_of_memory)
+          faults_of_files, examples, unended_lines, scripts, failing_streams, want_of_memory)
 
 
 def setUpModule():

@@ -23,7 +23,7 @@ SEEDS = range(8)
 COUNTS = r'nvme-model: controller (\d+): commands (\d+), refused (\d+)\n'
 ERROR = r'nvme-model: error (\d+): command (\d+), status 0x([0-9a-f]+), location 0x([0-9a-f]+), NSID 0x([0-9a-f]+)\n'
 
-# What Linux's driver needs, where it is no part of the kernel: the driver's own needs stand in each module.
+# The modules that Linux's driver needs if it isn't part of the kernel. Each module lists those that it needs itself.
 MODULES = 'crct10dif_generic', 'crc64_rocksoft_generic', 'nvme'
 INIT = r'''#!/bin/busybox sh
 busybox mount -t proc proc /proc
@@ -57,7 +57,7 @@ sleep 60
 
 @functools.lru_cache(maxsize=None)
 def program(*options):
-    """The program, over the library that `make library` made."""
+    """Makes the program, over the library that `make library` made."""
     place = library()
     made = process_folder() / f'qemu{len(options)}'
     subprocess.run(['cc', '-g', '-O1', '-Wall', '-Wextra', '-Werror', *options, '-o', made, f'-I{place}',
@@ -69,7 +69,7 @@ SANITIZERS = '-fsanitize=address,undefined', '-fno-sanitize-recover=all'
 
 
 class Messages(Case):
-    """What is said in QEMU's place, with checks of each access in the program."""
+    """Runs a scenario in QEMU's place, with each memory access in the program checked."""
 
     def setUp(self):
         super().setUp()
@@ -86,7 +86,7 @@ class Messages(Case):
                 self.ends(self.said(scenario), 0, b'')
 
     def test_counts(self):
-        # (the reset, the refused command and what is asked for are those of the scenario)
+        # (the reset, the refused command and what is requested are those of the scenario)
         ended = self.said('commands')
         self.assertEqual(re.findall(COUNTS, ended.err.decode()), [('0', '22', '1'), ('1', '21', '0')])
         self.assertEqual(re.findall(ERROR, ended.err.decode()), [('1', '104', '6001', 'ffff', '0')], ended)
@@ -142,7 +142,7 @@ class Messages(Case):
 
 
 def kernel():
-    """The kernel and the folder of its modules; the newest that are installed, where none are named."""
+    """Returns the kernel and the folder of its modules: the newest installed ones if none are named."""
     kernels = sorted(glob.glob('/boot/vmlinuz-*'), key=os.path.getmtime)
     found = os.environ.get('NVME_TEST_KERNEL') or (kernels[-1] if kernels else '')
     release = os.path.basename(found).partition('-')[2]
@@ -151,7 +151,7 @@ def kernel():
 
 @functools.lru_cache(maxsize=None)
 def why_not():
-    """Why Linux can't be run here, or nothing."""
+    """Returns why Linux can't be run here, or nothing."""
     for tool in 'qemu-system-x86_64', 'busybox', 'nvme':
         if not is_there(tool):
             return f"{tool} not installed, or in a version that isn't known"
@@ -168,7 +168,7 @@ def why_not():
 
 
 def module(name):
-    """A module's name as a file has it, and its bytes; nothing where it is a part of the kernel."""
+    """Returns a module's name as files spell it, and its bytes, or nothing if it is part of the kernel."""
     pattern = re.sub('[-_]', '[-_]', name)
     for path in pathlib.Path(kernel()[1]).rglob(f'{pattern}.ko*'):
         data = path.read_bytes()
@@ -177,7 +177,7 @@ def module(name):
 
 
 def modules(names):
-    """These modules as files, each behind those that it needs."""
+    """Returns these modules as files, each after those that it needs."""
     found = {}
     for name in names:
         own_name, data = module(name)
@@ -189,7 +189,7 @@ def modules(names):
 
 @functools.lru_cache(maxsize=None)
 def initial_files():
-    """The guest's files, packed: busybox, nvme-cli with its libraries, the modules, and what runs first."""
+    """Packs the guest's files: busybox, nvme-cli with its libraries, the modules, and the script that runs first."""
     root = process_folder() / 'guest'
     for name in 'bin', 'proc', 'sys', 'dev', 'modules':
         (root / name).mkdir(parents=True)
@@ -215,7 +215,7 @@ def initial_files():
 
 
 def documents(text):
-    """The JSON documents that stand in a text one after another."""
+    """Returns the JSON documents in a text, in order."""
     decoder = json.JSONDecoder()
     found = []
     while text.strip():
@@ -226,7 +226,7 @@ def documents(text):
 
 
 def told(error):
-    """What is compared of an entry of an error log, as the program tells it at the end."""
+    """Returns what is compared of an error log entry, as the program reports it at its end."""
     # (nvme-cli prints an NSID as a signed number)
     numbers = [error[key] for key in ('error_count', 'cmdid', 'status_field', 'parm_error_location')]
     numbers.append(error['nsid'] % 2 ** 32)
@@ -242,14 +242,14 @@ class Drivers(ModelCase):
         self.console, self.results = self.folder / 'console', self.folder / 'results'
 
     def boot(self, *options):
-        """Runs a machine until it would reset itself, and gives what the program told at the end."""
+        """Runs a machine until it would reset itself, and returns what the program reported at its end."""
         ended = run(program(), '--summary', '--subsystem', self.subsystem, '--', '-nodefaults', '-display', 'none',
                     '-no-reboot', *options, limit=280)
         self.ends(ended, 0, b'')
         return ended.err.decode()
 
     def test_seabios(self):
-        # its driver identifies a controller, and then makes an I/O queue, of which the opcode is refused
+        # its driver identifies a controller, and then creates an I/O queue, whose opcode is refused
         summary = self.boot('-boot', 'reboot-timeout=1')
         self.assertEqual(re.findall(COUNTS, summary), [('0', '2', '1'), ('1', '2', '1')])
         self.assertEqual([error[2:] for error in re.findall(ERROR, summary)], [('6001', 'ffff', '0')] * 2)
@@ -263,7 +263,7 @@ class Drivers(ModelCase):
         script, logs = self.results.read_text().split('END OF SCRIPT\n')
         wanted = self.model('sh', TOP / 'tests/guest.sh', limit=60)
         self.assertEqual(difference('guest', wanted.out, script.encode()), [], console[-3000:])
-        # what the guest read last, and what the program told at the end
+        # what the guest read last, and what the program reported at its end
         self.assertTrue(logs.endswith('END OF LOGS\n'), logs)
         pages = documents(logs[:-len('END OF LOGS\n')])
         errors = [told(error) for page in pages[::2] for error in page['errors'] if error['error_count']]

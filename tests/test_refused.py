@@ -1,17 +1,18 @@
-"""Refuses each allocation of a run in turn, and looks at what the run left: whole lines, and nothing of the line that
-was cut short. Of many lines, or requests, a run holds no more memory than of a few."""
+"""Refuses each allocation of a run in turn, and checks what the run left behind: whole lines, and nothing of the line
+that was cut short. A run of many lines or requests uses no more memory than one of a few."""
 
 from tests.support import TOP, Case, compiled, program, run
 
 
 class Refusing(Case):
     def refused(self, number, crate, *arguments, source):
-        """A run of which this allocation is refused; of number 0 none is."""
+        """Returns a run in which this allocation is refused, or none if the number is 0."""
         refuse = {'LD_PRELOAD': compiled('refuse.c', '-ldl'), 'REFUSE': number, 'CALLS': self.folder / 'calls'}
         return run(program(crate), *arguments, source=source, env=refuse)
 
     def whole(self, crate, *arguments, source):
-        """A run of which none is refused, the number of its allocations, and how many bytes it held at most."""
+        """Returns a run in which none is refused, the number of its allocations, and the greatest number of bytes in
+        use."""
         ended = self.refused(0, crate, *arguments, source=source)
         self.ends(ended, 0, err=b'')
         allocations, most = (self.folder / 'calls').read_text().split()
@@ -35,7 +36,7 @@ class EachAllocation(Refusing):
                 if looks_itself:
                     self.assertIn(ended.status, (0, 6), ended)
                 elif ended.status == 0:
-                    # a growth that was refused may be had in a smaller size: then nothing shows
+                    # a vector that can't grow may get a smaller size instead: then nothing shows
                     self.ends(ended, 0, whole.out, b'')
                 else:
                     self.ends(ended, 6, whole.out[:len(ended.out)], messages)

@@ -44,7 +44,7 @@ LAYOUTS = {
 
 
 def entry_of(kind, fields):
-    """An entry's bytes, in hexadecimal digits."""
+    """Returns an entry's bytes, in hexadecimal digits."""
     layout, keys = LAYOUTS[kind]
     values = {key: int(number, 0) for key, number in (field.split("=") for field in fields.split())}
     values["status_and_phase"] = values.pop("status", 0) << 1 | values.pop("phase", 0)
@@ -56,22 +56,22 @@ def entry_of(kind, fields):
 
 
 def with_entries(text):
-    """The text with each entry written out."""
+    """Returns the text with each entry written out."""
     return ENTRY.sub(lambda entry: entry_of(entry[1], entry[2]), text)
 
 
 def with_repeats(text):
-    """The text with each `(HH*N)` written out."""
+    """Returns the text with each `(HH*N)` written out."""
     return REPEATED.sub(lambda run: run[1] * int(run[2]), text)
 
 
 def text_of(text):
-    """A text with each `(TEXT*N)` written out."""
+    """Returns a text with each `(TEXT*N)` written out."""
     return REPEATED_TEXT.sub(lambda run: run[1] * int(run[2]), text)
 
 
 def edited(name, *edits):
-    """A subsystem file of examples/, in which each of two texts in turn stands in place of the other."""
+    """Returns a subsystem file of examples/ in which, for each pair of texts, the second replaces the first."""
     file = (TOP / "examples" / name).read_text("utf-8")
     for old, new in zip(edits[::2], edits[1::2]):
         if old not in file:
@@ -81,7 +81,7 @@ def edited(name, *edits):
 
 
 def with_file(text):
-    """The text with a subsystem file written out, in hexadecimal digits."""
+    """Returns the text with a subsystem file written out, in hexadecimal digits."""
 
     def digits(file):
         if file[3] is not None:
@@ -96,7 +96,7 @@ def written_out(text):
 
 
 def rows_of(path):
-    """The rows of a file: the number of each operation's line, the operation, and the line that is wanted."""
+    """Returns the rows of a file: the number of each operation's line, the operation, and the expected answer."""
     rows = []
     answered = True
     for number, line in enumerate(path.read_text("utf-8").splitlines(), 1):
@@ -121,7 +121,7 @@ def short(text):
 
 
 def answers_to(operations):
-    """What the program answers to each of these operations, of one session."""
+    """Returns the program's answers to these operations, in one session."""
     script = "".join(f"{operation}\n" for operation in operations)
     run = subprocess.run(
         [PROGRAM], input=script.encode(), capture_output=True, timeout=SECONDS, check=False
@@ -157,7 +157,7 @@ for file in FILES:
 
 
 def command(number):
-    """The fields of a command with this number as its identifier."""
+    """Returns the fields of a command with this number as its identifier."""
     fields = {"opcode": 6, "fuse": 0, "psdt": 0, "cid": number, "nsid": 7, "mptr": 0, "prp1": 0x5004, "prp2": 0x9000}
     dwords = {"cdw10": 1, "cdw11": 0, "cdw12": 0, "cdw13": 0, "cdw14": 0, "cdw15": 0xffffffff}
     return " ".join(f"{key}={value:#x}" for key, value in {**fields, **dwords}.items())
@@ -187,7 +187,7 @@ def exchange(depth, number):
 
 
 def exchanges(depth, count):
-    """The first commands, one after another; of many only operations that change something."""
+    """Returns the first commands, one after another; for many commands, only the operations that change something."""
     rows = [row for number in range(count) for row in exchange(depth, number)]
     if count <= 100:
         return rows
@@ -199,7 +199,7 @@ def new_rings(depth):
 
 
 class Rings(unittest.TestCase):
-    """Rings over many commands, past the wraps of both: each a session of rows that are computed."""
+    """Queues over many commands, past the wraps of both: each is a session of rows that are computed."""
 
     def check(self, rows):
         answers = answers_to(operation for operation, _ in rows)
@@ -216,7 +216,7 @@ class Rings(unittest.TestCase):
                 self.check(new_rings(depth) + exchanges(depth, count) + fill + full)
 
     def test_both_rings_begin_anew(self):
-        """Whatever number they had come to, and with a command that waits."""
+        """They work whatever numbers they have reached, and with a command that is waiting."""
         for depth, before, count in (2, 1, 6), (2, 2, 6), (2, 3, 6), (17, 20, 51), (4096, 4097, 3):
             with self.subTest(depth=depth, before=before):
                 after = (before + 1) % depth
@@ -228,7 +228,7 @@ class Rings(unittest.TestCase):
 
 
 class Pipes(unittest.TestCase):
-    """The program as a host's other side, through two pipes."""
+    """The program as the other side of a host, through two pipes."""
 
     def test_there_are_rows(self):
         self.assertTrue(FILES, f"no file of rows in {PLACE}")

@@ -14,7 +14,7 @@ READ = 'done'
 
 
 def told(files):
-    """What is said of each file."""
+    """Returns the answer to each file."""
     return answers_to(f'subsystem file={bytes(file).hex()}' for file in files)
 
 
@@ -65,7 +65,7 @@ NUMBERS = [
     ]
 ] + [(LAST, 'smart = { sensors = [#] }', 'smart.sensors', 0, 65535)]
 
-# A text: the same with the text for #, and the greatest number of its bytes.
+# A text: the same, with the text for #, and its greatest length in bytes.
 TEXTS = [
     ('subnqn = "nqn.2014-08.org.example:demo"', 'subnqn = "#"', 'top.subnqn', 223),
     ('sn = "S1"', 'sn = "#"', 'controller.sn', 20),
@@ -121,8 +121,8 @@ BEGINNINGS = [
 
 
 def beginnings():
-    """Each beginning of the demonstration file, with what is said of it: what the whole lines and what stands of the
-    last one say."""
+    """Returns each beginning of the demonstration file, with the expected answer: that of its whole lines and of what
+    is there of the last one."""
     rows, wanted, end = iter(BEGINNINGS), refused('missing top.version'), 0
     yield '', wanted
     for line in DEMO.splitlines(True):
@@ -138,7 +138,7 @@ def beginnings():
 
 
 def largest():
-    """A file with as many tables of each kind as there can be."""
+    """Returns a file with as many tables of each kind as there can be."""
     file = 'version = 1\nnn = 1024\ntnvmcap = 524288\nsubnqn = "n"\n' + 16 * '\n[[format]]\nlbads = 9\n'
     for place in range(16):
         file += f'\n[[controller]]\ncntlid = {place}\nsn = "S{place}"\nmn = "Model"\nfr = "1"\nelpe = 255\nvwc = 7\n'
@@ -153,7 +153,7 @@ def largest():
 
 class SubsystemFiles(unittest.TestCase):
     def check(self, rows):
-        """Each of these files is answered so."""
+        """Checks the answer to each of these files."""
         rows = list(rows)
         answers = told(file.encode() for file, _ in rows)
         self.assertEqual(len(answers), len(rows))
@@ -162,7 +162,7 @@ class SubsystemFiles(unittest.TestCase):
                 self.assertEqual(said, wanted)
 
     def test_numbers(self):
-        """Both ends of a range are read, and the numbers next to them are out of range, or beyond TOML's."""
+        """Both ends of a range are accepted. The numbers next to them are out of range, or are no integers of TOML."""
         for old, new, key, least, greatest in NUMBERS:
             out = refused(f'out of range {key}')
             rows = [(least, READ), (greatest, READ), (least - 1, out)]
@@ -170,7 +170,7 @@ class SubsystemFiles(unittest.TestCase):
             self.check((edited('demo.toml', old, new.replace('#', str(number))), wanted) for number, wanted in rows)
 
     def test_texts(self):
-        """A text of one byte is read, and one of the greatest number; none and one more are out of range."""
+        """A text of one byte is accepted, and one of the greatest length; none and one more byte are out of range."""
         for old, new, key, most in TEXTS:
             out = refused(f'out of range {key}')
             rows = [(0, out), (1, READ), (most, READ), (most + 1, out)]
@@ -180,8 +180,8 @@ class SubsystemFiles(unittest.TestCase):
         self.check(beginnings())
 
     def test_changed_bytes(self):
-        """The demonstration file with another byte at a place is read or refused by name; a byte that isn't UTF-8 is no
-        TOML."""
+        """The demonstration file with another byte at a place is accepted, or refused with a name; with a byte that
+        isn't UTF-8 it isn't TOML."""
         demo = DEMO.encode()
         for byte in b'"', b'=', b'[', b'\n', b'\xff':
             for said in told(demo[:place] + byte + demo[place + 1:] for place in range(len(demo))):
@@ -190,7 +190,7 @@ class SubsystemFiles(unittest.TestCase):
                 self.assertTrue(byte != b'\xff' or said == refused('not TOML'), said)
 
     def test_deep_values(self):
-        """Arrays 10,000 deep that aren't closed and that are, and a table's name in so many brackets."""
+        """Arrays 10,000 deep that aren't closed and that are, and a table's name in as many brackets."""
         opened, closed = 10000 * '[', 10000 * ']'
         for said in told(file.encode() for file in [f'x = {opened}', f'x = {opened}{closed}', f'{opened}x{closed}']):
             self.assertRegex(said, '^refused: ')

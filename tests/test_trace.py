@@ -6,6 +6,7 @@ what the script's first line does."""
 import re
 
 from tests.support import DEMO, TOP, Case, program, run
+from tests.test_many_lines import REFUSAL, error_text
 
 TRACE, SCRIPT, DEVICE = program('nvme_trace'), program('nvme_script'), program('nvme_device')
 WANTED = (TOP / 'examples/trace.txt').read_bytes()
@@ -23,7 +24,7 @@ class Scripts(Case):
             with self.subTest(script.name):
                 file = script.with_suffix('.toml')
                 arguments = ['--subsystem', file] if file.exists() else []
-                # a script's lines print in their order, so that both streams together are the lines after the mark
+                # a script's lines print in their order, so both streams together are the lines after the mark
                 wanted = run(SCRIPT, *arguments, source=script, err='&1')
                 ended = run(TRACE, *arguments, source=script)
                 trace = ended.out
@@ -46,19 +47,19 @@ class Scripts(Case):
 
 
 class Geometry(Case):
-    # which lines of the first controller stand in a trace with these options, and which don't
+    # which lines of the first controller are in a trace with these options, and which aren't
     rows = [
         # ASQS and ACQS are the number of slots, less one
         ('--depth 4', ['write AQA=0x30003$'], []),
-        # CC.MPS, bits 10:7, is 1; the second ring begins at the next page
+        # CC.MPS, bits 10:7, is 1; the second queue begins at the next page
         ('--page-size 8192', ['write CC=0x460081$', 'write ACQ.low=0x2000$'], []),
-        # data begins so far into its first page
+        # data begins at this offset in its first page
         ('--offset 8', ['taken Identify .* prp1=0x[0-9a-f]*008 '], ['taken Identify .* prp1=0x[0-9a-f]*000 ']),
-        # a list of entries begins so far into its page
+        # a list of entries begins at this offset in its page
         ('--list-offset 16', ['taken Get Log Page .* prp1=0x[0-9a-f]*000 prp2=0x[0-9a-f]*010 '], []),
         # the third and the fourth command of `list` are outstanding at once, and one of them is taken in a turn
         ('--depth 8 --window 2', ['write CQ0HDBL=0x3$'], ['write SQ0TDBL=0x3$']),
-        # both are taken in one turn, and told together
+        # both are taken in one turn, and the head doorbell is rung once for both
         ('--depth 8 --window 2 --pace 2', ['write CQ0HDBL=0x4$'], ['write SQ0TDBL=0x3$', 'write CQ0HDBL=0x3$']),
     ]
 
@@ -80,6 +81,47 @@ class Geometry(Case):
         self.ends(run(TRACE, '--depth', '1'), 3, err=b'nvme-trace: geometry: depth\n')
 
 
+class DataPointers(Case):
+    """PRP1 and PRP2 of the last entry, below the size of a page. Section "Physical Region Page Entry and List"."""
+
+    entry = re.compile(r'(?m)^nvme0 taken .* \((0x\w+)\) cid=(0x\w+) .* prp1=(0x\w+) prp2=(0x\w+)')
+
+    def entries(self, ended):
+        self.ends(ended, 0, err=b'')
+        return [tuple(int(number, 16) for number in entry) for entry in self.entry.findall(ended.out.decode())]
+
+    def test_data_begins_at_the_offset(self):
+        script = b'list-ns /dev/nvme0\nid-ns /dev/nvme0n3\nlist-ns /dev/nvme0'
+        for page_size, offset, has_second in (
+                (4096, 0, False), (4096, 4, True), (4096, 4092, True), (65536, 61440, False), (65536, 61444, True)):
+            options = f'--depth 2 --page-size {page_size} --offset {offset}'
+            with self.subTest(options):
+                ended = run(TRACE, *options.split(), source=script)
+                *others, (opcode, cid, prp1, prp2) = self.entries(ended)
+                self.assertEqual((len(others), opcode, cid, prp1 % page_size), (2, 6, 2, offset))
+                self.assertEqual((prp2 % page_size, prp2 != 0), (0, has_second))
+                self.assertIn(b'\nnvme0 write AQA=0x10001\n', ended.out)
+
+    def test_a_log_of_256_errors_over_pages_of_each_kind(self):
+        """The log takes five pages where it begins inside of one. The first Qword of its list is the address of the
+        next list page, or two entries come before that, or all four fit."""
+        script = b'id-ns /dev/nvme0 -n 0\n' * 300 + b'error-log /dev/nvme0 -e 256\n'
+        lines = [f'line {number}: {REFUSAL}\n' for number in range(1, 301)]
+        lines += [error_text(index, 300 - index, 299 - index) for index in range(256)]
+        for version in 1, 2:
+            file = DEMO.read_text().replace('version = 1', f'version = {version}').replace('elpe = 3', 'elpe = 255')
+            file = self.file('errors.toml', file.encode())
+            for offset, list_offset in (0, 0), (4, 4088), (4, 4072), (4, 4064):
+                options = f'--page-size 4096 --offset {offset} --list-offset {list_offset}'
+                with self.subTest(options, version=version):
+                    ended = run(TRACE, '--subsystem', file, *options.split(), source=script)
+                    *others, (opcode, _, prp1, prp2) = self.entries(ended)
+                    self.assertEqual((len(others), opcode), (301, 2))
+                    self.assertEqual((prp1 % 4096, prp2 % 4096), (offset, list_offset))
+                    ended.out = b''.join(re.findall(rb'(?m)^\| (.*\n)', ended.out))
+                    self.ends(ended, 0, ''.join(lines).encode())
+
+
 class FullDevice(Case):
     def test_told(self):
         ended = run(TRACE, source=TOP / 'examples/demo.nvme', out='/dev/full')
@@ -91,7 +133,7 @@ class Device(Case):
     request = b'\0\0\2\0\0\x10\0\0' + bytes(64)
 
     def places_left_out(self, trace):
-        """A trace without the places of the rings and of the data."""
+        """Returns a trace without the addresses of the queues and of the data."""
         return re.sub(rb'A[CS]Q\.low=.*| prp1=[^ \n]*', b'', trace)
 
     def test_trace_is_that_of_the_same_entry(self):

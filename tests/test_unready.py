@@ -16,8 +16,8 @@ class Unready(Case):
         (crate / 'src').mkdir(parents=True)
         shutil.copy(TOP / 'tests/unready.rt.txt', crate / 'src/main.rt')
         ended = run('rt', 'try', '--steps', '1', '--seconds', '300', cwd=crate, limit=1800)
-        # which RDY is late, the read at which it is right, and what comes of it: a run and a serving end where a
-        # controller isn't ready, and a list is answered with 12 bytes, as a reset is
+        # which RDY is late, the read at which it is right, and the result: a run and a server end if a controller isn't
+        # ready, and a list is answered with 12 bytes, as a reset is
         in_time, too_late = ((1, 1), (16, 16)), ((17, 16), (4294967295, 16))
         wanted = [f'{call} {rdy} {at}: {reads} reads{end}' for rdy in (0, 1) for call, ends in (
             ('bring_up', ('', ', no ready')), ('reset', ('', ', no ready')),

@@ -17,7 +17,7 @@ BELOW = 'crates/nv_bits/src/lib.rt'
 
 
 def copy_repository(folder):
-    """Copies what ./nvme-script uses to a folder."""
+    """Copies the files that ./nvme-script uses to a folder."""
     (folder / 'out').mkdir(parents=True)
     copy_sources(folder)
     shutil.copy(TOP / 'nvme-script', folder)
@@ -25,7 +25,7 @@ def copy_repository(folder):
 
 
 class Copy(Case):
-    """A copy with a built program, and the stand-in."""
+    """Makes a copy with a built program, and the stand-in."""
 
     def setUp(self):
         super().setUp()
@@ -51,17 +51,17 @@ class Copy(Case):
         self.assertEqual(self.files_of_copy(), self.files)
 
     def answer(self, status, messages):
-        """What the next `rt try` is to say."""
+        """Sets what the next `rt try` is to say."""
         (self.kit / 'status').write_text(f'{status}\n')
         (self.kit / 'err').write_bytes(messages)
 
     def answer_ended(self, status, messages=b''):
-        """The same of a run that ended."""
+        """Sets what a run that ended is to say."""
         lines = b'interpreter: no-answer: a reason\nchecked: ended status=N\nrun=ended status=N runners=1 proved=no\n'
         self.answer(status, messages + lines.replace(b'=N', b'=%d' % status))
 
     def given(self, name):
-        """What the stand-in was given of this name."""
+        """Returns what the stand-in was given under this name."""
         path = self.kit / f'given.{name}'
         return path.read_bytes() if path.exists() else None
 
@@ -75,12 +75,12 @@ class Copy(Case):
         self.ends(self.script(), 0, ANSWER, LINE + b'\n')
 
     def says(self, ended, status, text):
-        """A run ended with a last message that has this text."""
+        """Checks that a run ended with a last message that has this text."""
         self.ends(ended, status)
         self.assertRegex(ended.err.splitlines()[-1], b'^nvme-script: .*' + re.escape(text), ended)
 
     def says_alone(self, ended, status, text):
-        """It did so with one message behind the line, and no output."""
+        """Checks that it did so with one message after the line, and no output."""
         self.says(ended, status, text)
         self.assertEqual((ended.out, ended.err.splitlines()[:-1]), (b'', [LINE]), ended)
 
@@ -174,7 +174,7 @@ class Builds(Copy):
         self.assertIn(b'nvme-script: building nv_bits, 1 of %d\n' % total, ended.err)
         self.is_proved()
         self.says(self.script('--build'), 0, b'nothing to do')
-        # beside another argument --build goes to the program
+        # next to another argument, --build is passed to the program
         self.ends(self.script('--build', 'more'), 3, b'', b'nvme-script: arguments\n')
 
 
@@ -214,7 +214,7 @@ class Unproved(Copy):
         self.says(self.script(), 72, b'rt is not on the path')
 
     def test_arguments(self):
-        # as they are, but for such as are not UTF-8, which become one that is refused too
+        # unchanged, except for those that aren't UTF-8, which become one that is refused too
         words = '', 'a  b', 'x\ny', 'x\u00e9', '--depth', '*', '--'
         option = '--subsystem', '-x'
         for arguments, given in ((words, words), (option, option), (('--depth', b'\xed\xa0\x80'), ('refused',)),
@@ -257,7 +257,7 @@ class SubsystemFiles(Copy):
         self.assertEqual((self.given('1'), self.given('file')), (b'--subsystem', None))
 
     def test_pipe(self):
-        # what is read of a pipe as the file isn't read again as the script
+        # what the file is read from a pipe isn't read again as the script
         line = 'printf "file in a pipe" | "$0" --subsystem /dev/stdin'
         self.ends(self.script('-c', line, self.command, command='sh'), 0, ANSWER)
         self.assertEqual((self.given('file'), self.given('input')), (b'file in a pipe', b''))
@@ -284,7 +284,7 @@ class Streams(Copy):
         self.ends(talk.end(), 71)
 
     def test_signal(self):
-        # it ends a run with what that started
+        # it ends a run together with the processes that it started
         (self.kit / 'slow').touch()
         running = Running(self.command, env=self.env)
         os.close(running.speaks)

@@ -1,5 +1,5 @@
-"""What the gate does to the sources themselves, without proofs: the tests of each crate, by `rt try`, and the layout of
-the files. `python3 -m tests.run --quick` runs them."""
+"""What the gate does to the unproved sources: it runs the tests of each crate by `rt try`, and checks the layout of the
+files. `python3 -m tests.run --quick` runs this."""
 
 import re
 
@@ -7,7 +7,7 @@ from tests.support import TOP, Case, copy_sources, run
 
 
 def tests_written(crate):
-    """How many tests the sources of a crate have."""
+    """Returns how many tests the sources of a crate have."""
     return sum(len(re.findall(r'(?m)^\s*#\[test\]', path.read_text())) for path in crate.glob('src/**/*.rt'))
 
 
@@ -15,7 +15,7 @@ CRATES = [crate for crate in sorted((TOP / 'crates').iterdir()) if tests_written
 
 
 def names():
-    """The tests of each crate, to be run side by side."""
+    """The tests of each crate, which run side by side."""
     return [f'unproved.Tests.test_{crate.name}' for crate in CRATES]
 
 
@@ -28,7 +28,7 @@ class Tests(Case):
         for name, end in told:
             with self.subTest(name):
                 self.assertEqual(end, 'ok', said)
-        # one that isn't told has failed
+        # one that isn't reported has failed
         found = re.search(r'(?m)^tests: ([0-9]+)$', text)
         self.assertEqual(len(told), max(tests_written(crate), int(found.group(1)) if found else 0), said)
 

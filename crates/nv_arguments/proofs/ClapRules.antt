@@ -1,4 +1,4 @@
--- What clap's contract says of the program.
+-- What clap's contract says about the program.
 use Rattle.std.proofs.Common.{◌≡◌, ◌⊎◌, ◌∙◌, ap, refl, sym, inl, inr, true, false, List, [], Ok, Err}
 use Rattle.clap.proofs.WalkLemmas.{both}
 use Rattle.clap.specs.Words.{App, IsAmong, Row, Text, fault_of, is_simple, is_simple_and_free, matches_of}

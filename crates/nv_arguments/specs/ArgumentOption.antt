@@ -1,4 +1,4 @@
--- The options of the program, by their names after `--`, which are clap's ids too.
+-- The options of the program, by their names after `--`, which are also clap's ids.
 use Rattle.std.specs.Prelude.{List, [], ◌∷◌, codes}
 use Rattle.clap.specs.Words.{Text}
 use Rattle.nv_arguments.specs.declared.option.ArgumentOption.{ArgumentOption}

@@ -13,13 +13,13 @@ use Rattle.nv_arguments.specs.declared.fault.ArgumentsFault.TheVariants.{Refused
 use Rattle.nv_arguments.specs.declared.option.ArgumentOption.{ArgumentOption}
 use Rattle.nv_arguments.specs.declared.option.ArgumentOption.TheVariants as option
 
--- the number of 32 bits that was written, or what stands in
+-- the 32-bit number that is given for an option, or the default
 abbrev pub number_of : List Row → ArgumentOption → ℕ → Result ℕ ArgumentsFault
 number_of rows o default =
     option_map_or (λ t. ok_or (number_in 0 4294967295 t) Refused) (first_of (name_of o) rows)
     (Ok default)
 
--- the geometry that the options give, whose limits are the driver's to check
+-- the geometry that the options give; the driver checks its limits
 abbrev pub geometry_of : List Row → Result Geometry ArgumentsFault
 geometry_of rows = do
   depth ← number_of rows option.Depth 32
@@ -48,7 +48,7 @@ told_by arguments = record {
   geometry = arguments.geometry;
 }
 
--- what the words ask for, of which the first is the program's name
+-- what the words ask for; the first of them is the program's name
 abbrev pub arguments_of : List Text → Result Told ArgumentsFault
 arguments_of words = do
   rows ← rows_of_words words

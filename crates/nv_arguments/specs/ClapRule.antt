@@ -1,4 +1,4 @@
--- The program as clap is told of it, and what it finds in the arguments.
+-- The program's command line for clap, and what clap finds in the arguments.
 use Rattle.std.specs.Prelude.{Bool, List, fold, Some, Result, Ok, Err, codes, if◌then◌else◌}
 use Rattle.clap.specs.Words.{App, Row, Rule, Text, fault_of, matches_of, new_app, new_rule}
 use Rattle.clap.specs.Words.{with_rule}
@@ -19,11 +19,11 @@ with_options app os = fold (λ a o. with_rule a (option_rule o)) app os
 abbrev pub program : App
 program = with_options (new_app (codes "nvme-script")) options
 
--- clap finds no fault in the words, of which the first is the program's name
+-- clap finds no fault in the words; the first of them is the program's name
 unfoldable pub is_taken : List Text → Bool
 is_taken words = is_empty (fault_of program words)
 
--- what clap then finds
+-- what clap finds then
 unfoldable pub clap_rows : List Text → List Row
 clap_rows words = matches_of program words
 

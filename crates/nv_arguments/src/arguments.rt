@@ -17,13 +17,14 @@ use std::alloc::Global;
 /// What the arguments ask for.
 #[derive(Debug, Drop, PartialEq, Eq)]
 pub struct Arguments<'a> {
-    /// The path of the subsystem file; none for the built-in one.
+    /// The path of the subsystem file, or none for the built-in one.
     pub subsystem: Option<&'a str>,
-    /// The geometry, whose limits are the driver's to check.
+    /// The geometry. The driver checks its limits.
     pub geometry: Geometry,
 }
 
-/// The number that an option has, written as in a script, or what stands in where it isn't written.
+/// Returns the number of an option, which is written as in a script, or `default` if the option
+/// isn't given.
 fn number_of(
     matches: &ArgMatches<'_>,
     option: ArgumentOption,
@@ -40,7 +41,7 @@ fn number_of(
     }
 }
 
-/// The geometry of the options.
+/// Returns the geometry of the options.
 fn geometry_of(matches: &ArgMatches<'_>) -> Result<Geometry, ArgumentsFault>
     ensures { result ≡ geometry_of (rows_of (found_of matches.now)) }
 {
@@ -56,7 +57,7 @@ fn geometry_of(matches: &ArgMatches<'_>) -> Result<Geometry, ArgumentsFault>
 }
 
 impl<'a> Arguments<'a> {
-    /// Reads the arguments; the first word is the program's name.
+    /// Reads the arguments. The first word is the program's name.
     pub fn read(alloc: Global, words: &'a [&'a str]) -> Result<Arguments<'a>, ArgumentsFault>
         ensures { IsUnlessMemory (arguments_of (map (λ w. w.now) words.now))
             (ok_map told_by result) }

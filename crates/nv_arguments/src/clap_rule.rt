@@ -1,4 +1,4 @@
-//! The program as `clap` is told of it, and what it finds in the arguments.
+//! The program's command line for `clap`, and what `clap` finds in the arguments.
 
 ghost use Rattle.std.specs.Prelude.{◌≡◌, IfOk, false, map, option_map};
 ghost use Rattle.clap.specs.Words.{app_of, first_of, found_of, rows_of, rule_of};
@@ -13,7 +13,7 @@ use clap::error::ErrorKind;
 use clap::{Arg, ArgAction, ArgMatches, Command};
 use std::alloc::{AllocError, Global};
 
-/// The argument of an option.
+/// Returns the `clap` argument of an option.
 fn option_arg<'a>(alloc: Global, option: ArgumentOption) -> Arg<'a>
     ensures rule { rule_of result ≡ option_rule option }
     ensures own { result.global ≡ false }
@@ -22,7 +22,7 @@ fn option_arg<'a>(alloc: Global, option: ArgumentOption) -> Arg<'a>
     Arg::new(alloc, name).long(name).action(ArgAction::Set)
 }
 
-/// The `clap` command of the program.
+/// Returns the `clap` command of the program.
 fn command_of<'a>(alloc: Global) -> Result<Command<'a>, AllocError>
     ensures { IfOk result (λ c. app_of c ≡ program) }
 {
@@ -34,7 +34,7 @@ fn command_of<'a>(alloc: Global) -> Result<Command<'a>, AllocError>
     Ok(command)
 }
 
-/// What `clap` finds in the words, of which the first is the program's name.
+/// Returns what `clap` finds in the words, of which the first is the program's name.
 pub(crate) fn clap_matches<'a>(
     alloc: Global,
     words: &'a [&'a str],
@@ -52,7 +52,7 @@ pub(crate) fn clap_matches<'a>(
     }
 }
 
-/// The text that an option was given.
+/// Returns the text that was given for an option.
 pub(crate) fn text_of<'a>(matches: &ArgMatches<'a>, option: ArgumentOption) -> Option<&'a str>
     ensures { option_map (λ s. s.now) result
         ≡ first_of (name_of option) (rows_of (found_of matches.now)) }

@@ -6,13 +6,13 @@ ghost use Rattle.nv_arguments.specs.declared.fault.ArgumentsFault.TheVariants.{M
 use std::alloc::AllocError;
 use thiserror::Error;
 
-/// Why there are no arguments.
+/// Why the arguments were refused.
 #[derive(Clone, Copy, Debug, PartialEq, Eq, Error)]
 pub enum ArgumentsFault {
-    /// The program doesn't take them.
+    /// The arguments aren't those that the program takes.
     #[error("arguments")]
     Refused,
-    /// Memory was refused.
+    /// There was no memory.
     #[error("out of memory")]
     Memory,
 }

@@ -16,7 +16,7 @@ pub(crate) enum ArgumentOption {
 }
 
 impl ArgumentOption {
-    /// All of them.
+    /// Returns all options.
     pub(crate) fn all() -> &'static [ArgumentOption]
         ensures { result.now ≡ options }
     {
@@ -31,7 +31,7 @@ impl ArgumentOption {
         ]
     }
 
-    /// What follows `--`.
+    /// Returns the option's name, which follows `--`.
     pub(crate) fn name<'a>(self) -> &'a str
         ensures { result.now ≡ name_of self }
     {

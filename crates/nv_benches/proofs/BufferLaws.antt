@@ -11,7 +11,7 @@ use Rattle.nv_prp.specs.Place.{AreDistinct, table}
 use Rattle.nv_prp.proofs.BufferLaws.{buffer_kept}
 use Rattle.nv_prp.proofs.PlaceLaws.{get_or-table, length-table}
 
--- the memory was made of so many pages
+-- the memory was made with this number of pages
 pub made_size : (m : PagedBytes) (size : ℕ) → IsPageSize size
     → m ≡ record { page_size = size; bytes = replicate (259 * size) 0 }
     → (4096 ≤ m.page_size) × (length m.bytes ≡ 259 * m.page_size)

@@ -1,4 +1,4 @@
-//! A controller that is met by hand.
+//! A controller that is driven without a driver.
 
 ghost use Rattle.std.specs.Prelude.{◌<◌, IfOk, length};
 ghost use Rattle.nv_bus.specs.Bus.{IsBus};
@@ -27,13 +27,13 @@ mn = "Bench"
 fr = "1.0"
 "#;
 
-/// Asks the controller who it is, and prints the serial number.
+/// Sends the controller an Identify command, and prints the serial number.
 #[tactic(auto, unfolding(nv_host::specs::Pages::IsPageSize))]
 pub(crate) fn identify(rt: &HostRuntime) -> anyhow::Result<()> {
     let subsystem = Subsystem::from_toml(rt.alloc(), FILE.as_bytes())?;
     let mut machine = Machine::new(rt.alloc(), subsystem)?;
     let mut mem = FlatMemory::new(rt.alloc(), 4096, 16)?;
-    // The data has the second half of page 5 and the first half of page 9.
+    // The data lies in the second half of page 5 and the first half of page 9.
     let buffer = Buffer {
         pages: &[5, 9],
         offset: 2048,
@@ -64,7 +64,7 @@ pub(crate) fn identify(rt: &HostRuntime) -> anyhow::Result<()> {
     Ok(())
 }
 
-/// Makes controller 0 ready with rings of four entries, at 0h and 1000h.
+/// Makes controller 0 ready with queues of four entries, at 0h and 1000h.
 pub(crate) fn enable(machine: &mut Machine) -> anyhow::Result<()>
     requires { IsBus machine.old }
     ensures bus { IsBus machine.new }
@@ -80,7 +80,7 @@ pub(crate) fn enable(machine: &mut Machine) -> anyhow::Result<()>
     Ok(())
 }
 
-/// Gives the controller an entry. The status of the completion is answered.
+/// Submits an entry to the controller, and returns the status of its completion.
 fn submit(machine: &mut Machine, mem: &mut FlatMemory, entry: &Sqe) -> anyhow::Result<u16>
     requires bus { IsBus machine.old }
     requires ready { 0 < length machine.old.banks }

@@ -1,4 +1,4 @@
-//! A log in pages that lie anywhere, by a list that is written by hand.
+//! A log that is read into pages anywhere, by a PRP list written by hand.
 
 ghost use Rattle.std.specs.Prelude.{◌<◌, length};
 ghost use Rattle.nv_bus.specs.Bus.{IsBus};
@@ -11,14 +11,14 @@ use nv_layout::{ErrorEntry, Sqe};
 use nv_register::offset;
 use nv_subsystem::{DEMO, Subsystem};
 
-/// Lets a controller refuse an entry, reads 16,384 bytes of its error log into pages 13, 5, 11 and
-/// 6, and prints what the first of them begins with and the last one ends with.
+/// Makes a controller refuse an entry, reads 16,384 bytes of its error log into pages 13, 5, 11 and
+/// 6, and prints how the first of them begins and the last one ends.
 #[tactic(auto, unfolding(nv_host::specs::Pages::IsPageSize))]
 pub(crate) fn read_log(rt: &HostRuntime) -> anyhow::Result<()> {
     let subsystem = Subsystem::from_toml(rt.alloc(), DEMO.as_bytes())?;
     let mut machine = Machine::new(rt.alloc(), subsystem)?;
     let mut mem = FlatMemory::new(rt.alloc(), 4096, 16)?;
-    // PRP1 names page 13. PRP2 names the list, which names the others.
+    // PRP1 is the address of page 13. PRP2 is the address of the list, which has the other pages.
     mem.store(0x8000, &0x5000u64.to_le_bytes())?;
     mem.store(0x8008, &0xb000u64.to_le_bytes())?;
     mem.store(0x8010, &0x6000u64.to_le_bytes())?;
@@ -54,7 +54,7 @@ pub(crate) fn read_log(rt: &HostRuntime) -> anyhow::Result<()> {
     Ok(())
 }
 
-/// Gives the controller two entries at once.
+/// Submits two entries to the controller at once.
 fn submit(
     machine: &mut Machine,
     mem: &mut FlatMemory,

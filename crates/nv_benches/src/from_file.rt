@@ -1,8 +1,8 @@
-//! Subsystems from the texts of files.
+//! Subsystems that are read from files.
 
 use nv_subsystem::{DEMO, Subsystem};
 
-/// Reads the demonstration file, and the same with one number out of its range.
+/// Reads the demonstration file, and then a copy in which one number is out of range.
 pub(crate) fn read_two(rt: &HostRuntime) -> anyhow::Result<()> {
     let broken = DEMO.replace(rt.alloc(), "nn = 4", "nn = 0")?;
     for text in [DEMO, broken.as_str()] {

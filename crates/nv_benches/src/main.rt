@@ -1,5 +1,5 @@
-//! Programs over the crates of this repository, a word for each. Without a word they run one after
-//! the other.
+//! Programs that use the crates of this repository. The first argument names the one to run;
+//! without it, they run one after the other.
 #![tactic(auto)]
 
 mod by_hand;
@@ -21,7 +21,7 @@ fn run_benches(rt: &HostRuntime) -> anyhow::Result<()> {
     from_file::read_two(rt)
 }
 
-/// Runs the program that a word names.
+/// Runs the program with a name.
 fn run_named(rt: &HostRuntime, word: &str) -> anyhow::Result<()> {
     match word {
         "benches" => run_benches(rt),
@@ -30,7 +30,7 @@ fn run_named(rt: &HostRuntime, word: &str) -> anyhow::Result<()> {
     }
 }
 
-/// Runs the program that the first argument names, or both.
+/// Runs the program that the first argument names, or both if there is none.
 fn run_asked(rt: &HostRuntime) -> anyhow::Result<()> {
     let words: Vec<String> = env::args(rt)?.collect(rt.alloc())?;
     match words.get(1) {

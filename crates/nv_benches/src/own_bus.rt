@@ -35,7 +35,7 @@ impl<B: Bus> Bus for Counted<B> {
     }
 }
 
-/// Asks for the active namespaces, and prints how many turns that took.
+/// Reads the active namespaces, and prints how many turns that took.
 pub(crate) fn count_turns(rt: &HostRuntime) -> anyhow::Result<()> {
     let subsystem = Subsystem::from_toml(rt.alloc(), DEMO.as_bytes())?;
     let machine = Machine::new(rt.alloc(), subsystem)?;

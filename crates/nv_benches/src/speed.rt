@@ -1,5 +1,5 @@
-//! How fast it is: lines of each kind at several geometries, `list` over the largest subsystem, and
-//! transfers of 1 MiB at each page size. The times go to standard error.
+//! Measures the speed of lines of each kind at several geometries, of `list` over the largest
+//! subsystem, and of transfers of 1 MiB at each page size. The times are printed to standard error.
 
 mod counting_sink;
 mod largest_list;

@@ -21,12 +21,12 @@ is_member : (b : Bool) → is_some (as_member b) ≡ b
 is_member true = refl
 is_member false = refl
 
--- a number of the range is a member where its bit is set
+-- a number of the range is a member if its bit is set
 pub contains_at : (first count : ℕ) (words : List ℕ) (k : ℕ) → k < count
     → map.contains_key (members_of first count words) (first + k) ≡ bit_of words k
 contains_at first count words k h = ap is_some (get_at _ first count k h) ∙ is_member (bit_of words k)
 
--- where a number is none of the range, or its bit is not set
+-- a number is no member if it is outside the range, or if its bit is not set
 pub not_member : (first count : ℕ) (words : List ℕ) (q : ℕ)
     → (first ≤ q → q < first + count → bit_of words (q - first) ≡ false)
     → map.contains_key (members_of first count words) q ≡ false
@@ -81,7 +81,7 @@ module _ (first count len lowest_word : ℕ) (words : List ℕ) (are : AreBits f
   pub len_in_range : len ≤ count
   len_in_range = omega (arith, are.len_is, len_within (λ k. as_member (bit_of words k)) first count)
 
-  -- none is a member below the lowest word
+  -- no number below the lowest word is a member
   none_below_lowest : (q : ℕ) → q < first + 64 * lowest_word → map.contains_key members q ≡ false
   none_below_lowest q h =
       not_member first count words q
@@ -112,7 +112,7 @@ module _ (first count len lowest_word : ℕ) (words : List ℕ) (are : AreBits f
           ];
     }
 
-    -- and from the place behind a number on, that of the next number
+    -- the least bit from the place after a number on is that of the next number
     pub next_is : (n : ℕ) → at ≡ n + 1 - first → IsNext members n (first + k)
     next_is n e = record {
       later = omega (arith, least.from);
@@ -121,7 +121,7 @@ module _ (first count len lowest_word : ℕ) (words : List ℕ) (are : AreBits f
     }
 
   module _ (at : ℕ) (none : (k : ℕ) → at ≤ k → bit_of words k ≡ false) where
-    -- where no bit is set from the lowest word on, there is no number
+    -- if no bit is set from the lowest word on, there is no number
     pub none_is : at ≡ 64 * lowest_word → members ≡ map.empty
     none_is e =
         members-empty first count words (λ k _.
@@ -130,11 +130,11 @@ module _ (first count len lowest_word : ℕ) (words : List ℕ) (are : AreBits f
           | inr from ↦ none k from
         ])
 
-    -- and from the place behind a number on, none above it
+    -- if no bit is set from the place after a number on, there is none above it
     pub no_next : (n : ℕ) → at ≡ n + 1 - first → (q : ℕ) → n < q → map.contains_key members q ≡ false
     no_next n e q after = not_member first count words q (λ f _. none (q - first) (omega arith))
 
-  -- one bit more
+  -- a bit is set
   pub are-insert : (k w : ℕ) → k < count → ChangesBit words (set words (k / 64) w) k true
       → AreBits first count (len + bool_byte (not (bit_of words k))) (min lowest_word (k / 64)) (set words (k / 64) w)
   are-insert k w here change = record {
@@ -151,7 +151,7 @@ module _ (first count len lowest_word : ℕ) (words : List ℕ) (are : AreBits f
         get_or-set_other words (k / 64) i w 0 ne ∙ are.none_below i (omega arith);
   }
 
-  -- one bit less
+  -- a bit is cleared
   pub are-remove : (k w next : ℕ) → k < count → bit_of words k ≡ true → ChangesBit words (set words (k / 64) w) k false
       → lowest_word ≤ next → next ≤ length words
       → ((i : ℕ) → lowest_word ≤ i → i < next → get_or (set words (k / 64) w) i 0 ≡ 0)

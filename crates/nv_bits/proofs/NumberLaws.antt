@@ -41,7 +41,7 @@ module _ {A : Type 0} where
       ]
   get_of_with_value m k q (Some x) none = get_of_insert m k x q
 
-  -- where a map by places has nothing, since the number is none of the range
+  -- a map by places has no value for a number outside the range
   pub get_outside : (at : ℕ → Option A) (first count q : ℕ) → (IsOf first count q → ⊥)
       → get (by_place at first count) q ≡ None
   unfolding by_place
@@ -53,7 +53,7 @@ module _ {A : Type 0} where
       ∙ rw (ne_eqb q (first + count) other) (get_outside at first count q
       (λ is. out (is.0, omega arith)))
 
-  -- and what it has at a place
+  -- the value of a map by places at a place
   pub get_at : (at : ℕ → Option A) (first count k : ℕ) → k < count
       → get (by_place at first count) (first + k) ≡ at k
   unfolding by_place
@@ -89,7 +89,7 @@ module _ {A : Type 0} where
             ]
       ])
 
-  -- one place of a map by places gets a value, or none
+  -- one place of a map by places is given a value, or none
   module _ (old new : ℕ → Option A) (first count k : ℕ) (here : k < count) where
     abbrev Changes : Option A → Type 0
     Changes o = (j : ℕ) → new j ≡ cond (j == k) o (old j)
@@ -162,7 +162,7 @@ module _ {A : Type 0} where
             ∙ ap is_some (get-empty nat_cmp k)))
       ]
 
-  -- what has no place is taken out of nothing
+  -- removing a number without a value changes nothing
   pub remove_absent : (m : NumberMap A) (k : ℕ) → map.contains_key m k ≡ false → map.remove m k ≡ m
   remove_absent m k absent =
       same_numbers _ m (λ q. get_of_remove m k q ∙ elim (cases_eq q k) [
@@ -214,14 +214,14 @@ module _ {A : Type 0} where
   abbrev numbers : List (ℕ × A) → List ℕ
   numbers es = map_list (λ e. e.0) es
 
-  -- a number in front of others
+  -- a number before others
   has_first : (e : ℕ × A) (es : List (ℕ × A)) → has (e ∷ es) e.0 ≡ true
   has_first e es = rw (unsigned_tied e.0 e.0, eq-eqb e.0 e.0 refl) refl
 
   has_other : (e : ℕ × A) (es : List (ℕ × A)) (q : ℕ) → q ≢ e.0 → has (e ∷ es) q ≡ has es q
   has_other e es q ne = rw (unsigned_tied q e.0, ne_eqb q e.0 ne) refl
 
-  -- those behind a lower number are above it
+  -- the numbers after a lower number are above it
   above_first : (x q : ℕ) (es : List (ℕ × A)) → T (below_all nat_cmp x es) → has es q ≡ true → x < q
   above_first x q [] below member = absurd (true≢false (sym member))
   above_first x q (e ∷ es) below member =

@@ -1,4 +1,4 @@
--- Bits of words that are written.
+-- Laws of bits in words that are written.
 use Rattle.std.proofs.Common.{◌≡◌, ◌≢◌, ◌∙◌, ℕ, ◌+◌, ◌-◌, ◌*◌, ◌/◌, ◌%◌, ◌^◌, ◌<◌, ◌≤◌, ◌==◌, true}
 use Rattle.std.proofs.Common.{false, List, length, get_or, set, w64, refl, arith, inl, inr}
 use Rattle.std.proofs.Common.{get_or-set_same, get_or-set_other, bit_and, bit_or, length-set, replicate}
@@ -12,7 +12,7 @@ use Rattle.std.specs.Int.{bit_at, bit_not, trailing_zeros}
 use Rattle.nv_bits.specs.inner.Words.{ChangesBit, IsLeastFrom}
 use Rattle.nv_bits.specs.Words.{bit_of}
 
--- a word is written in which one bit is another
+-- a word is written that differs in one bit
 changed : (words : List ℕ) (k w b : ℕ) → k / 64 < length words → bit_at w (k % 64) ≡ b
     → ((i : ℕ) → i < 64 → i ≢ k % 64 → bit_at w i ≡ bit_at (get_or words (k / 64) 0) i)
     → ChangesBit words (set words (k / 64) w) k (b == 1)
@@ -102,7 +102,7 @@ least_in_word words i s small fits some =
       },
     )
 
--- the same at the bit from which the search goes
+-- the lowest bit of the word in which the search begins
 pub first_found : (words : List ℕ) (at : ℕ) → get_or words (at / 64) 0 < 2 ^ 64
     → 0 < get_or words (at / 64) 0 / 2 ^ (at % 64)
     → (trailing_zeros w64 (get_or words (at / 64) 0 / 2 ^ (at % 64)) < 64)
@@ -114,7 +114,7 @@ first_found words at fits some =
     let f : 64 * (at / 64) + (at % 64 + t) ≡ at + t = omega arith in
     (omega (arith, found.0), rw (e, f) at found.1)
 
--- the bits from one on before word i, where they are 0 in their own word and all words between are 0
+-- no bit from one on is set before word i, if none is set in its own word and all words between are 0
 none_before : (words : List ℕ) (at i : ℕ) → get_or words (at / 64) 0 / 2 ^ (at % 64) ≡ 0
     → ((k : ℕ) → at / 64 + 1 ≤ k → k < i → get_or words k 0 ≡ 0) → (q : ℕ) → at ≤ q → q < 64 * i
     → bit_of words q ≡ false
@@ -128,7 +128,7 @@ none_before words at i here between q from to =
 pub none_past : (words : List ℕ) (k : ℕ) → length words ≤ k / 64 → bit_of words k ≡ false
 none_past words k past = none_of_zero words k (get_or_past words (k / 64) 0 past)
 
--- nothing is found where all later words are 0 too
+-- nothing is found if all later words are 0 too
 pub none_found : (words : List ℕ) (at i : ℕ) → i ≡ length words → get_or words (at / 64) 0 / 2 ^ (at % 64) ≡ 0
     → ((k : ℕ) → at / 64 + 1 ≤ k → k < i → get_or words k 0 ≡ 0) → (q : ℕ) → at ≤ q → bit_of words q ≡ false
 none_found words at i end here between q from =
@@ -137,7 +137,7 @@ none_found words at i end here between q from =
       | inr past ↦ none_past words q (omega arith)
     ]
 
--- and at a later word
+-- a bit is found in a later word
 pub later_found : (words : List ℕ) (at i : ℕ) → at / 64 < i → get_or words i 0 < 2 ^ 64 → 0 < get_or words i 0
     → get_or words (at / 64) 0 / 2 ^ (at % 64) ≡ 0 → ((k : ℕ) → at / 64 + 1 ≤ k → k < i → get_or words k 0 ≡ 0)
     → (trailing_zeros w64 (get_or words i 0) < 64)

@@ -1,7 +1,7 @@
--- Part of a list.
+-- The numbers of a list that are greater than a given one.
 use Rattle.std.specs.Prelude.{ℕ, List, nat_lt}
 use Rattle.std.specs.List.{filter}
 
--- those above a number, in the order of the list
+-- the numbers of a list that are greater than n, in the order of the list
 abbrev pub above : ℕ → List ℕ → List ℕ
 above n ns = filter (λ q. nat_lt n q) ns

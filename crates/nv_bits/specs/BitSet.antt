@@ -1,4 +1,4 @@
--- A set of numbers out of a range, and the bits that stand for it.
+-- A set of numbers from a range, and the bits that represent it.
 use Rattle.std.specs.Prelude.{◌≡◌, ℕ, ◌+◌, ◌/◌, ◌^◌, ◌<◌, ◌≤◌, false, List, length, slice_index}
 use Rattle.std.specs.Prelude.{refl}
 use Rattle.std.specs.Coded.{Coded, code_by, coded×, coded_ℕ}
@@ -7,7 +7,7 @@ use Rattle.std.specs.FinSet as set
 use Rattle.nv_bits.specs.Numbers.{NumberSet, as_member, by_place}
 use Rattle.nv_bits.specs.Words.{bit_of}
 
--- a set of numbers, all of them among the `count` from `first` on
+-- a set of numbers from the `count` numbers from `first` on
 pub record RangeSet : Type 0 where
   pub first : ℕ
   pub count : ℕ
@@ -24,7 +24,7 @@ range_set_code =
 abbrev pub members_of : ℕ → ℕ → List ℕ → NumberSet
 members_of first count words = by_place (λ k. as_member (bit_of words k)) first count
 
--- what is true of the fields
+-- what holds for the fields
 pub record AreBits (first count len lowest_word : ℕ) (words : List ℕ) : Type 0 where
   pub in_range : first + count ≤ 2 ^ 32
   pub room : length words ≡ count / 64 + 1

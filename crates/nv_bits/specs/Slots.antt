@@ -1,4 +1,4 @@
--- What the numbers of a range have, and the slots that stand for it.
+-- A map from the numbers of a range to values, and the slots that represent it.
 use Rattle.std.specs.Prelude.{◌≡◌, ℕ, ◌<◌, false, true, not, List, Option, None, refl}
 use Rattle.std.specs.Prelude.{slice_index_or}
 use Rattle.std.specs.Coded.{Coded, code_by, coded×, coded_ℕ}
@@ -6,7 +6,7 @@ use Rattle.std.specs.FinMap as map
 use Rattle.nv_bits.specs.BitSet.{RangeSet}
 use Rattle.nv_bits.specs.Numbers.{IsOf, NumberMap, by_place}
 
--- what some of the `count` numbers from `first` on have
+-- the values of some of the `count` numbers from `first` on
 pub record RangeMap (A : Type 0) : Type 0 where
   pub first : ℕ
   pub count : ℕ
@@ -19,7 +19,7 @@ range_map_code {A} a =
     (λ m. (m.first, (m.count, m.values)))
     (λ p. record { first = p.0; count = p.1.0; values = p.1.1 }) (λ _. refl)
 
--- slot k is that of number first + k
+-- slot k holds the value of number first + k
 abbrev pub values_of : {A : Type 0} → ℕ → ℕ → List (Option A) → NumberMap A
 values_of first count slots = by_place (λ k. slice_index_or slots k None) first count
 
@@ -29,7 +29,7 @@ pub record IsLowestFree {A : Type 0} (m : RangeMap A) (n : ℕ) : Type 0 where
   pub no_value : map.contains_key m.values n ≡ false
   pub least : (q : ℕ) → IsOf m.first m.count q → q < n → map.contains_key m.values q ≡ true
 
--- the occupied numbers are those that have a value, and the free ones the others of the range
+-- the occupied numbers are those with a value, and the free ones are the others of the range
 pub record AreSlots {A : Type 0} (occupied free : RangeSet) (values : NumberMap A) : Type 0 where
   pub same_first : free.first ≡ occupied.first
   pub same_count : free.count ≡ occupied.count

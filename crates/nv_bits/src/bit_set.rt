@@ -1,4 +1,4 @@
-//! A set of numbers out of a range.
+//! A set of numbers from a range.
 
 ghost use Rattle.std.specs.Prelude.{◌≡◌, ◌+◌, ◌^◌, ◌<◌, ◌≤◌, ◌∷◌, [], ℕ, false, true, not, ◌↔◌};
 ghost use Rattle.std.specs.Prelude.{IfOk, IfSome, IsTrue, MatchOption};
@@ -11,7 +11,7 @@ use crate::words::{bit, least_from, next_word, repeated};
 use std::alloc::{AllocError, Global};
 use std::marker::Model;
 
-/// A set of numbers, each of them one of `count` consecutive ones. Its room is made once, with a
+/// A set of numbers from a range of `count` consecutive ones. Its memory is allocated once, with a
 /// bit for each number.
 #[derive(Drop)]
 pub struct BitSet {
@@ -39,7 +39,7 @@ impl Model for BitSet {
 }
 
 impl BitSet {
-    /// The empty set, with room for the `count` numbers from `first` on.
+    /// Creates an empty set for the `count` numbers from `first` on.
     pub fn new(alloc: Global, first: u32, count: u32) -> Result<BitSet, AllocError>
         requires { first + count ≤ 2 ^ 32 }
         ensures { IfOk result (λ s. s
@@ -55,7 +55,7 @@ impl BitSet {
         })
     }
 
-    /// The set of the `count` numbers from `first` on.
+    /// Creates the set of all `count` numbers from `first` on.
     pub fn full(alloc: Global, first: u32, count: u32) -> Result<BitSet, AllocError>
         requires { first + count ≤ 2 ^ 32 }
         ensures { IfOk result (λ s. s
@@ -66,14 +66,14 @@ impl BitSet {
         Ok(set)
     }
 
-    /// The least number that the set can have.
+    /// Returns the least number that the set can hold.
     pub fn first(&self) -> u32
         ensures { result ≡ self.now.first }
     {
         self.first
     }
 
-    /// How many numbers the set can have.
+    /// Returns how many numbers the set can hold.
     pub fn count(&self) -> u32
         ensures value { result ≡ self.now.count }
         ensures in_range { self.now.first + result ≤ 2 ^ 32 }
@@ -81,7 +81,7 @@ impl BitSet {
         self.count
     }
 
-    /// How many numbers the set has.
+    /// Returns how many numbers the set holds.
     pub fn len(&self) -> u32
         ensures value { result ≡ map.len self.now.members }
         ensures within { result ≤ self.now.count }
@@ -89,14 +89,14 @@ impl BitSet {
         self.len
     }
 
-    /// Whether the set has no number.
+    /// Returns whether the set is empty.
     pub fn is_empty(&self) -> bool
         ensures { IsTrue result ↔ (self.now.members ≡ map.empty) }
     {
         self.len == 0
     }
 
-    /// Whether the set has a number. It has none out of its range.
+    /// Returns whether the set holds a number. It holds none outside its range.
     pub fn contains(&self, n: u32) -> bool
         ensures value { result ≡ map.contains_key self.now.members n }
         ensures in_range { OnTrue result (IsOf self.now.first self.now.count n) }
@@ -108,7 +108,7 @@ impl BitSet {
         k < self.count && bit(&self.words, k as usize)
     }
 
-    /// Adds a number of the range, and says whether the set didn't have it.
+    /// Adds a number of the range, and returns whether it was absent.
     pub fn insert(&mut self, n: u32) -> bool
         requires { IsOf self.old.first self.old.count n }
         ensures members { self.new ≡ record self.old { members = insert self.old.members n } }
@@ -122,7 +122,7 @@ impl BitSet {
         is_new
     }
 
-    /// Takes a number out, and says whether the set had it.
+    /// Removes a number, and returns whether it was present.
     pub fn remove(&mut self, n: u32) -> bool
         ensures members { self.new ≡ record self.old { members = map.remove self.old.members n } }
         ensures is_member { result ≡ map.contains_key self.old.members n }
@@ -137,7 +137,7 @@ impl BitSet {
         true
     }
 
-    /// Takes all numbers out.
+    /// Removes all numbers.
     pub fn clear(&mut self)
         ensures { self.new ≡ record self.old { members = map.empty } }
     {
@@ -158,7 +158,7 @@ impl BitSet {
         self.lowest_word = 0;
     }
 
-    /// The lowest number of the set.
+    /// Returns the lowest number of the set.
     pub fn lowest(&self) -> Option<u32>
         ensures lowest { MatchOption result
             (self.now.members ≡ map.empty)
@@ -169,7 +169,7 @@ impl BitSet {
         Some(self.first + k as u32)
     }
 
-    /// Takes the lowest number out. There is none exactly where the set is empty, which then stays
+    /// Removes and returns the lowest number. Returns none if the set is empty, which then stays
     /// so.
     pub fn take_lowest(&mut self) -> Option<u32>
         ensures taken { MatchOption result
@@ -183,13 +183,13 @@ impl BitSet {
         Some(n)
     }
 
-    /// The lowest number of the set above one.
+    /// Returns the lowest number of the set that is greater than `n`.
     pub fn next_above(&self, n: u32) -> Option<u32>
         ensures least { MatchOption result
             ((q : ℕ) → n < q → map.contains_key self.now.members q ≡ false)
             (IsNext self.now.members n) }
 
-        // So the numbers above one are listed, in ascending order.
+        // So the numbers above `n` are listed in ascending order.
         ensures listed { MatchOption result
             (above n (map.keys self.now.members) ≡ [])
             (λ m. above n (map.keys self.now.members) ≡ m ∷ above m (map.keys self.now.members)) }

@@ -1,5 +1,5 @@
-//! Sets and maps of small numbers, with a place for each number of a range. Room is made once, when
-//! they are made: no later call takes memory.
+//! Sets and maps of small numbers, with a place for each number of a range. Memory is allocated
+//! when they are created, and never by a later call.
 //!
 //! ```
 //! // identifiers from 1 to 1024

@@ -1,4 +1,4 @@
-//! What the numbers of a range have.
+//! A map from the numbers of a range to values.
 
 ghost use Rattle.std.specs.Prelude.{◌≡◌, ◌+◌, ◌^◌, ◌<◌, ◌≤◌, ◌∷◌, [], ℕ, None, false, true, IfOk};
 ghost use Rattle.std.specs.Prelude.{IfSome, MatchOption, slice_index_or, vec_len};
@@ -12,8 +12,8 @@ use crate::BitSet;
 use std::alloc::{AllocError, Global};
 use std::marker::Model;
 
-/// A map from numbers to values, each number one of `count` consecutive ones. Its room is made
-/// once, with a slot for each number.
+/// A map from numbers to values, where the numbers come from a range of `count` consecutive ones.
+/// Its memory is allocated once, with a slot for each number.
 #[derive(Drop)]
 pub struct Slots<T> {
     occupied: BitSet,
@@ -41,7 +41,7 @@ impl<T> Model for Slots<T> {
 }
 
 impl<T: Copy> Slots<T> {
-    /// No value, with a slot for each of the `count` numbers from `first` on.
+    /// Creates an empty map for the `count` numbers from `first` on.
     pub fn new(alloc: Global, first: u32, count: u32) -> Result<Slots<T>, AllocError>
         requires { first + count ≤ 2 ^ 32 }
         ensures { IfOk result (λ s. s
@@ -57,14 +57,14 @@ impl<T: Copy> Slots<T> {
         })
     }
 
-    /// The least number that can have a value.
+    /// Returns the least number that can have a value.
     pub fn first(&self) -> u32
         ensures { result ≡ self.now.first }
     {
         self.occupied.first()
     }
 
-    /// How many numbers can have a value.
+    /// Returns how many numbers can have a value.
     pub fn count(&self) -> u32
         ensures value { result ≡ self.now.count }
         ensures in_range { self.now.first + result ≤ 2 ^ 32 }
@@ -72,7 +72,7 @@ impl<T: Copy> Slots<T> {
         self.occupied.count()
     }
 
-    /// How many numbers have a value.
+    /// Returns how many numbers have a value.
     pub fn len(&self) -> u32
         ensures value { result ≡ map.len self.now.values }
         ensures within { result ≤ self.now.count }
@@ -80,7 +80,7 @@ impl<T: Copy> Slots<T> {
         self.occupied.len()
     }
 
-    /// Whether a number has a value.
+    /// Returns whether a number has a value.
     pub fn contains(&self, n: u32) -> bool
         ensures value { result ≡ map.contains_key self.now.values n }
         ensures in_range { OnTrue result (IsOf self.now.first self.now.count n) }
@@ -88,7 +88,7 @@ impl<T: Copy> Slots<T> {
         self.occupied.contains(n)
     }
 
-    /// The value of a number.
+    /// Returns the value of a number.
     pub fn get(&self, n: u32) -> Option<T>
         ensures value { result ≡ map.get self.now.values n }
         ensures in_range { IfSome result (λ _. IsOf self.now.first self.now.count n) }
@@ -99,7 +99,7 @@ impl<T: Copy> Slots<T> {
         self.slots[(n - self.occupied.first()) as usize]
     }
 
-    /// Gives a number of the range a value.
+    /// Sets the value of a number of the range.
     pub fn insert(&mut self, n: u32, value: T)
         requires { IsOf self.old.first self.old.count n }
         ensures { self.new ≡ record self.old { values = map.insert self.old.values n value } }
@@ -110,7 +110,7 @@ impl<T: Copy> Slots<T> {
         self.free.remove(n);
     }
 
-    /// Takes a number's value away.
+    /// Removes a number's value, and returns it.
     pub fn remove(&mut self, n: u32) -> Option<T>
         ensures values { self.new ≡ record self.old { values = map.remove self.old.values n } }
         ensures value { result ≡ map.get self.old.values n }
@@ -123,7 +123,7 @@ impl<T: Copy> Slots<T> {
         Some(value)
     }
 
-    /// Takes all values away.
+    /// Removes all values.
     pub fn clear(&mut self)
         ensures { self.new ≡ record self.old { values = map.empty } }
     {
@@ -132,13 +132,13 @@ impl<T: Copy> Slots<T> {
         self.free.fill();
     }
 
-    /// The lowest number above one that has a value.
+    /// Returns the lowest number greater than `n` that has a value.
     pub fn next_above(&self, n: u32) -> Option<u32>
         ensures least { MatchOption result
             ((q : ℕ) → n < q → map.contains_key self.now.values q ≡ false)
             (IsNext self.now.values n) }
 
-        // So the numbers above one are listed, in ascending order.
+        // So the numbers above `n` are listed in ascending order.
         ensures listed { MatchOption result
             (above n (map.keys self.now.values) ≡ [])
             (λ m. above n (map.keys self.now.values) ≡ m ∷ above m (map.keys self.now.values)) }
@@ -147,7 +147,7 @@ impl<T: Copy> Slots<T> {
         self.occupied.next_above(n)
     }
 
-    /// The lowest number of the range that has no value.
+    /// Returns the lowest number of the range that has no value.
     pub fn lowest_free(&self) -> Option<u32>
         ensures { MatchOption result
             ((q : ℕ) → IsOf self.now.first self.now.count q
@@ -158,7 +158,7 @@ impl<T: Copy> Slots<T> {
     }
 }
 
-/// Takes the value out of each slot.
+/// Removes the value of each slot.
 fn empty<T: Copy>(slots: &mut [Option<T>])
     ensures { (k : ℕ) → slice_index_or slots.new k None ≡ None }
 {
@@ -167,7 +167,7 @@ fn empty<T: Copy>(slots: &mut [Option<T>])
     }
 }
 
-/// So many slots with no value.
+/// Creates `count` slots without values.
 fn empty_slots<T: Copy>(alloc: Global, count: u32) -> Result<Vec<Option<T>>, AllocError>
     ensures len { IfOk result (λ slots. vec_len slots ≡ count) }
     ensures none { IfOk result (λ slots. (k : ℕ) → slice_index_or slots.items k None ≡ None) }

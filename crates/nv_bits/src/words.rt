@@ -7,14 +7,14 @@ ghost use Rattle.nv_bits.specs.Words.{bit_of};
 
 use std::alloc::{AllocError, Global};
 
-/// So many words that are all the same.
+/// Creates `len` copies of a word.
 pub(crate) fn repeated(alloc: Global, word: u64, len: usize) -> Result<Vec<u64>, AllocError>
     ensures { IfOk result (λ words. words.items ≡ replicate len word) }
 {
     vec![in alloc; word; len]
 }
 
-/// Whether a bit is set.
+/// Returns whether a bit is set.
 pub(crate) fn bit(words: &[u64], k: usize) -> bool
     requires { k / 64 < length words.now }
     ensures { result ≡ bit_of words.now k }
@@ -22,7 +22,8 @@ pub(crate) fn bit(words: &[u64], k: usize) -> bool
     words[k / 64] & (1 << (k % 64)) != 0
 }
 
-/// The first word from one on that is not 0, or where the words end.
+/// Returns the index of the first word from `from` on that is not 0, or the number of words if
+/// there is none.
 pub(crate) fn next_word(words: &[u64], from: usize) -> usize
     requires { from ≤ length words.now }
     ensures within { (from ≤ result) × (result ≤ length words.now) }
@@ -37,7 +38,7 @@ pub(crate) fn next_word(words: &[u64], from: usize) -> usize
     words.len()
 }
 
-/// The least set bit from one on.
+/// Returns the least set bit from `at` on.
 pub(crate) fn least_from(words: &[u64], at: usize) -> Option<usize>
     requires { length words.now ≤ 2 ^ 32 }
     ensures { MatchOption result

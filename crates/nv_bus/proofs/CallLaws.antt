@@ -1,4 +1,4 @@
--- Where the data of an entry lies.
+-- The places of an entry's data.
 use Rattle.std.proofs.Common.{◌≡◌, ◌∙◌, ℕ, zero, suc, ◌<◌, ◌≤◌, ◌==◌, nat_lt, Bool, true, false}
 use Rattle.std.proofs.Common.{if◌then◌else◌, ap, refl, subst, sym, arith, lit<, lit≤, List, []}
 use Rattle.std.proofs.Common.{Option, None, Result, Ok, Err}
@@ -61,7 +61,7 @@ no_places page_size bytes e m at is none = ap (λ (x : Transfer). data_places pa
 
 -- ---- a length that a data pointer can have
 
--- there is some, and what the host sends is a page of 4,096 bytes at most
+-- the length is greater than 0, and the host sends at most a page of 4,096 bytes
 abbrev HasSome : Transfer → Type 0
 HasSome NoData = Unit {0}
 HasSome (ToHost n) = 0 < n
@@ -99,7 +99,7 @@ room_within limit NoData low some few = tt
 room_within limit (ToHost n) low some few = (some, omega arith)
 room_within limit (FromHost n) low some few = some
 
--- what the rule on the length lets through is no longer than the limit
+-- what the rule on the length accepts is no longer than the limit
 pub within_limit : (limit : ℕ) (asked t : Transfer) → within limit asked ≡ Ok t → (t ≡ asked)
     × (length_of t ≤ limit)
 within_limit limit asked t h = by_test (nat_lt limit (length_of asked)) refl h
@@ -113,7 +113,7 @@ within_limit limit asked t h = by_test (nat_lt limit (length_of asked)) refl h
         let few : length_of asked ≤ limit = grind (arith, nat_tests, is) in
         (same, subst (λ (m : Transfer). length_of m ≤ limit) (sym same) few)
 
--- and that is what is let through
+-- what is no longer than the limit is accepted
 pub within_few : (limit : ℕ) (asked : Transfer) → length_of asked ≤ limit → within limit asked
     ≡ Ok asked
 within_few limit asked few =

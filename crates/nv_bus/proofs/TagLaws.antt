@@ -12,7 +12,7 @@ pub dword0_tagged : (r : Reply) → dword0_of (without_phases r) ≡ dword0_of r
 dword0_tagged (reply.Errors es) = refl
 dword0_tagged r = refl
 
--- and are replies to its commands
+-- they are replies to the same commands
 pub tagged : (k : Command) (r reply : Reply) → without_phases r ≡ reply → IsReplyTo k reply
     × FitsRecord reply → IsReplyTo k r × FitsRecord r
 tagged k r reply same is =

@@ -1,4 +1,4 @@
--- How many entries a turn takes of rings that lie in the memory.
+-- How many entries a turn takes if the rings lie in the memory.
 use Rattle.std.proofs.Common.{◌≡◌, ◌≢◌, ◌⊎◌, inl, inr, ◌∙◌, ℕ, zero, suc, ◌+◌, ◌-◌, ◌<◌, ◌≤◌, ◌==◌}
 use Rattle.std.proofs.Common.{◌&&◌, not, nat_le, Bool, true, false, ap, refl, subst, sym, arith}
 use Rattle.std.proofs.Common.{min, List, length, Result, Ok, Err}
@@ -33,14 +33,14 @@ use Rattle.nv_bus.specs.Turn.{turn_count, waiting}
 
 -- ---- one ring
 
--- one fewer waits
+-- one entry fewer is waiting
 one_taken : (d k n : ℕ) → IsWithinRing d k n → k ≢ n → above d n k ≡ above d n (next d k) + 1
 one_taken d k n is left =
     let less = next_above d n k is.to is.from left in
     let some : above d n k ≢ 0 = λ none. left (above_none d n k is.to is.from none) in
     omega arith
 
--- one fewer is free
+-- one slot fewer is free
 one_posted : (d k n : ℕ) → IsWithinRing d k n → above d n k ≢ d - 1 → d - 1 - above d n k
     ≡ d - 1 - above d (next d n) k + 1
 one_posted d k n is free =
@@ -90,7 +90,7 @@ abbrev pub rings_one : Rings → Rings
 rings_one r =
     record r { submission = fetched_one r.submission; completion = posted_one r.completion }
 
--- what so many entries leave of rings that lie in the memory
+-- what this number of entries leaves of rings that lie in the memory
 pub record RingsLess (count page_size size : ℕ) (old new : Rings) : Type 0 where
   pub lie : RingsLie new page_size size
   pub wait : waiting old ≡ waiting new + count
@@ -113,7 +113,7 @@ rings_one_less r page_size size is can =
       free = one_posted _ _ _ is.post means.1;
     }
 
--- where no entry can be taken, none waits or no slot is free
+-- if no entry can be taken, none is waiting or no slot is free
 none_can : (r : Rings) (page_size size : ℕ) → RingsLie r page_size size → (can_take r ≡ true → ⊥)
     → (waiting r ≡ 0) ⊎ (free_slots r ≡ 0)
 none_can r page_size size is cannot =
@@ -160,9 +160,9 @@ length_one page_size c old new t =
     ∙ length-with_bytes moved place (bytes_of_cqe (put_as ring (completion_in c old)))
     (omega arith) ∙ same
 
--- ---- so many entries
+-- ---- several entries
 
--- what so many entries leave of rings that lie in the memory, and that it keeps its length
+-- what this number of entries leaves of rings that lie in the memory, whose length doesn't change
 pub record ScenesLess (count page_size : ℕ) (old new : Scene) : Type 0 where
   pub len : length new.bytes ≡ length old.bytes
   pub rings : RingsLess count page_size (length new.bytes) old.rings new.rings
@@ -213,8 +213,8 @@ least most w f count v g few wait free stop =
       | inr all ↦ omega arith
     ]
 
--- where both rings lie in the memory, a turn takes the least of the most that were asked for, the
--- entries that wait and the free slots, and it ends without a fatal status
+-- if both rings lie in the memory, a turn takes the least of the entries that may be taken, the
+-- entries that are waiting and the free slots, and it ends without a fatal status
 pub turn_count_is : (page_size c most count : ℕ) (old new : Scene) (fatal : Bool)
     → RingsLie old.rings page_size (length old.bytes)
     → RingsTurn page_size c most count old new fatal → (count ≡ turn_count most old.rings)
@@ -232,7 +232,7 @@ turn_count_is page_size c most count old new fatal is turn =
 
 -- ---- the rings after a turn
 
--- the rings after so many entries
+-- the rings after this number of entries
 unfoldable pub rings_after : ℕ → Rings → Rings
 rings_after zero r = r
 rings_after (suc k) r = rings_after k (rings_one r)
@@ -249,7 +249,7 @@ unfolding rings_after
 page_size_after zero r = refl
 page_size_after (suc k) r = page_size_after k (rings_one r)
 
--- where n entries were taken before, n + k were
+-- if n entries were taken before, n + k are taken now
 pub submission_after : (k n : ℕ) (r : Rings) → r.submission.fetched
     ≡ kept_number r.submission.depth n
     → (rings_after k r).submission ≡ record r.submission {
@@ -266,7 +266,7 @@ submission_after (suc k) n r h =
     submission_after k (n + 1) (rings_one r) (ap (next d) h ∙ kept_next d n)
     ∙ ap (λ x. record r.submission { fetched = kept_number d x }) same
 
--- where n completions were posted before, n + k were
+-- if n completions were posted before, n + k are posted now
 pub completion_after : (k n : ℕ) (r : Rings) → r.completion.posted
     ≡ kept_number r.completion.depth n
     → (rings_after k r).completion ≡ record r.completion {
@@ -283,7 +283,7 @@ completion_after (suc k) n r h =
     completion_after k (n + 1) (rings_one r) (ap (next d) h ∙ kept_next d n)
     ∙ ap (λ x. record r.completion { posted = kept_number d x }) same
 
--- what a turn leaves of a ready controller with rings that lie in the memory
+-- what a turn leaves of a ready controller whose rings lie in the memory
 pub record BankTakes (page_size most count : ℕ) (r : Rings) (old new : Site) : Type 0 where
   pub number : count ≡ turn_count most r
   pub bank : new.bank ≡ ready_bank old.bank (rings_after count r) false

@@ -1,4 +1,4 @@
--- What a bus stands for.
+-- The value that a bus represents.
 use Rattle.std.specs.Prelude.{◌≡◌, ℕ, Bool, List, if◌then◌else◌, length, map, slice_index_or}
 use Rattle.nv_register.specs.RegisterBank.{new_bank, stops_at}
 use Rattle.nv_register.specs.Readiness.{is_enabled}

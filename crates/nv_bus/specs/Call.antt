@@ -1,5 +1,5 @@
--- What is found of an entry before its command is executed: its command and where its data lies, or
--- the status of the first rule that it breaks.
+-- What a controller reads of an entry before it executes the command: the command and the places of
+-- its data, or the status of the first rule that the entry breaks.
 use Rattle.std.specs.Prelude.{ℕ, ◌<◌, ◌≤◌, List, [], nat_lt, if◌then◌else◌, Option, Some, None}
 use Rattle.std.specs.Prelude.{Result, Ok, Err}
 use Rattle.nv_layout.specs.declared.sqe.Sqe.{Sqe}
@@ -29,7 +29,7 @@ places_unless (Some fault) places = Err (prp_status fault)
 unfoldable pub places_of : prp.PrpTransfer → Result (List ℕ) StatusCode
 places_of t = places_unless (prp.first_fault t) (prp.transfer_places t)
 
--- a length that a data pointer can have; what the host sends is a page of 4,096 bytes at most
+-- a length that a data pointer can have; the host sends at most a page of 4,096 bytes
 abbrev pub HasRoom : Transfer → Type 0
 HasRoom NoData = Unit {0}
 HasRoom (ToHost n) = (0 < n) × (n ≤ prp.most_bytes)
@@ -45,19 +45,19 @@ length_of (FromHost n) = n
 abbrev pub within : ℕ → Transfer → Result Transfer StatusCode
 within limit moves = if nat_lt limit (length_of moves) then Err InvalidFieldInCommand else Ok moves
 
--- which way the data of an entry goes, by the rules before that of its data pointer
+-- the data transfer of an entry, by the rules that come before those for its data pointer
 abbrev pub moves_of : ℕ → Sqe → Result Transfer StatusCode
 moves_of limit e = transfer_of e >>= within limit
 
--- what an entry asks for with what the host sends, wherever that lies: a command, or the status of
+-- what an entry asks for with the host's data, wherever that is stored: a command, or the status of
 -- the first rule that it breaks
 abbrev pub asked_by : ℕ → Sqe → List ℕ → Result Command StatusCode
 asked_by limit e «data» = do
   moves ← moves_of limit e
   command_of e «data»
 
--- where the data of an entry lies in the host's memory; an entry without data has no use for its
--- data pointer
+-- the places of an entry's data in the host's memory; the data pointer of an entry without data is
+-- ignored
 abbrev pub data_places : ℕ → List ℕ → Sqe → Transfer → Result (List ℕ) StatusCode
 data_places page_size bytes e NoData = Ok []
 data_places page_size bytes e (ToHost n) = places_of (prp.transfer page_size bytes e.prp1 e.prp2 n)
@@ -79,8 +79,8 @@ abbrev pub command_in : Result Call StatusCode → Result Command StatusCode
 command_in (Ok call) = Ok call.command
 command_in (Err code) = Err code
 
--- the rules in order: those of the entry alone, that of how much data it moves, those of its data
--- pointer, those of the data that the host sends
+-- the rules in order: those for the entry alone, that for the length of its data, those for its
+-- data pointer, and those for the data that the host sends
 abbrev pub call_of : ℕ → ℕ → List ℕ → Sqe → Result Call StatusCode
 call_of page_size limit bytes e = do
   asked ← transfer_of e

@@ -1,4 +1,4 @@
--- What taking one entry does.
+-- What happens when a controller takes one entry.
 use Rattle.std.specs.Prelude.{◌≡◌, ℕ, false, List, Result, Ok, Err}
 use Rattle.nv_layout.specs.declared.cqe.Cqe.{Cqe}
 use Rattle.nv_layout.specs.declared.sqe.Sqe.{Sqe}
@@ -33,12 +33,12 @@ scene state rings bytes = record { state = state; rings = rings; bytes = bytes }
 abbrev pub entry_in : Scene → Sqe
 entry_in x = next_submission x.bytes x.rings.submission
 
--- what controller c finds of it
+-- the command of the entry and the places of its data, or the status of its refusal, for controller c
 abbrev pub call_in : ℕ → Scene → Result Call StatusCode
 call_in c x = call_of x.rings.page_size (limit_of x.state c) x.bytes (entry_in x)
 
--- an entry that breaks a rule is refused and booked with its own NSID; any other does its command's
--- step
+-- an entry that breaks a rule is refused and logged with its own NSID; for any other, its command's
+-- step is done
 abbrev pub asked_step : Result Command StatusCode → State → ℕ → (nsid cid : ℕ) → Step
 asked_step (Err code) s c nsid cid =
     record {
@@ -53,8 +53,8 @@ step_unless found s c e = asked_step (command_in found) s c e.nsid e.cid
 abbrev pub entry_step : ℕ → Scene → Step
 entry_step c x = step_unless (call_in c x) x.state c (entry_in x)
 
--- the data of a reply, whose entries of the error log have their phase tags, goes to its places
--- byte after byte, so that of two bytes for one place the later stays; a refusal moves none
+-- the data of a reply is written to its places byte after byte, so that the later of two bytes for
+-- one place stays, and the entries of an error log have their phase tags; a refusal writes nothing
 abbrev pub Moves : Command → List ℕ → Result Reply Status → List ℕ → List ℕ → Type 0
 Moves k places (Ok reply) old new =
     (r : Reply) × (without_phases r ≡ reply) × (new ≡ written_at old places (data_of k r))
@@ -75,11 +75,11 @@ abbrev pub dword0_in : Result Reply Status → ℕ
 dword0_in (Ok reply) = dword0_of reply
 dword0_in (Err status) = 0
 
--- what a completion tells of an answer
+-- what a completion says about an answer
 abbrev pub told_by : Result Reply Status → Told
 told_by answer = record { dword0 = dword0_in answer; status = status_in answer }
 
--- a completion, whose phase tag its number gives
+-- a completion, whose phase tag its number determines
 abbrev pub completion_of : ℕ → ℕ → Told → Cqe
 completion_of cid sq_head told = record {
   command_specific = told.dword0;

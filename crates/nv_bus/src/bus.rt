@@ -1,4 +1,4 @@
-//! What a host talks to.
+//! The bus that a host talks to.
 
 ghost use Rattle.std.specs.Prelude.{◌≡◌, ◌<◌, length, slice_set};
 ghost use Rattle.nv_register.specs.RegisterBank.{value_at, with_register_at};
@@ -7,22 +7,24 @@ ghost use Rattle.nv_bus.specs.Turn.{TakesCount, Turn};
 
 use nv_host::HostMemory;
 
-/// The controllers of a subsystem: their registers, and their turns over the host's memory.
+/// A bus to the controllers of a subsystem: their registers, and their turns over the host's
+/// memory.
 pub trait Bus {
     // The subsystem, and each controller's registers and rings.
     ghost meaning: { Self → BusValue };
 
-    /// The number of controllers.
+    /// Returns the number of controllers.
     fn controllers(&self) -> u16
         ensures { result ≡ length (meaning self.now).banks };
 
-    /// The dword of a controller's registers at an offset in bytes; 0 where no register begins.
+    /// Returns the dword of a controller's registers at an offset in bytes, or 0 if no register
+    /// begins there.
     fn read32(&self, ctrl: u16, offset: u32) -> u32
         requires { ctrl < length (meaning self.now).banks }
         ensures { result ≡ value_at (bank_at (meaning self.now).banks ctrl) offset };
 
     /// Writes the dword of a controller's registers at an offset in bytes. A write that clears an
-    /// EN that was 1 resets the controller; after any other the subsystem is as it was. Section
+    /// EN that was 1 resets the controller; any other write leaves the subsystem as it was. Section
     /// "Controller Level Reset".
     fn write32(&mut self, ctrl: u16, offset: u32, dword: u32)
         requires { ctrl < length (meaning self.old).banks }
@@ -32,10 +34,9 @@ pub trait Bus {
             (with_register_at (bank_at (meaning self.old).banks ctrl) offset dword) }
         ensures bus { IsBus (meaning self.old) → IsBus (meaning self.new) };
 
-    /// Takes entries of a controller's submission ring, at most so many, and answers how many it
-    /// took. Each gets one completion; of the memory only the places of its data and its
-    /// completion's slot change. None is taken where the controller isn't ready or has a fatal
-    /// status.
+    /// Takes at most `most` entries from a controller's submission queue, and returns how many it
+    /// took. Each gets one completion. In the memory, only the bytes of its data and the slot of
+    /// its completion change. None is taken if the controller isn't ready or has a fatal status.
     fn turn<M: HostMemory>(&mut self, ctrl: u16, mem: &mut M, most: u16) -> u16
         requires ctrl { ctrl < length (meaning self.old).banks }
         requires bus { IsBus (meaning self.old) }

@@ -1,5 +1,5 @@
-//! What a lawful bus to the controllers of a subsystem is: their registers, and turns over the
-//! host's memory. Its definitions say what each entry is answered and which places of the memory
+//! Defines a lawful bus to the controllers of a subsystem: their registers, and their turns over
+//! the host's memory. Its definitions say how each entry is answered and which bytes of the memory
 //! change.
 //!
 //! Sections are named as in the NVM Express Base Specification, revision 1.4.

@@ -1,8 +1,8 @@
-//! What a completion tells.
+//! What a completion says.
 
 use nv_layout::Status;
 
-/// What the completion of an entry tells of its answer.
+/// What the completion of an entry says about its answer.
 #[derive(Clone, Copy)]
 pub struct Told {
     pub dword0: u32,

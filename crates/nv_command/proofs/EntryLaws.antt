@@ -1,4 +1,4 @@
--- An entry fits its bits where its fields do.
+-- An entry fits its bits if its fields do.
 use Rattle.std.proofs.Common.{◌≡◌, ℕ, ◌<◌, ◌^◌, lit<}
 use Rattle.nv_layout.specs.Sqe.{SqeFits}
 use Rattle.nv_layout.specs.declared.sqe.Sqe.{Sqe}
@@ -32,6 +32,6 @@ entry_with_fits f nsid cid fits n c = record {
   cdw15 = lit< tt;
 }
 
--- wherever its data lies, the entry of a command is decoded to it
+-- wherever its data is stored, the entry of a command is decoded to that command
 abbrev pub IsDecoded : (Sqe → Command) → Command → Type 0
 IsDecoded decoded k = (cid p q : ℕ) → decoded (with_pointer (entry_of k cid) p q) ≡ k

@@ -1,4 +1,4 @@
--- What is asked of Get Features and Set Features arrives.
+-- Get Features and Set Features are read back from their entries.
 use Rattle.std.proofs.Common.{◌≡◌, ◌∙◌, ℕ, ◌+◌, ◌<◌, ◌^◌, ◌==◌, ap, lit<, arith}
 use Rattle.nv_layout.specs.Bits.{at_bits, bit, bits}
 use Rattle.nv_layout.proofs.RecordLaws.{bit_below, flag_back}

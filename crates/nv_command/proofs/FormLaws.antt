@@ -1,4 +1,4 @@
--- What is known of data by the form of a command.
+-- What is known about data from the form of a command.
 use Rattle.std.proofs.Common.{◌≡◌, ℕ, ◌==◌, Bool, true, arith, refl, subst, sym}
 use Rattle.std.proofs.lemmas.Bool.Decides.{nat_tests}
 use Rattle.nv_command.specs.Command.{bytes_to_host, transfer_by}
@@ -18,14 +18,14 @@ size_by_form : (k : Command) → IsSendable k
 size_by_form (GetLog q) sends = log_size (is_error_log q.lid) q.offset q.dwords sends
 size_by_form k sends = refl
 
--- from as many bytes as a command says its reply is read
+-- the reply is read from as many bytes as the command says
 pub size_of_reply : (k : Command) (f : Form) (size : ℕ) → f ≡ form_of k
     → size ≡ bytes_to_host (transfer_by k) → IsSendable k → IsSizeOf f.reply size
 size_of_reply k f size is len sends =
     subst (λ (x : Form). IsSizeOf x.reply size) (sym is)
     (subst (IsSizeOf (form_of k).reply) (sym len) (size_by_form k sends))
 
--- there is no data, or a page: so it is, by its form, of each command that gets no log
+-- there is no data, or a page; this holds for each command that reads no log
 abbrev pub at_most_a_page : Transfer → Bool
 at_most_a_page NoData = true
 at_most_a_page (ToHost n) = n == 4096

@@ -1,4 +1,4 @@
--- What is asked of Get Log Page arrives, and so do logs.
+-- Get Log Page is read back from its entry, and so are logs from their bytes.
 use Rattle.std.proofs.Common.{◌≡◌, ◌∙◌, ℕ, zero, suc, ◌+◌, ◌-◌, ◌*◌, ◌/◌, ◌%◌, ◌<◌, ◌≤◌, ◌^◌, Bool}
 use Rattle.std.proofs.Common.{true, false, List, [], ◌∷◌, ◌++◌, ap, arith, drop, get_or, length}
 use Rattle.std.proofs.Common.{lit<, map, refl, replicate, sym, take}
@@ -88,7 +88,7 @@ length-first_entries count es =
     length-take-le count (es ++ replicate count no_entry)
     (simp (length-append, length-replicate) (omega arith))
 
--- so many entries of a log, as they are asked for
+-- the requested part of a log, as whole entries
 abbrev asked_of : List ErrorEntry → ℕ → List ℕ
 asked_of es count = part (bytes_of_entries es) 0 (64 * count)
 
@@ -146,7 +146,7 @@ pub log_size : (is_errors : Bool) (offset dwords : ℕ) → IsWhole is_errors of
 log_size true offset dwords whole = omega (arith, whole.1.few)
 log_size false offset dwords whole = whole.1
 
--- ---- what is known of a reply without its phase tags
+-- ---- what is known about a reply without its phase tags
 
 kind-without_phases : (r : Reply) → kind_of (without_phases r) ≡ kind_of r
 kind-without_phases (reply.Errors es) = refl

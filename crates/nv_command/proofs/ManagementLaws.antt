@@ -1,4 +1,4 @@
--- What is asked of Namespace Management and Namespace Attachment arrives.
+-- Namespace Management and Namespace Attachment are read back from their entries and data.
 use Rattle.std.proofs.Common.{◌≡◌, ℕ, ◌<◌, ◌^◌, Bool, true, false, List, Ok, ap, refl, zero, suc}
 use Rattle.std.proofs.Common.{replicate, length, lit<, arith}
 use Rattle.std.specs.List.{AllByRecursion}
@@ -11,6 +11,7 @@ use Rattle.nv_command.specs.Management.{AttachmentFits, CreateFits, asked, attac
 use Rattle.nv_command.specs.Management.{creation, no_format}
 use Rattle.nv_command.specs.Form.{attachment_fields, management_fields}
 use Rattle.nv_command.specs.declared.command.Command.TheVariants.{Create, Attachment}
+use Rattle.nv_command.specs.declared.management.NewNamespace.{NewNamespace}
 
 pub management_fits : (select : ℕ) → select < 2 ^ 4 → FieldsFit (management_fields select)
 management_fits select h = record {
@@ -31,9 +32,8 @@ none_fit : (n : ℕ) → AllByRecursion LbafFits (replicate n no_format)
 none_fit zero = tt
 none_fit (suc n) = (record { ms = lit< tt; lbads = lit< tt; rp = lit< tt }, none_fit n)
 
-pub asked_fits : (nsze ncap flbas dps nmic : ℕ) → CreateFits nsze ncap flbas dps nmic
-    → IdNsFits (asked nsze ncap flbas dps nmic)
-asked_fits nsze ncap flbas dps nmic fits =
+pub asked_fits : (w : NewNamespace) → CreateFits w → IdNsFits (asked w)
+asked_fits w fits =
     record {
       nsze = fits.nsze;
       ncap = fits.ncap;
@@ -52,18 +52,14 @@ asked_fits nsze ncap flbas dps nmic fits =
 
 -- a page from the host
 
-pub length_of_creation : (nsze ncap flbas dps nmic : ℕ)
-    → length (bytes_of_id_ns (asked nsze ncap flbas dps nmic)) ≡ 4096
-length_of_creation nsze ncap flbas dps nmic =
-    length-bytes_of_id_ns (asked nsze ncap flbas dps nmic) refl
+pub length_of_creation : (w : NewNamespace) → length (bytes_of_id_ns (asked w)) ≡ 4096
+length_of_creation w = length-bytes_of_id_ns (asked w) refl
 
-pub create_back : (nsze ncap flbas dps nmic : ℕ) → CreateFits nsze ncap flbas dps nmic
-    → create_in (bytes_of_id_ns (asked nsze ncap flbas dps nmic))
-    ≡ Ok (Create nsze ncap flbas dps nmic)
-create_back nsze ncap flbas dps nmic fits =
-    let size = length_of_creation nsze ncap flbas dps nmic in
-    rw size (ap (λ r. Ok (creation r)) (id_ns_back (asked nsze ncap flbas dps nmic)
-    (asked_fits nsze ncap flbas dps nmic fits)))
+pub create_back : (w : NewNamespace) → CreateFits w
+    → create_in (bytes_of_id_ns (asked w)) ≡ Ok (Create w)
+create_back w fits =
+    let size = length_of_creation w in
+    rw size (ap (λ r. Ok (creation r)) (id_ns_back (asked w) (asked_fits w fits)))
 
 pub attachment_back : (detach : Bool) (n : ℕ) (ids : List ℕ) → AttachmentFits n ids
     → attachment_in detach n (bytes_of_ctrl_list ids) ≡ Ok (Attachment n detach ids)

@@ -18,7 +18,7 @@ length_of_page (reply.Namespace r) fits = length-bytes_of_id_ns r fits.formats
 length_of_page (reply.List ids) fits = length-bytes_of_ns_list ids fits.count
 length_of_page r fits = refl
 
--- all of a reply of this kind stands in dword 0 and a page
+-- a reply of this kind is completely in dword 0 and a page
 abbrev pub IsNoLog : ReplyKind → Type 0
 IsNoLog kind.Errors = ⊥
 IsNoLog kind.Smart = ⊥

@@ -1,5 +1,5 @@
--- The entries of an error log that a room keeps: those past the last that isn't all zeros hold no
--- error.
+-- The entries of an error log in a `ReplyRoom`: those after the last one that isn't all zeros hold
+-- no error.
 use Rattle.std.proofs.Common.{◌≡◌, ◌∙◌, ℕ, suc, ◌+◌, ◌-◌, ◌<◌, ◌≤◌, List, [], ◌∷◌, ◌++◌, ap, arith, drop}
 use Rattle.std.proofs.Common.{get_or, length, map, refl, replicate, sym, take}
 use Rattle.std.proofs.lemmas.List.{drop_more, map-append, take-append-drop}
@@ -28,7 +28,7 @@ blank_before chunks n some within zeros others =
     ∙ (λ i. zeros_received i ∷ others i)
     ∙ ap (λ m. replicate m no_entry) more
 
--- those before them were read
+-- the entries before them were read
 pub entries_read : (chunks : List (List ℕ)) (n : ℕ) (kept : List ErrorEntry)
     → take n kept ≡ map entry_received (take n chunks)
     → map entry_received (drop n chunks) ≡ replicate (length chunks - n) no_entry

@@ -1,4 +1,4 @@
--- The law of what travels, for those who cite it.
+-- The law that commands and replies are read back, in the form that other proofs cite.
 use Rattle.std.proofs.Common.{◌≡◌, ◌∙◌, ◌*◌, ap, false, lit<, Ok, refl, true}
 use Rattle.nv_layout.proofs.PartLaws.{length-part}
 use Rattle.nv_layout.proofs.RecordLaws.{length-bytes_of_ctrl_list}
@@ -58,11 +58,11 @@ commands_travel (AllocatedList n) cid fits low = record {
   command = λ p q. refl;
   sent = refl;
 }
-commands_travel (Create nsze ncap flbas dps nmic) cid fits low = record {
+commands_travel (Create w) cid fits low = record {
   fits = entry_with_fits _ 0 cid (management_fits 0x0 (lit< tt)) (lit< tt) low;
   transfer = λ p q. refl;
-  command = λ p q. create_back nsze ncap flbas dps nmic fits;
-  sent = length_of_creation nsze ncap flbas dps nmic;
+  command = λ p q. create_back w fits;
+  sent = length_of_creation w;
 }
 commands_travel (Delete n) cid fits low = record {
   fits = entry_with_fits _ n cid (management_fits 0x1 (lit< tt)) fits low;
@@ -82,10 +82,10 @@ commands_travel (Attachment n false ids) cid fits low = record {
   command = λ p q. attachment_back false n ids fits;
   sent = length-bytes_of_ctrl_list ids fits.list.count;
 }
-commands_travel (Format n lbaf mset pi pil ses) cid fits low = record {
-  fits = entry_with_fits _ n cid (format_fits lbaf mset pi pil ses) fits.nsid low;
+commands_travel (Format f) cid fits low = record {
+  fits = entry_with_fits _ f.nsid cid (format_fits f) fits.nsid low;
   transfer = λ p q. refl;
-  command = λ p q. ap Ok (format_back n lbaf mset pi pil ses fits cid p q);
+  command = λ p q. ap Ok (format_back f fits cid p q);
   sent = refl;
 }
 commands_travel (GetFeature x) cid fits low = record {
@@ -109,7 +109,7 @@ commands_travel (GetLog x) cid fits low = record {
 
 -- ---- replies
 
--- of a command that gets no log the form tells how long the page of its reply is
+-- for a command that reads no log, the form says how long the page of its reply is
 pub replies_fit : RepliesFit
 replies_fit (GetLog q) r is fits = length-part (log_of r) q.offset (4 * q.dwords)
 replies_fit k r is fits = length_of_page r fits ∙ ap page_bytes is

@@ -1,4 +1,4 @@
--- Commands: their NSIDs, their data, and what makes their fields fit.
+-- Commands: their data, and when their fields fit.
 use Rattle.std.specs.Prelude.{ℕ, ◌^◌, ◌<◌, List, []}
 use Rattle.nv_layout.specs.CtrlList.{bytes_of_ctrl_list}
 use Rattle.nv_layout.specs.IdNs.{bytes_of_id_ns}
@@ -16,38 +16,38 @@ use Rattle.nv_command.specs.declared.command.Command.TheVariants.{SetFeature, Ge
 use Rattle.nv_command.specs.declared.transfer.Transfer.{Transfer}
 use Rattle.nv_command.specs.declared.transfer.Transfer.TheVariants.{NoData, ToHost, FromHost}
 
--- which way its data goes, and how many bytes
+-- the direction and the length of its data
 abbrev pub transfer_by : Command → Transfer
 transfer_by k = (form_of k).transfer
 
 -- the data that the host sends with it
 abbrev pub host_data_of : Command → List ℕ
-host_data_of (Create nsze ncap flbas dps nmic) = bytes_of_id_ns (asked nsze ncap flbas dps nmic)
+host_data_of (Create w) = bytes_of_id_ns (asked w)
 host_data_of (Attachment n detach ids) = bytes_of_ctrl_list ids
 host_data_of k = []
 
--- each field fits its bits, where there are some
+-- each field fits its bits, if the command has any
 abbrev pub CommandFits : Command → Type 0
 CommandFits (IdentifyNamespace n) = IdentifyFits n
 CommandFits (AllocatedNamespace n) = IdentifyFits n
 CommandFits (ActiveList after) = IdentifyFits after
 CommandFits (AllocatedList after) = IdentifyFits after
-CommandFits (Create nsze ncap flbas dps nmic) = CreateFits nsze ncap flbas dps nmic
+CommandFits (Create w) = CreateFits w
 CommandFits (Delete n) = n < 2 ^ 32
 CommandFits (Attachment n detach ids) = AttachmentFits n ids
-CommandFits (Format n lbaf mset pi pil ses) = FormatFits n lbaf pi ses
+CommandFits (Format f) = FormatFits f
 CommandFits (GetFeature q) = GetFeatureFits q
 CommandFits (SetFeature x) = SetFeatureFits x
 CommandFits (GetLog q) = GetLogFits q
 CommandFits k = Unit {0}
 
--- the bytes that go from the host to the controller
+-- how many bytes the host sends to the controller
 abbrev pub bytes_from_host : Transfer → ℕ
 bytes_from_host NoData = 0
 bytes_from_host (ToHost n) = 0
 bytes_from_host (FromHost n) = n
 
--- the bytes that go from the controller to the host
+-- how many bytes the controller sends to the host
 abbrev pub bytes_to_host : Transfer → ℕ
 bytes_to_host NoData = 0
 bytes_to_host (ToHost n) = n

@@ -30,17 +30,17 @@ opcode_by n =
     else (if n == 0x02 then Ok GetLogPage
     else Err InvalidCommandOpcode))))))
 
--- neither fused nor by SGLs
+-- an entry that is neither fused nor uses SGLs
 abbrev pub is_plain : Sqe → Bool
 is_plain e = e.fuse == 0 && e.psdt == 0
 
--- the opcode is known, and the entry is plain
+-- the opcode of an entry, if it is known and the entry is plain
 abbrev pub opcode_of : Sqe → Result Opcode StatusCode
 opcode_of e = do
   opcode ← opcode_by e.opcode
   if is_plain e then Ok opcode else Err InvalidFieldInCommand
 
--- of an opcode that has data; else there is none
+-- the data transfer by the opcode; other opcodes have no data
 abbrev pub transfer_as : Opcode → Sqe → Result Transfer StatusCode
 transfer_as Identify e = identify_transfer e
 transfer_as NamespaceManagement e = management_transfer e
@@ -48,7 +48,7 @@ transfer_as NamespaceAttachment e = attachment_transfer e
 transfer_as GetLogPage e = Ok (get_log_transfer e)
 transfer_as o e = Ok NoData
 
--- which way the data goes, and how many bytes
+-- the direction and the length of an entry's data
 abbrev pub transfer_of : Sqe → Result Transfer StatusCode
 transfer_of e = do
   opcode ← opcode_of e
@@ -63,7 +63,7 @@ command_as GetFeatures e «data» = Ok (get_feature_command e)
 command_as SetFeatures e «data» = Ok (set_feature_command e)
 command_as GetLogPage e «data» = Ok (get_log_command e)
 
--- the command, with the data from the host
+-- the command of an entry and of the data from the host
 abbrev pub command_of : Sqe → List ℕ → Result Command StatusCode
 command_of e «data» = do
   opcode ← opcode_of e

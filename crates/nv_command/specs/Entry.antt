@@ -6,7 +6,7 @@ use Rattle.nv_command.specs.Form.{form_of}
 use Rattle.nv_command.specs.declared.command.Command.{Command}
 use Rattle.nv_command.specs.declared.entry.Fields.{Fields}
 
--- fields, an NSID and a command identifier; all else is 0
+-- the entry with these fields, this NSID and this command identifier; everything else is 0
 abbrev pub entry_with : Fields → ℕ → ℕ → Sqe
 entry_with f nsid cid = record {
   opcode = f.opcode;
@@ -25,14 +25,14 @@ entry_with f nsid cid = record {
   cdw15 = 0;
 }
 
--- the opcode of a command and its own dwords
+-- the opcode of a command and its command specific dwords
 abbrev pub fields_of : Command → Fields
 fields_of k = (form_of k).fields
 
--- a command with this command identifier
+-- the entry of a command with this command identifier
 abbrev pub entry_of : Command → ℕ → Sqe
 entry_of k cid = entry_with (fields_of k) (namespace_of k) cid
 
--- the entry with its data pointer
+-- the entry with a data pointer
 abbrev pub with_pointer : Sqe → ℕ → ℕ → Sqe
 with_pointer e prp1 prp2 = record e { prp1 = prp1; prp2 = prp2 }

@@ -1,6 +1,6 @@
--- Get Features (opcode 0Ah) and Set Features (opcode 09h): the feature identifier stands in CDW10
--- 7:0. To get, CDW10 10:8 selects which value, and CDW11 is the feature's own; to set, CDW11 is the
--- value, and CDW10 bit 31 saves it too.
+-- Get Features (opcode 0Ah) and Set Features (opcode 09h): CDW10 7:0 is the feature identifier. For
+-- a Get, CDW10 10:8 selects the value, and CDW11 belongs to the feature; for a Set, CDW11 is the
+-- value, and CDW10 bit 31 says whether it is also saved.
 use Rattle.std.specs.Prelude.{◌^◌, ◌<◌, ◌==◌}
 use Rattle.nv_layout.specs.Bits.{bits}
 use Rattle.nv_layout.specs.declared.sqe.Sqe.{Sqe}
@@ -20,7 +20,7 @@ pub record SetFeatureFits (x : FeatureSetting) : Type 0 where
   pub value : x.value < 2 ^ 32
   pub nsid : x.nsid < 2 ^ 32
 
--- every entry gets or sets; its other bits are ignored
+-- every entry is a valid Get or Set; its other bits are ignored
 abbrev pub get_feature_command : Sqe → Command
 get_feature_command e = GetFeature (record {
   fid = bits 0 8 e.cdw10;

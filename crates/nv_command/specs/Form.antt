@@ -1,4 +1,4 @@
--- How each command travels: the one table that all which travels follows.
+-- How each command travels: the fields of its entry, its data, and the kind of its reply.
 use Rattle.std.specs.Prelude.{◌+◌, ℕ, Bool, true, false, ◌-◌, ◌*◌, ◌/◌, ◌%◌, ◌^◌, ◌==◌}
 use Rattle.nv_layout.specs.Bits.{at_bits, bit, bits}
 use Rattle.nv_command.specs.declared.entry.Fields.{Fields}
@@ -13,27 +13,10 @@ use Rattle.nv_command.specs.declared.command.Command.TheVariants.{SetFeature, Ge
 use Rattle.nv_command.specs.declared.form.Form.{Form}
 use Rattle.nv_command.specs.declared.form.ReplyKind.{ReplyKind}
 use Rattle.nv_command.specs.declared.form.ReplyKind.TheVariants as kind
+use Rattle.nv_command.specs.declared.format.NewFormat.{NewFormat}
 use Rattle.nv_command.specs.declared.transfer.Transfer.{Transfer}
 use Rattle.nv_command.specs.declared.transfer.Transfer.TheVariants.{NoData, ToHost, FromHost}
 use Rattle.nv_command.specs.declared.logs.LogQuery.{LogQuery}
-
-abbrev pub get_feature_fields : FeatureQuery → Fields
-get_feature_fields q = record {
-  opcode = 0x0a;
-  cdw10 = at_bits 0 8 q.fid + at_bits 8 3 q.sel;
-  cdw11 = q.cdw11;
-  cdw12 = 0;
-  cdw13 = 0;
-}
-
-abbrev pub set_feature_fields : FeatureSetting → Fields
-set_feature_fields x = record {
-  opcode = 0x09;
-  cdw10 = at_bits 0 8 x.fid + at_bits 31 1 (bit x.save);
-  cdw11 = x.value;
-  cdw12 = 0;
-  cdw13 = 0;
-}
 
 -- a row of the table
 abbrev pub form : Fields → ℕ → Transfer → ReplyKind → Form
@@ -44,23 +27,61 @@ form fields nsid transfer reply = record {
   reply = reply;
 }
 
-abbrev pub format_fields : ℕ → Bool → ℕ → Bool → ℕ → Fields
-format_fields lbaf mset pi pil ses = record {
+-- "Identify command": CDW10 has CNS in bits 7 to 0
+abbrev pub identify_fields : ℕ → Fields
+identify_fields cns = record { opcode = 0x06; cdw10 = cns; cdw11 = 0; cdw12 = 0; cdw13 = 0 }
+
+-- each Identify returns a page
+abbrev pub identify_data : Transfer
+identify_data = ToHost 4096
+
+-- "Namespace Management command": CDW10 has SEL in bits 3 to 0
+abbrev pub management_fields : ℕ → Fields
+management_fields select = record { opcode = 0x0d; cdw10 = select; cdw11 = 0; cdw12 = 0; cdw13 = 0 }
+
+-- "Namespace Attachment command": CDW10 has SEL in bits 3 to 0, 0h to attach and 1h to detach
+abbrev pub attachment_fields : Bool → Fields
+attachment_fields detach =
+    record { opcode = 0x15; cdw10 = bit detach; cdw11 = 0; cdw12 = 0; cdw13 = 0 }
+
+-- to create, attach or detach, the host sends a page
+abbrev pub page_from_host : Transfer
+page_from_host = FromHost 4096
+
+-- "Format NVM command": CDW10 has LBAF in bits 3 to 0, MSET in bit 4, PI in bits 7 to 5, PIL in bit 8 and
+-- SES in bits 11 to 9
+abbrev pub format_fields : NewFormat → Fields
+format_fields f = record {
   opcode = 0x80;
-  cdw10 = at_bits 0 4 lbaf + at_bits 4 1 (bit mset) + at_bits 5 3 pi + at_bits 8 1 (bit pil)
-      + at_bits 9 3 ses;
+  cdw10 = at_bits 0 4 f.lbaf + at_bits 4 1 (bit f.mset) + at_bits 5 3 f.pi
+      + at_bits 8 1 (bit f.pil) + at_bits 9 3 f.ses;
   cdw11 = 0;
   cdw12 = 0;
   cdw13 = 0;
 }
 
-abbrev pub identify_fields : ℕ → Fields
-identify_fields cns = record { opcode = 0x06; cdw10 = cns; cdw11 = 0; cdw12 = 0; cdw13 = 0 }
+-- "Get Features command": CDW10 has FID in bits 7 to 0 and SEL in bits 10 to 8
+abbrev pub get_feature_fields : FeatureQuery → Fields
+get_feature_fields q = record {
+  opcode = 0x0a;
+  cdw10 = at_bits 0 8 q.fid + at_bits 8 3 q.sel;
+  cdw11 = q.cdw11;
+  cdw12 = 0;
+  cdw13 = 0;
+}
 
--- each answers a page
-abbrev pub identify_data : Transfer
-identify_data = ToHost 4096
+-- "Set Features command": CDW10 has FID in bits 7 to 0 and SV in bit 31
+abbrev pub set_feature_fields : FeatureSetting → Fields
+set_feature_fields x = record {
+  opcode = 0x09;
+  cdw10 = at_bits 0 8 x.fid + at_bits 31 1 (bit x.save);
+  cdw11 = x.value;
+  cdw12 = 0;
+  cdw13 = 0;
+}
 
+-- "Get Log Page command": CDW10 has LID in bits 7 to 0 and NUMDL in bits 31 to 16, CDW11 has NUMDU in bits
+-- 15 to 0, and CDW12 and CDW13 have the offset. The number of dwords is zeros-based
 abbrev pub get_log_fields : LogQuery → Fields
 get_log_fields q = record {
   opcode = 0x02;
@@ -70,13 +91,11 @@ get_log_fields q = record {
   cdw13 = q.offset / 2 ^ 32;
 }
 
--- each answers the dwords that are asked for
+-- a log returns the dwords that are asked for
 abbrev pub log_data : ℕ → Transfer
 log_data dwords = ToHost (4 * dwords)
 
--- ---- reading
-
--- 01h is the log of Error Information, and what else is read is health
+-- 01h is the log of Error Information; any other log that is read is the SMART / Health Information log
 abbrev pub is_error_log : ℕ → Bool
 is_error_log lid = lid == 0x01
 
@@ -84,37 +103,23 @@ abbrev pub log_kind : Bool → ReplyKind
 log_kind true = kind.Errors
 log_kind false = kind.Smart
 
-abbrev pub management_fields : ℕ → Fields
-management_fields select = record { opcode = 0x0d; cdw10 = select; cdw11 = 0; cdw12 = 0; cdw13 = 0 }
-
--- select 0h attaches, 1h detaches
-abbrev pub attachment_fields : Bool → Fields
-attachment_fields detach =
-    record { opcode = 0x15; cdw10 = bit detach; cdw11 = 0; cdw12 = 0; cdw13 = 0 }
-
--- to create, attach or detach, the host sends a page
-abbrev pub page_from_host : Transfer
-page_from_host = FromHost 4096
-
--- the opcode of its entry and its own dwords, the NSID of its entry, its data, and its reply. The
--- NSID of a list is the one before it; it is 0 for the controller and for a namespace to create
+-- the opcode and the dwords of the entry, its NSID, its data, and the kind of the reply. The NSID of a
+-- list is the one before its first; it is 0 for the controller and for a namespace to create
 abbrev pub form_of : Command → Form
 form_of IdentifyController = form (identify_fields 0x01) 0 identify_data kind.Controller
 form_of (IdentifyNamespace n) = form (identify_fields 0x00) n identify_data kind.Namespace
 form_of (AllocatedNamespace n) = form (identify_fields 0x11) n identify_data kind.Namespace
 form_of (ActiveList after) = form (identify_fields 0x02) after identify_data kind.List
 form_of (AllocatedList after) = form (identify_fields 0x10) after identify_data kind.List
-form_of (Create nsze ncap flbas dps nmic) =
-    form (management_fields 0x0) 0 page_from_host kind.Number
+form_of (Create w) = form (management_fields 0x0) 0 page_from_host kind.Number
 form_of (Delete n) = form (management_fields 0x1) n NoData kind.Done
 form_of (Attachment n detach ids) = form (attachment_fields detach) n page_from_host kind.Done
-form_of (Format n lbaf mset pi pil ses) =
-    form (format_fields lbaf mset pi pil ses) n NoData kind.Done
+form_of (Format f) = form (format_fields f) f.nsid NoData kind.Done
 form_of (GetFeature q) = form (get_feature_fields q) q.nsid NoData kind.Number
 form_of (SetFeature x) = form (set_feature_fields x) x.nsid NoData kind.Done
 form_of (GetLog q) =
     form (get_log_fields q) q.nsid (log_data q.dwords) (log_kind (is_error_log q.lid))
 
--- the NSID of the entry, with which a refusal is booked
+-- the NSID of the entry, which the error log entry of a refusal names
 abbrev pub namespace_of : Command → ℕ
 namespace_of k = (form_of k).nsid

@@ -1,4 +1,4 @@
--- The Identify commands: opcode 06h, with what is asked for (CNS) in CDW10 7:0.
+-- The Identify commands: opcode 06h, with the requested structure (CNS) in CDW10 7:0.
 use Rattle.std.specs.Prelude.{ℕ, ◌%◌, ◌^◌, ◌<◌, ◌==◌, List, Result, Ok, Err, if◌then◌else◌}
 use Rattle.nv_layout.specs.IdCtrl.{id_ctrl_of_bytes}
 use Rattle.nv_layout.specs.IdNs.{id_ns_of_bytes}
@@ -36,14 +36,14 @@ identify_transfer e = do
   command ← identify_command e
   Ok identify_data
 
--- the controller that a page holds
+-- the controller's data in a page
 abbrev pub controller_in : List ℕ → Reply
 controller_in page = reply.Controller (id_ctrl_of_bytes page)
 
--- the namespace that a page holds
+-- the namespace's data in a page
 abbrev pub namespace_in : List ℕ → Reply
 namespace_in page = reply.Namespace (id_ns_of_bytes page)
 
--- the NSIDs that a page holds
+-- the NSIDs in a page
 abbrev pub list_in : List ℕ → Reply
 list_in page = reply.List (ns_list_of_bytes page)

@@ -1,6 +1,6 @@
--- Get Log Page: opcode 02h. CDW10 has the identifier of the log in bits 7:0. How many dwords are
--- asked for, less one, stands in CDW10 31:16, its upper half in CDW11 15:0; the byte that they
--- begin at in CDW12, its upper half in CDW13.
+-- Get Log Page: opcode 02h. CDW10 7:0 is the identifier of the log. The number of dwords, less one,
+-- is in CDW10 31:16, with its upper half in CDW11 15:0; the offset of the first byte is CDW12, with
+-- its upper half in CDW13.
 use Rattle.std.specs.Prelude.{◌≡◌, ℕ, true, false, ◌+◌, ◌*◌, ◌/◌, ◌^◌, ◌<◌, ◌≤◌, Bool, List, length, map}
 use Rattle.std.specs.Simd.{first_chunks}
 use Rattle.nv_layout.specs.ErrorEntryBytes.{error_entry_of_bytes, without_phase}
@@ -26,7 +26,7 @@ pub record GetLogFits (q : LogQuery) : Type 0 where
 abbrev pub dwords_asked : Sqe → ℕ
 dwords_asked e = bits 16 16 e.cdw10 + at_bits 16 16 e.cdw11 + 1
 
--- every entry asks for a log; its other bits are ignored
+-- every entry is a valid request for a log; its other bits are ignored
 abbrev pub get_log_command : Sqe → Command
 get_log_command e = GetLog (record {
   lid = bits 0 8 e.cdw10;
@@ -38,24 +38,24 @@ get_log_command e = GetLog (record {
 abbrev pub get_log_transfer : Sqe → Transfer
 get_log_transfer e = log_data (dwords_asked e)
 
--- an entry, whose phase tag says nothing of the error
+-- an entry as it is received: its phase tag says nothing about the error and is left out
 abbrev pub entry_received : List ℕ → ErrorEntry
 entry_received bytes = without_phase (error_entry_of_bytes bytes)
 
 abbrev pub entries_in : List ℕ → List ErrorEntry
 entries_in bytes = map entry_received (first_chunks 64 (length bytes / 64) bytes)
 
--- the error log that the bytes hold
+-- the error log in these bytes
 abbrev pub errors_in : List ℕ → Reply
 errors_in bytes = reply.Errors (entries_in bytes)
 
--- the health log that the bytes hold
+-- the health log in these bytes
 abbrev pub smart_in : List ℕ → Reply
 smart_in bytes = reply.Smart (smart_of_bytes bytes)
 
--- ---- what the host gets of a log
+-- ---- what the host receives of a log
 
--- entries that differ in the phase tag alone count as the same
+-- entries that differ only in the phase tag are considered equal
 abbrev pub without_phases : Reply → Reply
 without_phases (reply.Errors es) = reply.Errors (map without_phase es)
 without_phases r = r
@@ -66,7 +66,7 @@ pub record AreEntries (dwords : ℕ) : Type 0 where
   pub some : 0 < dwords / 16
   pub few : dwords / 16 ≤ 256
 
--- a log from its start on: so many whole entries, or all of the health log
+-- a log from its beginning: whole entries, or the entire health log
 abbrev pub IsWhole : Bool → ℕ → ℕ → Type 0
 IsWhole true offset dwords = (offset ≡ 0) × AreEntries dwords
 IsWhole false offset dwords = (offset ≡ 0) × (4 * dwords ≡ 512)

@@ -1,5 +1,5 @@
--- Namespace Management (opcode 0Dh) and Namespace Attachment (opcode 15h): what is selected stands
--- in CDW10 3:0, and what the host says of it in a page.
+-- Namespace Management (opcode 0Dh) and Namespace Attachment (opcode 15h): CDW10 3:0 selects the
+-- operation, and the host sends its parameters in a page.
 use Rattle.std.specs.Prelude.{ℕ, ◌%◌, ◌^◌, ◌<◌, ◌==◌, Bool, true, false, List, Result, Ok, Err}
 use Rattle.std.specs.Prelude.{if◌then◌else◌, length, replicate}
 use Rattle.nv_layout.specs.CtrlList.{CtrlListFits, ctrl_list_of_bytes}
@@ -12,6 +12,7 @@ use Rattle.nv_command.specs.StatusCode.{code_of_layout}
 use Rattle.nv_layout.specs.Steps.{◌>>=◌}
 use Rattle.nv_command.specs.declared.command.Command.{Command}
 use Rattle.nv_command.specs.declared.command.Command.TheVariants.{Create, Delete, Attachment}
+use Rattle.nv_command.specs.declared.management.NewNamespace.{NewNamespace}
 use Rattle.nv_command.specs.declared.status_code.StatusCode.{StatusCode}
 use Rattle.nv_command.specs.declared.status_code.StatusCode.TheVariants.{DataTransferError}
 use Rattle.nv_command.specs.declared.status_code.StatusCode.TheVariants.{InvalidFieldInCommand}
@@ -19,12 +20,12 @@ use Rattle.nv_command.specs.declared.transfer.Transfer.{Transfer}
 use Rattle.nv_command.specs.declared.transfer.Transfer.TheVariants.{NoData}
 use Rattle.nv_command.specs.Form.{page_from_host}
 
-pub record CreateFits (s c f d m : ℕ) : Type 0 where
-  pub nsze : s < 2 ^ 64
-  pub ncap : c < 2 ^ 64
-  pub flbas : f < 2 ^ 8
-  pub dps : d < 2 ^ 8
-  pub nmic : m < 2 ^ 8
+pub record CreateFits (w : NewNamespace) : Type 0 where
+  pub nsze : w.nsze < 2 ^ 64
+  pub ncap : w.ncap < 2 ^ 64
+  pub flbas : w.flbas < 2 ^ 8
+  pub dps : w.dps < 2 ^ 8
+  pub nmic : w.nmic < 2 ^ 8
 
 pub record AttachmentFits (n : ℕ) (ids : List ℕ) : Type 0 where
   pub nsid : n < 2 ^ 32
@@ -34,18 +35,18 @@ abbrev pub no_format : Lbaf
 no_format = record { ms = 0; lbads = 0; rp = 0 }
 
 -- the page of a namespace to create: what isn't chosen is 0
-abbrev pub asked : ℕ → ℕ → ℕ → ℕ → ℕ → IdNs
-asked nsze ncap flbas dps nmic = record {
-  nsze = nsze;
-  ncap = ncap;
+abbrev pub asked : NewNamespace → IdNs
+asked w = record {
+  nsze = w.nsze;
+  ncap = w.ncap;
   nuse = 0;
   nsfeat = 0;
   nlbaf = 0;
-  flbas = flbas;
+  flbas = w.flbas;
   mc = 0;
   dpc = 0;
-  dps = dps;
-  nmic = nmic;
+  dps = w.dps;
+  nmic = w.nmic;
   nvmcap = 0;
   lbafs = replicate 16 no_format;
 }
@@ -55,14 +56,20 @@ asked nsze ncap flbas dps nmic = record {
 abbrev pub select_of : Sqe → ℕ
 select_of e = e.cdw10 % 2 ^ 4
 
--- what the host sent, where it is a page
+-- the data that the host sent, if it is a page
 abbrev pub page_of : List ℕ → Result (List ℕ) StatusCode
 page_of bytes = if length bytes == 4096 then Ok bytes else Err DataTransferError
 
 abbrev pub creation : IdNs → Command
-creation r = Create r.nsze r.ncap r.flbas r.dps r.nmic
+creation r = Create (record {
+  nsze = r.nsze;
+  ncap = r.ncap;
+  flbas = r.flbas;
+  dps = r.dps;
+  nmic = r.nmic;
+})
 
--- the namespace to create, of which the entry's NSID says nothing
+-- the creation of a namespace; the entry's NSID is ignored
 abbrev pub create_in : List ℕ → Result Command StatusCode
 create_in «data» = do
   page ← page_of «data»

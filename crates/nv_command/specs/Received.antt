@@ -1,4 +1,4 @@
--- What a host makes of the answer to a command.
+-- What a host receives as the answer to a command.
 use Rattle.std.specs.Prelude.{ℕ, ◌+◌, ◌/◌, List, ◌++◌, Result, Ok, Err, replicate, take}
 use Rattle.nv_layout.specs.ErrorEntry.{no_entry}
 use Rattle.nv_layout.specs.declared.error_entry.ErrorEntry.{ErrorEntry}
@@ -8,7 +8,7 @@ use Rattle.nv_command.specs.declared.command.Command.TheVariants.{GetLog}
 use Rattle.nv_command.specs.declared.reply.Reply.{Reply}
 use Rattle.nv_command.specs.declared.reply.Reply.TheVariants as reply
 
--- so many of the entries, and where there are fewer, entries without an error after them
+-- the first `count` entries, followed by entries without an error if there are fewer
 abbrev pub first_entries : ℕ → List ErrorEntry → List ErrorEntry
 first_entries count es = take count (es ++ replicate count no_entry)
 
@@ -16,7 +16,7 @@ abbrev pub first_of_log : ℕ → Reply → Reply
 first_of_log count (reply.Errors es) = reply.Errors (first_entries count es)
 first_of_log count r = r
 
--- of a reply: of the error log as many entries as were asked for
+-- the reply as the host receives it: of the error log it has as many entries as were requested
 abbrev pub received : Command → Reply → Reply
 received (GetLog q) r = first_of_log (q.dwords / 16) r
 received k r = r

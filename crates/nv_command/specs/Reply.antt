@@ -25,7 +25,7 @@ abbrev pub dword0_of : Reply → ℕ
 dword0_of (reply.Number n) = n
 dword0_of r = 0
 
--- the page of what isn't a log
+-- the page of a reply that isn't a log
 abbrev pub page_of : Reply → List ℕ
 page_of (reply.Controller r) = bytes_of_id_ctrl r
 page_of (reply.Namespace r) = bytes_of_id_ns r
@@ -38,16 +38,16 @@ log_of (reply.Errors es) = bytes_of_entries es
 log_of (reply.Smart r) = bytes_of_smart r
 log_of r = []
 
--- the data to the host: of a log what was asked for, with zeros past its end
+-- the data to the host; for a log it is the requested part, with zeros past the log's end
 abbrev pub data_of : Command → Reply → List ℕ
 data_of (GetLog q) r = part (log_of r) q.offset (4 * q.dwords)
 data_of k r = page_of r
 
--- a page with data at its front
+-- a page that begins with this data
 abbrev pub with_data : List ℕ → List ℕ → List ℕ
 with_data bytes page = bytes ++ drop (length bytes) page
 
--- the reply of a kind that a dword 0 and data carry
+-- the reply of a kind, read from dword 0 and data
 abbrev pub reply_by : ReplyKind → ℕ → List ℕ → Reply
 reply_by kind.Controller dword0 bytes = controller_in bytes
 reply_by kind.Namespace dword0 bytes = namespace_in bytes
@@ -57,7 +57,7 @@ reply_by kind.Done dword0 bytes = reply.Done
 reply_by kind.Errors dword0 bytes = errors_in bytes
 reply_by kind.Smart dword0 bytes = smart_in bytes
 
--- the reply to a command that they carry
+-- the reply to a command, read from dword 0 and data
 abbrev pub reply_in : Command → ℕ → List ℕ → Reply
 reply_in k dword0 bytes = reply_by (form_of k).reply dword0 bytes
 
@@ -74,7 +74,7 @@ kind_of (reply.Smart r) = kind.Smart
 abbrev pub IsReplyTo : Command → Reply → Type 0
 IsReplyTo k r = kind_of r ≡ (form_of k).reply
 
--- NSIDs for which a list has room, none of them 0
+-- NSIDs that fit a list, none of them 0
 pub record IsNsidList (ids : List ℕ) : Type 0 where
   pub count : length ids ≤ most_nsids
   pub numbers : AllByRecursion (λ n. (n ≢ 0) × (n < 2 ^ 32)) ids
@@ -85,7 +85,7 @@ pub record IsEntryList (es : List ErrorEntry) : Type 0 where
   pub count : length es ≤ 256
   pub entries : AllByRecursion ErrorEntryFits es
 
--- what a reply has to be, so that its record gives it back
+-- the condition under which a reply is read back from its record
 abbrev pub FitsRecord : Reply → Type 0
 FitsRecord (reply.Controller r) = IdCtrlFits r
 FitsRecord (reply.Namespace r) = IdNsFits r

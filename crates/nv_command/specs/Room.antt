@@ -1,4 +1,4 @@
--- The reply that is kept in a room.
+-- The reply in a `ReplyRoom`.
 use Rattle.std.specs.Prelude.{ℕ, ◌-◌, ◌≤◌, List, ◌++◌, replicate, take}
 use Rattle.nv_layout.specs.ErrorEntry.{no_entry}
 use Rattle.nv_layout.specs.declared.error_entry.ErrorEntry.{ErrorEntry}
@@ -7,11 +7,11 @@ use Rattle.nv_command.specs.declared.reply.Reply.TheVariants as reply
 use Rattle.nv_command.specs.declared.reply_room.Held.{Held}
 use Rattle.nv_command.specs.declared.reply_room.Held.TheVariants as held
 
--- the entries of a log of which the first so many stand: the others hold no error
+-- the entries of a log of which the first `present` are stored; the others hold no error
 abbrev pub entries_held : ℕ → ℕ → List ErrorEntry → List ErrorEntry
 entries_held count present es = take present es ++ replicate (count - present) no_entry
 
--- what is held, with the list and the entries beside it
+-- the reply that is stored, with the list and the entries beside it
 abbrev pub reply_held : Held → List ℕ → List ErrorEntry → Reply
 reply_held (held.Controller r) ids es = reply.Controller r
 reply_held (held.Namespace r) ids es = reply.Namespace r
@@ -21,7 +21,7 @@ reply_held held.Done ids es = reply.Done
 reply_held (held.Errors count present) ids es = reply.Errors (entries_held count present es)
 reply_held (held.Smart r) ids es = reply.Smart r
 
--- there is room for 256 entries
+-- there is room for at most 256 entries
 abbrev pub IsRoom : Held → Type 0
 IsRoom (held.Errors count present) = (present ≤ count) × (count ≤ 256)
 IsRoom h = Unit {0}

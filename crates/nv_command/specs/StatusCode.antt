@@ -67,17 +67,17 @@ status_of_code code = record {
   dnr = true;
 }
 
--- the code with which data is refused that is no record
+-- the code of a refusal for data that is not a valid record
 abbrev pub code_of_layout : LayoutError → StatusCode
 code_of_layout CountTooLarge = code.ControllerListInvalid
 
 abbrev pub name_of_code : StatusCode → List ℕ
 name_of_code code = (row_of code).name
 
--- the first of some codes that has the type and the code of a status
+-- the first of the given codes that has the type and the code of a status
 abbrev pub first_code : List StatusCode → Status → Option StatusCode
 first_code codes s = find (λ code. (row_of code).sct == s.sct && (row_of code).sc == s.sc) codes
 
--- the name of a status, also of one that has none of these codes
+-- the name of a status, even if it has none of these codes
 abbrev pub name_of_status : Status → List ℕ
 name_of_status s = option_map_or name_of_code (first_code status_codes s) (codes "Unknown")

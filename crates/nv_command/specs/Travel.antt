@@ -1,4 +1,4 @@
--- What travels arrives.
+-- Commands and replies are read back as they were sent.
 use Rattle.std.specs.Prelude.{◌≡◌, ℕ, ◌^◌, ◌<◌, length, Ok}
 use Rattle.nv_layout.specs.Sqe.{SqeFits}
 use Rattle.nv_command.specs.Command.{CommandFits, bytes_from_host, bytes_to_host, host_data_of}
@@ -11,8 +11,8 @@ use Rattle.nv_command.specs.Reply.{FitsRecord, IsReplyTo, data_of, dword0_of, re
 use Rattle.nv_command.specs.declared.command.Command.{Command}
 use Rattle.nv_command.specs.declared.reply.Reply.{Reply}
 
--- the entry of a command fits its bits, and wherever its data lies it decodes to the command
--- and to the way of its data
+-- the entry of a command fits its bits, and wherever its data is stored, it decodes to the command
+-- and to its data transfer
 pub record Arrives (k : Command) (cid : ℕ) : Type 0 where
   pub fits : SqeFits (entry_of k cid)
   pub transfer : (prp1 prp2 : ℕ)
@@ -24,13 +24,13 @@ pub record Arrives (k : Command) (cid : ℕ) : Type 0 where
 abbrev pub CommandsTravel : Type 0
 CommandsTravel = (k : Command) (cid : ℕ) → CommandFits k → cid < 2 ^ 16 → Arrives k cid
 
--- the data of a reply has the bytes that its command says
+-- the data of a reply has the length that its command says
 abbrev pub RepliesFit : Type 0
 RepliesFit = (k : Command) (r : Reply) → IsReplyTo k r → FitsRecord r
     → length (data_of k r) ≡ bytes_to_host (transfer_by k)
 
--- and gives the reply back, but for the phase tags of entries, and with as many of them as were
--- asked for
+-- the data of a reply is read back as the reply, without the phase tags of entries, and with as
+-- many entries as were requested
 pub record ArrivesFor (k : Command) (r : Reply) : Type 0 where
   pub bytes : length (data_of k r) ≡ bytes_to_host (transfer_by k)
   pub reply : reply_in k (dword0_of r) (data_of k r) ≡ received k (without_phases r)

@@ -4,7 +4,7 @@ ghost use Rattle.std.specs.Prelude.{◌≡◌, ℕ, ◌+◌, ◌-◌, ◌*◌};
 
 use std::marker::Model;
 
-/// A number of dwords from 1 to 2^32, which travels less one. Section "Get Log Page command".
+/// A number of dwords from 1 to 2^32. Entries hold it zeros-based. Section "Get Log Page command".
 #[derive(Clone, Copy, Debug, PartialEq, Eq)]
 pub struct DwordCount {
     numd: u32,
@@ -24,21 +24,21 @@ impl Model for DwordCount {
 }
 
 impl DwordCount {
-    /// One more than a number of dwords (NUMD).
+    /// Returns the number of dwords with this zeros-based value (NUMD).
     pub fn from_zeros_based(numd: u32) -> DwordCount
         ensures { result ≡ numd + 1 }
     {
         DwordCount { numd }
     }
 
-    /// One less than the number of dwords.
+    /// Returns the zeros-based value.
     pub fn zeros_based(self) -> u32
         ensures { result + 1 ≡ self }
     {
         self.numd
     }
 
-    /// How many bytes they have.
+    /// Returns how many bytes this is.
     pub fn bytes(self) -> u64
         ensures { result ≡ 4 * self }
     {

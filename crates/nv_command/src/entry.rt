@@ -1,4 +1,4 @@
-//! What of a submission queue entry depends on the command alone.
+//! The fields of a submission queue entry that depend on the command alone.
 
 ghost use Rattle.std.specs.Prelude.{◌≡◌};
 ghost use Rattle.nv_layout.specs.Sqe.{SqeFits};
@@ -8,7 +8,7 @@ ghost use Rattle.nv_command.specs.Decoding.{opcode_of};
 use crate::status_code::StatusCode;
 use nv_layout::Sqe;
 
-/// The opcode of a command and its own dwords.
+/// The opcode of a command and its command specific dwords.
 #[derive(Clone, Copy, Debug, PartialEq, Eq)]
 pub struct Fields {
     pub opcode: u8,
@@ -19,7 +19,8 @@ pub struct Fields {
 }
 
 impl Fields {
-    /// The entry with these fields. All others are 0: no fused operation, PRPs, no metadata.
+    /// Returns the entry with these fields. All others are 0: no fused operation, PRPs, and no
+    /// metadata.
     pub(crate) fn entry(self, nsid: u32, cid: u16) -> Sqe
         ensures entry { result ≡ entry_with self nsid cid }
         ensures fits { SqeFits result }
@@ -43,7 +44,7 @@ impl Fields {
     }
 }
 
-/// The opcodes that are known. Section "Opcodes for Admin Commands".
+/// The known opcodes. Section "Opcodes for Admin Commands".
 #[derive(Clone, Copy, Debug, PartialEq, Eq)]
 pub enum Opcode {
     Identify,
@@ -56,7 +57,7 @@ pub enum Opcode {
 }
 
 impl Opcode {
-    /// The opcode of an entry, where it is known and the entry is neither fused nor uses SGLs.
+    /// Returns the opcode of an entry, if it is known and the entry is neither fused nor uses SGLs.
     pub(crate) fn of(entry: &Sqe) -> Result<Opcode, StatusCode>
         ensures { result ≡ opcode_of entry.now }
     {

@@ -13,8 +13,8 @@ use crate::form::{Form, ReplyKind};
 use crate::transfer::Transfer;
 use nv_layout::{Sqe, ThreeBits, bits_of, to_bits};
 
-/// What a Get Features asks for: the value of a feature that `sel` selects; `cdw11` is Command
-/// Dword 11.
+/// The fields of a Get Features: `sel` selects a value of a feature, and `cdw11` is Command Dword
+/// 11.
 #[derive(Clone, Copy, Debug, PartialEq, Eq)]
 pub struct FeatureQuery {
     pub fid: u8,
@@ -23,7 +23,7 @@ pub struct FeatureQuery {
     pub cdw11: u32,
 }
 
-/// What a Set Features asks for: a feature gets a value, which is saved too where `save` says so.
+/// The fields of a Set Features: the value for a feature, which is also saved if `save` is set.
 #[derive(Clone, Copy, Debug, PartialEq, Eq)]
 pub struct FeatureSetting {
     pub fid: u8,
@@ -32,7 +32,7 @@ pub struct FeatureSetting {
     pub nsid: u32,
 }
 
-/// The fields of a Get Features command.
+/// Returns the fields of a Get Features command.
 fn get_fields(asked: FeatureQuery) -> Fields
     ensures { result ≡ get_feature_fields asked }
 {
@@ -45,7 +45,7 @@ fn get_fields(asked: FeatureQuery) -> Fields
     }
 }
 
-/// The fields of a Set Features command.
+/// Returns the fields of a Set Features command.
 fn set_fields(asked: FeatureSetting) -> Fields
     ensures { result ≡ set_feature_fields asked }
 {
@@ -58,7 +58,7 @@ fn set_fields(asked: FeatureSetting) -> Fields
     }
 }
 
-/// How a Get Features command travels. It answers the value.
+/// Returns the form of a Get Features command. Its reply is the value.
 pub(crate) fn get_form(asked: FeatureQuery) -> Form
     ensures { result
         ≡ form (get_feature_fields asked) asked.nsid Transfer.NoData ReplyKind.Number }
@@ -72,7 +72,7 @@ pub(crate) fn get_form(asked: FeatureQuery) -> Form
     }
 }
 
-/// How a Set Features command travels.
+/// Returns the form of a Set Features command.
 pub(crate) fn set_form(asked: FeatureSetting) -> Form
     ensures { result ≡ form (set_feature_fields asked) asked.nsid Transfer.NoData ReplyKind.Done }
 {
@@ -84,19 +84,21 @@ pub(crate) fn set_form(asked: FeatureSetting) -> Form
     }
 }
 
-/// What is asked of a feature fits its bits, as its types say. The call does nothing.
+/// States a law: the fields of a Get Features fit their bits, as their types say. The call does
+/// nothing.
 pub(crate) fn get_fits(asked: FeatureQuery)
     ensures { GetFeatureFits asked }
 {
     asked.sel.get();
 }
 
-/// What a feature gets fits its bits, as its types say. The call does nothing.
+/// States a law: the fields of a Set Features fit their bits, as their types say. The call does
+/// nothing.
 pub(crate) fn set_fits(asked: FeatureSetting)
     ensures { SetFeatureFits asked }
 {}
 
-/// The command of a Get Features entry.
+/// Returns the command of a Get Features entry.
 pub(crate) fn get_command<'a>(entry: &Sqe) -> Command<'a>
     ensures { result ≡ get_feature_command entry.now }
 {
@@ -108,7 +110,7 @@ pub(crate) fn get_command<'a>(entry: &Sqe) -> Command<'a>
     })
 }
 
-/// The command of a Set Features entry.
+/// Returns the command of a Set Features entry.
 pub(crate) fn set_command<'a>(entry: &Sqe) -> Command<'a>
     ensures { result ≡ set_feature_command entry.now }
 {

@@ -1,9 +1,9 @@
-//! How commands travel.
+//! The forms of commands.
 
 use crate::entry::Fields;
 use crate::transfer::Transfer;
 
-/// What an accepted command is answered: a case of `Reply`.
+/// The kind of the reply to an accepted command: a case of `Reply`.
 #[derive(Clone, Copy, Debug, PartialEq, Eq)]
 pub enum ReplyKind {
     Controller,
@@ -15,10 +15,10 @@ pub enum ReplyKind {
     Smart,
 }
 
-/// How a command travels.
+/// The form of a command: its entry, its data, and the kind of its reply.
 #[derive(Clone, Copy, Debug, PartialEq, Eq)]
 pub struct Form {
-    /// The opcode of its entry and its own dwords.
+    /// The opcode of its entry and its command specific dwords.
     pub fields: Fields,
     /// The NSID of its entry.
     pub nsid: u32,

@@ -11,15 +11,26 @@ use crate::form::{Form, ReplyKind};
 use crate::transfer::Transfer;
 use nv_layout::{FourBits, Sqe, ThreeBits, bits_of, to_bits};
 
+/// What a host asks of a format, by the names of its fields: a namespace gets the format `lbaf`.
+#[derive(Clone, Copy, Debug, PartialEq, Eq)]
+pub struct NewFormat {
+    pub nsid: u32,
+    pub lbaf: FourBits,
+    pub mset: bool,
+    pub pi: ThreeBits,
+    pub pil: bool,
+    pub ses: ThreeBits,
+}
+
 /// The fields of a Format NVM command.
-fn fields(lbaf: FourBits, mset: bool, pi: ThreeBits, pil: bool, ses: ThreeBits) -> Fields
-    ensures { result ≡ format_fields lbaf mset pi pil ses }
+fn fields(asked: NewFormat) -> Fields
+    ensures { result ≡ format_fields asked }
 {
-    let cdw10 = to_bits(lbaf.get() as u32, 0, 4)
-        + to_bits(mset as u32, 4, 1)
-        + to_bits(pi.get() as u32, 5, 3)
-        + to_bits(pil as u32, 8, 1)
-        + to_bits(ses.get() as u32, 9, 3);
+    let cdw10 = to_bits(asked.lbaf.get() as u32, 0, 4)
+        + to_bits(asked.mset as u32, 4, 1)
+        + to_bits(asked.pi.get() as u32, 5, 3)
+        + to_bits(asked.pil as u32, 8, 1)
+        + to_bits(asked.ses.get() as u32, 9, 3);
     Fields {
         opcode: 0x80,
         cdw10,
@@ -30,19 +41,12 @@ fn fields(lbaf: FourBits, mset: bool, pi: ThreeBits, pil: bool, ses: ThreeBits) 
 }
 
 /// How a Format NVM command travels.
-pub(crate) fn form_by(
-    nsid: u32,
-    lbaf: FourBits,
-    mset: bool,
-    pi: ThreeBits,
-    pil: bool,
-    ses: ThreeBits,
-) -> Form
-    ensures { result
-        ≡ form (format_fields lbaf mset pi pil ses) nsid Transfer.NoData ReplyKind.Done }
+pub(crate) fn form_by(asked: NewFormat) -> Form
+    ensures { result ≡ form (format_fields asked) asked.nsid Transfer.NoData ReplyKind.Done }
 {
+    let nsid = asked.nsid;
     Form {
-        fields: fields(lbaf, mset, pi, pil, ses),
+        fields: fields(asked),
         nsid,
         transfer: Transfer::NoData,
         reply: ReplyKind::Done,
@@ -50,12 +54,12 @@ pub(crate) fn form_by(
 }
 
 /// What a format says fits its bits, as its types say. The call does nothing.
-pub(crate) fn fits(nsid: u32, lbaf: FourBits, pi: ThreeBits, ses: ThreeBits)
-    ensures { FormatFits nsid lbaf pi ses }
+pub(crate) fn fits(asked: NewFormat)
+    ensures { FormatFits asked }
 {
-    lbaf.get();
-    pi.get();
-    ses.get();
+    asked.lbaf.get();
+    asked.pi.get();
+    asked.ses.get();
 }
 
 /// The command of a Format NVM entry.
@@ -63,12 +67,12 @@ pub(crate) fn command<'a>(entry: &Sqe) -> Command<'a>
     ensures { result ≡ format_command entry.now }
 {
     let cdw10 = entry.cdw10;
-    Command::Format {
+    Command::Format(NewFormat {
         nsid: entry.nsid,
         lbaf: FourBits::low(bits_of(cdw10, 0, 4) as u8),
         mset: bits_of(cdw10, 4, 1) == 1,
         pi: ThreeBits::low(bits_of(cdw10, 5, 3) as u8),
         pil: bits_of(cdw10, 8, 1) == 1,
         ses: ThreeBits::low(bits_of(cdw10, 9, 3) as u8),
-    }
+    })
 }

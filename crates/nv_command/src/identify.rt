@@ -15,7 +15,7 @@ use nv_layout::Sqe;
 /// The data of every Identify command.
 pub const TRANSFER: Transfer = Transfer::ToHost(4096);
 
-/// The fields of an Identify command of this Controller or Namespace Structure (CNS).
+/// Returns the fields of an Identify command of this Controller or Namespace Structure (CNS).
 fn fields(cns: u8) -> Fields
     ensures { result ≡ identify_fields cns }
 {
@@ -28,7 +28,7 @@ fn fields(cns: u8) -> Fields
     }
 }
 
-/// How an Identify command of this CNS travels, which is answered so.
+/// Returns the form of an Identify command with this CNS and this kind of reply.
 pub(crate) fn form_by(cns: u8, nsid: u32, reply: ReplyKind) -> Form
     ensures { result ≡ form (identify_fields cns) nsid identify_data reply }
 {
@@ -40,7 +40,7 @@ pub(crate) fn form_by(cns: u8, nsid: u32, reply: ReplyKind) -> Form
     }
 }
 
-/// The command of an Identify entry.
+/// Returns the command of an Identify entry.
 pub(crate) fn command<'a>(entry: &Sqe) -> Result<Command<'a>, StatusCode>
     ensures { result ≡ identify_command entry.now }
 {
@@ -55,7 +55,7 @@ pub(crate) fn command<'a>(entry: &Sqe) -> Result<Command<'a>, StatusCode>
     }
 }
 
-/// The data of an Identify entry.
+/// Returns the data transfer of an Identify entry.
 pub(crate) fn transfer(entry: &Sqe) -> Result<Transfer, StatusCode>
     ensures { result ≡ identify_transfer entry.now }
 {

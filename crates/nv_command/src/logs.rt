@@ -12,13 +12,13 @@ use crate::form::{Form, ReplyKind};
 use crate::transfer::Transfer;
 use nv_layout::{Sqe, bits_of, to_bits};
 
-/// Error Information, by its log page identifier.
+/// The log page identifier of Error Information.
 pub const ERROR_INFORMATION: u8 = 0x01;
 
-/// SMART / Health Information, by its log page identifier.
+/// The log page identifier of SMART / Health Information.
 pub const HEALTH: u8 = 0x02;
 
-/// What a Get Log Page asks for: so many dwords of a log, from the byte at `offset` on.
+/// The fields of a Get Log Page: `dwords` dwords of a log, from the byte at `offset` on.
 #[derive(Clone, Copy, Debug, PartialEq, Eq)]
 pub struct LogQuery {
     pub lid: u8,
@@ -27,7 +27,7 @@ pub struct LogQuery {
     pub dwords: DwordCount,
 }
 
-/// The fields of a Get Log Page command.
+/// Returns the fields of a Get Log Page command.
 fn fields(asked: LogQuery) -> Fields
     ensures { result ≡ get_log_fields asked }
 {
@@ -41,7 +41,7 @@ fn fields(asked: LogQuery) -> Fields
     }
 }
 
-/// What a log is answered as.
+/// Returns the kind of reply with which a log is returned.
 fn kind(lid: u8) -> ReplyKind
     ensures { result ≡ log_kind (is_error_log lid) }
 {
@@ -52,7 +52,7 @@ fn kind(lid: u8) -> ReplyKind
     }
 }
 
-/// How a Get Log Page command travels.
+/// Returns the form of a Get Log Page command.
 pub(crate) fn form_by(asked: LogQuery) -> Form
     ensures { result ≡ form (get_log_fields asked) asked.nsid (log_data asked.dwords)
         (log_kind (is_error_log asked.lid)) }
@@ -71,14 +71,15 @@ pub(crate) fn form_by(asked: LogQuery) -> Form
     }
 }
 
-/// What is asked of a log fits its bits, as its types say. The call does nothing.
+/// States a law: the fields of a Get Log Page fit their bits, as their types say. The call does
+/// nothing.
 pub(crate) fn fits(asked: LogQuery)
     ensures { GetLogFits asked }
 {
     asked.dwords.zeros_based();
 }
 
-/// The command of a Get Log Page entry.
+/// Returns the command of a Get Log Page entry.
 pub(crate) fn command<'a>(entry: &Sqe) -> Command<'a>
     ensures { result ≡ get_log_command entry.now }
 {
@@ -91,7 +92,7 @@ pub(crate) fn command<'a>(entry: &Sqe) -> Command<'a>
     })
 }
 
-/// The data of a Get Log Page entry.
+/// Returns the data transfer of a Get Log Page entry.
 pub(crate) fn transfer(entry: &Sqe) -> Transfer
     ensures { result ≡ get_log_transfer entry.now }
 {

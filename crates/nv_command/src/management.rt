@@ -16,6 +16,17 @@ use crate::status_code::StatusCode;
 use crate::transfer::Transfer;
 use nv_layout::{ControllerIds, CtrlList, IdNs, Lbaf, Sqe};
 
+/// What a host chooses of a namespace to create, by the names of its fields. Section "Identify
+/// Namespace data structure".
+#[derive(Clone, Copy, Debug, PartialEq, Eq)]
+pub struct NewNamespace {
+    pub nsze: u64,
+    pub ncap: u64,
+    pub flbas: u8,
+    pub dps: u8,
+    pub nmic: u8,
+}
+
 /// The data of a command that creates, attaches or detaches.
 pub const TRANSFER: Transfer = Transfer::FromHost(4096);
 
@@ -82,8 +93,8 @@ pub(crate) fn attachment_form(nsid: u32, detach: bool) -> Form
 }
 
 /// What the host sends to create a namespace: the fields that it chooses, and zeros.
-pub(crate) fn asked(nsze: u64, ncap: u64, flbas: u8, dps: u8, nmic: u8) -> IdNs
-    ensures { result ≡ asked nsze ncap flbas dps nmic }
+pub(crate) fn asked(wanted: NewNamespace) -> IdNs
+    ensures { result ≡ asked wanted }
 {
     let none = Lbaf {
         ms: 0,
@@ -91,24 +102,24 @@ pub(crate) fn asked(nsze: u64, ncap: u64, flbas: u8, dps: u8, nmic: u8) -> IdNs
         rp: 0,
     };
     IdNs {
-        nsze,
-        ncap,
+        nsze: wanted.nsze,
+        ncap: wanted.ncap,
         nuse: 0,
         nsfeat: 0,
         nlbaf: 0,
-        flbas,
+        flbas: wanted.flbas,
         mc: 0,
         dpc: 0,
-        dps,
-        nmic,
+        dps: wanted.dps,
+        nmic: wanted.nmic,
         nvmcap: 0,
         lbafs: [none; 16],
     }
 }
 
 /// What is chosen of a namespace to create fits its bits, as its types say. The call does nothing.
-pub(crate) fn create_fits(nsze: u64, ncap: u64, flbas: u8, dps: u8, nmic: u8)
-    ensures { CreateFits nsze ncap flbas dps nmic }
+pub(crate) fn create_fits(wanted: NewNamespace)
+    ensures { CreateFits wanted }
 {}
 
 /// What an attachment says fits its bits, as its types say. The call does nothing.
@@ -140,21 +151,14 @@ pub(crate) fn command<'a>(entry: &Sqe, sent: &[u8]) -> Result<Command<'a>, Statu
 {
     match select(entry) {
         0x0 => {
-            let IdNs {
-                nsze,
-                ncap,
-                flbas,
-                dps,
-                nmic,
-                ..
-            } = IdNs::get(page(sent)?);
-            Ok(Command::Create {
-                nsze,
-                ncap,
-                flbas,
-                dps,
-                nmic,
-            })
+            let chosen = IdNs::get(page(sent)?);
+            Ok(Command::Create(NewNamespace {
+                nsze: chosen.nsze,
+                ncap: chosen.ncap,
+                flbas: chosen.flbas,
+                dps: chosen.dps,
+                nmic: chosen.nmic,
+            }))
         }
         0x1 => Ok(Command::Delete { nsid: entry.nsid }),
         _ => Err(StatusCode::InvalidFieldInCommand),

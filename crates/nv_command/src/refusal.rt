@@ -20,7 +20,7 @@ impl From<StatusCode> for Refusal {
 
     ghost from_gives = { λ code refusal. refusal ≡ refusal_by code };
 
-    /// A refusal with nothing specific to its command.
+    /// Returns a refusal with no command specific information.
     fn from(code: StatusCode) -> Refusal {
         Refusal {
             status: code.status(),

@@ -1,4 +1,4 @@
-//! Replies, to what a completion and data to the host carry.
+//! Replies, and their conversion to what a completion and the data to the host hold.
 
 ghost use Rattle.std.specs.Prelude.{◌≡◌, length};
 ghost use Rattle.nv_layout.specs.Parts.{part};
@@ -6,18 +6,18 @@ ghost use Rattle.nv_command.specs.Reply.{dword0_of, log_of, page_of, with_data};
 
 use nv_layout::{ErrorEntries, IdCtrl, IdNs, NamespaceIds, Smart};
 
-/// What an accepted command is answered. Lists and entries stand elsewhere.
+/// The reply to an accepted command. Lists and entries are borrowed.
 #[derive(Drop)]
 pub enum Reply<'a> {
-    /// What the controller is.
+    /// The data of a controller.
     Controller(IdCtrl),
-    /// What a namespace is.
+    /// The data of a namespace.
     Namespace(IdNs),
-    /// NSIDs, ascending.
+    /// NSIDs, in ascending order.
     List(NamespaceIds<'a>),
     /// A number, in dword 0.
     Number(u32),
-    /// Nothing but that it is done.
+    /// Success without a value.
     Done,
     /// The error log, the newest entry first.
     Errors(ErrorEntries<'a>),
@@ -26,7 +26,7 @@ pub enum Reply<'a> {
 }
 
 impl<'a> Reply<'a> {
-    /// Dword 0 of its completion.
+    /// Returns dword 0 of its completion.
     pub fn dword0(&self) -> u32
         ensures { result ≡ dword0_of self.now }
     {
@@ -36,7 +36,7 @@ impl<'a> Reply<'a> {
         }
     }
 
-    /// Writes its page to the front of a page of 4,096 bytes; nothing where it has none.
+    /// Writes its page to the beginning of a page of 4,096 bytes. Writes nothing if it has none.
     pub fn put(&self, page: &mut [u8; 4096])
         ensures { page.new ≡ with_data (page_of self.now) page.old }
     {
@@ -48,7 +48,8 @@ impl<'a> Reply<'a> {
         }
     }
 
-    /// Writes its log from a byte on, and zeros past the log's end; zeros where it is no log.
+    /// Fills `out` with the bytes of its log from `from` on, and with zeros past the log's end, or
+    /// with zeros alone if it is no log.
     pub fn fill(&self, from: usize, out: &mut [u8])
         ensures { out.new ≡ part (log_of self.now) from (length out.old) }
     {
@@ -64,7 +65,7 @@ impl<'a> Reply<'a> {
     }
 }
 
-/// Writes bytes from a place on, and zeros past their end.
+/// Fills `out` with the bytes from `from` on, and with zeros past their end.
 fn fill_from(bytes: &[u8], from: usize, out: &mut [u8])
     ensures { out.new ≡ part bytes.now from (length out.old) }
 {

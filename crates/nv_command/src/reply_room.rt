@@ -1,4 +1,4 @@
-//! Room for one reply, with what it borrows.
+//! Storage for one reply, with what it borrows.
 
 ghost use Rattle.std.specs.Prelude.{◌≡◌, ◌-◌, ◌≤◌, List, drop, length, map, replicate};
 ghost use Rattle.std.specs.Simd.{first_chunks};
@@ -18,7 +18,7 @@ use crate::reply::Reply;
 use nv_layout::{ErrorEntries, ErrorEntry, IdCtrl, IdNs, NsList, Smart};
 use std::marker::Model;
 
-/// What the room holds. A list and entries stand beside it.
+/// What is stored. A list and entries are stored beside it.
 #[derive(Clone, Copy)]
 enum Held {
     Controller(IdCtrl),
@@ -26,12 +26,13 @@ enum Held {
     List,
     Number(u32),
     Done,
-    /// So many entries of the error log, of which the first ones stand; the others hold no error.
+    /// The number of entries of the error log, and how many of them, the first ones, are stored;
+    /// the others hold no error.
     Errors { count: usize, present: usize },
     Smart(Smart),
 }
 
-/// Room for one reply, which is made once and then used again and again.
+/// Storage for one reply, which is allocated once and then reused.
 #[derive(Drop)]
 pub struct ReplyRoom {
     held: Held,
@@ -52,7 +53,7 @@ impl Model for ReplyRoom {
 }
 
 impl ReplyRoom {
-    /// Room that holds `Done`.
+    /// Creates storage that holds `Done`.
     pub fn new() -> ReplyRoom
         ensures { result ≡ Done }
     {
@@ -63,7 +64,7 @@ impl ReplyRoom {
         }
     }
 
-    /// The reply that it holds.
+    /// Returns the reply that is stored.
     pub fn reply(&self) -> Reply<'_>
         ensures { result ≡ self.now }
     {
@@ -81,7 +82,7 @@ impl ReplyRoom {
         }
     }
 
-    /// Keeps a copy of a reply in place of what it held.
+    /// Stores a copy of a reply.
     pub fn keep(&mut self, reply: &Reply)
         ensures { self.new ≡ reply.now }
     {
@@ -105,8 +106,8 @@ impl ReplyRoom {
         };
     }
 
-    /// Reads the reply to a command in place of what it held, from dword 0 of its completion and
-    /// the data to the host. What the command has no use for is ignored.
+    /// Reads the reply to a command from dword 0 of its completion and the data to the host, and
+    /// stores it. What the command has no use for is ignored.
     #[tactic(auto, using(crate::proofs::FormLaws::size_of_reply))]
     pub fn read(&mut self, command: &Command, dword0: u32, bytes: &[u8])
         requires sendable { IsSendable command.now }
@@ -116,7 +117,7 @@ impl ReplyRoom {
         self.read_kind(command.form().reply, dword0, bytes);
     }
 
-    /// Reads a reply of a kind in place of what it held.
+    /// Reads and stores a reply of a kind.
     fn read_kind(&mut self, kind: ReplyKind, dword0: u32, bytes: &[u8])
         requires { IsSizeOf kind (length bytes.now) }
         ensures { self.new ≡ reply_by kind dword0 bytes.now }
@@ -143,7 +144,7 @@ impl ReplyRoom {
     }
 }
 
-/// Bytes as an array.
+/// Returns bytes as an array.
 fn part_of<const N: usize>(bytes: &[u8]) -> &[u8; N]
     requires { length bytes.now ≡ N }
     ensures { result.now ≡ bytes.now }
@@ -151,7 +152,7 @@ fn part_of<const N: usize>(bytes: &[u8]) -> &[u8; N]
     bytes.first_chunk().unwrap()
 }
 
-/// Copies identifiers to a list, in place of what it had.
+/// Replaces the contents of a list by identifiers.
 fn keep_ids(ids: &[u32], list: &mut NsList)
     requires { length ids.now ≤ most_nsids }
     ensures { list.new ≡ ids.now }
@@ -162,7 +163,8 @@ fn keep_ids(ids: &[u32], list: &mut NsList)
     }
 }
 
-/// Copies the entries that a log has to the front of those that are kept, and tells how many.
+/// Copies the entries that may hold an error to the beginning of `out`, and returns how many they
+/// are.
 fn keep_entries(entries: &ErrorEntries, out: &mut [ErrorEntry; 256]) -> usize
     ensures within { result ≤ length entries.now }
     ensures kept { entries_held (length entries.now) result out.new ≡ entries.now }
@@ -174,7 +176,7 @@ fn keep_entries(entries: &ErrorEntries, out: &mut [ErrorEntry; 256]) -> usize
     present
 }
 
-/// How many entries there are up to the last one that isn't all zeros.
+/// Returns how many entries there are up to the last one that isn't all zeros.
 fn written_count(chunks: &[[u8; 64]]) -> usize
     ensures within { result ≤ length chunks.now }
     ensures others { map entry_received (drop result chunks.now)
@@ -187,8 +189,8 @@ fn written_count(chunks: &[[u8; 64]]) -> usize
     count
 }
 
-/// Reads entries to the front of those that are kept, without their phase tags, up to the last one
-/// that isn't all zeros, and tells how many those are.
+/// Reads entries to the beginning of `out`, without their phase tags, up to the last one that isn't
+/// all zeros, and returns how many they are.
 fn read_entries(chunks: &[[u8; 64]], out: &mut [ErrorEntry; 256]) -> usize
     requires { length chunks.now ≤ 256 }
     ensures within { result ≤ length chunks.now }

@@ -30,7 +30,7 @@ pub enum StatusCode {
     ControllerListInvalid,
 }
 
-/// What tells of a status code.
+/// What the table says about a status code.
 #[derive(Clone, Copy)]
 struct StatusRow {
     /// Status Code Type.
@@ -105,8 +105,8 @@ impl StatusCode {
         StatusRow { sct, sc, name }
     }
 
-    /// The status of a refusal with this code: it has more in the error log, and a retry doesn't
-    /// help.
+    /// Returns the status of a refusal with this code. It says that the error log has more (More),
+    /// and that a retry doesn't help (Do Not Retry).
     pub fn status(self) -> Status
         ensures { result ≡ status_of_code self }
     {
@@ -120,7 +120,7 @@ impl StatusCode {
         }
     }
 
-    /// Its name, as the standard spells it. It is that of its status too.
+    /// Returns the name, as the standard spells it. It is also the name of its status.
     #[tactic(auto, using(crate::proofs::StatusNames::named_by_status))]
     pub fn name(self) -> &'static str
         ensures name { result.now ≡ name_of_code self }
@@ -129,7 +129,7 @@ impl StatusCode {
         self.row().name
     }
 
-    /// The first of some codes that has the type and the code of a status.
+    /// Returns the first of the given codes that has the type and the code of a status.
     fn first_of(codes: &[StatusCode], status: Status) -> Option<StatusCode>
         ensures { result ≡ first_code codes.now status }
     {
@@ -139,7 +139,8 @@ impl StatusCode {
         })
     }
 
-    /// The name of a status, by its type and its code; `Unknown` where it has none of these codes.
+    /// Returns the name of a status, by its type and its code, or `Unknown` if it has none of these
+    /// codes.
     pub fn name_of(status: Status) -> &'static str
         ensures { result.now ≡ name_of_status status }
     {
@@ -156,7 +157,7 @@ impl From<LayoutError> for StatusCode {
 
     ghost from_gives = { λ error code. code ≡ code_of_layout error };
 
-    /// The status code with which such data is refused.
+    /// Returns the status code with which such data is refused.
     fn from(error: LayoutError) -> StatusCode {
         match error {
             LayoutError::CountTooLarge => StatusCode::ControllerListInvalid,

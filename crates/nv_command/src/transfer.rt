@@ -1,4 +1,4 @@
-//! The data of a command.
+//! The data transfer of a command.
 
 ghost use Rattle.std.specs.Prelude.{◌≡◌};
 ghost use Rattle.nv_command.specs.Decoding.{transfer_of};
@@ -8,11 +8,11 @@ use crate::status_code::StatusCode;
 use crate::{identify, logs, management};
 use nv_layout::Sqe;
 
-/// Which way the data of a command goes beside its entry and its completion, and how many bytes it
-/// has.
+/// The direction and the length of the data of a command, which isn't in its entry or its
+/// completion.
 #[derive(Clone, Copy, Debug, PartialEq, Eq)]
 pub enum Transfer {
-    /// There is none.
+    /// There is no data.
     NoData,
     /// From the controller to the host, in bytes.
     ToHost(u64),
@@ -21,8 +21,9 @@ pub enum Transfer {
 }
 
 impl Transfer {
-    /// The data of an entry's command, or the status of the first rule that the entry breaks: its
-    /// opcode is unknown, it is fused or uses SGLs, a field of it has no meaning.
+    /// Returns the data transfer of an entry's command, or the status of the first rule that the
+    /// entry breaks: its opcode is unknown, it is fused or uses SGLs, or a field of it has no
+    /// meaning.
     pub fn of(entry: &Sqe) -> Result<Transfer, StatusCode>
         ensures { result ≡ transfer_of entry.now }
     {

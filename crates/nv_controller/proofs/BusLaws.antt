@@ -1,4 +1,4 @@
--- A subsystem and its registers as a bus, which tells nothing of tags.
+-- A subsystem and its registers as a bus, which doesn't show phase tags.
 use Rattle.std.proofs.Common.{◌≡◌, ◌∙◌, ℕ, Bool, true, false, List, length, refl, sym}
 use Rattle.std.proofs.lemmas.List.{length-map}
 use Rattle.std.specs.Prelude.{if◌then◌else◌}

@@ -27,7 +27,7 @@ is_page : (k : Command) → IsNoLog k → at_most_a_page (transfer_by k) ≡ tru
 is_page (GetLog q) other = absurd (other q refl)
 is_page k other = refl
 
--- what goes to the host and is no log is a page
+-- data to the host that isn't a log is a page
 pub page_size : (k : Command) (len : ℕ) → IsNoLog k → transfer_by k ≡ ToHost len → len ≡ 4096
 page_size k len other is = a_page len (ap at_most_a_page (sym is) ∙ is_page k other)
 
@@ -51,7 +51,7 @@ none_to_host NoData other = refl
 none_to_host (ToHost n) other = absurd (other n refl)
 none_to_host (FromHost n) other = refl
 
--- where nothing goes to the host
+-- nothing is written if no data goes to the host
 pub nothing_sent : (k : Command) (r : Reply) (bytes at : List ℕ) → IsReplyTo k r → FitsRecord r
     → bytes_to_host (transfer_by k) ≡ 0
     → bytes ≡ written_at bytes at (data_of k r)

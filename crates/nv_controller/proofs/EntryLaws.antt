@@ -1,4 +1,4 @@
--- What an entry is answered, and what taking it did.
+-- The answer to an entry, and the effect of taking it.
 use Rattle.std.proofs.Common.{◌≡◌, ◌∙◌, ℕ, Bool, ap, ap₂, refl, subst, sym, length, List, Option, Some, None, Result}
 use Rattle.std.proofs.Common.{Ok, Err}
 use Rattle.std.proofs.lemmas.List.{length-map}
@@ -31,7 +31,7 @@ use Rattle.nv_subsystem.specs.Tagged.{untagged, untagged_log}
 
 -- ---- answers
 
--- an answer is that of the step, but for phase tags
+-- an answer is that of the step, except for phase tags
 answered_reply : (o : Option Refusal) (r reply : Reply) → Ok (without_phases r) ≡ answer_by o reply
     → (o ≡ None) × (without_phases r ≡ reply)
 answered_reply None r reply e = (refl, cc)
@@ -42,7 +42,7 @@ answered_refusal : (o : Option Refusal) (refusal : Refusal) (reply : Reply)
 answered_refusal None refusal reply e = absurd (cc)
 answered_refusal (Some other) refusal reply e = cc
 
--- what is known where a command was answered with a reply
+-- what is known if a command was answered with a reply
 pub record IsAnswered (s : State) (c : ℕ) (k : Command) (cid : ℕ) (r : Reply) : Type 0 where
   pub none : None ≡ refusal_of s c k
   pub is_reply : IsReplyTo k r
@@ -67,7 +67,7 @@ answered s c k cid found r w is e =
       told = ap (λ d. record { dword0 = d; status = success }) (sym (dword0_tagged r)) ∙ ap told_by answer;
     }
 
--- and where it was refused
+-- what is known if a command was refused
 pub record IsRefused (s : State) (c : ℕ) (k : Command) (cid : ℕ) (refusal : Refusal) : Type 0 where
   pub some : Some refusal ≡ refusal_of s c k
   pub answer : Err refusal.status ≡ (step s c k cid).answer
@@ -79,7 +79,7 @@ refused_by s c k cid found refusal is e =
     let some = answered_refusal (refusal_of s c k) refusal (reply_of s c k) (ap answer_without_phases (sym is) ∙ e) in
     record { some = sym some; answer = ap (λ (o : Option Refusal). (step_by o s c k cid).answer) (sym some) }
 
--- what was moved
+-- the data that was written
 pub moved_reply : (k : Command) (at old new : List ℕ) (r : Reply) (answer : Result Reply Status)
     → Ok (without_phases r) ≡ answer
     → new ≡ written_at old at (data_of k r) → Moves k at answer old new
@@ -93,7 +93,7 @@ moved_none k at old new status answer is same = subst (λ (a : Result Reply Stat
 
 -- ---- tags
 
--- what makes and takes no controller without tags makes and takes none
+-- what adds or removes no controller without tags adds or removes none with them
 pub same_count : (old new after : State) → untagged new ≡ after
     → length after.controllers ≡ length (untagged old).controllers
     → length new.controllers ≡ length old.controllers
@@ -103,7 +103,7 @@ same_count old new after is same =
     ∙ same
     ∙ length-map old.controllers untagged_log
 
--- what is booked has the phase tag of the next completion
+-- the log entry has the phase tag of the next completion
 pub tagged_next : (c : ℕ) (x : Scene) (entry : Sqe) (size : ℕ) (phase : Bool)
     → entry ≡ entry_in x → size ≡ x.rings.page_size
     → (let ring = x.rings.completion in phase ≡ phase_of ring.depth ring.posted)

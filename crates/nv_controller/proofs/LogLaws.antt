@@ -9,7 +9,7 @@ pub part_of_part : (bytes : List ℕ) (from len at n : ℕ) → at + n ≤ lengt
 part_of_part bytes from len at n inside = sym
     (part-part bytes from len at n (omega (arith, length-part bytes from len)))
 
--- past the end all parts of a length are one
+-- past the end, all parts of the same length are equal
 pub part_least : (bytes : List ℕ) (from most n : ℕ) → length bytes ≤ most
     → part bytes (min from most) n ≡ part bytes from n
 part_least bytes from most n short =

@@ -1,4 +1,4 @@
--- A reset makes and takes no controller.
+-- A reset adds or removes no controller.
 use Rattle.std.proofs.Common.{◌≡◌, ℕ, length}
 use Rattle.nv_model.specs.Step.{reset}
 use Rattle.nv_model.proofs.ResetLaws.{length-reset}

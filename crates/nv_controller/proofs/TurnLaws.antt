@@ -9,8 +9,8 @@ use Rattle.nv_bus.specs.Entry.{Scene, scene}
 use Rattle.nv_bus.specs.Turn.{BankTurn, RingsTurn, Site, Taken, Takes, TakesCount, TurnBy, ready_bank, site}
 use Rattle.nv_bus.proofs.TurnLaws.{bank_turn_count}
 
--- so many entries were taken, over a memory whose page size and length stay; the scenes' subsystem
--- was s and is t, but for their tags
+-- this number of entries was taken, in a memory whose page size and length don't change; the
+-- subsystem of the scenes was s and is t, except for tags
 pub record Goes (count page_size now c : ℕ) (s t : State) (old new : Scene) : Type 0 where
   pub taken : Taken count page_size c old new
   pub well_formed : IsWellFormed t
@@ -24,7 +24,7 @@ taken-suc zero page_size c old mid new same t = (new, subst (λ (x : Scene). Tak
 taken-suc (suc k) page_size c old mid new before t =
     (before.0, before.1, taken-suc k page_size c before.0 mid new before.2 t)
 
--- one entry more
+-- one more entry
 pub taken_more : (k page_size c : ℕ) (old mid new : Scene) → Taken k page_size c old mid
     → Takes page_size c mid new → Taken (k + 1) page_size c old new
 taken_more k page_size c old mid new before t =
@@ -40,7 +40,7 @@ turn_of_rings page_size c most count old rings last fatal ready turn =
     let new = site last.state (ready_bank old.bank last.rings fatal) last.bytes in
     subst (λ (r : Readiness). TurnBy r page_size c most count old new) (sym ready) (last, fatal, turn, refl)
 
--- and so is the number of entries that it takes
+-- so is the number of entries that it takes
 pub count_of_rings : (page_size c most count : ℕ) (old : Site) (rings : Rings) (last : Scene)
     (fatal : Bool) → old.bank.readiness ≡ Ready rings false
     → RingsTurn page_size c most count (scene old.state rings old.bytes) last fatal

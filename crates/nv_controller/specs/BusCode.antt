@@ -1,4 +1,4 @@
--- The code of what a bus stands for, by which a proof tells values apart.
+-- The code of the value of a bus, by which a proof distinguishes values.
 use Rattle.std.specs.Prelude.{List, refl}
 use Rattle.std.specs.Coded.{Coded, code_by, coded×, coded_list}
 use Rattle.nv_register.specs.contracts.register_bank.RegisterBank as bank

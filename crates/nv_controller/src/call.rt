@@ -1,4 +1,4 @@
-//! What is found of an entry before its command is executed.
+//! Reads an entry's command and finds its data, before the command is executed.
 
 ghost use Rattle.std.specs.Prelude.{◌≡◌, ◌<◌, ◌≤◌, [], Ok, Err, IfOk, MatchResult, OnOk, length};
 ghost use Rattle.nv_command.specs.Command.{transfer_by};
@@ -15,7 +15,7 @@ use nv_host::HostMemory;
 use nv_layout::{CtrlList, Sqe};
 use nv_prp::{PrpError, Spans, copy_in, walk};
 
-/// The status of a faulty data pointer. Section "Generic Command Status Definition".
+/// Returns the status of a faulty data pointer. Section "Generic Command Status Definition".
 fn prp_status(fault: PrpError) -> StatusCode
     ensures { result ≡ prp_status fault }
 {
@@ -25,7 +25,7 @@ fn prp_status(fault: PrpError) -> StatusCode
     }
 }
 
-/// Walks the data pointer of an entry for so many bytes.
+/// Walks the data pointer of an entry for a transfer of `len` bytes.
 #[tactic(auto, unfolding(nv_bus::specs::Call::places_of))]
 fn walk_data<M: HostMemory>(
     mem: &M,
@@ -48,7 +48,7 @@ fn walk_data<M: HostMemory>(
     }
 }
 
-/// Finds the places of an entry's data.
+/// Finds where an entry's data lies.
 fn find_data<M: HostMemory>(
     mem: &M,
     entry: &Sqe,
@@ -73,7 +73,7 @@ fn find_data<M: HostMemory>(
     }
 }
 
-/// The command of an entry, with the bytes that the host sends where it sends any.
+/// Returns the command of an entry, with the bytes that the host sends, if it sends any.
 fn read_command<'a, M: HostMemory>(
     mem: &M,
     entry: &Sqe,
@@ -97,7 +97,8 @@ fn read_command<'a, M: HostMemory>(
     }
 }
 
-/// The data of an entry's command, which is refused where it is longer than so many bytes.
+/// Returns the data transfer of an entry's command, or refuses it if it is longer than `limit`
+/// bytes.
 fn check_length(moves: Transfer, limit: u64) -> Result<Transfer, StatusCode>
     ensures { result ≡ within limit moves }
 {
@@ -111,9 +112,9 @@ fn check_length(moves: Transfer, limit: u64) -> Result<Transfer, StatusCode>
     Ok(moves)
 }
 
-/// The command of an entry, or the status of the first rule that the entry or its data breaks. The
-/// data has at most so many bytes; `entry_data` gets where it lies and what the host sends, and
-/// `listed` the controllers that it lists.
+/// Returns the command of an entry, or the status of the first rule that the entry or its data
+/// breaks. The data has at most `limit` bytes. `entry_data` receives where it lies and what the
+/// host sends, and `listed` the controllers that it lists.
 pub(crate) fn read_call<'a, M: HostMemory>(
     mem: &M,
     entry: &Sqe,

@@ -1,4 +1,4 @@
-//! Taking one entry.
+//! Executes one entry.
 
 ghost use Rattle.std.specs.Prelude.{◌≡◌, ◌<◌, ◌≤◌, Err, Ok, length, true};
 ghost use Rattle.nv_layout.specs.Parts.{part};
@@ -28,7 +28,7 @@ use nv_prp::{Spans, copy_out, write_out};
 use nv_register::Rings;
 use nv_subsystem::{Origin, Subsystem};
 
-/// What is told of a reply.
+/// Returns what a completion says about a reply.
 fn reply_told(reply: &Reply) -> Told
     ensures { result ≡ told_by (Ok reply.now) }
 {
@@ -38,7 +38,7 @@ fn reply_told(reply: &Reply) -> Told
     }
 }
 
-/// What is told of a refusal.
+/// Returns what a completion says about a refusal.
 fn refusal_told(refusal: &Refusal) -> Told
     ensures { result ≡ told_by (Err refusal.now.status) }
 {
@@ -48,7 +48,7 @@ fn refusal_told(refusal: &Refusal) -> Told
     }
 }
 
-/// The completion that tells it; the ring gives it its phase tag.
+/// Returns the completion that says this. The ring sets its phase tag.
 fn completion(told: Told, cid: u16, sq_head: u16) -> Cqe
     ensures { result ≡ completion_of cid sq_head told }
 {
@@ -62,7 +62,7 @@ fn completion(told: Told, cid: u16, sq_head: u16) -> Cqe
     }
 }
 
-/// Writes the page of a reply to its places.
+/// Writes the page of a reply to the spans of the entry's data.
 fn deliver_page<M: HostMemory>(mem: &mut M, entry_data: &mut EntryData, reply: &Reply)
     requires inside { LieIn (length (M.bytes mem.old)) entry_data.old.spans }
     requires len { length (places entry_data.old.spans) ≡ 4096 }
@@ -76,10 +76,10 @@ fn deliver_page<M: HostMemory>(mem: &mut M, entry_data: &mut EntryData, reply: &
     copy_out(mem, &entry_data.spans, &entry_data.page);
 }
 
-/// The most bytes of a log: 256 entries of 64 bytes.
+/// The greatest length of a log in bytes: 256 entries of 64 bytes.
 const LONGEST_LOG: u64 = 16_384;
 
-/// Writes part of the log of a reply to its places, span by span.
+/// Writes part of the log of a reply to the spans, span by span.
 fn deliver_log<M: HostMemory>(mem: &mut M, spans: &Spans, reply: &Reply, offset: u64, len: usize)
     requires inside { LieIn (length (M.bytes mem.old)) spans.now }
     requires len { length (places spans.now) ≡ len }
@@ -90,12 +90,12 @@ fn deliver_log<M: HostMemory>(mem: &mut M, spans: &Spans, reply: &Reply, offset:
     ensures len { length (M.bytes mem.new) ≡ length (M.bytes mem.old) }
     ensures page_len { M.page_len mem.new ≡ M.page_len mem.old }
 {
-    // past the log's end there are zeros, wherever the part begins
+    // There are zeros past the log's end, wherever the part begins.
     let from = offset.min(LONGEST_LOG) as usize;
     write_out(mem, spans, &LogPart { reply, from, len });
 }
 
-/// Writes the data of a reply to its places, so many bytes.
+/// Writes `len` bytes of a reply's data to the spans.
 fn send<M: HostMemory>(
     mem: &mut M,
     entry_data: &mut EntryData,
@@ -122,7 +122,7 @@ fn send<M: HostMemory>(
     }
 }
 
-/// Writes the data of a reply to a command to its places, where it has any.
+/// Writes the data of a reply to the spans of the entry's data, if it has any.
 fn deliver<M: HostMemory>(mem: &mut M, entry_data: &mut EntryData, command: &Command, reply: &Reply)
     requires inside { LieIn (length (M.bytes mem.old)) entry_data.old.spans }
     requires len { length (places entry_data.old.spans) ≡ length_of (transfer_by command.now) }
@@ -140,7 +140,7 @@ fn deliver<M: HostMemory>(mem: &mut M, entry_data: &mut EntryData, command: &Com
     }
 }
 
-/// Answers a command and writes the data of its reply, and then does what the command changes.
+/// Executes a command: writes the data of its reply, and then makes its changes.
 fn execute<M: HostMemory>(
     subsystem: &mut Subsystem,
     ctrl: u16,
@@ -230,9 +230,9 @@ fn answer_entry<M: HostMemory>(
     }
 }
 
-/// Takes the next entry of a controller's submission ring: its command is executed or the entry is
-/// refused, the data of its reply is written, and then its completion. What is booked has the phase
-/// tag of that completion.
+/// Takes the next entry from a controller's submission queue. It executes the command or refuses
+/// the entry, writes the data of the reply, and then posts the completion. What is recorded has the
+/// phase tag of that completion.
 pub(crate) fn take_one<M: HostMemory>(
     subsystem: &mut Subsystem,
     rings: &mut Rings,

@@ -1,9 +1,9 @@
-//! The controllers of an NVM subsystem as a host meets them: their registers, and turns over the
-//! host's memory, whatever stands in it.
+//! The controllers of an NVM subsystem as a host sees them: their registers, and turns over the
+//! host's memory, whatever it holds.
 //!
-//! A [`Bus`] is what a driver talks to, and a [`Machine`] is one over a subsystem. Any entry in any
-//! memory is answered: it does what its command says, or is refused by the first rule that it
-//! breaks. So a test bench can give a controller a driver's mistakes:
+//! A driver talks to a [`Bus`], and a [`Machine`] is a bus over a subsystem. Any entry in any
+//! memory is answered: the controller does what its command says, or refuses it by the first rule
+//! that it breaks. So a test bench can send a controller a driver's mistakes:
 //!
 //! ```
 //! let mut machine = Machine::new(alloc, subsystem)?;
@@ -12,7 +12,7 @@
 //! machine.write32(0, 0x30, 0x1000); // ACQ
 //! machine.write32(0, 0x14, 0x0046_0001); // CC: pages of 4,096 bytes, EN
 //!
-//! // An opcode that there isn't, and data outside a memory of sixteen pages.
+//! // An opcode that doesn't exist, and data outside a memory of sixteen pages.
 //! mem.store(0x00, &entry(0xff, 0x5000))?;
 //! mem.store(0x40, &entry(0x06, 0x10000))?;
 //! machine.write32(0, 0x1000, 2); // the tail
@@ -22,10 +22,10 @@
 //! let taken = machine.turn(0, &mut mem, 16);
 //! ```
 //!
-//! `tests/rows/turns_with_mistakes.txt` has this example at full length, with a list that is
-//! written over the submission ring itself.
+//! `tests/rows/turns_with_mistakes.txt` has this example in full, with a list that is written over
+//! the submission queue itself.
 //!
-//! The registers by their offsets in bytes, each of which is read and written as one dword:
+//! These are the registers by their offsets in bytes. Each is read and written as one dword:
 //!
 //! | Offset | Register |
 //! | --- | --- |
@@ -39,7 +39,7 @@
 //! | 1000h | The doorbell of the submission ring's tail |
 //! | 1004h | The doorbell of the completion ring's head |
 //!
-//! At any other offset a read gives 0, and a write changes nothing.
+//! At any other offset a read returns 0, and a write changes nothing.
 //!
 //! Sections are named as in the NVM Express Base Specification, revision 1.4.
 #![tactic(auto)]

@@ -1,4 +1,4 @@
-//! Logs on their way to the host.
+//! Parts of logs that are sent to the host.
 
 ghost use Rattle.std.specs.Prelude.{◌+◌, ◌<◌, ◌^◌};
 ghost use Rattle.nv_layout.specs.Parts.{part};
@@ -7,7 +7,7 @@ ghost use Rattle.nv_command.specs.Reply.{log_of};
 use nv_command::Reply;
 use nv_prp::Payload;
 
-/// So many bytes of a reply's log, from a byte on, with zeros past the log's end.
+/// A number of bytes of a reply's log, from a byte on, with zeros past the log's end.
 #[derive(Clone, Copy)]
 pub struct LogPart<'a, 'b> {
     pub reply: &'a Reply<'b>,

@@ -16,7 +16,7 @@ use nv_subsystem::Subsystem;
 use std::alloc::Global;
 use std::marker::Model;
 
-/// A bus over a subsystem: the registers and rings of each of its controllers.
+/// A bus over a subsystem, with the registers and rings of each of its controllers.
 #[derive(Drop)]
 pub struct Machine {
     subsystem: Subsystem,
@@ -35,7 +35,7 @@ impl Model for Machine {
 
     ghost use Rattle.nv_subsystem.specs.Tagged.{untagged};
 
-    // A bus tells nothing of the phase tags in logs.
+    // A bus doesn't show the phase tags in logs.
     ghost view = { λ m. record { state = untagged m.subsystem; banks = m.banks.items } };
 
     ghost use Rattle.std.specs.Prelude.{◌≡◌, length};
@@ -43,7 +43,7 @@ impl Model for Machine {
     ghost invariant = { λ m. length m.banks.items ≡ length m.subsystem.controllers };
 }
 
-/// The registers of so many controllers after power on.
+/// Returns the registers of `count` controllers after power on.
 #[tactic(auto, using(std::proofs::lemmas::List::replicate_more))]
 fn new_banks(alloc: Global, count: u16) -> Result<Vec<RegisterBank>, Memory>
     ensures { IfOk result (λ banks. banks.items ≡ replicate count new_bank) }
@@ -57,8 +57,8 @@ fn new_banks(alloc: Global, count: u16) -> Result<Vec<RegisterBank>, Memory>
     Ok(banks)
 }
 
-/// Writes a register of a controller, which is reset where that clears an EN that was 1. Section
-/// "Controller Level Reset".
+/// Writes a register of a controller. A write that clears an EN that was 1 resets the controller.
+/// Section "Controller Level Reset".
 #[tactic(auto, using(crate::proofs::ResetLaws::controllers_stay))]
 fn write_bank(
     subsystem: &mut Subsystem,
@@ -81,8 +81,8 @@ fn write_bank(
 }
 
 impl Machine {
-    /// The controllers of a subsystem after power on. Where memory is refused the subsystem is
-    /// dropped.
+    /// Creates the controllers of a subsystem, as they are after power on. If memory is refused,
+    /// the subsystem is dropped.
     pub fn new(alloc: Global, subsystem: Subsystem) -> Result<Machine, Memory>
         ensures value { IfOk result (λ m. m ≡ record {
           state = untagged subsystem;
@@ -98,7 +98,7 @@ impl Machine {
         })
     }
 
-    /// The subsystem as it is now, whose logs have phase tags.
+    /// Returns the subsystem as it is now. Its logs have phase tags.
     pub fn subsystem(&self) -> &Subsystem
         ensures { untagged result.now ≡ self.now.state }
     {

@@ -1,4 +1,4 @@
-//! Where controllers put what they find of an entry.
+//! Buffers for an entry while it is executed.
 
 ghost use Rattle.std.specs.Prelude.{length};
 
@@ -10,11 +10,11 @@ use nv_prp::Spans;
 pub struct EntryData {
     /// Where it lies in the host's memory.
     pub spans: Spans,
-    /// A page of it, from the host or to it.
+    /// A page of the data, from the host or to it.
     pub page: [u8; 4096],
 }
 
-/// Places for one entry at a time, made once. What stands in them before is of no account.
+/// Buffers for one entry at a time, allocated once. What they hold before doesn't matter.
 #[derive(Drop)]
 pub struct Scratch {
     /// Its data.

@@ -13,23 +13,23 @@ use nv_host::HostMemory;
 use nv_register::{Readiness, RegisterBank, Rings};
 use nv_subsystem::Subsystem;
 
-/// Whether an entry waits, and there is a free slot for its completion.
+/// Returns whether an entry is waiting and there is a free slot for its completion.
 fn can_take(rings: &Rings) -> bool
     ensures { result ≡ can_take rings.now }
 {
     !rings.submission.is_empty() && !rings.completion.is_full()
 }
 
-/// Whether the memory has the page size that the controller was enabled with, the entry's slot and
-/// that of its completion.
+/// Returns whether the memory has the page size with which the controller was enabled, and holds
+/// the entry's slot and that of its completion.
 fn reaches<M: HostMemory>(rings: &Rings, mem: &M) -> bool
     ensures { result ≡ reaches rings.now (M.page_len mem.now) (length (M.bytes mem.now)) }
 {
     mem.page_size() == rings.page_size && rings.submission.fits(mem) && rings.completion.fits(mem)
 }
 
-/// Takes entries, at most so many: how many it took, and whether it stopped since the memory does
-/// not reach.
+/// Takes at most `most` entries. Returns how many it took, and whether it stopped because the
+/// memory doesn't hold a slot that it needs.
 fn take_entries<M: HostMemory>(
     subsystem: &mut Subsystem,
     rings: &mut Rings,
@@ -60,7 +60,7 @@ fn take_entries<M: HostMemory>(
     (most, false)
 }
 
-/// A turn of one controller, over its registers and rings.
+/// Performs a turn of one controller, over its registers and rings.
 pub(crate) fn turn_bank<M: HostMemory>(
     subsystem: &mut Subsystem,
     bank: &mut RegisterBank,

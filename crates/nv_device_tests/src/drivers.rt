@@ -1,66 +1,64 @@
-//! Drivers of the demonstration subsystem.
+//! Drivers of the demonstration subsystem, watched on the bus, and lists of commands.
 
-ghost use Rattle.std.specs.Prelude.{◌≡◌, IfOk};
+ghost use Rattle.std.specs.Prelude.{◌≡◌, ◌≤◌, IfOk, length};
+ghost use Rattle.nv_command.specs.Command.{CommandFits};
+ghost use Rattle.nv_command.specs.Logs.{IsSendable};
 ghost use Rattle.nv_bus.specs.Bus.{IsBus};
 ghost use Rattle.nv_driver.specs.Registers.{banks_of};
 
-use crate::driver_bench::{Step, Want, begin, expect_slot, plain};
-use crate::watched::{HEAD, Watched, bring_up, check_dwords};
-use nv_command::Command;
-use nv_controller::Machine;
+use crate::watched::Watched;
+use nv_command::{Command, NewNamespace, Reply};
 use nv_driver::*;
-use nv_subsystem::{DEMO, Subsystem};
+use nv_layout::ControllerIds;
 use std::alloc::Global;
 use std::process::Abort;
 use std::test::Fail;
 
-/// The machine of the demonstration subsystem, after power on.
-pub(crate) fn machine(alloc: Global) -> Result<Machine, Fail>
-    ensures { IfOk result IsBus }
+/// What a command is to be answered.
+#[derive(Clone, Copy)]
+enum Want<'a> {
+    Number(u32),
+    Done,
+    /// A namespace's fields.
+    Namespace,
+    Ids(&'a [u32]),
+    Refused(u16),
+}
+
+/// The answer in a slot is as wanted.
+fn expect(rt: &impl Abort, slot: &AnswerSlot, want: Want) {
+    match (&slot.answer(), want) {
+        (Ok(Reply::Number(number)), Want::Number(wanted)) => assert_eq!(rt; *number, wanted),
+        (Ok(Reply::Done), Want::Done) => {}
+        (Ok(Reply::Namespace(_)), Want::Namespace) => {}
+        (Ok(Reply::List(list)), Want::Ids(wanted)) => assert_eq!(rt; list.as_slice(), wanted),
+        (Err(status), Want::Refused(wanted)) => assert_eq!(rt; status.number(), wanted),
+        _ => assert!(rt; false),
+    }
+}
+
+/// The answers of a list of commands are as wanted.
+fn expect_all(rt: &impl Abort, answers: &[AnswerSlot], wants: &[Want]) {
+    assert_eq!(rt; answers.len(), wants.len());
+    for (slot, want) in answers.iter().zip(wants) {
+        expect(rt, slot, *want);
+    }
+}
+
+/// A driver of a machine that is watched.
+fn bring_up(
+    rt: &impl Abort,
+    alloc: Global,
+    bus: &mut Watched,
+    geometry: Geometry,
+) -> Result<Driver, Fail>
+    requires { IsBus bus.old.machine }
+    ensures bus { IsBus bus.new.machine }
+    ensures left { IfOk result (λ d. bus.new.machine.banks ≡ banks_of d) }
 {
-    let subsystem = Subsystem::from_toml(alloc, DEMO.as_bytes())?;
-    let machine = Machine::new(alloc, subsystem)?;
-    Ok(machine)
-}
-
-/// Commands of both controllers in turn, so many that rings of two slots wrap twice.
-fn expect_answers(rt: &impl Abort, alloc: Global, geometry: Geometry) -> Result<(), Fail> {
-    begin(
-        rt,
-        alloc,
-        geometry,
-        &[
-            (0, Step::Active(&[1, 3])),
-            (0, Step::Invalid),
-            (1, Step::Active(&[])),
-            (0, Step::Active(&[1, 3])),
-            (0, Step::Invalid),
-            (0, Step::Active(&[1, 3])),
-        ],
-    )
-}
-
-#[test]
-fn answers_in_rings_of_two_slots(rt: HostRuntime) -> Result<(), Fail> {
-    let geometry = Geometry {
-        depth: 2,
-        offset: 4092,
-        ..plain()
-    };
-    expect_answers(&rt, rt.alloc(), geometry)
-}
-
-#[test]
-fn answers_in_the_largest_pages(rt: HostRuntime) -> Result<(), Fail> {
-    let geometry = Geometry {
-        depth: 4096,
-        page_size: 65536,
-        offset: 65532,
-        list_offset: 65528,
-        window: 16,
-        pace: 4096,
-    };
-    expect_answers(&rt, rt.alloc(), geometry)
+    let driver = Driver::bring_up(alloc, bus, geometry)?;
+    assert!(rt; driver.controllers() == 2);
+    Ok(driver)
 }
 
 /// Sends five commands to the first controller, of which the second is refused.
@@ -79,22 +77,6 @@ fn send_five(rt: &impl Abort, driver: &mut Driver, bus: &mut Watched, answers: &
     driver.admin_all(bus, 0, &commands, answers);
 }
 
-fn is_answered(slot: &AnswerSlot) -> bool {
-    slot.answer().is_ok()
-}
-
-/// The answers of the five commands.
-fn check_five(rt: &impl Abort, answers: &[AnswerSlot; 5]) {
-    assert!(rt; is_answered(&answers[0]) && is_answered(&answers[2]));
-    expect_slot(rt, &answers[1], Want::Refused(0x600b));
-    expect_slot(rt, &answers[3], Want::Ids(&[1, 3]));
-    expect_slot(rt, &answers[4], Want::Ids(&[3]));
-}
-
-fn check_turns(rt: &impl Abort, found: [u16; 8], want: [u16; 8]) {
-    assert_eq!(rt; found, want);
-}
-
 /// Sends five commands. Checks how many entries the turns take, and which slots the head doorbell
 /// tells.
 fn expect_five(
@@ -104,7 +86,7 @@ fn expect_five(
     taken: [u16; 8],
     heads: &[u32],
 ) -> Result<(), Fail> {
-    let mut bus = Watched::new(alloc, HEAD)?;
+    let mut bus = Watched::new(alloc)?;
     let mut driver = bring_up(rt, alloc, &mut bus, geometry)?;
     let mut answers = [
         AnswerSlot::new(),
@@ -114,9 +96,16 @@ fn expect_five(
         AnswerSlot::new(),
     ];
     send_five(rt, &mut driver, &mut bus, &mut answers);
-    check_five(rt, &answers);
-    check_turns(rt, bus.taken, taken);
-    check_dwords(rt, bus.written(), heads);
+    let wants = [
+        Want::Namespace,
+        Want::Refused(0x600b),
+        Want::Namespace,
+        Want::Ids(&[1, 3]),
+        Want::Ids(&[3]),
+    ];
+    expect_all(rt, &answers, &wants);
+    assert_eq!(rt; bus.taken, taken);
+    assert_eq!(rt; bus.heads(), heads);
     Ok(())
 }
 
@@ -142,7 +131,7 @@ fn sends_by_the_window_and_the_pace(rt: HostRuntime) -> Result<(), Fail> {
             depth,
             window,
             pace,
-            ..plain()
+            ..Geometry::default()
         };
         expect_five(&rt, rt.alloc(), geometry, taken, heads)?;
     }
@@ -165,20 +154,116 @@ fn identify(rt: &impl Abort, driver: &mut Driver, bus: &mut Watched, nsid: u32, 
 /// Two commands, one after the other, of which the second is refused: how many entries each turn was
 /// to take at most.
 fn most_of_two(rt: &impl Abort, alloc: Global, geometry: Geometry) -> Result<[u16; 8], Fail> {
-    let mut bus = Watched::new(alloc, HEAD)?;
+    let mut bus = Watched::new(alloc)?;
     let mut driver = bring_up(rt, alloc, &mut bus, geometry)?;
     identify(rt, &mut driver, &mut bus, 1, true);
     identify(rt, &mut driver, &mut bus, 0, false);
-    check_turns(rt, bus.taken, [1, 1, 0, 0, 0, 0, 0, 0]);
+    assert_eq!(rt; bus.taken, [1, 1, 0, 0, 0, 0, 0, 0]);
     Ok(bus.most)
 }
 
 #[test]
 fn asks_each_turn_for_the_pace(rt: HostRuntime) -> Result<(), Fail> {
     for (pace, most) in [(1, 1), (3, 3), (4096, 4096)] {
-        let geometry = Geometry { pace, ..plain() };
+        let geometry = Geometry {
+            pace,
+            ..Geometry::default()
+        };
         let asked = most_of_two(&rt, rt.alloc(), geometry)?;
-        check_turns(&rt, asked, [most, most, 0, 0, 0, 0, 0, 0]);
+        assert_eq!(rt; asked, [most, most, 0, 0, 0, 0, 0, 0]);
+    }
+    Ok(())
+}
+
+/// A private namespace of some blocks to create.
+fn create<'a>(blocks: u64) -> Command<'a>
+    ensures fits { CommandFits result }
+    ensures sends { IsSendable result }
+{
+    Command::Create(NewNamespace {
+        nsze: blocks,
+        ncap: blocks,
+        flbas: 0,
+        dps: 0,
+        nmic: 0,
+    })
+}
+
+/// A namespace to attach to the listed controllers.
+fn attach<'a>(nsid: u32, ids: &'a [u16]) -> Command<'a>
+    requires { length ids.now ≤ 2047 }
+    ensures fits { CommandFits result }
+    ensures sends { IsSendable result }
+{
+    let list = ControllerIds::new(ids);
+    let detach = false;
+    let command = Command::Attachment { nsid, detach, list };
+    command.fits();
+    command
+}
+
+/// Sends seven commands, each way of data among them.
+fn send_seven(
+    rt: &impl Abort,
+    driver: &mut Driver,
+    bus: &mut Watched,
+    answers: &mut [AnswerSlot; 7],
+)
+    requires bus { IsBus bus.old.machine }
+    requires left { bus.old.machine.banks ≡ banks_of driver.old }
+{
+    assert!(rt; driver.controllers() == 2);
+    let commands = [
+        create(1),
+        attach(2, &[0]),
+        Command::ActiveList { after: 0 },
+        Command::IdentifyNamespace { nsid: 0 },
+        Command::Delete { nsid: 2 },
+        create(0),
+        Command::AllocatedList { after: 0 },
+    ];
+    driver.admin_all(bus, 0, &commands, answers);
+}
+
+/// Seven commands, each way of data among them, of which two are refused.
+fn manages_by_a_list(rt: &impl Abort, alloc: Global, geometry: Geometry) -> Result<(), Fail> {
+    let mut bus = Watched::new(alloc)?;
+    let mut driver = bring_up(rt, alloc, &mut bus, geometry)?;
+    let mut answers = [
+        AnswerSlot::new(),
+        AnswerSlot::new(),
+        AnswerSlot::new(),
+        AnswerSlot::new(),
+        AnswerSlot::new(),
+        AnswerSlot::new(),
+        AnswerSlot::new(),
+    ];
+    send_seven(rt, &mut driver, &mut bus, &mut answers);
+    let wants = [
+        Want::Number(2),
+        Want::Done,
+        Want::Ids(&[1, 2, 3]),
+        Want::Refused(0x600b),
+        Want::Done,
+        Want::Refused(0x6002),
+        Want::Ids(&[1, 3]),
+    ];
+    expect_all(rt, &answers, &wants);
+    Ok(())
+}
+
+#[test]
+fn manages_several_at_a_time(rt: HostRuntime) -> Result<(), Fail> {
+    for (page_size, offset) in [(4096, 0), (4096, 4092), (65536, 0), (65536, 65532)] {
+        let geometry = Geometry {
+            depth: 5,
+            page_size,
+            offset,
+            window: 4,
+            pace: 3,
+            ..Geometry::default()
+        };
+        manages_by_a_list(&rt, rt.alloc(), geometry)?;
     }
     Ok(())
 }

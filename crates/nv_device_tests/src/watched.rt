@@ -1,34 +1,21 @@
-//! A bus that keeps what a driver does with its first controller.
+//! A bus that keeps the turns of a driver, and what it writes to the first controller's head doorbell.
 
 ghost use Rattle.std.specs.Prelude.{◌≡◌, ◌≤◌, IfOk};
 ghost use Rattle.nv_bus.specs.Bus.{IsBus};
-ghost use Rattle.nv_driver.specs.Registers.{banks_of};
 
-use crate::drivers::machine;
 use nv_controller::{Bus, Machine};
-use nv_driver::*;
 use nv_host::HostMemory;
-use nv_layout::Sqe;
+use nv_subsystem::{DEMO, Subsystem};
 use std::alloc::Global;
-use std::process::Abort;
 use std::test::Fail;
 
-/// The offset of Controller Configuration.
-pub(crate) const CC: u32 = 0x14;
-
-/// The offset of Admin Queue Attributes.
-pub(crate) const AQA: u32 = 0x24;
-
-/// The offset of the low dword of the submission queue's address.
-const ASQ_LOW: u32 = 0x28;
-
 /// The offset of the head doorbell.
-pub(crate) const HEAD: u32 = 0x1004;
+const HEAD: u32 = 0x1004;
 
 /// How many turns and how many dwords are kept.
 const KEPT: usize = 8;
 
-/// The machine of the demonstration subsystem, and what was done with its first controller.
+/// The machine of the demonstration subsystem, and what was done with it.
 #[derive(Drop)]
 pub(crate) struct Watched {
     pub(crate) machine: Machine,
@@ -37,54 +24,39 @@ pub(crate) struct Watched {
     /// How many it took.
     pub(crate) taken: [u16; KEPT],
     turns: usize,
-    /// The register whose dwords are kept, as they are written.
-    register: u32,
-    dwords: [u32; KEPT],
+    heads: [u32; KEPT],
     writes: usize,
     ghost few: { writes ≤ 8 },
-    /// The entry in the first slot at the first turn.
-    pub(crate) first: Sqe,
 }
 
 impl Watched {
-    /// After power on, to keep what is written to this register.
-    pub(crate) fn new(alloc: Global, register: u32) -> Result<Watched, Fail>
+    /// After power on.
+    pub(crate) fn new(alloc: Global) -> Result<Watched, Fail>
         ensures { IfOk result (λ w. IsBus w.machine) }
     {
+        let subsystem = Subsystem::from_toml(alloc, DEMO.as_bytes())?;
         Ok(Watched {
-            machine: machine(alloc)?,
+            machine: Machine::new(alloc, subsystem)?,
             most: [0; KEPT],
             taken: [0; KEPT],
             turns: 0,
-            register,
-            dwords: [0; KEPT],
+            heads: [0; KEPT],
             writes: 0,
-            first: Sqe::default(),
         })
     }
 
-    /// The first dwords that were written to the register.
-    pub(crate) fn written(&self) -> &[u32] {
-        &self.dwords[..self.writes]
+    /// The first dwords that were written to the head doorbell.
+    pub(crate) fn heads(&self) -> &[u32] {
+        &self.heads[..self.writes]
     }
 
-    /// Keeps a dword that is written to the register.
-    fn keep_dword(&mut self, dword: u32)
+    /// Keeps a dword that is written to the head doorbell.
+    fn keep_head(&mut self, dword: u32)
         ensures { self.new.machine ≡ self.old.machine }
     {
         if self.writes < KEPT {
-            self.dwords[self.writes] = dword;
+            self.heads[self.writes] = dword;
             self.writes += 1;
-        }
-    }
-
-    /// Keeps the entry in the first slot of a ring.
-    fn keep_entry<M: HostMemory>(&mut self, asq: u32, mem: &M)
-        ensures { self.new.machine ≡ self.old.machine }
-    {
-        let mut bytes = [0; 64];
-        if mem.load(u64::from(asq), &mut bytes).is_ok() {
-            self.first = Sqe::get(&bytes);
         }
     }
 
@@ -112,40 +84,15 @@ impl Bus for Watched {
     }
 
     fn write32(&mut self, ctrl: u16, offset: u32, dword: u32) {
-        if ctrl == 0 && offset == self.register {
-            self.keep_dword(dword);
+        if ctrl == 0 && offset == HEAD {
+            self.keep_head(dword);
         }
         self.machine.write32(ctrl, offset, dword);
     }
 
     fn turn<M: HostMemory>(&mut self, ctrl: u16, mem: &mut M, most: u16) -> u16 {
-        if self.turns == 0 {
-            let asq = self.machine.read32(ctrl, ASQ_LOW);
-            self.keep_entry(asq, mem);
-        }
         let count = self.machine.turn(ctrl, mem, most);
         self.keep_turn(most, count);
         count
     }
-}
-
-/// A driver of a machine that is watched.
-pub(crate) fn bring_up(
-    rt: &impl Abort,
-    alloc: Global,
-    bus: &mut Watched,
-    geometry: Geometry,
-) -> Result<Driver, Fail>
-    requires { IsBus bus.old.machine }
-    ensures bus { IsBus bus.new.machine }
-    ensures left { IfOk result (λ d. bus.new.machine.banks ≡ banks_of d) }
-{
-    let driver = Driver::bring_up(alloc, bus, geometry)?;
-    assert!(rt; driver.controllers() == 2);
-    Ok(driver)
-}
-
-/// The dwords are the wanted ones.
-pub(crate) fn check_dwords(rt: &impl Abort, found: &[u32], want: &[u32]) {
-    assert_eq!(rt; found, want);
 }

@@ -1,4 +1,4 @@
--- Commands of a driver or a reset, over the queue pairs of its controllers.
+-- Commands and resets of a driver, over the queue pairs of its controllers.
 use Rattle.std.specs.Prelude.{slice_set}
 use Rattle.std.proofs.Common.{◌≡◌, ◌≢◌, ◌∙◌, ◌⊎◌, ℕ, ◌+◌, ◌-◌, ◌*◌, ◌<◌, ◌≤◌, List, ap, arith, get_or, inl}
 use Rattle.std.proofs.Common.{inr, length, map, refl, subst, sym}
@@ -63,7 +63,7 @@ ready_at {g} {mem} {ls} {b} {c} {l} is bus banks below here =
           ∙ ap (idle_bank (mps_of g.page_size) g.page_size) at;
     }
 
--- its queue pair lies where it was laid
+-- its queue pair is where it was placed
 pub placed_at : {g : Geometry} {mem : PagedBytes} {ls : List QueuePairFields} {c : ℕ} {l : QueuePairFields}
     → IsDriver g mem ls → c < length ls → l ≡ get_or ls c l
     → IsPlaced g c (pair_value l)
@@ -72,7 +72,7 @@ placed_at {g} {mem} {ls} {c} {l} is below here =
 
 -- ---- after the command
 
--- what holds of the other queue pairs, and of this one, holds of each
+-- what holds for the other queue pairs, and for this one, holds for each
 set_each : (P : ℕ → QueuePair → Type 0) (vs : List QueuePair) (c : ℕ) (v : QueuePair)
     → ((i : ℕ) (d : QueuePair) → i < length vs → i ≢ c → P i (get_or vs i d)) → P c v
     → (i : ℕ) (d : QueuePair) → i < length (slice_set vs c v) → P i (get_or (slice_set vs c v) i d)
@@ -83,7 +83,7 @@ set_each P vs c v others own i d below =
       | inr differ ↦ subst (P i) (sym (get_or-set_other vs c i v d differ)) (others i d (omega arith) differ)
     ]
 
--- the completion slots of another queue pair stay
+-- the completion slots of another queue pair don't change
 pub slots_stay : (end page_size : ℕ) (old new : List ℕ) (v u : QueuePair) → KeepsBelow end page_size v old new
     → end_of page_size u ≤ end → IsLaid page_size (length old) u → IsLaid page_size (length old) v
     → (end_of page_size u ≤ v.sq) ⊎ (end_of page_size v ≤ u.sq)
@@ -136,7 +136,7 @@ settled_after end page_size old new vs c v u s below here size keeps ends laid t
         (ap (λ (q : QueuePair). q.sq) is, ap (end_of page_size) is))
         (rw (same_one d) (sq, rw (first, count) refl)) i d h
 
--- where the number and the serial of a queue pair change, and bytes before the end of all queue pairs stay
+-- the number and the serial of a queue pair change, and bytes before the end of all queue pairs don't
 pub driver_after_below : {g : Geometry} {mem new : PagedBytes} {ls : List QueuePairFields} {b : BusValue}
     {c : ℕ} {l l' : QueuePairFields} {n serial : ℕ} → IsDriver g mem ls
     → c < length ls → l ≡ get_or ls c l → IsReady g b c l' new.page_size new.bytes
@@ -178,7 +178,7 @@ driver_after_below {g} {mem} {new} {ls} {b} {c} {l} {l'} {n} {serial}
     stays_placed g i v u placed is = subst (IsPlaced g i) (sym is)
         (ap (λ (q : QueuePair). record q { number = n; serial = serial }) placed)
 
--- where all bytes outside the queue pair stay
+-- no byte outside the queue pair changes
 pub driver_after : {g : Geometry} {mem new : PagedBytes} {ls : List QueuePairFields} {b : BusValue}
     {c : ℕ} {l l' : QueuePairFields} {n serial : ℕ} → IsDriver g mem ls
     → c < length ls → l ≡ get_or ls c l → IsReady g b c l' new.page_size new.bytes
@@ -191,7 +191,7 @@ driver_after {g} {mem} {ls = ls} is below here ready next keeps size page =
     driver_after_below is below here ready next (length mem.bytes) (λ from n low. keeps from n)
     (λ i d h. (rw is.page_size at (is.settled.laid i d (omega arith))).inside) size page
 
--- what the driver stands for
+-- the value of the driver
 pub value_after : (f : QueuePair → QueuePair) (g : Geometry) (mem new : PagedBytes) (ls : List QueuePairFields)
     (c : ℕ) (l l' : QueuePairFields) → c < length ls → l ≡ get_or ls c l
     → pair_value l' ≡ f (pair_value l) → length new.bytes ≡ length mem.bytes → new.page_size ≡ mem.page_size
@@ -202,12 +202,12 @@ value_after f g mem new ls c l l' below here next size page =
     sym (value_at ls c l no_pair below ∙ ap pair_value (sym here)) in
     rw (size, page, map-set pair_value ls c l', next ∙ ap f at) refl
 
--- one command is a list of one
+-- one command is a list of one command
 pub after_first : (d : DriverValue) (c : ℕ) → after_commands d c 1 ≡ after_command d c
 unfolding kept_number next
 after_first d c = refl
 
--- and the registers
+-- the registers
 pub banks_left : (g : Geometry) (ls : List QueuePairFields) (c : ℕ) (l' : QueuePairFields)
     (banks new : List RegisterBank) → banks ≡ idle_banks g.page_size (map pair_value ls)
     → new ≡ slice_set banks c (bank_at new c) → bank_at new c ≡ idle_bank (mps_of g.page_size)
@@ -225,6 +225,6 @@ inside_of g mem ls d c below is =
     let many = ap (λ (v : DriverValue). length v.pairs) is ∙ refl in
     let same = length-map ls pair_value in omega arith
 
--- a queue pair for each
+-- the number of queue pairs
 pub pair_count : (ls : List QueuePairFields) → length ls ≡ length (map pair_value ls)
 pair_count ls = sym (length-map ls pair_value)

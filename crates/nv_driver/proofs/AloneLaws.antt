@@ -1,4 +1,4 @@
--- A request on its way alone, from a quiet queue pair to a quiet one.
+-- A single request, from a queue pair without outstanding commands until it has none again.
 use Rattle.std.specs.Prelude.{IfSome, Option, Some, slice_set}
 use Rattle.std.proofs.Common.{◌≡◌, ◌∙◌, ℕ, ◌+◌, ◌*◌, ◌<◌, ◌≤◌, true, List, [], ◌∷◌, ap, arith, inl, length, refl}
 use Rattle.std.proofs.Common.{drop, get_or, slice_index, subst, suc, sym, take}
@@ -82,7 +82,7 @@ module _ {a : Alone} {rung done told : ℕ} {answers : List Answer} {l : QueuePa
         pair = u.pair;
       }
 
-  -- the head was told
+  -- the head doorbell was rung
   pub tell_on : {bus' : BusValue} {c value : ℕ} → c ≡ a.run.controller → value ≡ slot t (length answers)
       → bus'.state ≡ bus.state
       → bus'.banks ≡ slice_set bus.banks c (with_register_at (bank_at bus.banks c) 0x1004 value)
@@ -132,7 +132,7 @@ module _ {a : Alone} {rung done told : ℕ} {answers : List Answer} {l : QueuePa
         happens,
       )
 
--- its doorbell was rung, and the controller had a turn, which takes it
+-- the tail doorbell was rung, and the controller had a turn, which took the request
 pub did : {a : Alone} {l : QueuePairFields} {now now' c value count : ℕ} {bytes mem : List ℕ}
     {bus one two : BusValue} → IsAlone a 0 0 0 [] l now bytes bus → c ≡ a.run.controller
     → value ≡ slot (setting_of a.run) 1 → one.state ≡ bus.state
@@ -155,7 +155,7 @@ did {a} {l} {now} {now'} {c} {value} {count} {bytes} {mem} {bus} {one} {two} u s
 pub is_awaited : {found : Option Cqe} {q c : Cqe} → found ≡ Some q → IfSome found (λ x. x ≡ c) → q ≡ c
 is_awaited {c = c} some value = subst (λ (o : Option Cqe). IfSome o (λ x. x ≡ c)) some value
 
--- it is collected
+-- its answer is collected
 module _ {a : Alone} {l : QueuePairFields} {now : ℕ} {bytes : List ℕ} {bus : BusValue}
     (u : IsAlone a 1 1 0 [] l now bytes bus) where
   abbrev w : World
@@ -221,7 +221,7 @@ module _ {a : Alone} {l : QueuePairFields} {now : ℕ} {bytes : List ℕ} {bus :
               (ap (λ n. record (collect_ring t 0 0) { collected = n; untold = true }) (number_next t 0)) refl refl;
         }
 
-    -- and its head was told
+    -- the head doorbell was rung for it
     pub ends : {l' : QueuePairFields} {two : BusValue} → IsAlone a 1 1 1 (answer ∷ []) (record l {
       submission = known_to l.submission q.sq_head;
       completion = told_all (collected_one l.completion);
@@ -237,9 +237,9 @@ module _ {a : Alone} {l : QueuePairFields} {now : ℕ} {bytes : List ℕ} {bus :
       answer = answered;
     }
 
--- ---- the pages behind all queue pairs
+-- ---- the pages after all queue pairs
 
--- pages one after another, from this one on
+-- consecutive pages, from this one on
 pub record ArePages (first count : ℕ) (numbers : List ℕ) : Type 0 where
   pub each : (i : ℕ) → i < count + 2 → slice_index numbers i ≡ first + i
   pub long : count + 2 ≤ length numbers
@@ -256,7 +256,7 @@ length-pages first count numbers are =
     ap (λ (xs : List ℕ). length xs) (sym (first_two numbers count (omega (arith, are.long))))
     ∙ length-take-le (count + 2) numbers are.long
 
--- they hold the data of an entry and its list
+-- these pages hold the data of an entry and its list
 pub place_is : (g : Geometry) (first count len page_size : ℕ) (numbers mem : List ℕ) → IsGeometry g
     → page_size ≡ g.page_size → ArePages first count numbers → offset_for g len + len ≤ count * g.page_size
     → count + 2 ≤ pages_of_entry g.page_size

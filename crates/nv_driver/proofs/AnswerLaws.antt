@@ -1,4 +1,4 @@
--- An answer is read as it is where its completion and its data lie.
+-- An answer is read back from its completion and its data.
 use Rattle.std.proofs.Common.{◌≡◌, ℕ, ◌<◌, ◌^◌, Err, List, Ok, ap, lit<}
 use Rattle.std.proofs.Common.{refl, sym, ◌∙◌}
 use Rattle.nv_layout.specs.Cqe.{CqeFits}

@@ -1,4 +1,4 @@
--- What is asked for is answered soundly, and keeps the subsystem well formed.
+-- The answer to what is asked for is sound, and the subsystem stays well formed.
 use Rattle.std.proofs.Common.{◌≡◌, ◌∙◌, ℕ, ◌<◌, ◌^◌, Err, None, Ok, false, Option, Some, arith, length, refl}
 use Rattle.std.proofs.lemmas.Bool.Decides.{nat_tests}
 use Rattle.nv_layout.specs.Status.{StatusFits}
@@ -57,7 +57,7 @@ asked_controllers (Err code) s c nsid cid =
     length-changed_at _ (refused s c nsid cid (refusal_by code)).controllers c
     ∙ length-changed_at (with_refusal nsid cid (refusal_by code)) s.controllers c
 
--- how many bytes of data a command has at most stays
+-- the greatest length of the data of a command doesn't change
 pub asked_limit : (asked : Asked) (s : State) (c nsid cid d : ℕ)
     → limit_of (asked_step asked s c nsid cid).state d ≡ limit_of s d
 asked_limit (Ok k) s c nsid cid d = step_limit s c k cid d

@@ -1,4 +1,4 @@
--- Commands one at a time: their answers, the state after them, and those of a list.
+-- Commands one at a time: their answers, the state after them, and those of a list of commands.
 use Rattle.std.proofs.Common.{◌≡◌, ◌∙◌, ℕ, zero, suc, ◌+◌, ◌<◌, List, [], ◌∷◌, ◌++◌, add-one, ap, arith, get_or}
 use Rattle.std.proofs.Common.{length, map, refl, take, ◌-◌, ◌%◌, ◌≤◌, sym}
 use Rattle.std.proofs.lemmas.List.{length-map, take-map, take-take}
@@ -28,7 +28,7 @@ answers-append c s (x ∷ xs) ys =
     let one = step_of c s (numbered x) in
     ap (λ rest. received_as x.request.asked one.answer ∷ rest) (answers-append c one.state xs ys)
 
--- the state after one more
+-- the state after one more command
 after-suc : (c : ℕ) (s : State) (xs : List Sent) (n : ℕ) (d : Sent) → n < length xs
     → after c s (take (suc n) xs) ≡ (step_after c s xs n (get_or xs n d)).state
 after-suc c s [] n d h = absurd (omega arith)
@@ -53,14 +53,14 @@ answer_at c s (x ∷ xs) (suc n) d e h = answer_at c (step_of c s (numbered x)).
 pub serial_next : (serial n : ℕ) → next_serial ((serial + n) % 65535) ≡ (serial + (n + 1)) % 65535
 serial_next serial n = omega arith
 
--- the command identifier of a command tells how many come after it, up to the next one
+-- the command identifier of a command determines how many commands come after it, up to the next one
 pub distance_is : (serial k m : ℕ) → k ≤ m → m < k + 65535
     → ((serial + m) % 65535 + 65535 - (serial + k) % 65535) % 65535 ≡ m - k
 distance_is serial k m order near = omega arith
 
 -- ---- the commands of a schedule
 
--- command n of a list under its command identifier
+-- command n of a list, with its command identifier
 pub command_at : (serial n : ℕ) (ks : List Command) (d : Numbered) (e : Command) → serial < 65535 → n < length ks
     → get_or (from_serial serial ks) n d ≡ numbered_command (get_or ks n e) ((serial + n) % 65535)
 command_at serial n [] d e below inside = absurd (omega arith)
@@ -88,7 +88,7 @@ take-answers (suc n) c s [] = refl
 take-answers (suc n) c s (x ∷ xs) =
     ap (λ ys. received_as x.asked (step_of c s x).answer ∷ ys) (take-answers n c (step_of c s x).state xs)
 
--- where they are the first m of a list
+-- the requests are the first m of a list
 module _ (serial : ℕ) (ks : List Command) (xs : List Sent) (m : ℕ)
     (are : map numbered xs ≡ take m (from_serial serial ks)) where
   first_are : (n : ℕ) → n ≤ m → take n (map numbered xs) ≡ take n (from_serial serial ks)

@@ -1,4 +1,4 @@
--- A list of commands on its way: its answers are collected.
+-- Collecting answers while a list of commands is executed.
 use Rattle.std.specs.Prelude.{IfSome, IsSome, OnSome, Option, Some, set}
 use Rattle.std.proofs.Common.{◌≡◌, ◌∙◌, ℕ, ◌+◌, ◌-◌, ◌%◌, ◌<◌, ◌≤◌, All, AllPairs, List, [], ◌∷◌, ◌++◌, add-one}
 use Rattle.std.proofs.Common.{ap, arith, drop, false, get_or, inl, length, length-append, not, refl, subst, suc, sym}
@@ -48,7 +48,7 @@ use Rattle.nv_driver.proofs.TurnLaws.{no_command}
 use Rattle.nv_driver.proofs.UnderWayLaws.{command_of, counts, held, pages_left, world}
 use Rattle.nv_driver.proofs.WindowPageLaws.{given_back, gone, taken_first, taken_rest}
 
--- what was asked for is one command
+-- what was asked for is a single command
 one_command : (asked : Asked) (k e : Command) → asked ≡ Ok k → asked ≡ Ok e → k ≡ e
 one_command asked k e is other = cc
 
@@ -79,14 +79,14 @@ pub record IsNext (r : Run) (turns : ℕ) (b : Batch) (bytes : List ℕ) (q : Cq
   pub completion : q ≡ completion_at bytes (setting_of r).cq (slot (setting_of r) b.collected)
   pub at : n ≡ b.collected
 
--- the pages of a command can be given back to a set
+-- the pages of a command can be returned to a set
 pub record CanGive (s : Pages) (o : CommandPages) : Type 0 where
   pub few : o.data_pages ≤ 5
   pub own : All (λ p. IsOf s.first s.count p) (all_pages o)
   pub none : All (λ p. set.contains s.members p ≡ false) (all_pages o)
   pub distinct : AllPairs (λ p q. p ≢ q) (all_pages o)
 
--- more was collected than was told
+-- more was collected than reported
 above_told : (h k : ℕ) → h ≤ k → true ≡ not (h == k + 1)
 above_told h k low = grind (arith, nat_tests)
 
@@ -128,7 +128,7 @@ module _ {r : Run} {bells turns : ℕ} {b : Batch} {l : QueuePairFields} {now : 
     pub cid_below : q.cid < 65535
     cid_below = let below = mod_below (r.pair.serial + b.collected) 65535 (omega arith) in omega (arith, cid_is, below)
 
-    -- by its command identifier it is the awaited one
+    -- its command identifier is that of the awaited command
     pub is_next : {n : ℕ} → n ≡ (l.serial + 65535 - q.cid) % 65535 → (n ≤ b.sent) × IsNext r turns b bytes q
         (b.sent - n)
     is_next {n} is =
@@ -150,7 +150,7 @@ module _ {r : Run} {bells turns : ℕ} {b : Batch} {l : QueuePairFields} {now : 
         (omega arith) (omega (arith, no_more))))
 
   module _ {q : Cqe} {n : ℕ} (e : IsNext r turns b bytes q n) where
-    -- it has its place in the window
+    -- it has its slot in the window
     kept_here : IsKept r (kept_at b.outstanding n) next_one
     kept_here = subst (λ i. IsKept r (kept_at b.outstanding i) next_one) (sym e.at)
         (u.kept b.collected no_command (omega arith) (omega (arith, no_more, e.more)))
@@ -256,7 +256,7 @@ module _ {r : Run} {bells turns : ℕ} {b : Batch} {l : QueuePairFields} {now : 
 
       -- ---- the answer
 
-      -- its data lies in pages of its own, which lie in the memory
+      -- its data is in its own pages, which lie in the memory
       own_buffer : IsBuffer bytes r.geometry.page_size (data_pages o) (offset_for r.geometry (data_length next_one))
           (data_length next_one)
       own_buffer =
@@ -278,7 +278,7 @@ module _ {r : Run} {bells turns : ℕ} {b : Batch} {l : QueuePairFields} {now : 
         at_next : k ≡ get_or r.commands b.collected k
         at_next = is ∙ ap (λ xs. get_or xs n k) of_run ∙ ap (λ i. get_or r.commands i k) e.at
 
-        -- it is what was sent
+        -- it is the request that was sent
         same : next_one.request ≡ request_of k
         same =
             let kept = kept_here in

@@ -1,4 +1,4 @@
--- The counts of a schedule, and what rings and doorbells keep of them.
+-- The counts of a schedule, and how rings and doorbells represent them.
 use Rattle.std.proofs.Common.{◌≡◌, ◌≢◌, ◌∙◌, ℕ, ◌+◌, ◌-◌, ◌*◌, ◌<◌, ◌≤◌, true, nat_le, nat_lt, ap, arith, refl, sym}
 use Rattle.std.proofs.lemmas.Bool.Decides.{nat_tests}
 use Rattle.nv_queue.specs.Numbers.{IsSlotBetween, above, ahead, kept_number, next}
@@ -20,7 +20,7 @@ number_next t n =
 pub slot_inside : (t : Setting) (n : ℕ) → 0 < t.depth → slot t n < t.depth
 slot_inside t n p = slot_below t.depth (number t n) (number_below t n p)
 
--- commands fewer than a depth apart have two slots
+-- commands that are fewer than a depth apart have different slots
 pub slots_differ : (t : Setting) (n m : ℕ) → n < m → m < n + t.depth → slot t m ≢ slot t n
 slots_differ t n m l h = λ same.
     slots_apart t.depth (t.start + m) (t.start + n) (omega arith) (omega arith)
@@ -49,7 +49,7 @@ rung_is t rung done m l h =
     let is_slot : nat_lt (slot t m) t.depth ≡ true = grind (arith, nat_tests, inside) in
     rw (is_slot, first) refl
 
--- the tail of the commands that were sent is taken
+-- the tail for the commands that were sent is accepted
 pub tail_rung : (t : Setting) (rung done told m : ℕ) → done ≤ m → m < done + t.depth
     → with_register_at (bank_with t (device_rings t rung done told)) 0x1000 (slot t m) ≡ bank_with t
     (device_rings t m done told)
@@ -71,7 +71,7 @@ told_is t done told k l m h =
     grind (arith, nat_tests, between.1) in
     rw (is_slot, is_near, first) refl
 
--- the head of the answers that were collected is taken
+-- the head for the answers that were collected is accepted
 pub head_told : (t : Setting) (rung done told k : ℕ) → told ≤ k → k ≤ done → done < told + t.depth
     → with_register_at (bank_with t (device_rings t rung done told)) 0x1004 (slot t k) ≡ bank_with t
     (device_rings t rung done k)

@@ -33,7 +33,7 @@ by_page NoData is = tt
 by_page (ToHost n) is = let page = a_page n is in (omega (arith, page), omega (arith, page))
 by_page (FromHost n) is = a_page n is
 
--- by its form there is at most a page, but for logs
+-- by its form there is at most a page, except for logs
 pub shape : (k : Command) → IsSendable k → HasShape (transfer_by k)
 shape (GetLog q) sends = log_shape (is_error_log q.lid) q.offset q.dwords sends
 shape k sends = by_page (transfer_by k) refl
@@ -69,7 +69,7 @@ unfolding written_at
 written-nothing bytes [] = refl
 written-nothing bytes (p ∷ at) = refl
 
--- where the host sends nothing, nothing is written
+-- nothing is written if the host sends nothing
 pub none_sent : (k : Command) (m : Transfer) (bytes at : List ℕ) → CommandFits k
     → m ≡ transfer_by k → bytes_from_host m ≡ 0 → bytes ≡ written_at bytes at (host_data_of k)
 none_sent k m bytes at fits is none =
@@ -91,7 +91,7 @@ page_sent k page can some size =
 
 -- ---- what is sent and received
 
--- of bytes that are read as before the same is sent, and the same is received
+-- if the bytes that are read don't change, neither does what is sent or received
 pub sent_same : (m : Transfer) (old new at : List ℕ) → read_at new at ≡ read_at old at
     → sent_from m new at ≡ sent_from m old at
 sent_same NoData old new at same = refl
@@ -104,13 +104,13 @@ received_same NoData old new at same = refl
 received_same (ToHost n) old new at same = same
 received_same (FromHost n) old new at same = refl
 
--- places in a memory of this size, no two of them one, for the data of a transfer
+-- distinct places in a memory of this size for the data of a transfer
 pub record ArePlaces (m : Transfer) (memory : ℕ) (at : List ℕ) : Type 0 where
   pub size : length at ≡ length_of m
   pub inside : (k : ℕ) → k < length at → get_or at k 0 < memory
   pub distinct : AreDistinct at
 
--- what one side writes there the other one has
+-- what one side writes there the other one reads
 pub sent_back : (m : Transfer) (bytes at xs : List ℕ) → ArePlaces m (length bytes) at
     → length xs ≡ bytes_from_host m → sent_from m (written_at bytes at xs) at ≡ xs
 sent_back NoData bytes at xs p len = sym (nothing xs len)

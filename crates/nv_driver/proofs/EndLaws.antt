@@ -1,4 +1,4 @@
--- A list of commands from its beginning to its end, over a quiet queue pair.
+-- A list of commands from beginning to end, over a queue pair without other outstanding commands.
 use Rattle.std.specs.Prelude.{slice_set}
 use Rattle.std.proofs.Common.{◌≡◌, ◌∙◌, ℕ, ◌+◌, ◌<◌, ◌≤◌, All, List}
 use Rattle.std.proofs.Common.{[], ap, arith, drop, length, refl, subst, sym, take}
@@ -36,7 +36,7 @@ use Rattle.nv_driver.proofs.WindowPageLaws.{taken_none}
 
 -- ---- the beginning
 
--- what holds of a list of which nothing was sent
+-- what holds for a list of which nothing was sent
 pub record HasBegun (r : Run) (b : Batch) (l : QueuePairFields) (now : ℕ) (bytes : List ℕ)
     (bus : BusValue) (answers : List Answer) : Type 0 where
   pub under_way : IsUnderWay r b.sent b.collected b l now bytes
@@ -88,7 +88,7 @@ begins_all {g} {c} {bus} {l} {now} {bytes} {commands} {answers} {r} {b} is ready
 
 -- ---- the end
 
--- all were collected
+-- all answers were collected
 pub all_collected : {g : Geometry} {c : ℕ} {old : BusValue} {l l' : QueuePairFields} {now : ℕ}
     {bytes mem : List ℕ} {commands : List Command} {r : Run} {b : Batch}
     → r ≡ run_of g c old l bytes commands → (u : IsUnderWay r b.sent b.collected b l' now mem)
@@ -99,7 +99,7 @@ all_collected is u enough =
     let same = ap (λ (x : Run). length x.commands) is
     in (omega (arith, order, u.some, same), omega (arith, order, u.some, same))
 
--- what holds where all were sent, collected and told
+-- what holds if all commands were sent, and their answers collected and reported
 pub record HasEnded (r : Run) (bus : BusValue) (l' : QueuePairFields) (now : ℕ) (mem : List ℕ) : Type 0 where
   pub ready : IsReady r.geometry bus r.controller l' now mem
   pub banks : bus.banks ≡ slice_set r.bus.banks r.controller (bank_at bus.banks r.controller)

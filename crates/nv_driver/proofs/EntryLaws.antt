@@ -1,4 +1,4 @@
--- What taking one entry of a turn does and keeps.
+-- The effect of taking one entry in a turn, and what doesn't change.
 use Rattle.std.proofs.Common.{◌≡◌, ◌∙◌, ℕ, ◌+◌, ◌-◌, ◌*◌, ◌<◌, ◌≤◌, true, Err, List, Ok, Result, ap, arith, get_or}
 use Rattle.std.proofs.Common.{◌⊎◌, inl, inr, length, refl, subst, sym, ◌≢◌}
 use Rattle.std.proofs.lemmas.Bool.{cases_lt, cases_eq}
@@ -73,7 +73,7 @@ can_go t s w k can =
 
 -- ---- what taking it does
 
--- request x was done
+-- request x was executed
 pub record IsDone (t : Setting) (w : World) (x : Sent) (y : Scene) : Type 0 where
   pub state : y.state ≡ (step_of t.controller w.state (numbered x)).state
   pub rings : y.rings ≡ device_rings t w.rung (w.done + 1) w.told
@@ -135,7 +135,7 @@ is_done t s w y d k below one =
 
 -- ---- the memory
 
--- what is moved goes to the places of the data, if anything is
+-- the data is written to its places, if there is any
 moves_there : (asked : Asked) (at : List ℕ) (a : Answer) (old moved : List ℕ) → MovesBy (call_at at asked) a old moved
     → (moved ≡ old) ⊎ ((xs : List ℕ) × (moved ≡ written_at old at xs))
 moves_there (Ok k) at (Ok reply) old moved moves = inr (data_of k moves.0, moves.2)
@@ -171,14 +171,14 @@ module _ (t : Setting) (x : Sent) (a : Answer) (old moved : List ℕ) (some : 0 
         (written_list t.page_size x old put.0 some enough distinct)
   ]
 
--- a command's places are for its data
+-- a command's places are those of its data
 are_places : (t : Setting) (x : Sent) (old : List ℕ) → IsOwn t (length old) x
     → ArePlaces x.request.transfer (length old) (places t.page_size x)
 are_places t x old own =
     let size = length-places t.page_size x in
     record { size = size; inside = λ i below. own.inside i (omega arith); distinct = own.distinct }
 
--- the data of a reply is received, also after its completion was put
+-- the data of a reply is received, even after its completion was posted
 delivered_by : (asked : Asked) (a : Answer) (m : Transfer) (at old moved new : List ℕ)
     → IsAnswerTo asked a → GoesBy asked m → MovesBy (call_at at asked) a old moved
     → ArePlaces m (length old) at → read_at new at ≡ read_at moved at → Delivers asked a (received_from m new at)
@@ -249,7 +249,7 @@ module _ (t : Setting) (s : State) (w : World) (y : Scene) (d : Sent) (k : Keeps
       (number t w.done) posted))
       (sym one.bytes) (put_written one.moved (now t w).completion posted some_slots.0 inside fits)
 
-  -- it changes the pages of its command and the completion ring
+  -- the entry changes only the pages of its command and the completion ring
   beside : ChangesOnly t.cq (16 * t.depth) one.moved y.bytes
   beside from i apart = ap (λ m. bytes_at m from i) one.bytes
       ∙ completion_keeps one.moved (now t w).completion posted from i some_slots.0 inside apart
@@ -258,7 +258,7 @@ module _ (t : Setting) (s : State) (w : World) (y : Scene) (d : Sent) (k : Keeps
   only from i outside apart =
       beside from i apart ∙ moved_keeps t x answer w.mem one.moved some own.enough one.moves from i outside
 
-  -- its own list and data, and those of others
+  -- its own list and data don't change, nor do those of others
   own_stays : Stays t x one.moved y.bytes
   own_stays = stays_beside t x t.cq (16 * t.depth) one.moved y.bytes some (len
       ∙ sym size) own.enough own.completions beside
@@ -302,7 +302,7 @@ module _ (t : Setting) (s : State) (w : World) (y : Scene) (d : Sent) (k : Keeps
       ])
       (k.named i e from high)
 
-  -- its answer, and those that were held
+  -- its answer is held, and so are those that were held before
   held_now : Holds t s (world_after t w y) w.done x
   held_now = record {
     answer = subst (λ (q : State). IsAnswered t.page_size x y.bytes (completion_at y.bytes t.cq (slot t w.done))
@@ -380,7 +380,7 @@ entry_keeps t s w y d k takes =
     let below : w.done < length w.sent = let c = k.counts in omega (arith, go.0, c.rung) in
     one_more t s w y d k below (is_done t s w y d k below takes.one) go.0 go.1
 
--- bytes in no ring and in no page of an outstanding command stay
+-- bytes in no ring and in no page of an outstanding command don't change
 pub entry_others : (t : Setting) (s : State) (w : World) (y : Scene) (d : Sent) → Keeps t s w
     → Takes t.page_size t.controller (scene w.state (now t w) w.mem) y
     → (from n : ℕ) → AreOthers t (length w.answers) w.sent from n → bytes_at y.bytes from n ≡ bytes_at w.mem from n

@@ -1,4 +1,4 @@
--- Every entry is a request, with whatever the host has to send.
+-- Every entry with any data from the host is a request.
 use Rattle.std.proofs.Common.{◌≡◌, ◌∙◌, ◌<◌, ◌≤◌, ◌==◌, ◌^◌, ◌%◌, ℕ, Bool, true, false, Err, List, Ok, Result, ap}
 use Rattle.std.proofs.Common.{arith}
 use Rattle.std.proofs.Common.{lit<, lit≤, refl, subst, sym}
@@ -30,7 +30,7 @@ use Rattle.nv_bus.proofs.CallLaws.{has_room, within_few, within_limit}
 use Rattle.nv_driver.specs.Request.{Asked, EveryEntryIsRequest, GoesBy, moved_by, sent_for, transfer_for}
 use Rattle.nv_driver.proofs.PaddingLaws.{length-padded}
 
--- ---- the command identifier and the data pointer say nothing of what is asked for
+-- ---- what is asked for doesn't depend on the command identifier and the data pointer
 
 abbrev elsewhere : Sqe → (cid prp1 prp2 : ℕ) → Sqe
 elsewhere e cid prp1 prp2 = record e { cid = cid; prp1 = prp1; prp2 = prp2 }
@@ -68,7 +68,7 @@ same_asked limit e cid p q bytes =
     (same_moves limit e cid p q)
     ∙ ap (λ (a : Asked). moves_of limit e >>= (λ m. a)) (same_command (opcode_of e) e cid p q bytes)
 
--- ---- the data of a command goes where that of its entry does
+-- ---- the data of a command is transferred as that of its entry
 
 goes_if : (b : Bool) (x y : Asked) (m : Transfer) → GoesBy x m → GoesBy y m → GoesBy (if b then x else y) m
 goes_if true x y m first later = first
@@ -135,7 +135,7 @@ goes_of (Err code) e bytes m low is = tt
 
 -- ---- within a limit
 
--- what the rules before the data pointer's let through
+-- what the rules before those for the data pointer accept
 is_let : (r : Result Transfer StatusCode) (limit : ℕ) (m : Transfer) → (r >>= within limit) ≡ Ok m
     → (r ≡ Ok m) × (length_of m ≤ limit)
 is_let (Ok asked) limit m is = let h = within_limit limit asked m is in (ap Ok (sym h.0), h.1)

@@ -1,4 +1,4 @@
--- A request alone: how it begins, and what is left when it was answered.
+-- A single request: how it begins, and the state after it was answered.
 use Rattle.std.proofs.Common.{◌≡◌, ◌∙◌, ℕ, ◌+◌, ◌*◌, ◌<◌, ◌≤◌, List, [], ◌∷◌, ap, arith, get_or, inl, length}
 use Rattle.std.proofs.Common.{Err, Ok, drop, refl, slice_index, subst, sym, take}
 use Rattle.std.proofs.Math.Nat.{mul-le-mul_right}
@@ -53,14 +53,14 @@ told dword0 status = record { dword0 = dword0; status = status }
 same_told : {a b : ℕ} {s s' : Status} → a ≡ b → s ≡ s' → told a s ≡ told b s'
 same_told e f = cc
 
--- what ends before all pages of a request lies outside of them
+-- what ends before all pages of a request is outside them
 outside_before : (page_size first : ℕ) (x : Sent) (from n : ℕ)
     → ((i d : ℕ) → i < length (own_pages x) → first ≤ get_or (own_pages x) i d) → from + n ≤ first * page_size
     → AreOutside page_size x from n
 outside_before page_size first x from n behind low i d h =
     inl (omega (arith, mul-le-mul_right page_size (behind i d h), low))
 
--- ---- what comes
+-- ---- the data that comes back
 
 pub comes_by : (asked : Asked) (a : Answer) (status : Status) (bytes : List ℕ) → status ≡ status_in a
     → IsAnswerTo asked a → Delivers asked a bytes → Comes asked a (came_with status bytes)
@@ -119,7 +119,7 @@ module _ {g : Geometry} {bus : BusValue} {c : ℕ} {l : QueuePairFields} {bytes 
         apart = λ n d from below. absurd (omega arith);
       }
 
-  -- nothing was told yet
+  -- nothing was reported yet
   pub begins : IsAlone (alone run sent) 0 0 0 [] l' now mem bus
   begins =
       let w = beginning t bytes bus.state in
@@ -163,7 +163,7 @@ module _ {g : Geometry} {bus : BusValue} {c : ℕ} {l : QueuePairFields} {bytes 
     pair_is = by.alone.pair ∙ pairs_same (ap (submit_ring t 1) by.one) (ap (λ n. collect_ring t n 1) by.one) refl
         (sym (taken_none l.pages).1)
 
-    -- the queue pair is quiet again
+    -- the queue pair has no outstanding command again
     pub ready_again : IsReady g bus' c q' now' after
     ready_again =
         let u = by.alone in
@@ -172,7 +172,7 @@ module _ {g : Geometry} {bus : BusValue} {c : ℕ} {l : QueuePairFields} {bytes 
     pub page_is : now' ≡ now
     page_is = by.alone.page_size ∙ sym ready.page_size
 
-    -- what lies before the request's pages and outside of the queue pair stays
+    -- what is before the request's pages and outside the queue pair doesn't change
     pub others_stay : KeepsBelow (at.first * g.page_size) g.page_size (pair_value l) bytes after
     others_stay from n low apart =
         let laid = ready.laid in
@@ -193,7 +193,7 @@ module _ {g : Geometry} {bus : BusValue} {c : ℕ} {l : QueuePairFields} {bytes 
             → l.submission.base ≤ base → IsApart base size from n
         aside base size high low = let laid = ready.laid in grind (arith, apart, laid.rings, laid.pages)
 
-    -- what comes is received
+    -- the data that comes back is received
     received_by : (n : ℕ) {size : ℕ} {out : List ℕ} → size ≡ g.page_size
         → out ≡ padded n (came_with completion.status
         (received_from m after (buffer_places size at.pages at.offset (length_of m))))
@@ -211,7 +211,7 @@ module _ {g : Geometry} {bus : BusValue} {c : ℕ} {l : QueuePairFields} {bytes 
           filled = is ∙ ap (λ k. padded k came) (sym long);
         }
 
-    -- all that is left of it
+    -- the complete state after the exchange
     pub exchanged : (n : ℕ) {out : List ℕ}
         → out ≡ padded n (came_with completion.status
         (received_from m after (buffer_places now' at.pages at.offset (length_of m))))
@@ -229,7 +229,7 @@ module _ {g : Geometry} {bus : BusValue} {c : ℕ} {l : QueuePairFields} {bytes 
       page = page_is;
     }
 
-  -- the calls go by the run that is meant
+  -- the calls refer to the run that is meant
   pub begins_as : {r : Run} {now1 : ℕ} → r ≡ run → now1 ≡ now → IsAlone (alone r sent) 0 0 0 [] l' now1 mem bus
   begins_as same page = rw (same, page) begins
 
@@ -241,7 +241,7 @@ module _ {g : Geometry} {bus : BusValue} {c : ℕ} {l : QueuePairFields} {bytes 
   answered_as {now' = now'} {q' = q'} {after = after} {bus' = bus'} {completion = completion} same page f =
       subst (λ x. IsAnsweredBy (alone x sent) completion q' now' after bus') same (f sent (begins_as same page))
 
--- ---- the ring of a quiet queue pair
+-- ---- the ring of a queue pair without outstanding commands
 
 module _ {g : Geometry} {bus : BusValue} {c : ℕ} {l : QueuePairFields} {bytes : List ℕ} {now : ℕ}
     (ready : IsReady g bus c l now bytes) where
@@ -266,13 +266,13 @@ module _ {g : Geometry} {bus : BusValue} {c : ℕ} {l : QueuePairFields} {bytes 
       (submit_ring_is g c (limit_of bus.state c) bytes l ready.quiet ready.laid.number)
       ∙ ap (slot_of t.depth) (number_next t 0))
 
--- ---- where its data lies
+-- ---- the place of its data
 
 abbrev pub list_at : List ℕ → ℕ → ListPlace
 list_at numbers offset =
     record { first = slice_index numbers 0; second = slice_index numbers 1; offset = offset }
 
--- an entry can be exchanged, with its data in pages from one on
+-- an entry can be exchanged, with its data in consecutive pages from this one on
 pub can_exchange : {g : Geometry} {c first count : ℕ} {e : Sqe} {m : Transfer} {offset : ℕ} {numbers pages : List ℕ}
     {list : ListPlace} {bus : BusValue} {l : QueuePairFields} {now : ℕ} {bytes : List ℕ}
     → IsReady g bus c l now bytes → SqeFits e → m ≡ transfer_for e → HasRoom m → length_of m ≤ greatest_limit
@@ -301,7 +301,7 @@ can_exchange {g} {first = first} {count = count} {m = m} {numbers = numbers} {no
       last = omega (arith, last, are.each 0 (omega arith));
     })
 
--- it was submitted, under a limit by another name
+-- it was submitted, with its limit under another name
 pub begun_by : {g : Geometry} {bus : BusValue} {c : ℕ} {l : QueuePairFields} {bytes : List ℕ} {e : Sqe} {given : List ℕ}
     {m : Transfer} {at : EntryPlace} {now limit : ℕ} {l' : QueuePairFields} {mem : List ℕ}
     → CanExchange g c e m at (side bus l now bytes) → limit ≡ limit_of bus.state c
@@ -309,7 +309,7 @@ pub begun_by : {g : Geometry} {bus : BusValue} {c : ℕ} {l : QueuePairFields} {
     → IsBegun g bus c l bytes e given m at now l' mem
 begun_by can same sub size = record { can = can; sub = rw same at sub; size = size }
 
--- a buffer of a memory is one of a later memory of the same size
+-- a buffer in a memory is one in a later memory of the same size
 pub buffer_later : {old new pages : List ℕ} {size size' from len : ℕ} → length new ≡ length old → size' ≡ size
     → IsBuffer old size pages from len → IsBuffer new size' pages from len
 buffer_later same page is = rw page (record {

@@ -1,4 +1,4 @@
--- Answers that are held while the memory and the schedule go on.
+-- Answers that are held while the memory and the schedule change.
 use Rattle.std.proofs.Common.{◌≡◌, ◌∙◌, ℕ, List, ap, subst, sym, take}
 use Rattle.nv_layout.specs.declared.cqe.Cqe.{Cqe}
 use Rattle.nv_prp.specs.Place.{read_at}
@@ -9,7 +9,7 @@ use Rattle.nv_driver.specs.Schedule.{Delivers, Holds, IsAnswered, Sent, Setting,
 use Rattle.nv_driver.specs.Schedule.{slot, step_after}
 use Rattle.nv_driver.proofs.DataLaws.{received_same}
 
--- an answer stays where its completion and its data do
+-- an answer is held as long as its completion and its data don't change
 answered_on : (page_size : ℕ) (x : Sent) (old new : List ℕ) (c e : Cqe) (a : Answer) → e ≡ c
     → read_at new (places page_size x) ≡ read_at old (places page_size x)
     → IsAnswered page_size x old c a → IsAnswered page_size x new e a

@@ -1,4 +1,4 @@
--- What a schedule keeps from its beginning on, where a doorbell is rung or an answer is collected.
+-- What a schedule preserves from its beginning on, when a doorbell is rung or an answer is collected.
 use Rattle.std.proofs.Common.{◌≡◌, ◌↔◌, ◌∙◌, ℕ, ◌+◌, ◌*◌, ◌%◌, ◌<◌, ◌≤◌, length-append, [], ◌∷◌, ◌++◌, ap, arith}
 use Rattle.std.proofs.Common.{get_or, inl, inr, length, refl, subst, sym}
 use Rattle.std.proofs.Math.Nat.{mod-eq_of_lt}
@@ -93,7 +93,7 @@ tell_keeps t s w w' k happens =
 
 -- ---- an answer is collected
 
--- the awaited completion is there only where a command was done whose answer wasn't collected
+-- the awaited completion is there only if a command was executed whose answer wasn't collected
 posted : (t : Setting) (w : World) (d k : ℕ) → 0 < t.depth → k ≤ d → HoldsTags w.mem t.cq t.depth (number t d)
     → (completion_at w.mem t.cq (slot t k)).phase ≡ phase_of t.depth (number t k) → k < d
 posted t w d k some low tags there =
@@ -107,7 +107,7 @@ posted t w d k some low tags there =
           phase_of t.depth (number t n)) same there))
     ]
 
--- and there it is
+-- in that case it is there
 awaited_there : (t : Setting) (s : State) (w : World) → Keeps t s w → length w.answers < w.done
     → IsAwaitedThere w.mem (awaited t w)
 awaited_there t s w k more =

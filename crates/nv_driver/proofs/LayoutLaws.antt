@@ -1,4 +1,4 @@
--- How many pages there can be, and how the queue pairs lie in them.
+-- How many pages there can be, and where the queue pairs lie in them.
 use Rattle.std.proofs.Common.{◌≡◌, ℕ, ◌%◌, ◌*◌, ◌<◌, ◌≤◌, ◌==◌, Bool, arith, false, if◌then◌else◌, refl, true}
 use Rattle.std.proofs.Math.Nat.{mul-le-mul}
 use Rattle.nv_host.proofs.PageLaws.{page_size_bounds}
@@ -14,7 +14,8 @@ pub page_times : (n p : ℕ) → n ≤ 0x2000000 → p ≤ 0x10000 → n * p ≤
 page_times n p h k = mul-le-mul h k
 
 -- data begins in a page, at a multiple of 4
-pub offset_fits : (g : Geometry) (len : ℕ) → IsGeometry g → (offset_for g len % 4 ≡ 0) × (offset_for g len < g.page_size)
+pub offset_fits : (g : Geometry) (len : ℕ) → IsGeometry g
+    → (offset_for g len % 4 ≡ 0) × (offset_for g len < g.page_size)
 offset_fits g len is = by (len == 0)
   where
     by : (none : Bool) → ((if none then 0 else g.offset) % 4 ≡ 0) × ((if none then 0 else g.offset) < g.page_size)

@@ -1,4 +1,4 @@
--- What a new driver, its commands and its resets make of command identifiers and register banks.
+-- The effect of a new driver, its commands and its resets on command identifiers and register banks.
 use Rattle.std.proofs.Common.{◌≡◌, ◌∙◌, ℕ, ◌+◌, ◌<◌, zero, suc, arith, zero-add, List, [], ◌∷◌, ◌++◌, ap, sym, subst}
 use Rattle.std.proofs.Common.{refl, true, length, map, get_or, set, ◌≢◌, ◌↔◌, Option, None, Some, Result, Ok, Err}
 use Rattle.std.specs.Prelude.{replicate}
@@ -12,7 +12,8 @@ use Rattle.nv_driver.specs.inner.Driver.{error_without}
 use Rattle.nv_driver.specs.Geometry.{fault_of}
 use Rattle.nv_driver.specs.Exchange.{after_one}
 use Rattle.nv_driver.specs.Layout.{pair_of, pairs_of}
-use Rattle.nv_driver.specs.inner.Linked.{IsLinked, serials_of}
+use Rattle.nv_driver.specs.Linked.{IsLinked}
+use Rattle.nv_driver.specs.inner.Linked.{serials_of}
 use Rattle.nv_driver.specs.QueuePair.{QueuePair, idle_bank, renewed_pair}
 use Rattle.nv_driver.specs.Registers.{mps_of}
 use Rattle.nv_driver.specs.Settled.{DriverValue}
@@ -30,7 +31,7 @@ pair_count b d is =
     sym (length-map d.pairs (idle_bank (mps_of d.geometry.page_size) d.geometry.page_size)) ∙ sym (ap length is.left)
     ∙ is.bus.banks
 
--- before the first command
+-- the serials before the first command
 pub first_serials : (g : Geometry) (n : ℕ) → serials_of (new_driver g n) ≡ replicate n 0
 first_serials g zero = refl
 first_serials g (suc n) =
@@ -57,18 +58,18 @@ pub serial_at : (d : DriverValue) (c : ℕ) → c < length d.pairs
     → (pair_at d.pairs c).serial ≡ get_or (serials_of d) c 0
 serial_at d c below = sym (get_or-map serial d.pairs c no_pair 0 below)
 
--- after a command the next one is due
+-- the serials after a command: the next one is due
 pub serials_after : (d after : DriverValue) (c : ℕ) → c < length d.pairs → after ≡ after_command d c
     → serials_of after ≡ set (serials_of d) c (next_serial (get_or (serials_of d) c 0))
 serials_after d after c below is = ap serials_of is ∙ map-set serial d.pairs c (after_one (pair_at d.pairs c))
     ∙ ap (λ n. set (serials_of d) c (next_serial n)) (serial_at d c below)
 
--- a reset leaves them
+-- a reset doesn't change the serials
 pub serials_reset : (d after : DriverValue) (c : ℕ) → after ≡ after_reset d c → serials_of after ≡ serials_of d
 serials_reset d after c is =
     ap serials_of is ∙ map-set_same serial d.pairs c (renewed_pair (pair_at d.pairs c)) no_pair refl
 
--- both leave as many queue pairs
+-- neither changes the number of queue pairs
 pub reset_pairs : (d after : DriverValue) (c : ℕ) → after ≡ after_reset d c → length after.pairs ≡ length d.pairs
 reset_pairs d after c e = ap (λ (x : DriverValue). length x.pairs) e
     ∙ length-set d.pairs c (renewed_pair (pair_at d.pairs c))
@@ -83,14 +84,14 @@ none_by : {F : Type 0} (o : Option F) → ((f : F) → o ≢ Some f) → o ≡ N
 none_by None h = refl
 none_by (Some f) h = absurd (h f refl)
 
--- a driver was brought up, where each field out of its limits would be told
+-- a driver was brought up, and any field outside its limits would have been reported
 pub without_fault : {D : Type 0} (g : Geometry) (d : D)
     → ((field : GeometryField)
     → ◌≡◌ {A = Result D DriverError} (Ok d) (Err (error.Geometry field)) ↔ (fault_of g ≡ Some field))
     → fault_of g ≡ None
 without_fault g d h = none_by (fault_of g) (λ field k. let never = (h field).1 k in absurd (cc))
 
--- or why there is none
+-- why there is no driver
 pub without : {D : Type 0} (g : Geometry) (e : DriverError)
     → ((field : GeometryField)
     → ◌≡◌ {A = Result D DriverError} (Err e) (Err (error.Geometry field)) ↔ (fault_of g ≡ Some field))

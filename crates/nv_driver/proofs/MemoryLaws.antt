@@ -23,7 +23,7 @@ use Rattle.nv_driver.proofs.AdminLaws.{slots_stay}
 
 -- ---- the queue pairs
 
--- rings fit their pages
+-- rings fit in their pages
 rings_fit : (g : Geometry) → 0 < g.page_size
     → (64 * g.depth ≤ submission_pages g * g.page_size) × (16 * g.depth ≤ completion_pages g * g.page_size)
 unfolding submission_pages completion_pages
@@ -70,7 +70,7 @@ pair_count g n ls are =
     sym (length-map ls pair_value) ∙ ap (λ (vs : List QueuePair). length vs) are
     ∙ length-map-range_with_len (pair_of g) 0 n
 
--- each queue pair lies in a memory of so many pages
+-- each queue pair lies in a memory with this number of pages
 pub all_laid : (g : Geometry) (n size : ℕ) → IsGeometry g → pages_of g n * g.page_size ≤ size
     → All (IsLaid g.page_size size) (pairs_of g n)
 all_laid g n size is e i d h =
@@ -85,7 +85,7 @@ laid_in g n i size laid h =
 
 -- ---- zeroed completion rings
 
--- those of the queue pairs below stay so where that of queue pair c is zeroed too
+-- the completion rings of the queue pairs below stay zeroed when that of queue pair c is zeroed too
 pub tags_more : (g : Geometry) (n c : ℕ) (old new : List ℕ)
     → All (IsLaid g.page_size (length old)) (pairs_of g n) → c < n
     → KeepsOthers g.page_size (pair_of g c) old new → HoldsTags new (pair_of g c).cq g.depth 0
@@ -112,7 +112,7 @@ settled_at_first g n bytes laid tags =
 
 -- ---- a new driver
 
--- a new memory of so many pages
+-- a new memory with this number of pages
 pub memory_size : (g : Geometry) (pages : ℕ) (mem : PagedBytes)
     → mem ≡ record { page_size = g.page_size; bytes = replicate (pages * g.page_size) 0 }
     → length mem.bytes ≡ pages * g.page_size
@@ -124,7 +124,7 @@ page_count_is g pages mem is page size =
     let bounds = page_size_bounds g.page_size is.page_size in
     rw (size, page) (mul-div_cancel pages (omega arith))
 
--- where there are as many pages as the queue pairs have, or more
+-- there are at least as many pages as the queue pairs need
 pub has_pairs : (g : Geometry) (n m more pages : ℕ) (mem : PagedBytes) → pages ≡ pages_of g m + more → m ≡ n
     → mem ≡ record { page_size = g.page_size; bytes = replicate (pages * g.page_size) 0 }
     → pages_of g n * g.page_size ≤ length mem.bytes

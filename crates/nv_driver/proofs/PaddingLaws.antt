@@ -22,7 +22,7 @@ length-padded n bytes =
     let zeros = length-replicate {A = ℕ} n 0 in
     let first = length-take n (bytes ++ replicate n 0) in omega (arith, whole, zeros, first)
 
--- the first n are those of the bytes, where past the last one each counts as 0
+-- the first n are those of the bytes, which count as 0 past the last one
 abbrev pub HasFirst : ℕ → List ℕ → List ℕ → Type 0
 HasFirst n bytes out = (i : ℕ) → i < n → get_or out i 0 ≡ get_or bytes i 0
 
@@ -32,7 +32,7 @@ padded_by n out bytes size first =
     (λ i below. let low : i < n = omega arith in
     first i low ∙ sym (get_or-take n (bytes ++ replicate n 0) i 0 low ∙ get_or-past bytes 0 n i))
 
--- one more
+-- one more byte
 pub first_more : (n : ℕ) (bytes out : List ℕ) (x : ℕ) → n < length out → x ≡ get_or bytes n 0 → HasFirst n bytes out
     → HasFirst (n + 1) bytes (set out n x)
 first_more n bytes out x below is first i low =
@@ -42,7 +42,7 @@ first_more n bytes out x below is first i low =
       | inr other ↦ get_or-set_other out n i x 0 other ∙ first i (omega (arith, other))
     ]
 
--- the first stay, and those from there on are 0
+-- the first bytes don't change, and those from there on are 0
 pub record IsZeroed (from at : ℕ) (old out : List ℕ) : Type 0 where
   pub kept : (i : ℕ) → i < from → get_or out i 0 ≡ get_or old i 0
   pub zeros : (i : ℕ) → from ≤ i → i < at → get_or out i 0 ≡ 0
@@ -57,15 +57,15 @@ zero_more from at old out order below z = record {
   ];
 }
 
--- where the host sends nothing, nothing is written
+-- nothing is written if the host sends nothing
 pub none_written : (m : Transfer) (mem at bytes : List ℕ) → bytes_from_host m ≡ 0
     → mem ≡ written_at mem at (sent_for m bytes)
 none_written m mem at bytes none =
     sym (ap (λ n. written_at mem at (padded n bytes)) none ∙ written-nothing mem at)
 
--- ---- what is read of a buffer
+-- ---- reading from a buffer
 
--- byte i of what is read of the first k bytes
+-- byte i of the first k bytes that are read
 read_first : (mem : List ℕ) (page_size : ℕ) (pages : List ℕ) (offset k i : ℕ) → i < k
     → get_or (read_at mem (buffer_places page_size pages offset k)) i 0
     ≡ get_or mem (buffer_place page_size pages offset i) 0
@@ -82,7 +82,7 @@ unfolding buffer_places
 length-read mem page_size pages offset k =
     length-read_at mem (buffer_places page_size pages offset k) ∙ length-table k (buffer_place page_size pages offset)
 
--- the first of them were read into a slice, whose rest was zeroed
+-- the first bytes were read into a slice, whose rest was zeroed
 pub padded_read : (mem : List ℕ) (page_size : ℕ) (pages : List ℕ) (offset len count n : ℕ) (rest out : List ℕ)
     → count ≤ len → length out ≡ n → (count < n → len ≤ count)
     → IsZeroed count n (read_at mem (buffer_places page_size pages offset count) ++ rest) out

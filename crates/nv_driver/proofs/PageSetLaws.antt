@@ -1,4 +1,4 @@
--- Pages taken out of a set one after the other, and given back.
+-- Pages that are taken from a set one after another, and returned.
 use Rattle.std.proofs.Common.{◌≡◌, ◌≢◌, ◌∙◌, ℕ, zero, suc, ◌+◌, ◌<◌, ◌≤◌, ◌==◌, ◌&&◌, ◌||◌, inl, inr, not}
 use Rattle.std.proofs.Common.{All, AllPairs, Bool, true, false, List, [], ◌∷◌, ◌++◌, ap, arith, get_or, length}
 use Rattle.std.proofs.Common.{length-append, length-take, nat_eq, refl, take, subst, sym}
@@ -14,7 +14,7 @@ use Rattle.std.specs.FinSet as set
 use Rattle.std.specs.FinSet.{nat_cmp-IsAntisymmetric}
 use Rattle.std.specs.List.{list_any}
 use Rattle.nv_host.specs.PageSets.{IsOf, Pages, consecutive}
-use Rattle.nv_host.specs.inner.PageSets.{contains_of_insert, contains_of_remove}
+use Rattle.nv_host.proofs.PageSetLaws.{contains_of_insert, contains_of_remove}
 use Rattle.nv_driver.specs.inner.CommandPages.{AreLowest, with_pages}
 use Rattle.nv_driver.specs.CommandPages.{AreTaken, without}
 
@@ -66,7 +66,7 @@ same_pages s a b each =
 
 -- ---- taking
 
--- these pages were taken out of a set so far
+-- these pages have been taken from a set so far
 pub record Taking (s now : Pages) (ps : List ℕ) : Type 0 where
   pub taken : AreTaken s ps
   pub left : now ≡ without s ps
@@ -106,7 +106,7 @@ taking_more s now next ps p t there own is =
     some m q e none = both_ways (set.contains m q)
         (ap (λ (x : Numbers). set.contains x q) (set.empty_of_len m none) ∙ set.contains-empty nat_cmp q) e
 
--- a set with as many members left has one
+-- a set from which fewer pages were taken than it had has one left
 pub has_one : (s now : Pages) (ps : List ℕ) (all : ℕ) → Taking s now ps → length ps < all
     → all ≤ set.len s.members → now.members ≢ set.empty
 has_one s now ps all t below enough = λ none.
@@ -132,13 +132,14 @@ taking_next s now new ps r p t is found own =
 pub lowest_none : (s : Pages) → AreLowest s []
 lowest_none s = record { order = λ i k d h j. absurd (omega arith); lowest = λ i d h. absurd (omega arith) }
 
--- and the lowest one of what is left
+-- the lowest page of what is left is taken too
 pub lowest_more : (s now : Pages) (ps : List ℕ) (p : ℕ) → now ≡ without s ps → set.contains now.members p ≡ true
     → ((q : ℕ) → q < p → set.contains now.members q ≡ false) → AreLowest s ps → AreLowest s (ps ++ p ∷ [])
 lowest_more s now ps p left there least low = record {
   order = all_pairs_push (λ q r. q < r) ps p low.order (λ i d h. low.lowest i d h p (rw left at there));
   lowest = All-push (λ x. (q : ℕ) → set.contains (without s (ps ++ p ∷ [])).members q ≡ true → x < q) ps p
-      (λ i d h q e. low.lowest i d h q (still q e)) (λ q e. above q (ap (λ (x : Pages). set.contains x.members q) left ∙ still q e) (no_other q e));
+      (λ i d h q e. low.lowest i d h q (still q e))
+      (λ q e. above q (ap (λ (x : Pages). set.contains x.members q) left ∙ still q e) (no_other q e));
 }
   where
     -- what is left then was left before
@@ -174,7 +175,7 @@ giving_more s now next ps p is more =
     more ∙ ap (λ (x : Pages). record x { members = set.insert x.members p }) is
     ∙ same_pages s _ _ (λ q. grind (arith, contains_of_insert, union_in, in_push))
 
--- the next page isn't there yet
+-- the next page isn't in the set yet
 pub not_given : (s now : Pages) (pages : List ℕ) (at : ℕ) → now ≡ with_pages s (take at pages) → at < length pages
     → All (λ p. set.contains s.members p ≡ false) pages → AllPairs (λ p q. p ≢ q) pages
     → set.contains now.members (get_or pages at 0) ≡ false
@@ -184,7 +185,7 @@ not_given s now pages at is below none distinct =
     ∙ or_from (set.contains s.members p) (is_in (take at pages) p) (none at 0 below)
     (not_before pages at below distinct)
 
--- ---- a full set, of which pages were taken and given back
+-- ---- a full set from which pages were taken and to which they were returned
 
 -- the numbers before a set's end
 in_consecutive : (first count q : ℕ) → is_in (consecutive first count) q ≡ true → (first ≤ q) × (q < first + count)
@@ -213,7 +214,7 @@ full_length first (suc count) =
     outside : is_in (consecutive first count) (first + count) ≡ false
     outside = false_from_ne_true _ (λ e. let h = in_consecutive first count (first + count) e in omega (arith, h.1))
 
--- what holds of each element holds of one that is in the list
+-- what holds for each element holds for one that is in the list
 pub in_all : (P : ℕ → Type 0) (pages : List ℕ) (q : ℕ) → All P pages → is_in pages q ≡ true → P q
 in_all P [] q each e = absurd (cc)
 in_all P (x ∷ pages) q each e =
@@ -222,7 +223,7 @@ in_all P (x ∷ pages) q each e =
       | inr later ↦ in_all P pages q (λ i d h. each (suc i) d (omega arith)) later
     ]
 
--- a set has no page that was taken of it
+-- a set doesn't have a page that was taken from it
 pub without_none : (s : Pages) (ps : List ℕ) (i d : ℕ) → i < length ps
     → set.contains (without s ps).members (get_or ps i d) ≡ false
 without_none s ps i d h = grind (arith, difference_in s.members ps (get_or ps i d), in_of ps i d (get_or ps i d) h refl)

@@ -1,4 +1,4 @@
--- An entry of a driver, over the queue pairs of its controllers and the pages behind them.
+-- An entry of a driver, over the queue pairs of its controllers and the pages after them.
 use Rattle.std.proofs.Common.{◌≡◌, ◌∙◌, ℕ, ◌+◌, ◌*◌, ◌<◌, ◌≤◌, ◌^◌, List, ap, arith, get_or, length, map, subst, sym}
 use Rattle.std.specs.Prelude.{slice_set}
 use Rattle.std.proofs.Math.Nat.{mul-le-mul_right}
@@ -20,7 +20,7 @@ use Rattle.nv_driver.proofs.AdminLaws.{placed_at, value_at}
 use Rattle.nv_driver.proofs.MemoryLaws.{pair_ends}
 
 module _ {g : Geometry} {mem : PagedBytes} {ls : List QueuePairFields} (is : IsDriver g mem ls) where
-  -- the pages of a queue pair end before those behind all
+  -- the pages of a queue pair end before those after all queue pairs
   pub behind_last : {c first : ℕ} {l : QueuePairFields} → c < length ls → l ≡ get_or ls c l
       → first ≡ pages_of g (length ls) → l.pages.first + l.pages.count ≤ first
   behind_last {c} below here same =
@@ -61,7 +61,7 @@ pub count_is : (g : Geometry) (mem : PagedBytes) (ls : List QueuePairFields) {d 
     → driver_value g mem ls ≡ d → n ≡ length d.pairs → n ≡ length ls
 count_is g mem ls value many = many ∙ ap (λ (v : DriverValue). length v.pairs) (sym value) ∙ length-map ls pair_value
 
--- the pages of an entry stay, whatever becomes of a queue pair
+-- the pages of an entry stay in the memory, whatever happens to a queue pair
 room_stays_set : (d : DriverValue) (c : ℕ) (l : QueuePair) → HasEntryPages d
     → HasEntryPages (record d { pairs = slice_set d.pairs c l })
 room_stays_set d c l room =

@@ -1,4 +1,4 @@
--- A command whose pages were made ready: what a controller finds of its entry.
+-- A command whose pages are prepared: what a controller reads of its entry.
 use Rattle.std.proofs.Common.{◌≡◌, ◌∙◌, ◌^◌, ℕ, refl, inl, inr, ◌+◌, ◌*◌, ◌<◌, ◌≤◌, List, Err, Ok, Result, ap, arith}
 use Rattle.std.proofs.Common.{length}
 use Rattle.std.proofs.Common.{sym}
@@ -28,7 +28,7 @@ use Rattle.nv_driver.proofs.RegionLaws.{length-places}
 
 -- ---- how many pages a command has
 
--- in how many pages so many bytes lie
+-- how many pages this number of bytes lies in
 pub enough_of : (greatest from len size pages : ℕ) → IsPageSize size → from < size → len ≤ greatest
     → pages ≡ div_ceil (from + len) size
     → (from + len ≤ pages * size) × (pages + 2 ≤ pages_for greatest size) × (from + len ≡ 0 → pages ≡ 0)
@@ -74,7 +74,7 @@ named t pages from is =
     table-same t.len (place_of t) (buffer_place t.page_size pages from)
     (λ i below. (is (omega arith)).places i below)
 
--- the data pointer names the places of the data, and is legal where there is data
+-- the data pointer names the places of the data, and is legal if there is data
 abbrev Names : ℕ → Sent → List ℕ → Type 0
 Names page_size x mem =
     (0 < data_length x → IsLegal (pointed page_size x mem))
@@ -97,7 +97,7 @@ stays_in page_size x mem later keep stays some last next =
       in_second = λ many. next.in_second many ∙ keep.in_second many;
     })
 
--- ---- what is found of the entry
+-- ---- what is read of the entry
 
 -- a call with its data at these places, or the status of the first rule that was broken
 abbrev pub call_at : List ℕ → Asked → Result Call StatusCode
@@ -113,7 +113,7 @@ places_by NoData page_size mem e at is size found =
 places_by (ToHost n) page_size mem e at is size found = found is.0
 places_by (FromHost n) page_size mem e at is size found = found is.0
 
--- the rules after those that come before the data pointer's
+-- the rules after those that come before the data pointer
 abbrev call_with : ℕ → List ℕ → Sqe → Transfer → Result Call StatusCode
 call_with page_size mem e m = do
   places ← data_places page_size mem e m
@@ -145,7 +145,7 @@ call_by (Ok m) e at sends page_size mem asked lies is =
     ∙ call_ends asked at
 call_by (Err code) e at sends page_size mem asked lies is = ap (call_at at) is
 
--- The entry asks for what is said, with its data in its pages.
+-- The entry asks for what the request says, with its data in its pages.
 pub entry_call : (t : Setting) (x : Sent) (mem : List ℕ) → IsRequest t.limit x.request → x.cid < 2 ^ 16
     → StaysNamed t.page_size x mem → HoldsSent t.page_size x mem
     → call_of t.page_size t.limit mem (entry x) ≡ call_at (places t.page_size x) x.request.asked

@@ -1,4 +1,4 @@
--- A quiet queue pair: the schedule that begins there, and what a schedule leaves of it that came to an end.
+-- A queue pair without outstanding commands: the schedule that begins there, and its state after a schedule has ended.
 use Rattle.std.proofs.Common.{◌≡◌, ℕ, ◌+◌, ◌-◌, ◌*◌, ◌<◌, ◌≤◌, All, Bool, List, [], ap, arith, false, get_or}
 use Rattle.std.proofs.Common.{inr, length, refl}
 use Rattle.std.proofs.Math.Nat.{mul-le-mul_right}
@@ -46,7 +46,7 @@ is_idle g b c l now bytes r =
     let controller : c < length b.state.controllers = omega (arith, r.controller, r.bus.banks) in
     let limit : limit_of b.state c ≡ t.limit = refl in assumption
 
--- the host's rings of a quiet queue pair are those of a schedule that begins
+-- the host's rings of a queue pair without outstanding commands are those at the beginning of a schedule
 pub submit_ring_is : (g : Geometry) (c limit : ℕ) (bytes : List ℕ) (l : QueuePairFields) → IsQuiet l
     → l.submission.submitted < 2 * l.submission.depth
     → l.submission ≡ submit_ring (setting g c limit (pair_value l)) 0 0
@@ -66,7 +66,7 @@ collect_ring_is g c limit bytes l quiet below =
 
 -- ---- the end
 
--- a part outside a queue pair lies in none of its rings and pages
+-- a part outside a queue pair overlaps none of its rings and pages
 outside_pair : (s : Pages) (x : Sent) (page_size sq from n : ℕ)
     → ((i d : ℕ) → i < length (own_pages x) → IsOf s.first s.count (get_or (own_pages x) i d))
     → sq ≤ s.first * page_size → sq ≤ (s.first + s.count) * page_size
@@ -75,7 +75,7 @@ outside_pair s x page_size sq from n own low high apart i d h =
     let last : get_or (own_pages x) i d + 1 ≤ s.first + s.count = omega (arith, (own i d h).1) in
     grind (arith, apart, low, mul-le-mul_right page_size (own i d h).0, mul-le-mul_right page_size last)
 
--- where each command's pages were of the queue pair's set
+-- each command's pages were from the queue pair's set
 pub others_kept : {g : Geometry} {b : BusValue} {c limit : ℕ} {l : QueuePairFields} {now : ℕ} {bytes : List ℕ}
     {w : World} → IsReady g b c l now bytes → OthersStay (setting g c limit (pair_value l)) 0 bytes w
     → ((i : ℕ) (d : Sent) → i < length w.sent

@@ -1,4 +1,4 @@
--- Parts of the memory that a command's pages, its list or a slot of a ring do not reach.
+-- Parts of the memory that don't overlap a command's pages, its list or a slot of a ring.
 use Rattle.std.proofs.Common.{◌≡◌, ◌≢◌, ◌∙◌, ◌⊎◌, ℕ, suc, ◌+◌, ◌*◌, ◌/◌, ◌<◌, ◌≤◌, List, ap, arith, get_or, inl, inr}
 use Rattle.std.proofs.Common.{length, sym}
 use Rattle.std.proofs.Math.Nat.{mul-le-mul_right}
@@ -30,7 +30,7 @@ use Rattle.nv_driver.proofs.DataLaws.{ArePlaces, sent_same}
 
 -- ---- places and pages
 
--- a place lies in one of the pages
+-- a place is in one of the pages
 pub record InPage (page_size : ℕ) (pages : List ℕ) (place : ℕ) : Type 0 where
   pub index : ℕ
   pub is_one : index < length pages
@@ -52,11 +52,11 @@ place_page page_size pages offset len k some enough below =
       to = omega (arith, is, rest);
     }
 
--- the n bytes from a place on share none with a part of the memory
+-- a place is not among the n bytes from `from` on
 abbrev IsBeside : ℕ → ℕ → ℕ → Type 0
 IsBeside place from n = (place < from) ⊎ (from + n ≤ place)
 
--- a place of a command's data is beside each part that its pages are outside of
+-- a place of a command's data is in no part that is outside its pages
 pub place_beside : (page_size : ℕ) (x : Sent) (from n k : ℕ) → 0 < page_size
     → x.offset + data_length x ≤ length x.pages * page_size → AreOutside page_size x from n
     → k < data_length x → IsBeside (get_or (places page_size x) k 0) from n
@@ -65,7 +65,7 @@ place_beside page_size x from n k some enough outside below =
     let one = page.is_one in
     grind (arith, page.from, page.to, outside (suc (suc page.index)) 0 (omega arith))
 
--- two pages that aren't one share no byte
+-- two distinct pages don't overlap
 pages_apart : (page_size p q : ℕ) → p ≢ q
     → (p * page_size + page_size ≤ q * page_size) ⊎ (q * page_size + page_size ≤ p * page_size)
 pages_apart page_size p q differ =
@@ -78,7 +78,7 @@ other_page : (page_size p q place : ℕ) → p ≢ q → p * page_size ≤ place
     → place < p * page_size + page_size → IsOutside page_size q place 1
 other_page page_size p q place differ low high = grind (arith, pages_apart page_size p q differ)
 
--- where two commands have no page in common, the pages of the one are outside of each byte of the other's data
+-- if two commands have no page in common, the pages of one don't contain any byte of the other's data
 pub place_outside : (t : Setting) (x y : Sent) (k : ℕ) → 0 < t.page_size
     → x.offset + data_length x ≤ length x.pages * t.page_size
     → AreApart x y → k < data_length x → AreOutside t.page_size y (get_or (places t.page_size x) k 0) 1
@@ -90,13 +90,13 @@ place_outside t x y k some enough apart below i d inside =
 pub apart-sym : (x y : Sent) → AreApart x y → AreApart y x
 apart-sym x y apart i d h j e low same = apart j e low i d h (sym same)
 
--- ---- what stays
+-- ---- what doesn't change
 
 pub length-places : (page_size : ℕ) (x : Sent) → length (places page_size x) ≡ data_length x
 unfolding buffer_places
 length-places page_size x = length-table (data_length x) (buffer_place page_size x.pages x.offset)
 
--- the places of a command whose pages lie in the memory, no two of them one
+-- the places of a command's data, in distinct pages of the memory
 pub buffer_data : (page_size : ℕ) (x : Sent) (mem : List ℕ) → 0 < page_size
     → IsBuffer mem page_size x.pages x.offset (data_length x)
     → AreDistinct x.pages → ArePlaces x.request.transfer (length mem) (places page_size x)
@@ -116,7 +116,7 @@ buffer_data page_size x mem some buffer distinct =
     in_page place page =
         let has = buffer.inside page.index 0 page.is_one in omega (arith, has, page.to)
 
--- a part that a command's pages are outside of, where its data is written
+-- a part outside a command's pages doesn't change when its data is written
 pub data_keeps : (page_size : ℕ) (x : Sent) (bytes written : List ℕ) (from n : ℕ) → 0 < page_size
     → x.offset + data_length x ≤ length x.pages * page_size → AreOutside page_size x from n
     → bytes_at (written_at bytes (places page_size x) written) from n ≡ bytes_at bytes from n
@@ -126,7 +126,7 @@ data_keeps page_size x bytes written from n some enough outside =
     let size = length-places page_size x in
     place_beside page_size x from n k some enough outside (omega arith))
 
--- a part beside a completion ring, where a completion is put
+-- a part outside a completion ring doesn't change when a completion is posted
 pub completion_keeps : (bytes : List ℕ) (ring : PostNumbers) (c : Cqe) (from n : ℕ) → 0 < ring.depth
     → ring.base + 16 * ring.depth ≤ length bytes → IsApart ring.base (16 * ring.depth) from n
     → bytes_at (with_completion bytes ring c) from n ≡ bytes_at bytes from n
@@ -139,7 +139,7 @@ completion_keeps bytes ring c from n some inside apart =
       | inr behind ↦ bytes_at-with_after bytes at (bytes_of_cqe (put_as ring c)) from n (omega arith) (omega arith)
     ]
 
--- a part beside a submission ring, where a command is submitted
+-- a part outside a submission ring doesn't change when a command is submitted
 pub submission_keeps : (bytes : List ℕ) (ring : SubmitNumbers) (c : Sqe) (from n : ℕ) → 0 < ring.depth
     → ring.base + 64 * ring.depth ≤ length bytes → IsApart ring.base (64 * ring.depth) from n
     → bytes_at (with_submission bytes ring c) from n ≡ bytes_at bytes from n
@@ -158,7 +158,7 @@ byte_at : (bytes : List ℕ) (from : ℕ) → get_or (bytes_at bytes from 1) 0 0
 byte_at bytes from = get_or-bytes_at bytes from 1 0 (omega arith)
     ∙ ap (λ k. get_or bytes k 0) (let e : from + 0 ≡ from = omega arith in e)
 
--- bytes that stay are read as before
+-- bytes that don't change are read as before
 pub read_keeps : (old new at : List ℕ)
     → ((k : ℕ) → k < length at → bytes_at new (get_or at k 0) 1 ≡ bytes_at old (get_or at k 0) 1)
     → read_at new at ≡ read_at old at
@@ -174,7 +174,7 @@ read_keeps old new at same =
 place_apart : (place from n : ℕ) → IsBeside place from n → IsApart from n place 1
 place_apart place from n beside = grind arith
 
--- the data of a command stays where only bytes that its pages are outside of are other ones
+-- the data of a command doesn't change if only bytes outside its pages change
 pub data_beside : (t : Setting) (x : Sent) (base n : ℕ) (old new : List ℕ) → 0 < t.page_size
     → x.offset + data_length x ≤ length x.pages * t.page_size → AreOutside t.page_size x base n
     → ChangesOnly base n old new
@@ -189,24 +189,24 @@ data_beside t x base n old new some enough outside only =
 
 -- ---- what a command's pages and one ring change
 
--- a part of what the pages are outside of
+-- a part of what is outside the pages is outside them
 pub outside_part : (t : Setting) (x : Sent) (from n a k : ℕ) → AreOutside t.page_size x from n
     → from ≤ a → a + k ≤ from + n → AreOutside t.page_size x a k
 outside_part t x from n a k outside low high i d h = grind (arith, outside i d h)
 
--- only the pages of x and the n bytes from `base` on are other ones
+-- only the pages of x and the n bytes from `base` on change
 abbrev pub ChangesOnlyAt : Setting → Sent → ℕ → ℕ → List ℕ → List ℕ → Type 0
 ChangesOnlyAt t x base n old new =
     (from k : ℕ) → AreOutside t.page_size x from k → IsApart base n from k → bytes_at new from k ≡ bytes_at old from k
 
--- a part of what the pages and those n bytes are outside of stays
+-- a part doesn't change if it is outside the pages and those n bytes
 part_keeps : (t : Setting) (x : Sent) (old new : List ℕ) (base n from size at k : ℕ) → ChangesOnlyAt t x base n old new
     → AreOutside t.page_size x from size → IsApart base n from size → from ≤ at → at + k ≤ from + size
     → bytes_at new at k ≡ bytes_at old at k
 part_keeps t x old new base n from size at k only outside apart low high =
     only at k (outside_part t x from size at k outside low high) (grind (arith, apart))
 
--- a slot of the one ring stays where only the other ring and pages outside of both are other ones
+-- a slot of one ring doesn't change if only the other ring and pages outside both change
 pub completion_stays : (t : Setting) (x : Sent) (old new : List ℕ) (s : ℕ)
     → ChangesOnlyAt t x t.sq (64 * t.depth) old new → AreOutside t.page_size x t.cq (16 * t.depth)
     → IsApart t.sq (64 * t.depth) t.cq (16 * t.depth) → s < t.depth
@@ -223,7 +223,7 @@ submission_stays t x old new s only outside rings below =
     ap sqe_of_bytes (part_keeps t x old new t.cq (16 * t.depth) t.sq (64 * t.depth) (t.sq + 64 * s) 64 only outside
     (grind (arith, rings)) (omega arith) (omega arith))
 
--- the data of another command stays
+-- the data of another command doesn't change
 pub data_stays : (t : Setting) (x y : Sent) (base n : ℕ) (old new : List ℕ) → 0 < t.page_size
     → y.offset + data_length y ≤ length y.pages * t.page_size → ChangesOnlyAt t x base n old new
     → AreApart y x → AreOutside t.page_size y base n
@@ -236,7 +236,7 @@ data_stays t x y base n old new some enough only apart outside =
     (place_apart (get_or (places t.page_size y) k 0) base n
     (place_beside t.page_size y base n k some enough outside inside)))
 
--- what the host sends stays where the data does
+-- what the host sends doesn't change if the data doesn't
 pub holds_sent_on : (t : Setting) (x : Sent) (old new : List ℕ)
     → read_at new (places t.page_size x) ≡ read_at old (places t.page_size x)
     → HoldsSent t.page_size x old → HoldsSent t.page_size x new
@@ -245,7 +245,7 @@ holds_sent_on t x old new same holds =
 
 -- ---- the pages of a command's list
 
--- a page of the list stays
+-- a page of the list doesn't change
 abbrev PageStays : ℕ → Sent → List ℕ → List ℕ → ℕ → Type 0
 PageStays page_size x old new i =
     bytes_at new (get_or (own_pages x) i 0 * page_size) page_size ≡ bytes_at old
@@ -260,11 +260,11 @@ both_stay page_size x old new len same = record {
   in_second = λ many. same 1 (omega arith);
 }
 
--- another page's bytes are outside of a page
+-- another page's bytes are outside a page
 whole_page : (page_size p q : ℕ) → p ≢ q → IsOutside page_size q (p * page_size) page_size
 whole_page page_size p q differ = grind (arith, pages_apart page_size p q differ)
 
--- where the command's own data is written
+-- the list doesn't change when the command's own data is written
 pub written_list : (page_size : ℕ) (x : Sent) (bytes written : List ℕ) → 0 < page_size
     → x.offset + data_length x ≤ length x.pages * page_size → AreDistinct (own_pages x)
     → KeepsList (pointed page_size x bytes) x.first x.second (written_at bytes (places page_size x) written)
@@ -285,7 +285,7 @@ written_list page_size x bytes written some enough distinct =
 beside : (page_size page base n : ℕ) → IsOutside page_size page base n → IsApart base n (page * page_size) page_size
 beside page_size page base n outside = grind arith
 
--- where only bytes that its pages are outside of are other ones
+-- the list doesn't change if only bytes outside its pages change
 list_beside : (t : Setting) (x : Sent) (base n : ℕ) (old new : List ℕ) → length new ≡ length old
     → AreOutside t.page_size x base n → ChangesOnly base n old new
     → KeepsList (pointed t.page_size x old) x.first x.second new
@@ -294,7 +294,7 @@ list_beside t x base n old new len outside only =
     (λ i low. let page = get_or (own_pages x) i 0 in
     only (page * t.page_size) t.page_size (beside t.page_size page base n (outside i 0 (omega arith))))
 
--- where another command's pages change
+-- the list doesn't change if another command's pages change
 list_stays : (t : Setting) (x y : Sent) (base n : ℕ) (old new : List ℕ) → length new ≡ length old
     → ChangesOnlyAt t x base n old new → AreApart y x → AreOutside t.page_size y base n
     → KeepsList (pointed t.page_size y old) y.first y.second new
@@ -311,7 +311,7 @@ pub record Stays (t : Setting) (x : Sent) (old new : List ℕ) : Type 0 where
   pub list : KeepsList (pointed t.page_size x old) x.first x.second new
   pub read : read_at new (places t.page_size x) ≡ read_at old (places t.page_size x)
 
--- where only bytes that its pages are outside of are other ones
+-- both don't change if only bytes outside the command's pages change
 pub stays_beside : (t : Setting) (x : Sent) (base n : ℕ) (old new : List ℕ) → 0 < t.page_size
     → length new ≡ length old → x.offset + data_length x ≤ length x.pages * t.page_size
     → AreOutside t.page_size x base n → ChangesOnly base n old new → Stays t x old new
@@ -320,7 +320,7 @@ stays_beside t x base n old new some len enough outside only = record {
   read = data_beside t x base n old new some enough outside only;
 }
 
--- where another command's pages change too
+-- both don't change even if another command's pages change
 pub stays_apart : (t : Setting) (x y : Sent) (base n : ℕ) (old new : List ℕ) → 0 < t.page_size
     → length new ≡ length old → ChangesOnlyAt t x base n old new
     → y.offset + data_length y ≤ length y.pages * t.page_size → AreApart y x → AreOutside t.page_size y base n

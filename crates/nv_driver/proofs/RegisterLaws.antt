@@ -1,4 +1,4 @@
--- The registers of a controller as it is enabled.
+-- The registers of a controller while it is enabled.
 use Rattle.std.proofs.Common.{◌≡◌, ◌∙◌, ℕ, zero, suc, ◌+◌, ◌-◌, ◌*◌, ◌/◌, ◌%◌, ◌^◌, ◌<◌, ◌≤◌, ap, sym}
 use Rattle.std.proofs.Common.{refl, below_more, arith}
 use Rattle.std.proofs.Common.{true, false, List, length, map, slice_set}
@@ -33,7 +33,7 @@ pub set_twice : (a b e : List RegisterBank) (c : ℕ) (p q : RegisterBank) → b
     → e ≡ slice_set a c q
 set_twice a b e c p q is more = more ∙ ap (λ x. slice_set x c q) is ∙ set-set a c p q
 
--- to p and then to f p
+-- they change to p and then to f p
 pub then_own : (a b e : List RegisterBank) (c : ℕ) (p : RegisterBank) (f : RegisterBank → RegisterBank) → c < length a
     → b ≡ slice_set a c p
     → e ≡ slice_set b c (f (bank_at b c)) → e ≡ slice_set a c (f p)
@@ -145,7 +145,7 @@ pub started : (a b : List RegisterBank) (c : ℕ) (g : Geometry) (x : ℕ) → H
     → b ≡ slice_set a c (idle_bank (mps_of g.page_size) g.page_size (pair_of g c))
 started a b c g x has is value written = written ∙ ap (slice_set a c) (started_bank (bank_at a c) g c x has is value)
 
--- and then it is ready
+-- after that it is ready
 pub is_started : (a e : List RegisterBank) (c : ℕ) (g : Geometry) (r : Result (Unit {0}) DriverError) → c < length a
     → e ≡ slice_set a c (idle_bank (mps_of g.page_size) g.page_size (pair_of g c))
     → MatchResult r (λ _. is_ready (bank_at e c).readiness ≡ true)
@@ -170,7 +170,7 @@ enabled_banks a b d e c g p h first second third =
 
 -- ---- all controllers
 
--- one controller more has its registers
+-- one more controller has its registers
 pub below_set : (a b : List RegisterBank) (c : ℕ) (f : ℕ → RegisterBank) → c < length a → b ≡ slice_set a c (f c)
     → ((k : ℕ) → k < c → bank_at a k ≡ f k) → (k : ℕ) → k < c + 1 → bank_at b k ≡ f k
 below_set a b c f h is below =
@@ -178,7 +178,7 @@ below_set a b c f h is below =
     (λ k l. ap (λ x. bank_at x k) is ∙ get_or-set_other a c k (f c) new_bank (omega arith) ∙ below k l)
     (ap (λ x. bank_at x c) is ∙ get_or-set_same a c (f c) new_bank h)
 
--- and those above stay
+-- the registers of the controllers above don't change
 pub above_set : (a b o : List RegisterBank) (c : ℕ) (p : RegisterBank) → b ≡ slice_set a c p
     → ((k : ℕ) → c ≤ k → bank_at a k ≡ bank_at o k) → (k : ℕ) → c + 1 ≤ k → bank_at b k ≡ bank_at o k
 above_set a b o c p is above k h =

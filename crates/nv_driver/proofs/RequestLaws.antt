@@ -23,7 +23,7 @@ room_of (FromHost n) is = (omega (arith, is), omega (arith, is))
 same_moves : (r : Result Transfer StatusCode) (m n : Transfer) → r ≡ Ok m → r ≡ Ok n → m ≡ n
 same_moves r m n is other = cc
 
--- to each controller, whose limit is four pages at least
+-- it is one for each controller, whose limit is at least four pages
 pub is_request : (limit : ℕ) (k : Command) → 16384 ≤ limit → CanBeSent k → IsRequest limit (request_of k)
 is_request limit k enough can =
     let m = transfer_by k in

@@ -1,4 +1,4 @@
--- What becomes of the subsystem and of queue pairs where controllers are disabled and reset.
+-- The subsystem and the queue pairs when controllers are disabled and reset.
 use Rattle.std.specs.Prelude.{replicate, if◌then◌else◌, slice_index_or, slice_set}
 use Rattle.std.proofs.Common.{◌≡◌, ◌∙◌, ℕ, ◌+◌, ◌*◌, ◌≤◌, List, ap, arith, inl, inr, length, ◌<◌, Bool, false, refl}
 use Rattle.std.proofs.Common.{subst, sym}
@@ -30,7 +30,7 @@ use Rattle.nv_driver.specs.declared.geometry.Geometry.{Geometry}
 abbrev pub zeros : QueuePairFields → List ℕ
 zeros l = replicate (16 * l.completion.depth) 0
 
--- the ring lies between the submission ring and the pages
+-- the ring is between the submission ring and the pages
 pub record RingLies (page_size size : ℕ) (l : QueuePairFields) (v : QueuePair) : Type 0 where
   pub low : v.sq ≤ l.completion.base
   pub high : l.completion.base + length (zeros l) ≤ (v.first_page + v.page_count) * page_size
@@ -73,7 +73,7 @@ enabled_at banks c h = get_or-map (λ (p : RegisterBank). is_enabled p.readiness
 
 -- ---- each enabled one
 
--- a controller more
+-- one more controller
 pub states_more : (a o : List RegisterBank) (s mid new : State) (c : ℕ) → c < length a → c < length o
     → bank_at a c ≡ bank_at o c
     → mid ≡ reset_first (enabled_in o) c s → new ≡ reset_if (enabled_in a) mid c
@@ -91,7 +91,7 @@ states_all o s new c all is =
 
 -- ---- a reset
 
--- what a reset leaves of a quiet queue pair
+-- what a reset leaves of a queue pair without outstanding commands
 pub ready_again : {g : Geometry} {b b' : BusValue} {c : ℕ} {l l' : QueuePairFields} {now page : ℕ}
     {bytes mem : List ℕ} → IsReady g b c l now bytes
     → IsPlaced g c (pair_value l) → page ≡ now → IsQuiet l' → pair_value l' ≡ renewed_pair (pair_value l)

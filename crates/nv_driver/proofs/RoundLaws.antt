@@ -1,4 +1,4 @@
--- A list of commands on its way: doorbells, turns and its end.
+-- A list of commands while it is executed: doorbells, turns and its end.
 use Rattle.std.specs.Prelude.{slice_set}
 use Rattle.std.proofs.Common.{min, ◌≡◌, ◌∙◌, ℕ, ◌+◌, ◌-◌, ◌<◌, ◌≤◌, ◌==◌, Bool, List, ap, arith, false, inl, inr}
 use Rattle.std.proofs.Common.{length, not, refl, subst, sym, take, true}
@@ -203,9 +203,9 @@ turns_on {r} {bells} {turns} {b} {l} {now} {now'} {bytes} {mem} {bus} {bus'} {as
       number_is = omega (arith, turn_takes t r.bus.state most w w' u.keeps happens);
     }
 
--- ---- the head was told
+-- ---- the head doorbell was rung
 
--- what a batch ensures that tells the head
+-- what a batch promises when it rings the head doorbell
 abbrev pub IsTold : Batch → QueuePairFields → BusValue → Batch → QueuePairFields → BusValue → Type 0
 IsTold b l m b' l' m' = record {
   batch : b' ≡ record b { told = b.collected };
@@ -226,7 +226,7 @@ tells_on {r} {bells} {turns} {b} {now = now} {bytes = bytes} u is t = (
   bus_tells u is u.controller t.state t.bus t.told t.silent,
 )
 
--- a turn that takes none while a command waits finds no free slot
+-- a turn that takes none while a command is waiting finds no free slot
 pub none_free : {r : Run} {bells turns : ℕ} {b : Batch} {l : QueuePairFields} {now : ℕ} {mem : List ℕ}
     {bus : BusValue} {most count : ℕ}
     (h : HasTurned r bells turns b l now mem bus most count) → count ≡ 0 → 1 ≤ most → turns < bells → b.told < turns
@@ -240,7 +240,7 @@ none_free {r} {bells} {turns} {b} {l} {now} {mem} {bus} {most} {count} h none so
     no_slot : (waiting free : ℕ) → 1 ≤ waiting → 0 ≡ min most (min waiting free) → free ≡ 0
     no_slot waiting free more is = omega arith
 
--- a round comes further: it collects an answer, or tells what wasn't told
+-- a round makes progress: it collects an answer, or reports what wasn't reported
 pub comes_further : (n : ℕ) (b b' : Batch) → b.collected < n → b.collected ≤ b'.collected
     → (b'.collected ≡ b.collected → (b.told < b.collected) × (b'.told ≡ b.collected)) → left_of n b' < left_of n b
 comes_further n b b' some more none =

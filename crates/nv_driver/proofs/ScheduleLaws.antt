@@ -1,4 +1,4 @@
--- Bytes that stay, writes elsewhere, and every schedule.
+-- Bytes that don't change, writes elsewhere, and every schedule.
 use Rattle.std.proofs.Common.{◌≡◌, ◌∙◌, ℕ, ◌+◌, ◌≤◌, List, [], ◌∷◌, ◌++◌, arith, get_or, inl, inr, length}
 use Rattle.std.proofs.Common.{length-append, refl, subst, sym, suc, ◌-◌, ◌*◌, ◌<◌, ap, ◌≢◌, All}
 use Rattle.std.proofs.lemmas.List.{get_or_append_left, get_or_push}
@@ -23,12 +23,12 @@ use Rattle.nv_driver.proofs.PointerLaws.{stays_in}
 use Rattle.nv_driver.proofs.RegionLaws.{holds_sent_on, length-places, place_page, read_keeps}
 use Rattle.nv_driver.proofs.KeptLaws.{bell_keeps, collect_keeps, idle_keeps, is_found, tell_keeps}
 
--- ---- bytes that stay as long as the host doesn't write elsewhere
+-- ---- bytes that don't change as long as the host doesn't write elsewhere
 
 pub others_now : (t : Setting) (w : World) → OthersStay t (length w.answers) w.mem w
 others_now t w = record { since = omega arith; same = λ from n apart. refl }
 
--- what lies in no page of the commands from one on lies in no page of those from a later one on
+-- what is in no page of the commands from one on is in no page of those from a later one on
 later_others : (t : Setting) (first later : ℕ) (sent : List Sent) (from n : ℕ) → first ≤ later
     → AreOthers t first sent from n → AreOthers t later sent from n
 later_others t first later sent from n order apart = record {
@@ -99,7 +99,7 @@ submit_others t s first old x w w' keeps stay happens =
 
 -- ---- the host writes elsewhere
 
--- a part of bytes that stay
+-- a part of bytes that don't change
 part_same : (old new : List ℕ) (from n part k : ℕ) → bytes_at new from n ≡ bytes_at old from n → from ≤ part
     → part + k ≤ from + n → bytes_at new part k ≡ bytes_at old part k
 part_same old new from n part k same low high =

@@ -1,4 +1,4 @@
--- What a submission keeps.
+-- What doesn't change at a submission.
 use Rattle.std.proofs.Common.{◌≡◌, ◌∙◌, ℕ, ◌+◌, ◌*◌, ◌<◌, ◌≤◌, List, [], ◌∷◌, ◌++◌, ap, arith, get_or, inl, inr, length}
 use Rattle.std.proofs.Common.{length-append, subst, sym}
 use Rattle.std.proofs.lemmas.Bool.{cases_lt}
@@ -37,7 +37,7 @@ changes_only t w x ready some inside prepared from n outside apart =
     submission_keeps ready (submit_ring t (length w.sent) (length w.answers)) (entry x) from n some
     inside apart ∙ prepared.others from n outside
 
--- a submission slot stays while the pages of a command are made ready
+-- a submission slot doesn't change while the pages of a command are prepared
 slot_stays : (t : Setting) (x : Sent) (old ready : List ℕ) (s : ℕ)
     → IsPrepared t.page_size x old ready → AreOutside t.page_size x t.sq (64 * t.depth) → s < t.depth
     → submission_at ready t.sq s ≡ submission_at old t.sq s
@@ -119,7 +119,7 @@ module _ (t : Setting) (s : State) (x : Sent) (w : World) (ready : List ℕ) (k 
   only : ChangesOnlyAt t x t.sq (64 * t.depth) w.mem next.mem
   only = changes_only t w x ready some_slots inside prepared
 
-  -- its own list and data since its pages were made ready, and those of others
+  -- its own list and data since its pages were prepared, and those of others
   own_stays : Stays t x ready next.mem
   own_stays = stays_beside t x t.sq (64 * t.depth) ready next.mem some (length-after t w x ready some_slots inside)
       may.buffer.enough may.submissions (λ from i apart. submission_keeps ready

@@ -1,4 +1,4 @@
--- The pages of a command, as `build` wants them.
+-- The pages of a command, as `build` requires them.
 use Rattle.std.proofs.Common.{◌≡◌, ◌∙◌, ℕ, suc, ◌+◌, ◌*◌, ◌^◌, ◌<◌, ◌≤◌, All, List, [], ◌∷◌, OnOk, Ok, Result, ap}
 use Rattle.std.proofs.Common.{arith, drop, get_or, length, length-drop, length-take, slice_index, subst, sym, take}
 use Rattle.std.proofs.Math.Nat.{mul-le-mul_right}
@@ -28,7 +28,7 @@ use Rattle.nv_driver.proofs.RegionLaws.{written_list}
 use Rattle.nv_driver.proofs.PointerLaws.{seven_pages, stays_in}
 use Rattle.nv_driver.proofs.RegionLaws.{buffer_data, data_keeps}
 
--- two, and the rest
+-- the first two, and the rest
 pub first_two : (numbers : List ℕ) (n : ℕ) → 2 ≤ length numbers
     → take (n + 2) numbers ≡ slice_index numbers 0 ∷ slice_index numbers 1 ∷ take n (drop 2 numbers)
 first_two [] n h = absurd (omega arith)
@@ -87,7 +87,7 @@ buffer_of g s p bytes page_size len is page h enough =
       inside = λ i d below. each_inside s p g.page_size bytes h (suc (suc i)) d (omega arith);
     })
 
--- the same buffer, and its places, by other names
+-- the same buffer and its places, under other names
 pub buffer_as : {bytes pages pages' : List ℕ} {size size' from from' len len' : ℕ}
     → size ≡ size' → pages ≡ pages' → from ≡ from' → len ≡ len'
     → IsBuffer bytes size pages from len → IsBuffer bytes size' pages' from' len'
@@ -128,7 +128,7 @@ pub record IsBuilt (page_size : ℕ) (x : Sent) (old built : List ℕ) : Type 0 
   pub prp2 : x.prp2 < 2 ^ 64
   pub stays : StaysNamed page_size x built
 
--- what `build` ensures
+-- what `build` promises
 pub built_by : (size : ℕ) (x : Sent) (old built : List ℕ) (page_size now len : ℕ)
     → page_size ≡ size → now ≡ page_size → len ≡ data_length x
     → x.prp1 < 2 ^ 64 → x.prp2 < 2 ^ 64
@@ -140,7 +140,7 @@ built_by size x old built page_size now len page after is_len first second stays
     λ from n outside. others from n (rw page (outside 0 0 (omega arith))) (rw page (outside 1 0 (omega arith))) in
     let named : StaysNamed size x built = rw (after ∙ page, is_len) at stays in assumption
 
--- and where what the host sends was written, the command is prepared
+-- after the data of the host was written, the command is prepared
 pub prepared_by : (page_size : ℕ) (x : Sent) (old built new : List ℕ) → IsPageSize page_size
     → length x.request.sends ≡ bytes_from_host x.request.transfer
     → IsBuffer old page_size x.pages x.offset (data_length x)

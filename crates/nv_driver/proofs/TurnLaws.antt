@@ -1,4 +1,4 @@
--- What a turn keeps.
+-- What doesn't change in a turn.
 use Rattle.std.proofs.Common.{◌≡◌, ◌∙◌, ℕ, zero, suc, ◌+◌, ◌<◌, [], ap, arith, length, refl, subst, sym}
 use Rattle.nv_host.specs.Bytes.{bytes_at}
 use Rattle.nv_command.specs.declared.command.Command.TheVariants.{ActiveList}
@@ -14,7 +14,7 @@ use Rattle.nv_driver.proofs.EntryLaws.{entry_keeps, entry_others, world_after}
 use Rattle.nv_driver.specs.Keeping.{Keeps}
 use Rattle.nv_driver.proofs.EntryLaws.{is_done, can_go, now}
 
--- a command that stands for none
+-- a placeholder for a command
 abbrev pub no_command : Sent
 no_command = record {
   request = request_of (ActiveList 0);
@@ -28,7 +28,7 @@ no_command = record {
   prp2 = 0;
 }
 
--- the schedule with so many entries done, and after so many more
+-- the schedule when this number of entries was executed, after others
 abbrev world_done : Setting → World → ℕ → Scene → World
 world_done t w n y = record w {
   mem = y.bytes;
@@ -40,7 +40,7 @@ world_done t w n y = record w {
 abbrev pub world_with : Setting → World → ℕ → Scene → World
 world_with t w count y = world_done t w (w.done + count) y
 
--- the schedule holds, the scene has its rings, and other bytes stay
+-- the schedule holds, the scene has its rings, and other bytes don't change
 pub record Reaches (t : Setting) (s : State) (w : World) (count : ℕ) (y : Scene) : Type 0 where
   pub keeps : Keeps t s (world_with t w count y)
   pub rings : y.rings ≡ device_rings t w.rung (w.done + count) w.told
@@ -150,7 +150,7 @@ turn_keeps t s most w w' k happens =
     ∙ ap (λ rings. record (world_with t w count last) { bank = bank_with t rings }) r.reached.rings))
     r.reached.keeps
 
--- other bytes stay
+-- other bytes don't change
 pub turn_leaves : (t : Setting) (s : State) (most : ℕ) (w w' : World) → Keeps t s w → Happens t (Turn most) w w'
     → (from n : ℕ) → AreOthers t (length w.answers) w.sent from n → bytes_at w'.mem from n ≡ bytes_at w.mem from n
 turn_leaves t s most w w' k happens from n apart =

@@ -1,4 +1,4 @@
--- A list of commands on its way: what is known of it, and submissions.
+-- A list of commands while it is executed: what is known about it, and submissions.
 use Rattle.std.specs.Prelude.{None, Option, Some, set}
 use Rattle.std.proofs.Common.{◌≡◌, ◌≢◌, ◌∙◌, ℕ, ◌+◌, ◌-◌, ◌*◌, ◌%◌, ◌<◌, ◌≤◌, All, List, [], ◌∷◌, ◌++◌, ap, arith, drop}
 use Rattle.std.proofs.Common.{get_or, length, length-append, length-drop, refl, subst, sym, take, true, inl}
@@ -48,9 +48,9 @@ use Rattle.nv_driver.proofs.TurnLaws.{no_command}
 use Rattle.nv_driver.proofs.WindowPageLaws.{few_pages, fresh, page_of_one, pages-append, taken_also, taken_len}
 use Rattle.nv_driver.proofs.WindowPageLaws.{without_also}
 
--- ---- what is known on the way
+-- ---- what is known meanwhile
 
--- the pages that the outstanding commands have
+-- the pages of the outstanding commands
 abbrev pub held : {r : Run} {bells turns : ℕ} {b : Batch} {l : QueuePairFields} {now : ℕ}
     {bytes : List ℕ} → IsUnderWay r bells turns b l now bytes → List ℕ
 held {r} {bells} {turns} {b} u = pages_of_all (drop b.collected u.course.sent)
@@ -117,7 +117,7 @@ module _ {r : Run} {bells turns : ℕ} {b : Batch} {l : QueuePairFields} {now : 
       let is = subst IsSubmitFull (ap (λ (q : QueuePairFields). q.submission) u.pair) full in
       omega (arith, far, is, more, window.2, u.begun.depth)
 
--- the tail after one command more
+-- the tail after one more command
 pub tail_after : {r : Run} {bells turns : ℕ} {b : Batch} {l : QueuePairFields} {now : ℕ} {bytes : List ℕ}
     (u : IsUnderWay r bells turns b l now bytes) (n tail : ℕ)
     → n ≡ b.sent → tail ≡ slot_of l.submission.depth
@@ -130,17 +130,17 @@ tail_after {r} {bells} {turns} {b} u n tail sent is =
 
 -- ---- a submission
 
--- a part before a set's pages
+-- a part before a set's pages is outside them
 before_pages : (s : Pages) (x : Sent) (page_size from n : ℕ) → All (λ p. IsOf s.first s.count p) (own_pages x)
     → from + n ≤ s.first * page_size → AreOutside page_size x from n
 before_pages s x page_size from n own low i d h = inl (omega (arith, mul-le-mul_right page_size (own i d h).0))
 
--- the pages of the outstanding commands, with one command more
+-- the pages of the outstanding commands and of one more
 held_more : (xs : List Sent) (x : Sent) (n : ℕ) → n ≤ length xs
     → pages_of_all (drop n (xs ++ x ∷ [])) ≡ pages_of_all (drop n xs) ++ own_pages x
 held_more xs x n low = ap pages_of_all (drop-append-le n xs (x ∷ []) low) ∙ pages-append (drop n xs) x
 
--- commands fewer than sixteen apart have two places in the window
+-- commands that are fewer than sixteen apart have different slots in the window
 two_places : (n m : ℕ) → n < m → m < n + 16 → n % 16 ≢ m % 16
 unfolding slot_of
 two_places n m l h = λ same. slots_apart 16 m n l h (sym same)
@@ -200,7 +200,7 @@ module _ {r : Run} {bells turns : ℕ} {b : Batch} {l l' : QueuePairFields} {now
       let put = sub.mem ∙ ap (λ q. with_submission sub.ready q (entry new_one)) ring in
       (may can, sub.ready, sub.prepared, ap (λ m. record w { mem = m; sent = w.sent ++ new_one ∷ [] }) put)
 
-  -- the window keeps the places of the others, and has one more
+  -- the window keeps the slots of the others, and has one more
   kept_more : (n : ℕ) (d : Sent) → b.collected ≤ n → n < b.sent + 1
       → IsKept r (kept_at (set b.outstanding (b.sent % 16) (Some o)) n) (get_or (u.course.sent ++ new_one ∷ []) n d)
   kept_more n d from below =
@@ -289,7 +289,7 @@ module _ {r : Run} {bells turns : ℕ} {b : Batch} {l l' : QueuePairFields} {now
         pair = pair_new;
       }
 
--- the same by the number that a loop has come to
+-- the next submission, by the number that a loop has reached
 pub submits_at : {r : Run} {bells turns : ℕ} {b : Batch} {l l' : QueuePairFields} {now now' n : ℕ}
     {bytes mem : List ℕ} {g : Geometry} {k : Command} {ks : List Command}
     {o : CommandPages} (u : IsUnderWay r bells turns b l now bytes) (e : Command) → b.sent ≡ n

@@ -19,12 +19,12 @@ use Rattle.nv_driver.specs.UnderWay.{pages_of_all}
 use Rattle.nv_driver.proofs.PageSetLaws.{Taking, difference_in, in_all, is_in, left_in, not_before, not_in, same_pages}
 use Rattle.nv_driver.proofs.PageSetLaws.{taking_more, taking_none, union_in, without_none}
 
--- ---- lists of pages, one after the other
+-- ---- lists of pages, one after another
 
 is_in-append : (ps qs : List ℕ) (q : ℕ) → is_in (ps ++ qs) q ≡ (is_in ps q || is_in qs q)
 is_in-append ps qs q = list_any-append (λ y. nat_eq y q) ps qs
 
--- what holds of all pages holds of those of a part
+-- what holds for all pages holds for those of a part
 all_left : (P : ℕ → Type 0) (ps qs : List ℕ) → All P (ps ++ qs) → All P ps
 all_left P ps qs each i d h =
     subst P (get_or_append_left ps qs d i h) (each i d (omega (arith, length-append ps qs)))
@@ -43,7 +43,7 @@ pairs_right ps qs each i j d before h = λ same.
     each (length ps + i) (length ps + j) d (omega arith) (omega (arith, length-append ps qs))
     (get_or-append-add ps qs i d ∙ same ∙ sym (get_or-append-add ps qs j d))
 
--- a page of the first part is none of the second
+-- a page of the first part is not in the second
 apart_in : (ps qs : List ℕ) → AllPairs (λ p q. p ≢ q) (ps ++ qs) → (q : ℕ) → is_in ps q ≡ true → is_in qs q ≡ false
 apart_in ps qs each q there =
     in_all (λ p. is_in qs p ≡ false) ps q
@@ -51,7 +51,7 @@ apart_in ps qs each q there =
     each i (length ps + j) d (omega arith) (omega (arith, length-append ps qs))
     (get_or_append_left ps qs d i h ∙ sym same ∙ get_or_default qs j e d k ∙ sym (get_or-append-add ps qs j d)))) there
 
--- pairs of two parts that have no page in common
+-- two parts with distinct pages that have no page in common
 pairs_append : (ps qs : List ℕ) → AllPairs (λ p q. p ≢ q) ps → AllPairs (λ p q. p ≢ q) qs
     → All (λ q. is_in ps q ≡ false) qs
     → AllPairs (λ p q. p ≢ q) (ps ++ qs)
@@ -95,7 +95,7 @@ taken_also s ps qs first second = record {
 pub without_also : (s : Pages) (ps qs : List ℕ) → without (without s ps) qs ≡ without s (ps ++ qs)
 without_also s ps qs = same_pages s _ _ (λ q. grind (arith, difference_in, is_in-append))
 
--- a page that is taken is none of those that were taken before
+-- a page that is taken was not taken before
 pub fresh : (s : Pages) (ps qs : List ℕ) → AreTaken (without s ps) qs → (i d : ℕ) → i < length qs
     → is_in ps (get_or qs i d) ≡ false
 fresh s ps qs second i d h = (left_in s ps (get_or qs i d) (second.had i d h)).1
@@ -148,7 +148,7 @@ pages-append [] x = append-nil (own_pages x)
 pages-append (y ∷ xs) x = ap (λ rest. own_pages y ++ rest) (pages-append xs x)
     ∙ sym (append_assoc (own_pages y) (pages_of_all xs) (own_pages x))
 
--- a page of one of them is one of all
+-- a page of one of the commands is one of all their pages
 pub page_of_one : (xs : List Sent) (n : ℕ) (d : Sent) (q : ℕ) → n < length xs
     → is_in (own_pages (get_or xs n d)) q ≡ true → is_in (pages_of_all xs) q ≡ true
 page_of_one [] n d q h e = absurd (omega arith)
@@ -156,7 +156,7 @@ page_of_one (x ∷ xs) zero d q h e = grind (arith, is_in-append (own_pages x) (
 page_of_one (x ∷ xs) (suc n) d q h e =
     grind (arith, is_in-append (own_pages x) (pages_of_all xs) q, page_of_one xs n d q (omega arith) e)
 
--- commands of so many pages or fewer
+-- commands with at most this number of pages
 pub few_pages : (m : ℕ) (xs : List Sent) → ((n : ℕ) (d : Sent) → n < length xs
     → length (own_pages (get_or xs n d)) ≤ m) → length (pages_of_all xs) ≤ length xs * m
 few_pages m [] few = omega arith

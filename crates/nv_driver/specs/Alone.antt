@@ -1,4 +1,4 @@
--- A request of a controller on its way alone, over a queue pair of which no command is outstanding.
+-- A request to a controller on its own, over a queue pair without other outstanding commands.
 use Rattle.std.specs.Prelude.{◌≡◌, ℕ, List, [], ◌∷◌, Ok, length, slice_set}
 use Rattle.nv_layout.specs.declared.sqe.Sqe.{Sqe}
 use Rattle.nv_command.specs.Logs.{without_phases}
@@ -18,31 +18,31 @@ use Rattle.nv_driver.specs.Schedule.{Sent, World, collect_ring, submit_ring}
 use Rattle.nv_driver.specs.UnderWay.{Run, setting_of}
 use Rattle.nv_driver.specs.declared.queue_pair.QueuePair.{QueuePair as QueuePairFields}
 
--- ---- what it does
+-- ---- its effect
 
--- what an entry and the bytes that the host has to send do on controller c, under a command
--- identifier: its command's step, or the refusal of the first rule that it breaks
+-- the effect of an entry and of the host's bytes on controller c, under a command identifier: its
+-- command's step, or the refusal of the first rule that it breaks
 abbrev pub asked_in : State → ℕ → Sqe → List ℕ → Asked
 asked_in s c e bytes = (request_for (limit_of s c) e bytes).asked
 
 abbrev pub entry_step : State → ℕ → Sqe → List ℕ → ℕ → Step
 entry_step s c e bytes cid = asked_step (asked_in s c e bytes) s c e.nsid cid
 
--- what comes back to it: the data of a reply, whose entries of the error log have their phase tags,
--- and nothing with a refusal
+-- the bytes that come back: the data of a reply, whose entries of the error log have their phase
+-- tags, and nothing after a refusal
 abbrev pub Comes : Asked → Answer → List ℕ → Type 0
 Comes (Ok k) (Ok reply) came = (r : Reply) × (without_phases r ≡ reply) × (came ≡ data_of k r)
 Comes asked answer came = came ≡ []
 
--- the host gets as many of these bytes as it has room for, and zeros after them
+-- the host receives as many of these bytes as it has room for, and zeros after them
 pub record IsReceived (asked : Asked) (answer : Answer) (out : List ℕ) : Type 0 where
   pub came : List ℕ
   pub comes : Comes asked answer came
   pub filled : out ≡ padded (length out) came
 
--- ---- on its way
+-- ---- while it is outstanding
 
--- over the controller's bus, its queue pair and the memory as a run without commands has them
+-- the controller's bus, its queue pair and the memory, as in a run without commands
 pub record Alone : Type 0 where
   pub run : Run
   pub sent : Sent
@@ -67,7 +67,7 @@ abbrev pub world_of : Alone → BusValue → (rung done told : ℕ) → List Ans
 world_of a bus rung done told answers bytes =
     world_by a bus.state (bank_at bus.banks a.run.controller) rung done told answers bytes
 
--- so far its doorbell was rung, it was done, and its head was told, and these answers were collected
+-- so far `rung` requests were rung for, `done` were executed, `told` were reported, and these answers collected
 pub record IsAlone (a : Alone) (rung done told : ℕ) (answers : List Answer) (l : QueuePairFields)
     (now : ℕ) (bytes : List ℕ) (bus : BusValue) : Type 0 where
   pub begun : IsReady a.run.geometry a.run.bus a.run.controller a.run.pair

@@ -1,4 +1,4 @@
--- What a command is answered, and how it is kept in a slot.
+-- The answer to a command, and how it is stored in a slot.
 use Rattle.std.specs.Prelude.{Option, None, Some, Result, Ok, Err}
 use Rattle.nv_layout.specs.declared.status.Status.{Status}
 use Rattle.nv_command.specs.declared.reply.Reply.{Reply}
@@ -7,7 +7,7 @@ use Rattle.nv_command.specs.declared.reply.Reply.{Reply}
 abbrev pub Answer : Type 0
 Answer = Result Reply Status
 
--- a refusal, or else the reply that is kept beside it
+-- a refusal, or else the reply that is stored beside it
 abbrev pub answer_kept : Reply → Option Status → Answer
 answer_kept reply None = Ok reply
 answer_kept reply (Some status) = Err status

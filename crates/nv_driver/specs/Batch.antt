@@ -11,16 +11,16 @@ use Rattle.nv_driver.specs.Schedule.{Numbered, answers_of_all, state_after_all}
 abbrev pub numbered_command : Command → ℕ → Numbered
 numbered_command k cid = record { asked = Ok k; nsid = namespace_of k; cid = cid }
 
--- commands of which the first one has this serial as its command identifier, and each other one the
--- serial after that of the one before
+-- commands with consecutive serials as their command identifiers, from this one
+-- on
 abbrev pub from_serial : ℕ → List Command → List Numbered
 from_serial serial [] = []
 from_serial serial (k ∷ ks) = numbered_command k serial ∷ from_serial (next_serial serial) ks
 
--- what is received of their answers of controller c in state s
+-- the answers that the host receives to them from controller c in state s
 abbrev pub answers_of : ℕ → State → ℕ → List Command → List Answer
 answers_of c s serial ks = answers_of_all c s (from_serial serial ks)
 
--- and the state afterwards
+-- the state after them
 abbrev pub state_after : ℕ → State → ℕ → List Command → State
 state_after c s serial ks = state_after_all c s (from_serial serial ks)

@@ -1,4 +1,4 @@
--- What a checked geometry stands for, by its fields.
+-- The value of a checked geometry, by its fields.
 use Rattle.nv_driver.specs.declared.checked_geometry.CheckedGeometry.TheInside.{Inside}
 use Rattle.nv_driver.specs.declared.geometry.Geometry.{Geometry}
 

@@ -1,4 +1,4 @@
--- What a driver stands for, by its fields, and what holds of them between two calls.
+-- The value of a driver, by its fields, and what holds for them between two calls.
 use Rattle.std.specs.Prelude.{◌≡◌, ℕ, ◌+◌, ◌*◌, ◌/◌, ◌<◌, ◌≤◌, ◌^◌, All, List, length, map}
 use Rattle.std.specs.Prelude.{slice_index_or, slice_set}
 use Rattle.nv_host.specs.Pages.{PagedBytes}
@@ -19,7 +19,7 @@ abbrev pub driver_value : Geometry → PagedBytes → List QueuePairFields → D
 driver_value g mem pairs =
     record { geometry = g; pages = page_count mem; pairs = map pair_value pairs }
 
--- a driver that was brought up for so many controllers, with more pages behind theirs
+-- a driver that was brought up for this number of controllers, with `more` pages after theirs
 abbrev pub driver_with : Geometry → ℕ → ℕ → DriverValue
 driver_with g controllers more = record {
   geometry = g;
@@ -27,17 +27,17 @@ driver_with g controllers more = record {
   pairs = pairs_of g controllers;
 }
 
--- and with none
+-- a driver without such pages
 abbrev pub new_driver : Geometry → ℕ → DriverValue
 new_driver g controllers =
     record { geometry = g; pages = pages_of g controllers; pairs = pairs_of g controllers }
 
--- behind the pages of its controllers there are those of an entry that is sent as it is
+-- after the pages of its controllers, there are those of an entry that is sent unchanged
 abbrev pub HasEntryPages : DriverValue → Type 0
 HasEntryPages d =
     pages_of d.geometry (length d.pairs) + pages_of_entry d.geometry.page_size ≤ d.pages
 
--- a queue pair lies where it was laid first; only its number and its serial change
+-- a queue pair is where it was first placed; only its number and its serial change
 abbrev pub IsPlaced : Geometry → ℕ → QueuePair → Type 0
 IsPlaced g i l = l ≡ record (pair_of g i) { number = l.number; serial = l.serial }
 
@@ -53,7 +53,7 @@ pub record IsDriver (g : Geometry) (mem : PagedBytes) (pairs : List QueuePairFie
 
 -- ---- a command
 
--- no queue pair of a driver
+-- the queue pair of a controller that a driver doesn't have
 abbrev pub no_pair : QueuePair
 no_pair =
     record { sq = 0; cq = 0; depth = 0; number = 0; serial = 0; first_page = 0; page_count = 0 }
@@ -61,12 +61,12 @@ no_pair =
 abbrev pub pair_at : List QueuePair → ℕ → QueuePair
 pair_at pairs c = slice_index_or pairs c no_pair
 
--- the driver after a command of controller c: the next number and the next command identifier of
--- its queue pair are due
+-- the driver after a command of controller c, whose queue pair has the next number and the next
+-- command identifier
 abbrev pub after_command : DriverValue → ℕ → DriverValue
 after_command d c = record d { pairs = slice_set d.pairs c (after_one (pair_at d.pairs c)) }
 
--- and after so many commands
+-- the driver after n commands of controller c
 abbrev pub after_commands : DriverValue → ℕ → ℕ → DriverValue
 after_commands d c n = record d { pairs = slice_set d.pairs c (after_some n (pair_at d.pairs c)) }
 

@@ -1,4 +1,4 @@
--- What commands of a driver need of a queue pair, and what they leave.
+-- What a driver's commands need of a queue pair, and what they leave behind.
 use Rattle.std.specs.Prelude.{◌≡◌, ℕ, ◌+◌, ◌*◌, ◌%◌, ◌<◌, ◌≤◌, List, length}
 use Rattle.nv_queue.specs.Numbers.{kept_number, next}
 use Rattle.nv_queue.specs.Slots.{HoldsTags}
@@ -13,8 +13,8 @@ use Rattle.nv_driver.specs.Registers.{mps_of}
 use Rattle.nv_driver.specs.declared.geometry.Geometry.{Geometry}
 use Rattle.nv_driver.specs.declared.queue_pair.QueuePair.{QueuePair as QueuePairFields}
 
--- controller c of a bus and a quiet queue pair of it, with pages for each command of the window, in a
--- memory that holds the tags that are due
+-- controller c of a bus and its queue pair without outstanding commands, with pages for each
+-- command of the window, in a memory with the phase tags that are due
 pub record IsReady (g : Geometry) (b : BusValue) (c : ℕ) (l : QueuePairFields) (now : ℕ)
     (bytes : List ℕ) : Type 0 where
   pub geometry : IsGeometry g
@@ -32,7 +32,7 @@ pub record IsReady (g : Geometry) (b : BusValue) (c : ℕ) (l : QueuePairFields)
 abbrev pub after_one : QueuePair → QueuePair
 after_one l = record l { number = next l.depth l.number; serial = next_serial l.serial }
 
--- and after so many
+-- the queue pair after n commands
 abbrev pub after_some : ℕ → QueuePair → QueuePair
 after_some n l =
     record l { number = kept_number l.depth (l.number + n); serial = (l.serial + n) % serial_count }

@@ -12,7 +12,7 @@ use Rattle.nv_driver.specs.declared.geometry_field.GeometryField.TheVariants.{Wi
 unfoldable pub is_between : ℕ → ℕ → ℕ → Bool
 is_between low high x = nat_le low x && nat_le x high
 
--- a multiple of `unit` in a page
+-- a multiple of `unit` that is less than the page size
 unfoldable pub is_offset : ℕ → ℕ → ℕ → Bool
 is_offset unit page_size x = x % unit == 0 && nat_lt x page_size
 
@@ -20,7 +20,7 @@ is_offset unit page_size x = x % unit == 0 && nat_lt x page_size
 unfoldable pub is_window : ℕ → ℕ → Bool
 is_window depth x = is_between 1 16 x && nat_lt x depth
 
--- whether a field keeps its limits
+-- a field, and whether it is within its limits
 pub record GeometryRow : Type 0 where
   pub field : GeometryField
   pub keeps : Bool
@@ -43,7 +43,7 @@ abbrev pub first_fault : List GeometryRow → Option GeometryField
 first_fault [] = None
 first_fault (r ∷ rows) = if r.keeps then first_fault rows else Some r.field
 
--- the first field out of its limits
+-- the first field that is outside its limits
 abbrev pub fault_of : Geometry → Option GeometryField
 fault_of g = first_fault (rows_of g)
 

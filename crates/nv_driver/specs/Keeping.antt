@@ -1,4 +1,4 @@
--- What holds along a schedule, after each of its events.
+-- What holds after each event of a schedule.
 use Rattle.std.proofs.Common.{◌≡◌, ℕ, ◌+◌, ◌*◌, ◌^◌, ◌<◌, ◌≤◌, List, get_or, length, take}
 use Rattle.nv_host.specs.Bytes.{bytes_at}
 use Rattle.nv_host.specs.Pages.{IsPageSize}
@@ -15,7 +15,7 @@ use Rattle.nv_driver.specs.Schedule.{Sent, Setting, StaysNamed, World, after}
 use Rattle.nv_driver.specs.Schedule.{data_length, device_rings, entry, number, own_pages, places}
 use Rattle.nv_driver.specs.Schedule.{bank_with, slot}
 
--- the rings lie in a memory of this size, apart from each other
+-- the rings lie in a memory of this size and don't overlap
 pub record HasRings (t : Setting) (size : ℕ) : Type 0 where
   pub page_size : IsPageSize t.page_size
   pub deep : IsDepth t.depth
@@ -23,7 +23,7 @@ pub record HasRings (t : Setting) (size : ℕ) : Type 0 where
   pub submissions : t.sq + 64 * t.depth ≤ size
   pub completions : t.cq + 16 * t.depth ≤ size
 
--- a command in the memory, whose data and list lie in pages of its own
+-- a command whose data and list are in pages of its own, in the memory
 pub record IsOwn (t : Setting) (size : ℕ) (x : Sent) : Type 0 where
   pub can : IsRequest t.limit x.request
   pub cid : x.cid < 2 ^ 16
@@ -34,7 +34,7 @@ pub record IsOwn (t : Setting) (size : ℕ) (x : Sent) : Type 0 where
   pub submissions : AreOutside t.page_size x t.sq (64 * t.depth)
   pub completions : AreOutside t.page_size x t.cq (16 * t.depth)
 
--- the counts of collected, done, rung, sent and told commands, in this order
+-- k, d, r and m commands were collected, executed, rung for and sent, and the head doorbell was rung for h of them
 pub record AreInOrder (depth k d r m h : ℕ) : Type 0 where
   pub told : h ≤ k
   pub collected : k ≤ d
@@ -43,7 +43,7 @@ pub record AreInOrder (depth k d r m h : ℕ) : Type 0 where
   pub few : m < k + depth
   pub free : d < h + depth
 
--- from commands of controller c on over a well-formed subsystem s
+-- what holds for commands of controller c from a well-formed subsystem s on
 pub record Keeps (t : Setting) (s : State) (w : World) : Type 0 where
   pub placed : HasRings t (length w.mem)
   pub counts : AreInOrder t.depth (length w.answers) w.done w.rung (length w.sent) w.told
@@ -67,8 +67,8 @@ pub record Keeps (t : Setting) (s : State) (w : World) : Type 0 where
   pub tags : HoldsTags w.mem t.cq t.depth (number t w.done)
   pub answers : (n : ℕ) → n < length w.answers → IsCollected t s w n
 
--- since the memory was the old one, bytes stayed that lie in no ring, and in no page of a command
--- from the first of these on
+-- compared with the old memory, bytes have not changed that are in no ring and in no page of a
+-- command from the first of these on
 pub record OthersStay (t : Setting) (first : ℕ) (old : List ℕ) (w : World) : Type 0 where
   pub since : first ≤ length w.answers
   pub same : (from n : ℕ) → AreOthers t first w.sent from n → bytes_at w.mem from n

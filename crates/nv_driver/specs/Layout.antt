@@ -1,5 +1,5 @@
--- How a driver lays out the host's memory: for each controller in turn its submission ring, its
--- completion ring and its page set, each in pages of its own.
+-- The layout of the host's memory: for each controller in turn its submission ring, its completion
+-- ring and its page set, each in pages of its own.
 use Rattle.std.specs.Prelude.{ℕ, ◌+◌, ◌*◌, ◌==◌, List, if◌then◌else◌, map}
 use Rattle.std.specs.Int.{div_ceil}
 use Rattle.std.specs.List.{range_with_len}
@@ -7,7 +7,7 @@ use Rattle.nv_model.specs.Conditions.{greatest_limit}
 use Rattle.nv_driver.specs.QueuePair.{QueuePair}
 use Rattle.nv_driver.specs.declared.geometry.Geometry.{Geometry}
 
--- how many pages a ring of so many slots takes, of 64 bytes for submissions and of 16 for
+-- how many pages a ring takes, with slots of 64 bytes for submissions and of 16 bytes for
 -- completions
 unfoldable pub submission_pages : Geometry → ℕ
 submission_pages g = div_ceil (64 * g.depth) g.page_size
@@ -15,35 +15,35 @@ submission_pages g = div_ceil (64 * g.depth) g.page_size
 unfoldable pub completion_pages : Geometry → ℕ
 completion_pages g = div_ceil (16 * g.depth) g.page_size
 
--- the most bytes that a command's data has
+-- the greatest length of a command's data in bytes
 abbrev pub most_bytes : ℕ
 most_bytes = 16384
 
--- where data of so many bytes begins in its first page
+-- where data of `len` bytes begins in its first page
 abbrev pub offset_for : Geometry → ℕ → ℕ
 offset_for g len = if len == 0 then 0 else g.offset
 
--- the most pages of so many bytes: one more where they begin inside a page, and two of a PRP list that
--- begins inside a page
+-- the greatest number of pages for `most` bytes: one more if they begin inside a page, and two for
+-- a PRP list that begins inside a page
 abbrev pub pages_for : ℕ → ℕ → ℕ
 pages_for most page_size = div_ceil most page_size + 3
 
--- of one command
+-- the pages of one command
 abbrev pub pages_of_command : ℕ → ℕ
 pages_of_command = pages_for most_bytes
 
--- of an entry that is sent as it is: for the most bytes that a controller moves for one
+-- the pages of an entry that is sent unchanged: for the greatest length that a controller transfers for one
 abbrev pub pages_of_entry : ℕ → ℕ
 pages_of_entry = pages_for greatest_limit
 
--- of all outstanding commands
+-- the pages of all outstanding commands
 unfoldable pub set_pages : Geometry → ℕ
 set_pages g = g.window * pages_of_command g.page_size
 
 abbrev pub pair_pages : Geometry → ℕ
 pair_pages g = submission_pages g + completion_pages g + set_pages g
 
--- of all controllers
+-- the pages of all controllers
 abbrev pub pages_of : Geometry → ℕ → ℕ
 pages_of g controllers = controllers * pair_pages g
 

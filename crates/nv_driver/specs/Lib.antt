@@ -17,4 +17,5 @@ pub mod Batch
 pub mod UnderWay
 pub mod Alone
 pub mod Driver
+pub mod Linked
 pub mod inner

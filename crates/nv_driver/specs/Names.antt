@@ -1,4 +1,4 @@
--- The fields of a geometry by name.
+-- The names of the fields of a geometry.
 use Rattle.std.specs.Prelude.{ℕ, List, codes}
 use Rattle.nv_driver.specs.declared.geometry_field.GeometryField.{GeometryField}
 use Rattle.nv_driver.specs.declared.geometry_field.GeometryField.TheVariants.{Depth, PageSize}

@@ -6,8 +6,8 @@ use Rattle.nv_register.specs.declared.readiness.Readiness.TheVariants.{Ready}
 use Rattle.nv_register.specs.declared.rings.Rings.{Rings}
 use Rattle.nv_model.specs.Ranges.{serial_count}
 
--- where its rings and its pages lie, and of its next command the number, as the rings keep it, and
--- the command identifier
+-- the addresses of its rings, its pages, and the number of its next command, as the rings keep it,
+-- with its command identifier
 pub record QueuePair : Type 0 where
   pub sq : ℕ
   pub cq : ℕ
@@ -17,11 +17,11 @@ pub record QueuePair : Type 0 where
   pub first_page : ℕ
   pub page_count : ℕ
 
--- the queue pair after a reset: its numbers begin at 0 again, and the command identifiers go on
+-- the queue pair after a reset: its numbers begin at 0 again, and the command identifiers continue
 abbrev pub renewed_pair : QueuePair → QueuePair
 renewed_pair l = record l { number = 0 }
 
--- rings of this queue pair whose numbers are all that of the next command
+-- rings of this queue pair whose numbers are all those of the next command
 abbrev pub idle_rings : ℕ → QueuePair → Rings
 idle_rings page_size l = record {
   page_size = page_size;
@@ -39,7 +39,7 @@ idle_bank mps page_size l = record {
   acq = l.cq;
 }
 
--- the submission ring, the completion ring and the pages follow one another in a memory of this
+-- the submission ring, the completion ring and the pages come one after another in a memory of this
 -- size
 pub record IsLaid (page_size size : ℕ) (l : QueuePair) : Type 0 where
   pub deep : IsDepth l.depth

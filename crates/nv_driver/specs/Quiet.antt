@@ -1,11 +1,11 @@
--- What a controller's rings and pages stand for where no command is outstanding.
+-- A controller's rings and pages when no command is outstanding.
 use Rattle.std.specs.Prelude.{◌≡◌, false}
 use Rattle.std.specs.FinSet as set
 use Rattle.nv_host.specs.PageSets.{consecutive}
 use Rattle.nv_driver.specs.QueuePair.{QueuePair}
 use Rattle.nv_driver.specs.declared.queue_pair.QueuePair.{QueuePair as QueuePairFields}
 
--- all numbers are that of the next command, and no page is in use
+-- all numbers are those of the next command, and no page is in use
 pub record IsQuiet (l : QueuePairFields) : Type 0 where
   pub depth : l.completion.depth ≡ l.submission.depth
   pub known : l.submission.known ≡ l.submission.submitted

@@ -1,4 +1,4 @@
--- What is sent to a controller: an entry, and data that goes with it.
+-- What is sent to a controller: an entry, and the data that belongs to it.
 use Rattle.std.specs.Prelude.{◌≡◌, ℕ, ◌<◌, ◌≤◌, ◌^◌, ◌++◌, List, Result, Ok, Err, length, replicate}
 use Rattle.std.specs.Prelude.{take}
 use Rattle.nv_layout.specs.Sqe.{SqeFits}
@@ -22,7 +22,7 @@ use Rattle.nv_driver.specs.Answer.{Answer}
 abbrev pub Asked : Type 0
 Asked = Result Command StatusCode
 
--- the entry, which way its data goes and how many bytes, what the host sends, and what it asks for
+-- the entry, the direction and the length of its data, what the host sends, and what it asks for
 pub record Request : Type 0 where
   pub entry : Sqe
   pub transfer : Transfer
@@ -33,13 +33,13 @@ pub record Request : Type 0 where
 abbrev pub entry_as : Request → (cid prp1 prp2 : ℕ) → Sqe
 entry_as q cid prp1 prp2 = record q.entry { cid = cid; prp1 = prp1; prp2 = prp2 }
 
--- a command's data goes where the entry's does, and its NSID fits
+-- a command's data is transferred as the entry's, and its NSID fits
 abbrev pub GoesBy : Asked → Transfer → Type 0
 GoesBy (Ok k) moves = (transfer_by k ≡ moves) × (namespace_of k < 2 ^ 32)
 GoesBy (Err code) moves = Unit {0}
 
--- To a controller with this limit the entry asks for what is said, and its data goes as is said, if
--- its data pointer is read at all, whatever its command identifier and its data pointer.
+-- For a controller with this limit, the entry asks for what the request says, and its data is transferred as
+-- the request says if its data pointer is read, whatever its command identifier and its data pointer are.
 pub record IsRequest (limit : ℕ) (q : Request) : Type 0 where
   pub fits : SqeFits q.entry
   pub room : HasRoom q.transfer
@@ -50,12 +50,12 @@ pub record IsRequest (limit : ℕ) (q : Request) : Type 0 where
   pub sends : length q.sends ≡ bytes_from_host q.transfer
   pub command : GoesBy q.asked q.transfer
 
--- a reply to what was asked can be read from its data
+-- the reply to a command can be read from its data
 abbrev pub IsReadable : Asked → Type 0
 IsReadable (Ok k) = IsSendable k
 IsReadable (Err code) = Unit {0}
 
--- the answer as it is read
+-- the answer as the host reads it
 abbrev pub received_as : Asked → Answer → Answer
 received_as (Ok k) answer = answer_received k answer
 received_as (Err code) answer = answer
@@ -75,7 +75,7 @@ request_of k = record {
   asked = Ok k;
 }
 
--- to each controller of a well-formed subsystem, each command that `admin` takes
+-- the law: for each controller of a well-formed subsystem, each command that `admin` takes is a request
 abbrev pub EveryCommandIsRequest : Type 0
 EveryCommandIsRequest = (s : State) (c : ℕ) (k : Command) → IsWellFormed s
     → c < length s.controllers → CommandFits k → IsSendable k
@@ -83,8 +83,8 @@ EveryCommandIsRequest = (s : State) (c : ℕ) (k : Command) → IsWellFormed s
 
 -- ---- any entry
 
--- which way the data of an entry goes: none where a rule refuses it before its data pointer is read,
--- as each controller does that is asked for more bytes than any may move
+-- the data transfer of an entry: none if a rule refuses it before its data pointer is read, which
+-- each controller does with a length that is greater than any limit
 abbrev pub moved_by : Result Transfer StatusCode → Transfer
 moved_by (Ok moves) = moves
 moved_by (Err code) = NoData
@@ -92,15 +92,15 @@ moved_by (Err code) = NoData
 abbrev pub transfer_for : Sqe → Transfer
 transfer_for e = moved_by (moves_of greatest_limit e)
 
--- so many bytes: the first that there are, and zeros after the last one
+-- n bytes: the first of the given ones, and zeros after the last one
 abbrev pub padded : ℕ → List ℕ → List ℕ
 padded n bytes = take n (bytes ++ replicate n 0)
 
--- what the host sends with an entry of what it has: as many bytes as the entry's data
+-- the bytes that the host sends with an entry: as many of its bytes as the entry's data has
 abbrev pub sent_for : Transfer → List ℕ → List ℕ
 sent_for moves bytes = padded (bytes_from_host moves) bytes
 
--- an entry, and bytes of the host, to a controller with this limit
+-- the request of an entry and the host's bytes to a controller with this limit
 abbrev pub request_for : ℕ → Sqe → List ℕ → Request
 request_for limit e bytes =
     let sends = sent_for (transfer_for e) bytes in
@@ -111,7 +111,7 @@ request_for limit e bytes =
       asked = asked_by limit e sends;
     }
 
--- whatever stands in an entry, and whatever the host has to send
+-- the law: any entry with any bytes of the host is a request
 abbrev pub EveryEntryIsRequest : Type 0
 EveryEntryIsRequest = (limit : ℕ) (e : Sqe) (bytes : List ℕ) → limit ≤ greatest_limit → SqeFits e
     → IsRequest limit (request_for limit e bytes)

@@ -1,5 +1,5 @@
--- Schedules of one controller's commands: submit, ring the doorbell, turn, collect, tell the head,
--- in any order.
+-- Schedules of one controller's commands: submit, ring the tail doorbell, turn, collect, ring the
+-- head doorbell, in any order.
 use Rattle.std.specs.Prelude.{◌≡◌, ◌-◌, ◌≢◌, ◌⊎◌, ◌↔◌, ℕ, ◌+◌, ◌*◌, ◌<◌, ◌≤◌, ◌^◌, ◌==◌, ◌&&◌, Bool}
 use Rattle.std.specs.Prelude.{false, All, List, [], ◌∷◌, ◌++◌, if◌then◌else◌, length, map, min, not}
 use Rattle.std.specs.Prelude.{slice_index_or, take, Ok, Err}
@@ -36,9 +36,9 @@ use Rattle.nv_driver.specs.Request.{Asked, IsReadable, IsRequest, Request, entry
 
 -- ---- requests, one at a time
 
--- a request with its command identifier, the numbers of its data pages and where its data begins in
--- the first one, its two pages for a list and where a list begins in the first one, and its data
--- pointer
+-- a request with its command identifier, the numbers of its data pages and the offset of its data
+-- in the first one, its two pages for a list and the offset of a list in the first one, and its
+-- data pointer
 pub record Sent : Type 0 where
   pub request : Request
   pub cid : ℕ
@@ -50,28 +50,28 @@ pub record Sent : Type 0 where
   pub prp1 : ℕ
   pub prp2 : ℕ
 
--- what was asked for with this NSID, under a command identifier
+-- what is asked for, its NSID and its command identifier
 pub record Numbered : Type 0 where
   pub asked : Asked
   pub nsid : ℕ
   pub cid : ℕ
 
--- what it does on controller c
+-- its effect on controller c
 abbrev pub step_of : ℕ → State → Numbered → Step
 step_of c s x = asked_step x.asked s c x.nsid x.cid
 
--- the state after requests to controller c, one after the other
+-- the state after requests to controller c, one after another
 abbrev pub state_after_all : ℕ → State → List Numbered → State
 state_after_all c s [] = s
 state_after_all c s (x ∷ xs) = state_after_all c (step_of c s x).state xs
 
--- and their answers, as they are received
+-- their answers, as they are received
 abbrev pub answers_of_all : ℕ → State → List Numbered → List Answer
 answers_of_all c s [] = []
 answers_of_all c s (x ∷ xs) = received_as x.asked (step_of c s x).answer
     ∷ answers_of_all c (step_of c s x).state xs
 
--- the same of requests that were sent
+-- a request that was sent, with its NSID and its command identifier
 abbrev pub numbered : Sent → Numbered
 numbered x =
     record { asked = x.request.asked; nsid = x.request.entry.nsid; cid = x.cid }
@@ -82,15 +82,15 @@ after c s xs = state_after_all c s (map numbered xs)
 abbrev pub answers_to : ℕ → State → List Sent → List Answer
 answers_to c s xs = answers_of_all c s (map numbered xs)
 
--- what request x does after the first n of some requests
+-- the effect of request x after the first n of some requests
 abbrev pub step_after : ℕ → State → List Sent → ℕ → Sent → Step
 step_after c s xs n x = step_of c (after c s (take n xs)) (numbered x)
 
 -- ---- what a schedule runs over
 
--- a controller and how many bytes of data a command of it has at most, the memory's page size, where
--- the rings lie and how deep they are, the number of the first command as the rings keep it, and the
--- controller's other registers
+-- a controller and the greatest length of the data of its commands, the memory's page size, the
+-- addresses and the depth of the rings, the number of the first command as the rings keep it, and
+-- the controller's other registers
 pub record Setting : Type 0 where
   pub controller : ℕ
   pub limit : ℕ
@@ -102,8 +102,8 @@ pub record Setting : Type 0 where
   pub bank : RegisterBank
 
 -- The memory, the subsystem, the controller's registers, the commands that were sent, and the
--- answers that were collected. Of the commands so many were told by the tail doorbell, so many were
--- done by turns, and so many were told by the head doorbell to be collected.
+-- answers that were collected. For `rung` of the commands the tail doorbell was rung, `done` were
+-- executed by turns, and for `told` the head doorbell was rung.
 pub record World : Type 0 where
   pub mem : List ℕ
   pub state : State
@@ -121,7 +121,7 @@ number t n = kept_number t.depth (t.start + n)
 abbrev pub slot : Setting → ℕ → ℕ
 slot t n = slot_of t.depth (number t n)
 
--- the host's sides of the rings, where so many commands were sent and collected, and so many told
+-- the host's sides of the rings, by how many commands were sent, collected, and reported by the head doorbell
 abbrev pub submit_ring : Setting → ℕ → ℕ → SubmitNumbers
 submit_ring t sent collected =
     record { base = t.sq; depth = t.depth; submitted = number t sent; known = number t collected }
@@ -159,22 +159,22 @@ data_length x = length_of x.request.transfer
 abbrev pub own_pages : Sent → List ℕ
 own_pages x = x.first ∷ x.second ∷ x.pages
 
--- no page of the one is a page of the other
+-- the two commands have no page in common
 abbrev pub AreApart : Sent → Sent → Type 0
 AreApart x y = All (λ p. All (λ q. p ≢ q) (own_pages y)) (own_pages x)
 
--- the bytes of the pages stay
+-- the bytes of the pages don't change
 abbrev pub PagesStay : ℕ → Sent → List ℕ → List ℕ → Type 0
 PagesStay page_size x old new =
     All (λ p. bytes_at new (p * page_size) page_size ≡ bytes_at old (p * page_size) page_size)
     (own_pages x)
 
--- n bytes share none with the pages
+-- n bytes don't overlap the pages
 abbrev pub AreOutside : ℕ → Sent → ℕ → ℕ → Type 0
 AreOutside page_size x from n = All (λ p. IsOutside page_size p from n) (own_pages x)
 
--- The ring has a free slot; the request is what it says; its pages hold its data, and are distinct,
--- of no ring and of no outstanding command.
+-- The ring has a free slot; the request is valid; its pages hold its data, are distinct, and belong
+-- to no ring and to no outstanding command.
 pub record MaySubmit (t : Setting) (w : World) (x : Sent) : Type 0 where
   pub free : length w.sent + 1 < length w.answers + t.depth
   pub can : IsRequest t.limit x.request
@@ -187,26 +187,26 @@ pub record MaySubmit (t : Setting) (w : World) (x : Sent) : Type 0 where
   pub apart : (n : ℕ) (d : Sent) → length w.answers ≤ n → n < length w.sent
       → AreApart (slice_index_or w.sent n d) x
 
--- where the data of a command lies
+-- the places of a command's data
 abbrev pub places : ℕ → Sent → List ℕ
 places page_size x = buffer_places page_size x.pages x.offset (data_length x)
 
--- what the host sends with a command lies there
+-- what the host sends with a command is at these places
 abbrev pub HoldsSent : ℕ → Sent → List ℕ → Type 0
 HoldsSent page_size x mem =
     sent_from x.request.transfer mem (places page_size x) ≡ x.request.sends
 
--- the transfer of a command's data that its data pointer describes
+-- the transfer of a command's data, as its data pointer describes it
 abbrev pub pointed : ℕ → Sent → List ℕ → PrpTransfer
 pointed page_size x mem = transfer page_size mem x.prp1 x.prp2 (data_length x)
 
--- the data pointer, if the command has data, names the places of the data while its list stays as
--- it is in this memory
+-- the data pointer of a command with data names the places of the data, as long as its list doesn't
+-- change in this memory
 abbrev pub StaysNamed : ℕ → Sent → List ℕ → Type 0
 StaysNamed page_size x mem =
     0 < data_length x → StaysFor (pointed page_size x mem) x.pages x.offset x.first x.second
 
--- the command's pages were made ready: they hold what the host sends, and its data pointer
+-- the command's pages are prepared: they hold what the host sends, and its data pointer describes them
 pub record IsPrepared (page_size : ℕ) (x : Sent) (old new : List ℕ) : Type 0 where
   pub others : (from n : ℕ) → AreOutside page_size x from n → bytes_at new from n
       ≡ bytes_at old from n
@@ -227,19 +227,19 @@ received_from NoData bytes places = []
 received_from (ToHost n) bytes places = read_at bytes places
 received_from (FromHost n) bytes places = []
 
--- what a completion and the data from the controller say to a command
+-- the answer to a command, from its completion and the data from the controller
 abbrev pub answer_from : Command → Cqe → List ℕ → Answer
 answer_from k completion bytes =
     if is_success completion.status
     then Ok (reply_in k completion.command_specific bytes)
     else Err completion.status
 
--- and to whatever was asked for
+-- the answer to whatever was asked for
 abbrev pub answer_to : Asked → Cqe → List ℕ → Answer
 answer_to (Ok k) completion bytes = answer_from k completion bytes
 answer_to (Err code) completion bytes = Err completion.status
 
--- what the controller sent lies in the request's pages
+-- what the controller sent, in the request's pages
 abbrev pub bytes_read : ℕ → Sent → List ℕ → List ℕ
 bytes_read page_size x mem = received_from x.request.transfer mem (places page_size x)
 
@@ -247,13 +247,13 @@ abbrev pub answer_read : ℕ → Sent → List ℕ → Cqe → Answer
 answer_read page_size x mem completion =
     answer_to x.request.asked completion (bytes_read page_size x mem)
 
--- the data of a reply came, whose entries of the error log have their phase tags
+-- the data of a reply was written, with entries of the error log that have their phase tags
 abbrev pub Delivers : Asked → Answer → List ℕ → Type 0
 Delivers (Ok k) (Ok reply) bytes =
     (r : Reply) × (without_phases r ≡ reply) × (bytes ≡ data_of k r)
 Delivers asked answer bytes = Unit {0}
 
--- an answer to what was asked for: the completion tells it, the data came, and it can be read
+-- an answer to what was asked for: the completion says it, the data was written, and it can be read
 pub record IsAnswered (page_size : ℕ) (x : Sent) (mem : List ℕ) (completion : Cqe) (answer : Answer)
     : Type 0 where
   pub dword0 : completion.command_specific ≡ dword0_in answer
@@ -278,8 +278,8 @@ pub data Event : Type 0 where
   Tell : Event
   Elsewhere : Event
 
--- The host wrote elsewhere: the bytes of the rings, and those of the pages of each command that was
--- sent and whose answer wasn't collected, are as before.
+-- The host wrote elsewhere: the bytes of the rings have not changed, nor have those of the pages of
+-- each command that was sent and whose answer wasn't collected.
 pub record LeavesOutstanding (t : Setting) (w : World) (new : List ℕ) : Type 0 where
   pub len : length new ≡ length w.mem
   pub submissions : bytes_at new t.sq (64 * t.depth) ≡ bytes_at w.mem t.sq (64 * t.depth)
@@ -287,7 +287,7 @@ pub record LeavesOutstanding (t : Setting) (w : World) (new : List ℕ) : Type 0
   pub pages : (n : ℕ) (d : Sent) → length w.answers ≤ n → n < length w.sent
       → PagesStay t.page_size (slice_index_or w.sent n d) w.mem new
 
--- what each does, by what `build`, `push`, `write32`, `turn`, `poll` and `head_to_tell` ensure
+-- the effect of each event, as `build`, `push`, `write32`, `turn`, `poll` and `head_to_tell` promise it
 abbrev pub Happens : Setting → Event → World → World → Type 0
 Happens t (Submit x) w w' =
     MaySubmit t w x
@@ -327,7 +327,7 @@ Runs t (e ∷ es) w w' = (mid : World) × Happens t e w mid × Runs t es mid w'
 -- ---- the law
 
 -- no command is outstanding: a ready controller of a well-formed subsystem, whose rings lie in the
--- memory, apart from each other, and hold the tags that are due
+-- memory, don't overlap, and have the phase tags that are due
 pub record IsIdle (t : Setting) (w : World) : Type 0 where
   pub page_size : IsPageSize t.page_size
   pub deep : IsDepth t.depth
@@ -354,30 +354,30 @@ pub record Holds (t : Setting) (s : State) (w : World) (n : ℕ) (x : Sent) : Ty
   pub cid : (completion_at w.mem t.cq (slot t n)).cid ≡ x.cid
   pub head : (completion_at w.mem t.cq (slot t n)).sq_head ≡ slot t (n + 1)
 
--- n bytes that lie in no ring, and in no page of a command that was sent, from this first one on
+-- n bytes in no ring, and in no page of a command that was sent, from this first one on
 pub record AreOthers (t : Setting) (first : ℕ) (sent : List Sent) (from n : ℕ) : Type 0 where
   pub submissions : IsApart t.sq (64 * t.depth) from n
   pub completions : IsApart t.cq (16 * t.depth) from n
   pub pages : (i : ℕ) (d : Sent) → first ≤ i → i < length sent
       → AreOutside t.page_size (slice_index_or sent i d) from n
 
--- how many entries a turn takes: the least of the most, those that wait, and the free slots for
--- completions
+-- how many entries a turn takes: the least of the greatest number, of those that are waiting, and
+-- of the free slots for completions
 abbrev pub least : Setting → World → ℕ → ℕ
 least t w most = min most (min (w.rung - w.done) (t.depth - 1 - (w.done - w.told)))
 
--- answer n of those that were collected, where it can be read, is that of the requests one at a time
+-- answer n of those that were collected, if it can be read, is the same as if the requests were sent one at a time
 abbrev pub IsCollected : Setting → State → World → ℕ → Type 0
 IsCollected t s w n =
     (x : Sent) (d : Answer) → IsReadable (slice_index_or w.sent n x).request.asked
     → slice_index_or w.answers n d ≡ slice_index_or (answers_to t.controller s w.sent) n d
 
--- The collected answers are the first of those that the requests have one at a time, and the
--- subsystem is that after the requests that were done. An answer is held from its command's turn on
--- until it is collected. The awaited completion is found exactly where a command was done whose
--- answer wasn't collected. A turn takes as many entries as it can. As long as the host doesn't
--- write elsewhere, bytes stay that lie in no ring, and in no page of a command that is outstanding
--- now or is sent then.
+-- The collected answers are the first of those that the requests get one at a time, and the
+-- subsystem is that after the requests that were executed. An answer is held from its command's
+-- turn until it is collected. The awaited completion is found if and only if a command was executed
+-- whose answer wasn't collected. A turn takes as many entries as it can. As long as the host
+-- doesn't write elsewhere, bytes don't change that are in no ring, and in no page of a command that
+-- is outstanding now or is sent then.
 pub record IsSerial (t : Setting) (s : State) (w : World) : Type 0 where
   pub answers : (n : ℕ) → n < length w.answers → IsCollected t s w n
   pub state : w.state ≡ after t.controller s (take w.done w.sent)

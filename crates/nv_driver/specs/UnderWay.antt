@@ -1,5 +1,5 @@
 -- A list of commands of one controller on its way, of which several are outstanding.
-use Rattle.std.specs.Prelude.{◌≡◌, ℕ, ◌+◌, ◌*◌, ◌%◌, ◌<◌, ◌≤◌, All, List, [], ◌++◌, ◌∷◌, Option, None}
+use Rattle.std.specs.Prelude.{◌≡◌, ℕ, ◌+◌, ◌%◌, ◌<◌, ◌≤◌, All, List, [], ◌++◌, ◌∷◌, Option, None}
 use Rattle.std.specs.Prelude.{Some, drop, length, map, slice_index_or, take}
 use Rattle.nv_host.specs.PageSets.{IsOf}
 use Rattle.nv_command.specs.declared.command.Command.{Command}
@@ -26,7 +26,7 @@ use Rattle.nv_driver.specs.declared.command_pages.CommandPages.{CommandPages}
 use Rattle.nv_driver.specs.declared.geometry.Geometry.{Geometry}
 use Rattle.nv_driver.specs.declared.queue_pair.QueuePair.{QueuePair as QueuePairFields}
 
--- the schedule of a queue pair's controller from its next command on
+-- the schedule of a queue pair's controller, from its next command on
 abbrev pub setting : Geometry → (c limit : ℕ) → QueuePair → Setting
 setting g c limit l = record {
   controller = c;
@@ -39,7 +39,7 @@ setting g c limit l = record {
   bank = idle_bank (mps_of g.page_size) g.page_size l;
 }
 
--- what a run begins with: the controller's bus, its queue pair and the memory, and the commands
+-- the state at the beginning of a run: the controller's bus, its queue pair and the memory, and the commands
 pub record Run : Type 0 where
   pub geometry : Geometry
   pub controller : ℕ
@@ -63,12 +63,12 @@ numbered_of r = from_serial r.pair.serial r.commands
 abbrev pub serial_at : Run → ℕ → ℕ
 serial_at r n = (r.pair.serial + n) % serial_count
 
--- the pages of commands, one after the other
+-- the pages of commands, one after another
 abbrev pub pages_of_all : List Sent → List ℕ
 pages_of_all [] = []
 pages_of_all (x ∷ xs) = own_pages x ++ pages_of_all xs
 
--- an outstanding command in its place of the window
+-- an outstanding command in its slot of the window
 pub record IsKept (r : Run) (o : Option CommandPages) (x : Sent) : Type 0 where
   pub one : CommandPages
   pub is_one : o ≡ Some one
@@ -77,11 +77,11 @@ pub record IsKept (r : Run) (o : Option CommandPages) (x : Sent) : Type 0 where
   pub few : one.data_pages + 2 ≤ pages_of_command r.geometry.page_size
   pub seven : length one.numbers ≡ 7
 
--- the places of the window, by the numbers of the commands modulo 16
+-- the slots of the window, by the numbers of the commands modulo 16
 abbrev pub kept_at : List (Option CommandPages) → ℕ → Option CommandPages
 kept_at places n = slice_index_or places (n % 16) None
 
--- what stays as the run began: its geometry, its controller, the memory's sizes, the window's places
+-- what doesn't change during the run: its geometry, its controller, the memory's sizes, the number of slots
 pub record IsRunning (r : Run) (g : Geometry) (c places now length_now : ℕ) : Type 0 where
   pub begun : IsReady r.geometry r.bus r.controller r.pair r.geometry.page_size r.bytes
   pub can : All CanBeSent r.commands
@@ -91,7 +91,7 @@ pub record IsRunning (r : Run) (g : Geometry) (c places now length_now : ℕ) : 
   pub size : length_now ≡ length r.bytes
   pub room : places ≡ 16
 
--- the run's first m commands were sent, and those from k on have their places and pages
+-- the run's first m commands were sent, and those from k on have their slots and pages
 pub record HasSent (r : Run) (m k : ℕ) (places : List (Option CommandPages)) (xs : List Sent)
     : Type 0 where
   pub window : m ≤ k + r.geometry.window
@@ -104,7 +104,7 @@ pub record HasSent (r : Run) (m k : ℕ) (places : List (Option CommandPages)) (
   pub own : (n : ℕ) (d : Sent) → n < m
       → All (λ p. IsOf r.pair.pages.first r.pair.pages.count p) (own_pages (slice_index_or xs n d))
 
--- what of a schedule the batch doesn't count
+-- the parts of a schedule that the batch doesn't count
 pub record Course : Type 0 where
   pub state : State
   pub bank : RegisterBank
@@ -123,7 +123,7 @@ world_at course bells turns told bytes = record {
   answers = course.answers;
 }
 
--- the queue pair where so many commands were sent and collected, and told, and these pages are in use
+-- the queue pair by how many commands were sent, collected and reported, and which pages are in use
 abbrev pub pair_at : Run → (sent collected told : ℕ) → List ℕ → QueuePairFields
 pair_at r sent collected told pages = record {
   submission = submit_ring (setting_of r) sent collected;
@@ -132,7 +132,7 @@ pair_at r sent collected told pages = record {
   pages = without r.pair.pages pages;
 }
 
--- of its commands so many were told by the tail doorbell, and so many were done by turns
+-- for `bells` of its commands the tail doorbell was rung, and `turns` were executed by turns
 pub record IsUnderWay (r : Run) (bells turns : ℕ) (b : Batch) (l : QueuePairFields) (now : ℕ)
     (bytes : List ℕ) : Type 0 where
   pub running : IsRunning r b.geometry b.ctrl (length b.outstanding) now (length bytes)
@@ -145,7 +145,7 @@ pub record IsUnderWay (r : Run) (bells turns : ℕ) (b : Batch) (l : QueuePairFi
   pub collected : length course.answers ≡ b.collected
   pub pair : l ≡ pair_at r b.sent b.collected b.told (pages_of_all (drop b.collected course.sent))
 
--- a run, and of how many of its commands the completions were posted
+-- a run, and for how many of its commands the completions were posted
 pub record Moment : Type 0 where
   pub run : Run
   pub done : ℕ

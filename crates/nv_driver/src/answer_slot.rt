@@ -1,4 +1,4 @@
-//! Room for the answer to a command.
+//! Storage for the answer to a command.
 
 ghost use Rattle.std.specs.Prelude.{◌≡◌, Err, Ok, length};
 ghost use Rattle.nv_command.specs.Command.{bytes_to_host, transfer_by};
@@ -10,10 +10,10 @@ use nv_command::{Command, Reply, ReplyRoom};
 use nv_layout::Status;
 use std::marker::Model;
 
-/// What a command is answered: its reply, or the status of its refusal.
+/// The answer to a command: its reply, or the status of its refusal.
 pub type Answer<'a> = Result<Reply<'a>, Status>;
 
-/// Room for the answer to one command, which is made once and then used again and again.
+/// Storage for the answer to one command, which is allocated once and then reused.
 #[derive(Drop)]
 pub struct AnswerSlot {
     room: ReplyRoom,
@@ -31,7 +31,7 @@ impl Model for AnswerSlot {
 }
 
 impl AnswerSlot {
-    /// A slot with an answer that tells nothing but success.
+    /// Creates a slot whose answer is only success.
     pub fn new() -> AnswerSlot
         ensures { result ≡ Ok Done }
     {
@@ -41,7 +41,7 @@ impl AnswerSlot {
         }
     }
 
-    /// The answer that it has.
+    /// Returns the answer in the slot.
     pub fn answer(&self) -> Answer<'_>
         ensures { result ≡ self.now }
     {
@@ -51,15 +51,15 @@ impl AnswerSlot {
         }
     }
 
-    /// Keeps a refusal in place of what it had.
+    /// Replaces the answer by a refusal.
     pub(crate) fn refuse(&mut self, status: Status)
         ensures { self.new ≡ Err status }
     {
         self.refusal = Some(status);
     }
 
-    /// Reads the reply to a command in place of what it had, from dword 0 of its completion and the
-    /// data that the controller sent.
+    /// Replaces the answer by the reply to a command, which it reads from dword 0 of the completion
+    /// and the data that the controller sent.
     pub(crate) fn read(&mut self, command: &Command, dword0: u32, bytes: &[u8])
         requires sends { IsSendable command.now }
         requires len { length bytes.now ≡ bytes_to_host (transfer_by command.now) }

@@ -17,7 +17,7 @@ use nv_host::HostMemory;
 use nv_layout::Cqe;
 use nv_prp::{Buffer, Spans, copy_in};
 
-/// The bytes that the controller sent to the buffer of a command's data, so many.
+/// Returns the `len` bytes that the controller sent to the buffer of a command's data.
 fn read_sent<'a, M: HostMemory>(
     mem: &M,
     buffer: &Buffer,
@@ -38,8 +38,8 @@ fn read_sent<'a, M: HostMemory>(
     sent
 }
 
-/// Reads the reply to a command from dword 0 of its completion and what the controller sent to the
-/// buffer of its data.
+/// Reads the reply to a command from dword 0 of its completion and the data that the controller
+/// sent to its buffer.
 #[tactic(auto, using(crate::proofs::DataLaws::shape_as, crate::proofs::DataLaws::most))]
 fn read_reply<M: HostMemory>(
     mem: &M,
@@ -68,8 +68,8 @@ fn read_reply<M: HostMemory>(
     }
 }
 
-/// Puts the answer to a command in its slot, from its completion and what the controller sent to
-/// the buffer of its data. Section "Completion Queue Entry".
+/// Stores the answer to a command in its slot, from its completion and the data that the controller
+/// sent to its buffer. Section "Completion Queue Entry".
 pub(crate) fn answer<M: HostMemory>(
     mem: &M,
     buffer: &Buffer,

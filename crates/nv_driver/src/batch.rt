@@ -30,12 +30,12 @@ use nv_host::HostMemory;
 use nv_model::SERIALS;
 use nv_register::offset;
 
-/// The most commands that are outstanding at a time.
+/// The greatest number of commands that are outstanding at a time.
 const MOST: usize = 16;
 
-/// How far a list of commands of one controller has come: how many were sent, how many answers were
-/// collected, and of how many the controller was told. The pages of the outstanding commands stand
-/// at the commands' numbers modulo 16.
+/// The progress of a list of commands of one controller: how many were sent, how many answers were
+/// collected, and how many of these the head doorbell has reported. The pages of the outstanding
+/// commands are stored at the commands' numbers modulo 16.
 #[derive(Drop)]
 pub struct Batch {
     ctrl: u16,
@@ -46,8 +46,8 @@ pub struct Batch {
     told: usize,
 }
 
-/// How many commands after the one with identifier `cid` the one with `next` comes. Section
-/// "Submission Queue Entry", Command Identifier.
+/// Returns how many commands come after the one with identifier `cid` until the one with `next`.
+/// Section "Submission Queue Entry", Command Identifier.
 fn distance(cid: u16, next: u16) -> usize
     requires cid { cid < serial_count }
     ensures { result ≡ (next + serial_count - cid) % serial_count }
@@ -56,7 +56,7 @@ fn distance(cid: u16, next: u16) -> usize
 }
 
 impl Batch {
-    /// Nothing was sent yet.
+    /// Creates a batch of which nothing was sent yet.
     fn new(ctrl: u16, geometry: CheckedGeometry) -> Batch
         ensures ctrl { result.ctrl ≡ ctrl }
         ensures geometry { result.geometry ≡ geometry }
@@ -76,7 +76,7 @@ impl Batch {
     }
 
     /// Submits commands until as many as the geometry allows are outstanding, or none is left.
-    /// Answers the new tail where it submitted one.
+    /// Returns the new tail if it submitted any.
     fn fill<M: HostMemory>(
         &mut self,
         host: &mut HostSide<M>,
@@ -117,7 +117,7 @@ impl Batch {
         tail
     }
 
-    /// Submits what can be submitted, and rings the tail doorbell where something was. Section
+    /// Submits what can be submitted, and rings the tail doorbell if it submitted any. Section
     /// "Submission Queue y Tail Doorbell".
     fn send<B: Bus, M: HostMemory>(
         &mut self,
@@ -149,8 +149,8 @@ impl Batch {
         }
     }
 
-    /// Tells the controller how many answers were collected, where it doesn't know. Section
-    /// "Completion Queue y Head Doorbell".
+    /// Writes the head doorbell if answers were collected since the last write. Section "Completion
+    /// Queue y Head Doorbell".
     fn tell<B: Bus>(&mut self, bus: &mut B, pair: &mut QueuePair)
         requires ctrl { self.old.ctrl < length (B.meaning bus.old).banks }
         ensures batch { self.new ≡ record self.old { told = self.old.collected } }
@@ -172,8 +172,8 @@ impl Batch {
         self.told = self.collected;
     }
 
-    /// Gives the controller a turn, and answers how many commands it did. Where it did none, the
-    /// head is told.
+    /// Gives the controller a turn, and returns how many commands it executed. If it executed none,
+    /// the head doorbell is written.
     fn turn<B: Bus, M: HostMemory>(&mut self, bus: &mut B, mem: &mut M, pair: &mut QueuePair) -> u16
         ghost run: { Run }
         requires under_way { IsUnderWay run self.old.sent self.old.collected
@@ -201,8 +201,8 @@ impl Batch {
         posted
     }
 
-    /// Collects the next answer, of the command that its completion names by its identifier, and
-    /// gives back the command's pages. Section "Completion Queue Entry".
+    /// Collects the next answer, which belongs to the command whose identifier is in the
+    /// completion, and frees the command's pages. Section "Completion Queue Entry".
     fn collect_one<M: HostMemory>(
         &mut self,
         host: &mut HostSide<M>,
@@ -241,7 +241,8 @@ impl Batch {
         self.collected += 1;
     }
 
-    /// Collects so many answers, and tells the head each time that the geometry's pace is reached.
+    /// Collects `posted` answers, and writes the head doorbell each time that the geometry's pace is
+    /// reached.
     fn collect<B: Bus, M: HostMemory>(
         &mut self,
         bus: &mut B,
@@ -281,8 +282,9 @@ impl Batch {
         }
     }
 
-    /// Submits what can be submitted, gives the controller a turn, and collects the answers. The head
-    /// is told each time that the geometry's pace is reached, and where the turn took nothing.
+    /// Submits what can be submitted, gives the controller a turn, and collects the answers. The
+    /// head doorbell is written each time that the geometry's pace is reached, and if the turn took
+    /// nothing.
     fn round<B: Bus, M: HostMemory>(
         &mut self,
         bus: &mut B,
@@ -321,8 +323,8 @@ impl Batch {
     }
 }
 
-/// Sends commands to a controller, several at a time, and awaits their answers. No command of its
-/// queue pair is outstanding, before and after.
+/// Sends commands to a controller, several at a time, and waits for their answers. No command of
+/// its queue pair is outstanding before or after.
 pub(crate) fn exchange_all<B: Bus, M: HostMemory>(
     bus: &mut B,
     ctrl: u16,

@@ -7,7 +7,7 @@ use crate::geometry::Geometry;
 use crate::geometry_field::GeometryField;
 use std::marker::Model;
 
-/// A geometry each of whose fields keeps its limits, in the types of the rings and turns.
+/// A geometry whose fields are all within their limits, in the types that rings and turns use.
 #[derive(Clone, Copy)]
 pub struct CheckedGeometry {
     pub depth: u16,
@@ -41,7 +41,7 @@ impl Model for CheckedGeometry {
 }
 
 impl CheckedGeometry {
-    /// The geometry where it keeps its limits, or else the first field that doesn't.
+    /// Returns the checked geometry, or the first field that is outside its limits.
     pub(crate) fn new(geometry: Geometry) -> Result<CheckedGeometry, GeometryField>
         ensures { MatchResult result
             (λ checked. (checked ≡ geometry) × (fault_of geometry ≡ None))

@@ -11,8 +11,8 @@ use crate::data_place::{buffer_in, list_in};
 use nv_host::{PageNo, PageSet};
 use nv_prp::{Buffer, ListPlace};
 
-/// The most pages of one command: five for 16,384 bytes that begin inside a page of 4,096, and two
-/// for a list.
+/// The greatest number of pages of one command: five for 16,384 bytes that begin inside a page of
+/// 4,096, and two for a list.
 const MOST_PAGES: usize = 7;
 
 /// The pages of a command: two for a list, and then those of its data.
@@ -23,8 +23,8 @@ pub struct CommandPages {
 }
 
 impl CommandPages {
-    /// Takes the pages of a command out of a set, its lowest ones in order: two for a list, and so
-    /// many for its data, at most five.
+    /// Takes the lowest pages of a set for a command, in order: two for a list, and `data_pages`
+    /// for its data, at most five.
     pub(crate) fn take(free: &mut PageSet, data_pages: usize) -> CommandPages
         requires few { data_pages ≤ most_data_pages }
         requires enough { data_pages + 2 ≤ set.len free.old.members }
@@ -46,7 +46,7 @@ impl CommandPages {
         }
     }
 
-    /// Gives the pages back to their set, which has none of them.
+    /// Returns the pages to their set, which must have none of them.
     pub(crate) fn give(&self, free: &mut PageSet)
         requires few { self.now.data_pages ≤ most_data_pages }
         requires own { All (λ p. IsOf free.old.first free.old.count p) (all_pages self.now) }
@@ -60,7 +60,7 @@ impl CommandPages {
         }
     }
 
-    /// The pages of the data, which begins at an offset in bytes.
+    /// Returns the pages of the data, which begins at an offset in bytes.
     pub(crate) fn buffer(&self, offset: u32) -> Buffer<'_>
         requires few { self.now.data_pages ≤ most_data_pages }
         ensures pages { result.pages.now ≡ data_pages self.now }
@@ -69,7 +69,7 @@ impl CommandPages {
         buffer_in(&self.numbers, self.data_pages, offset)
     }
 
-    /// Where a list may lie, from an offset in bytes on.
+    /// Returns the place for a list, from an offset in bytes on.
     pub(crate) fn list(&self, offset: u32) -> ListPlace
         ensures { result ≡ record {
           first = slice_index self.now.numbers 0;

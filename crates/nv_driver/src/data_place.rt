@@ -1,4 +1,4 @@
-//! The place of an entry's data: pages of the host's memory, the first two of which are for a list.
+//! The place of an entry's data: pages of the host's memory, of which the first two are for a list.
 
 ghost use Rattle.std.specs.Prelude.{◌≡◌, ◌+◌, ◌*◌, ◌<◌, ◌≤◌, ◌∷◌, drop, length, slice_index, take};
 ghost use Rattle.nv_model.specs.Conditions.{greatest_limit};
@@ -9,7 +9,8 @@ ghost use Rattle.nv_prp.specs.Transfer.{data_pages as pages_of, transfer};
 use nv_host::{HostMemory, PageNo};
 use nv_prp::{Buffer, ListPlace, build};
 
-/// So many pages of data, behind those of a list. It begins at an offset in bytes.
+/// Returns the `count` pages of data that follow those of a list. The data begins at an offset in
+/// bytes.
 pub(crate) fn buffer_in(pages: &[PageNo], count: usize, offset: u32) -> Buffer<'_>
     requires long { count + 2 ≤ length pages.now }
     ensures pages { result.pages.now ≡ take count (drop 2 pages.now) }
@@ -21,7 +22,7 @@ pub(crate) fn buffer_in(pages: &[PageNo], count: usize, offset: u32) -> Buffer<'
     }
 }
 
-/// Where a list may lie, from an offset in bytes on.
+/// Returns the place for a list, from an offset in bytes on.
 pub(crate) fn list_in(pages: &[PageNo], offset: u32) -> ListPlace
     requires long { 2 ≤ length pages.now }
     ensures { result ≡ record {
@@ -37,8 +38,8 @@ pub(crate) fn list_in(pages: &[PageNo], offset: u32) -> ListPlace
     }
 }
 
-/// The data pointer of so many bytes of a buffer, 0 and 0 where there are none: PRP1 and PRP2.
-/// Writes its list where it has one. Section "Physical Region Page Entry and List".
+/// Returns the data pointer, PRP1 and PRP2, of `len` bytes of a buffer, or 0 and 0 if there are
+/// none. Writes its list if it has one. Section "Physical Region Page Entry and List".
 pub(crate) fn point_to<M: HostMemory>(
     mem: &mut M,
     buffer: &Buffer,

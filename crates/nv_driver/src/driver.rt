@@ -1,13 +1,11 @@
 //! The driver of the controllers of a bus.
 
-ghost use Rattle.std.specs.Prelude.{◌≡◌, ◌≢◌, ◌<◌, ◌≤◌, ◌↔◌, All, Err, IfOk, IsOk, OnErr, Some, if◌then◌else◌};
-ghost use Rattle.std.specs.Prelude.{length};
-ghost use Rattle.nv_bus.specs.Bus.{IsBus, enabled_in};
+ghost use Rattle.std.specs.Prelude.{◌≡◌, ◌<◌, ◌≤◌, All, IfOk, IsOk, if◌then◌else◌, length};
+ghost use Rattle.nv_bus.specs.Bus.{IsBus};
 ghost use Rattle.nv_command.specs.Command.{CommandFits};
 ghost use Rattle.nv_command.specs.Logs.{IsSendable};
 ghost use Rattle.nv_command.specs.Received.{answer_received};
-ghost use Rattle.nv_model.specs.Step.{reset, reset_where};
-ghost use Rattle.nv_model.specs.Step.{step};
+ghost use Rattle.nv_model.specs.Step.{reset, step};
 ghost use Rattle.nv_bus.specs.Entry.{told_by};
 ghost use Rattle.nv_layout.specs.Sqe.{SqeFits};
 ghost use Rattle.nv_driver.specs.Alone.{IsReceived, asked_in, entry_step};
@@ -15,8 +13,7 @@ ghost use Rattle.nv_driver.specs.Batch.{answers_of, state_after};
 ghost use Rattle.nv_driver.specs.Driver.{after_command, after_commands, after_reset, pair_at};
 ghost use Rattle.nv_driver.specs.Driver.{HasEntryPages, driver_with, new_driver};
 ghost use Rattle.nv_driver.specs.Layout.{pages_of_entry};
-ghost use Rattle.nv_driver.specs.Geometry.{fault_of};
-ghost use Rattle.nv_driver.specs.Registers.{banks_of};
+ghost use Rattle.nv_driver.specs.Linked.{IsBroughtUp, IsLinked};
 
 use crate::answer_slot::{Answer, AnswerSlot};
 use crate::batch::exchange_all;
@@ -24,7 +21,6 @@ use crate::checked_geometry::CheckedGeometry;
 use crate::enabling::{enable_all, reset};
 use crate::error::DriverError;
 use crate::geometry::Geometry;
-use crate::geometry_field::GeometryField;
 use crate::host_side::HostSide;
 use crate::passthrough::exchange_entry;
 use crate::queue_pair::{QueuePair, new_pairs};
@@ -37,8 +33,8 @@ use std::alloc::Global;
 use std::marker::Model;
 use std::slice::{from_mut, from_ref};
 
-/// The driver of each controller of a bus: the host's memory, and for each controller its rings and
-/// pages in it.
+/// The driver of all controllers of a bus: the host's memory, and in it the rings and pages of each
+/// controller.
 #[derive(Drop)]
 pub struct Driver {
     host: HostSide<FlatMemory>,
@@ -59,32 +55,25 @@ impl Model for Driver {
 }
 
 impl Driver {
-    /// Makes the host's memory, and makes each controller ready with rings in it. A controller that
-    /// was enabled is reset. After `Geometry`, which has the first field out of its limits, and
-    /// after `Memory` the bus is untouched. A bus that keeps its contract never gives `NoReady`.
-    /// Section "Controller Initialization and Shutdown Processing".
+    /// Allocates the host's memory, and makes each controller ready with rings in it. A controller
+    /// that was enabled is reset. The error `Geometry` names the first field outside its limits;
+    /// after it and after `Memory` the bus is untouched. A bus that keeps its contract never causes
+    /// `NoReady`. Section "Controller Initialization and Shutdown Processing".
     pub fn bring_up<B: Bus>(
         alloc: Global,
         bus: &mut B,
         geometry: Geometry,
     ) -> Result<Driver, DriverError>
         requires { IsBus (B.meaning bus.old) }
-        ensures state { IfOk result (λ _. (B.meaning bus.new).state
-            ≡ reset_where (enabled_in (B.meaning bus.old).banks) (B.meaning bus.old).state) }
-        ensures bus { IsBus (B.meaning bus.new) }
-        ensures geometry { (field : GeometryField)
-            → (result ≡ Err (DriverError.Geometry field)) ↔ (fault_of geometry ≡ Some field) }
-        ensures ready { result ≢ Err DriverError.NoReady }
-        ensures untouched { OnErr result (B.meaning bus.new ≡ B.meaning bus.old) }
-        ensures value { IfOk result
-            (λ d. d ≡ new_driver geometry (length (B.meaning bus.old).banks)) }
-        ensures banks { IfOk result (λ d. (B.meaning bus.new).banks ≡ banks_of d) }
+        ensures brought { IsBroughtUp geometry
+            (new_driver geometry (length (B.meaning bus.old).banks))
+            (B.meaning bus.old) (B.meaning bus.new) result }
     {
         Driver::lay_out(alloc, bus, geometry, false)
     }
 
-    /// The same, with room behind the controllers' pages for the data of any entry: `passthrough`
-    /// needs it.
+    /// Brings up a driver as `bring_up` does, with room after the controllers' pages for the data
+    /// of any entry, which `passthrough` needs.
     #[tactic(auto, using(crate::proofs::PassthroughLaws::has_pages))]
     pub fn bring_up_for_entries<B: Bus>(
         alloc: Global,
@@ -92,23 +81,15 @@ impl Driver {
         geometry: Geometry,
     ) -> Result<Driver, DriverError>
         requires { IsBus (B.meaning bus.old) }
-        ensures state { IfOk result (λ _. (B.meaning bus.new).state
-            ≡ reset_where (enabled_in (B.meaning bus.old).banks) (B.meaning bus.old).state) }
-        ensures bus { IsBus (B.meaning bus.new) }
-        ensures geometry { (field : GeometryField)
-            → (result ≡ Err (DriverError.Geometry field)) ↔ (fault_of geometry ≡ Some field) }
-        ensures ready { result ≢ Err DriverError.NoReady }
-        ensures untouched { OnErr result (B.meaning bus.new ≡ B.meaning bus.old) }
-        ensures value { IfOk result
-            (λ d. d ≡ driver_with geometry (length (B.meaning bus.old).banks)
-            (pages_of_entry geometry.page_size)) }
+        ensures brought { IsBroughtUp geometry
+            (driver_with geometry (length (B.meaning bus.old).banks)
+            (pages_of_entry geometry.page_size)) (B.meaning bus.old) (B.meaning bus.new) result }
         ensures entries { IfOk result HasEntryPages }
-        ensures banks { IfOk result (λ d. (B.meaning bus.new).banks ≡ banks_of d) }
     {
         Driver::lay_out(alloc, bus, geometry, true)
     }
 
-    /// Brings up a driver, with room for the data of any entry where it is wanted.
+    /// Brings up a driver, with room for the data of any entry if this is wanted.
     fn lay_out<B: Bus>(
         alloc: Global,
         bus: &mut B,
@@ -116,17 +97,10 @@ impl Driver {
         with_entries: bool,
     ) -> Result<Driver, DriverError>
         requires { IsBus (B.meaning bus.old) }
-        ensures state { IfOk result (λ _. (B.meaning bus.new).state
-            ≡ reset_where (enabled_in (B.meaning bus.old).banks) (B.meaning bus.old).state) }
-        ensures bus { IsBus (B.meaning bus.new) }
-        ensures geometry { (field : GeometryField)
-            → (result ≡ Err (DriverError.Geometry field)) ↔ (fault_of geometry ≡ Some field) }
-        ensures ready { result ≢ Err DriverError.NoReady }
-        ensures untouched { OnErr result (B.meaning bus.new ≡ B.meaning bus.old) }
-        ensures value { IfOk result
-            (λ d. d ≡ driver_with geometry (length (B.meaning bus.old).banks)
-            (if with_entries then pages_of_entry geometry.page_size else 0)) }
-        ensures banks { IfOk result (λ d. (B.meaning bus.new).banks ≡ banks_of d) }
+        ensures brought { IsBroughtUp geometry
+            (driver_with geometry (length (B.meaning bus.old).banks)
+            (if with_entries then pages_of_entry geometry.page_size else 0))
+            (B.meaning bus.old) (B.meaning bus.new) result }
     {
         let geometry = CheckedGeometry::new(geometry).map_err(DriverError::Geometry)?;
         let controllers = bus.controllers();
@@ -142,29 +116,27 @@ impl Driver {
         })
     }
 
-    /// Resets a controller: each value of its features becomes the saved one, or the default where
-    /// none was saved, and its rings begin anew; the command identifiers go on. It takes no memory.
-    /// The bus is as this driver left it; one that keeps its contract never gives `NoReady`, the
-    /// only error. Section "Controller Level Reset".
+    /// Resets a controller: each value of its features becomes the saved one, or the default if
+    /// none was saved, and its rings begin anew, while the command identifiers continue. It
+    /// allocates no memory. The bus must be as this driver left it. The only error is `NoReady`,
+    /// which a bus that keeps its contract never causes. Section "Controller Level Reset".
     pub fn reset<B: Bus>(&mut self, bus: &mut B, ctrl: u16) -> Result<(), DriverError>
         requires ctrl { ctrl < length self.old.pairs }
-        requires bus { IsBus (B.meaning bus.old) }
-        requires left { (B.meaning bus.old).banks ≡ banks_of self.old }
+        requires linked { IsLinked (B.meaning bus.old) self.old }
         ensures ok { IsOk result }
         ensures state { (B.meaning bus.new).state ≡ reset (B.meaning bus.old).state ctrl }
-        ensures bus { IsBus (B.meaning bus.new) }
         ensures driver { self.new ≡ after_reset self.old ctrl }
         ensures entries { HasEntryPages self.old → HasEntryPages self.new }
-        ensures left { (B.meaning bus.new).banks ≡ banks_of self.new }
+        ensures linked { IsLinked (B.meaning bus.new) self.new }
     {
         let pair = &mut self.pairs[ctrl as usize];
         reset(bus, ctrl, &mut self.host.mem, pair, self.geometry)
     }
 
-    /// Sends a command to a controller and awaits its answer: the reply, or the status of the
-    /// refusal. The answer stands in the slot; it takes no memory. The bus is as this driver left
-    /// it; each field of the command fits its bits, and its reply can be read from its data.
-    /// Section "Command Processing".
+    /// Sends a command to a controller and waits for its answer: the reply, or the status of the
+    /// refusal. The answer is stored in the slot, and no memory is allocated. The bus must be as
+    /// this driver left it, each field of the command must fit its bits, and it must be possible to
+    /// read its reply from its data. Section "Command Processing".
     pub fn admin<'a, B: Bus>(
         &mut self,
         bus: &mut B,
@@ -173,27 +145,26 @@ impl Driver {
         slot: &'a mut AnswerSlot,
     ) -> Answer<'a>
         requires ctrl { ctrl < length self.old.pairs }
-        requires bus { IsBus (B.meaning bus.old) }
-        requires left { (B.meaning bus.old).banks ≡ banks_of self.old }
+        requires linked { IsLinked (B.meaning bus.old) self.old }
         requires fits { CommandFits command.now }
         requires sends { IsSendable command.now }
         ensures answer { result ≡ answer_received command.now (step (B.meaning bus.old).state
             ctrl command.now (pair_at self.old.pairs ctrl).serial).answer }
         ensures state { (B.meaning bus.new).state ≡ (step (B.meaning bus.old).state
             ctrl command.now (pair_at self.old.pairs ctrl).serial).state }
-        ensures bus { IsBus (B.meaning bus.new) }
         ensures driver { self.new ≡ after_command self.old ctrl }
-        ensures left { (B.meaning bus.new).banks ≡ banks_of self.new }
+        ensures linked { IsLinked (B.meaning bus.new) self.new }
     {
         self.admin_all(bus, ctrl, from_ref(command), from_mut(slot));
         slot.answer()
     }
 
-    /// Sends commands to a controller and awaits their answers, one for each. As many commands are
-    /// outstanding at a time as the geometry's window allows, and they go on after a refusal; the
-    /// answers and the subsystem are those of one command at a time. It takes no memory. The bus is
-    /// as this driver left it; each field of each command fits its bits, and its reply can be read
-    /// from its data. Section "Command Processing".
+    /// Sends commands to a controller and waits for their answers, one for each. At a time as many
+    /// commands are outstanding as the geometry's window allows, and a refusal doesn't stop the
+    /// others. The answers and the subsystem are the same as if the commands were sent one at a
+    /// time. No memory is allocated. The bus must be as this driver left it, each field of each
+    /// command must fit its bits, and it must be possible to read its reply from its data. Section
+    /// "Command Processing".
     pub fn admin_all<B: Bus>(
         &mut self,
         bus: &mut B,
@@ -202,8 +173,7 @@ impl Driver {
         answers: &mut [AnswerSlot],
     )
         requires ctrl { ctrl < length self.old.pairs }
-        requires bus { IsBus (B.meaning bus.old) }
-        requires left { (B.meaning bus.old).banks ≡ banks_of self.old }
+        requires linked { IsLinked (B.meaning bus.old) self.old }
         requires fits { All CommandFits commands.now }
         requires sends { All IsSendable commands.now }
         requires len { length answers.old ≡ length commands.now }
@@ -211,9 +181,8 @@ impl Driver {
             (pair_at self.old.pairs ctrl).serial commands.now }
         ensures state { (B.meaning bus.new).state ≡ state_after ctrl (B.meaning bus.old).state
             (pair_at self.old.pairs ctrl).serial commands.now }
-        ensures bus { IsBus (B.meaning bus.new) }
         ensures driver { self.new ≡ after_commands self.old ctrl (length commands.now) }
-        ensures left { (B.meaning bus.new).banks ≡ banks_of self.new }
+        ensures linked { IsLinked (B.meaning bus.new) self.new }
     {
         let pair = &mut self.pairs[ctrl as usize];
         exchange_all(
@@ -227,12 +196,13 @@ impl Driver {
         );
     }
 
-    /// Sends an entry to a controller as it is but for its command identifier and data pointer, with
-    /// what the host has to send, and awaits its completion: dword 0 and the status. `out` gets as
-    /// many of the bytes that came as it has room for, and zeros after the last one; none come with a
-    /// refusal. Of what the host sends as many bytes go as the entry's data has, with zeros after the
-    /// last one that is given. The bus is as this driver left it, which was brought up for entries.
-    /// It takes no memory. Section "Command Processing".
+    /// Sends an entry to a controller, unchanged except for its command identifier and data
+    /// pointer, with the host's data, and waits for its completion: dword 0 and the status. `out`
+    /// receives as many of the controller's bytes as it has room for, and zeros after the last one;
+    /// after a refusal there are none. As many of the host's bytes are sent as the entry's data
+    /// has, with zeros after the last one that is given. The bus must be as this driver left it,
+    /// and the driver must have been brought up for entries. No memory is allocated. Section
+    /// "Command Processing".
     pub fn passthrough<B: Bus>(
         &mut self,
         bus: &mut B,
@@ -242,8 +212,7 @@ impl Driver {
         out: &mut [u8],
     ) -> Told
         requires ctrl { ctrl < length self.old.pairs }
-        requires bus { IsBus (B.meaning bus.old) }
-        requires left { (B.meaning bus.old).banks ≡ banks_of self.old }
+        requires linked { IsLinked (B.meaning bus.old) self.old }
         requires room { HasEntryPages self.old }
         requires fits { SqeFits entry.now }
         ensures answer { result ≡ told_by (entry_step (B.meaning bus.old).state ctrl
@@ -254,10 +223,9 @@ impl Driver {
         ensures room { length out.new ≡ length out.old }
         ensures state { (B.meaning bus.new).state ≡ (entry_step (B.meaning bus.old).state ctrl
             entry.now bytes.now (pair_at self.old.pairs ctrl).serial).state }
-        ensures bus { IsBus (B.meaning bus.new) }
         ensures driver { self.new ≡ after_command self.old ctrl }
         ensures entries { HasEntryPages self.new }
-        ensures left { (B.meaning bus.new).banks ≡ banks_of self.new }
+        ensures linked { IsLinked (B.meaning bus.new) self.new }
     {
         let first_page = self.geometry.pages(self.controllers() as u16);
         let pair = &mut self.pairs[ctrl as usize];
@@ -274,7 +242,7 @@ impl Driver {
         )
     }
 
-    /// How many controllers the driver has.
+    /// Returns how many controllers the driver has.
     #[tactic(auto, using(crate::proofs::AdminLaws::pair_count))]
     pub fn controllers(&self) -> usize
         ensures { result ≡ length self.now.pairs }
@@ -282,7 +250,7 @@ impl Driver {
         self.pairs.len()
     }
 
-    /// How many pages the host's memory has.
+    /// Returns how many pages the host's memory has.
     pub fn pages(&self) -> u64
         ensures { result ≡ self.now.pages }
     {

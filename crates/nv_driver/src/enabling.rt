@@ -1,4 +1,4 @@
-//! How controllers are enabled and reset.
+//! Enables and resets controllers.
 
 ghost use Rattle.std.specs.Prelude.{◌≡◌, ◌≢◌, ◌*◌, ◌<◌, ◌≤◌, All, IfErr, IsOk, MatchResult};
 ghost use Rattle.std.specs.Prelude.{length, map, slice_set};
@@ -28,10 +28,10 @@ use nv_register::offset;
 /// CC.EN, and the entry sizes of I/O queues: 64 and 16 bytes. Section "Controller Configuration".
 const ENABLE: u32 = 0x0046_0001;
 
-/// How often CSTS.RDY is read at most.
+/// The greatest number of times that CSTS.RDY is read.
 const READS: u32 = 16;
 
-/// CC.MPS: a page has two to this power times 4,096 bytes.
+/// Returns CC.MPS: a page has two to this power times 4,096 bytes.
 fn mps(page_size: u32) -> u32
     ensures value { result ≡ mps_of page_size }
     ensures few { result ≤ 4 }
@@ -45,14 +45,16 @@ fn mps(page_size: u32) -> u32
     }
 }
 
-/// CC of a controller that is enabled, in pages of this size. Section "Controller Configuration".
+/// Returns the CC of a controller that is enabled, with pages of this size. Section "Controller
+/// Configuration".
 fn configuration(page_size: u32) -> u32
     ensures { result ≡ cc_enabling page_size }
 {
     ENABLE + (mps(page_size) << 7)
 }
 
-/// AQA of two queues that have so many entries each, less one. Section "Admin Queue Attributes".
+/// Returns the AQA of two queues with `less_one + 1` entries each. Section "Admin Queue
+/// Attributes".
 fn attributes(less_one: u32) -> u32
     requires deep { less_one ≤ 4095 }
     ensures { result ≡ aqa_of_both less_one }
@@ -60,7 +62,7 @@ fn attributes(less_one: u32) -> u32
     (less_one << 16) + less_one
 }
 
-/// Awaits that CSTS.RDY has a value. Section "Controller Status".
+/// Waits until CSTS.RDY has a value. Section "Controller Status".
 fn await_ready<B: Bus>(bus: &B, ctrl: u16, ready: bool) -> Result<(), DriverError>
     requires { ctrl < length (B.meaning bus.now).banks }
     ensures ready { MatchResult result
@@ -76,8 +78,8 @@ fn await_ready<B: Bus>(bus: &B, ctrl: u16, ready: bool) -> Result<(), DriverErro
     Err(DriverError::NoReady)
 }
 
-/// Clears EN of a controller and awaits that it is not ready. Where EN was 1 this resets it.
-/// Section "Controller Configuration", Enable.
+/// Clears EN of a controller and waits until it is not ready. If EN was 1, this resets it. Section
+/// "Controller Configuration", Enable.
 fn disable<B: Bus>(bus: &mut B, ctrl: u16) -> Result<(), DriverError>
     requires { ctrl < length (B.meaning bus.old).banks }
     ensures ok { IsOk result }
@@ -111,7 +113,7 @@ fn set_queues<B: Bus>(bus: &mut B, ctrl: u16, less_one: u32, sq: u64, cq: u64)
     bus.write32(ctrl, offset::ACQ_HIGH, (cq >> 32) as u32);
 }
 
-/// Sets EN of a controller whose queues are set, and awaits that it is ready with new rings.
+/// Sets EN of a controller whose queues are set, and waits until it is ready with new rings.
 /// Section "Controller Configuration", Enable.
 fn start<B: Bus>(bus: &mut B, ctrl: u16, geometry: CheckedGeometry) -> Result<(), DriverError>
     requires ctrl { ctrl < length (B.meaning bus.old).banks }
@@ -126,8 +128,8 @@ fn start<B: Bus>(bus: &mut B, ctrl: u16, geometry: CheckedGeometry) -> Result<()
     await_ready(bus, ctrl, true)
 }
 
-/// Makes a controller ready with new rings at their places, of which the completion ring is zeroed.
-/// Section "Controller Initialization and Shutdown Processing".
+/// Makes a controller ready with new rings at their places. The completion ring is zeroed. Section
+/// "Controller Initialization and Shutdown Processing".
 fn enable<B: Bus, M: HostMemory>(
     bus: &mut B,
     ctrl: u16,
@@ -189,8 +191,8 @@ pub(crate) fn enable_all<B: Bus, M: HostMemory>(
     Ok(())
 }
 
-/// Resets a controller none of whose commands is outstanding: disables it, renews its rings and
-/// starts it with them. Section "Controller Level Reset".
+/// Resets a controller that has no command outstanding: disables it, renews its rings and starts it
+/// with them. Section "Controller Level Reset".
 pub(crate) fn reset<B: Bus, M: HostMemory>(
     bus: &mut B,
     ctrl: u16,

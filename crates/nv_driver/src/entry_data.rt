@@ -1,4 +1,4 @@
-//! The data of an entry that is sent as it is.
+//! The data of an entry that is sent unchanged.
 
 ghost use Rattle.std.specs.Prelude.{◌≡◌, ℕ, ◌<◌, ◌≤◌, length};
 ghost use Rattle.nv_bus.specs.Call.{HasRoom, length_of};
@@ -18,8 +18,8 @@ use nv_host::HostMemory;
 use nv_layout::{Sqe, Status};
 use nv_prp::{Buffer, Spans, copy_in, copy_out};
 
-/// Which way the data of an entry goes, and how many bytes: none where a controller refuses the
-/// entry before it reads the data pointer.
+/// Returns the direction and the length of an entry's data: none if a controller refuses the entry
+/// before it reads the data pointer.
 pub(crate) fn transfer_for(entry: &Sqe) -> Transfer
     ensures value { result ≡ transfer_for entry.now }
     ensures room { HasRoom result }
@@ -35,7 +35,7 @@ pub(crate) fn transfer_for(entry: &Sqe) -> Transfer
     }
 }
 
-/// How many bytes of data a transfer has.
+/// Returns how many bytes of data a transfer has.
 fn bytes_of(transfer: Transfer) -> u64
     ensures { result ≡ length_of transfer }
 {
@@ -46,7 +46,7 @@ fn bytes_of(transfer: Transfer) -> u64
     }
 }
 
-/// The same, of a transfer that a controller may make.
+/// Returns how many bytes of data a transfer has that a controller may make.
 pub(crate) fn length_of(transfer: Transfer) -> u32
     requires { length_of transfer ≤ greatest_limit }
     ensures { result ≡ length_of transfer }
@@ -54,7 +54,7 @@ pub(crate) fn length_of(transfer: Transfer) -> u32
     bytes_of(transfer) as u32
 }
 
-/// Writes so many bytes to a buffer, the first that the host has and zeros after the last one.
+/// Writes `len` bytes to a buffer: the first of the host's bytes, and zeros after the last one.
 fn write_padded<M: HostMemory>(
     mem: &mut M,
     buffer: &Buffer,
@@ -76,7 +76,7 @@ fn write_padded<M: HostMemory>(
     copy_out(mem, spans, &page[..len as usize]);
 }
 
-/// Writes what the host sends with an entry to the buffer of its data.
+/// Writes the host's data for an entry to its buffer.
 pub(crate) fn write_sent<M: HostMemory>(
     mem: &mut M,
     buffer: &Buffer,
@@ -103,7 +103,7 @@ pub(crate) fn write_sent<M: HostMemory>(
     }
 }
 
-/// Reads as much of a buffer as there is room for, and zeroes the room after it.
+/// Reads as much of a buffer as `out` has room for, and zeroes the rest of `out`.
 fn read_padded<M: HostMemory>(mem: &M, buffer: &Buffer, len: u32, spans: &mut Spans, out: &mut [u8])
     requires few { len ≤ greatest_limit }
     requires buffer { IsBuffer (M.bytes mem.now) (M.page_len mem.now)
@@ -117,7 +117,7 @@ fn read_padded<M: HostMemory>(mem: &M, buffer: &Buffer, len: u32, spans: &mut Sp
     zero_from(out, count);
 }
 
-/// Reads what the controller sent to the buffer of an entry's data, as much as there is room for.
+/// Reads the data that the controller sent to the buffer of an entry, as much as there is room for.
 fn read_received<M: HostMemory>(
     mem: &M,
     buffer: &Buffer,
@@ -139,7 +139,7 @@ fn read_received<M: HostMemory>(
     }
 }
 
-/// Reads what came to an entry with this status: nothing where it was refused.
+/// Reads the data that was received for an entry with this status: none if it was refused.
 pub(crate) fn receive<M: HostMemory>(
     mem: &M,
     buffer: &Buffer,

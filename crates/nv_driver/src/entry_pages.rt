@@ -1,14 +1,14 @@
-//! The pages of an entry that is sent as it is.
+//! The pages of an entry that is sent unchanged.
 
 ghost use Rattle.std.specs.Prelude.{◌≡◌, ℕ, ◌+◌, ◌<◌, ◌≤◌, ◌^◌, length, slice_index};
 
 use nv_host::PageNo;
 
-/// The most pages of an entry: 257 for 1,048,576 bytes that begin inside a page of 4,096, and two
-/// for a list.
+/// The greatest number of pages of an entry: 257 for 1,048,576 bytes that begin inside a page of
+/// 4,096, and two for a list.
 const MOST_PAGES: usize = 259;
 
-/// The numbers of so many pages, one after another from this one on.
+/// Returns `count` consecutive page numbers, beginning with `first`.
 pub(crate) fn pages_from(first: PageNo, count: usize) -> [PageNo; MOST_PAGES]
     requires few { count ≤ 259 }
     requires numbered { first + count < 2 ^ 32 }

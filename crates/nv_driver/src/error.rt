@@ -1,4 +1,4 @@
-//! Why a driver is not brought up, or a controller not reset.
+//! Why a driver can't be brought up, or a controller can't be reset.
 
 ghost use Rattle.std.specs.Prelude.{◌≡◌};
 ghost use Rattle.nv_driver.specs.declared.error.DriverError.TheVariants.{Memory as NoMemory};
@@ -7,16 +7,16 @@ use crate::geometry_field::GeometryField;
 use nv_host::Memory;
 use thiserror::Error;
 
-/// Why a driver is not brought up, or a controller not reset.
+/// Why a driver can't be brought up, or a controller can't be reset.
 #[derive(Clone, Copy, Debug, PartialEq, Eq, Error)]
 pub enum DriverError {
-    /// The first field of the geometry that is out of its limits.
+    /// The first field of the geometry that is outside its limits.
     #[error("geometry: {0}")]
     Geometry(GeometryField),
     /// There is no memory left to allocate.
     #[error("out of memory")]
     Memory,
-    /// A controller's CSTS.RDY is not as awaited. Section "Controller Status".
+    /// A controller's CSTS.RDY doesn't have the expected value. Section "Controller Status".
     #[error("no ready")]
     NoReady,
 }

@@ -1,4 +1,4 @@
-//! How many commands a driver has outstanding, and how their entries and data lie.
+//! How many commands a driver has outstanding, and where their entries and data are placed.
 
 ghost use Rattle.std.specs.Prelude.{◌≡◌, ◌%◌, ◌<◌, ◌≤◌, ◌↔◌, IfOk, IsTrue, MatchResult, None, Some};
 ghost use Rattle.nv_driver.specs.Geometry.{IsGeometry, fault_of, is_between, is_offset};
@@ -21,10 +21,11 @@ pub struct Geometry {
     /// Where a PRP list begins in its first page, in bytes: a multiple of 8, less than the page
     /// size. Section "Physical Region Page Entry and List".
     pub list_offset: u32,
-    /// The greatest number of outstanding commands, 1 to 16 and less than the depth.
+    /// The greatest number of outstanding commands, from 1 to 16 and less than the depth.
     pub window: u32,
-    /// The most entries of one turn, and the number of collected completions after which the head
-    /// is told, 1 to 4,096. Section "Completion Queue y Head Doorbell".
+    /// The greatest number of entries of one turn, and the number of collected completions after
+    /// which the head doorbell is written, from 1 to 4,096. Section "Completion Queue y Head
+    /// Doorbell".
     pub pace: u32,
 }
 
@@ -59,7 +60,7 @@ fn is_between(low: u32, high: u32, x: u32) -> bool
     low <= x && x <= high
 }
 
-/// Whether a multiple of `unit` lies in a page.
+/// Returns whether a number is a multiple of `unit` and less than the page size.
 #[tactic(auto, unfolding(crate::specs::Geometry::is_offset))]
 fn is_offset(unit: u32, page_size: u32, x: u32) -> bool
     requires { 0 < unit }
@@ -69,7 +70,7 @@ fn is_offset(unit: u32, page_size: u32, x: u32) -> bool
     x % unit == 0 && x < page_size
 }
 
-/// Whether so many commands can be outstanding on a ring.
+/// Returns whether a ring can have this number of outstanding commands.
 #[tactic(auto, unfolding(crate::specs::Geometry::is_window))]
 fn is_window(depth: u32, x: u32) -> bool
     ensures value { result ≡ is_window depth x }
@@ -79,7 +80,8 @@ fn is_window(depth: u32, x: u32) -> bool
 }
 
 impl Geometry {
-    /// The first field, in the order of the fields, that is out of its limits, if there is one.
+    /// Returns an error with the first field, in the order of the fields, that is outside its
+    /// limits, if there is one.
     pub fn check(&self) -> Result<(), GeometryField>
         ensures first { MatchResult result
             (λ _. fault_of self.now ≡ None)

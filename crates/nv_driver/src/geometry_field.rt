@@ -1,4 +1,4 @@
-//! The fields of a geometry by name.
+//! The names of the fields of a geometry.
 
 ghost use Rattle.std.specs.Prelude.{◌≡◌};
 ghost use Rattle.nv_driver.specs.Names.{field_name};
@@ -17,7 +17,7 @@ pub enum GeometryField {
 }
 
 impl GeometryField {
-    /// Its name, as a `Geometry` spells it.
+    /// Returns the field's name, as in `Geometry`.
     #[tactic(auto, unfolding(crate::specs::Names::field_name))]
     pub fn name(self) -> &'static str
         ensures { result.now ≡ field_name self }

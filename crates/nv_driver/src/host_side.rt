@@ -2,7 +2,7 @@
 
 use crate::scratch::Scratch;
 
-/// The host's memory, and where it puts the data of a command meanwhile.
+/// The host's memory, and buffers for the data of a command.
 #[derive(Drop)]
 pub struct HostSide<M> {
     pub mem: M,

@@ -8,15 +8,15 @@ ghost use Rattle.nv_driver.specs.Layout.{offset_for, pages_for, set_pages, submi
 
 use crate::checked_geometry::CheckedGeometry;
 
-/// The most bytes that a command's data has.
+/// The greatest length of a command's data, in bytes.
 const MOST_BYTES: u32 = 16_384;
 
-/// The most bytes that a controller moves for one command: its MDTS is 8 at most. Section "Identify
-/// Controller data structure".
+/// The greatest number of bytes that a controller transfers for one command, because its MDTS is at
+/// most 8. Section "Identify Controller data structure".
 pub(crate) const MOST_ENTRY_BYTES: u32 = 1_048_576;
 
-/// The pages of an outstanding command beside those of its data: one where the data begins inside a
-/// page, and two of a PRP list that begins inside a page.
+/// The pages of an outstanding command in addition to those of its data: one if the data begins
+/// inside a page, and two for a PRP list that begins inside a page.
 const MORE_PAGES: u32 = 3;
 
 /// Where one controller's rings and pages lie.
@@ -31,7 +31,7 @@ pub struct Place {
 }
 
 impl CheckedGeometry {
-    /// How many pages a submission ring takes.
+    /// Returns how many pages a submission ring takes.
     #[tactic(auto, unfolding(crate::specs::Layout::submission_pages))]
     fn submission_pages(self) -> u32
         ensures pages { result ≡ submission_pages self }
@@ -40,7 +40,7 @@ impl CheckedGeometry {
         (64 * u32::from(self.depth)).div_ceil(self.page_size)
     }
 
-    /// How many pages a completion ring takes.
+    /// Returns how many pages a completion ring takes.
     #[tactic(auto, unfolding(crate::specs::Layout::completion_pages))]
     fn completion_pages(self) -> u32
         ensures pages { result ≡ completion_pages self }
@@ -49,7 +49,7 @@ impl CheckedGeometry {
         (16 * u32::from(self.depth)).div_ceil(self.page_size)
     }
 
-    /// How many pages the outstanding commands take.
+    /// Returns how many pages the outstanding commands take.
     #[tactic(auto, unfolding(crate::specs::Layout::set_pages))]
     fn set_pages(self) -> u32
         ensures pages { result ≡ set_pages self }
@@ -58,7 +58,7 @@ impl CheckedGeometry {
         u32::from(self.window) * (MOST_BYTES.div_ceil(self.page_size) + MORE_PAGES)
     }
 
-    /// How many pages one controller takes.
+    /// Returns how many pages one controller takes.
     fn pair_pages(self) -> u32
         ensures pages { result ≡ pair_pages self }
         ensures few { result ≤ 0x180000 }
@@ -66,7 +66,7 @@ impl CheckedGeometry {
         self.submission_pages() + self.completion_pages() + self.set_pages()
     }
 
-    /// How many pages so many controllers take, of which there are 16 at most.
+    /// Returns how many pages `controllers` controllers take, at most 16 of them.
     #[tactic(auto, using(crate::proofs::LayoutLaws::pair_times))]
     pub(crate) fn pages(self, controllers: u16) -> u32
         requires controllers { controllers ≤ 16 }
@@ -76,7 +76,7 @@ impl CheckedGeometry {
         u32::from(controllers) * self.pair_pages()
     }
 
-    /// How many pages an entry takes that is sent as it is.
+    /// Returns how many pages an entry takes that is sent unchanged.
     #[tactic(auto, using(crate::proofs::PointerLaws::entry_pages_few))]
     fn entry_pages(self) -> u32
         ensures pages { result ≡ pages_of_entry self.page_size }
@@ -85,7 +85,7 @@ impl CheckedGeometry {
         MOST_ENTRY_BYTES.div_ceil(self.page_size) + MORE_PAGES
     }
 
-    /// How many pages lie behind those of the controllers: an entry's where they are wanted.
+    /// Returns how many pages follow those of the controllers: an entry's if they are wanted.
     pub(crate) fn more_pages(self, with_entries: bool) -> u32
         ensures pages { result
             ≡ (if with_entries then pages_of_entry self.page_size else 0) }
@@ -94,7 +94,7 @@ impl CheckedGeometry {
         if with_entries { self.entry_pages() } else { 0 }
     }
 
-    /// Where data of so many bytes begins in its first page.
+    /// Returns where data of `len` bytes begins in its first page.
     pub(crate) fn offset_for(self, len: u32) -> u32
         ensures value { result ≡ offset_for self len }
         ensures keeps { IsGeometry self }
@@ -102,8 +102,8 @@ impl CheckedGeometry {
         if len == 0 { 0 } else { self.offset }
     }
 
-    /// In how many pages data of so many bytes lies, in none without any: they are no more than the
-    /// pages for the most bytes leave beside a list.
+    /// Returns how many pages `len` bytes of data lie in, which is 0 if `len` is 0. With two pages
+    /// for a list they are no more than the pages for `most` bytes.
     pub(crate) fn data_pages(self, len: u32) -> usize
         ghost most: { ℕ }
         requires len { len ≤ most }
@@ -115,7 +115,8 @@ impl CheckedGeometry {
         (self.offset_for(len) + len).div_ceil(self.page_size) as usize
     }
 
-    /// Where the rings and pages of a controller lie. The page behind them has a number too.
+    /// Returns where the rings and pages of a controller lie. The number of the page after them
+    /// also fits 32 bits.
     #[tactic(auto, using(crate::proofs::LayoutLaws::lay))]
     pub(crate) fn place(self, ctrl: u16) -> Place
         requires ctrl { ctrl < 16 }

@@ -1,8 +1,8 @@
 //! The host's driver of the controllers of a bus.
 //!
 //! A [`Driver`] has memory of its own, with a submission ring, a completion ring and pages for each
-//! controller. [`Driver::bring_up`] makes this memory by a [`Geometry`], and makes each controller
-//! ready with its rings:
+//! controller. [`Driver::bring_up`] allocates this memory by a [`Geometry`], and makes each
+//! controller ready with its rings:
 //!
 //! ```
 //! let mut machine = Machine::new(alloc, subsystem)?;
@@ -10,9 +10,9 @@
 //! let pages = driver.pages(); // 9 for each controller
 //! ```
 //!
-//! [`Driver::admin`] sends a command through a controller's rings, with its data behind PRP entries
-//! in the driver's pages, and gives its answer: the reply, or the status of the refusal. The answer
-//! stands in an [`AnswerSlot`], which is made once.
+//! [`Driver::admin`] sends a command through a controller's rings, with its data in the driver's
+//! pages, which PRP entries name. It returns the answer: the reply, or the status of the refusal.
+//! The answer is stored in an [`AnswerSlot`], which is allocated once.
 //!
 //! ```
 //! let mut slot = AnswerSlot::new();
@@ -22,20 +22,21 @@
 //! }
 //! ```
 //!
-//! [`Driver::admin_all`] sends a list of commands, as many outstanding at a time as the geometry's
-//! window allows. The answers are those of one command at a time, and it goes on after a refusal.
+//! [`Driver::admin_all`] sends a list of commands, of which as many are outstanding at a time as
+//! the geometry's window allows. The answers are the same as if the commands were sent one at a
+//! time, and a refusal doesn't stop the others.
 //!
-//! [`Driver::reset`] resets a controller between its commands: the values of its features that were
-//! not saved are the defaults again, and its rings begin anew, while the command identifiers go on.
-//! [`Driver::bring_up`] resets each controller that it finds enabled.
+//! [`Driver::reset`] resets a controller between its commands: values of its features that were not
+//! saved return to their defaults, and its rings begin anew, while the command identifiers
+//! continue. [`Driver::bring_up`] resets each controller that it finds enabled.
 //!
 //! ```
 //! driver.reset(&mut machine, 0)?;
 //! ```
 //!
-//! [`Driver::passthrough`] sends any entry as it is, a reserved opcode too, and gives what its
-//! completion tells. Only the command identifier and the data pointer are the driver's own. A driver
-//! that is made by [`Driver::bring_up_for_entries`] has room for the data.
+//! [`Driver::passthrough`] sends any entry unchanged, even with a reserved opcode, and returns what
+//! its completion says. The driver sets only the command identifier and the data pointer. A driver
+//! from [`Driver::bring_up_for_entries`] has room for the data.
 //!
 //! ```
 //! let mut driver = Driver::bring_up_for_entries(alloc, &mut machine, Geometry::default())?;

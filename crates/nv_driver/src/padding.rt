@@ -3,7 +3,7 @@
 ghost use Rattle.std.specs.Prelude.{◌≡◌, ℕ, ◌<◌, ◌≤◌, length, slice_index_or};
 ghost use Rattle.nv_driver.specs.Request.{padded};
 
-/// Fills a slice with the first of some bytes, and with zeros after the last one.
+/// Fills a slice with the first of the given bytes, and with zeros after the last one.
 pub(crate) fn pad(out: &mut [u8], bytes: &[u8])
     ensures { out.new ≡ padded (length out.old) bytes.now }
 {
@@ -12,7 +12,7 @@ pub(crate) fn pad(out: &mut [u8], bytes: &[u8])
     }
 }
 
-/// Zeroes a slice from a place on.
+/// Zeroes a slice from an index on.
 pub(crate) fn zero_from(out: &mut [u8], from: usize)
     ensures len { length out.new ≡ length out.old }
     ensures kept { (i : ℕ) → i < from → slice_index_or out.new i 0 ≡ slice_index_or out.old i 0 }

@@ -1,4 +1,4 @@
-//! Sending an entry as it is.
+//! Sends an entry unchanged.
 
 ghost use Rattle.std.specs.Prelude.{◌≡◌, ℕ, ◌+◌, ◌*◌, ◌<◌, ◌≤◌, ◌^◌, ◌∷◌, [], length, slice_set};
 ghost use Rattle.nv_bus.specs.Call.{HasRoom, length_of};
@@ -32,8 +32,8 @@ use nv_model::SERIALS;
 use nv_prp::{Buffer, ListPlace};
 use nv_register::offset;
 
-/// Submits an entry under the next command identifier, with its data behind a data pointer, and
-/// answers the new tail.
+/// Submits an entry under the next command identifier, with a data pointer to its data, and returns
+/// the new tail.
 fn submit_entry<M: HostMemory>(
     mem: &mut M,
     pair: &mut QueuePair,
@@ -74,8 +74,8 @@ fn submit_entry<M: HostMemory>(
     tail
 }
 
-/// Tells a controller of the one entry that was submitted, gives it a turn, and collects the
-/// completion. Section "Command Processing".
+/// Rings the tail doorbell for the one entry that was submitted, gives the controller a turn, and
+/// collects the completion. Section "Command Processing".
 fn complete<B: Bus, M: HostMemory>(
     bus: &mut B,
     ctrl: u16,
@@ -103,9 +103,9 @@ fn complete<B: Bus, M: HostMemory>(
     completion
 }
 
-/// Sends an entry to a controller as it is but for its command identifier and data pointer, with its
-/// data and its list at a place that is of no queue pair, and awaits its completion. No command of
-/// the queue pair is outstanding, before and after.
+/// Sends an entry to a controller, unchanged except for its command identifier and data pointer,
+/// with its data and its list in pages that belong to no queue pair, and waits for its completion.
+/// No command of the queue pair is outstanding before or after.
 fn exchange_at<B: Bus, M: HostMemory>(
     bus: &mut B,
     ctrl: u16,
@@ -146,7 +146,8 @@ fn exchange_at<B: Bus, M: HostMemory>(
     }
 }
 
-/// The same, with its data and its list in pages from this one on.
+/// Does what `exchange_at` does, with the data and the list in consecutive pages that begin with
+/// this one.
 pub(crate) fn exchange_entry<B: Bus, M: HostMemory>(
     bus: &mut B,
     ctrl: u16,

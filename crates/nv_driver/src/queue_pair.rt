@@ -24,8 +24,8 @@ pub struct QueuePair {
 }
 
 impl QueuePair {
-    /// The queue pair of a controller before its first command. The page set has a bit for each
-    /// page.
+    /// Creates the queue pair of a controller before its first command. The page set has a bit for
+    /// each page.
     pub(crate) fn new(
         alloc: Global,
         geometry: CheckedGeometry,
@@ -44,8 +44,8 @@ impl QueuePair {
         })
     }
 
-    /// Begins its rings anew, after zeroing the completion ring, where no command is outstanding.
-    /// The command identifiers go on.
+    /// Makes the rings begin anew, after it zeroes the completion ring. No command must be
+    /// outstanding. The command identifiers continue.
     pub(crate) fn renew<M: HostMemory>(&mut self, mem: &mut M)
         requires quiet { IsQuiet self.old }
         requires inside { self.old.completion.base + 16 * self.old.completion.depth
@@ -64,7 +64,7 @@ impl QueuePair {
     }
 }
 
-/// The queue pairs of so many controllers before their first command.
+/// Creates the queue pairs of `count` controllers before their first command.
 #[tactic(auto, using(crate::proofs::QueuePairLaws::quiet_more, crate::proofs::QueuePairLaws::pairs_more))]
 pub(crate) fn new_pairs(
     alloc: Global,

@@ -1,9 +1,9 @@
-//! Where the driver puts the data of a command.
+//! The driver's buffers for the data of a command.
 
 use nv_prp::Spans;
 
-/// Places for the data of one command at a time, made once. What stands in them before is of no
-/// account.
+/// Buffers for the data of one command at a time, allocated once. What they hold before doesn't
+/// matter.
 #[derive(Drop)]
 pub struct Scratch {
     /// Where the data lies in the host's memory.

@@ -28,7 +28,7 @@ use nv_host::HostMemory;
 use nv_model::SERIALS;
 use nv_prp::{Buffer, copy_out};
 
-/// How many bytes of data a command has.
+/// Returns how many bytes of data a command has.
 #[tactic(auto, using(crate::proofs::DataLaws::shape_as, crate::proofs::DataLaws::most))]
 pub(crate) fn data_length(command: &Command) -> u32
     requires { IsSendable command.now }
@@ -42,8 +42,8 @@ pub(crate) fn data_length(command: &Command) -> u32
     }
 }
 
-/// The data pointer of so many bytes in the pages of a command, 0 and 0 where there are none: PRP1
-/// and PRP2. Writes its list where it has one. Section "Physical Region Page Entry and List".
+/// Returns the data pointer, PRP1 and PRP2, of `len` bytes in the pages of a command, or 0 and 0 if
+/// there are none. Writes its list if it has one. Section "Physical Region Page Entry and List".
 fn build_pointer<M: HostMemory>(
     mem: &mut M,
     geometry: CheckedGeometry,
@@ -92,7 +92,7 @@ fn write_page<M: HostMemory>(mem: &mut M, buffer: &Buffer, command: &Command, sc
     copy_out(mem, &scratch.spans, &scratch.page);
 }
 
-/// Writes what the host sends with a command to the buffer of its data.
+/// Writes the data that the host sends with a command to its buffer.
 #[tactic(auto, using(crate::proofs::DataLaws::none_sent))]
 fn write_data<M: HostMemory>(mem: &mut M, buffer: &Buffer, command: &Command, scratch: &mut Scratch)
     requires can { CanBeSent command.now }
@@ -111,9 +111,8 @@ fn write_data<M: HostMemory>(mem: &mut M, buffer: &Buffer, command: &Command, sc
     }
 }
 
-/// Submits a command: takes its pages, writes its list and what the host sends with it where it has
-/// any, and puts its entry in the ring. Answers its pages, and the new tail. Section "Submission
-/// Queue Entry".
+/// Submits a command: takes its pages, writes its list and the host's data if it has any, and puts
+/// its entry in the ring. Returns its pages and the new tail. Section "Submission Queue Entry".
 pub(crate) fn submit<M: HostMemory>(
     mem: &mut M,
     pair: &mut QueuePair,

@@ -1,4 +1,4 @@
-//! A script line by line, with what each line writes and leaves.
+//! A script line by line, with what each line writes and leaves behind.
 
 ghost use Rattle.std.specs.Prelude.{IfSome};
 ghost use Rattle.nv_bus.specs.Bus.{IsBus};
@@ -9,7 +9,7 @@ use nv_script::READ_SIZE;
 use nv_subsystem::Subsystem;
 use std::alloc::{AllocError, Global};
 
-/// What a line writes, on one of the two streams, and what the first controller has after it.
+/// What a line writes to one of the two streams, and the state of the first controller after it.
 #[derive(Drop)]
 pub struct Line {
     pub out: String,
@@ -17,7 +17,7 @@ pub struct Line {
     pub kept: Kept,
 }
 
-/// One of the two streams that a line may write on.
+/// One of the two streams that a line may write to.
 #[derive(Clone, Copy, PartialEq, Eq)]
 pub enum Stream {
     Output,
@@ -25,7 +25,7 @@ pub enum Stream {
 }
 
 impl Stream {
-    /// What a line writes on it.
+    /// Returns what a line writes to it.
     pub(crate) fn of(self, line: &Line) -> &str {
         match self {
             Stream::Output => line.out.as_str(),
@@ -33,7 +33,7 @@ impl Stream {
         }
     }
 
-    /// The other one.
+    /// Returns the other one.
     pub(crate) fn other(self) -> Stream {
         match self {
             Stream::Output => Stream::Messages,
@@ -46,16 +46,18 @@ impl Stream {
 #[derive(Drop)]
 pub struct Case {
     pub file: String,
-    /// What the first controller has before the first line.
+    /// The state of the first controller before the first line.
     pub before: Kept,
     pub script: String,
-    /// The most bytes of it that one read gives, where memory is refused.
+    /// The greatest number of bytes of the script that one read returns, in runs where memory is
+    /// refused.
     pub most: usize,
     pub lines: Vec<Line>,
 }
 
 impl Case {
-    /// No lines yet, over a file whose first controller has this value of its write cache.
+    /// Creates a case without lines, over a file whose first controller has this value of its write
+    /// cache.
     pub(crate) fn new(alloc: Global, file: &str, cache: Option<u32>) -> Result<Case, AllocError> {
         Ok(Case {
             file: String::from_str(alloc, file)?,
@@ -69,7 +71,7 @@ impl Case {
         })
     }
 
-    /// Adds a line, with what it writes and what the first controller has after it.
+    /// Adds a line, with what it writes and the state of the first controller after it.
     fn add(
         &mut self,
         line: &str,
@@ -82,7 +84,7 @@ impl Case {
         Ok(())
     }
 
-    /// A line that prints a text, and leaves the write cache as it is.
+    /// Adds a line that prints a text and doesn't change the write cache.
     pub(crate) fn prints(
         &mut self,
         alloc: Global,
@@ -94,7 +96,7 @@ impl Case {
         self.sets(alloc, line, text, Kept { counts, cache })
     }
 
-    /// A line that prints a text.
+    /// Adds a line that prints a text and sets the write cache.
     pub(crate) fn sets(
         &mut self,
         alloc: Global,
@@ -106,7 +108,7 @@ impl Case {
         self.add(line, out, String::new(alloc), kept)
     }
 
-    /// A line that is refused with a status.
+    /// Adds a line that is refused with a status.
     pub(crate) fn refused(
         &mut self,
         alloc: Global,
@@ -120,7 +122,7 @@ impl Case {
         self.add(line, String::new(alloc), message, Kept { counts, cache })
     }
 
-    /// What the first lines write on a stream.
+    /// Returns what the first `lines` lines write to a stream.
     pub(crate) fn text(
         &self,
         alloc: Global,
@@ -134,7 +136,7 @@ impl Case {
         Ok(text)
     }
 
-    /// What the first controller has after so many lines.
+    /// Returns the state of the first controller after `lines` lines.
     pub(crate) fn kept(&self, lines: usize) -> Kept {
         match self.lines.iter().take(lines).last() {
             Some(line) => line.kept,
@@ -142,7 +144,7 @@ impl Case {
         }
     }
 
-    /// The status after its last line.
+    /// Returns the status after the last line.
     pub(crate) fn status(&self) -> u8 {
         match self.lines.last() {
             Some(line) if line.message.is_empty() => 0,
@@ -150,7 +152,7 @@ impl Case {
         }
     }
 
-    /// The controllers of its subsystem, after power on; none where memory was refused.
+    /// Returns the controllers of its subsystem after power on, or none if memory was refused.
     pub(crate) fn machine(&self, alloc: Global) -> Option<Machine>
         ensures { IfSome result IsBus }
     {

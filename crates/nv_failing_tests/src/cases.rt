@@ -5,7 +5,7 @@ use crate::kept::Kept;
 use nv_subsystem::DEMO;
 use std::alloc::{AllocError, Global};
 
-/// The write cache's value where it is on, as in the demonstration subsystem.
+/// The write cache's value when it is on, as in the demonstration subsystem.
 const ON: Option<u32> = Some(1);
 
 const OFF: Option<u32> = Some(0);
@@ -22,7 +22,7 @@ fn lists(alloc: Global) -> Result<Case, AllocError> {
     Ok(case)
 }
 
-/// A namespace of all that is left, one more, and the error that this makes.
+/// A namespace of all the capacity that is left, one more, and the error that this causes.
 fn capacity(alloc: Global) -> Result<Case, AllocError> {
     let mut case = Case::new(alloc, DEMO, ON)?;
     case.prints(
@@ -64,7 +64,7 @@ const ERRORS: &str = "{\"errors\":[\
 {\"cmdid\":0,\"cs\":0,\"error_count\":1,\"lba\":0,\"nsid\":0,\"parm_err_loc\":65535,\
 \"sqid\":0,\"status_field\":24587,\"vs\":0}]}";
 
-/// Three refusals, and the log of them in JSON.
+/// Three refusals, and the error log with them in JSON.
 fn errors(alloc: Global) -> Result<Case, AllocError> {
     let mut case = Case::new(alloc, DEMO, ON)?;
     case.refused(alloc, "id-ns /dev/nvme0 -n 0", NAMESPACE, (1, 1))?;
@@ -163,7 +163,7 @@ const SET_OFF: (&str, &str) = (
 
 const RESET: (&str, &str) = ("reset /dev/nvme0", "reset: Success");
 
-/// A value that a reset takes back, twice, and one that is saved.
+/// A value that a reset restores, twice, and one that is saved.
 fn resets(alloc: Global) -> Result<Case, AllocError> {
     let mut case = Case::new(alloc, DEMO, ON)?;
     for (line, text, counts, cache) in [
@@ -186,8 +186,8 @@ fn resets(alloc: Global) -> Result<Case, AllocError> {
     Ok(case)
 }
 
-/// A line that is read byte by byte and begins with another one, which would turn the write cache
-/// off: cut short in its last word, it leaves the cache on.
+/// A line that is read byte by byte. Without its last two characters it would turn the write cache
+/// off, but if it is cut short there, the cache must stay on.
 fn bytes(alloc: Global) -> Result<Case, AllocError> {
     let mut case = Case::new(alloc, DEMO, ON)?;
     case.most = 1;
@@ -200,7 +200,7 @@ fn bytes(alloc: Global) -> Result<Case, AllocError> {
     Ok(case)
 }
 
-/// All of them.
+/// Returns all cases.
 pub(crate) fn cases(alloc: Global) -> Result<Vec<Case>, AllocError> {
     let mut cases = Vec::new(alloc);
     cases.push(lists(alloc)?)?;

@@ -6,8 +6,8 @@ use nv_script::Sink;
 use std::alloc::Global;
 use std::cmp;
 
-/// Takes at most so many bytes a write. After so many writes it fails: it takes none, or, where it
-/// takes an odd number of bytes a write, it answers an error.
+/// Takes at most `most` bytes a write. After a given number of writes it fails: it takes none, or
+/// returns an error if `most` is odd.
 #[derive(Drop)]
 pub struct CutSink {
     pub taken: Vec<u8>,

@@ -6,7 +6,7 @@ ghost use Rattle.nv_stream.specs.Streams.{IsFresh};
 use nv_script::Source;
 use std::cmp;
 
-/// Gives a script in pieces of at most so many bytes, and an error at a given call, counted from 0.
+/// Provides a script in pieces of at most `most` bytes, and fails at a given call, counted from 0.
 #[derive(Drop)]
 pub struct CutSource<'a> {
     script: &'a [u8],

@@ -1,11 +1,11 @@
-//! What the first controller of a subsystem has, of all that a script can change.
+//! The state of the first controller of a subsystem, as far as a script can change it.
 
 use nv_controller::Machine;
 use nv_layout::{NsList, ThreeBits};
 use nv_subsystem::{Command, FeatureQuery, Reply, Subsystem};
 
-/// How many refusals and commands it has counted, and its write cache's current value, if there is
-/// a cache.
+/// How many refusals and commands the controller has counted, and the current value of its write
+/// cache, if there is one.
 #[derive(Clone, Copy, PartialEq, Eq)]
 pub struct Kept {
     pub counts: (u64, u64),
@@ -31,7 +31,7 @@ fn cache_of(subsystem: &Subsystem) -> Option<u32> {
 }
 
 impl Kept {
-    /// What it has now.
+    /// Returns the state now.
     pub(crate) fn of(machine: &Machine) -> Kept {
         let subsystem = machine.subsystem();
         let counts = if subsystem.controllers() == 0 {
@@ -45,7 +45,7 @@ impl Kept {
         }
     }
 
-    /// Whether it can stand between two others, of which one came before the other.
+    /// Returns whether this state can be between two others, of which `before` is the earlier one.
     pub(crate) fn is_between(self, before: Kept, after: Kept) -> bool {
         let (refusals, commands) = self.counts;
         before.counts.0 <= refusals

@@ -1,6 +1,6 @@
-//! Runs that are cut short: a read, a write or an allocation fails at any place, and what the run
-//! leaves is compared with what its lines write. Reads and writes fail in tests. Allocations fail
-//! where whoever starts this program makes them fail; it then looks at what each run left.
+//! Tests runs that are cut short: a read, a write or an allocation fails at any place, and what the
+//! run leaves behind is compared with what its lines write. Reads and writes fail in tests. Whoever
+//! starts this program makes allocations fail; it then checks what each run left behind.
 #![tactic(auto)]
 
 mod case;
@@ -20,8 +20,8 @@ use memory::{Left, run_case};
 use std::io;
 use std::process::ExitCode;
 
-/// Runs each script, and says of each what it left. Whether none left anything else than whole
-/// lines is answered.
+/// Runs each script, and prints what it left behind. Returns whether each run left only whole
+/// lines.
 fn run_all(rt: &HostRuntime) -> io::Result<bool> {
     let mut is_right = true;
     for case in &cases(rt.alloc())? {

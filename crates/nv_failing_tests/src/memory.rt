@@ -1,5 +1,5 @@
-//! Memory that is refused at any place: all texts of the lines before stand whole, nothing of the
-//! line's own, and of its commands none, some or all were executed.
+//! Memory that is refused at any place: the texts of all lines before are complete, nothing of the
+//! line's own is written, and none, some or all of its commands were executed.
 
 use crate::case::{Case, Stream};
 use crate::cut_source::CutSource;
@@ -8,15 +8,16 @@ use nv_script::{Geometry, OverWrite, RunEnd, run};
 use std::alloc::{AllocError, Global};
 use std::{fmt, io};
 
-/// Room for all that a script writes on a stream, so that a write needs no memory.
+/// The size of a buffer that holds everything that a script writes to a stream, so that writes need
+/// no memory.
 const ROOM: usize = 0x2_0000;
 
-/// What a run left.
+/// What a run left behind.
 #[derive(Clone, Copy, PartialEq, Eq)]
 pub enum Left {
-    /// All texts, and the last line's status.
+    /// All texts, and the status of the last line.
     Whole,
-    /// The texts of some lines, where memory was refused.
+    /// The texts of some lines, if memory was refused.
     Beginning,
     /// Anything else.
     Other,
@@ -32,7 +33,7 @@ impl fmt::Display for Left {
     }
 }
 
-/// What the two streams took, and what the first controller has.
+/// What the two streams took, and the state of the first controller.
 #[derive(Drop)]
 struct Streams {
     out: Vec<u8>,
@@ -41,8 +42,8 @@ struct Streams {
 }
 
 impl Streams {
-    /// Whether they hold the texts of the first lines and nothing else, and the controller has
-    /// what it has after them, or after some commands of the next line.
+    /// Returns whether the streams hold the texts of the first lines and nothing else, and the
+    /// controller has the state after them, or after some commands of the next line.
     fn are_of(&self, alloc: Global, case: &Case, lines: usize) -> Result<bool, AllocError> {
         let out = case.text(alloc, Stream::Output, lines)?;
         let messages = case.text(alloc, Stream::Messages, lines)?;
@@ -55,7 +56,7 @@ impl Streams {
         )
     }
 
-    /// Whether they are of some first lines, but not of all.
+    /// Returns whether this is true for some first lines, but not for all.
     fn are_of_some(&self, alloc: Global, case: &Case) -> Result<bool, AllocError> {
         for lines in 0..case.lines.len() {
             if self.are_of(alloc, case, lines)? {
@@ -66,7 +67,7 @@ impl Streams {
     }
 }
 
-/// Runs a script and looks at what it left. An error is of what stands around the run.
+/// Runs a script and checks what it left behind. An error comes from outside the run.
 pub(crate) fn run_case(alloc: Global, case: &Case) -> io::Result<Left> {
     let Some(mut machine) = case.machine(alloc) else {
         return Err(io::Error::from(io::ErrorKind::OutOfMemory));

@@ -1,4 +1,4 @@
-//! A read that fails at each call: the lines whose newline was read have been executed.
+//! A read that fails at each call: the lines whose newlines were read have been executed.
 
 ghost use Rattle.std.specs.Prelude.{◌<◌};
 
@@ -13,7 +13,7 @@ use std::alloc::Global;
 use std::process::Abort;
 use std::test::Fail;
 
-/// How many newlines stand in the first bytes of a script.
+/// Returns how many newlines the first bytes of a script have.
 fn newlines(script: &[u8], bytes: usize) -> usize {
     script
         .iter()
@@ -22,8 +22,8 @@ fn newlines(script: &[u8], bytes: usize) -> usize {
         .count()
 }
 
-/// Runs a script whose source gives so many bytes a read and fails at a call. Whether it failed is
-/// answered: a script that was read to its end before has not.
+/// Runs a script whose source provides at most `most` bytes a read and fails at a call. Returns
+/// whether it failed, which it doesn't if the script was read to its end before.
 fn fails_at(
     rt: &impl Abort,
     alloc: Global,
@@ -65,7 +65,7 @@ fn fails_at(
     }
 }
 
-/// How many calls a run may make.
+/// The greatest number of calls of a run.
 const MOST_CALLS: u64 = 1000;
 
 #[test]
@@ -84,7 +84,7 @@ fn executes_the_lines_that_were_read(rt: HostRuntime) -> Result<(), Fail> {
     Ok(())
 }
 
-/// A line in one read, where so many reads may be made.
+/// Runs a script of one line, provided by one read, with at most `reads` reads.
 fn ends_within(rt: &impl Abort, alloc: Global, reads: u32) -> Result<RunEnd, Fail>
     requires { 0 < reads }
 {

@@ -1,5 +1,5 @@
-//! A write that fails at each call: all texts of the lines before stand whole, of the line's own
-//! text a beginning, and the line has been executed.
+//! A write that fails at each call: the texts of all lines before are complete, a beginning of the
+//! line's own text is written, and the line has been executed.
 
 use crate::case::{Case, Stream};
 use crate::cases::cases;
@@ -10,8 +10,8 @@ use std::alloc::Global;
 use std::process::Abort;
 use std::test::Fail;
 
-/// The line in whose text a stream failed that had taken so many bytes; none where it had taken
-/// all.
+/// Returns the line in whose text a stream failed that had taken `taken` bytes, or none if it had
+/// taken all.
 fn cut_line(case: &Case, stream: Stream, taken: usize) -> Option<usize> {
     let mut end = 0usize;
     for (index, line) in case.lines.iter().enumerate() {
@@ -23,8 +23,8 @@ fn cut_line(case: &Case, stream: Stream, taken: usize) -> Option<usize> {
     None
 }
 
-/// Runs a script of which one stream takes so many bytes a write, and fails after so many writes.
-/// Whether it failed is answered.
+/// Runs a script in which one stream takes at most `most` bytes a write and fails after `calls`
+/// writes. Returns whether it failed.
 fn fails_after(
     rt: &impl Abort,
     alloc: Global,
@@ -69,7 +69,7 @@ fn fails_after(
     Ok(true)
 }
 
-/// How many writes a run may make.
+/// The greatest number of writes of a run.
 const MOST_CALLS: u64 = 1000;
 
 #[test]

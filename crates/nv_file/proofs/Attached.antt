@@ -1,4 +1,4 @@
--- What the test of the attachments says.
+-- What the test of the attachments means.
 use Rattle.std.proofs.Common.{◌≡◌, ◌≢◌, ℕ, ◌≤◌, ℤ, pos, Bool, true, false, not, ◌&&◌, ◌||◌, List, [], ◌∷◌, length}
 use Rattle.std.proofs.Common.{get_or, int_eq, nat_le, refl, sym, ◌∙◌, arith}
 use Rattle.std.specs.Prelude.{All, Any, AllPairs}

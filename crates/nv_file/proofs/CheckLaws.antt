@@ -1,87 +1,68 @@
--- Steps that go on while checks hold.
-use Rattle.std.proofs.Common.{◌≡◌, ◌∙◌, Bool, true, false, if◌then◌else◌, List, [], ◌∷◌, ◌++◌, Option, Some, None}
-use Rattle.std.proofs.Common.{is_some, Result, Ok, Err, map, refl, sym, ap, append_assoc}
-use Rattle.std.proofs.lemmas.List.{append-nil, map_push}
-use Rattle.std.specs.Prelude.{unwrap_or}
-use Rattle.std.specs.Option.{ok_or}
-use Rattle.toml.specs.Data.{Members}
-use Rattle.nv_layout.specs.Steps.{◌>>=◌}
+-- The first check that fails, of checks one after the other.
+use Rattle.std.proofs.Common.{◌≡◌, ◌∙◌, inl, inr, Bool, true, false, if◌then◌else◌, List, [], ◌∷◌, ◌++◌, Option}
+use Rattle.std.proofs.Common.{Some, None, Result, Ok, Err, refl, sym, ap, subst}
+use Rattle.std.specs.Option.{option_map_or}
 use Rattle.nv_file.specs.declared.error.SubsystemError.{SubsystemError}
-use Rattle.nv_file.specs.Check.{Check, check, checked}
-use Rattle.nv_file.specs.inner.Fault.{ensure}
-use Rattle.nv_file.specs.KeyChecks.{each}
-use Rattle.nv_file.specs.inner.KeyReading.{readings}
+use Rattle.nv_file.specs.declared.error.SubsystemError.TheVariants.{NotToml, Missing, Kind, Range, Repeated, Unknown}
+use Rattle.nv_file.specs.declared.error.SubsystemError.TheVariants.{Capacity, Attachment, Memory}
+use Rattle.nv_file.specs.Check.{Check, check, checked, first_fault}
+use Rattle.nv_file.specs.Fault.{IsUnlessMemory}
+use Rattle.nv_file.specs.inner.Reading.{IsCheckedUnlessMemory}
 
-branch : {A B : Type 0} (b : Bool) (r : Result A SubsystemError) (s : Result B SubsystemError)
-    (e : SubsystemError) (f : A → Result B SubsystemError) → (r >>= f) ≡ s
-    → ((if b then r else Err e) >>= f) ≡ (if b then s else Err e)
-branch true r s e f h = h
-branch false r s e f h = refl
+-- the first of two, or else the second
+abbrev pub or_else : Option SubsystemError → Option SubsystemError → Option SubsystemError
+or_else None second = second
+or_else (Some e) second = Some e
 
-after : {A B : Type 0} (cs ds : List Check) (v : A) (f : A → Result B SubsystemError) (w : B)
-    → f v ≡ checked ds w → (checked cs v >>= f) ≡ checked (cs ++ ds) w
-unfolding checked
-after [] ds v f w h = h
-after (c ∷ cs) ds v f w h =
-    branch c.holds (checked cs v) (checked (cs ++ ds) w) c.fault f (after cs ds v f w h)
+by_first : (b : Bool) (e : SubsystemError) (r s : Option SubsystemError)
+    → (if b then or_else r s else Some e) ≡ or_else (if b then r else Some e) s
+by_first true e r s = refl
+by_first false e r s = refl
 
--- a step that is checks, and then another
-pub step : {A B : Type 0} {r : Result A SubsystemError} (cs : List Check) {v : A}
-    (f : A → Result B SubsystemError) (ds : List Check) (w : B)
-    → r ≡ checked cs v → f v ≡ checked ds w → (r >>= f) ≡ checked (cs ++ ds) w
-step cs f ds w e h = ap (λ x. x >>= f) e ∙ after cs ds _ f w h
+pub faults_append : (cs ds : List Check) → first_fault (cs ++ ds) ≡ or_else (first_fault cs) (first_fault ds)
+unfolding first_fault
+faults_append [] ds = refl
+faults_append (c ∷ cs) ds = rw (faults_append cs ds) (by_first c.holds c.fault (first_fault cs) (first_fault ds))
 
--- no check is left
-pub done : {A : Type 0} (x : A) → Ok x ≡ checked [] x
-unfolding checked
-done x = refl
+pub faults_none : first_fault [] ≡ None
+unfolding first_fault
+faults_none = refl
 
--- a last step, of which a value is made
-pub last : {A B : Type 0} {r : Result A SubsystemError} (cs : List Check) (g : A → B) (v : A)
-    → r ≡ checked cs v → (r >>= (λ x. Ok (g x))) ≡ checked cs (g v)
-last cs g v e = step cs (λ x. Ok (g x)) [] (g v) e (done (g v)) ∙ ap (λ xs. checked xs (g v)) (append-nil cs)
+pub fault_of : (b : Bool) (e : SubsystemError) → first_fault (check b e) ≡ (if b then None else Some e)
+unfolding first_fault check
+fault_of b e = refl
 
-pub ensure_law : (b c : Bool) (e : SubsystemError) → b ≡ c → ensure b e ≡ checked (check c e) tt
-unfolding ensure checked
-ensure_law b c e is = ap (λ x. ensure x e) is
+-- what the second of two lists says, where the first passes
+pub past : (cs ds : List Check) (o : Option SubsystemError) → first_fault cs ≡ None → first_fault ds ≡ o
+    → first_fault (cs ++ ds) ≡ o
+past cs ds o passes h = faults_append cs ds ∙ ap (λ f. or_else f (first_fault ds)) passes ∙ h
 
--- a step that is a rule, with the rule at hand afterwards
-pub step_rule : {B : Type 0} (b : Bool) (e : SubsystemError) (f : Unit {0} → Result B SubsystemError)
-    (ds : List Check) (w : B) → (b ≡ true → f tt ≡ checked ds w)
-    → (ensure b e >>= f) ≡ checked (check b e ++ ds) w
-unfolding ensure checked
-step_rule true e f ds w h = h refl
-step_rule false e f ds w h = refl
+-- the fault of the first of two
+pub fails_first : (cs ds : List Check) (e : SubsystemError) → first_fault cs ≡ Some e
+    → first_fault (cs ++ ds) ≡ Some e
+fails_first cs ds e fails = faults_append cs ds ∙ ap (λ f. or_else f (first_fault ds)) fails
 
-pub some_law : {A : Type 0} (o : Option A) (e : SubsystemError) (default : A)
-    → ok_or o e ≡ checked (check (is_some o) e) (unwrap_or o default)
-unfolding checked
-some_law None e default = refl
-some_law (Some x) e default = refl
+pub ruleset faults = (faults_append, faults_none, fault_of)
 
--- a step that wants something, and then what is done with it
-pub step_some : {A B : Type 0} (o : Option A) (e : SubsystemError) (f : A → Result B SubsystemError)
-    (ds : List Check) (w : B) → ((x : A) → o ≡ Some x → f x ≡ checked ds w)
-    → (ok_or o e >>= f) ≡ checked (check (is_some o) e ++ ds) w
-unfolding checked
-step_some None e f ds w h = refl
-step_some (Some x) e f ds w h = h x refl
+-- ---- the same as an answer
 
--- the tables of a list, each with the values of those before it at hand
-module _ {A : Type 0} (read : List A → Members → Result A SubsystemError)
-    (checks : List Members → Members → List Check) (value : Members → A)
-    (law : (before : List Members) (m : Members)
-    → read (map value before) m ≡ checked (checks before m) (value m)) where
-  readings_from : (before ms : List Members)
-      → readings read (map value before) ms ≡ checked (each checks before ms) (map value (before ++ ms))
-  readings_from before [] = done (map value before)
-      ∙ ap (λ xs. checked [] (map value xs)) (sym (append-nil before))
-  readings_from before (m ∷ ms) = step (checks before m) _ (each checks (before ++ m ∷ []) ms) _
-      (law before m)
-      (ap (λ xs. readings read xs ms) (sym (map_push value before m))
-      ∙ readings_from (before ++ m ∷ []) ms
-      ∙ ap (λ xs. checked (each checks (before ++ m ∷ []) ms) (map value xs))
-      (append_assoc before (m ∷ []) ms))
+fails_exactly : {X A : Type 0} (f : X → A) (e : SubsystemError) (r : Result A SubsystemError)
+    → r ≡ Err e → IsUnlessMemory f (Err e) r
+fails_exactly f NotToml r h = h
+fails_exactly f (Missing t k) r h = h
+fails_exactly f (Kind t k) r h = h
+fails_exactly f (Range t k) r h = h
+fails_exactly f (Repeated t k) r h = h
+fails_exactly f (Unknown t) r h = h
+fails_exactly f Capacity r h = h
+fails_exactly f Attachment r h = h
+fails_exactly f Memory r h = tt
 
-  pub readings_law : (ms : List Members) → readings read [] ms ≡ checked (each checks [] ms) (map value ms)
-  readings_law ms = readings_from [] ms
+pub answers : {X Y : Type 0} (view : X → Y) (checks : List Check) (value : Y) (r : Result X SubsystemError)
+    → IsCheckedUnlessMemory view checks value r → IsUnlessMemory view r (checked checks value)
+answers view checks value (Ok x) h =
+    ap (λ o. option_map_or (λ e. Err e) o (Ok value)) h.0 ∙ ap (λ v. Ok v) (sym h.1)
+answers view checks value (Err e) (inl memory) =
+    subst (λ (x : SubsystemError). IsUnlessMemory view (Err x) (checked checks value)) (sym memory) tt
+answers view checks value (Err e) (inr fault) =
+    fails_exactly view e (checked checks value) (ap (λ o. option_map_or (λ x. Err x) o (Ok value)) fault)

@@ -1,6 +1,6 @@
 -- Keys that differ, as entries are added.
 use Rattle.std.proofs.Common.{◌≡◌, ◌≢◌, ℕ, zero, suc, ◌<◌, Bool, true, false, ◌||◌, ◌==◌, List, [], ◌∷◌, ◌++◌, length}
-use Rattle.std.proofs.Common.{get_or, map, refl, ◌∙◌, arith, eq-eqb}
+use Rattle.std.proofs.Common.{get_or, map, refl, sym, ◌∙◌, arith, eq-eqb}
 use Rattle.std.specs.Prelude.{AllPairs}
 use Rattle.std.specs.List.{list_any}
 use Rattle.std.proofs.lemmas.List.{map_push}
@@ -8,8 +8,9 @@ use Rattle.std.proofs.lemmas.List.Quantifiers.{all_pairs_push}
 use Rattle.nv_model.specs.declared.feature_rule.FeatureRule.{FeatureRule}
 use Rattle.nv_file.specs.declared.controller.ControllerEntry.{ControllerEntry}
 use Rattle.nv_file.specs.declared.namespace.NamespaceEntry.{NamespaceEntry}
+use Rattle.nv_file.specs.KeyChecks.{is_among}
 use Rattle.nv_file.specs.FileValue.{controller_entry_view, namespace_entry_view}
-use Rattle.nv_file.proofs.Fused.{cntlids, nsids}
+use Rattle.nv_model.proofs.MappedLaws.{list_any-map}
 
 or_false : (a b : Bool) → (a || b) ≡ false → (a ≡ false) × (b ≡ false)
 or_false true b h = absurd (cc h)
@@ -31,22 +32,33 @@ fresh_last key xs x pairs new = all_pairs_push (λ a b. key a ≢ key b) xs x pa
     (λ k d lt. none_is key xs (key x) new k d lt)
 
 pub fresh_rule : (xs : List FeatureRule) (x : FeatureRule) → AllPairs (λ a b. a.fid ≢ b.fid) xs
-    → list_any (λ y. y.fid == x.fid) xs ≡ false → AllPairs (λ a b. a.fid ≢ b.fid) (xs ++ x ∷ [])
-fresh_rule = fresh_last (λ r. r.fid)
+    → is_among (map (λ r. r.fid) xs) x.fid ≡ false
+    → AllPairs (λ a b. a.fid ≢ b.fid) (xs ++ x ∷ [])
+unfolding is_among
+fresh_rule xs x pairs new =
+    fresh_last (λ r. r.fid) xs x pairs
+    (sym (list_any-map (λ other. other == x.fid) (λ (r : FeatureRule). r.fid) xs) ∙ new)
+
+-- the same of what entries stand for
+fresh_view : {A B : Type 0} (view : A → B) (key : B → ℕ) (xs : List A) (x : A)
+    → AllPairs (λ a b. key a ≢ key b) (map view xs)
+    → is_among (map (λ a. key (view a)) xs) (key (view x)) ≡ false
+    → AllPairs (λ a b. key a ≢ key b) (map view (xs ++ x ∷ []))
+unfolding is_among
+fresh_view view key xs x pairs new = rw (map_push view xs x)
+    (fresh_last key (map view xs) (view x) pairs
+    (list_any-map (λ b. key b == key (view x)) view xs
+    ∙ sym (list_any-map (λ other. other == key (view x)) (λ a. key (view a)) xs) ∙ new))
 
 pub fresh_controller : (xs : List ControllerEntry) (x : ControllerEntry)
     → AllPairs (λ a b. a.identity.cntlid ≢ b.identity.cntlid) (map controller_entry_view xs)
-    → list_any (λ y. y.identity.cntlid == x.identity.cntlid) xs ≡ false
+    → is_among (map (λ c. c.identity.cntlid) xs) x.identity.cntlid ≡ false
     → AllPairs (λ a b. a.identity.cntlid ≢ b.identity.cntlid)
     (map controller_entry_view (xs ++ x ∷ []))
-fresh_controller xs x pairs new = rw (map_push controller_entry_view xs x)
-    (fresh_last (λ c. c.identity.cntlid) (map controller_entry_view xs) (controller_entry_view x)
-    pairs (cntlids xs x.identity.cntlid ∙ new))
+fresh_controller = fresh_view controller_entry_view (λ c. c.identity.cntlid)
 
 pub fresh_namespace : (xs : List NamespaceEntry) (x : NamespaceEntry)
     → AllPairs (λ a b. a.nsid ≢ b.nsid) (map namespace_entry_view xs)
-    → list_any (λ y. y.nsid == x.nsid) xs ≡ false
+    → is_among (map (λ n. n.nsid) xs) x.nsid ≡ false
     → AllPairs (λ a b. a.nsid ≢ b.nsid) (map namespace_entry_view (xs ++ x ∷ []))
-fresh_namespace xs x pairs new = rw (map_push namespace_entry_view xs x)
-    (fresh_last (λ n. n.nsid) (map namespace_entry_view xs) (namespace_entry_view x) pairs
-    (nsids xs x.nsid ∙ new))
+fresh_namespace = fresh_view namespace_entry_view (λ n. n.nsid)

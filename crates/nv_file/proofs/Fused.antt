@@ -1,5 +1,5 @@
 -- Entries of the code, and those that they stand for.
-use Rattle.std.proofs.Common.{◌≡◌, ℕ, List, [], ◌∷◌, map, ◌==◌, ◌+◌, ◌<◌, ◌&&◌, not, length, drop, get_or, sum_by}
+use Rattle.std.proofs.Common.{◌≡◌, ℕ, List, [], ◌∷◌, map, ◌+◌, ◌<◌, ◌&&◌, not, length, drop, get_or, sum_by}
 use Rattle.std.proofs.Common.{int_eq, ℤ, pos, refl}
 use Rattle.std.proofs.lemmas.List.{drop_more}
 use Rattle.std.specs.List.{list_any, list_all, fold}
@@ -7,17 +7,6 @@ use Rattle.nv_file.specs.declared.controller.ControllerEntry.{ControllerEntry}
 use Rattle.nv_file.specs.declared.namespace.NamespaceEntry.{NamespaceEntry}
 use Rattle.nv_file.specs.File.{may_attach, is_cntlid, differ}
 use Rattle.nv_file.specs.FileValue.{ControllerValue, controller_entry_view, namespace_entry_view}
-
-pub cntlids : (cs : List ControllerEntry) (n : ℕ)
-    → list_any (λ c. c.identity.cntlid == n) (map controller_entry_view cs) ≡ list_any
-    (λ c. c.identity.cntlid == n) cs
-cntlids [] n = refl
-cntlids (c ∷ cs) n = rw (cntlids cs n)
-
-pub nsids : (ns : List NamespaceEntry) (n : ℕ)
-    → list_any (λ m. m.nsid == n) (map namespace_entry_view ns) ≡ list_any (λ m. m.nsid == n) ns
-nsids [] n = refl
-nsids (m ∷ ns) n = rw (nsids ns n)
 
 capacities_onto : (n : ℕ) (ns : List NamespaceEntry)
     → fold (λ a m. a + m.namespace.capacity) n (map namespace_entry_view ns) ≡ fold

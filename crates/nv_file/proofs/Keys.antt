@@ -1,4 +1,4 @@
--- The keys of a map, and those of the members that it stands for.
+-- The keys of a map, and those of the members that it represents.
 use Rattle.std.proofs.Common.{◌≡◌, List, [], ◌∷◌, String, BTreeMap, Global, map, string_bytes, refl}
 use Rattle.std.specs.List.{list_all, list_any}
 use Rattle.std.specs.Str.{bytes_eq}

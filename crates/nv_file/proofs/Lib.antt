@@ -1,9 +1,9 @@
 pub mod Attached
 pub mod CheckLaws
 pub mod Distinct
-pub mod FileLaws
+pub mod EmptyTables
 pub mod Fused
 pub mod KeyLaws
 pub mod Keys
-pub mod Readings
-pub mod TableLaws
+pub mod ReadTo
+pub mod TextLaws

@@ -1,5 +1,6 @@
 -- The checks of a file as ordered rows: the first one that fails decides.
-use Rattle.std.specs.Prelude.{Bool, List, [], ◌∷◌, Result, Ok, Err, if◌then◌else◌}
+use Rattle.std.specs.Prelude.{Bool, List, [], ◌∷◌, Option, Some, None, Result, Ok, Err, if◌then◌else◌}
+use Rattle.std.specs.Option.{option_map_or}
 use Rattle.nv_file.specs.declared.error.SubsystemError.{SubsystemError}
 
 -- what must hold, and the fault of a file in which it does not
@@ -7,10 +8,14 @@ pub record Check : Type 0 where
   pub holds : Bool
   pub fault : SubsystemError
 
-abbrev pub check : Bool → SubsystemError → List Check
+unfoldable pub check : Bool → SubsystemError → List Check
 check holds fault = record { holds = holds; fault = fault } ∷ []
 
--- the fault of the first check that fails, or the value where none does
-unfoldable pub checked : {A : Type 0} → List Check → A → Result A SubsystemError
-checked [] value = Ok value
-checked (c ∷ checks) value = if c.holds then checked checks value else Err c.fault
+-- the fault of the first check that fails, if one does
+unfoldable pub first_fault : List Check → Option SubsystemError
+first_fault [] = None
+first_fault (c ∷ checks) = if c.holds then first_fault checks else Some c.fault
+
+-- that fault, or the value where none does
+abbrev pub checked : {A : Type 0} → List Check → A → Result A SubsystemError
+checked checks value = option_map_or (λ fault. Err fault) (first_fault checks) (Ok value)

@@ -1,27 +1,28 @@
 -- A whole file: the checks of its tables, in the order of the file, and those between them; and
 -- what it holds where none of them fails. `m` are the members of the top table.
-use Rattle.std.specs.Prelude.{ℕ, ℤ, pos, Bool, true, not, ◌&&◌, ◌||◌, List, [], ◌∷◌, ◌++◌, length}
+use Rattle.std.specs.Prelude.{◌≡◌, ℕ, ℤ, pos, Bool, true, not, ◌&&◌, ◌||◌, List, [], ◌∷◌, ◌++◌, length}
 use Rattle.std.specs.Prelude.{map, Result, Err, nat_le, sum_by, if◌then◌else◌}
 use Rattle.std.specs.List.{list_all, list_any}
 use Rattle.std.specs.Option.{ok_or}
 use Rattle.std.specs.Ordering.{int_eq}
 use Rattle.std.specs.Str.{is_utf8}
 use Rattle.toml.specs.Data.{Members}
+use Rattle.toml.specs.Errors.{IsBlank}
 use Rattle.toml.specs.Parse.{parse_document}
 use Rattle.nv_layout.specs.Steps.{◌>>=◌}
 use Rattle.nv_model.specs.Ranges.{greatest_integer}
 use Rattle.nv_model.specs.declared.format.Format.{Format}
 use Rattle.nv_file.specs.declared.error.SubsystemError.{SubsystemError}
-use Rattle.nv_file.specs.declared.error.SubsystemError.TheVariants.{NotToml, Capacity, Attachment}
+use Rattle.nv_file.specs.declared.error.SubsystemError.TheVariants.{NotToml, Missing, Capacity, Attachment}
 use Rattle.nv_file.specs.declared.table_name.TableName.TheVariants as table
 use Rattle.nv_file.specs.declared.key.Key.TheVariants as key
 use Rattle.nv_file.specs.Check.{Check, check, checked}
 use Rattle.nv_file.specs.FileValue.{ControllerValue, NamespaceValue, FileValue}
-use Rattle.nv_file.specs.KeyChecks.{needed, integer, text, tables, of_kind, in_limits, as_tables}
+use Rattle.nv_file.specs.KeyChecks.{integer, optional_integer, text, tables, of_kind, in_limits, as_tables}
 use Rattle.nv_file.specs.KeyChecks.{no_other, each, number_at, text_at, tables_at}
 use Rattle.nv_file.specs.Names.{keys_of}
 use Rattle.nv_file.specs.TableChecks.{format_checks, format_value, controller_checks}
-use Rattle.nv_file.specs.TableChecks.{controller_value, namespace_checks, namespace_value}
+use Rattle.nv_file.specs.TableChecks.{cntlid_of, controller_value, namespace_checks, namespace_value, nsid_of}
 use Rattle.nv_layout.specs.Limits.{most_nsids}
 
 -- ---- the top table
@@ -31,18 +32,12 @@ nn_of m = number_at key.Nn 0 m
 
 unfoldable pub top_checks : Members → List Check
 top_checks m =
-    needed table.Top key.Version m
-    ++ integer table.Top key.Version 1 2 m
-    ++ needed table.Top key.Nn m
+    integer table.Top key.Version 1 2 m
     ++ integer table.Top key.Nn 1 most_nsids m
-    ++ needed table.Top key.Tnvmcap m
     ++ integer table.Top key.Tnvmcap 0 greatest_integer m
-    ++ integer table.Top key.Mc 0 3 m
-    ++ needed table.Top key.Subnqn m
+    ++ optional_integer table.Top key.Mc 0 3 m
     ++ text table.Top key.Subnqn 223 m
-    ++ needed table.Top key.Format m
     ++ tables table.Top key.Format 16 m
-    ++ needed table.Top key.Controller m
     ++ tables table.Top key.Controller 16 m
     ++ of_kind table.Top key.Namespace as_tables m
     ++ in_limits table.Top key.Namespace (nat_le (length (tables_at key.Namespace m)) (nn_of m))
@@ -86,9 +81,9 @@ attaches controllers namespaces = list_all (may_attach controllers) namespaces
 unfoldable pub file_checks : Members → List Check
 file_checks m =
     top_checks m
-    ++ each (λ _. format_checks) [] (tables_at key.Format m)
-    ++ each (controller_checks (number_at key.Version 0 m)) [] (tables_at key.Controller m)
-    ++ each (namespace_checks (nn_of m) (number_at key.Mc 0 m) (formats_of m)) []
+    ++ each (λ _. 0) (λ _. format_checks) [] (tables_at key.Format m)
+    ++ each cntlid_of (controller_checks (number_at key.Version 0 m)) [] (tables_at key.Controller m)
+    ++ each nsid_of (namespace_checks (nn_of m) (number_at key.Mc 0 m) (formats_of m)) []
     (tables_at key.Namespace m)
     ++ check (fits (number_at key.Tnvmcap 0 m) (namespaces_of m)) Capacity
     ++ check (attaches (controllers_of m) (namespaces_of m)) Attachment
@@ -103,6 +98,14 @@ file_value m = record {
   controllers = controllers_of m;
   namespaces = namespaces_of m;
 }
+
+-- a text of white space and comments alone
+abbrev pub IsBlankText : List ℕ → Type 0
+IsBlankText bytes = (is_utf8 bytes ≡ true) × IsBlank bytes
+
+-- the first fault of a file that holds nothing
+abbrev pub no_version : SubsystemError
+no_version = Missing table.Top key.Version
 
 -- the top table of a document
 unfoldable pub document : List ℕ → Result Members SubsystemError

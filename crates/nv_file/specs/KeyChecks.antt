@@ -3,7 +3,7 @@
 use Rattle.std.specs.Prelude.{ℕ, ℤ, pos, negsuc, Bool, true, false, not, ◌&&◌, ◌||◌, ◌==◌, List, []}
 use Rattle.std.specs.Prelude.{◌∷◌, ◌++◌, length, Option, Some, option_and_then, unwrap_or, is_some}
 use Rattle.std.specs.Prelude.{nat_le}
-use Rattle.std.specs.List.{list_any}
+use Rattle.std.specs.List.{list_all, list_any}
 use Rattle.std.specs.Option.{option_map_or}
 use Rattle.std.specs.Str.{bytes_eq}
 use Rattle.toml.specs.Data.{Data, Items, no_items, item, Members, no_members, member, get_member}
@@ -45,23 +45,23 @@ number (pos n) = n
 number (negsuc n) = 0
 
 -- what does, or else what stands for it
-abbrev pub number_at : Key → ℕ → Members → ℕ
+unfoldable pub number_at : Key → ℕ → Members → ℕ
 number_at k default m = option_map_or number (at as_integer k m) default
 
-abbrev pub flag_at : Key → Bool → Members → Bool
+unfoldable pub flag_at : Key → Bool → Members → Bool
 flag_at k default m = unwrap_or (at as_bool k m) default
 
-abbrev pub text_at : Key → Members → List ℕ
+unfoldable pub text_at : Key → Members → List ℕ
 text_at k m = unwrap_or (at as_str k m) []
 
-abbrev pub integers_at : Key → Members → List ℤ
+unfoldable pub integers_at : Key → Members → List ℤ
 integers_at k m = unwrap_or (at as_integers k m) []
 
-abbrev pub tables_at : Key → Members → List Members
+unfoldable pub tables_at : Key → Members → List Members
 tables_at k m = unwrap_or (at as_tables k m) []
 
 -- a table that is missing has no members
-abbrev pub table_at : Key → Members → Members
+unfoldable pub table_at : Key → Members → Members
 table_at k m = unwrap_or (at as_table k m) no_members
 
 -- ---- checks, of which those of kind and limits hold where nothing stands at the key
@@ -69,7 +69,7 @@ table_at k m = unwrap_or (at as_table k m) no_members
 abbrev pub needed : TableName → Key → Members → List Check
 needed t k m = check (has_key k m) (Missing t k)
 
-abbrev pub of_kind : {A : Type 0} → TableName → Key → (Data → Option A) → Members → List Check
+unfoldable pub of_kind : {A : Type 0} → TableName → Key → (Data → Option A) → Members → List Check
 of_kind t k kind m = check (not (has_key k m) || is_some (at kind k m)) (Kind t k)
 
 abbrev pub in_limits : TableName → Key → Bool → List Check
@@ -85,29 +85,45 @@ abbrev pub is_within : ℕ → ℕ → ℤ → Bool
 is_within low high (pos n) = nat_le low n && nat_le n high
 is_within low high (negsuc n) = false
 
-abbrev pub integer : TableName → Key → ℕ → ℕ → Members → List Check
-integer t k low high m = limited t k as_integer (is_within low high) m
+unfoldable pub optional_integer : TableName → Key → ℕ → ℕ → Members → List Check
+optional_integer t k low high m = limited t k as_integer (is_within low high) m
 
 -- the same for several keys
-abbrev pub integers : TableName → List Key → ℕ → ℕ → Members → List Check
-integers t [] low high m = []
-integers t (k ∷ ks) low high m = integer t k low high m ++ integers t ks low high m
-
-abbrev pub text : TableName → Key → ℕ → Members → List Check
-text t k most m = limited t k as_str (is_text most) m
+abbrev pub optional_integers : TableName → List Key → ℕ → ℕ → Members → List Check
+optional_integers t [] low high m = []
+optional_integers t (k ∷ ks) low high m =
+    optional_integer t k low high m ++ optional_integers t ks low high m
 
 abbrev pub flag : TableName → Key → Members → List Check
 flag t k m = of_kind t k as_bool m
 
--- from one to most tables
-abbrev pub tables : TableName → Key → ℕ → Members → List Check
+-- a list of at most `most` integers from 0 to high
+unfoldable pub optional_list : TableName → Key → ℕ → ℕ → Members → List Check
+optional_list t k most high m =
+    of_kind t k as_integers m
+    ++ in_limits t k (nat_le (length (integers_at k m)) most)
+    ++ in_limits t k (list_all (is_within 0 high) (integers_at k m))
+
+-- an integer that must be there
+unfoldable pub integer : TableName → Key → ℕ → ℕ → Members → List Check
+integer t k low high m = needed t k m ++ optional_integer t k low high m
+
+-- so must a text
+unfoldable pub text : TableName → Key → ℕ → Members → List Check
+text t k most m = needed t k m ++ limited t k as_str (is_text most) m
+
+-- and one to most tables
+unfoldable pub tables : TableName → Key → ℕ → Members → List Check
 tables t k most m =
-    limited t k as_tables (λ found. nat_le 1 (length found) && nat_le (length found) most) m
+    needed t k m
+    ++ limited t k as_tables (λ found. nat_le 1 (length found) && nat_le (length found) most) m
+
+unfoldable pub is_among : List ℕ → ℕ → Bool
+is_among numbers n = list_any (λ other. other == n) numbers
 
 -- none of the tables before has the number
-abbrev pub not_repeated : TableName → Key → List Members → Members → List Check
-not_repeated t k before m =
-    check (not (list_any (λ other. number_at k 0 other == number_at k 0 m) before)) (Repeated t k)
+abbrev pub not_repeated : TableName → Key → List ℕ → ℕ → List Check
+not_repeated t k before n = check (not (is_among before n)) (Repeated t k)
 
 -- a key is one of the known ones
 abbrev pub is_known : List Key → List ℕ → Bool
@@ -121,7 +137,9 @@ has_only known (member k d ms) = is_known known k && has_only known ms
 abbrev pub no_other : TableName → List Key → Members → List Check
 no_other t known m = check (has_only known m) (Unknown t)
 
--- each table of a list, with those before it at hand
-abbrev pub each : (List Members → Members → List Check) → List Members → List Members → List Check
-each checks before [] = []
-each checks before (m ∷ ms) = checks before m ++ each checks (before ++ m ∷ []) ms
+-- each table of a list, with the numbers of those before it at hand
+abbrev pub each : (Members → ℕ) → (List ℕ → Members → List Check) → List ℕ → List Members
+    → List Check
+each number_of checks before [] = []
+each number_of checks before (m ∷ ms) =
+    checks before m ++ each number_of checks (before ++ number_of m ∷ []) ms

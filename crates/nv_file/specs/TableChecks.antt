@@ -1,15 +1,18 @@
 -- The tables of a file: for each the checks of its keys in their order, and what it holds where
 -- none of them fails. `m` are the members of the table.
-use Rattle.std.specs.Prelude.{ℕ, ℤ, ◌^◌, Bool, true, false, not, ◌&&◌, ◌||◌, List, [], ◌∷◌, ◌++◌, map}
-use Rattle.std.specs.Prelude.{Option, is_some, nat_le, ◌==◌, slice_get, slice_index, length}
+use Rattle.std.specs.Prelude.{ℕ, ◌^◌, Bool, true, false, not, ◌&&◌, ◌||◌, List, [], ◌∷◌, ◌++◌, map}
+use Rattle.std.specs.Prelude.{Option, is_some, ◌==◌, slice_get, slice_index, length}
 use Rattle.std.specs.Prelude.{if◌then◌else◌}
 use Rattle.std.specs.List.{list_all}
 use Rattle.std.specs.Option.{option_map_or}
 use Rattle.toml.specs.Data.{Members, as_table}
 use Rattle.nv_layout.specs.Feature as feature
 use Rattle.nv_model.specs.declared.format.Format.{Format}
+use Rattle.nv_model.specs.declared.defaults.Defaults.{Defaults}
 use Rattle.nv_model.specs.declared.defaults.Defaults.TheVariants.{One, Thresholds}
 use Rattle.nv_model.specs.declared.feature_rule.FeatureRule.{FeatureRule}
+use Rattle.nv_model.specs.declared.identity.IdentityNumbers.{IdentityNumbers}
+use Rattle.nv_model.specs.declared.smart_base.Counters.{Counters}
 use Rattle.nv_model.specs.declared.smart_base.SmartBase.{SmartBase}
 use Rattle.nv_model.specs.Conditions.{may_extend}
 use Rattle.nv_model.specs.State.{Identity}
@@ -19,8 +22,9 @@ use Rattle.nv_file.specs.declared.key.Key.{Key}
 use Rattle.nv_file.specs.declared.key.Key.TheVariants as key
 use Rattle.nv_file.specs.Check.{Check}
 use Rattle.nv_file.specs.FileValue.{ControllerValue, NamespaceValue}
-use Rattle.nv_file.specs.KeyChecks.{has_key, needed, integer, integers, text, flag, of_kind}
-use Rattle.nv_file.specs.KeyChecks.{in_limits, is_within, not_repeated, no_other, each}
+use Rattle.nv_file.specs.KeyChecks.{has_key, integer, optional_integer, optional_integers, text, flag}
+use Rattle.nv_file.specs.KeyChecks.{optional_list}
+use Rattle.nv_file.specs.KeyChecks.{of_kind, in_limits, is_within, not_repeated, no_other, each}
 use Rattle.nv_file.specs.KeyChecks.{as_tables, as_integers}
 use Rattle.nv_file.specs.KeyChecks.{number, number_at, text_at, flag_at, integers_at, tables_at}
 use Rattle.nv_file.specs.KeyChecks.{table_at}
@@ -30,10 +34,9 @@ use Rattle.nv_file.specs.Names.{keys_of, feature_keys}
 
 unfoldable pub format_checks : Members → List Check
 format_checks m =
-    needed table.Format key.Lbads m
-    ++ integer table.Format key.Lbads 9 16 m
-    ++ integer table.Format key.Ms 0 65535 m
-    ++ integer table.Format key.Rp 0 3 m
+    integer table.Format key.Lbads 9 16 m
+    ++ optional_integer table.Format key.Ms 0 65535 m
+    ++ optional_integer table.Format key.Rp 0 3 m
     ++ no_other table.Format (keys_of table.Format) m
 
 unfoldable pub format_value : Members → Format
@@ -59,7 +62,7 @@ is_default m =
     && not ((fid_of m == 0x04) && has_key key.Default m)
 
 -- at `over` and `under`: nine thresholds. Temperature Threshold alone may have them
-abbrev pub thresholds : Key → Members → List Check
+unfoldable pub thresholds : Key → Members → List Check
 thresholds k m =
     let zs = integers_at k m in
     of_kind table.Feature k as_integers m
@@ -67,19 +70,22 @@ thresholds k m =
     ++ in_limits table.Feature k (list_all (is_within 0 65535) zs)
 
 -- by the version of the file. Version 1 has no thresholds
-unfoldable pub feature_checks : ℕ → List Members → Members → List Check
+unfoldable pub defaults_checks : ℕ → Members → List Check
+defaults_checks version m =
+    if version == 1 then [] else thresholds key.Over m ++ thresholds key.Under m
+
+unfoldable pub feature_checks : ℕ → List ℕ → Members → List Check
 feature_checks version before m =
-    needed table.Feature key.Fid m
-    ++ integer table.Feature key.Fid 0 255 m
+    integer table.Feature key.Fid 0 255 m
     ++ in_limits table.Feature key.Fid (is_some (feature.feature_of (fid_of m)))
     ++ in_limits table.Feature key.Fid (not ((version == 1) && (fid_of m == 0x04)))
-    ++ not_repeated table.Feature key.Fid before m
-    ++ integer table.Feature key.Default 0 4294967295 m
+    ++ not_repeated table.Feature key.Fid before (fid_of m)
+    ++ optional_integer table.Feature key.Default 0 4294967295 m
     ++ in_limits table.Feature key.Default (is_default m)
     ++ flag table.Feature key.Saveable m
     ++ in_limits table.Feature key.Saveable (not (is_saveable m && (fid_of m == 0x05)))
     ++ flag table.Feature key.Changeable m
-    ++ (if version == 1 then [] else thresholds key.Over m ++ thresholds key.Under m)
+    ++ defaults_checks version m
     ++ no_other table.Feature (feature_keys version) m
 
 -- nine numbers; those that the list does not reach are 0
@@ -90,19 +96,22 @@ abbrev pub default_over : ℕ → List ℕ
 default_over wctemp =
     wctemp ∷ 65535 ∷ 65535 ∷ 65535 ∷ 65535 ∷ 65535 ∷ 65535 ∷ 65535 ∷ 65535 ∷ []
 
-abbrev pub thresholds_at : Key → List ℕ → Members → List ℕ
+unfoldable pub thresholds_at : Key → List ℕ → Members → List ℕ
 thresholds_at k default m =
     if has_key k m then nine (map number (integers_at k m)) else default
 
 -- by the wctemp of the controller
+unfoldable pub defaults_value : ℕ → Members → Defaults
+defaults_value wctemp m =
+    if fid_of m == 0x04
+    then Thresholds (thresholds_at key.Over (default_over wctemp) m)
+    (thresholds_at key.Under (nine []) m)
+    else One (number_at key.Default 0 m)
+
 unfoldable pub feature_value : ℕ → Members → FeatureRule
 feature_value wctemp m = record {
   fid = fid_of m;
-  defaults =
-      if fid_of m == 0x04
-      then Thresholds (thresholds_at key.Over (default_over wctemp) m)
-      (thresholds_at key.Under (nine []) m)
-      else One (number_at key.Default 0 m);
+  defaults = defaults_value wctemp m;
   saveable = is_saveable m;
   changeable = flag_at key.Changeable true m;
 }
@@ -118,23 +127,34 @@ counter_keys =
     key.ControllerBusyTime ∷ key.PowerCycles ∷ key.PowerOnHours ∷ key.UnsafeShutdowns ∷
     key.MediaErrors ∷ []
 
-abbrev pub sensors_of : Members → List ℤ
-sensors_of m = integers_at key.Sensors m
+unfoldable pub counters_checks : Members → List Check
+counters_checks m = optional_integers table.Smart counter_keys 0 greatest_integer m
 
 unfoldable pub smart_checks : Members → List Check
 smart_checks m =
-    integers table.Smart byte_keys 0 255 m
-    ++ integer table.Smart key.Temperature 0 65535 m
-    ++ integers table.Smart counter_keys 0 greatest_integer m
-    ++ integers table.Smart (key.WarningTempTime ∷ key.CriticalCompTime ∷ []) 0 4294967295 m
-    ++ of_kind table.Smart key.Sensors as_integers m
-    ++ in_limits table.Smart key.Sensors (nat_le (length (sensors_of m)) 8)
-    ++ in_limits table.Smart key.Sensors (list_all (is_within 0 65535) (sensors_of m))
+    optional_integers table.Smart byte_keys 0 255 m
+    ++ optional_integer table.Smart key.Temperature 0 65535 m
+    ++ counters_checks m
+    ++ optional_integers table.Smart (key.WarningTempTime ∷ key.CriticalCompTime ∷ []) 0 4294967295 m
+    ++ optional_list table.Smart key.Sensors 8 65535 m
     ++ no_other table.Smart (keys_of table.Smart) m
 
 -- the eight sensors; those that the list does not reach are 0
 abbrev pub eight : List ℕ → List ℕ
 eight numbers = map (slice_index numbers) (0 ∷ 1 ∷ 2 ∷ 3 ∷ 4 ∷ 5 ∷ 6 ∷ 7 ∷ [])
+
+unfoldable pub counters_value : Members → Counters
+counters_value m = record {
+  data_units_read = number_at key.DataUnitsRead 0 m;
+  data_units_written = number_at key.DataUnitsWritten 0 m;
+  host_read_commands = number_at key.HostReadCommands 0 m;
+  host_write_commands = number_at key.HostWriteCommands 0 m;
+  controller_busy_time = number_at key.ControllerBusyTime 0 m;
+  power_cycles = number_at key.PowerCycles 0 m;
+  power_on_hours = number_at key.PowerOnHours 0 m;
+  unsafe_shutdowns = number_at key.UnsafeShutdowns 0 m;
+  media_errors = number_at key.MediaErrors 0 m;
+}
 
 unfoldable pub smart_value : Members → SmartBase
 smart_value m = record {
@@ -143,71 +163,67 @@ smart_value m = record {
   avail_spare = number_at key.AvailSpare 0 m;
   spare_thresh = number_at key.SpareThresh 0 m;
   percent_used = number_at key.PercentUsed 0 m;
-  counters = record {
-    data_units_read = number_at key.DataUnitsRead 0 m;
-    data_units_written = number_at key.DataUnitsWritten 0 m;
-    host_read_commands = number_at key.HostReadCommands 0 m;
-    host_write_commands = number_at key.HostWriteCommands 0 m;
-    controller_busy_time = number_at key.ControllerBusyTime 0 m;
-    power_cycles = number_at key.PowerCycles 0 m;
-    power_on_hours = number_at key.PowerOnHours 0 m;
-    unsafe_shutdowns = number_at key.UnsafeShutdowns 0 m;
-    media_errors = number_at key.MediaErrors 0 m;
-  };
+  counters = counters_value m;
   warning_temp_time = number_at key.WarningTempTime 0 m;
   critical_comp_time = number_at key.CriticalCompTime 0 m;
-  sensors = eight (map number (sensors_of m));
+  sensors = eight (map number (integers_at key.Sensors m));
 }
 
 -- ---- a controller: its own table, then its features, then its health log
 
-unfoldable pub identity_checks : List Members → Members → List Check
+abbrev pub cntlid_of : Members → ℕ
+cntlid_of m = number_at key.Cntlid 0 m
+
+unfoldable pub numbers_checks : Members → List Check
+numbers_checks m =
+    optional_integers table.Controller (key.Vid ∷ key.Ssvid ∷ []) 0 65535 m
+    ++ optional_integer table.Controller key.Rab 0 255 m
+    ++ optional_integer table.Controller key.Ieee 0 16777215 m
+    ++ optional_integer table.Controller key.Mdts 2 8 m
+    ++ optional_integer table.Controller key.Elpe 0 255 m
+    ++ optional_integers table.Controller (key.Wctemp ∷ key.Cctemp ∷ []) 0 65535 m
+    ++ optional_integer table.Controller key.Vwc 0 7 m
+
+unfoldable pub identity_checks : List ℕ → Members → List Check
 identity_checks before m =
-    needed table.Controller key.Cntlid m
-    ++ integer table.Controller key.Cntlid 0 65519 m
-    ++ not_repeated table.Controller key.Cntlid before m
-    ++ needed table.Controller key.Sn m
+    integer table.Controller key.Cntlid 0 65519 m
+    ++ not_repeated table.Controller key.Cntlid before (cntlid_of m)
     ++ text table.Controller key.Sn 20 m
-    ++ needed table.Controller key.Mn m
     ++ text table.Controller key.Mn 40 m
-    ++ needed table.Controller key.Fr m
     ++ text table.Controller key.Fr 8 m
-    ++ integers table.Controller (key.Vid ∷ key.Ssvid ∷ []) 0 65535 m
-    ++ integer table.Controller key.Rab 0 255 m
-    ++ integer table.Controller key.Ieee 0 16777215 m
-    ++ integer table.Controller key.Mdts 2 8 m
-    ++ integer table.Controller key.Elpe 0 255 m
-    ++ integers table.Controller (key.Wctemp ∷ key.Cctemp ∷ []) 0 65535 m
-    ++ integer table.Controller key.Vwc 0 7 m
+    ++ numbers_checks m
     ++ flag table.Controller key.CryptoErase m
+
+unfoldable pub numbers_value : Members → IdentityNumbers
+numbers_value m = record {
+  vid = number_at key.Vid 0 m;
+  ssvid = number_at key.Ssvid 0 m;
+  rab = number_at key.Rab 0 m;
+  ieee = number_at key.Ieee 0 m;
+  mdts = number_at key.Mdts 5 m;
+  elpe = number_at key.Elpe 63 m;
+  wctemp = number_at key.Wctemp 343 m;
+  cctemp = number_at key.Cctemp 353 m;
+  vwc = number_at key.Vwc 0 m;
+}
 
 unfoldable pub identity_value : Members → Identity
 identity_value m = record {
-  cntlid = number_at key.Cntlid 0 m;
+  cntlid = cntlid_of m;
   sn = text_at key.Sn m;
   mn = text_at key.Mn m;
   fr = text_at key.Fr m;
-  numbers = record {
-    vid = number_at key.Vid 0 m;
-    ssvid = number_at key.Ssvid 0 m;
-    rab = number_at key.Rab 0 m;
-    ieee = number_at key.Ieee 0 m;
-    mdts = number_at key.Mdts 5 m;
-    elpe = number_at key.Elpe 63 m;
-    wctemp = number_at key.Wctemp 343 m;
-    cctemp = number_at key.Cctemp 353 m;
-    vwc = number_at key.Vwc 0 m;
-  };
+  numbers = numbers_value m;
   crypto_erase = flag_at key.CryptoErase false m;
 }
 
-unfoldable pub controller_checks : ℕ → List Members → Members → List Check
+unfoldable pub controller_checks : ℕ → List ℕ → Members → List Check
 controller_checks version before m =
     identity_checks before m
     ++ of_kind table.Controller key.Feature as_tables m
     ++ of_kind table.Controller key.Smart as_table m
     ++ no_other table.Controller (keys_of table.Controller) m
-    ++ each (feature_checks version) [] (tables_at key.Feature m)
+    ++ each fid_of (feature_checks version) [] (tables_at key.Feature m)
     ++ smart_checks (table_at key.Smart m)
 
 unfoldable pub controller_value : Members → ControllerValue
@@ -218,6 +234,9 @@ controller_value m = record {
 }
 
 -- ---- a namespace, in a subsystem with nn, mc and the formats
+
+abbrev pub nsid_of : Members → ℕ
+nsid_of m = number_at key.Nsid 0 m
 
 -- the format in use
 abbrev pub format_of : List Format → Members → Option Format
@@ -234,15 +253,12 @@ abbrev pub can_extend : ℕ → List Format → Members → Bool
 can_extend mc formats m =
     option_map_or (λ f. may_extend mc f (is_extended m)) (format_of formats m) false
 
-unfoldable pub namespace_checks : ℕ → ℕ → List Format → List Members → Members → List Check
+unfoldable pub namespace_checks : ℕ → ℕ → List Format → List ℕ → Members → List Check
 namespace_checks nn mc formats before m =
-    needed table.Namespace key.Nsid m
-    ++ integer table.Namespace key.Nsid 1 nn m
-    ++ not_repeated table.Namespace key.Nsid before m
-    ++ needed table.Namespace key.Format m
+    integer table.Namespace key.Nsid 1 nn m
+    ++ not_repeated table.Namespace key.Nsid before (nsid_of m)
     ++ integer table.Namespace key.Format 0 15 m
     ++ in_limits table.Namespace key.Format (is_some (format_of formats m))
-    ++ needed table.Namespace key.Bytes m
     ++ integer table.Namespace key.Bytes (block_size formats m) greatest_integer m
     ++ flag table.Namespace key.Extended m
     ++ in_limits table.Namespace key.Extended (can_extend mc formats m)
@@ -252,7 +268,7 @@ namespace_checks nn mc formats before m =
 
 unfoldable pub namespace_value : Members → NamespaceValue
 namespace_value m = record {
-  nsid = number_at key.Nsid 0 m;
+  nsid = nsid_of m;
   namespace = record {
     capacity = number_at key.Bytes 0 m;
     format = number_at key.Format 0 m;

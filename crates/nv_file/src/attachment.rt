@@ -28,7 +28,7 @@ fn stands_in(number: i64, numbers: &[i64]) -> bool
     numbers.iter().any(|other| *other == number)
 }
 
-/// Whether no number stands twice.
+/// Returns whether no number occurs twice.
 #[tactic(auto, using(crate::proofs::Fused::differ_at))]
 fn differ(numbers: &[i64]) -> bool
     ensures { result ≡ differ numbers.now }
@@ -62,8 +62,8 @@ fn all_attach(controllers: &[ControllerEntry], namespaces: &[NamespaceEntry]) ->
         .all(|namespace| may_attach(controllers, namespace))
 }
 
-/// Whether each namespace is attached to controllers of the file, to none twice, and a private one
-/// to one at most.
+/// Returns whether each namespace is attached to controllers of the file, to none of them twice,
+/// and a private one to at most one.
 #[tactic(auto, using(crate::proofs::Fused::all_attach), unfolding(crate::specs::File::attaches))]
 pub(crate) fn attaches(controllers: &[ControllerEntry], namespaces: &[NamespaceEntry]) -> bool
     ensures { result ≡

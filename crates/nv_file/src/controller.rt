@@ -1,12 +1,11 @@
 //! The controllers of a file.
 ghost use Rattle.std.specs.Prelude.{◌≡◌, ◌≢◌, ◌==◌, [], length, map, All, AllPairs, IfOk, false};
-ghost use Rattle.std.specs.List.{list_any};
 ghost use Rattle.toml.specs.View.{table_view};
-ghost use Rattle.nv_file.specs.Fault.{IsUnlessMemory};
 ghost use Rattle.nv_file.specs.FileValue.{controller_entry_view};
-ghost use Rattle.nv_file.specs.inner.KeyReading.{readings};
 ghost use Rattle.nv_file.specs.inner.SectionView.{tables_view};
-ghost use Rattle.nv_file.specs.inner.TableReading.{controller_entry_of};
+ghost use Rattle.nv_file.specs.KeyChecks.{each, is_among};
+ghost use Rattle.nv_file.specs.TableChecks.{cntlid_of, controller_checks, controller_value};
+ghost use Rattle.nv_file.specs.inner.Reading.{IsCheckedUnlessMemory};
 ghost use Rattle.nv_file.specs.IsFile.{IsControllerEntry};
 
 use crate::error::SubsystemError;
@@ -24,25 +23,25 @@ use toml::Table;
 #[derive(Debug, Drop)]
 pub struct ControllerEntry {
     pub identity: Identity,
-    /// The features that have a table, each once.
+    /// The rules of the features that have a table, each at most once.
     pub rules: Vec<FeatureRule>,
-    /// The health log; all zeros where the file has none.
+    /// The health log, which is all zeros if the file has none.
     pub smart: SmartBase,
 }
 
-#[tactic(auto, unfolding(crate::specs::inner::TableReading::controller_entry_of))]
+#[tactic(auto, using(crate::proofs::CheckLaws::faults), unfolding(crate::specs::TableChecks::controller_checks, crate::specs::TableChecks::controller_value, crate::specs::TableChecks::identity_value, crate::specs::TableChecks::numbers_value))]
 fn controller_entry_of(
     alloc: Global,
     version: u8,
     before: &[ControllerEntry],
     table: &Table,
 ) -> Result<ControllerEntry, SubsystemError>
-    ensures exact { IsUnlessMemory controller_entry_view result
-        (controller_entry_of version (map controller_entry_view before.now)
-        (table_view table.now)) }
+    ensures exact { IsCheckedUnlessMemory controller_entry_view
+        (controller_checks version (map (λ c. c.identity.cntlid) before.now) (table_view table.now))
+        (controller_value (table_view table.now)) result }
     ensures sound { IfOk result (λ c. IsControllerEntry (controller_entry_view c)) }
     ensures new { IfOk result
-        (λ c. list_any (λ d. d.identity.cntlid == c.identity.cntlid) before.now ≡ false) }
+        (λ c. is_among (map (λ d. d.identity.cntlid) before.now) c.identity.cntlid ≡ false) }
 {
     let section = Section {
         name: TableName::Controller,
@@ -61,14 +60,15 @@ fn controller_entry_of(
     })
 }
 
-/// The controllers that some tables give, by the file's version.
+/// Reads the controllers in some tables, by the file's version.
 pub(crate) fn controller_entries_of(
     alloc: Global,
     version: u8,
     tables: &[&Table],
 ) -> Result<Vec<ControllerEntry>, SubsystemError>
-    ensures exact { IsUnlessMemory (λ v. map controller_entry_view v.items) result
-        (readings (controller_entry_of version) [] (tables_view tables.now)) }
+    ensures exact { IsCheckedUnlessMemory (λ v. map controller_entry_view v.items)
+        (each cntlid_of (controller_checks version) [] (tables_view tables.now))
+        (map controller_value (tables_view tables.now)) result }
     ensures count { IfOk result (λ v. length v.items ≡ length tables.now) }
     ensures sound { IfOk result (λ v. All IsControllerEntry (map controller_entry_view v.items)) }
     ensures cntlids { IfOk result

@@ -3,9 +3,10 @@ ghost use Rattle.std.specs.Prelude.{◌≡◌, ◌==◌, ◌&&◌, ◌≤◌, �
 ghost use Rattle.toml.specs.View.{table_view};
 ghost use Rattle.nv_layout.specs.Feature.{feature_of, is_value};
 ghost use Rattle.nv_model.specs.Values.{AreDefaults, AreThresholds, are_lists, default_at};
-ghost use Rattle.nv_file.specs.Fault.{IsUnlessMemory};
-ghost use Rattle.nv_file.specs.TableChecks.{default_over, nine};
-ghost use Rattle.nv_file.specs.inner.TableReading.{defaults_of, thresholds_or};
+ghost use Rattle.nv_file.specs.TableChecks.{default_over, defaults_checks, defaults_value, fid_of, nine};
+ghost use Rattle.nv_file.specs.TableChecks.{thresholds, thresholds_at};
+ghost use Rattle.nv_file.specs.KeyChecks.{number_at};
+ghost use Rattle.nv_file.specs.inner.Reading.{IsCheckedUnlessMemory};
 
 use crate::error::SubsystemError;
 use crate::key::Key;
@@ -34,7 +35,7 @@ fn nine(numbers: &[u16]) -> [u16; 9]
 }
 
 /// What a key of Temperature Threshold holds, or what stands for it where it is missing.
-#[tactic(auto, unfolding(crate::specs::inner::TableReading::thresholds_or))]
+#[tactic(auto, using(crate::proofs::CheckLaws::faults), unfolding(crate::specs::TableChecks::thresholds, crate::specs::TableChecks::thresholds_at))]
 fn thresholds_or(
     alloc: Global,
     default: [u16; 9],
@@ -42,9 +43,10 @@ fn thresholds_or(
     fid: u8,
     table: &Table,
 ) -> Result<[u16; 9], SubsystemError>
-    requires { AreThresholds default }
-    ensures exact { IsUnlessMemory (λ n. n) result
-        (thresholds_or default key fid (table_view table.now)) }
+    requires fid { fid ≡ fid_of (table_view table.now) }
+    requires default { AreThresholds default }
+    ensures exact { IsCheckedUnlessMemory (λ n. n) (thresholds key (table_view table.now))
+        (thresholds_at key default (table_view table.now)) result }
     ensures sound { IfOk result AreThresholds }
 {
     let section = Section {
@@ -69,7 +71,7 @@ fn default_over(wctemp: u16) -> [u16; 9]
 }
 
 /// The defaults of a feature, of which `value` is what stands at `default`.
-#[tactic(auto, unfolding(crate::specs::inner::TableReading::defaults_of))]
+#[tactic(auto, using(crate::proofs::CheckLaws::faults), unfolding(crate::specs::TableChecks::defaults_checks, crate::specs::TableChecks::defaults_value))]
 pub(crate) fn defaults_of(
     alloc: Global,
     version: u8,
@@ -78,10 +80,12 @@ pub(crate) fn defaults_of(
     value: u32,
     table: &Table,
 ) -> Result<Defaults, SubsystemError>
+    requires fid { fid ≡ fid_of (table_view table.now) }
+    requires default { value ≡ number_at Key.Default 0 (table_view table.now) }
     requires value { IsSomeAnd (feature_of fid) (λ f. is_value f value ≡ true) }
     requires in_version { not ((version == 1) && (fid == 0x04)) ≡ true }
-    ensures exact { IsUnlessMemory (λ d. d) result
-        (defaults_of version wctemp fid value (table_view table.now)) }
+    ensures exact { IsCheckedUnlessMemory (λ d. d) (defaults_checks version (table_view table.now))
+        (defaults_value wctemp (table_view table.now)) result }
     ensures sound { IfOk result AreDefaults }
     ensures lists { IfOk result (λ d. are_lists d ≡ (fid == 0x04)) }
     ensures values { IfOk result (λ d. IsSomeAnd (feature_of fid)

@@ -1,6 +1,6 @@
-//! The subsystem file of a run without one.
+//! The subsystem file that is used if none is given.
 
-/// A subsystem file: two controllers and two namespaces, in three formats.
+/// A subsystem file with two controllers and two namespaces in three formats.
 pub const DEMO: &str = r#"version = 1
 nn = 4
 tnvmcap = 10485760

@@ -1,7 +1,8 @@
 //! Why a subsystem file was refused.
 ghost use Rattle.std.specs.Prelude.{◌≡◌, IfOk, true};
 ghost use Rattle.nv_file.specs.declared.error.SubsystemError.TheVariants.{Memory};
-ghost use Rattle.nv_file.specs.inner.Fault.{ensure};
+ghost use Rattle.nv_file.specs.Check.{check};
+ghost use Rattle.nv_file.specs.inner.Reading.{IsPassed};
 
 use crate::key::Key;
 use crate::table_name::TableName;
@@ -9,26 +10,26 @@ use std::alloc::{AllocError, AllocFailed};
 use std::fmt;
 use thiserror::Error;
 
-/// The first fault of a subsystem file, or want of memory.
+/// The first fault of a subsystem file, or lack of memory.
 #[derive(Clone, Copy, Debug, PartialEq, Eq, Error)]
 pub enum SubsystemError {
-    /// It isn't TOML.
+    /// The file isn't TOML.
     NotToml,
-    /// A table lacks a key that it must have.
+    /// A table lacks a required key.
     Missing { table: TableName, key: Key },
-    /// The value of a key isn't of its kind.
+    /// The value of a key has the wrong kind.
     Kind { table: TableName, key: Key },
-    /// The value of a key is out of its limits.
+    /// The value of a key is out of range.
     Range { table: TableName, key: Key },
-    /// The value of a key stands in a table before too.
+    /// An earlier table has the same value of a key.
     Repeated { table: TableName, key: Key },
-    /// A table has a key that it may not have.
+    /// A table has a key that isn't allowed.
     Unknown { table: TableName },
     /// The namespaces have more capacity than there is.
     Capacity,
-    /// A namespace is attached where it can't be.
+    /// A namespace is attached to a controller that it can't be attached to.
     Attachment,
-    /// Memory was refused.
+    /// There was no memory.
     Memory,
 }
 
@@ -70,9 +71,9 @@ impl<T: Drop> From<AllocFailed<T>> for SubsystemError {
 }
 
 /// The fault, unless the rule holds.
-#[tactic(auto, unfolding(crate::specs::inner::Fault::ensure))]
+#[tactic(auto, using(crate::proofs::CheckLaws::faults))]
 pub(crate) fn ensure(holds: bool, fault: SubsystemError) -> Result<(), SubsystemError>
-    ensures exact { result ≡ ensure holds fault }
+    ensures exact { IsPassed (check holds fault) result }
     ensures sound { IfOk result (λ _. holds ≡ true) }
 {
     if holds { Ok(()) } else { Err(fault) }

@@ -1,13 +1,11 @@
 //! The features of a controller of a file.
-ghost use Rattle.std.specs.Prelude.{◌≡◌, ◌≢◌, ◌==◌, ◌&&◌, not, [], All, AllPairs, IfOk, false};
-ghost use Rattle.std.specs.List.{list_any};
+ghost use Rattle.std.specs.Prelude.{◌≡◌, ◌≢◌, ◌==◌, ◌&&◌, not, [], map, All, AllPairs, IfOk, Some, false, is_some};
 ghost use Rattle.toml.specs.View.{table_view};
-ghost use Rattle.nv_layout.specs.Feature.{is_value};
-ghost use Rattle.nv_file.specs.Fault.{IsUnlessMemory};
-ghost use Rattle.nv_file.specs.KeyChecks.{has_key};
-ghost use Rattle.nv_file.specs.inner.KeyReading.{readings};
+ghost use Rattle.nv_layout.specs.Feature.{feature_of, is_value};
+ghost use Rattle.nv_file.specs.KeyChecks.{each, has_key, in_limits, is_among};
+ghost use Rattle.nv_file.specs.TableChecks.{feature_checks, feature_value, fid_of};
+ghost use Rattle.nv_file.specs.inner.Reading.{IsChecked, IsCheckedUnlessMemory};
 ghost use Rattle.nv_file.specs.inner.SectionView.{tables_view};
-ghost use Rattle.nv_file.specs.inner.TableReading.{feature_of};
 ghost use Rattle.nv_model.specs.Ranges.{IsFeatureRule};
 
 use crate::defaults::defaults_of;
@@ -21,9 +19,21 @@ use std::alloc::Global;
 use toml::Table;
 
 fn has_fid(rules: &[FeatureRule], fid: u8) -> bool
-    ensures { result ≡ list_any (λ rule. rule.fid == fid) rules.now }
+    ensures { result ≡ is_among (map (λ r. r.fid) rules.now) fid }
 {
     rules.iter().any(|rule| rule.fid == fid)
+}
+
+/// The feature with an identifier.
+#[tactic(auto, using(crate::proofs::CheckLaws::faults))]
+fn known_feature(section: &Section, fid: u8) -> Result<Feature, SubsystemError>
+    ensures { IsChecked (λ f. Some f)
+        (in_limits section.now.name Key.Fid (is_some (feature_of fid))) (feature_of fid) result }
+{
+    match Feature::of(fid) {
+        Some(feature) => Ok(feature),
+        None => Err(section.out_of_range(Key::Fid)),
+    }
 }
 
 /// Whether a version of the file knows a feature, which may have thresholds.
@@ -33,7 +43,8 @@ fn is_in_version(version: u8, has_thresholds: bool) -> bool
     !(version == 1 && has_thresholds)
 }
 
-/// Whether a feature may have a default value; one with thresholds may have none.
+/// Returns whether this is a valid default. The table of a feature with thresholds must not have
+/// the key `default`.
 fn may_default(section: &Section, feature: Feature, has_thresholds: bool, default: u32) -> bool
     ensures { result ≡ (is_value feature default
         && not (has_thresholds && has_key Key.Default (table_view section.now.table.now))) }
@@ -41,14 +52,15 @@ fn may_default(section: &Section, feature: Feature, has_thresholds: bool, defaul
     feature.is_value(default) && !(has_thresholds && section.has(Key::Default))
 }
 
-/// Whether a feature may be saveable as it is.
+/// Returns whether a feature may have this value of `saveable`. That of Error Recovery must be
+/// false.
 fn may_save(fid: u8, saveable: bool) -> bool
     ensures { result ≡ not (saveable && (fid == 0x05)) }
 {
     !(saveable && fid == 0x05)
 }
 
-#[tactic(auto, unfolding(crate::specs::inner::TableReading::feature_of))]
+#[tactic(auto, using(crate::proofs::CheckLaws::faults), unfolding(crate::specs::TableChecks::feature_checks, crate::specs::TableChecks::feature_value))]
 fn feature_of(
     alloc: Global,
     version: u8,
@@ -56,17 +68,18 @@ fn feature_of(
     before: &[FeatureRule],
     table: &Table,
 ) -> Result<FeatureRule, SubsystemError>
-    ensures exact { IsUnlessMemory (λ r. r) result
-        (feature_of version wctemp before.now (table_view table.now)) }
+    ensures exact { IsCheckedUnlessMemory (λ r. r)
+        (feature_checks version (map (λ r. r.fid) before.now) (table_view table.now))
+        (feature_value wctemp (table_view table.now)) result }
     ensures sound { IfOk result IsFeatureRule }
-    ensures new { IfOk result (λ r. list_any (λ rule. rule.fid == r.fid) before.now ≡ false) }
+    ensures new { IfOk result (λ r. is_among (map (λ s. s.fid) before.now) r.fid ≡ false) }
 {
     let section = Section {
         name: TableName::Feature,
         table,
     };
     let fid = section.integer(Key::Fid, 0, 255)? as u8;
-    let feature = Feature::of(fid).ok_or(section.out_of_range(Key::Fid))?;
+    let feature = known_feature(&section, fid)?;
     let has_thresholds = fid == 0x04;
     section.in_limits(Key::Fid, is_in_version(version, has_thresholds))?;
     ensure(!has_fid(before, fid), section.repeated(Key::Fid))?;
@@ -86,7 +99,7 @@ fn feature_of(
     })
 }
 
-/// The features that some tables of a controller give, by the file's version and the controller's
+/// Reads the features in some tables of a controller, by the file's version and the controller's
 /// wctemp.
 pub(crate) fn features_of(
     alloc: Global,
@@ -94,8 +107,9 @@ pub(crate) fn features_of(
     wctemp: u16,
     tables: &[&Table],
 ) -> Result<Vec<FeatureRule>, SubsystemError>
-    ensures exact { IsUnlessMemory (λ v. v.items) result
-        (readings (feature_of version wctemp) [] (tables_view tables.now)) }
+    ensures exact { IsCheckedUnlessMemory (λ v. v.items)
+        (each fid_of (feature_checks version) [] (tables_view tables.now))
+        (map (feature_value wctemp) (tables_view tables.now)) result }
     ensures sound { IfOk result (λ v. All IsFeatureRule v.items) }
     ensures fids { IfOk result (λ v. AllPairs (λ r s. r.fid ≢ s.fid) v.items) }
 {

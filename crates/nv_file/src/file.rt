@@ -1,10 +1,16 @@
 //! The subsystem file: what it holds, or its first fault.
-ghost use Rattle.std.specs.Prelude.{◌≡◌, IfOk, nat_le, sum_by};
+ghost use Rattle.std.specs.Prelude.{◌≡◌, IfOk, nat_le, sum_by, false};
+ghost use Rattle.std.specs.Option.{ok_or};
+ghost use Rattle.std.specs.Str.{is_utf8};
+ghost use Rattle.toml.specs.Data.{no_members};
+ghost use Rattle.toml.specs.Errors.{IsBlank};
+ghost use Rattle.toml.specs.Parse.{parse_document};
 ghost use Rattle.toml.specs.View.{table_view};
 ghost use Rattle.nv_file.specs.Fault.{IsUnlessMemory};
 ghost use Rattle.nv_file.specs.FileValue.{file_view};
-ghost use Rattle.nv_file.specs.File.{document, file};
-ghost use Rattle.nv_file.specs.inner.FileReading.{file_of};
+ghost use Rattle.nv_file.specs.File.{IsBlankText, document, file, file_checks, file_value};
+ghost use Rattle.nv_file.specs.File.{no_version};
+ghost use Rattle.nv_file.specs.inner.Reading.{IsAnswer, IsCheckedUnlessMemory};
 ghost use Rattle.nv_file.specs.IsFile.{IsFile};
 
 use crate::attachment::attaches;
@@ -17,14 +23,14 @@ use nv_model::Format;
 use std::alloc::Global;
 use toml::Table;
 
-/// A whole file.
+/// The contents of a file.
 #[derive(Debug, Drop)]
 pub struct File {
     /// The greatest NSID, 1 to 1024.
     pub nn: u32,
     /// The capacity of the subsystem in bytes.
     pub tnvmcap: u64,
-    /// Where the metadata of a logical block can lie.
+    /// Where the metadata of a logical block can be placed.
     pub mc: u8,
     /// The name of the subsystem, 1 to 223 bytes.
     pub subnqn: String,
@@ -32,14 +38,17 @@ pub struct File {
     pub formats: Vec<Format>,
     /// The controllers, 1 to 16, in the order of the file.
     pub controllers: Vec<ControllerEntry>,
-    /// The namespaces in the order of the file, `nn` at most.
+    /// The namespaces in the order of the file, at most `nn`.
     pub namespaces: Vec<NamespaceEntry>,
 }
 
-fn document(alloc: Global, bytes: &[u8]) -> Result<Table, SubsystemError>
-    ensures { IsUnlessMemory table_view result (document bytes.now) }
+/// The table that a text is.
+fn parsed(alloc: Global, text: &str) -> Result<Table, SubsystemError>
+    ensures exact { IsUnlessMemory table_view result
+        (ok_or (parse_document text.now) SubsystemError.NotToml) }
+    ensures blank { IsBlank text.now → IsAnswer table_view result (Ok no_members) }
 {
-    match toml::table_from_slice(alloc, bytes) {
+    match toml::table_from_str(alloc, text) {
         Ok(table) => Ok(table),
         Err(error) => {
             if error.is_memory() {
@@ -48,6 +57,18 @@ fn document(alloc: Global, bytes: &[u8]) -> Result<Table, SubsystemError>
                 Err(SubsystemError::NotToml)
             }
         }
+    }
+}
+
+/// The top table of a document; bytes that are no text are refused before anything is allocated.
+fn document(alloc: Global, bytes: &[u8]) -> Result<Table, SubsystemError>
+    ensures exact { IsUnlessMemory table_view result (document bytes.now) }
+    ensures text { is_utf8 bytes.now ≡ false → result ≡ Err SubsystemError.NotToml }
+    ensures blank { IsBlankText bytes.now → IsAnswer table_view result (Ok no_members) }
+{
+    match str::from_utf8(bytes) {
+        Ok(text) => parsed(alloc, text),
+        Err(_) => Err(SubsystemError::NotToml),
     }
 }
 
@@ -66,9 +87,12 @@ fn fits(tnvmcap: u64, namespaces: &[NamespaceEntry]) -> bool
     true
 }
 
-#[tactic(auto, using(crate::proofs::Fused::capacities), unfolding(crate::specs::inner::FileReading::file_of))]
+#[tactic(auto, using(crate::proofs::CheckLaws::faults, crate::proofs::Fused::capacities), unfolding(crate::specs::File::file_checks, crate::specs::File::file_value))]
 fn file_of(alloc: Global, table: &Table) -> Result<File, SubsystemError>
-    ensures exact { IsUnlessMemory file_view result (file_of (table_view table.now)) }
+    ensures exact { IsCheckedUnlessMemory file_view (file_checks (table_view table.now))
+        (file_value (table_view table.now)) result }
+    ensures empty { table_view table.now ≡ no_members
+        → result ≡ Err no_version }
     ensures sound { IfOk result (λ f. IsFile (file_view f)) }
 {
     let top = top_of(alloc, table)?;
@@ -92,10 +116,14 @@ fn file_of(alloc: Global, table: &Table) -> Result<File, SubsystemError>
 }
 
 impl File {
-    /// What the bytes of a file hold, or its first fault, unless memory runs out.
+    /// What the bytes of a file hold, or its first fault, unless memory runs out. What is found before
+    /// anything is allocated is answered whatever memory there is: bytes that are no UTF-8, and a
+    /// text of white space and comments alone.
     #[tactic(auto, unfolding(crate::specs::File::file))]
     pub fn from_toml(alloc: Global, bytes: &[u8]) -> Result<File, SubsystemError>
         ensures exact { IsUnlessMemory file_view result (file bytes.now) }
+        ensures text { is_utf8 bytes.now ≡ false → result ≡ Err SubsystemError.NotToml }
+        ensures blank { IsBlankText bytes.now → result ≡ Err no_version }
         ensures sound { IfOk result (λ f. IsFile (file_view f)) }
     {
         let table = document(alloc, bytes)?;

@@ -1,10 +1,10 @@
 //! The formats of a file.
-ghost use Rattle.std.specs.Prelude.{◌≡◌, [], length, All, IfOk};
+ghost use Rattle.std.specs.Prelude.{◌≡◌, [], length, map, All, IfOk};
 ghost use Rattle.toml.specs.View.{table_view};
-ghost use Rattle.nv_file.specs.Fault.{IsUnlessMemory};
-ghost use Rattle.nv_file.specs.inner.KeyReading.{readings};
+ghost use Rattle.nv_file.specs.KeyChecks.{each};
+ghost use Rattle.nv_file.specs.TableChecks.{format_checks, format_value};
+ghost use Rattle.nv_file.specs.inner.Reading.{IsChecked, IsCheckedUnlessMemory};
 ghost use Rattle.nv_file.specs.inner.SectionView.{tables_view};
-ghost use Rattle.nv_file.specs.inner.TableReading.{format_of};
 ghost use Rattle.nv_model.specs.Ranges.{IsFormat};
 
 use crate::error::SubsystemError;
@@ -15,9 +15,10 @@ use nv_model::Format;
 use std::alloc::Global;
 use toml::Table;
 
-#[tactic(auto, unfolding(crate::specs::inner::TableReading::format_of))]
+#[tactic(auto, using(crate::proofs::CheckLaws::faults), unfolding(crate::specs::TableChecks::format_checks, crate::specs::TableChecks::format_value))]
 fn format_of(table: &Table) -> Result<Format, SubsystemError>
-    ensures exact { result ≡ format_of (table_view table.now) }
+    ensures exact { IsChecked (λ f. f) (format_checks (table_view table.now))
+        (format_value (table_view table.now)) result }
     ensures sound { IfOk result IsFormat }
 {
     let section = Section {
@@ -31,10 +32,11 @@ fn format_of(table: &Table) -> Result<Format, SubsystemError>
     Ok(Format { lbads, ms, rp })
 }
 
-/// The formats that some tables give.
+/// Reads the formats in some tables.
 pub(crate) fn formats_of(alloc: Global, tables: &[&Table]) -> Result<Vec<Format>, SubsystemError>
-    ensures exact { IsUnlessMemory (λ v. v.items) result
-        (readings (λ _. format_of) [] (tables_view tables.now)) }
+    ensures exact { IsCheckedUnlessMemory (λ v. v.items)
+        (each (λ _. 0) (λ _. format_checks) [] (tables_view tables.now))
+        (map format_value (tables_view tables.now)) result }
     ensures count { IfOk result (λ v. length v.items ≡ length tables.now) }
     ensures sound { IfOk result (λ v. All IsFormat v.items) }
 {

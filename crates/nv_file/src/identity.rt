@@ -1,11 +1,10 @@
-//! What a controller of a file says of itself.
+//! What a controller of a file says about itself.
 ghost use Rattle.std.specs.Prelude.{◌≡◌, ◌==◌, map, IfOk, false};
-ghost use Rattle.std.specs.List.{list_any};
+ghost use Rattle.nv_file.specs.KeyChecks.{is_among};
 ghost use Rattle.toml.specs.View.{table_view};
-ghost use Rattle.nv_file.specs.Fault.{IsUnlessMemory};
 ghost use Rattle.nv_model.specs.Codes.{identity_view};
-ghost use Rattle.nv_file.specs.FileValue.{controller_entry_view};
-ghost use Rattle.nv_file.specs.inner.TableReading.{identity_numbers_of, identity_of};
+ghost use Rattle.nv_file.specs.TableChecks.{identity_checks, identity_value, numbers_checks, numbers_value};
+ghost use Rattle.nv_file.specs.inner.Reading.{IsChecked, IsCheckedUnlessMemory};
 ghost use Rattle.nv_model.specs.Ranges.{IsIdentityNumbers, IsIdentity};
 
 use crate::controller::ControllerEntry;
@@ -17,9 +16,10 @@ use nv_model::{Identity, IdentityNumbers};
 use std::alloc::Global;
 use toml::Table;
 
-#[tactic(auto, unfolding(crate::specs::inner::TableReading::identity_numbers_of))]
+#[tactic(auto, using(crate::proofs::CheckLaws::faults), unfolding(crate::specs::TableChecks::numbers_checks, crate::specs::TableChecks::numbers_value))]
 fn identity_numbers_of(table: &Table) -> Result<IdentityNumbers, SubsystemError>
-    ensures exact { result ≡ identity_numbers_of (table_view table.now) }
+    ensures exact { IsChecked (λ n. n) (numbers_checks (table_view table.now))
+        (numbers_value (table_view table.now)) result }
     ensures sound { IfOk result IsIdentityNumbers }
 {
     let section = Section {
@@ -49,7 +49,7 @@ fn identity_numbers_of(table: &Table) -> Result<IdentityNumbers, SubsystemError>
 }
 
 fn has_cntlid(controllers: &[ControllerEntry], cntlid: u16) -> bool
-    ensures { result ≡ list_any (λ c. c.identity.cntlid == cntlid) controllers.now }
+    ensures { result ≡ is_among (map (λ c. c.identity.cntlid) controllers.now) cntlid }
 {
     controllers
         .iter()
@@ -57,17 +57,18 @@ fn has_cntlid(controllers: &[ControllerEntry], cntlid: u16) -> bool
 }
 
 /// What a controller says of itself, with the controllers before it at hand.
-#[tactic(auto, using(crate::proofs::Fused::cntlids), unfolding(crate::specs::inner::TableReading::identity_of))]
+#[tactic(auto, using(crate::proofs::CheckLaws::faults), unfolding(crate::specs::TableChecks::identity_checks, crate::specs::TableChecks::identity_value))]
 pub(crate) fn identity_of(
     alloc: Global,
     before: &[ControllerEntry],
     table: &Table,
 ) -> Result<Identity, SubsystemError>
-    ensures exact { IsUnlessMemory identity_view result
-        (identity_of (map controller_entry_view before.now) (table_view table.now)) }
+    ensures exact { IsCheckedUnlessMemory identity_view
+        (identity_checks (map (λ c. c.identity.cntlid) before.now) (table_view table.now))
+        (identity_value (table_view table.now)) result }
     ensures sound { IfOk result (λ i. IsIdentity (identity_view i)) }
     ensures new { IfOk result
-        (λ i. list_any (λ c. c.identity.cntlid == i.cntlid) before.now ≡ false) }
+        (λ i. is_among (map (λ c. c.identity.cntlid) before.now) i.cntlid ≡ false) }
 {
     let section = Section {
         name: TableName::Controller,

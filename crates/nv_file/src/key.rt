@@ -65,7 +65,7 @@ pub enum Key {
 }
 
 impl Key {
-    /// As the file and the faults spell it.
+    /// Returns the key as files and faults spell it.
     #[tactic(auto, unfolding(crate::specs::Names::key_text))]
     pub(crate) fn text(self) -> &'static str
         ensures { result.now ≡ key_text self }

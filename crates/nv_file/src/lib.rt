@@ -1,9 +1,10 @@
-//! The file of an NVM subsystem, in TOML: what its tables hold, or its first fault.
+//! Reads the file of an NVM subsystem, in TOML: the contents of its tables, or its first fault.
 //!
-//! [`File::from_toml`] reads a file whole. What it gives is in range: each key in its range, each
-//! name once, each namespace in a format of the file and attached to controllers of the file, and
-//! the capacities add up to no more than there is. Otherwise it says the first fault in the order
-//! of the file, as a [`SubsystemError`] that names table and key and prints as one line.
+//! [`File::from_toml`] reads a whole file. Its contents are valid: each key is in its range, each
+//! name occurs once, each namespace has a format of the file and is attached to controllers of the
+//! file, and the sum of the capacities is no more than there is. Otherwise it returns the first
+//! fault in the order of the file, as a [`SubsystemError`] that names the table and the key and
+//! prints as one line.
 //!
 //! ```
 //! use nv_file::{DEMO, File, SubsystemError};
@@ -17,7 +18,7 @@
 //! ```
 //!
 //! The numbers of controllers, namespaces and logs are those of the NVM Express Base Specification,
-//! revision 1.4, whose sections are named by their titles.
+//! revision 1.4. Its sections are named by their titles.
 #![tactic(auto)]
 
 mod attachment;

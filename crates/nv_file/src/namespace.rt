@@ -1,16 +1,14 @@
 //! The namespaces of a file.
 ghost use Rattle.std.specs.Prelude.{◌≡◌, ◌≢◌, ◌==◌, ◌≤◌, ◌^◌, [], length, map, slice_get, All};
-ghost use Rattle.std.specs.Prelude.{AllPairs, IfOk, Some, false};
-ghost use Rattle.std.specs.List.{list_any};
-ghost use Rattle.std.specs.Option.{ok_or};
+ghost use Rattle.std.specs.Prelude.{AllPairs, IfOk, Some, false, is_some};
 ghost use Rattle.toml.specs.View.{table_view};
-ghost use Rattle.nv_file.specs.Fault.{IsUnlessMemory};
 ghost use Rattle.nv_file.specs.FileValue.{namespace_entry_view};
-ghost use Rattle.nv_file.specs.inner.KeyReading.{readings};
 ghost use Rattle.nv_file.specs.inner.SectionView.{tables_view};
-ghost use Rattle.nv_file.specs.inner.TableReading.{namespace_entry_of};
 ghost use Rattle.nv_model.specs.Conditions.{may_extend};
 ghost use Rattle.nv_model.specs.Ranges.{IsFormat};
+ghost use Rattle.nv_file.specs.KeyChecks.{each, in_limits, is_among};
+ghost use Rattle.nv_file.specs.TableChecks.{namespace_checks, namespace_value, nsid_of};
+ghost use Rattle.nv_file.specs.inner.Reading.{IsChecked, IsCheckedUnlessMemory};
 ghost use Rattle.nv_file.specs.IsFile.{IsNamespaceEntry};
 
 use crate::error::{SubsystemError, ensure};
@@ -33,7 +31,7 @@ pub struct NamespaceEntry {
 impl NamespaceEntry {
     ghost use Rattle.nv_file.specs.FileValue.{is_attached_to};
 
-    /// Whether the list names the controller with this identifier.
+    /// Returns whether the list has the controller with this identifier.
     pub fn is_attached_to(&self, cntlid: u16) -> bool
         ensures { result ≡ is_attached_to cntlid (namespace_entry_view self.now) }
     {
@@ -45,8 +43,9 @@ impl NamespaceEntry {
 
 fn format_at(formats: &[Format], index: u8) -> Result<Format, SubsystemError>
     requires { All IsFormat formats.now }
-    ensures exact { result ≡
-        ok_or (slice_get formats.now index) (SubsystemError.Range TableName.Namespace Key.Format) }
+    ensures exact { IsChecked (λ f. Some f)
+        (in_limits TableName.Namespace Key.Format (is_some (slice_get formats.now index)))
+        (slice_get formats.now index) result }
     ensures sound { IfOk result IsFormat }
     ensures at { IfOk result (λ f. slice_get formats.now index ≡ Some f) }
 {
@@ -60,7 +59,7 @@ fn format_at(formats: &[Format], index: u8) -> Result<Format, SubsystemError>
 }
 
 fn has_nsid(namespaces: &[NamespaceEntry], nsid: u32) -> bool
-    ensures { result ≡ list_any (λ n. n.nsid == nsid) namespaces.now }
+    ensures { result ≡ is_among (map (λ n. n.nsid) namespaces.now) nsid }
 {
     namespaces.iter().any(|namespace| namespace.nsid == nsid)
 }
@@ -78,7 +77,7 @@ fn may_extend(mc: u8, format: &Format, extended: bool) -> bool
     !extended || (format.ms > 0 && mc & 1 == 1)
 }
 
-#[tactic(auto, using(crate::proofs::Fused::nsids), unfolding(crate::specs::inner::TableReading::namespace_entry_of))]
+#[tactic(auto, using(crate::proofs::CheckLaws::faults), unfolding(crate::specs::TableChecks::namespace_checks, crate::specs::TableChecks::namespace_value))]
 fn namespace_entry_of(
     alloc: Global,
     nn: u32,
@@ -88,11 +87,11 @@ fn namespace_entry_of(
     table: &Table,
 ) -> Result<NamespaceEntry, SubsystemError>
     requires { All IsFormat formats.now }
-    ensures exact { IsUnlessMemory namespace_entry_view result
-        (namespace_entry_of nn mc formats.now (map namespace_entry_view before.now)
-        (table_view table.now)) }
+    ensures exact { IsCheckedUnlessMemory namespace_entry_view
+        (namespace_checks nn mc formats.now (map (λ n. n.nsid) before.now) (table_view table.now))
+        (namespace_value (table_view table.now)) result }
     ensures sound { IfOk result (λ n. IsNamespaceEntry nn mc formats.now (namespace_entry_view n)) }
-    ensures new { IfOk result (λ n. list_any (λ m. m.nsid == n.nsid) before.now ≡ false) }
+    ensures new { IfOk result (λ n. is_among (map (λ m. m.nsid) before.now) n.nsid ≡ false) }
 {
     let section = Section {
         name: TableName::Namespace,
@@ -120,7 +119,7 @@ fn namespace_entry_of(
     })
 }
 
-/// The namespaces that some tables give, in a subsystem with `nn`, `mc` and the formats.
+/// Reads the namespaces in some tables, in a subsystem with `nn`, `mc` and the formats.
 pub(crate) fn namespace_entries_of(
     alloc: Global,
     nn: u32,
@@ -129,8 +128,9 @@ pub(crate) fn namespace_entries_of(
     tables: &[&Table],
 ) -> Result<Vec<NamespaceEntry>, SubsystemError>
     requires { All IsFormat formats.now }
-    ensures exact { IsUnlessMemory (λ v. map namespace_entry_view v.items) result
-        (readings (namespace_entry_of nn mc formats.now) [] (tables_view tables.now)) }
+    ensures exact { IsCheckedUnlessMemory (λ v. map namespace_entry_view v.items)
+        (each nsid_of (namespace_checks nn mc formats.now) [] (tables_view tables.now))
+        (map namespace_value (tables_view tables.now)) result }
     ensures count { IfOk result (λ v. length v.items ≡ length tables.now) }
     ensures sound { IfOk result
         (λ v. All (IsNamespaceEntry nn mc formats.now) (map namespace_entry_view v.items)) }

@@ -1,22 +1,19 @@
 //! A table of the file, and the reading of one key of it.
-ghost use Rattle.std.specs.Prelude.{◌≡◌, ◌≤◌, ◌&&◌, nat_le, IfOk, IfErr, true, false, [], length};
-ghost use Rattle.std.specs.Prelude.{option_map, string_bytes};
+ghost use Rattle.std.specs.Prelude.{◌≡◌, ◌≤◌, ◌&&◌, ◌++◌, nat_le, IfOk, IfErr, true, false, length, map};
+ghost use Rattle.std.specs.Prelude.{[], is_some, option_map, string_bytes, unwrap_or};
 ghost use Rattle.std.specs.List.{list_all, list_any};
+ghost use Rattle.std.specs.Option.{option_map_or};
 ghost use Rattle.std.specs.BTreeMap.{keys};
 ghost use Rattle.std.specs.Str.{bytes_eq};
-ghost use Rattle.toml.specs.Data.{get_member, as_table, as_integer};
+ghost use Rattle.toml.specs.Data.{get_member, as_bool, as_integer, as_table};
 ghost use Rattle.toml.specs.View.{view, items_view, table_view};
-ghost use Rattle.nv_file.specs.Names.{key_text};
-ghost use Rattle.nv_file.specs.inner.Fault.{IsAnswer, ensure};
-ghost use Rattle.nv_file.specs.Fault.{IsUnlessMemory};
-ghost use Rattle.nv_file.specs.KeyChecks.{has_key, items_as};
-ghost use Rattle.nv_file.specs.inner.KeyReading.{in_range, integer_in_range, integer, integer_or};
-ghost use Rattle.nv_file.specs.inner.KeyReading.{flag_or, text, tables_in, tables, tables_or_none};
-ghost use Rattle.nv_file.specs.inner.KeyReading.{table_or_none, integers_in, integers_or_none};
-ghost use Rattle.nv_file.specs.inner.KeyReading.{readings, element, integers_in_range_or_none};
-ghost use Rattle.nv_file.specs.inner.KeyReading.{only, only_known};
-ghost use Rattle.nv_model.specs.Ranges.{is_text};
+ghost use Rattle.nv_file.specs.Check.{check};
+ghost use Rattle.nv_file.specs.KeyChecks as row;
+ghost use Rattle.nv_file.specs.KeyChecks.{has_key, has_only, is_within, number};
+ghost use Rattle.nv_file.specs.Names.{key_text, keys_of};
+ghost use Rattle.nv_file.specs.inner.Reading.{IsChecked, IsCheckedUnlessMemory, IsPassed};
 ghost use Rattle.nv_file.specs.inner.SectionView.{tables_view};
+ghost use Rattle.nv_model.specs.Ranges.{is_text};
 
 use crate::error::{SubsystemError, ensure};
 use crate::key::Key;
@@ -24,7 +21,7 @@ use crate::table_name::TableName;
 use std::alloc::Global;
 use toml::{Table, Value};
 
-/// A table of the file, with the name that a fault gives it.
+/// A table of the file, with the name that faults use for it.
 #[derive(Clone, Copy)]
 pub struct Section<'a> {
     pub name: TableName,
@@ -32,7 +29,7 @@ pub struct Section<'a> {
 }
 
 impl<'a> Section<'a> {
-    /// The value at a key.
+    /// Returns the value of a key.
     fn find(&self, key: Key) -> Option<&'a Value>
         ensures { option_map (λ v. view v.now) result ≡
             get_member (key_text key) (table_view self.now.table.now) }
@@ -58,7 +55,7 @@ impl<'a> Section<'a> {
         }
     }
 
-    /// The fault of a value that its key doesn't allow.
+    /// Returns the fault of a value that its key doesn't allow.
     pub(crate) fn out_of_range(&self, key: Key) -> SubsystemError
         ensures { result ≡ SubsystemError.Range self.now.name key }
     {
@@ -69,14 +66,19 @@ impl<'a> Section<'a> {
     }
 
     /// That a value is such as its key allows.
+    #[tactic(auto, using(crate::proofs::CheckLaws::faults))]
     pub(crate) fn in_limits(&self, key: Key, holds: bool) -> Result<(), SubsystemError>
-        ensures exact { result ≡ ensure holds (SubsystemError.Range self.now.name key) }
+        ensures exact { IsPassed (row.in_limits self.now.name key holds) result }
         ensures sound { IfOk result (λ _. holds ≡ true) }
     {
-        ensure(holds, self.out_of_range(key))
+        if holds {
+            Ok(())
+        } else {
+            Err(self.out_of_range(key))
+        }
     }
 
-    /// The fault of a value that a row before has.
+    /// Returns the fault of a value that an earlier row has.
     pub(crate) fn repeated(&self, key: Key) -> SubsystemError
         ensures { result ≡ SubsystemError.Repeated self.now.name key }
     {
@@ -86,23 +88,8 @@ impl<'a> Section<'a> {
         }
     }
 
-    #[tactic(auto, unfolding(crate::specs::inner::KeyReading::in_range))]
-    fn in_range(&self, key: Key, low: u64, high: u64, integer: i64) -> Result<u64, SubsystemError>
-        ensures exact { result ≡ in_range self.now.name key low high integer }
-        ensures range { IfOk result (λ n. (low ≤ n) × (n ≤ high)) }
-    {
-        if integer < 0 {
-            return Err(self.out_of_range(key));
-        }
-        let number = integer as u64;
-        if low <= number && number <= high {
-            Ok(number)
-        } else {
-            Err(self.out_of_range(key))
-        }
-    }
-
-    #[tactic(auto, unfolding(crate::specs::inner::KeyReading::integer_in_range))]
+    /// An integer from `low` to `high`, which a value is.
+    #[tactic(auto, using(crate::proofs::CheckLaws::faults))]
     fn integer_in_range(
         &self,
         key: Key,
@@ -110,26 +97,33 @@ impl<'a> Section<'a> {
         high: u64,
         value: &Value,
     ) -> Result<u64, SubsystemError>
-        ensures exact { result ≡ integer_in_range self.now.name key low high (view value.now) }
+        ensures exact { IsChecked (λ n. n)
+            (check (is_some (as_integer (view value.now))) (SubsystemError.Kind self.now.name key)
+            ++ row.in_limits self.now.name key
+            (option_map_or (is_within low high) (as_integer (view value.now)) true))
+            (option_map_or number (as_integer (view value.now)) 0) result }
         ensures range { IfOk result (λ n. (low ≤ n) × (n ≤ high)) }
     {
         let integer = value.as_integer().ok_or(self.wrong_kind(key))?;
-        self.in_range(key, low, high, integer)
+        self.in_limits(key, is_within(low, high, integer))?;
+        Ok(integer as u64)
     }
 
     /// A required integer from `low` to `high`.
-    #[tactic(auto, unfolding(crate::specs::inner::KeyReading::integer))]
+    #[tactic(auto, using(crate::proofs::CheckLaws::faults), unfolding(crate::specs::KeyChecks::integer, crate::specs::KeyChecks::optional_integer, crate::specs::KeyChecks::of_kind, crate::specs::KeyChecks::number_at))]
     pub(crate) fn integer(&self, key: Key, low: u64, high: u64) -> Result<u64, SubsystemError>
-        ensures exact { result ≡
-            integer self.now.name key low high (table_view self.now.table.now) }
+        ensures exact { IsChecked (λ n. n)
+            (row.integer self.now.name key low high (table_view self.now.table.now))
+            (row.number_at key 0 (table_view self.now.table.now)) result }
         ensures range { IfOk result (λ n. (low ≤ n) × (n ≤ high)) }
     {
         let value = self.find(key).ok_or(self.missing(key))?;
-        self.integer_in_range(key, low, high, value)
+        let number = self.integer_in_range(key, low, high, value)?;
+        Ok(number)
     }
 
     /// An optional integer from `low` to `high`.
-    #[tactic(auto, unfolding(crate::specs::inner::KeyReading::integer_or))]
+    #[tactic(auto, using(crate::proofs::CheckLaws::faults), unfolding(crate::specs::KeyChecks::optional_integer, crate::specs::KeyChecks::of_kind, crate::specs::KeyChecks::number_at))]
     pub(crate) fn integer_or(
         &self,
         key: Key,
@@ -139,17 +133,19 @@ impl<'a> Section<'a> {
     ) -> Result<u64, SubsystemError>
         requires low_default { low ≤ default }
         requires high_default { default ≤ high }
-        ensures exact { result ≡
-            integer_or self.now.name key default low high (table_view self.now.table.now) }
+        ensures exact { IsChecked (λ n. n)
+            (row.optional_integer self.now.name key low high (table_view self.now.table.now))
+            (row.number_at key default (table_view self.now.table.now)) result }
         ensures range { IfOk result (λ n. (low ≤ n) × (n ≤ high)) }
     {
-        match self.find(key) {
-            Some(value) => self.integer_in_range(key, low, high, value),
-            None => Ok(default),
-        }
+        let Some(value) = self.find(key) else {
+            return Ok(default);
+        };
+        let number = self.integer_in_range(key, low, high, value)?;
+        Ok(number)
     }
 
-    /// Whether anything stands at a key.
+    /// Returns whether the table has a key.
     pub(crate) fn has(&self, key: Key) -> bool
         ensures { result ≡ has_key key (table_view self.now.table.now) }
     {
@@ -157,26 +153,30 @@ impl<'a> Section<'a> {
     }
 
     /// An optional true or false.
-    #[tactic(auto, unfolding(crate::specs::inner::KeyReading::flag_or))]
+    #[tactic(auto, using(crate::proofs::CheckLaws::faults), unfolding(crate::specs::KeyChecks::of_kind, crate::specs::KeyChecks::flag_at))]
     pub(crate) fn flag_or(&self, key: Key, default: bool) -> Result<bool, SubsystemError>
-        ensures { result ≡ flag_or self.now.name key default (table_view self.now.table.now) }
+        ensures { IsChecked (λ b. b)
+            (row.flag self.now.name key (table_view self.now.table.now))
+            (row.flag_at key default (table_view self.now.table.now)) result }
     {
-        match self.find(key) {
-            Some(value) => value.as_bool().ok_or(self.wrong_kind(key)),
-            None => Ok(default),
-        }
+        let Some(value) = self.find(key) else {
+            return Ok(default);
+        };
+        let flag = value.as_bool().ok_or(self.wrong_kind(key))?;
+        Ok(flag)
     }
 
     /// A required text of 1 to `most` bytes.
-    #[tactic(auto, unfolding(crate::specs::inner::KeyReading::text))]
+    #[tactic(auto, using(crate::proofs::CheckLaws::faults), unfolding(crate::specs::KeyChecks::text, crate::specs::KeyChecks::of_kind, crate::specs::KeyChecks::text_at))]
     pub(crate) fn text(
         &self,
         alloc: Global,
         key: Key,
         most: usize,
     ) -> Result<String, SubsystemError>
-        ensures exact { IsUnlessMemory string_bytes result
-            (text self.now.name key most (table_view self.now.table.now)) }
+        ensures exact { IsCheckedUnlessMemory string_bytes
+            (row.text self.now.name key most (table_view self.now.table.now))
+            (row.text_at key (table_view self.now.table.now)) result }
         ensures sound { IfOk result (λ s. is_text most (string_bytes s) ≡ true) }
     {
         let value = self.find(key).ok_or(self.missing(key))?;
@@ -188,15 +188,17 @@ impl<'a> Section<'a> {
         }
     }
 
-    #[tactic(auto, unfolding(crate::specs::inner::KeyReading::tables_in))]
+    /// The tables of a list.
+    #[tactic(auto, using(crate::proofs::CheckLaws::faults))]
     fn tables_in(
         &self,
         alloc: Global,
         key: Key,
         value: &'a Value,
     ) -> Result<Vec<&'a Table>, SubsystemError>
-        ensures { IsUnlessMemory (λ v. tables_view v.items) result
-            (tables_in self.now.name key (view value.now)) }
+        ensures { IsCheckedUnlessMemory (λ v. tables_view v.items)
+            (check (is_some (row.as_tables (view value.now))) (SubsystemError.Kind self.now.name key))
+            (unwrap_or (row.as_tables (view value.now)) []) result }
     {
         let values: &[Value] = value.as_array().ok_or(self.wrong_kind(key))?;
         let mut tables = Vec::new(alloc);
@@ -207,15 +209,16 @@ impl<'a> Section<'a> {
     }
 
     /// A required list of 1 to `most` tables.
-    #[tactic(auto, unfolding(crate::specs::inner::KeyReading::tables))]
+    #[tactic(auto, using(crate::proofs::CheckLaws::faults), unfolding(crate::specs::KeyChecks::tables, crate::specs::KeyChecks::of_kind, crate::specs::KeyChecks::tables_at))]
     pub(crate) fn tables(
         &self,
         alloc: Global,
         key: Key,
         most: usize,
     ) -> Result<Vec<&'a Table>, SubsystemError>
-        ensures exact { IsUnlessMemory (λ v. tables_view v.items) result
-            (tables self.now.name key most (table_view self.now.table.now)) }
+        ensures exact { IsCheckedUnlessMemory (λ v. tables_view v.items)
+            (row.tables self.now.name key most (table_view self.now.table.now))
+            (row.tables_at key (table_view self.now.table.now)) result }
         ensures count { IfOk result (λ v. (1 ≤ length v.items) × (length v.items ≤ most)) }
     {
         let value = self.find(key).ok_or(self.missing(key))?;
@@ -228,26 +231,29 @@ impl<'a> Section<'a> {
     }
 
     /// An optional list of tables, of any length.
-    #[tactic(auto, unfolding(crate::specs::inner::KeyReading::tables_or_none))]
+    #[tactic(auto, using(crate::proofs::CheckLaws::faults), unfolding(crate::specs::KeyChecks::of_kind, crate::specs::KeyChecks::tables_at))]
     pub(crate) fn tables_or_none(
         &self,
         alloc: Global,
         key: Key,
     ) -> Result<Vec<&'a Table>, SubsystemError>
-        ensures { IsUnlessMemory (λ v. tables_view v.items) result
-            (tables_or_none self.now.name key (table_view self.now.table.now)) }
+        ensures { IsCheckedUnlessMemory (λ v. tables_view v.items)
+            (row.of_kind self.now.name key row.as_tables (table_view self.now.table.now))
+            (row.tables_at key (table_view self.now.table.now)) result }
     {
-        match self.find(key) {
-            Some(value) => self.tables_in(alloc, key, value),
-            None => Ok(Vec::new(alloc)),
-        }
+        let Some(value) = self.find(key) else {
+            return Ok(Vec::new(alloc));
+        };
+        let tables = self.tables_in(alloc, key, value)?;
+        Ok(tables)
     }
 
     /// An optional table.
-    #[tactic(auto, unfolding(crate::specs::inner::KeyReading::table_or_none))]
+    #[tactic(auto, using(crate::proofs::CheckLaws::faults), unfolding(crate::specs::KeyChecks::of_kind))]
     pub(crate) fn table_or_none(&self, key: Key) -> Result<Option<&'a Table>, SubsystemError>
-        ensures { IsAnswer (λ o. option_map (λ t. table_view t.now) o) result
-            (table_or_none self.now.name key (table_view self.now.table.now)) }
+        ensures { IsChecked (λ o. option_map (λ t. table_view t.now) o)
+            (row.of_kind self.now.name key as_table (table_view self.now.table.now))
+            (row.at as_table key (table_view self.now.table.now)) result }
     {
         match self.find(key) {
             Some(value) => match value.as_table() {
@@ -258,15 +264,17 @@ impl<'a> Section<'a> {
         }
     }
 
-    #[tactic(auto, unfolding(crate::specs::inner::KeyReading::integers_in))]
+    /// The integers of a list.
+    #[tactic(auto, using(crate::proofs::CheckLaws::faults))]
     fn integers_in(
         &self,
         alloc: Global,
         key: Key,
         value: &Value,
     ) -> Result<Vec<i64>, SubsystemError>
-        ensures { IsUnlessMemory (λ v. v.items) result
-            (integers_in self.now.name key (view value.now)) }
+        ensures { IsCheckedUnlessMemory (λ v. v.items)
+            (check (is_some (row.as_integers (view value.now))) (SubsystemError.Kind self.now.name key))
+            (unwrap_or (row.as_integers (view value.now)) []) result }
     {
         let values: &[Value] = value.as_array().ok_or(self.wrong_kind(key))?;
         let mut integers = Vec::new(alloc);
@@ -277,23 +285,34 @@ impl<'a> Section<'a> {
     }
 
     /// An optional list of integers, of any size.
-    #[tactic(auto, unfolding(crate::specs::inner::KeyReading::integers_or_none))]
+    #[tactic(auto, using(crate::proofs::CheckLaws::faults), unfolding(crate::specs::KeyChecks::of_kind, crate::specs::KeyChecks::integers_at))]
     pub(crate) fn integers_or_none(
         &self,
         alloc: Global,
         key: Key,
     ) -> Result<Vec<i64>, SubsystemError>
-        ensures { IsUnlessMemory (λ v. v.items) result
-            (integers_or_none self.now.name key (table_view self.now.table.now)) }
+        ensures { IsCheckedUnlessMemory (λ v. v.items)
+            (row.of_kind self.now.name key row.as_integers (table_view self.now.table.now))
+            (row.integers_at key (table_view self.now.table.now)) result }
     {
-        match self.find(key) {
-            Some(value) => self.integers_in(alloc, key, value),
-            None => Ok(Vec::new(alloc)),
-        }
+        let Some(value) = self.find(key) else {
+            return Ok(Vec::new(alloc));
+        };
+        let integers = self.integers_in(alloc, key, value)?;
+        Ok(integers)
+    }
+
+    /// An integer of a list, from 0 to `high`.
+    #[tactic(auto, using(crate::proofs::CheckLaws::faults))]
+    fn element(&self, key: Key, high: u16, integer: i64) -> Result<u16, SubsystemError>
+        ensures { IsChecked (λ n. n)
+            (row.in_limits self.now.name key (is_within 0 high integer)) (number integer) result }
+    {
+        self.in_limits(key, is_within(0, u64::from(high), integer))?;
+        Ok(integer as u64 as u16)
     }
 
     /// The integers of a list, each from 0 to `high`.
-    #[tactic(auto, unfolding(crate::specs::inner::KeyReading::element))]
     pub(crate) fn each_in_range(
         &self,
         alloc: Global,
@@ -301,19 +320,20 @@ impl<'a> Section<'a> {
         high: u16,
         integers: &[i64],
     ) -> Result<Vec<u16>, SubsystemError>
-        ensures { IsUnlessMemory (λ v. v.items) result
-            (readings (element self.now.name key high) [] integers.now) }
+        ensures { IsCheckedUnlessMemory (λ v. v.items)
+            (row.in_limits self.now.name key (list_all (is_within 0 high) integers.now))
+            (map number integers.now) result }
     {
         let mut numbers = Vec::new(alloc);
         for integer in integers {
-            let number = self.in_range(key, 0, high as u64, *integer)?;
-            numbers.push(number as u16)?;
+            let number = self.element(key, high, *integer)?;
+            numbers.push(number)?;
         }
         Ok(numbers)
     }
 
     /// An optional list of at most `most` integers from 0 to `high`.
-    #[tactic(auto, unfolding(crate::specs::inner::KeyReading::integers_in_range_or_none))]
+    #[tactic(auto, using(crate::proofs::CheckLaws::faults), unfolding(crate::specs::KeyChecks::optional_list))]
     pub(crate) fn integers_in_range_or_none(
         &self,
         alloc: Global,
@@ -321,29 +341,41 @@ impl<'a> Section<'a> {
         most: usize,
         high: u16,
     ) -> Result<Vec<u16>, SubsystemError>
-        ensures { IsUnlessMemory (λ v. v.items) result
-            (integers_in_range_or_none self.now.name key most high
-            (table_view self.now.table.now)) }
+        ensures { IsCheckedUnlessMemory (λ v. v.items)
+            (row.optional_list self.now.name key most high (table_view self.now.table.now))
+            (map number (row.integers_at key (table_view self.now.table.now))) result }
     {
         let integers = self.integers_or_none(alloc, key)?;
         self.in_limits(key, integers.len() <= most)?;
-        self.each_in_range(alloc, key, high, &integers)
+        let numbers = self.each_in_range(alloc, key, high, &integers)?;
+        Ok(numbers)
     }
 
-    /// That the table has no other keys than those known.
+    /// Checks that the table has no keys other than the known ones.
     pub(crate) fn only(&self, known: &[Key]) -> Result<(), SubsystemError>
-        ensures { result ≡ only known.now self.now.name (table_view self.now.table.now) }
+        ensures { IsPassed
+            (row.no_other self.now.name known.now (table_view self.now.table.now)) result }
     {
         let unknown = SubsystemError::Unknown { table: self.name };
         ensure(has_only(known, self.table), unknown)
     }
 
-    /// That the table has no other keys than those of its name.
+    /// Checks that the table has no keys other than those that its name allows.
     pub(crate) fn only_known(&self) -> Result<(), SubsystemError>
-        ensures { result ≡ only_known self.now.name (table_view self.now.table.now) }
+        ensures { IsPassed
+            (row.no_other self.now.name (keys_of self.now.name) (table_view self.now.table.now))
+            result }
     {
-        self.only(self.name.keys())
+        self.only(self.name.keys())?;
+        Ok(())
     }
+}
+
+/// Whether an integer is a number from `low` to `high`.
+fn is_within(low: u64, high: u64, integer: i64) -> bool
+    ensures { result ≡ is_within low high integer }
+{
+    integer >= 0 && low <= integer as u64 && integer as u64 <= high
 }
 
 /// Whether a number of tables is at least 1, and no more than `most`.
@@ -353,14 +385,14 @@ fn is_count(most: usize, count: usize) -> bool
     1 <= count && count <= most
 }
 
-/// Whether each byte is printable ASCII.
+/// Returns whether each byte is printable ASCII.
 fn is_printable(bytes: &[u8]) -> bool
     ensures { result ≡ list_all (λ b. nat_le 32 b && nat_le b 126) bytes.now }
 {
     bytes.iter().all(|byte| 0x20 <= *byte && *byte <= 0x7e)
 }
 
-/// Whether a text is printable ASCII with no space at its end, and has 1 to `most` bytes.
+/// Returns whether a text is printable ASCII without a space at its end, and has 1 to `most` bytes.
 fn is_text(most: usize, text: &str) -> bool
     ensures { result ≡ is_text most text.now }
 {
@@ -371,14 +403,14 @@ fn is_text(most: usize, text: &str) -> bool
     bytes[bytes.len() - 1] != b' '
 }
 
-/// Whether a key is one of the known ones.
+/// Returns whether a key is one of the known ones.
 fn is_known(known: &[Key], key: &str) -> bool
     ensures { result ≡ list_any (λ x. bytes_eq (key_text x) key.now) known.now }
 {
     known.iter().any(|name| name.text() == key)
 }
 
-/// Whether each key of a table is a known one.
+/// Returns whether each key of a table is a known one.
 fn has_only(known: &[Key], table: &Table) -> bool
     ensures { result ≡
         list_all (λ k. list_any (λ x. bytes_eq (key_text x) (string_bytes k)) known.now)

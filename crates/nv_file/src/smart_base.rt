@@ -1,9 +1,9 @@
 //! The health log of a controller of a file.
-ghost use Rattle.std.specs.Prelude.{◌≡◌, ◌≤◌, All, IfOk, option_map, slice_index};
+ghost use Rattle.std.specs.Prelude.{◌≡◌, ◌≤◌, All, IfOk, option_map, slice_index, unwrap_or};
 ghost use Rattle.toml.specs.View.{table_view};
-ghost use Rattle.nv_file.specs.Fault.{IsUnlessMemory};
-ghost use Rattle.nv_file.specs.TableChecks.{eight};
-ghost use Rattle.nv_file.specs.inner.TableReading.{counters_of, smart_of, smart_or_zero};
+ghost use Rattle.nv_file.specs.TableChecks.{counters_checks, counters_value, eight, smart_checks, smart_value};
+ghost use Rattle.toml.specs.Data.{no_members};
+ghost use Rattle.nv_file.specs.inner.Reading.{IsChecked, IsCheckedUnlessMemory};
 ghost use Rattle.nv_model.specs.Logs.{zero_smart};
 ghost use Rattle.nv_model.specs.Ranges.{IsCounters, IsSmart};
 
@@ -15,9 +15,10 @@ use nv_model::{Counters, GREATEST_INTEGER, SmartBase};
 use std::alloc::Global;
 use toml::Table;
 
-#[tactic(auto, unfolding(crate::specs::inner::TableReading::counters_of))]
+#[tactic(auto, using(crate::proofs::CheckLaws::faults), unfolding(crate::specs::TableChecks::counters_checks, crate::specs::TableChecks::counters_value))]
 fn counters_of(table: &Table) -> Result<Counters, SubsystemError>
-    ensures exact { result ≡ counters_of (table_view table.now) }
+    ensures exact { IsChecked (λ c. c) (counters_checks (table_view table.now))
+        (counters_value (table_view table.now)) result }
     ensures sound { IfOk result IsCounters }
 {
     let section = Section {
@@ -46,7 +47,7 @@ fn counters_of(table: &Table) -> Result<Counters, SubsystemError>
     })
 }
 
-/// The number at an index, or 0 where the list ends before it.
+/// Returns the number at an index, or 0 if the list ends before it.
 pub(crate) fn number_at(numbers: &[u16], index: usize) -> u16
     ensures { result ≡ slice_index numbers.now index }
 {
@@ -69,9 +70,10 @@ fn eight(numbers: &[u16]) -> [u16; 8]
     ]
 }
 
-#[tactic(auto, unfolding(crate::specs::inner::TableReading::smart_of))]
+#[tactic(auto, using(crate::proofs::CheckLaws::faults), unfolding(crate::specs::TableChecks::smart_checks, crate::specs::TableChecks::smart_value))]
 fn smart_of(alloc: Global, table: &Table) -> Result<SmartBase, SubsystemError>
-    ensures exact { IsUnlessMemory (λ s. s) result (smart_of (table_view table.now)) }
+    ensures exact { IsCheckedUnlessMemory (λ s. s) (smart_checks (table_view table.now))
+        (smart_value (table_view table.now)) result }
     ensures sound { IfOk result IsSmart }
 {
     let section = Section {
@@ -129,16 +131,20 @@ fn zero_smart() -> SmartBase
 }
 
 /// The health log that a table gives, or all zeros where there is none.
+#[tactic(auto, using(crate::proofs::EmptyTables::empty_tables))]
 pub(crate) fn smart_or_zero(
     alloc: Global,
     table: Option<&Table>,
 ) -> Result<SmartBase, SubsystemError>
-    ensures exact { IsUnlessMemory (λ s. s) result
-        (smart_or_zero (option_map (λ t. table_view t.now) table.entry)) }
+    ensures exact { let m = unwrap_or (option_map (λ t. table_view t.now) table.entry) no_members in
+        IsCheckedUnlessMemory (λ s. s) (smart_checks m) (smart_value m) result }
     ensures sound { IfOk result IsSmart }
 {
     match table {
-        Some(table) => smart_of(alloc, table),
+        Some(table) => {
+            let smart = smart_of(alloc, table)?;
+            Ok(smart)
+        }
         None => Ok(zero_smart()),
     }
 }

@@ -5,7 +5,7 @@ ghost use Rattle.nv_file.specs.Names.{feature_keys, keys_of, table_text};
 use crate::key::Key;
 use std::fmt;
 
-/// A table, as a fault names it.
+/// A table, as faults name it.
 #[derive(Clone, Copy, Debug, PartialEq, Eq)]
 pub enum TableName {
     Top,
@@ -17,7 +17,7 @@ pub enum TableName {
 }
 
 impl TableName {
-    /// As the file and the faults spell it.
+    /// Returns the table's name as files and faults spell it.
     #[tactic(auto, unfolding(crate::specs::Names::table_text))]
     pub(crate) fn text(self) -> &'static str
         ensures { result.now ≡ table_text self }
@@ -32,7 +32,7 @@ impl TableName {
         }
     }
 
-    /// The keys that the table may have.
+    /// Returns the keys that the table may have.
     #[tactic(auto, unfolding(crate::specs::Names::keys_of))]
     pub(crate) fn keys(self) -> &'static [Key]
         ensures { result.now ≡ keys_of self }
@@ -106,7 +106,7 @@ impl TableName {
     }
 }
 
-/// The keys that a feature may have in a version of the file.
+/// Returns the keys that a feature may have in a version of the file.
 #[tactic(auto, unfolding(crate::specs::Names::feature_keys))]
 pub(crate) fn feature_keys(version: u8) -> &'static [Key]
     ensures { result.now ≡ feature_keys version }

@@ -1,9 +1,10 @@
 //! The top table of a file.
 ghost use Rattle.std.specs.Prelude.{◌≡◌, IfOk};
+ghost use Rattle.toml.specs.Data.{no_members};
 ghost use Rattle.toml.specs.View.{table_view};
-ghost use Rattle.nv_file.specs.Fault.{IsUnlessMemory};
-ghost use Rattle.nv_file.specs.inner.FileReading.{top_of};
-ghost use Rattle.nv_file.specs.inner.TopView.{top_view};
+ghost use Rattle.nv_file.specs.File.{no_version, top_checks};
+ghost use Rattle.nv_file.specs.inner.Reading.{IsCheckedUnlessMemory};
+ghost use Rattle.nv_file.specs.inner.TopView.{top_value, top_view};
 ghost use Rattle.nv_file.specs.inner.IsFile.{IsTop};
 
 use crate::error::SubsystemError;
@@ -14,7 +15,7 @@ use nv_model::GREATEST_INTEGER;
 use std::alloc::Global;
 use toml::Table;
 
-/// What the top table holds, before the tables in it are read.
+/// The contents of the top table, before the tables in it are read.
 #[derive(Drop)]
 pub struct Top<'a> {
     pub version: u8,
@@ -28,9 +29,11 @@ pub struct Top<'a> {
 }
 
 /// What the top table holds.
-#[tactic(auto, unfolding(crate::specs::inner::FileReading::top_of))]
+#[tactic(auto, using(crate::proofs::CheckLaws::faults, crate::proofs::EmptyTables::empty_tables), unfolding(crate::specs::File::top_checks))]
 pub(crate) fn top_of<'a>(alloc: Global, table: &'a Table) -> Result<Top<'a>, SubsystemError>
-    ensures exact { IsUnlessMemory top_view result (top_of (table_view table.now)) }
+    ensures exact { IsCheckedUnlessMemory top_view (top_checks (table_view table.now))
+        (top_value (table_view table.now)) result }
+    ensures empty { table_view table.now ≡ no_members → result ≡ Err no_version }
     ensures sound { IfOk result (λ t. IsTop (top_view t)) }
 {
     let section = Section {

@@ -13,7 +13,7 @@ pub length-bytes_at : (m : List ℕ) (a n : ℕ) → a + n ≤ length m → leng
 unfolding bytes_at
 length-bytes_at m a n h = simp (length-take, length-drop) (omega arith)
 
--- what was written is read
+-- what was written is read back
 pub bytes_at-with_same : (m : List ℕ) (a n : ℕ) (d : List ℕ) → a + length d ≤ length m → n
     ≡ length d → bytes_at (with_bytes m a d) a n ≡ d
 unfolding bytes_at with_bytes
@@ -22,7 +22,7 @@ bytes_at-with_same m a n d h e =
     ap (take n) (drop_at (take a m) (d ++ drop (a + length d) m) a front)
     ∙ take_at d (drop (a + length d) m) n (sym e)
 
--- bytes in front of the write stay
+-- bytes before the written ones don't change
 pub bytes_at-with_before : (m : List ℕ) (a : ℕ) (d : List ℕ) (b n : ℕ) → b + n ≤ a → a + length d
     ≤ length m → bytes_at (with_bytes m a d) b n ≡ bytes_at m b n
 unfolding bytes_at with_bytes
@@ -35,7 +35,7 @@ bytes_at-with_before m a d b n h i =
     let f : b + k < a = omega arith in
     rw (get_or-take, get_or-take, get_or-drop, get_or-drop, get_or_append_left, get_or-take))
 
--- bytes behind the write stay
+-- bytes after the written ones don't change
 pub bytes_at-with_after : (m : List ℕ) (a : ℕ) (d : List ℕ) (b n : ℕ) → a + length d ≤ b → a
     + length d ≤ length m → bytes_at (with_bytes m a d) b n ≡ bytes_at m b n
 unfolding bytes_at with_bytes
@@ -53,7 +53,7 @@ bytes_at-bytes_at m a n i k h =
     (simp (length-take, length-drop) (omega arith))
     (λ j x l. grind (arith, places))
 
--- a part of what is written over, that holds the write
+-- a part that contains all bytes that are written
 pub bytes_at-with_inside : (m : List ℕ) (a : ℕ) (d : List ℕ) (b n : ℕ) → b ≤ a → a + length d ≤ b
     + n → b + n ≤ length m → bytes_at (with_bytes m a d) b n ≡ with_bytes (bytes_at m b n) (a - b) d
 unfolding bytes_at with_bytes
@@ -62,7 +62,7 @@ bytes_at-with_inside m a d b n h i j =
     (simp (length-append, length-take, length-drop) (omega arith))
     (λ k x l. grind (arith, places))
 
--- the same under a name that an attribute can write
+-- the length doesn't change; a name that an attribute can use
 pub length_with_bytes : (m : List ℕ) (a : ℕ) (d : List ℕ) → a + length d ≤ length m
     → length (with_bytes m a d) ≡ length m
 length_with_bytes m a d h = length-with_bytes m a d h

@@ -1,7 +1,7 @@
 -- Sets of page numbers as sets of numbers.
 use Rattle.std.proofs.Common.{◌≡◌, ◌∙◌, ℕ, zero, suc, ◌+◌, ◌<◌, ◌==◌, ◌||◌, ◌&&◌, Bool, true, false, not, cond, ap}
 use Rattle.std.proofs.Common.{refl, sym, IfSome, MatchOption, None, Option, Some, is_some}
-use Rattle.std.specs.Cmp.{nat_cmp_total}
+use Rattle.std.specs.Cmp.{nat_cmp_total, unsigned_tied}
 use Rattle.std.specs.Ordering.{nat_cmp}
 use Rattle.std.specs.FinMap as map
 use Rattle.std.specs.FinSet as set
@@ -9,7 +9,17 @@ use Rattle.nv_bits.specs.BitSet.{RangeSet}
 use Rattle.nv_bits.proofs.NumberLaws.{get_of_insert, get_of_remove}
 use Rattle.nv_bits.specs.Numbers.{IsLowest, NumberSet, all_of, by_place, insert}
 use Rattle.nv_host.specs.PageSets.{Pages, as_set, consecutive, pages_of}
-use Rattle.nv_host.specs.inner.PageSets.{contains_of_insert, contains_of_remove}
+
+-- the members of a set after a change
+pub contains_of_insert : (s : set.FinSet nat_cmp) (p q : ℕ) → set.contains (set.insert s p) q
+    ≡ ((q == p) || set.contains s q)
+contains_of_insert s p q =
+    set.contains-insert nat_cmp_total s p q ∙ ap (λ b. b || set.contains s q) (unsigned_tied q p)
+
+pub contains_of_remove : (s : set.FinSet nat_cmp) (p q : ℕ) → set.contains (set.remove s p) q
+    ≡ (not (q == p) && set.contains s q)
+contains_of_remove s p q = set.contains-remove nat_cmp_total s p q
+    ∙ ap (λ b. not b && set.contains s q) (unsigned_tied q p)
 
 abbrev member : set.FinSet nat_cmp → ℕ → Bool
 member s q = set.contains s q
@@ -17,7 +27,7 @@ member s q = set.contains s q
 contains-as_set : (s : NumberSet) (q : ℕ) → member (as_set s) q ≡ map.contains_key s q
 contains-as_set s q = set.contains-from_list nat_cmp_total (map.keys s) q ∙ sym (map.contains_key-keys s q)
 
--- a set that has what the numbers have
+-- a set with the same members as the numbers
 as_set_is : (s : NumberSet) (t : set.FinSet nat_cmp) → ((q : ℕ) → map.contains_key s q ≡ member t q) → as_set s ≡ t
 as_set_is s t same =
     set.same_set nat_cmp_total set.nat_cmp-IsAntisymmetric (as_set s) t (λ q. contains-as_set s q ∙ same q)

@@ -1,4 +1,4 @@
--- Sets of page numbers out of consecutive ones.
+-- Sets of page numbers from a range of consecutive ones.
 use Rattle.std.specs.Prelude.{ℕ, zero, suc, ◌+◌, List, [], ◌∷◌, ◌++◌, refl}
 use Rattle.std.specs.Coded.{Coded, code_by, coded×, coded_ℕ}
 use Rattle.std.specs.Ordering.{nat_cmp}
@@ -8,7 +8,7 @@ use Rattle.nv_bits.specs.BitSet.{RangeSet}
 use Rattle.nv_bits.specs.Numbers.{NumberSet}
 pub use Rattle.nv_bits.specs.Numbers.{IsOf}
 
--- a set of page numbers, all of them among the `count` consecutive ones from `first` on
+-- a set of page numbers from the `count` consecutive ones from `first` on
 pub record Pages : Type 0 where
   pub first : ℕ
   pub count : ℕ

@@ -1,8 +1,8 @@
-//! What can be refused.
+//! The errors of a host's memory.
 
 use thiserror::Error;
 
-/// The range leaves the host's memory.
+/// The range doesn't lie in the host's memory.
 #[derive(Clone, Copy, Debug, Error, PartialEq, Eq)]
 #[error("the range leaves the host's memory")]
 pub struct OutOfMemoryRange;

@@ -1,10 +1,6 @@
 //! A host's memory in one vector.
 
 ghost use Rattle.std.specs.Prelude.{◌≡◌, ◌+◌, ◌*◌, ◌≤◌, ◌↔◌, IfOk, IsOk, length, refl, replicate};
-ghost use Rattle.std.specs.Prelude.{take};
-ghost use Rattle.nv_host.specs.Bytes.{with_bytes};
-ghost use Rattle.nv_host.specs.FlatMemory.{page_within};
-ghost use Rattle.nv_host.specs.inner.FlatMemory.{take-with_bytes};
 ghost use Rattle.nv_host.specs.Pages.{IsPageSize};
 
 use crate::{HostMemory, Memory, OutOfMemoryRange};
@@ -71,16 +67,6 @@ impl HostMemory for FlatMemory {
 
     ghost page_len = { λ m. m.page_size };
 
-    ghost with_page = { λ m n w. record {
-      page_size = m.page_size;
-      bytes = take (length m.bytes) (with_bytes m.bytes (n * m.page_size) w);
-    } };
-
-    ghost with_page_bytes = { λ m n w h l. take-with_bytes m.bytes (n * m.page_size) w
-        (page_within n m.page_size (length m.bytes) (length w) h l) };
-
-    ghost with_page_len = { λ m n w. refl };
-
     fn page_size(&self) -> u32 {
         self.page_size
     }
@@ -104,11 +90,5 @@ impl HostMemory for FlatMemory {
     fn page(&self, n: u32) -> &[u8] {
         let start = n as usize * self.page_size as usize;
         &self.bytes[start..start + self.page_size as usize]
-    }
-
-    fn page_mut(&mut self, n: u32) -> &mut [u8] {
-        let start = n as usize * self.page_size as usize;
-        let end = start + self.page_size as usize;
-        self.bytes.slice_mut(start..end)
     }
 }

@@ -1,4 +1,4 @@
-//! Loads and stores that are known to lie in the memory.
+//! Loads and stores of ranges that are known to lie in the memory.
 
 ghost use Rattle.std.specs.Prelude.{◌≡◌, ◌+◌, ◌≤◌, length};
 ghost use Rattle.nv_host.specs.Bytes.{bytes_at, with_bytes};

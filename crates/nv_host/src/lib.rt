@@ -1,4 +1,4 @@
-//! The memory of an NVM Express host: its bytes in pages, and sets of page numbers.
+//! The memory of an NVM Express host, as bytes in pages, and sets of page numbers.
 //!
 //! Sections are named as in the NVM Express Base Specification, revision 1.4.
 //!
@@ -29,8 +29,8 @@ pub use inside::{load_inside, store_inside};
 pub use memory::{HostMemory, is_page_size, size_of_memory};
 pub use page_set::{PageNo, PageSet};
 
-/// The laws of loads and stores: what was stored is loaded, and other bytes stay. A call does
-/// nothing.
+/// States the laws of loads and stores: a load returns what was stored, and other bytes don't
+/// change. The call does nothing.
 pub fn store_then_load()
     ensures written { WrittenIsRead }
     ensures others { OthersStay }

@@ -2,7 +2,6 @@
 
 ghost use Rattle.std.specs.Prelude.{◌≡◌, ◌+◌, ◌*◌, ◌≤◌, ◌↔◌, ℕ, IsOk, IsTrue, List, OnErr, OnOk};
 ghost use Rattle.std.specs.Prelude.{length};
-ghost use Rattle.std.specs.Borrow.{sem, Array, Lends, u8 as byte};
 ghost use Rattle.nv_host.specs.Bytes.{bytes_at, with_bytes};
 ghost use Rattle.nv_host.specs.Pages.{HasPage, IsPageSize, is_page_size};
 
@@ -15,9 +14,6 @@ pub trait HostMemory {
     ghost bytes: { Self → List ℕ };
 
     ghost page_len: { Self → ℕ };
-
-    /// The memory with other bytes in a page.
-    ghost with_page: { Self → ℕ → List ℕ → Self };
 
     /// How many bytes a page has: 4096, 8192, 16384, 32768 or 65536.
     fn page_size(&self) -> u32
@@ -47,23 +43,6 @@ pub trait HostMemory {
         ensures value { result.now ≡ bytes_at (bytes self.now) (n * page_len self.now)
             (page_len self.now) }
         ensures len { length result.now ≡ page_len self.now };
-
-    /// Lends the bytes of a page, and nothing else. Its number is less than `pages`.
-    fn page_mut(&mut self, n: u32) -> &mut [u8]
-        requires { HasPage (bytes self.old) (page_len self.old) n }
-        ensures* writes_back { sem 𝓛 (Lends Self.row (Array byte 0) self.entry result
-            (with_page self.old n)) }
-        ensures value { result.now ≡ bytes_at (bytes self.old) (n * page_len self.old)
-            (page_len self.old) }
-        ensures len { length result.now ≡ page_len self.old };
-
-    /// Only the page's bytes are other ones.
-    ghost with_page_bytes: { (m : Self) (n : ℕ) (w : List ℕ) → HasPage (bytes m) (page_len m) n
-        → length w ≡ page_len m
-        → bytes (with_page m n w) ≡ with_bytes (bytes m) (n * page_len m) w };
-
-    ghost with_page_len: { (m : Self) (n : ℕ) (w : List ℕ) → page_len (with_page m n w)
-        ≡ page_len m };
 }
 
 /// Whether a page can have this many bytes.

@@ -12,7 +12,8 @@ use std::marker::Model;
 /// The number of a page of the host's memory.
 pub type PageNo = u32;
 
-/// A set of page numbers out of consecutive ones. Its room is made once, for all of them.
+/// A set of page numbers from a range of consecutive ones. Its memory is allocated once, for all of
+/// them.
 #[derive(Drop)]
 pub struct PageSet {
     free: BitSet,
@@ -29,8 +30,8 @@ impl Model for PageSet {
 }
 
 impl PageSet {
-    /// The set of the `count` page numbers from `first` on, of which there may be none. The number
-    /// behind the last one is less than 2^32. The set has a bit for each page.
+    /// Creates the set of the `count` page numbers from `first` on, of which there may be none. The
+    /// number after the last one must be less than 2^32. The set has a bit for each page.
     pub fn new(alloc: Global, first: PageNo, count: u32) -> Result<PageSet, Memory>
         requires { first + count < 2 ^ 32 }
         ensures { IfOk result (λ s. s
@@ -46,8 +47,8 @@ impl PageSet {
         }
     }
 
-    /// Takes the lowest page number out of the set. There is none exactly where the set is empty,
-    /// which then stays so.
+    /// Removes and returns the lowest page number. Returns none if the set is empty, which then
+    /// stays so.
     pub fn take(&mut self) -> Option<PageNo>
         ensures taken { MatchOption result
             ((self.old.members ≡ set.empty) × (self.new ≡ self.old))
@@ -60,7 +61,7 @@ impl PageSet {
         self.free.take_lowest()
     }
 
-    /// Puts a page number of these into the set, which does not have it.
+    /// Adds a page number of the range, which must not be in the set.
     pub fn give(&mut self, page: PageNo)
         requires of_these { IsOf self.old.first self.old.count page }
         requires outside { set.contains self.old.members page ≡ false }

@@ -55,7 +55,7 @@ fid_below feature.AsynchronousEventConfiguration = lit< tt
 
 -- ---- namespaces
 
--- the one whose value each namespace has for itself
+-- the feature of which each namespace has a value of its own
 pub of_namespaces : (f : Feature) → (row_of f).per_namespace ≡ true → f ≡ feature.ErrorRecovery
 of_namespaces feature.Arbitration e = absurd (cc e)
 of_namespaces feature.PowerManagement e = absurd (cc e)
@@ -66,7 +66,7 @@ of_namespaces feature.InterruptCoalescing e = absurd (cc e)
 of_namespaces feature.WriteAtomicityNormal e = absurd (cc e)
 of_namespaces feature.AsynchronousEventConfiguration e = absurd (cc e)
 
--- any other has another identifier
+-- any other feature has another identifier
 pub other_identifier : (f : Feature) → (row_of f).per_namespace ≡ false
     → ((row_of f).fid == (row_of feature.ErrorRecovery).fid) ≡ false
 other_identifier feature.Arbitration e = refl
@@ -139,7 +139,7 @@ value_fits f v e =
     (and_parts (bit_and v (row_of f).kept == v) (bit_and v (row_of f).clear == 0) e).0 in
     omega (arith, within, and_le_r v (row_of f).kept, kept_fits f)
 
--- what is stored of an accepted dword
+-- the part of an accepted dword that is stored
 pub stored_is_value : (f : Feature) (d : ℕ) → is_accepted f d ≡ true → is_value f (stored f d)
     ≡ true
 stored_is_value f d e =

@@ -1,5 +1,5 @@
--- What Identify answers of namespaces and controllers reads back from its 4,096 bytes, where its
--- fields fit.
+-- The Identify data of namespaces and controllers is read back from its 4,096 bytes if its fields
+-- fit.
 use Rattle.std.proofs.Common.{◌≡◌, ◌∙◌, ℕ, ◌+◌, ◌^◌, ◌<◌}
 use Rattle.std.proofs.Common.{ap, refl, arith, List, [], ◌∷◌, length, map}
 use Rattle.std.specs.List.{AllByRecursion}

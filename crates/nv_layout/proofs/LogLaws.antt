@@ -1,4 +1,4 @@
--- The records of logs read back, and how many bytes they have.
+-- The records of logs are read back, and how many bytes they have.
 use Rattle.std.proofs.Common.{◌≡◌, ◌∙◌, ℕ, ◌==◌, ◌+◌, ◌-◌, ◌*◌, ◌/◌, ◌%◌, ◌≤◌, ◌^◌, ◌<◌, ap, refl, sym, zero, suc}
 use Rattle.std.proofs.Common.{Bool, arith, lit<, List, [], ◌∷◌, ◌++◌, length, get_or, replicate, take}
 use Rattle.std.proofs.lemmas.List.{get_or-append_right, get_or-replicate, get_or_append_left}
@@ -64,7 +64,7 @@ no_entry_fits = record {
   specific = lit< tt;
 }
 
--- whatever the phase tag is
+-- this holds whatever the phase tag is
 pub fits_with_phase : (e : ErrorEntry) (phase : Bool) → ErrorEntryFits e → ErrorEntryFits (record e { phase = phase })
 fits_with_phase e phase fits = record {
   count = fits.count;
@@ -155,7 +155,7 @@ byte_at : (es : List ErrorEntry) (i : ℕ) → get_or (bytes_of_entries es) i 0
 byte_at es i =
     ap (λ j. get_or (bytes_of_entries es) j 0) (omega arith) ∙ byte_of_entry es (i / 64) (i % 64) (omega arith)
 
--- they are as the zeros past the end
+-- their bytes are the zeros past the end
 pub part_past_blanks : (es : List ErrorEntry) (m from n : ℕ)
     → part (bytes_of_entries (es ++ replicate m no_entry)) from n ≡ part (bytes_of_entries es) from n
 part_past_blanks es m from n =

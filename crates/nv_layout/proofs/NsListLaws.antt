@@ -11,7 +11,7 @@ use Rattle.nv_layout.specs.NsList.{is_zero, padded}
 use Rattle.nv_layout.specs.Parts.{number_at, numbers, numbers_at, placed, zeros}
 use Rattle.nv_layout.proofs.PartLaws.{get_or-numbers_at, length-numbers_at, length_zeros}
 
--- ---- what stands before the first zero
+-- ---- the numbers before the first zero
 
 zero_from_test : (x : ℕ) → is_zero x ≡ true → x ≡ 0
 zero_from_test x t = grind (arith, t)
@@ -23,7 +23,7 @@ before_first-cons x xs h =
     let one : suc n ≡ 1 + n = omega arith in
     rw h (ap (λ m. take m (x ∷ xs)) one)
 
--- the first numbers of xs, where none is zero and the next one is
+-- the first numbers of xs, if none is zero and the next one is
 is_before_zero : (xs ys : List ℕ) → length ys ≤ length xs
     → ((k : ℕ) → k < length ys → get_or ys k 0 ≡ get_or xs k 0)
     → ((k : ℕ) → k < length ys → get_or ys k 0 ≢ 0)

@@ -1,4 +1,4 @@
--- One field over some bytes, and the reading of numbers.
+-- One field that is written over some bytes, and reading numbers.
 use Rattle.std.proofs.Common.{◌≡◌, ◌∙◌, ℕ, zero, suc, ◌+◌, ◌-◌, ◌*◌, ◌%◌, ◌^◌, ◌<◌, ◌≤◌, ap, inl}
 use Rattle.std.proofs.Common.{inr, refl, sym, arith, mul-zero, List, [], ◌∷◌, ◌++◌, take, drop, set}
 use Rattle.std.proofs.Common.{append-nil, length, get_or, map, min, replicate}
@@ -23,7 +23,7 @@ length_zeros n = length-replicate n 0
 
 -- ---- a field is as long as its width
 
--- what an array and a text need for that: a number always is
+-- the condition on an array and a text; a number always meets it
 abbrev pub IsSized : Part → Type 0
 IsSized (number at width x) = Unit {0}
 IsSized (numbers at width count xs) = length xs ≡ count
@@ -92,7 +92,7 @@ read_before b rest end at n h k =
     ∙ ap (take n) part
     ∙ take_fewer (end - at) n (drop at b) (omega arith)
 
--- what stands before the field
+-- the bytes before the field
 pub text_at-placed_before : (b : List ℕ) (p : Part) (at n : ℕ) → at + n ≤ place_of p
     → place_of p ≤ length b → text_at at n (placed b p) ≡ text_at at n b
 unfolding placed text_at
@@ -146,7 +146,7 @@ take_numbers_at (suc k) at width (suc n) bytes h =
     ap (λ rest. number_at at width bytes ∷ rest) (take_numbers_at k (at + width) width n bytes
     (omega arith))
 
--- what holds of each by its index
+-- what holds for each by its index
 pub all_below : (limit : ℕ) (xs : List ℕ) → ((k : ℕ) → k < length xs → get_or xs k 0 < limit)
     → AllByRecursion (λ x. x < limit) xs
 all_below limit [] h = tt
@@ -180,7 +180,7 @@ to_bits_value value low count l c h =
 
 -- ---- arrays
 
--- what a function gave for each element
+-- the results of a function for each element
 pub map_read : {X Y : Type 0} (f : X → Y) (xs : List X) (ys : List Y) (d : X) (e : Y)
     → length ys ≡ length xs → ((k : ℕ) → k < length xs → get_or ys k e ≡ f (get_or xs k d))
     → ys ≡ map f xs
@@ -201,7 +201,7 @@ length-part bytes from n =
     length-take-le n (drop from bytes ++ replicate n 0)
     (simp (length-append, length-replicate) (omega arith))
 
--- what is read past the end stands there too
+-- what is read past the end is also there
 pub get_or-past : {X : Type 0} (xs : List X) (d : X) (n k : ℕ) → get_or (xs ++ replicate n d) k d
     ≡ get_or xs k d
 get_or-past [] d zero k = refl
@@ -218,7 +218,7 @@ get_or-part bytes from n k h =
     ∙ get_or-past (drop from bytes) 0 n k
     ∙ get_or-drop from bytes k 0
 
--- what agrees with the bytes at each index is the part
+-- a list that agrees with the bytes at each index is the part
 pub is_part : (bytes : List ℕ) (from : ℕ) (xs : List ℕ)
     → ((k : ℕ) → k < length xs → get_or xs k 0 ≡ get_or bytes (from + k) 0) → xs
     ≡ part bytes from (length xs)
@@ -248,7 +248,7 @@ same_parts xs ys i j n h =
     (λ k below. let small : k < n = omega (arith, size) in
     get_or-part xs i n k small ∙ h k small ∙ sym (get_or-part ys j n k small))
 
--- one part after the other
+-- one part after another
 pub part-append : (bytes : List ℕ) (from m n : ℕ)
     → part bytes from m ++ part bytes (from + m) n ≡ part bytes from (m + n)
 part-append bytes from m n =
@@ -259,7 +259,7 @@ part-append bytes from m n =
     (λ k below. byte_of_parts bytes from m n k (omega (arith, size, below)))
     ∙ ap (part bytes from) size
 
--- all that is past the end is zeros
+-- everything past the end is zeros
 pub part_past : (bytes : List ℕ) (from n : ℕ) → part bytes (min from (length bytes)) n
     ≡ part bytes from n
 unfolding part

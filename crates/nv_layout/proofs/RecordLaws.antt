@@ -1,4 +1,4 @@
--- Entries of the rings and lists, whose fields fit, read back, and how many bytes each has.
+-- Entries of the queues and lists are read back if their fields fit, and how many bytes each has.
 use Rattle.std.proofs.Common.{◌≡◌, ◌≢◌, ◌∙◌, ℕ, Bool, true, false, ◌==◌, ◌+◌, ◌^◌, ◌<◌, ◌≤◌, nat_le}
 use Rattle.std.proofs.Common.{ap, refl, arith, List, length}
 use Rattle.std.specs.List.{AllByRecursion, before_first}

@@ -41,7 +41,7 @@ pub length-laid_out : (size : ℕ) (ps : List Part) → is_table 0 size ps ≡ t
     → length (laid_out size ps) ≡ size
 length-laid_out size ps t s = length-fold_placed (zeros size) 0 size ps t s (length_zeros size)
 
--- what stands before a table's fields stays
+-- bytes before a table's fields don't change
 before_table : (b : List ℕ) (from size : ℕ) (ps : List Part) → is_table from size ps ≡ true
     → AllByRecursion IsSized ps → length b ≡ size → (at n : ℕ) → at + n ≤ from
     → text_at at n (fold placed b ps) ≡ text_at at n b
@@ -132,13 +132,13 @@ all_sized : (ps : List Part) → AllByRecursion Fits ps → AllByRecursion IsSiz
 all_sized [] f = tt
 all_sized (p ∷ ps) f = (sized p f.0, all_sized ps f.1)
 
--- every field of a table reads back
+-- every field of a table is read back
 pub table_back : (size : ℕ) (ps : List Part) → is_table 0 size ps ≡ true → AllByRecursion Fits ps
     → AllByRecursion (Holds (laid_out size ps)) ps
 table_back size ps t f =
     values_back _ ps f (all_stand (zeros size) 0 size ps t (all_sized ps f) (length_zeros size))
 
--- and so does field k of it
+-- so is field k of it
 abbrev pub nothing : Part
 nothing = number 0 0 0
 

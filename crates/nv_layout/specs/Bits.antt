@@ -1,8 +1,6 @@
 -- Fields of bits.
 use Rattle.std.specs.Prelude.{ℕ, Bool, if◌then◌else◌, ◌*◌, ◌/◌, ◌%◌, ◌^◌}
 
--- ---- the bits of a number
-
 -- the `count` bits from bit `low` on
 abbrev pub bits : ℕ → ℕ → ℕ → ℕ
 bits low count x = x / 2 ^ low % 2 ^ count

@@ -1,4 +1,4 @@
--- A controller list: how many identifiers there are, then the identifiers, then zeros.
+-- A controller list: the number of identifiers, then the identifiers, then zeros.
 use Rattle.std.specs.Prelude.{◌≡◌, ◌≤◌, ◌^◌, ◌<◌, ℕ, nat_le, if◌then◌else◌, List, [], ◌∷◌, Result, Ok}
 use Rattle.std.specs.Prelude.{Err, length}
 use Rattle.std.specs.List.{AllByRecursion}
@@ -13,13 +13,13 @@ ctrl_list_parts ids = number 0 2 (length ids) ∷ numbers 2 2 (length ids) ids �
 unfoldable pub bytes_of_ctrl_list : List ℕ → List ℕ
 bytes_of_ctrl_list ids = laid_out 4096 (ctrl_list_parts ids)
 
--- as many as the record says, where it has room for them
+-- as many identifiers as the record says, if it has room for them
 unfoldable pub ctrl_list_of_bytes : List ℕ → Result (List ℕ) LayoutError
 ctrl_list_of_bytes bytes =
     let count = number_at 0 2 bytes in
     if nat_le count most_cntlids then Ok (numbers_at 2 2 count bytes) else Err CountTooLarge
 
--- not too many identifiers, each of two bytes
+-- not too many identifiers, of two bytes each
 pub record CtrlListFits (ids : List ℕ) : Type 0 where
   pub count : length ids ≤ most_cntlids
   pub numbers : AllByRecursion (λ x. x < 2 ^ 16) ids

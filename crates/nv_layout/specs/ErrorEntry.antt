@@ -1,4 +1,4 @@
--- An entry of the error log by its offset table.
+-- An entry of the error log, and when its fields fit.
 use Rattle.std.specs.Prelude.{false, ◌^◌, ◌<◌}
 use Rattle.nv_layout.specs.Status.{StatusFits}
 use Rattle.nv_layout.specs.declared.error_entry.ErrorEntry.{ErrorEntry}

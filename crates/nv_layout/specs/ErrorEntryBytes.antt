@@ -1,4 +1,4 @@
--- An entry of the error log as bytes ("Error Information (Log Identifier 01h)").
+-- An entry of the error log by its offset table ("Error Information (Log Identifier 01h)").
 use Rattle.std.specs.Prelude.{◌≡◌, ℕ, false, ◌==◌, ◌+◌, List, [], ◌∷◌}
 use Rattle.std.specs.List.{flat_map}
 use Rattle.nv_layout.specs.Parts.{Part, laid_out, number, number_at}
@@ -7,7 +7,7 @@ use Rattle.nv_layout.specs.Status.{number_of_status, status_of_number}
 use Rattle.nv_layout.specs.declared.error_entry.ErrorEntry.{ErrorEntry}
 use Rattle.nv_layout.specs.ErrorEntry.{ErrorEntryFits}
 
--- the phase tag below the status field
+-- the phase tag in bit 0, and the status field above it
 abbrev pub status_word : ErrorEntry → ℕ
 status_word r = at_bits 0 1 (bit r.phase) + at_bits 1 15 (number_of_status r.status)
 
@@ -51,6 +51,6 @@ ErrorEntryReadsBack =
 abbrev pub bytes_of_entries : List ErrorEntry → List ℕ
 bytes_of_entries es = flat_map bytes_of_error_entry es
 
--- entries that differ in the phase tag alone count as the same
+-- entries that differ only in the phase tag are considered equal
 abbrev pub without_phase : ErrorEntry → ErrorEntry
 without_phase e = record e { phase = false }

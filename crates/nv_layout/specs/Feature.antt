@@ -1,6 +1,6 @@
 -- Features: one row for each, as in the section "Feature Specific Information". A feature has one
--- value under selector 0, or one under each of its selectors. The dword of a Set has the value, and
--- in features of more than one value also the selector that it is for.
+-- value under selector 0, or one under each of its selectors. The dword of a Set holds the value
+-- and, for features with several values, the selector that it is for.
 use Rattle.std.specs.Prelude.{ℕ, Bool, true, false, ◌==◌, ◌&&◌, ◌||◌, nat_lt, ◌/◌, ◌%◌, bit_and}
 use Rattle.std.specs.Prelude.{List, [], ◌∷◌, length, Option, codes, find}
 use Rattle.std.specs.List.{filter, list_any}
@@ -8,8 +8,8 @@ use Rattle.nv_layout.specs.Bits.{bits}
 use Rattle.nv_layout.specs.declared.feature.Feature.{Feature}
 use Rattle.nv_layout.specs.declared.feature.Feature.TheVariants as feature
 
--- a feature identifier, a name, the bits that the dword of a Set may have, those of them that are 0
--- all the same, those that are stored, whether each namespace has a value of its own, and the
+-- a feature identifier, a name, the bits that the dword of a Set may have, those of them that must
+-- be 0 anyway, those that are stored, whether each namespace has a value of its own, and the
 -- selectors
 pub record FeatureRow : Type 0 where
   pub fid : ℕ
@@ -20,7 +20,7 @@ pub record FeatureRow : Type 0 where
   pub per_namespace : Bool
   pub selectors : List ℕ
 
--- a feature of one value, which has each bit of its mask
+-- a feature with one value, which keeps each bit of its mask
 abbrev pub row : ℕ → List ℕ → ℕ → ℕ → Bool → FeatureRow
 row fid name mask clear per_namespace = record {
   fid = fid;
@@ -32,7 +32,7 @@ row fid name mask clear per_namespace = record {
   selectors = 0 ∷ [];
 }
 
--- over and under each of nine temperatures: TMPSEL 0 to 8, plus 16 where THSEL is 1
+-- over and under each of nine temperatures: TMPSEL 0 to 8, plus 16 if THSEL is 1
 abbrev pub thresholds : List ℕ
 thresholds =
     0 ∷ 1 ∷ 2 ∷ 3 ∷ 4 ∷ 5 ∷ 6 ∷ 7 ∷ 8 ∷ 16 ∷ 17 ∷ 18 ∷ 19 ∷ 20 ∷ 21 ∷ 22 ∷ 23 ∷ 24 ∷ []
@@ -56,7 +56,7 @@ row_of feature.WriteAtomicityNormal = row 0x0a (codes "Write Atomicity Normal") 
 row_of feature.AsynchronousEventConfiguration =
     row 0x0b (codes "Asynchronous Event Configuration") 0x7fff 0 false
 
--- every feature, by identifiers ascending
+-- every feature, in ascending order of identifiers
 abbrev pub features : List Feature
 features =
     feature.Arbitration
@@ -90,11 +90,11 @@ selector_in f dword = 0
 abbrev pub is_selector : Feature → ℕ → Bool
 is_selector f s = list_any (λ x. x == s) (row_of f).selectors
 
--- a Set with selector s is for x too: TMPSEL Fh is for each of that THSEL
+-- a Set for selector s is also for x: TMPSEL Fh is for each sensor of that THSEL
 abbrev pub is_for : ℕ → ℕ → Bool
 is_for s x = (x == s) || ((s % 16 == 15) && (x / 16 == s / 16))
 
--- those that a Set with this dword is for
+-- the selectors that a Set with this dword is for
 abbrev pub selectors_set : Feature → ℕ → List ℕ
 selectors_set f dword = filter (is_for (selector_in f dword)) (row_of f).selectors
 
@@ -104,18 +104,18 @@ is_get_selector f cdw11 = is_selector f (selector_in f cdw11)
 
 -- ---- values
 
--- what the dword of a Set may be: within the mask, with the clear bits 0, and for some selector
+-- a dword that a Set may have: it is within the mask, the clear bits are 0, and it is for some selector
 abbrev pub is_accepted : Feature → ℕ → Bool
 is_accepted f dword =
     (bit_and dword (row_of f).mask == dword)
     && (bit_and dword (row_of f).clear == 0)
     && nat_lt 0 (length (selectors_set f dword))
 
--- what of it is stored
+-- the part of it that is stored
 abbrev pub stored : Feature → ℕ → ℕ
 stored f dword = bit_and dword (row_of f).kept
 
--- what a stored value may be
+-- a number that may be a stored value
 abbrev pub is_value : Feature → ℕ → Bool
 is_value f value =
     (bit_and value (row_of f).kept == value) && (bit_and value (row_of f).clear == 0)

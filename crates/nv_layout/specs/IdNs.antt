@@ -63,7 +63,7 @@ pub record LbafFits (l : Lbaf) : Type 0 where
   pub lbads : l.lbads < 2 ^ 8
   pub rp : l.rp < 2 ^ 2
 
--- each field fits its bits, and the formats are sixteen
+-- each field fits its bits, and there are sixteen formats
 pub record IdNsFits (r : IdNs) : Type 0 where
   pub nsze : r.nsze < 2 ^ 64
   pub ncap : r.ncap < 2 ^ 64

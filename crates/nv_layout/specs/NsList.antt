@@ -16,7 +16,7 @@ bytes_of_ns_list ids = laid_out 4096 (ns_list_parts ids)
 abbrev pub is_zero : ℕ → Bool
 is_zero x = x == 0
 
--- those before the first zero
+-- the identifiers before the first zero
 unfoldable pub ns_list_of_bytes : List ℕ → List ℕ
 ns_list_of_bytes bytes = before_first is_zero (numbers_at 0 4 most_nsids bytes)
 

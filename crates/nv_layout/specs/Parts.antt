@@ -3,8 +3,8 @@ use Rattle.std.specs.Prelude.{ℕ, zero, suc, ◌+◌, ◌*◌, List, [], ◌∷
 use Rattle.std.specs.List.{flat_map}
 use Rattle.byteorder.specs.Endian.{little_bytes, little_number}
 
--- a field of a record: its first byte, how many bytes it has, and its value. `numbers` stand one
--- after the other: its second number is the bytes of each, and its third how many there are
+-- a field of a record: its first byte, how many bytes it has, and its value. `numbers` are one
+-- after the other: the second argument is the size of each, and the third how many there are
 pub data Part : Type 0 where
   number : ℕ → ℕ → ℕ → Part
   numbers : ℕ → ℕ → ℕ → List ℕ → Part
@@ -26,7 +26,7 @@ bytes_of (number at width x) = little_bytes width x
 bytes_of (numbers at width count xs) = flat_map (little_bytes width) xs
 bytes_of (text at width bytes) = bytes
 
--- the bytes with a field over them
+-- the bytes with a field written over them
 unfoldable pub placed : List ℕ → Part → List ℕ
 placed bytes p =
     take (place_of p) bytes ++ (bytes_of p ++ drop (width_of p) (drop (place_of p) bytes))
@@ -40,15 +40,15 @@ laid_out size parts = fold placed (zeros size) parts
 
 -- ---- reading
 
--- the `width` bytes from a place on
+-- the `width` bytes from `at` on
 unfoldable pub text_at : ℕ → ℕ → List ℕ → List ℕ
 text_at at width bytes = take width (drop at bytes)
 
--- the `n` bytes from a place on, with zeros past the end
+-- the `n` bytes from `from` on, with zeros past the end
 unfoldable pub part : List ℕ → ℕ → ℕ → List ℕ
 part bytes from n = take n (drop from bytes ++ replicate n 0)
 
--- the number in them
+-- the number in these bytes
 unfoldable pub number_at : ℕ → ℕ → List ℕ → ℕ
 number_at at width bytes = little_number width (drop at bytes)
 

@@ -1,4 +1,4 @@
--- The status field of a completion, a number of 15 bits.
+-- The status field of a completion queue entry, a number of 15 bits.
 use Rattle.std.specs.Prelude.{◌≡◌, ℕ, ◌==◌, ◌+◌, ◌^◌, ◌<◌, false, List, ◌++◌, codes}
 use Rattle.std.specs.Fmt.{digits}
 use Rattle.nv_layout.specs.Bits.{at_bits, bit, bits}
@@ -13,11 +13,11 @@ number_of_status s =
     + at_bits 13 1 (bit s.more)
     + at_bits 14 1 (bit s.dnr)
 
--- the number, as 0x600b
+-- the number, such as 0x600b
 abbrev pub status_text : Status → List ℕ
 status_text s = codes "0x" ++ digits 16 false (number_of_status s)
 
--- read from bits 14:0; bit 15 is ignored
+-- the status in bits 14:0; bit 15 is ignored
 unfoldable pub status_of_number : ℕ → Status
 status_of_number x = record {
   sc = bits 0 8 x;

@@ -3,8 +3,7 @@
 use crate::parts::{bits_of, clear, put_u16, put_u32, to_bits, u16_at, u32_at};
 use crate::status::Status;
 
-/// A completion as the controller posts it to a completion queue. Section "Completion Queue
-/// Entry".
+/// A completion as the controller posts it to a completion queue. Section "Completion Queue Entry".
 #[derive(Clone, Copy, Debug, PartialEq, Eq)]
 pub struct Cqe {
     /// Dword 0, whose meaning depends on the command.

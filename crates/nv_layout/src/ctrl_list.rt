@@ -7,33 +7,34 @@ use crate::few::{Few, Lent};
 use crate::parts::{clear, each_u16_fits, put_u16, put_u16s, read_u16s, u16_at};
 use thiserror::Error;
 
-/// Why bytes aren't those of a record.
+/// Why bytes are not a valid record.
 #[derive(Clone, Copy, Debug, PartialEq, Eq, Error)]
 pub enum LayoutError {
-    /// The count of a controller list is above 2,047. Section "Controller List".
+    /// The count of a controller list is greater than 2,047. Section "Controller List".
     #[error("a controller list has more than 2,047 identifiers")]
     CountTooLarge,
 }
 
-/// The most identifiers of a controller list.
+/// The greatest number of identifiers in a controller list.
 pub const MOST_CNTLIDS: usize = 2047;
 
-/// Up to 2,047 controller identifiers. In the list's bytes their number comes first, and zeros
+/// Up to 2,047 controller identifiers. In the list's bytes they follow their number, and zeros
 /// follow them. Section "Controller List".
 pub type CtrlList = Few<u16, MOST_CNTLIDS>;
 
-/// Up to 2,047 controller identifiers that stand elsewhere. Section "Controller List".
+/// Up to 2,047 controller identifiers that are borrowed. Section "Controller List".
 pub type ControllerIds<'a> = Lent<'a, u16, MOST_CNTLIDS>;
 
 impl<'a> Lent<'a, u16, MOST_CNTLIDS> {
-    /// There are at most 2,047, and each fits its two bytes. A law: the call does nothing.
+    /// States a law: there are at most 2,047 identifiers, and each fits two bytes. The call does
+    /// nothing.
     pub fn fits(&self)
         ensures { CtrlListFits self.now }
     {
         each_u16_fits(self.as_slice());
     }
 
-    /// Writes the bytes of the list that has them, all 4,096.
+    /// Writes all 4,096 bytes of the list with these identifiers.
     #[tactic(auto, unfolding(crate::specs::CtrlList::bytes_of_ctrl_list))]
     pub fn put(&self, out: &mut [u8; 4096])
         ensures { out.new ≡ bytes_of_ctrl_list self.now }
@@ -45,14 +46,14 @@ impl<'a> Lent<'a, u16, MOST_CNTLIDS> {
 }
 
 impl Few<u16, MOST_CNTLIDS> {
-    /// Writes the list's bytes, all 4,096 of them.
+    /// Writes all 4,096 bytes of the list.
     pub fn put(&self, out: &mut [u8; 4096])
         ensures { out.new ≡ bytes_of_ctrl_list self.now }
     {
         self.ids().put(out);
     }
 
-    /// Reads a list from its bytes. What follows its last identifier is ignored.
+    /// Reads a list from its bytes. Bytes after its last identifier are ignored.
     pub fn get(bytes: &[u8; 4096]) -> Result<CtrlList, LayoutError>
         ensures { result ≡ ctrl_list_of_bytes bytes.now }
     {
@@ -61,8 +62,8 @@ impl Few<u16, MOST_CNTLIDS> {
         Ok(list)
     }
 
-    /// Reads a list from its bytes, as `get` does, in place of this one. After an error the list is
-    /// as it was.
+    /// Replaces this list by that of the bytes, as `get` reads it. After an error the list is
+    /// unchanged.
     #[tactic(auto, unfolding(crate::specs::CtrlList::ctrl_list_of_bytes))]
     pub fn read(&mut self, bytes: &[u8; 4096]) -> Result<(), LayoutError>
         ensures found { MatchResult result

@@ -1,4 +1,4 @@
-//! The entries of an error log, where they stand.
+//! The entries of an error log, borrowed.
 
 ghost use Rattle.std.specs.Prelude.{◌≡◌, ◌≤◌, ◌<◌, ◌+◌, ◌-◌, ◌*◌, ◌++◌, List, get_or, length};
 ghost use Rattle.std.specs.Prelude.{replicate, take};
@@ -10,7 +10,7 @@ ghost use Rattle.nv_layout.specs.declared.error_entry.ErrorEntry.{ErrorEntry};
 use crate::error_entry::ErrorEntry;
 use std::marker::Model;
 
-/// Up to 256 entries of an error log that stand elsewhere, the newest first. Those that the log
+/// Up to 256 entries of an error log that are borrowed, the newest first. Those that the log
 /// doesn't have hold no error. Section "Error Information (Log Identifier 01h)".
 #[derive(Drop)]
 pub struct ErrorEntries<'a> {
@@ -30,7 +30,7 @@ impl<'a> Model for ErrorEntries<'a> {
 }
 
 impl<'a> ErrorEntries<'a> {
-    /// These entries, and as many without an error as make `count`.
+    /// Creates `count` entries: the given ones, and then entries that hold no error.
     pub fn new(newest: &'a [ErrorEntry], older: &'a [ErrorEntry], count: usize) -> ErrorEntries<'a>
         requires room { length newest.now + length older.now ≤ count }
         requires within { count ≤ 256 }
@@ -44,7 +44,7 @@ impl<'a> ErrorEntries<'a> {
         }
     }
 
-    /// How many entries there are.
+    /// Returns how many entries there are.
     pub fn len(&self) -> usize
         ensures count { result ≡ length self.now }
         ensures within { result ≤ 256 }
@@ -52,7 +52,7 @@ impl<'a> ErrorEntries<'a> {
         self.count
     }
 
-    /// A number of entries past which none holds an error, at most all of them.
+    /// Returns a number of entries, at most all, after which none holds an error.
     pub fn present(&self) -> usize
         ensures within { result ≤ length self.now }
         ensures few { result ≤ 256 }
@@ -62,7 +62,8 @@ impl<'a> ErrorEntries<'a> {
         self.newest.len() + self.older.len()
     }
 
-    /// The entry at an index from the newest on. Past the last it holds no error.
+    /// Returns the entry at an index, counted from the newest. It holds no error if the index is
+    /// past the last one.
     pub fn get(&self, index: usize) -> ErrorEntry
         ensures { result ≡ get_or self.now index no_entry }
     {
@@ -76,7 +77,7 @@ impl<'a> ErrorEntries<'a> {
         }
     }
 
-    /// Writes their bytes from a place on, and zeros past their end.
+    /// Fills `out` with the bytes of the entries from `from` on, and with zeros past their end.
     pub fn fill(&self, from: usize, out: &mut [u8])
         ensures { out.new ≡ part (bytes_of_entries self.now) from (length out.old) }
     {
@@ -88,7 +89,7 @@ impl<'a> ErrorEntries<'a> {
         past.fill(0);
     }
 
-    /// Writes their bytes from a place on, entry by entry.
+    /// Fills `out` with the bytes of the entries from `from` on, entry by entry.
     fn fill_within(&self, from: usize, out: &mut [u8])
         requires { from + length out.old ≤ 64 * 256 }
         ensures { out.new ≡ part (bytes_of_entries self.now) from (length out.old) }
@@ -103,7 +104,7 @@ impl<'a> ErrorEntries<'a> {
     }
 }
 
-/// Writes the bytes of an entry from a place on, as many as there is room for.
+/// Fills `out` with the bytes of an entry from `from` on, as many as fit.
 #[tactic(auto, using(crate::proofs::PartLaws::part_within))]
 fn put_part(entry: &ErrorEntry, from: usize, out: &mut [u8])
     requires { from + length out.old ≤ 64 }

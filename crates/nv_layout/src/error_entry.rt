@@ -5,11 +5,12 @@ use crate::parts::{
 };
 use crate::status::Status;
 
-/// What the Error Information log holds of one command that failed. Section "Error Information
+/// An entry of the Error Information log, for one command that failed. Section "Error Information
 /// (Log Identifier 01h)".
 #[derive(Clone, Copy, Debug, PartialEq, Eq)]
 pub struct ErrorEntry {
-    /// Error Count: the number of this error, which no other has. 0 where the entry holds none.
+    /// Error Count: the number of this error, which no other error has. It is 0 if the entry holds
+    /// none.
     pub count: u64,
     /// Submission Queue ID.
     pub sqid: u16,
@@ -36,7 +37,7 @@ impl ErrorEntry {
     ghost use Rattle.nv_layout.specs.ErrorEntryBytes.{bytes_of_error_entry, error_entry_of_bytes};
     ghost use Rattle.nv_layout.specs.ErrorEntryBytes.{status_word};
 
-    /// The entry that holds no error: all of it is 0.
+    /// The entry that holds no error, which is 0 throughout.
     pub const NONE: ErrorEntry = ErrorEntry {
         count: 0,
         sqid: 0,

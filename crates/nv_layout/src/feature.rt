@@ -22,15 +22,15 @@ pub enum Feature {
     AsynchronousEventConfiguration,
 }
 
-/// What tells of a feature.
+/// What the table says about a feature.
 #[derive(Clone, Copy)]
 struct FeatureRow {
     /// The feature identifier.
     fid: u8,
     name: &'static str,
-    /// The bits that the dword of a Set may have.
+    /// The bits that the dword of a Set Features command may have.
     mask: u32,
-    /// The bits of the mask that are 0 all the same.
+    /// The bits of the mask that must be 0 anyway.
     clear: u32,
     /// The bits of the mask that are stored.
     kept: u32,
@@ -40,7 +40,7 @@ struct FeatureRow {
     selectors: &'static [u8],
 }
 
-/// A feature of one value, which has each bit of its mask.
+/// Returns the row of a feature with one value, which keeps each bit of its mask.
 fn one_value(fid: u8, name: &'static str, mask: u32, clear: u32, per_namespace: bool) -> FeatureRow
     ensures fid { result.fid ≡ fid }
     ensures name { result.name ≡ name.entry }
@@ -66,7 +66,8 @@ const THRESHOLDS: [u8; 18] = [
     0, 1, 2, 3, 4, 5, 6, 7, 8, 16, 17, 18, 19, 20, 21, 22, 23, 24,
 ];
 
-/// Whether a Set with one selector is for another too: TMPSEL Fh is for each of that THSEL.
+/// Returns whether a Set for one selector is also for another: TMPSEL Fh is for each sensor of that
+/// THSEL.
 fn is_for(named: u8, selector: u8) -> bool
     ensures { result ≡ is_for named selector }
 {
@@ -80,7 +81,7 @@ fn is_for_any(named: u8, selectors: &[u8]) -> bool
 }
 
 impl Feature {
-    /// Every feature, by identifiers ascending.
+    /// Every feature, in ascending order of identifiers.
     pub const ALL: [Feature; 8] = [
         Feature::Arbitration,
         Feature::PowerManagement,
@@ -92,13 +93,15 @@ impl Feature {
         Feature::AsynchronousEventConfiguration,
     ];
 
-    /// A law: `ALL` has every feature, by identifiers ascending. The call does nothing.
+    /// States a law: `ALL` has every feature, in ascending order of identifiers. The call does
+    /// nothing.
     pub fn all_ascend()
         ensures all { ALL ≡ features }
         ensures ascending { is_ascending ALL ≡ true }
     {}
 
-    /// The table. There is one power state, 0, in bits 4:0 of Power Management.
+    /// Returns the feature's row of the table. There is one power state, 0, in bits 4:0 of Power
+    /// Management.
     fn row(self) -> FeatureRow
         ensures fid { result.fid ≡ (row_of self).fid }
         ensures name { result.name.now ≡ (row_of self).name }
@@ -136,7 +139,7 @@ impl Feature {
         }
     }
 
-    /// The feature with an identifier, where there is one.
+    /// Returns the feature with an identifier, if there is one.
     pub fn of(fid: u8) -> Option<Feature>
         ensures { result ≡ feature_of fid }
     {
@@ -153,7 +156,7 @@ impl Feature {
         }
     }
 
-    /// Its feature identifier, which no other feature has.
+    /// Returns the feature identifier, which no other feature has.
     #[tactic(auto, using(crate::proofs::FeatureTableLaws::feature_at))]
     pub fn fid(self) -> u8
         ensures fid { result ≡ (row_of self).fid }
@@ -162,29 +165,30 @@ impl Feature {
         self.row().fid
     }
 
-    /// Its name, as the standard spells it.
+    /// Returns the name, as the standard spells it.
     pub fn name(self) -> &'static str
         ensures { result.now ≡ (row_of self).name }
     {
         self.row().name
     }
 
-    /// Whether each namespace has a value of its own.
+    /// Returns whether each namespace has a value of its own.
     pub fn is_per_namespace(self) -> bool
         ensures { result ≡ (row_of self).per_namespace }
     {
         self.row().per_namespace
     }
 
-    /// The selectors under which it has values, ascending: 0 alone where it has one value.
+    /// Returns the selectors under which the feature has values, in ascending order. It is 0 alone
+    /// if the feature has one value.
     pub fn selectors(self) -> &'static [u8]
         ensures { result.now ≡ (row_of self).selectors }
     {
         self.row().selectors
     }
 
-    /// The selector in the dword of a Get or a Set. Of Temperature Threshold it is bits 21:16:
-    /// TMPSEL plus 16 times THSEL.
+    /// Returns the selector in the dword of a Get or a Set. For Temperature Threshold it is bits
+    /// 21:16, which is TMPSEL plus 16 times THSEL.
     pub fn selector_in(self, dword: u32) -> u8
         ensures { result ≡ selector_in self dword }
     {
@@ -194,14 +198,14 @@ impl Feature {
         }
     }
 
-    /// Whether it has a value under the selector.
+    /// Returns whether the feature has a value under the selector.
     pub fn has_selector(self, selector: u8) -> bool
         ensures { result ≡ is_selector self selector }
     {
         self.row().selectors.iter().any(|known| *known == selector)
     }
 
-    /// Whether a Set with this dword is for the selector.
+    /// Returns whether a Set with this dword is for the selector.
     pub fn sets(self, dword: u32, selector: u8) -> bool
         ensures { result ≡ list_any (λ x. x == selector) (selectors_set self dword) }
     {
@@ -214,8 +218,8 @@ impl Feature {
         is_for_any(self.selector_in(dword), self.selectors())
     }
 
-    /// Whether a Set may have this dword: one with no bit outside the mask, with the clear bits 0,
-    /// and for some selector.
+    /// Returns whether a Set may have this dword: it has no bit outside the mask, the clear bits
+    /// are 0, and it is for some selector.
     pub fn accepts(self, dword: u32) -> bool
         ensures { result ≡ is_accepted self dword }
     {
@@ -223,7 +227,7 @@ impl Feature {
         dword & row.mask == dword && dword & row.clear == 0 && self.sets_some(dword)
     }
 
-    /// What a Set with this dword stores: a value, where it may have the dword.
+    /// Returns what a Set with this dword stores. It is a value if the Set may have the dword.
     #[tactic(auto, using(crate::proofs::FeatureTableLaws::stored_is_value))]
     pub fn stored(self, dword: u32) -> u32
         ensures stored { result ≡ stored self dword }
@@ -232,7 +236,7 @@ impl Feature {
         dword & self.row().kept
     }
 
-    /// Whether it may be a stored value.
+    /// Returns whether this may be a stored value.
     pub fn is_value(self, value: u32) -> bool
         ensures { result ≡ is_value self value }
     {

@@ -1,11 +1,11 @@
-//! Lists of at most so many items.
+//! Lists with a greatest length.
 
 ghost use Rattle.std.specs.Prelude.{◌≡◌, ◌≤◌, ◌<◌, ◌↔◌, ◌++◌, ◌∷◌, [], IsTrue, List, length, take};
 
 use std::fmt;
 use std::marker::Model;
 
-/// Up to `MOST` items in order, in room of their own.
+/// A list of up to `MOST` items, which owns them.
 #[derive(Clone, Drop)]
 pub struct Few<T, const MOST: usize> {
     pub(crate) items: [T; MOST],
@@ -20,7 +20,7 @@ impl<T, const MOST: usize> Model for Few<T, MOST> {
     ghost invariant = { λ s. s.len ≤ MOST };
 }
 
-/// Lists are equal where their items are, in order.
+/// Lists are equal if their items are equal, in order.
 impl<T: PartialEq, const MOST: usize> PartialEq for Few<T, MOST> {
     ghost use Rattle.std.specs.Cmp.Lexicographic.{lists_per, pointwise};
 
@@ -46,7 +46,7 @@ impl<T: fmt::Debug, const MOST: usize> fmt::Debug for Few<T, MOST> {
 }
 
 impl<T: Copy + Default, const MOST: usize> Few<T, MOST> {
-    /// The list of no items.
+    /// Creates an empty list.
     pub fn new() -> Few<T, MOST>
         ensures { result ≡ [] }
     {
@@ -58,7 +58,7 @@ impl<T: Copy + Default, const MOST: usize> Few<T, MOST> {
 }
 
 impl<T, const MOST: usize> Few<T, MOST> {
-    /// How many items the list has.
+    /// Returns how many items the list has.
     pub fn len(&self) -> usize
         ensures count { result ≡ length self.now }
         ensures within { result ≤ MOST }
@@ -66,14 +66,14 @@ impl<T, const MOST: usize> Few<T, MOST> {
         self.as_slice().len()
     }
 
-    /// Whether the list has no items.
+    /// Returns whether the list has no items.
     pub fn is_empty(&self) -> bool
         ensures { IsTrue result ↔ (self.now ≡ []) }
     {
         self.as_slice().is_empty()
     }
 
-    /// The items in order.
+    /// Returns the items in order.
     pub fn as_slice(&self) -> &[T]
         ensures items { result.now ≡ self.now }
         ensures within { length self.now ≤ MOST }
@@ -81,14 +81,14 @@ impl<T, const MOST: usize> Few<T, MOST> {
         &self.items[..self.len]
     }
 
-    /// The items in order, as they stand in the list.
+    /// Returns the items in order, borrowed from the list.
     pub fn ids(&self) -> Lent<'_, T, MOST>
         ensures { result ≡ self.now }
     {
         Lent::new(self.as_slice())
     }
 
-    /// Takes all items out.
+    /// Removes all items.
     pub fn clear(&mut self)
         ensures { self.new ≡ [] }
     {
@@ -107,7 +107,7 @@ impl<T: Copy, const MOST: usize> Few<T, MOST> {
     }
 }
 
-/// Up to `MOST` items in order, where they stand.
+/// A list of up to `MOST` items, which are borrowed.
 #[derive(Drop)]
 pub struct Lent<'a, T, const MOST: usize> {
     lent: &'a [T],
@@ -121,7 +121,7 @@ impl<'a, T, const MOST: usize> Model for Lent<'a, T, MOST> {
     ghost invariant = { λ s. length s.lent.now ≤ MOST };
 }
 
-/// They are equal where the items are, in order.
+/// Lists are equal if their items are equal, in order.
 impl<'a, T: PartialEq, const MOST: usize> PartialEq for Lent<'a, T, MOST> {
     ghost use Rattle.std.specs.Cmp.Lexicographic.{lists_per, pointwise};
 
@@ -147,7 +147,7 @@ impl<'a, T: fmt::Debug, const MOST: usize> fmt::Debug for Lent<'a, T, MOST> {
 }
 
 impl<'a, T, const MOST: usize> Lent<'a, T, MOST> {
-    /// These items.
+    /// Creates the list of these items.
     pub fn new(items: &'a [T]) -> Lent<'a, T, MOST>
         requires { length items.now ≤ MOST }
         ensures { result ≡ items.now }
@@ -155,7 +155,7 @@ impl<'a, T, const MOST: usize> Lent<'a, T, MOST> {
         Lent { lent: items }
     }
 
-    /// The items in order.
+    /// Returns the items in order.
     pub fn as_slice(&self) -> &[T]
         ensures items { result.now ≡ self.now }
         ensures within { length self.now ≤ MOST }

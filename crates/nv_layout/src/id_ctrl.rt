@@ -1,4 +1,4 @@
-//! What Identify tells of a controller.
+//! The Identify Controller data structure.
 
 use crate::parts::{
     bytes_at, clear, put_bytes, put_u8, put_u16, put_u24, put_u32, put_u128, to_bits, u8_at,
@@ -25,7 +25,7 @@ pub struct IdCtrl {
     pub ieee: u32,
     /// Controller Multi-Path I/O and Namespace Sharing Capabilities.
     pub cmic: u8,
-    /// Maximum Data Transfer Size: two to this power of the smallest pages; 0 is no
+    /// Maximum Data Transfer Size, as a power of two in units of the smallest page. 0 means no
     /// limit.
     pub mdts: u8,
     /// Controller ID.

@@ -1,4 +1,4 @@
-//! What Identify tells of a namespace.
+//! The Identify Namespace data structure.
 
 use crate::parts::{
     bits_of, clear, put_u8, put_u32, put_u32s, put_u64, put_u128, to_bits, u8_at, u32_at, u32s_at,
@@ -11,7 +11,7 @@ use crate::parts::{
 pub struct Lbaf {
     /// Metadata Size, in bytes a logical block.
     pub ms: u16,
-    /// LBA Data Size: a logical block has two to this power of bytes.
+    /// LBA Data Size: a logical block has two to this power bytes.
     pub lbads: u8,
     /// Relative Performance, 2 bits.
     pub rp: u8,

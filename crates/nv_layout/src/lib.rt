@@ -1,5 +1,6 @@
-//! The records that an NVM Express host and a controller exchange, to and from bytes. All numbers
-//! are little endian. Reserved bytes and bits are written 0 and ignored on reading.
+//! Converts the records that an NVM Express host and a controller exchange to and from bytes. All
+//! numbers are little endian. Reserved bytes and bits are written as 0 and ignored when they are
+//! read.
 //!
 //! A record is a plain struct with the standard's field names. `put` writes its bytes, `get` reads
 //! them:
@@ -11,8 +12,8 @@
 //! let same = Sqe::get(&bytes);
 //! ```
 //!
-//! A field wider than its bits is cut to them by `put`; a record whose fields fit is what `get`
-//! reads.
+//! `put` cuts a field to its bits if it is wider. A record whose fields fit is what `get` reads
+//! back.
 //!
 //! Sections are named as in the NVM Express Base Specification, revision 1.4.
 #![tactic(auto)]
@@ -57,8 +58,8 @@ pub use smart::Smart;
 pub use sqe::Sqe;
 pub use status::Status;
 
-/// The law of this crate: a record whose fields fit their bits is what is read from its bytes. The
-/// call does nothing.
+/// States the law of this crate: a record whose fields fit their bits is read back from its bytes.
+/// The call does nothing.
 pub fn reads_back()
     ensures sqe { SqeReadsBack }
     ensures cqe { CqeReadsBack }

@@ -4,7 +4,7 @@ ghost use Rattle.std.specs.Prelude.{◌≡◌, ◌<◌, ◌%◌, ℕ};
 
 use std::marker::Model;
 
-/// A number below a limit: a field of a few bits.
+/// A number below a limit, for a field of a few bits.
 #[derive(Clone, Copy, Debug, PartialEq, Eq)]
 pub struct Below<const LIMIT: u8> {
     value: u8,
@@ -27,7 +27,7 @@ impl<const LIMIT: u8> Model for Below<LIMIT> {
 }
 
 impl<const LIMIT: u8> Below<LIMIT> {
-    /// A number cut to its lowest bits.
+    /// Returns a number cut to its lowest bits.
     pub fn low(value: u8) -> Below<LIMIT>
         requires { 0 < LIMIT }
         ensures { result ≡ value % LIMIT }
@@ -37,7 +37,7 @@ impl<const LIMIT: u8> Below<LIMIT> {
         }
     }
 
-    /// The number.
+    /// Returns the number.
     pub fn get(self) -> u8
         ensures value { result ≡ self.entry }
         ensures small { result < LIMIT }

@@ -6,18 +6,18 @@ ghost use Rattle.nv_layout.specs.NsList.{bytes_of_ns_list, ns_list_of_bytes};
 use crate::few::{Few, Lent};
 use crate::parts::{clear, put_u32s, u32_at};
 
-/// The most identifiers of a namespace list.
+/// The greatest number of identifiers in a namespace list.
 pub const MOST_NSIDS: usize = 1024;
 
-/// Up to 1,024 namespace identifiers. In the list's bytes they are followed by zeros, so that a 0
-/// among them ends the list. Section "Namespace List".
+/// Up to 1,024 namespace identifiers. In the list's bytes zeros follow them, so a 0 among them ends
+/// the list. Section "Namespace List".
 pub type NsList = Few<u32, MOST_NSIDS>;
 
-/// Up to 1,024 namespace identifiers that stand elsewhere. Section "Namespace List".
+/// Up to 1,024 namespace identifiers that are borrowed. Section "Namespace List".
 pub type NamespaceIds<'a> = Lent<'a, u32, MOST_NSIDS>;
 
 impl<'a> Lent<'a, u32, MOST_NSIDS> {
-    /// Writes the bytes of the list that has them, all 4,096.
+    /// Writes all 4,096 bytes of the list with these identifiers.
     pub fn put(&self, out: &mut [u8; 4096])
         ensures { out.new ≡ bytes_of_ns_list self.now }
     {
@@ -27,7 +27,7 @@ impl<'a> Lent<'a, u32, MOST_NSIDS> {
 }
 
 impl Few<u32, MOST_NSIDS> {
-    /// Writes the list's bytes, all 4,096 of them.
+    /// Writes all 4,096 bytes of the list.
     pub fn put(&self, out: &mut [u8; 4096])
         ensures { out.new ≡ bytes_of_ns_list self.now }
     {
@@ -43,7 +43,7 @@ impl Few<u32, MOST_NSIDS> {
         list
     }
 
-    /// Reads a list from its bytes, as `get` does, in place of this one.
+    /// Replaces this list by that of the bytes, as `get` reads it.
     pub fn read(&mut self, bytes: &[u8; 4096])
         ensures { self.new ≡ ns_list_of_bytes bytes.now }
     {

@@ -1,4 +1,4 @@
-//! Numbers at their places in a record's bytes, and in the bits of a number.
+//! Reads and writes numbers at places in a record's bytes, and in the bits of a number.
 
 ghost use Rattle.std.specs.Prelude.{◌≡◌, ◌≤◌, ◌<◌, ◌+◌, ◌*◌, ◌^◌, length};
 ghost use Rattle.std.specs.List.{AllByRecursion};
@@ -8,7 +8,7 @@ ghost use Rattle.nv_layout.specs.Parts.{text_at, zeros};
 
 use byteorder::{ByteOrder, LittleEndian};
 
-/// Zeros in all of a record's bytes, before its fields are put.
+/// Zeroes all bytes of a record, before its fields are written.
 #[tactic(auto, unfolding(crate::specs::Parts::zeros))]
 pub(crate) fn clear(out: &mut [u8])
     ensures { out.new ≡ zeros (length out.old) }
@@ -137,12 +137,12 @@ pub(crate) fn u128_at(bytes: &[u8], at: usize) -> u128
     LittleEndian::read_u128(&bytes[at..])
 }
 
-/// Each of the numbers fits two bytes, as its type says. The call does nothing.
+/// States a law: each of the numbers fits two bytes, as its type says. The call does nothing.
 pub(crate) fn each_u16_fits(values: &[u16])
     ensures { AllByRecursion (λ x. x < 2 ^ 16) values.now }
 {}
 
-/// Reads numbers of two bytes each, as many as there are values.
+/// Reads as many numbers of two bytes each as `values` has.
 pub(crate) fn read_u16s(bytes: &[u8], at: usize, values: &mut [u16])
     requires { at + 2 * length values.old ≤ length bytes.now }
     ensures { values.new ≡ numbers_at at 2 (length values.old) bytes.now }
@@ -169,7 +169,7 @@ pub(crate) fn bytes_at<const N: usize>(bytes: &[u8], at: usize) -> [u8; N]
     part
 }
 
-/// The `count` bits of a number from bit `low` on.
+/// Returns the `count` bits of a number from bit `low` on.
 pub fn bits_of(number: u32, low: u32, count: u32) -> u32
     requires low { low < 32 }
     requires count { count < 32 }
@@ -178,7 +178,8 @@ pub fn bits_of(number: u32, low: u32, count: u32) -> u32
     (number >> low) % (1 << count)
 }
 
-/// A number with the lowest `count` bits of a value from bit `low` on, and zeros elsewhere.
+/// Returns a number with the lowest `count` bits of a value from bit `low` on, and with zeros
+/// elsewhere.
 pub fn to_bits(value: u32, low: u32, count: u32) -> u32
     requires low { low < 32 }
     requires count { count < 32 }

@@ -4,8 +4,7 @@ use crate::parts::{
     clear, put_u8, put_u16, put_u16s, put_u32, put_u128, read_u16s, u8_at, u16_at, u32_at, u128_at,
 };
 
-/// What the SMART / Health Information log holds. Section "SMART / Health Information (Log
-/// Identifier 02h)".
+/// The SMART / Health Information log. Section "SMART / Health Information (Log Identifier 02h)".
 #[derive(Clone, Copy, Debug, PartialEq, Eq)]
 pub struct Smart {
     /// Critical Warning.

@@ -2,8 +2,8 @@
 
 use crate::parts::{bits_of, clear, put_u32, put_u64, to_bits, u32_at, u64_at};
 
-/// A command as the host puts it into a submission queue. Section "Submission Queue Entry -
-/// Command Format". The default is one of zeros.
+/// A command as the host writes it to a submission queue. Section "Submission Queue Entry - Command
+/// Format". The default is all zeros.
 #[derive(Clone, Copy, Debug, Default, PartialEq, Eq)]
 pub struct Sqe {
     /// Opcode.

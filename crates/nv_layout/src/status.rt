@@ -1,10 +1,10 @@
-//! The status field of a completion.
+//! The status field of a completion queue entry.
 
 use crate::parts::{bits_of, to_bits};
 use std::fmt;
 
-/// The outcome of a command, the 15 bits beside the phase tag in a completion. Section "Status
-/// Field Definition".
+/// The outcome of a command: the 15 bits beside the phase tag in a completion queue entry. Section
+/// "Status Field Definition".
 #[derive(Clone, Copy, Debug, PartialEq, Eq)]
 pub struct Status {
     /// Status Code.
@@ -13,7 +13,7 @@ pub struct Status {
     pub sct: u8,
     /// Command Retry Delay, 2 bits.
     pub crd: u8,
-    /// More: the Error Information log has more on this command.
+    /// More: the Error Information log has more information about this command.
     pub more: bool,
     /// Do Not Retry.
     pub dnr: bool,
@@ -32,15 +32,16 @@ impl Status {
         dnr: false,
     };
 
-    /// Whether the command was accepted: status code 0 of the generic type. Section "Generic
-    /// Command Status Definition".
+    /// Returns whether the command was accepted: status code 0 of the generic type. Section
+    /// "Generic Command Status Definition".
     pub fn is_success(self) -> bool
         ensures { IsTrue result ↔ ((self.sct ≡ 0) × (self.sc ≡ 0)) }
     {
         self.sct == 0 && self.sc == 0
     }
 
-    /// The field as a number of 15 bits. The type is cut to its three bits, the delay to its two.
+    /// Returns the field as a number of 15 bits. The type is cut to its three bits, and the delay
+    /// to its two.
     #[tactic(auto, unfolding(crate::specs::Status::number_of_status))]
     pub fn number(self) -> u16
         ensures { result ≡ number_of_status self }
@@ -53,7 +54,7 @@ impl Status {
         number as u16
     }
 
-    /// The field with this number. Bit 15 is no part of it and is ignored.
+    /// Returns the field with this number. Bit 15 isn't part of it and is ignored.
     #[tactic(auto, unfolding(crate::specs::Status::status_of_number))]
     pub fn from_number(number: u16) -> Status
         ensures { result ≡ status_of_number number }
@@ -69,7 +70,7 @@ impl Status {
     }
 }
 
-/// The number, as `0x600b`.
+/// Writes the number, such as `0x600b`.
 impl fmt::Display for Status {
     ghost use Rattle.std.specs.Prelude.{Some};
     ghost use Rattle.nv_layout.specs.Status.{status_text};

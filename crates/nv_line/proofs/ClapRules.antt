@@ -1,4 +1,4 @@
--- What clap's contract says of each command.
+-- What clap's contract says about each command.
 use Rattle.std.proofs.Common.{◌≡◌, ◌⊎◌, ◌∙◌, ap, ap₂, refl, subst, sym, inl, inr, rules, true, false, Bool, List}
 use Rattle.std.proofs.Common.{[], ◌∷◌, ◌++◌, All, Result, Ok, Err, drop, if◌then◌else◌}
 use Rattle.std.proofs.lemmas.List.Elements.{All-push}
@@ -20,19 +20,19 @@ use Rattle.nv_line.specs.declared.verb.Verb.{Verb}
 use Rattle.nv_line.specs.declared.verb.Verb.TheVariants.{Of}
 use Rattle.nv_line.specs.declared.verb.DeviceVerb.TheVariants.{IdCtrl}
 
--- an application that clap builds at its first use, and takes as it is at each later one
+-- an application that clap builds at its first use, and uses unchanged at each later one
 record IsReusable (p : App) : Type 0 where
   simple : is_simple_and_free p ≡ true
   still : is_simple_and_free (built p) ≡ true
   once : (built p).top.is_built ≡ true
   words : (built p).top.no_binary_name ≡ p.top.no_binary_name
 
--- each command's is one, by computing
+-- each command's application is reusable, by computation
 each_is_reusable : (v : Verb) → IsReusable (app_for v)
 each_is_reusable (Of IdCtrl) = record { simple = refl; still = refl; once = refl; words = refl }
 each_is_reusable v = record { simple = refl; still = refl; once = refl; words = refl }
 
--- an application that answers as p does
+-- an application that gives the same answers as p
 pub record AnswersAs (p a : App) : Type 0 where
   pub simple : is_simple_and_free a ≡ true
   pub faults : (ws : List Text) → fault_of a ws ≡ fault_of p ws
@@ -75,7 +75,7 @@ matches_as v a e = (both _ _ (simple_as v a e)).0
 buildable_as : (v : Verb) (a : App) → IsAppOf v a → is_buildable a ≡ true
 buildable_as v a e = (both _ _ (matches_as v a e)).0
 
--- a command stays one of its word where it isn't broken
+-- a command stays that of its word unless it is broken
 pub stays_made : (v : Verb) (old new : Command) → IsAppOf v (app_of old) → BuildsOrBreaks old new
     → (is_broken new ≡ true) ⊎ IsAppOf v (app_of new)
 stays_made v old new e (inl broken) = inl broken
@@ -90,7 +90,7 @@ among_taken : (k : ErrorKind) (ks : Kinds) → IsAmong k ks → is_empty ks ≡ 
 among_taken k [] h = absurd h
 among_taken k (x ∷ xs) h = search rules
 
--- words in which an application finds no fault, and what it then finds
+-- words in which an application finds no fault, and what it finds then
 pub without_fault : (p a : App) (ws : List Text) (rows : List Row) → a ≡ p → fault_of a ws ≡ []
     → rows ≡ matches_of a ws → (is_empty (fault_of p ws) ≡ true) × (rows ≡ matches_of p ws)
 without_fault p a ws rows e f r = (
@@ -98,7 +98,7 @@ without_fault p a ws rows e f r = (
   r ∙ ap (λ (x : App). matches_of x ws) e,
 )
 
--- words in which it finds one
+-- words in which an application finds a fault
 pub with_fault : (p a : App) (ws : List Text) (k : ErrorKind) → a ≡ p → IsAmong k (fault_of a ws)
     → is_empty (fault_of p ws) ≡ false
 with_fault p a ws k e among = ap (λ (x : App). is_empty (fault_of x ws)) (sym e) ∙ among_taken k _ among

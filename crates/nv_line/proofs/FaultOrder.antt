@@ -23,7 +23,7 @@ no_text text controllers short busy bad =
     let long : nat_lt line_limit (length text) ≡ false = grind arith in
     rw (long, busy, utf8) refl
 
--- the request of a line, as the line says it
+-- the meaning of a line, by its request
 abbrev pub said_by : Result Request LineFault → Result Line LineFault
 said_by answer = answer >>= λ request. Ok (line.Request request)
 
@@ -34,7 +34,7 @@ some_text text controllers short busy good =
     let long : nat_lt line_limit (length text) ≡ false = grind arith in
     rw (long, busy, utf8) refl
 
--- `?`: memory or the fault is handed up
+-- `?`: lack of memory or the fault is returned
 pub handed_up : (answer : Result Request LineFault) (e : LineFault) → IsUnlessMemory answer (Err e)
     → IsUnlessMemory (said_by answer) (Err e)
 handed_up answer e (inl m) = inl (cc)
@@ -45,7 +45,7 @@ pub handed_on : (answer : Result Request LineFault) (r : Request) → IsUnlessMe
 handed_on answer r (inl m) = absurd (cc)
 handed_on answer r (inr is) = inr (rw (← is) refl)
 
--- the answer at a text, by its words
+-- the result for a text, by its words
 pub answer_at : (text : Text) (controllers : ℕ) (words : List Text) (r : Result Line LineFault)
     → length text ≤ line_limit → is_skipped text ≡ false → IsUtf8 text
     → words ≡ without_nvme (words_of text)

@@ -9,7 +9,7 @@ use Rattle.nv_layout.specs.Limits.{most_cntlids}
 use Rattle.nv_line.specs.Values.{identifiers_in, is_comma, list_in}
 use Rattle.nv_line.specs.Values.{number_in}
 
--- the identifiers of the first n pieces, before those of the rest
+-- the identifiers of the first n pieces, followed by those of the rest
 pub record IsReadTo (pieces : List Text) (ids : List ℕ) (n : ℕ) : Type 0 where
   pub count : length ids ≡ n
   pub room : n ≤ most_cntlids

@@ -1,4 +1,4 @@
--- What follows a prefix.
+-- The rest of a text after a prefix.
 use Rattle.std.proofs.Common.{◌≡◌, ◌∙◌, ◌++◌, ℕ, ap, refl, sym, take, drop, length, Bool, true, false, List, Option}
 use Rattle.std.proofs.Common.{Some, None, option_map, Bor, MatchOption, if◌then◌else◌}
 use Rattle.std.specs.Bool.{Decides}

@@ -1,4 +1,4 @@
--- The commands as clap is told of them, and what it finds in a command line.
+-- The commands for clap, and what clap finds in a command line.
 use Rattle.std.specs.Prelude.{◌≡◌, ◌⊎◌, ℕ, Bool, true, false, List, fold, Some, Result, Ok, Err, codes}
 use Rattle.std.specs.Prelude.{if◌then◌else◌}
 use Rattle.clap.specs.Words.{App, Row, Rule, Text, app_of, built, fault_of, is_broken, matches_of}
@@ -48,26 +48,26 @@ abbrev pub bare_app : Verb → App
 bare_app (verb.Of v) = with_rule (without_help (new_app (word_of (verb.Of v)))) device_rule
 bare_app verb.List = without_help (new_app (word_of verb.List))
 
--- with these options too
+-- a command with these options added
 abbrev pub with_options : App → List CommandOption → App
 with_options app options = fold (λ a o. with_rule a (option_rule o)) app options
 
 abbrev pub app_for : Verb → App
 app_for v = with_options (bare_app v) (options_of v)
 
--- what clap was told of a command word, before its first use or after
+-- the clap command of a command word, before its first use or after it
 abbrev pub IsAppOf : Verb → App → Type 0
 IsAppOf v a = (a ≡ app_for v) ⊎ (a ≡ built (app_for v))
 
--- memory was refused, and will be from then on, or clap was told of the word
+-- the clap command of the word exists, or memory was refused, and will be from then on
 abbrev pub IsMade : MadeCommand → Type 0
 IsMade c = (is_broken c.command ≡ true) ⊎ IsAppOf c.verb (app_of c.command)
 
--- clap finds no fault in the words, of which the first is the command word
+-- clap finds no fault in the words; the first of them is the command word
 unfoldable pub is_taken : Verb → List Text → Bool
 is_taken verb words = is_empty (fault_of (app_for verb) words)
 
--- what clap then finds
+-- what clap finds then
 unfoldable pub clap_rows : Verb → List Text → List Row
 clap_rows verb words = matches_of (app_for verb) words
 

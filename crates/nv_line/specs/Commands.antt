@@ -1,4 +1,4 @@
--- What the options of each command ask for.
+-- The requests of each command, by its options.
 use Rattle.std.specs.Prelude.{List, Result, Ok, ◌==◌, ℕ, ◌-◌, Bool, if◌then◌else◌}
 use Rattle.clap.specs.Words.{Row}
 use Rattle.nv_command.specs.declared.command.Command.TheVariants.{GetFeature, SetFeature, Format}
@@ -48,17 +48,17 @@ format_of rows device = do
   pi ← number_option_in rows pi_option device
   pil ← number_option_in rows pil_option device
   mset ← number_option_in rows ms_option device
-  Ok (Do (Send (Format nsid lbaf (mset == 1) pi (pil == 1) ses)))
+  Ok (Do (Send (Format (record { nsid = nsid; lbaf = lbaf; mset = mset == 1; pi = pi; pil = pil == 1; ses = ses }))))
 
--- the NSIDs above one: those attached to the controller, or all allocated ones
+-- the NSIDs above `after`: those attached to the controller, or all allocated ones
 abbrev pub list_command : Bool → ℕ → Command
 list_command all after = if all then AllocatedList after else ActiveList after
 
--- what a namespace is: one attached to the controller, or any allocated one
+-- the data of a namespace: one attached to the controller, or any allocated one
 abbrev pub namespace_command : Bool → ℕ → Command
 namespace_command force nsid = if force then AllocatedNamespace nsid else IdentifyNamespace nsid
 
--- a list begins at an NSID, and is asked for after the one before it
+-- the line names the NSID at which a list begins, and the command the one before it
 abbrev pub list_ns_of : List Row → Device → Result Ask LineFault
 list_ns_of rows device = do
   first ← number_option_in rows first_nsid_option device
@@ -86,9 +86,9 @@ create_ns_of rows device = do
   flbas ← number_option_in rows flbas_option device
   dps ← number_option_in rows dps_option device
   nmic ← number_option_in rows nmic_option device
-  Ok (Do (Send (Create nsze ncap flbas dps nmic)))
+  Ok (Do (Send (Create (record { nsze = nsze; ncap = ncap; flbas = flbas; dps = dps; nmic = nmic }))))
 
--- `detach` tells detach-ns from attach-ns
+-- `detach` distinguishes detach-ns from attach-ns
 abbrev pub attachment_of : Bool → List Row → Device → Result Ask LineFault
 attachment_of detach rows device = do
   nsid ← number_option_in rows nsid_option device

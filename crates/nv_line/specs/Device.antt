@@ -35,7 +35,7 @@ address_of controllers text =
     else option_map (λ x. record { controller = x; nsid = None })
     (controller_index controllers text)
 
--- what follows a prefix
+-- the rest of a text after a prefix
 unfoldable pub strip : Text → Text → Option Text
 strip prefix text =
     if bytes_eq (take (length prefix) text) prefix then Some (drop (length prefix) text) else None

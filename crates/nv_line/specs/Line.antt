@@ -1,4 +1,4 @@
--- What a line says: it is skipped, it asks for something, or it has a fault.
+-- The meaning of a line: it is skipped, it asks for something, or it has a fault.
 use Rattle.std.specs.Prelude.{ℕ, not, nat_lt, length, if◌then◌else◌, Result, Ok, Err}
 use Rattle.std.specs.Str.{is_utf8}
 use Rattle.clap.specs.Words.{Text}

@@ -1,4 +1,4 @@
--- The faults of a line: their texts, and which of two is answered.
+-- The faults of a line: their texts, and which of two is reported.
 use Rattle.std.specs.Prelude.{◌≡◌, ◌⊎◌, ◌++◌, ℕ, List, codes, Result, Ok, Err}
 use Rattle.nv_line.specs.OptionName.{name_of}
 use Rattle.nv_line.specs.declared.fault.LineFault.{LineFault}
@@ -12,7 +12,7 @@ fault_text (fault.Number option) = codes "bad number for --" ++ name_of option
 fault_text fault.Memory = codes "out of memory"
 fault_text fault.TooLong = codes "line too long"
 
--- memory was refused, or the answer is this
+-- there was no memory, or the result is this
 abbrev pub IsUnlessMemory : {T : Type 0} → Result T LineFault → Result T LineFault → Type 0
 IsUnlessMemory answer r = (r ≡ Err fault.Memory) ⊎ (r ≡ answer)
 

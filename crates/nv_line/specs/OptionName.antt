@@ -1,4 +1,4 @@
--- The long names of the options, which are clap's ids too.
+-- The long names of the options, which are also clap's ids, and the value of an option that isn't given.
 use Rattle.std.specs.Prelude.{ℕ, Bool, not, ◌&&◌, is_none, if◌then◌else◌, Option, codes}
 use Rattle.std.specs.Option.{option_or}
 use Rattle.nv_line.specs.declared.device.Device.{Device}
@@ -10,11 +10,11 @@ use Rattle.nv_line.specs.declared.option.OptionName.TheVariants.{Flbas, Dps, Nmi
 use Rattle.nv_line.specs.declared.option.OptionName.TheVariants.{Ses, Pi, Pil, Ms, FeatureId, Sel, Cdw11}
 use Rattle.nv_line.specs.declared.option.OptionName.TheVariants.{Value, Save, LogEntries, OutputFormat}
 
--- nothing can stand in where it isn't written
+-- an option that has no value if it isn't given
 abbrev pub is_required : NumberOption → Bool
 is_required o = not o.takes_path && is_none o.default
 
--- what stands in: the path's NSID if the option takes it, else the default
+-- the value of an option that isn't given: the path's NSID if the option takes it, and otherwise the default
 abbrev pub fallback_of : NumberOption → Device → Option ℕ
 fallback_of o device = if o.takes_path then option_or device.nsid o.default else o.default
 

@@ -19,7 +19,7 @@ use Rattle.nv_line.specs.declared.verb.DeviceVerb.TheVariants as verb
 use Rattle.nv_line.specs.declared.verb.Verb.{Verb}
 use Rattle.nv_line.specs.declared.verb.Verb.TheVariants as any
 
--- a letter, a long name, and the least and the greatest number: it has to be written
+-- a required option, with its letter, its long name, and the least and the greatest number
 abbrev pub needed : Char → OptionName → ℕ → ℕ → NumberOption
 needed letter name least most = record {
   name = name;
@@ -30,12 +30,12 @@ needed letter name least most = record {
   default = None;
 }
 
--- a number stands in where it isn't written
+-- an option with a default
 abbrev pub optional : Char → OptionName → ℕ → ℕ → ℕ → NumberOption
 optional letter name least most default =
     record (needed letter name least most) { default = Some default }
 
--- the NSID of the device path stands in before that
+-- an option whose default is the NSID of the device path, if there is one
 abbrev pub by_path : NumberOption → NumberOption
 by_path o = record o { takes_path = true }
 
@@ -128,7 +128,8 @@ device_options_of verb.AttachNs = Number nsid_option ∷ List controllers_option
 device_options_of verb.DetachNs = Number nsid_option ∷ List controllers_option ∷ []
 device_options_of verb.DeleteNs = Number nsid_option ∷ []
 device_options_of verb.Format =
-    Number nsid_option ∷ Number lbaf_option ∷ Number ses_option ∷ Number pi_option ∷ Number pil_option ∷ Number ms_option ∷ []
+    Number nsid_option ∷ Number lbaf_option ∷ Number ses_option
+    ∷ Number pi_option ∷ Number pil_option ∷ Number ms_option ∷ []
 device_options_of verb.GetFeature =
     Number feature_nsid_option ∷ Number feature_id_option ∷ Number sel_option ∷ Number cdw11_option ∷ []
 device_options_of verb.SetFeature =

@@ -34,7 +34,7 @@ use Rattle.nv_line.specs.declared.verb.DeviceVerb.TheVariants.{ErrorLog, Reset}
 use Rattle.nv_line.specs.declared.verb.Verb.{Verb}
 use Rattle.nv_line.specs.declared.verb.Verb.TheVariants.{Of, List}
 
--- what a command word asks for, in one line each
+-- the request of each command word, in one line each
 abbrev pub ask_of : DeviceVerb → ListOf Row → Device → Result Ask LineFault
 ask_of IdCtrl = λ rows device. Ok (Do (act.Send IdentifyController))
 ask_of IdNs = id_ns_of
@@ -54,7 +54,7 @@ abbrev pub device_in : ℕ → ListOf Row → Result Device LineFault
 device_in controllers rows =
     ok_or (device_of controllers (unwrap_or (first_of (codes "device") rows) [])) fault.Device
 
--- one controller is asked, or each of them: the device, then the options
+-- one controller is asked, or each of them; the device is read first, and then the options
 abbrev pub query_of : ℕ → Verb → ListOf Row → Result Query LineFault
 query_of controllers (Of verb) rows = do
   device ← device_in controllers rows
@@ -62,8 +62,8 @@ query_of controllers (Of verb) rows = do
   Ok (query.One (record { controller = device.controller; ask = ask }))
 query_of controllers List rows = Ok query.List
 
--- the words after `nvme`: usage by the command word, by clap or by the output format, then what is
--- asked
+-- the words after `nvme`: usage faults come first, by the command word, by clap and by the output
+-- format, and then those of the request
 abbrev pub request_of : ℕ → ListOf Text → Result Request LineFault
 request_of controllers [] = Err fault.Usage
 request_of controllers (word ∷ rest) = do
@@ -73,7 +73,7 @@ request_of controllers (word ∷ rest) = do
   asked ← query_of controllers verb rows
   Ok (record { query = asked; format = format })
 
--- who is asked is one of the subsystem's controllers, and a driver may ask it
+-- the controller that is asked is one of the subsystem's, and a driver may ask it
 pub record IsQuestionKnown (controllers : ℕ) (question : Question) : Type 0 where
   pub controller : question.controller < controllers
   pub askable : IsAskable question.ask

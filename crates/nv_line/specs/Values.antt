@@ -1,4 +1,4 @@
--- What the text of an option's value says.
+-- The values that the texts of options stand for.
 use Rattle.std.specs.Prelude.{ℕ, Bool, ◌==◌, nat_le, length, if◌then◌else◌, List, [], ◌∷◌, Option, Some}
 use Rattle.std.specs.Prelude.{None, option_and_then, option_map, not, ◌||◌, ◌&&◌, nat_lt, drop}
 use Rattle.std.specs.Prelude.{slice_index, false, Result, Ok, Err, codes}
@@ -24,7 +24,7 @@ use Rattle.nv_line.specs.declared.output_format.OutputFormat.TheVariants.{Normal
 abbrev pub is_comma : ℕ → Bool
 is_comma b = b == 44
 
--- the number that these digits of a base write: at least one digit, and no sign
+-- the number that these digits of a base stand for: at least one digit, and no sign
 unfoldable pub digits_of : ℕ → Text → Option ℕ
 digits_of base ds = if not (is_empty ds) && list_all (λ d. nat_lt (digit_value d) base) ds
     then Some (digits_value base ds) else None
@@ -40,18 +40,18 @@ number_of text =
 abbrev pub within : ℕ → ℕ → ℕ → Option ℕ
 within least most n = if nat_le least n && nat_le n most then Some n else None
 
--- a number of a range
+-- a number in a range
 abbrev pub number_in : ℕ → ℕ → Text → Option ℕ
 number_in least most text = option_and_then (within least most) (number_of text)
 
--- what pieces write of which each is a number of 16 bits
+-- the identifiers in pieces that are numbers of 16 bits
 unfoldable pub identifiers_in : List Text → Option (List ℕ)
 identifiers_in [] = Some []
 identifiers_in (piece ∷ pieces) =
     option_and_then (λ n. option_map (λ ns. n ∷ ns) (identifiers_in pieces))
     (number_in 0 65535 piece)
 
--- as many of them as a list has room for, between commas
+-- the identifiers in a text with commas between them, if a list has room for them
 unfoldable pub list_in : Text → Option (List ℕ)
 list_in text =
     let pieces = slice_split is_comma text in
@@ -62,19 +62,19 @@ abbrev pub plain_number : Text → Option ℕ
 plain_number text =
     if slice_index text 0 == 48 && nat_lt 1 (length text) then None else digits_of 10 text
 
--- the number that was written, or what stands in; where nothing does it is a usage fault
+-- the number that is given, or its default; if there is none, it is a usage fault
 abbrev pub number_option_in : List Row → NumberOption → Device → Result ℕ LineFault
 number_option_in rows o device =
     option_map_or (λ t. ok_or (number_in o.least o.most t) (fault.Number o.name))
     (first_of (name_of o.name) rows) (ok_or (fallback_of o device) fault.Usage)
 
--- the identifiers that were written
+-- the identifiers that are given
 abbrev pub list_option_in : List Row → ListOption → Result (List ℕ) LineFault
 list_option_in rows o =
     option_map_or (λ t. ok_or (list_in t) (fault.Number o.name))
     (first_of (name_of o.name) rows) (Err fault.Usage)
 
--- whether the flag was written
+-- whether the flag is given
 abbrev pub flag_in : List Row → FlagOption → Bool
 flag_in rows o =
     option_map_or (λ t. bytes_eq t (codes "true")) (first_of (name_of o.name) rows) false
@@ -84,7 +84,7 @@ format_named name =
     if bytes_eq name (codes "normal") then Some Normal
     else (if bytes_eq name (codes "json") then Some Json else None)
 
--- the format that was written, or text; another name than a format's is a usage fault
+-- the format that is given, or text; a name that isn't a format's is a usage fault
 abbrev pub format_in : List Row → FormatOption → Result OutputFormat LineFault
 format_in rows o =
     option_map_or (λ t. ok_or (format_named t) fault.Usage) (first_of (name_of o.name) rows)

@@ -29,7 +29,7 @@ abbrev pub word_of : Verb → Text
 word_of (Of verb) = device_word_of verb
 word_of List = codes "list"
 
--- the commands, each of which its word names
+-- all commands, which are distinguished by their words
 abbrev pub verbs : ListOf Verb
 verbs =
     Of IdCtrl

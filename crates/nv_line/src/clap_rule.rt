@@ -1,4 +1,4 @@
-//! The commands as `clap` is told of them, and what it finds in a command line.
+//! The commands for `clap`, and what `clap` finds in a command line.
 
 ghost use Rattle.std.specs.Prelude.{◌≡◌, IfOk, map, option_map, false};
 ghost use Rattle.clap.specs.Words.{app_of, first_of, found_of, rows_of, rule_of};
@@ -13,7 +13,7 @@ use clap::error::ErrorKind;
 use clap::{Arg, ArgAction, ArgMatches, Command};
 use std::alloc::{AllocError, Global};
 
-/// The argument of an option by its long name and its letter.
+/// Returns the `clap` argument of an option with its long name and its letter.
 fn named_arg<'a>(alloc: Global, name: OptionName, letter: char, action: ArgAction) -> Arg<'a>
     ensures rule { rule_of result ≡ rule_for name letter action false }
     ensures own { result.global ≡ false }
@@ -25,7 +25,7 @@ fn named_arg<'a>(alloc: Global, name: OptionName, letter: char, action: ArgActio
         .action(action)
 }
 
-/// The argument of an option: a flag takes no value, any other option takes one.
+/// Returns the `clap` argument of an option. A flag takes no value, and any other option takes one.
 fn option_arg<'a>(alloc: Global, option: CommandOption) -> Arg<'a>
     ensures rule { rule_of result ≡ option_rule option }
     ensures own { result.global ≡ false }
@@ -46,8 +46,8 @@ fn option_arg<'a>(alloc: Global, option: CommandOption) -> Arg<'a>
     }
 }
 
-/// The `clap` command of a command word without its options: all but `list` take a device. None has
-/// an option for help.
+/// Returns the `clap` command of a command word without its options. All but `list` take a device,
+/// and none has an option for help.
 fn bare_command<'a>(alloc: Global, verb: Verb) -> Result<Command<'a>, AllocError>
     ensures { IfOk result (λ c. app_of c ≡ bare_app verb) }
 {
@@ -58,7 +58,7 @@ fn bare_command<'a>(alloc: Global, verb: Verb) -> Result<Command<'a>, AllocError
     }
 }
 
-/// The `clap` command of a command word with its options.
+/// Returns the `clap` command of a command word with its options.
 fn clap_command<'a>(alloc: Global, verb: Verb) -> Result<Command<'a>, AllocError>
     ensures { IfOk result (λ c. app_of c ≡ app_for verb) }
 {
@@ -70,7 +70,7 @@ fn clap_command<'a>(alloc: Global, verb: Verb) -> Result<Command<'a>, AllocError
     Ok(command)
 }
 
-/// The `clap` command of a command word, which can be asked again and again.
+/// The `clap` command of a command word, which can be used many times.
 #[derive(Drop)]
 pub struct MadeCommand<'a> {
     pub verb: Verb,
@@ -86,8 +86,8 @@ impl<'a> MadeCommand<'a> {
         Ok(MadeCommand { verb, command })
     }
 
-    /// What `clap` finds in the words, of which the first is the command word. Once memory was
-    /// refused it is refused from then on.
+    /// Returns what `clap` finds in the words, of which the first is the command word. After it
+    /// failed for lack of memory, it fails for that reason from then on.
     pub(crate) fn matches(&mut self, words: &'a [&'a str]) -> Result<ArgMatches<'a>, LineFault>
         requires made { IsMade self.old }
         ensures value { IsUnlessMemory
@@ -105,7 +105,7 @@ impl<'a> MadeCommand<'a> {
     }
 }
 
-/// The text that an argument was given.
+/// Returns the text that was given for an argument.
 pub(crate) fn text_of<'a>(matches: &ArgMatches<'a>, id: &str) -> Option<&'a str>
     ensures { option_map (λ s. s.now) result ≡ first_of id.now (rows_of (found_of matches.now)) }
 {

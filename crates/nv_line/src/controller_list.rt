@@ -6,8 +6,9 @@ ghost use Rattle.nv_line.specs.Values.{list_in};
 use crate::number::parse_number;
 use nv_layout::{ControllerIds, CtrlList, MOST_CNTLIDS};
 
-/// The identifiers that a text lists: at most 2,047 numbers of 16 bits, with commas between them.
-/// They are put in the place, which is of no account before. Section "Controller List".
+/// Returns the identifiers that a text lists: at most 2,047 numbers of 16 bits, separated by
+/// commas. They are written to `place`, whose contents don't matter before. Section "Controller
+/// List".
 pub(crate) fn parse_list<'a>(text: &str, place: &'a mut CtrlList) -> Option<ControllerIds<'a>>
     ensures { result ≡ list_in text.now }
 {

@@ -8,14 +8,15 @@ use crate::number::plain;
 /// The greatest NSID.
 pub const NSID_LIMIT: u64 = 0xffff_ffff;
 
-/// A device: a controller by its place in the subsystem's file, counted from 0, and a namespace.
+/// A device: a controller, by its place in the subsystem's file, counted from 0, and possibly a
+/// namespace.
 #[derive(Clone, Copy, Debug, PartialEq, Eq)]
 pub struct Device {
     pub controller: u16,
     pub nsid: Option<u32>,
 }
 
-/// The controller X, which is one of the subsystem's.
+/// Reads the controller X, which must be one of the subsystem's.
 fn controller_index(text: &str, controllers: u16) -> Option<u16>
     ensures value { result ≡ controller_index controllers text.now }
     ensures known { IfSome result (λ x. x < controllers) }
@@ -28,7 +29,7 @@ fn controller_index(text: &str, controllers: u16) -> Option<u16>
     }
 }
 
-/// X, or XnY.
+/// Reads X or XnY.
 fn address(text: &str, controllers: u16) -> Option<Device>
     ensures value { result ≡ address_of controllers text.now }
     ensures known { IfSome result (λ d. d.controller < controllers) }
@@ -52,7 +53,7 @@ fn address(text: &str, controllers: u16) -> Option<Device>
     }
 }
 
-/// `/dev/nvmeX`, or `/dev/nvmeXnY`.
+/// Reads `/dev/nvmeX` or `/dev/nvmeXnY`.
 pub(crate) fn read_device(text: &str, controllers: u16) -> Option<Device>
     ensures value { result ≡ device_of controllers text.now }
     ensures known { IfSome result (λ d. d.controller < controllers) }

@@ -11,17 +11,17 @@ use thiserror::Error;
 /// What is wrong with a line.
 #[derive(Clone, Copy, Debug, PartialEq, Eq, Error)]
 pub enum LineFault {
-    /// It isn't UTF-8.
+    /// The line isn't UTF-8.
     NotText,
-    /// It has no command word, or that command doesn't take its words.
+    /// The line has no command word, or the command doesn't take the other words.
     Usage,
-    /// It names no device of the subsystem.
+    /// The line names no device of the subsystem.
     Device,
-    /// It gives an option something else than a number of its range.
+    /// The value of an option is not a number in its range.
     Number(OptionName),
-    /// Memory was refused.
+    /// There was no memory.
     Memory,
-    /// It has more than 4,095 bytes.
+    /// The line has more than 4,095 bytes.
     TooLong,
 }
 

@@ -1,4 +1,4 @@
-//! What the commands of features ask for: `get-feature` and `set-feature`.
+//! The commands of features: `get-feature` and `set-feature`.
 
 ghost use Rattle.std.specs.Prelude.{◌≡◌, IfOk};
 ghost use Rattle.clap.specs.Words.{found_of, rows_of};
@@ -14,7 +14,7 @@ use clap::ArgMatches;
 use nv_command::{Command, FeatureQuery, FeatureSetting};
 use nv_layout::ThreeBits;
 
-/// A value of a feature.
+/// Reads a `get-feature`.
 pub(crate) fn get_feature<'a>(
     matches: &ArgMatches<'_>,
     device: Device,
@@ -34,7 +34,7 @@ pub(crate) fn get_feature<'a>(
     }))))
 }
 
-/// A value for a feature.
+/// Reads a `set-feature`.
 pub(crate) fn set_feature<'a>(
     matches: &ArgMatches<'_>,
     device: Device,

@@ -1,4 +1,4 @@
-//! What `format` asks for.
+//! The command `format`.
 
 ghost use Rattle.std.specs.Prelude.{◌≡◌, IfOk};
 ghost use Rattle.clap.specs.Words.{found_of, rows_of};
@@ -11,10 +11,10 @@ use crate::option_value::read_number;
 use crate::request::{Act, Ask};
 use crate::verb::{LBAF, MS, NSID, PI, PIL, SES};
 use clap::ArgMatches;
-use nv_command::Command;
+use nv_command::{Command, NewFormat};
 use nv_layout::{FourBits, ThreeBits};
 
-/// A namespace to format.
+/// Reads a `format`.
 pub(crate) fn format<'a>(matches: &ArgMatches<'_>, device: Device) -> Result<Ask<'a>, LineFault>
     ensures value { result ≡ format_of (rows_of (found_of matches.now)) device }
     ensures askable { IfOk result IsAskable }
@@ -25,12 +25,12 @@ pub(crate) fn format<'a>(matches: &ArgMatches<'_>, device: Device) -> Result<Ask
     let pi = ThreeBits::low(read_number(matches, PI, device)? as u8);
     let pil = read_number(matches, PIL, device)? == 1;
     let mset = read_number(matches, MS, device)? == 1;
-    Ok(Ask::Do(Act::Send(Command::Format {
+    Ok(Ask::Do(Act::Send(Command::Format(NewFormat {
         nsid,
         lbaf,
         mset,
         pi,
         pil,
         ses,
-    })))
+    }))))
 }

@@ -1,4 +1,4 @@
-//! What the commands of the Identify family ask for: `list-ns` and `id-ns`.
+//! The commands of the Identify family: `list-ns` and `id-ns`.
 
 ghost use Rattle.std.specs.Prelude.{◌≡◌, IfOk};
 ghost use Rattle.clap.specs.Words.{found_of, rows_of};
@@ -14,7 +14,8 @@ use crate::verb::{ALL, FIRST_NSID, FORCE, NSID};
 use clap::ArgMatches;
 use nv_command::Command;
 
-/// The command for the NSIDs above one: those attached to the controller, or all allocated ones.
+/// Returns the command for the NSIDs above `after`: those attached to the controller, or all
+/// allocated ones.
 fn list_command<'a>(all: bool, after: u32) -> Command<'a>
     ensures command { result ≡ list_command all after }
     ensures sendable { IsSendable result }
@@ -26,7 +27,8 @@ fn list_command<'a>(all: bool, after: u32) -> Command<'a>
     }
 }
 
-/// The command for what a namespace is: one attached to the controller, or any allocated one.
+/// Returns the command for the data of a namespace: one attached to the controller, or any
+/// allocated one.
 fn namespace_command<'a>(force: bool, nsid: u32) -> Command<'a>
     ensures command { result ≡ namespace_command force nsid }
     ensures sendable { IsSendable result }
@@ -38,7 +40,8 @@ fn namespace_command<'a>(force: bool, nsid: u32) -> Command<'a>
     }
 }
 
-/// A list of NSIDs: it begins at one, and is asked for after the one before it.
+/// Reads a `list-ns`. The line names the NSID at which the list begins, and the command the one
+/// before it.
 pub(crate) fn list_ns<'a>(matches: &ArgMatches<'_>, device: Device) -> Result<Ask<'a>, LineFault>
     ensures value { result ≡ list_ns_of (rows_of (found_of matches.now)) device }
     ensures askable { IfOk result IsAskable }
@@ -48,7 +51,7 @@ pub(crate) fn list_ns<'a>(matches: &ArgMatches<'_>, device: Device) -> Result<As
     Ok(Ask::Do(Act::Send(list_command(all, first - 1))))
 }
 
-/// A namespace.
+/// Reads an `id-ns`.
 pub(crate) fn id_ns<'a>(matches: &ArgMatches<'_>, device: Device) -> Result<Ask<'a>, LineFault>
     ensures value { result ≡ id_ns_of (rows_of (found_of matches.now)) device }
     ensures askable { IfOk result IsAskable }

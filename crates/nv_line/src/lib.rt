@@ -1,12 +1,12 @@
-//! What one line of a script says: nothing, a request, or what is wrong with it.
+//! Reads one line of a script: it is nothing, a request, or a fault.
 //!
-//! The command words and their options are one table, in `verb`. What `clap` is told of a command,
-//! and how its options are read, follow from its rows.
+//! The command words and their options are one table, in `verb`. The commands for `clap`, and how
+//! their options are read, follow from its rows.
 //!
-//! `read_line(alloc, b"list-ns /dev/nvme0 -n 2", 1, place)` is `Ok(Line::Request(Request { query,
-//! format }))` where `query` is `Query::One(Question { controller: 0, ask: Ask::Do(Act::Send(
-//! Command::ActiveList { after: 1 })) })` and `format` is `OutputFormat::Normal`; with no
-//! controller it is `Err(LineFault::Device)`.
+//! `read_line(alloc, b"list-ns /dev/nvme0 -n 2", 1, place)` returns
+//! `Ok(Line::Request(Request { query, format }))`, where `query` is `Query::One(Question {
+//! controller: 0, ask: Ask::Do(Act::Send( Command::ActiveList { after: 1 })) })` and `format` is
+//! `OutputFormat::Normal`. If there are no controllers, it returns `Err(LineFault::Device)`.
 #![tactic(auto)]
 
 mod clap_rule;

@@ -1,4 +1,4 @@
-//! What a line says.
+//! Reads a line.
 
 ghost use Rattle.std.specs.Prelude.{IfOk};
 ghost use Rattle.nv_line.specs.Line.{IsKnown, reading};
@@ -11,22 +11,22 @@ use bumpalo::Bump;
 use nv_layout::CtrlList;
 use std::alloc::Global;
 
-/// The most bytes of a line, without its newline.
+/// The greatest length of a line in bytes, without its newline.
 pub const LINE_LIMIT: usize = 4095;
 
-/// What a line says: nothing, or a request.
+/// The meaning of a line: nothing, or a request.
 #[derive(Debug, Drop, PartialEq, Eq)]
 pub enum Line<'a> {
-    /// It is blank, or a comment.
+    /// The line is blank or a comment.
     Skipped,
-    /// It asks for something.
+    /// The line asks for something.
     Request(Request<'a>),
 }
 
-/// Reads a line of a script for a subsystem with this many controllers. A fault is the first of:
-/// too long, not text, usage (also of an output format), device, and then, option by option, a
-/// missing NSID or a bad number. Listed controllers are put in the place, which is of no account
-/// before.
+/// Reads a line of a script for a subsystem with this many controllers. It reports the first fault
+/// in this order: too long, not text, usage (also of an output format), device, and then, option by
+/// option, a missing NSID or a bad number. Listed controllers are written to `place`, whose
+/// contents don't matter before.
 pub fn read_line<'a>(
     alloc: Global,
     line: &[u8],

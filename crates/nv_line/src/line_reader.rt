@@ -14,8 +14,8 @@ use bumpalo::collections::into_bump_slice;
 use nv_layout::CtrlList;
 use std::alloc::Global;
 
-/// Reads one line after another. What `clap` is told of a command is made where its word first
-/// comes up. Copies of the lines and their words stay in the room that it was given.
+/// Reads lines one after another. The `clap` command of a command word is made when the word first
+/// occurs. Copies of the lines and their words stay in `room`.
 #[derive(Drop)]
 pub struct LineReader<'a> {
     room: &'a Bump,
@@ -23,7 +23,7 @@ pub struct LineReader<'a> {
 }
 
 impl<'a> LineReader<'a> {
-    /// No line was read yet.
+    /// Creates a reader that has read no line.
     pub fn new(alloc: Global, room: &'a Bump) -> LineReader<'a> {
         LineReader {
             room,

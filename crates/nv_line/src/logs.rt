@@ -1,4 +1,4 @@
-//! What the commands of logs ask for: `smart-log` and `error-log`.
+//! The commands of logs: `smart-log` and `error-log`.
 
 ghost use Rattle.std.specs.Prelude.{◌≡◌, IfOk};
 ghost use Rattle.clap.specs.Words.{found_of, rows_of};
@@ -13,7 +13,7 @@ use crate::verb::{LOG_ENTRIES, SMART_NSID};
 use clap::ArgMatches;
 use nv_command::{Command, DwordCount, HEALTH, LogQuery};
 
-/// A SMART log.
+/// Reads a `smart-log`.
 pub(crate) fn smart_log<'a>(matches: &ArgMatches<'_>, device: Device) -> Result<Ask<'a>, LineFault>
     ensures value { result ≡ smart_log_of (rows_of (found_of matches.now)) device }
     ensures askable { IfOk result IsAskable }
@@ -27,7 +27,7 @@ pub(crate) fn smart_log<'a>(matches: &ArgMatches<'_>, device: Device) -> Result<
     }))))
 }
 
-/// Entries of an error log.
+/// Reads an `error-log`.
 pub(crate) fn error_log<'a>(matches: &ArgMatches<'_>, device: Device) -> Result<Ask<'a>, LineFault>
     ensures value { result ≡ error_log_of (rows_of (found_of matches.now)) device }
     ensures askable { IfOk result IsAskable }

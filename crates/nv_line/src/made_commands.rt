@@ -1,4 +1,4 @@
-//! The `clap` commands that were made so far.
+//! The `clap` commands that have been made.
 
 ghost use Rattle.std.specs.Prelude.{◌≡◌, ◌<◌, IfOk, get_or, length, map};
 ghost use Rattle.clap.specs.Words.{found_of, rows_of};
@@ -13,7 +13,7 @@ use clap::ArgMatches;
 use std::alloc::{AllocError, Global};
 use std::marker::Model;
 
-/// The `clap` commands of the command words that came up so far. Each is made once.
+/// The `clap` commands of the command words that have occurred. Each is made once.
 #[derive(Drop)]
 pub struct MadeCommands<'a> {
     alloc: Global,
@@ -25,7 +25,7 @@ impl<'a> Model for MadeCommands<'a> {
     ghost use Rattle.nv_line.specs.ClapRule.{IsMade};
     ghost use Rattle.nv_line.specs.declared.verb.Verb.{Verb};
 
-    /// The command words that came up.
+    /// The command words that have occurred.
     ghost Value = { List Verb };
 
     ghost view = { λ s. map (λ c. c.verb) s.made.items };
@@ -41,7 +41,7 @@ impl<'a> MadeCommands<'a> {
         }
     }
 
-    /// The place of a command word's command, which is made where it isn't there yet.
+    /// Returns the index of a command word's command, which is made if it doesn't exist yet.
     #[tactic(auto, using(crate::proofs::ClapRules::made_more))]
     fn place_of(&mut self, verb: Verb) -> Result<usize, AllocError>
         ensures place { IfOk result (λ n. n < length self.new) }
@@ -56,7 +56,7 @@ impl<'a> MadeCommands<'a> {
         Ok(self.made.len() - 1)
     }
 
-    /// What `clap` finds in the words, of which the first is this command word.
+    /// Returns what `clap` finds in the words, of which the first is this command word.
     pub(crate) fn matches(
         &mut self,
         verb: Verb,

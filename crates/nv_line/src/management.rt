@@ -1,5 +1,4 @@
-//! What the commands of namespace management ask for: `create-ns`, `attach-ns`, `detach-ns` and
-//! `delete-ns`.
+//! The commands of namespace management: `create-ns`, `attach-ns`, `detach-ns` and `delete-ns`.
 
 ghost use Rattle.std.specs.Prelude.{◌≡◌, IfOk};
 ghost use Rattle.clap.specs.Words.{found_of, rows_of};
@@ -12,10 +11,10 @@ use crate::option_value::{read_list, read_number};
 use crate::request::{Act, Ask};
 use crate::verb::{CONTROLLERS, DPS, FLBAS, NCAP, NMIC, NSID, NSZE};
 use clap::ArgMatches;
-use nv_command::Command;
+use nv_command::{Command, NewNamespace};
 use nv_layout::CtrlList;
 
-/// A namespace to create.
+/// Reads a `create-ns`.
 pub(crate) fn create_ns<'a>(matches: &ArgMatches<'_>, device: Device) -> Result<Ask<'a>, LineFault>
     ensures value { result ≡ create_ns_of (rows_of (found_of matches.now)) device }
     ensures askable { IfOk result IsAskable }
@@ -25,17 +24,17 @@ pub(crate) fn create_ns<'a>(matches: &ArgMatches<'_>, device: Device) -> Result<
     let flbas = read_number(matches, FLBAS, device)? as u8;
     let dps = read_number(matches, DPS, device)? as u8;
     let nmic = read_number(matches, NMIC, device)? as u8;
-    Ok(Ask::Do(Act::Send(Command::Create {
+    Ok(Ask::Do(Act::Send(Command::Create(NewNamespace {
         nsze,
         ncap,
         flbas,
         dps,
         nmic,
-    })))
+    }))))
 }
 
-/// Controllers to attach a namespace to, or to detach it from, in the order given. They are put in
-/// the place, which is of no account before.
+/// Reads an `attach-ns` or a `detach-ns`, with the controllers in the order given. They are written
+/// to `place`, whose contents don't matter before.
 pub(crate) fn attachment<'a>(
     matches: &ArgMatches<'_>,
     device: Device,
@@ -50,7 +49,7 @@ pub(crate) fn attachment<'a>(
     Ok(Ask::Do(Act::Send(Command::Attachment { nsid, detach, list })))
 }
 
-/// A namespace to delete.
+/// Reads a `delete-ns`.
 pub(crate) fn delete_ns<'a>(matches: &ArgMatches<'_>, device: Device) -> Result<Ask<'a>, LineFault>
     ensures value { result ≡ delete_ns_of (rows_of (found_of matches.now)) device }
     ensures askable { IfOk result IsAskable }

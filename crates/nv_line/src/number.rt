@@ -3,7 +3,7 @@
 ghost use Rattle.std.specs.Prelude.{◌≡◌, ◌≤◌, option_and_then};
 ghost use Rattle.nv_line.specs.Values.{digits_of, number_in, number_of, plain_number, within};
 
-/// The number that digits of a base write.
+/// Returns the number that digits of a base stand for.
 fn digits(text: &str, base: u32) -> Option<u64>
     requires low { 2 ≤ base }
     requires high { base ≤ 16 }
@@ -16,7 +16,7 @@ fn digits(text: &str, base: u32) -> Option<u64>
     u64::from_str_radix(text, base).ok()
 }
 
-/// A number in decimal, hexadecimal or octal digits.
+/// Returns the number of decimal, hexadecimal or octal digits.
 #[tactic(auto, using(std::proofs::lemmas::Str::lead_after_ascii))]
 fn numeral(text: &str) -> Option<u64>
     ensures { result ≡ option_and_then (within 0 u64.MAX) (number_of text.now) }
@@ -31,7 +31,7 @@ fn numeral(text: &str) -> Option<u64>
     digits(text, 10)
 }
 
-/// The value, if it is from `least` to `most`.
+/// Returns the value if it is from `least` to `most`.
 fn within(least: u64, most: u64, value: u64) -> Option<u64>
     ensures { result ≡ within least most value }
 {
@@ -42,15 +42,15 @@ fn within(least: u64, most: u64, value: u64) -> Option<u64>
     }
 }
 
-/// A number from `least` to `most`: decimal, hexadecimal after `0x` or `0X`, or octal after `0`,
-/// without a sign.
+/// Returns a number from `least` to `most`, which is written in decimal, in hexadecimal after `0x`
+/// or `0X`, or in octal after `0`, and without a sign.
 pub fn parse_number(text: &str, least: u64, most: u64) -> Option<u64>
     ensures { result ≡ number_in least most text.now }
 {
     within(least, most, numeral(text)?)
 }
 
-/// A number from `least` to `most`, in decimal and without leading zeros.
+/// Returns a number from `least` to `most`, which is written in decimal and without leading zeros.
 pub(crate) fn plain(text: &str, least: u64, most: u64) -> Option<u64>
     ensures { result ≡ option_and_then (within least most) (plain_number text.now) }
 {

@@ -1,4 +1,4 @@
-//! The options of the commands: how they are named and written, and what they take.
+//! The options of the commands: their names, how they are written, and the values that they take.
 
 ghost use Rattle.std.specs.Prelude.{◌≡◌, ◌≤◌, IfSome};
 ghost use Rattle.nv_line.specs.inner.OptionName.{IsSound};
@@ -34,7 +34,7 @@ pub enum OptionName {
 }
 
 impl OptionName {
-    /// The long name.
+    /// Returns the long name.
     pub(crate) fn text<'a>(self) -> &'a str
         ensures { result.now ≡ name_of self }
     {
@@ -75,7 +75,7 @@ impl fmt::Display for OptionName {
     }
 }
 
-/// An option that is written or not, and takes no value.
+/// An option that takes no value.
 #[derive(Clone, Copy)]
 pub struct FlagOption {
     pub name: OptionName,
@@ -89,21 +89,21 @@ pub struct NumberOption {
     pub letter: char,
     pub least: u64,
     pub most: u64,
-    /// Whether the NSID of the device path stands in where the option isn't written.
+    /// Whether the NSID of the device path is the value if the option isn't given.
     pub takes_path: bool,
-    /// What stands in where nothing else does.
+    /// The value if nothing else gives one.
     pub default: Option<u64>,
 }
 
 impl NumberOption {
-    /// Whether nothing can stand in, so that `clap` tells where the option is missing.
+    /// Returns whether there is no such value, so that `clap` reports the option if it is missing.
     pub(crate) fn is_required(&self) -> bool
         ensures { result ≡ is_required self.now }
     {
         !self.takes_path && self.default.is_none()
     }
 
-    /// The number where the option isn't written.
+    /// Returns the value if the option isn't given.
     pub(crate) fn fallback(&self, device: Device) -> Option<u64>
         requires { IsSound self.now }
         ensures value { result ≡ fallback_of self.now device }
@@ -116,7 +116,7 @@ impl NumberOption {
     }
 }
 
-/// An option that takes a list of controller identifiers, and has to be written.
+/// An option that takes a list of controller identifiers, and is required.
 #[derive(Clone, Copy)]
 pub struct ListOption {
     pub name: OptionName,

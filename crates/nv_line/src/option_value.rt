@@ -1,4 +1,4 @@
-//! What a command line gives its options.
+//! The values of the options on a command line.
 
 ghost use Rattle.std.specs.Prelude.{◌≡◌, ◌≤◌, IfOk};
 ghost use Rattle.clap.specs.Words.{found_of, rows_of};
@@ -15,7 +15,7 @@ use crate::output_format::OutputFormat;
 use clap::ArgMatches;
 use nv_layout::{ControllerIds, CtrlList};
 
-/// The number of an option, or what stands in where it isn't written.
+/// Returns the number of an option, or its default if it isn't given.
 pub(crate) fn read_number(
     matches: &ArgMatches<'_>,
     option: NumberOption,
@@ -33,8 +33,8 @@ pub(crate) fn read_number(
     }
 }
 
-/// The controller identifiers of an option. They are put in the place, which is of no account
-/// before.
+/// Returns the controller identifiers of an option. They are written to `place`, whose contents
+/// don't matter before.
 pub(crate) fn read_list<'a>(
     matches: &ArgMatches<'_>,
     option: ListOption,
@@ -48,7 +48,7 @@ pub(crate) fn read_list<'a>(
     }
 }
 
-/// Whether a flag was written.
+/// Returns whether a flag is given.
 pub(crate) fn is_set(matches: &ArgMatches<'_>, flag: FlagOption) -> bool
     ensures { result ≡ flag_in (rows_of (found_of matches.now)) flag }
 {
@@ -58,7 +58,7 @@ pub(crate) fn is_set(matches: &ArgMatches<'_>, flag: FlagOption) -> bool
     }
 }
 
-/// How the answer is written: as text, unless the line says otherwise.
+/// Returns the format of the answer, which is text unless the line says otherwise.
 pub(crate) fn read_format(
     matches: &ArgMatches<'_>,
     option: FormatOption,

@@ -8,12 +8,12 @@ ghost use Rattle.nv_line.specs.Values.{format_named};
 pub enum OutputFormat {
     /// As text.
     Normal,
-    /// As JSON, where the answer has a JSON form.
+    /// As JSON, if the answer has a JSON form.
     Json,
 }
 
 impl OutputFormat {
-    /// The format of this name.
+    /// Returns the format of this name.
     pub(crate) fn of(name: &str) -> Option<OutputFormat>
         ensures { result ≡ format_named name.now }
     {

@@ -1,4 +1,4 @@
-//! What a command line asks for.
+//! The request of a command line.
 
 ghost use Rattle.std.specs.Prelude.{◌≡◌, ◌<◌, IfOk, map};
 ghost use Rattle.clap.specs.Words.{found_of, rows_of};
@@ -27,21 +27,21 @@ use nv_layout::CtrlList;
 pub enum Act<'a> {
     /// A command is sent to it.
     Send(Command<'a>),
-    /// It is reset ("Controller Level Reset").
+    /// It is reset. Section "Controller Level Reset".
     Reset,
 }
 
-/// What a controller is asked.
+/// What a controller is asked for.
 #[derive(Debug, Drop, PartialEq, Eq)]
 pub enum Ask<'a> {
     /// One act.
     Do(Act<'a>),
-    /// At most so many entries of the error log, from the newest on ("Error Information"). How many
-    /// a controller keeps it tells first.
+    /// The newest entries of the error log, at most `entries` of them. Before that the controller
+    /// is asked how many it keeps. Section "Error Information".
     ErrorLog { entries: u32 },
 }
 
-/// What one controller is asked.
+/// What one controller is asked for.
 #[derive(Debug, Drop, PartialEq, Eq)]
 pub struct Question<'a> {
     /// The place of the controller in the subsystem's file, counted from 0.
@@ -49,7 +49,7 @@ pub struct Question<'a> {
     pub ask: Ask<'a>,
 }
 
-/// What is asked, and of whom.
+/// What is asked for, and which controllers are asked.
 #[derive(Debug, Drop, PartialEq, Eq)]
 pub enum Query<'a> {
     /// One controller is asked.
@@ -58,14 +58,14 @@ pub enum Query<'a> {
     List,
 }
 
-/// What a line asks for, and how the answer is written.
+/// What a line asks for, and the format of the answer.
 #[derive(Debug, Drop, PartialEq, Eq)]
 pub struct Request<'a> {
     pub query: Query<'a>,
     pub format: OutputFormat,
 }
 
-/// The device that was named.
+/// Returns the device that the line names.
 fn chosen_device(matches: &ArgMatches<'_>, controllers: u16) -> Result<Device, LineFault>
     ensures value { result ≡ device_in controllers (rows_of (found_of matches.now)) }
     ensures known { IfOk result (λ d. d.controller < controllers) }
@@ -74,8 +74,8 @@ fn chosen_device(matches: &ArgMatches<'_>, controllers: u16) -> Result<Device, L
     read_device(text, controllers).ok_or(LineFault::Device)
 }
 
-/// What a command word asks for at a device. Listed controllers are put in the place, which is of
-/// no account before.
+/// Reads what a command word asks for at a device. Listed controllers are written to `place`, whose
+/// contents don't matter before.
 fn read_ask<'a>(
     matches: &ArgMatches<'_>,
     verb: DeviceVerb,
@@ -102,7 +102,7 @@ fn read_ask<'a>(
     }
 }
 
-/// What a command word asks for, and of whom.
+/// Reads what a command word asks for, and which controllers are asked.
 fn read_query<'a>(
     matches: &ArgMatches<'_>,
     verb: Verb,
@@ -125,8 +125,8 @@ fn read_query<'a>(
     }
 }
 
-/// What the words of a command line ask for. Listed controllers are put in the place, which is of
-/// no account before.
+/// Reads what the words of a command line ask for. Listed controllers are written to `place`, whose
+/// contents don't matter before.
 pub(crate) fn read_request<'w, 'a>(
     commands: &mut MadeCommands<'w>,
     words: &'w [&'w str],

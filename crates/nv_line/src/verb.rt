@@ -9,7 +9,7 @@ use crate::option::{
     CommandOption, FlagOption, FormatOption, ListOption, NumberOption, OptionName,
 };
 
-/// An NSID, by default that of the path; one is needed.
+/// An NSID, which is required. Its default is that of the path.
 pub const NSID: NumberOption = NumberOption {
     name: OptionName::NamespaceId,
     letter: 'n',
@@ -29,13 +29,13 @@ pub const FIRST_NSID: NumberOption = NumberOption {
     default: Some(1),
 };
 
-/// All allocated namespaces, not the active ones alone.
+/// Whether a list has all allocated namespaces, and not only the active ones.
 pub const ALL: FlagOption = FlagOption {
     name: OptionName::All,
     letter: 'a',
 };
 
-/// An allocated namespace, be it active or not.
+/// Whether a namespace may be allocated without being active.
 pub const FORCE: FlagOption = FlagOption {
     name: OptionName::Force,
     letter: 'f',
@@ -111,7 +111,7 @@ pub const PI: NumberOption = NumberOption {
     ..SES
 };
 
-/// Where the protection information of a format lies.
+/// The location of the protection information of a format.
 pub const PIL: NumberOption = NumberOption {
     name: OptionName::Pil,
     letter: 'p',
@@ -119,14 +119,14 @@ pub const PIL: NumberOption = NumberOption {
     ..NSZE
 };
 
-/// Where the metadata of a format lies.
+/// The location of the metadata of a format.
 pub const MS: NumberOption = NumberOption {
     name: OptionName::Ms,
     letter: 'm',
     ..PIL
 };
 
-/// The NSID of a feature, by default that of the path, or else 0.
+/// The NSID of a feature. Its default is that of the path, or else 0.
 pub const FEATURE_NSID: NumberOption = NumberOption {
     default: Some(0),
     ..NSID
@@ -146,7 +146,7 @@ pub const SEL: NumberOption = NumberOption {
     ..SES
 };
 
-/// Command Dword 11 of a command that gets a feature.
+/// Command Dword 11 of a Get Features.
 pub const CDW11: NumberOption = NumberOption {
     name: OptionName::Cdw11,
     letter: 'c',
@@ -162,20 +162,20 @@ pub const VALUE: NumberOption = NumberOption {
     ..LBAF
 };
 
-/// The value is saved too.
+/// Whether the value is also saved.
 pub const SAVE: FlagOption = FlagOption {
     name: OptionName::Save,
     letter: 's',
 };
 
-/// The NSID of a SMART log, by default that of all namespaces.
+/// The NSID of a SMART log. Its default is the broadcast NSID.
 pub const SMART_NSID: NumberOption = NumberOption {
     takes_path: false,
     default: Some(NSID_LIMIT),
     ..NSID
 };
 
-/// How many entries of an error log are wanted.
+/// The number of entries of an error log.
 pub const LOG_ENTRIES: NumberOption = NumberOption {
     name: OptionName::LogEntries,
     letter: 'e',
@@ -185,7 +185,7 @@ pub const LOG_ENTRIES: NumberOption = NumberOption {
     default: Some(64),
 };
 
-/// How the answer is written.
+/// The format of the answer.
 pub const OUTPUT_FORMAT: FormatOption = FormatOption {
     name: OptionName::OutputFormat,
     letter: 'o',
@@ -208,7 +208,7 @@ static VERBS: [Verb; 14] = [
     Verb::List,
 ];
 
-/// The options of a command that has no other.
+/// The options of a command that has no others.
 static FORMAT_ALONE: [CommandOption; 1] = [CommandOption::Format(OUTPUT_FORMAT)];
 
 static ID_NS: [CommandOption; 3] = [
@@ -273,7 +273,7 @@ static ERROR_LOG: [CommandOption; 2] = [
 
 static RESET: [CommandOption; 0] = [];
 
-/// The word of a command that is given to one device.
+/// The word of a command that addresses one device.
 #[derive(Clone, Copy, PartialEq, Eq)]
 pub enum DeviceVerb {
     IdCtrl,
@@ -296,12 +296,12 @@ pub enum DeviceVerb {
 pub enum Verb {
     /// The line names a device.
     Of(DeviceVerb),
-    /// The line names none: all controllers are asked.
+    /// The line names no device: all controllers are asked.
     List,
 }
 
 impl DeviceVerb {
-    /// The word that a script writes, by which the command is found.
+    /// Returns the word of the command in a script.
     fn word<'a>(self) -> &'a str
         ensures value { result.now ≡ device_word_of self }
         ensures found { verb_of (device_word_of self) ≡ Some (Verb.Of self) }
@@ -323,7 +323,7 @@ impl DeviceVerb {
         }
     }
 
-    /// Its options in order.
+    /// Returns its options, in order.
     fn options(self) -> &'static [CommandOption]
         ensures { result.now ≡ device_options_of self }
     {
@@ -345,7 +345,7 @@ impl DeviceVerb {
 }
 
 impl Verb {
-    /// The word that a script writes, by which the command is found.
+    /// Returns the word of the command in a script.
     pub(crate) fn word<'a>(self) -> &'a str
         ensures value { result.now ≡ word_of self }
         ensures found { verb_of (word_of self) ≡ Some self }
@@ -356,7 +356,7 @@ impl Verb {
         }
     }
 
-    /// Its options in order.
+    /// Returns its options, in order.
     pub(crate) fn options(self) -> &'static [CommandOption]
         ensures { result.now ≡ options_of self }
     {
@@ -366,7 +366,7 @@ impl Verb {
         }
     }
 
-    /// The command word that a word is.
+    /// Returns the command of a word.
     pub(crate) fn of(word: &str) -> Option<Verb>
         ensures { result ≡ verb_of word.now }
     {

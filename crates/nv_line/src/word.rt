@@ -5,7 +5,7 @@ ghost use Rattle.nv_line.specs.Word.{is_skipped, without_nvme, words_of};
 
 use std::alloc::{AllocError, Allocator};
 
-/// Whether a line is blank, or begins with # after its spaces and tabs.
+/// Returns whether a line is blank, or begins with # after its spaces and tabs.
 pub fn is_skipped_line(line: &[u8]) -> bool
     ensures { result ≡ is_skipped line.now }
 {
@@ -15,7 +15,7 @@ pub fn is_skipped_line(line: &[u8]) -> bool
     }
 }
 
-/// The words of a line, between spaces and tabs.
+/// Returns the words of a line, between spaces and tabs.
 pub fn split_words<'a, A: Allocator>(alloc: A, text: &'a str) -> Result<Vec<&'a str, A>, AllocError>
     ensures { IfOk result (λ v. map (λ w. w.now) v.items ≡ words_of text.now) }
 {
@@ -25,7 +25,7 @@ pub fn split_words<'a, A: Allocator>(alloc: A, text: &'a str) -> Result<Vec<&'a 
         .collect(alloc)
 }
 
-/// The words without a first word `nvme`.
+/// Returns the words without a first word `nvme`.
 pub(crate) fn without_program<'a>(words: &'a [&'a str]) -> &'a [&'a str]
     ensures { map (λ w. w.now) result.now ≡ without_nvme (map (λ w. w.now) words.now) }
 {

@@ -25,7 +25,7 @@ use Rattle.nv_model.specs.WellFormed.{AreValues, IsController, IsWellFormed}
 
 -- ---- attach
 
--- what an attach makes of the NSIDs of a controller
+-- the NSIDs of a controller after an attach
 has_more : (n : ℕ) (ids : List ℕ) (x : Controller) (q : ℕ)
     → map_of.contains_key (more n ids x).nsids q
     ≡ (cond (q == n) (is_listed ids x) false || map_of.contains_key x.attached q)

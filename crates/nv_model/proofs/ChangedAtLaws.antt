@@ -1,4 +1,4 @@
--- A list that is changed at one place.
+-- A list that is changed at one index.
 use Rattle.std.proofs.Common.{◌≡◌, ℕ, zero, suc, ◌+◌, ◌<◌, ap, refl, arith, Bool, cond, List, []}
 use Rattle.std.proofs.Common.{◌∷◌, fold, length, map, set, get_or}
 use Rattle.std.specs.Prelude.{All, count_by}
@@ -19,7 +19,8 @@ length-changed_at f [] i = refl
 length-changed_at f (y ∷ ys) zero = refl
 length-changed_at f (y ∷ ys) (suc i) = ap suc (length-changed_at f ys i)
 
--- what relates each element to itself and to what f makes of it relates the elements at each place
+-- a relation that holds between each element and itself, and between each element and what f makes of it, holds at each
+-- index
 pub each_place : {Y : Type 0} (R : Y → Y → Type 0) (f : Y → Y) → ((y : Y) → R y y)
     → ((y : Y) → R y (f y)) → (ys : List Y) (i k : ℕ) (d : Y)
     → R (get_or ys k d) (get_or (changed_at ys i f) k d)
@@ -29,7 +30,7 @@ each_place R f same next (y ∷ ys) zero (suc k) d = same (get_or ys k d)
 each_place R f same next (y ∷ ys) (suc i) zero d = same y
 each_place R f same next (y ∷ ys) (suc i) (suc k) d = each_place R f same next ys i k d
 
--- what f keeps holds of each element
+-- what f preserves holds for each element
 pub All-changed_at : {Y : Type 0} (P : Y → Type 0) (f : Y → Y) → ((y : Y) → P y → P (f y))
     → (ys : List Y) (i : ℕ) → All P ys → All P (changed_at ys i f)
 All-changed_at P f keeps ys i all k d h =

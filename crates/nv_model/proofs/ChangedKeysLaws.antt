@@ -1,4 +1,4 @@
--- What is found in a map in which what some keys have is changed.
+-- What is found in a map after the values of some keys are changed.
 use Rattle.std.proofs.Common.{◌≡◌, ◌∙◌, ◌||◌, Bool, true, false, cond, List, [], ◌∷◌, map, Option}
 use Rattle.std.proofs.Common.{Some, None, refl, sym, ap}
 use Rattle.std.specs.Prelude.{option_map, if◌then◌else◌}
@@ -12,7 +12,7 @@ use Rattle.std.specs.FinMap.{FinMap, IsAntisymmetric, find, get-entries, get-fro
 use Rattle.std.specs.FinMap.{get-insert, same_map}
 use Rattle.nv_model.specs.Change.{changed_at_keys}
 
--- what a key has, changed
+-- the value of a key, changed
 abbrev changed_if : {X : Type 0} → Bool → (X → X) → Option X → Option X
 changed_if b change o = cond b (option_map change o) o
 
@@ -53,7 +53,7 @@ module _ {K X : Type 0} {R : K → K → Ordering} (total : IsTotalOrder R) (sam
   pub changed_at_none : (m : FinMap R X) → changed_at_keys [] change m ≡ m
   changed_at_none m = same_map total same _ m (get-changed_at_keys [] m)
 
-  -- the map with what one key has changed
+  -- the map with the value of one key changed
   abbrev changed_at_one : FinMap R X → K → FinMap R X
   changed_at_one m k = option_map_or (λ x. map_of.insert m k (change x)) (map_of.get m k) m
 
@@ -81,7 +81,7 @@ module _ {K X : Type 0} {R : K → K → Ordering} (total : IsTotalOrder R) (sam
       by None e = at_none (eq_by_cmp R q k) refl e
       by (Some x) e = get-insert total m k (change x) q ∙ at_some (eq_by_cmp R q k) x refl e
 
-  -- a change that makes no difference the second time can go key by key
+  -- a change that has no effect the second time can be made key by key
   pub changed_at_more : ((x : X) → change (change x) ≡ change x)
       → (k : K) (keys : List K) (m : FinMap R X)
       → changed_at_keys keys change (changed_at_one m k) ≡ changed_at_keys (k ∷ keys) change m

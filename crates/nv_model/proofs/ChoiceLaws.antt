@@ -1,8 +1,8 @@
--- Choices by a test.
+-- Choices that depend on a test.
 use Rattle.std.proofs.Common.{◌≡◌, Bool, true, false, not, refl}
 use Rattle.std.specs.Prelude.{if◌then◌else◌}
 
--- what holds of both holds of the one that is chosen
+-- what holds for both holds for the one that is chosen
 pub chosen_fits : {A : Type 0} (P : A → Type 0) (b : Bool) (x y : A) → P x → P y
     → P (if b then x else y)
 chosen_fits P true x y p q = p

@@ -1,4 +1,4 @@
--- The values of features stay well formed when NSIDs come and go, and when values are written.
+-- The values of features stay well formed when NSIDs are attached and detached, and when values are written.
 use Rattle.std.proofs.Common.{◌≡◌, ◌∙◌, ℕ, ◌==◌, ◌&&◌, ◌||◌, Bool, true, false, cond, Option, Some}
 use Rattle.std.proofs.Common.{None, is_some, refl, sym, ap, subst, arith}
 use Rattle.std.specs.Prelude.{IsSomeAnd, unwrap_or, if◌then◌else◌}
@@ -90,7 +90,7 @@ is_there false o x e = absurd (cc e)
 and_true : (b : Bool) → b ≡ true → (b && true) ≡ true
 and_true b e = ap (λ c. c && true) e
 
--- a default of a feature, by its rule or where it has none
+-- the default of a feature, by its rule or, if it has none, the default rule
 pub default_is_sound : (rules : FeatureRules) → AreRules rules → (f : Feature) (selector : ℕ)
     → is_value f (default_of (rule_of rules f) selector) ≡ true
 default_is_sound rules are f selector = by_rule (map_of.get rules (row_of f).fid) refl
@@ -119,19 +119,19 @@ pub first_is_sound : (rules : FeatureRules) → AreRules rules → (f : Feature)
 first_is_sound rules are f n s = sound_at f n s (first_value rules (key_of f n s))
     (and_true (is_value f (default_of (rule_of rules f) s)) (default_is_sound rules are f s))
 
--- ---- NSIDs come and go
+-- ---- NSIDs are attached and detached
 
 abbrev no_nsids : Nsids
 no_nsids = map_of.empty
 
 module _ (rules : FeatureRules) (vwc : ℕ) where
-  -- what a key of a feature has
+  -- the value of a feature's key
   abbrev of : ValueKey → Nsids → Option Feature → Bool
   of q nsids o = option_map_or (λ f. is_supported rules vwc f && (is_selector f q.selector
       && (if (row_of f).per_namespace then map_of.contains_key nsids q.nsid else q.nsid == 0)))
       o false
 
-  -- where an NSID is attached, or detached, its key of Error Recovery has a value, or none
+  -- when an NSID is attached or detached, its key of Error Recovery has a value or none
   recovery_moved : (attached moved : Nsids) (n : ℕ) (now : Bool)
       → ((q : ℕ) → map_of.contains_key moved q
       ≡ cond (q == n) now (map_of.contains_key attached q))
@@ -209,7 +209,7 @@ module _ (rules : FeatureRules) (vwc : ℕ) where
       by None e = other None (none e) refl
       by (Some f) e = at_feature f (row_of f).per_namespace e refl
 
-  -- without any NSID only keys of none have a value
+  -- without any NSID, only keys without one have a value
   none_attached : (attached : Nsids) → map_of.contains_key attached 0 ≡ false → (q : ValueKey)
       → cond (is_alone q) (has_value rules vwc attached q) false
       ≡ has_value rules vwc map_of.empty q
@@ -294,7 +294,7 @@ module _ (rules : FeatureRules) (vwc : ℕ) (attached : Nsids) (values : Feature
         (sym (value_of_retain values is_alone q) ∙ e));
   }
 
-  -- a value that is there is written over
+  -- an existing value is overwritten
   pub values-written : (k : ValueKey) (x : FeatureValue) → map_of.contains_key values k ≡ true
       → is_value_at k x ≡ true → AreValues rules vwc attached (map_of.insert values k x)
   values-written k x there fits = record {

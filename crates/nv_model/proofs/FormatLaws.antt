@@ -14,6 +14,7 @@ use Rattle.nv_model.specs.Conditions.{may_extend, can_have, format_at}
 use Rattle.nv_model.specs.declared.format.Format.{Format}
 use Rattle.nv_model.specs.declared.namespace.Namespace.{Namespace}
 use Rattle.nv_command.proofs.RefusalLaws.{is_refusal-refusal_by}
+use Rattle.nv_command.specs.declared.format.NewFormat.{NewFormat}
 use Rattle.nv_model.specs.Format.{format_rows, formatted, in_format, is_below}
 use Rattle.nv_model.specs.inner.Format.{with_format}
 use Rattle.std.specs.Cmp.{nat_cmp_total}
@@ -27,10 +28,9 @@ use Rattle.nv_model.specs.Conditions.{first_refusal}
 use Rattle.nv_model.specs.State.{Namespaces, State}
 use Rattle.nv_model.proofs.UsedLaws.{used-change}
 use Rattle.nv_model.specs.WellFormed.{IsController, IsNamespace, IsWellFormed}
-use Rattle.nv_model.specs.declared.new_format.NewFormat.{NewFormat}
 
-pub format_rows_fit : (s : State) (c n : ℕ) (f : NewFormat) → AllRefuse (format_rows s c n f)
-format_rows_fit s c n f = search (rules, is_refusal-refusal_by)
+pub format_rows_fit : (s : State) (c : ℕ) (f : NewFormat) → AllRefuse (format_rows s c f)
+format_rows_fit s c f = search (rules, is_refusal-refusal_by)
 
 -- a capacity below a size
 abbrev below : ℕ → Option Namespace → Bool
@@ -46,7 +46,7 @@ module _ (format : Format) (lbaf : ℕ) (mset : Bool) where
   abbrev with_one : State → ℕ → State
   with_one s n = record s { namespaces = with_format lbaf mset s.namespaces n }
 
-  -- what has to be so that it can be
+  -- the condition under which it can have the format
   pub record CanHave (s : State) : Type 0 where
     pub found : slice_get s.formats lbaf ≡ Some format
     pub extends : may_extend s.mc format mset ≡ true
@@ -132,7 +132,7 @@ module _ (format : Format) (lbaf : ℕ) (mset : Bool) where
 
   -- ---- one after another
 
-  -- what has room keeps it
+  -- a namespace with enough room keeps it
   room_stays : (s : State) (n q size : ℕ) → is_below s size q ≡ false
       → is_below (with_one s n) size q ≡ false
   room_stays s n q size room = by (map_of.get s.namespaces n) refl
@@ -196,9 +196,9 @@ format_by s ns f (Some format) at can room w =
     (all_keep format f.lbaf f.mset ns s (record { found = at; extends = can })
     (none_passes (is_below s (2 ^ format.lbads)) ns room) w)
 
-pub format_keeps : (s : State) (c n : ℕ) (f : NewFormat) → IsWellFormed s
-    → first_refusal (format_rows s c n f) ≡ None → IsWellFormed (formatted s c n f)
-format_keeps s c n f w accepted =
-    let rows = none_holds (format_rows s c n f) accepted in
-    format_by s (concerned s c n) f (format_at s f.lbaf) refl
+pub format_keeps : (s : State) (c : ℕ) (f : NewFormat) → IsWellFormed s
+    → first_refusal (format_rows s c f) ≡ None → IsWellFormed (formatted s c f)
+format_keeps s c f w accepted =
+    let rows = none_holds (format_rows s c f) accepted in
+    format_by s (concerned s c f.nsid) f (format_at s f.lbaf) refl
     (not_false (can_have s f.lbaf f.mset) rows.1.1.0) rows.1.1.1.1.0 w

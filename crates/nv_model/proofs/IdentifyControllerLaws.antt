@@ -1,4 +1,4 @@
--- What Identify tells of a controller fits its record.
+-- The Identify data of a controller fits its record.
 use Rattle.std.proofs.Common.{◌≡◌, ◌∙◌, ℕ, ◌<◌, ◌^◌, refl, arith, lit<, List, ◌++◌, length, Option}
 use Rattle.std.proofs.Common.{Some, None}
 use Rattle.std.specs.Prelude.{replicate, nat_le}

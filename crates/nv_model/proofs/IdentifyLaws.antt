@@ -1,4 +1,4 @@
--- What Identify says of a namespace fits its record.
+-- The Identify data of a namespace fits its record.
 use Rattle.std.proofs.Common.{◌≡◌, ◌∙◌, ℕ, zero, suc, ◌+◌, ◌-◌, ◌/◌, ◌<◌, ◌≤◌, ◌^◌, refl, arith}
 use Rattle.std.proofs.Common.{lit<, true, false, List, [], ◌∷◌, ◌++◌, length, map, get_or, Option}
 use Rattle.std.proofs.Common.{Some, None}

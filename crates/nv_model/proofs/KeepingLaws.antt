@@ -7,7 +7,7 @@ use Rattle.nv_model.proofs.ChangedAtLaws.{length-changed_at}
 use Rattle.nv_model.specs.State.{Controller, Namespaces, Nsids, State, with_controller}
 use Rattle.nv_model.specs.WellFormed.{IsController, IsWellFormed}
 
--- what a command keeps of each controller
+-- what a command preserves of each controller
 pub record KeepsController (f : Controller → Controller) : Type 0 where
   pub identity : (x : Controller) → (f x).identity ≡ x.identity
   pub attached : (x : Controller) → (f x).attached ≡ x.attached

@@ -1,4 +1,4 @@
--- The bounds of how many bytes of data a command has at most.
+-- The bounds of the greatest length of a command's data.
 use Rattle.std.proofs.Common.{◌≡◌, ◌∙◌, ℕ, zero, suc, ◌*◌, ◌==◌, ◌^◌, ◌<◌, ◌≤◌, true, false, List, [], ◌∷◌, Option}
 use Rattle.std.proofs.Common.{Some, None, ap, arith, inl, inr, length, refl, subst, sym}
 use Rattle.std.specs.FinMap as map_of
@@ -16,7 +16,7 @@ use Rattle.nv_model.specs.Attachment.{fewer, more}
 use Rattle.nv_model.specs.Meaning.{effect_of}
 use Rattle.nv_model.specs.Features.{changed_nsids, with_values}
 use Rattle.nv_model.specs.State.{Identity}
-use Rattle.nv_model.specs.Management.{new_namespace, wanted, with_nsids}
+use Rattle.nv_model.specs.Management.{new_namespace, with_nsids}
 use Rattle.nv_model.specs.Management.{without, without_all, without_any, without_one}
 use Rattle.nv_model.specs.Conditions.{free_nsid}
 use Rattle.nv_model.specs.Meaning.{refusal_of}
@@ -72,12 +72,9 @@ of_one f same (x ∷ xs) (suc c) zero = refl
 of_one f same (x ∷ xs) (suc c) (suc d) = of_one f same xs c d
 
 effect_mdts : (s : State) (c : ℕ) (k : Command) (d : ℕ) → mdts_of (effect_of s c k) d ≡ mdts_of s d
-effect_mdts s c (Create nsze ncap flbas dps nmic) d =
+effect_mdts s c (Create w) d =
     elim (free_nsid s) as (λ o. mdts_of (option_map_or
-    (λ n. record s {
-      namespaces = map_of.insert s.namespaces n (new_namespace s
-          (wanted nsze ncap flbas dps nmic));
-    }) o s) d ≡ mdts_of s d)
+    (λ n. record s { namespaces = map_of.insert s.namespaces n (new_namespace s w) }) o s) d ≡ mdts_of s d)
     [ None ↦ refl | Some n ↦ refl ]
 effect_mdts s c (Delete n) d =
     elim (n == broadcast_nsid) as (λ b. mdts_of (if b then without_all s else without_one s n) d ≡ mdts_of s d) [

@@ -1,4 +1,4 @@
--- A list of NSIDs that is answered fits a namespace list.
+-- A list of NSIDs that is returned fits a namespace list.
 use Rattle.std.proofs.Common.{◌≡◌, ◌≢◌, ◌∙◌, ℕ, ◌+◌, ◌-◌, ◌<◌, ◌≤◌, ◌^◌, ◌&&◌, ◌||◌, ap, refl}
 use Rattle.std.proofs.Common.{arith, Bool, true, false, cond, nat_lt, List, [], ◌∷◌, length, map}
 use Rattle.std.proofs.Math.Dec.{T}
@@ -51,7 +51,7 @@ above_few after ns = omega (
 )
 
 module _ {X : Type 0} where
-  -- the test of an order that each later key is above one
+  -- the test of an order: each later key is greater than a given one
   abbrev below_all : ℕ → List (ℕ × X) → Bool
   below_all k [] = true
   below_all k (e ∷ es) = is_lt (nat_cmp k e.0) && below_all k es
@@ -81,7 +81,7 @@ module _ {X : Type 0} where
   tops lo nn [] a = tt
   tops lo nn (e ∷ es) a = (a.0.1, tops lo nn es a.1)
 
-  -- so there are no more of them than numbers in their range
+  -- so there are no more keys than numbers in their range
   few : (lo nn : ℕ) (es : List (ℕ × X)) → T (is_sorted nat_cmp es) → AllByRecursion (λ e. (lo ≤ e.0)
       × (e.0 ≤ nn)) es → length es ≤ (nn + 1) - lo
   few lo nn [] h a = omega arith
@@ -90,7 +90,7 @@ module _ {X : Type 0} where
       (raised e.0 nn es (keys_above e.0 e.1 es h) (tops lo nn es a.1)) in
       omega (arith, rest, a.0.0, a.0.1)
 
-  -- what holds of each number that is found holds of each key
+  -- what holds for each number that is found holds for each key
   each_key : (B : ℕ → Type 0) (es : List (ℕ × X))
       → ((n : ℕ) → list_any (eq_by_cmp nat_cmp n) (map (λ e. e.0) es) ≡ true → B n)
       → AllByRecursion (λ e. B e.0) es

@@ -1,4 +1,4 @@
--- The refusals of a Get Log Page have a status, and the logs fit their records.
+-- Each refusal of a Get Log Page has a status, and the logs fit their records.
 use Rattle.std.proofs.Common.{rules, ◌≡◌, ℕ, zero, suc, ◌+◌, ◌-◌, ◌^◌, ◌<◌, refl, arith, lit<, List, []}
 use Rattle.std.proofs.Common.{◌∷◌, ◌++◌, length, get_or, Option, Some, None}
 use Rattle.std.specs.Prelude.{All, replicate}

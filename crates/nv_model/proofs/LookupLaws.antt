@@ -1,4 +1,4 @@
--- The commands of `list` are accepted, and change nothing but how many commands a controller took.
+-- The commands of `list` are accepted, and change only how many commands a controller took.
 use Rattle.std.proofs.Common.{◌≡◌, ◌∙◌, ℕ, zero, suc, ◌≤◌, arith, ap, subst, refl, true, List, []}
 use Rattle.std.proofs.Common.{◌∷◌, Option, Some, None, Ok, is_some}
 use Rattle.std.specs.Prelude.{All, nat_le, ◌&&◌, ◌||◌, ◌==◌, not, slice_get}
@@ -22,23 +22,23 @@ use Rattle.nv_model.specs.State.{Controller, State, ascending, changed_at, contr
 use Rattle.nv_model.specs.Step.{Step, next_count, step, step_by, with_command}
 use Rattle.nv_model.specs.WellFormed.{IsController, IsWellFormed}
 
--- an NSID that a namespace could have, where they go up to nn
+-- an NSID that a namespace could have, if they go up to nn
 abbrev pub IsInside : ℕ → ℕ → Type 0
 IsInside nn n = (1 ≤ n) × (n ≤ nn)
 
--- a command that `list` sends: what the controller is, which namespaces are attached to it, and what
--- one is
+-- a command that `list` sends: for the controller's data, for the namespaces that are attached to
+-- it, and for the data of one
 pub data IsLookup (nn : ℕ) : Command → Type 0 where
   controller : IsLookup nn IdentifyController
   attached : IsLookup nn (ActiveList 0)
   namespace : {n : ℕ} → IsInside nn n → IsLookup nn (IdentifyNamespace n)
 
--- ---- what it does
+-- ---- its effect
 
 valid : (n nn : ℕ) → IsInside nn n → (nat_le 1 n && nat_le n nn) ≡ true
 valid n nn h = grind (arith, nat_tests, h.0, h.1)
 
--- it is accepted, and counts
+-- it is accepted and counted
 pub looked : (s : State) {k : Command} (c cid : ℕ) → IsLookup s.nn k
     → step s c k cid ≡ record { answer = Ok (reply_of s c k); state = with_command s c }
 looked s c cid controller = refl
@@ -53,15 +53,15 @@ as_it_is nn s c controller = refl
 as_it_is nn s c attached = refl
 as_it_is nn s c (namespace h) = refl
 
--- and its reply is received as it is
+-- its reply is received unchanged
 pub looked_received : (s : State) {k : Command} (c cid : ℕ) → IsLookup s.nn k
     → answer_received k (step s c k cid).answer ≡ Ok (reply_of s c k)
 looked_received s {k} c cid h =
     ap (λ (x : Step). answer_received k x.answer) (looked s c cid h) ∙ as_it_is s.nn s c h
 
--- ---- what stays
+-- ---- what doesn't change
 
--- the same NSIDs are attached to each controller, and NSIDs go as far
+-- the same NSIDs are attached to each controller, and the greatest NSID is the same
 pub record IsAlike (s now : State) : Type 0 where
   pub nn : now.nn ≡ s.nn
   pub active : (c : ℕ) → active_nsids now c ≡ active_nsids s c

@@ -20,6 +20,7 @@ use Rattle.nv_model.specs.Conditions.{may_extend, format_at}
 use Rattle.nv_model.specs.declared.format.Format.{Format}
 use Rattle.nv_model.specs.declared.namespace.Namespace.{Namespace}
 use Rattle.nv_command.specs.Refusal.{IsRefusal}
+use Rattle.nv_command.specs.declared.management.NewNamespace.{NewNamespace}
 use Rattle.nv_command.proofs.RefusalLaws.{is_refusal-refusal_by}
 use Rattle.nv_command.specs.Nsid.{broadcast_nsid}
 use Rattle.nv_command.specs.declared.status_code.StatusCode.TheVariants.{NamespaceInsufficientCapacity}
@@ -36,13 +37,12 @@ use Rattle.nv_model.specs.Conditions.{first_refusal}
 use Rattle.nv_model.specs.State.{Controller, Namespaces, State}
 use Rattle.nv_model.proofs.UsedLaws.{used-empty, used-insert, used-remove}
 use Rattle.nv_model.specs.WellFormed.{AreValues, IsController, IsNamespace, IsWellFormed}
-use Rattle.nv_model.specs.declared.new_namespace.NewNamespace.{NewNamespace}
 use Rattle.nv_model.specs.declared.row.Row.{Row}
 use Rattle.nv_layout.specs.Limits.{most_nsids}
 
 -- ---- rows
 
--- where none refuses, the condition of none holds
+-- if no row refuses, no row's condition holds
 pub none_holds : (rows : List Row) → first_refusal rows ≡ None
     → AllByRecursion (λ r. r.when ≡ false) rows
 none_holds [] e = tt
@@ -59,7 +59,7 @@ capacity_refused bytes =
     let is = is_refusal-refusal_by NamespaceInsufficientCapacity in
     record { status = is.status; fails = is.fails; specific = omega arith }
 
--- what rows have to be, so that a refusal by one of them is a refusal
+-- the condition on rows under which a refusal by one of them is a refusal
 abbrev pub AllRefuse : List Row → Type 0
 AllRefuse rows = AllByRecursion (λ row. IsRefusal row.refusal) rows
 
@@ -71,7 +71,7 @@ delete_rows_fit s n = search (rules, is_refusal-refusal_by)
 
 -- ---- the least free NSID
 
--- the first of a range that passes a test is of the range, and passes
+-- the first number of a range that passes a test is in the range and passes it
 first_of : (p : ℕ → Bool) (first count n : ℕ) → find p (range_with_len first count) ≡ Some n
     → ((first ≤ n) × (n < first + count)) × (p n ≡ true)
 first_of p first zero n e = absurd (cc e)
@@ -109,7 +109,7 @@ none_of : (o : Option Namespace) → is_some o ≡ false → o ≡ None
 none_of None e = refl
 none_of (Some x) e = absurd (cc e)
 
--- what lets metadata lie at the end of logical blocks
+-- the condition under which metadata can be at the end of logical blocks
 pub extends_by : (ms mc : ℕ) (e : Bool) → (not e || (nat_lt 0 ms && (bit_and mc 1 == 1))) ≡ true
     → e ≡ true
     → (0 < ms) × (bit_and mc 1 ≡ 1)
@@ -133,7 +133,7 @@ in_format mc bytes nsze format extended shared (Some f) h some is few =
       extended = extends_by f.ms mc extended can;
     }
 
--- no controller has an NSID attached that no namespace has
+-- no controller has an NSID attached that has no namespace
 none_attached : (s : State) (n : ℕ) → IsWellFormed s → is_allocated s n ≡ false
     → count_by (λ c. map_of.contains_key c.attached n) s.controllers ≡ 0
 none_attached s n w free =
@@ -220,7 +220,7 @@ create_keeps s w well accepted = create_by s w (free_nsid s) refl well accepted
 
 -- ---- delete
 
--- other attachments, of namespaces that are there
+-- the other attachments, of namespaces that exist
 pub record AreAttached (s : State) (change : Controller → Attached) (to : Namespaces) : Type 0 where
   pub allocated : (x : Controller) → IsController s.namespaces x → (n : ℕ)
       → map_of.contains_key (change x).nsids n ≡ true → map_of.contains_key to n ≡ true
@@ -258,7 +258,7 @@ attached_keep s change to w are = record {
   capacities = are.capacities;
 }
 
--- a number that is left after a removal was there, and is another
+-- a number that is left after a removal was there before, and is another one
 pub left : {A : Type 0} (m : NumberMap A) (n q : ℕ) → map_of.contains_key (map_of.remove m n) q
     ≡ true → ((q == n) ≡ false) × (map_of.contains_key m q ≡ true)
 left m n q t = at_test (q == n) refl (sym (contains-remove m n q) ∙ t)

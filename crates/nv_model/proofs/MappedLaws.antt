@@ -52,7 +52,7 @@ no_more : (a b : Bool) → (a ≡ true → b ≡ true) → cond a 1 0 ≤ cond b
 no_more true b h = let e = h refl in rw e (omega arith)
 no_more false b h = omega arith
 
--- where fewer of the mapped ones pass
+-- the count if fewer of the mapped ones pass
 pub count_by-map_le : {X Y : Type 0} (p : Y → Bool) (f : X → Y) (q : X → Bool)
     → ((x : X) → p (f x) ≡ true → q x ≡ true) → (xs : List X)
     → count_by p (map f xs) ≤ count_by q xs
@@ -72,7 +72,7 @@ pub list_any-map : {X Y : Type 0} (p : Y → Bool) (f : X → Y) (xs : List X) �
 list_any-map p f [] = refl
 list_any-map p f (x ∷ xs) = ap (λ b. p (f x) || b) (list_any-map p f xs)
 
--- a list that is written over, element by element, with what f makes of each
+-- a list that is overwritten, element by element, with what f makes of each
 pub next_mapped : {X Y : Type 0} (view : X → Y) (f : Y → Y) (xs : List X) (i : ℕ) (y d : X)
     → i < length xs → view y ≡ f (view (get_or xs i d))
     → take (suc i) (map view (set xs i y)) ++ map f (drop (suc i) (map view (set xs i y)))

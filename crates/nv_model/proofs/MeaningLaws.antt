@@ -1,4 +1,4 @@
--- What each command means is sound: the one table of what is known of refusals, replies and effects.
+-- The meaning of each command is sound: the one table of what is known about refusals, replies and effects.
 use Rattle.std.proofs.Common.{◌≡◌, ℕ, ◌≤◌, ◌==◌, arith, refl, subst, List, [], Bool, true, false}
 use Rattle.std.proofs.Common.{Option, Some, None, is_some, length}
 use Rattle.std.specs.FinMap as map_of
@@ -29,7 +29,6 @@ use Rattle.nv_bits.specs.Above.{above}
 use Rattle.nv_model.proofs.AttachmentLaws.{attachment_controllers, attachment_keeps}
 use Rattle.nv_model.proofs.AttachmentLaws.{attachment_rows_fit}
 use Rattle.nv_model.proofs.ChoiceLaws.{chosen_fits}
-use Rattle.nv_model.specs.Format.{new_format}
 use Rattle.nv_model.proofs.FormatLaws.{format_keeps, format_rows_fit}
 use Rattle.nv_model.specs.Identify.{blank, id_ns_of}
 use Rattle.nv_model.proofs.IdentifyControllerLaws.{id_ctrl_fits}
@@ -38,7 +37,6 @@ use Rattle.nv_model.proofs.InFormatLaws.{capacity_fits, format_below}
 use Rattle.nv_model.proofs.ListLaws.{keys_fit}
 use Rattle.nv_model.proofs.LogLaws.{errors_fit, log_rows_fit, smart_fits}
 use Rattle.nv_model.specs.Logs.{errors_at, smart_at}
-use Rattle.nv_model.specs.Management.{wanted}
 use Rattle.nv_model.proofs.ManagementLaws.{create_keeps, create_rows_fit, created_controllers}
 use Rattle.nv_model.proofs.ManagementLaws.{created_nsid_fits, delete_keeps, delete_rows_fit}
 use Rattle.nv_model.proofs.ManagementLaws.{deleted_controllers}
@@ -97,8 +95,8 @@ is_controller s c w x e =
 
 -- ---- meanings
 
--- its rows refuse; its reply is of this kind, and in a well-formed subsystem fits its record; what it
--- changes keeps well-formedness, and makes and takes no controller
+-- its rows refuse; its reply is of this kind, and in a well-formed subsystem fits its record; what
+-- it changes preserves well-formedness, and adds or removes no controller
 pub record IsSound (kind : ReplyKind) (m : Meaning) : Type 0 where
   pub rows : (s : State) (c : ℕ) → AllByRecursion (λ row. IsRefusal row.refusal) (m.rows s c)
   pub is_reply : (s : State) (c : ℕ) → kind_of (m.reply s c) ≡ kind
@@ -147,12 +145,12 @@ sound (AllocatedList after) = record {
   keeps = λ s c accepted w. w;
   controllers = λ s c. refl;
 }
-sound (Create nsze ncap flbas dps nmic) = record {
-  rows = λ s c. create_rows_fit s (wanted nsze ncap flbas dps nmic);
+sound (Create x) = record {
+  rows = λ s c. create_rows_fit s x;
   is_reply = λ s c. refl;
   fits = λ s c w. created_nsid_fits s w.keys.nn.1;
-  keeps = λ s c accepted w. create_keeps s (wanted nsze ncap flbas dps nmic) w accepted;
-  controllers = λ s c. created_controllers s (wanted nsze ncap flbas dps nmic);
+  keeps = λ s c accepted w. create_keeps s x w accepted;
+  controllers = λ s c. created_controllers s x;
 }
 sound (Delete n) = record {
   rows = λ s c. delete_rows_fit s n;
@@ -168,11 +166,11 @@ sound (Attachment n detach ids) = record {
   keeps = λ s c accepted w. attachment_keeps s n detach ids w accepted;
   controllers = λ s c. attachment_controllers s n detach ids;
 }
-sound (Format n lbaf mset pi pil ses) = record {
-  rows = λ s c. format_rows_fit s c n (new_format lbaf mset pi pil ses);
+sound (Format f) = record {
+  rows = λ s c. format_rows_fit s c f;
   is_reply = λ s c. refl;
   fits = λ s c w. tt;
-  keeps = λ s c accepted w. format_keeps s c n (new_format lbaf mset pi pil ses) w accepted;
+  keeps = λ s c accepted w. format_keeps s c f w accepted;
   controllers = λ s c. refl;
 }
 sound (GetFeature q) = record {

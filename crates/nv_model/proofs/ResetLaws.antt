@@ -1,4 +1,4 @@
--- A reset leaves a well-formed subsystem well formed, and makes and takes no controller.
+-- A reset leaves a well-formed subsystem well formed, and adds or removes no controller.
 use Rattle.std.proofs.Common.{◌≡◌, ◌∙◌, ℕ, zero, suc, ◌+◌, ◌&&◌, Bool, true, false, cond, List, []}
 use Rattle.std.proofs.Common.{◌∷◌, map, length, Option, Some, None, is_some, refl, sym, ap, subst}
 use Rattle.std.proofs.Common.{arith}
@@ -24,7 +24,7 @@ use Rattle.nv_model.proofs.ValueLaws.{is_key, key_cmp_total, same_key}
 use Rattle.nv_model.specs.WellFormed.{AreRules, IsWellFormed, is_value_at, may_have}
 use Rattle.nv_model.specs.declared.feature_value.FeatureValue.{FeatureValue}
 
--- ---- what each key has
+-- ---- the value of each key
 
 found : (g : ValueKey → FeatureValue → FeatureValue) (es : List (ValueKey × FeatureValue))
     (k : ValueKey)
@@ -143,7 +143,7 @@ module _ (enabled : List Bool) where
   length-each (c ∷ cs) s = length-each cs (reset_if enabled s c)
       ∙ length-reset_if (slice_index_or enabled c false) s c
 
-  -- where none is enabled
+  -- no controller is enabled
   each_same : ((c : ℕ) → slice_index_or enabled c false ≡ false) → (cs : List ℕ) (s : State)
       → fold (reset_if enabled) s cs ≡ s
   each_same off [] s = refl

@@ -71,7 +71,7 @@ and_parts : (a b : Bool) → (a && b) ≡ true → (a ≡ true) × (b ≡ true)
 and_parts true b e = (refl, e)
 and_parts false b e = absurd (cc e)
 
--- what a feature may have, by a key of it
+-- the values that a feature may have, by its key
 sound_value : (f : Feature) (n s : ℕ) (x : FeatureValue) → is_value_at (key_of f n s) x ≡ true
     → may_have f x ≡ true
 sound_value f n s x e =
@@ -190,7 +190,7 @@ module _ (s : State) (c : ℕ) (x : FeatureSetting) where
       by None = refl
       by (Some f) = length-changed_at (to_controller f) s.controllers c
 
--- ---- a number that is told
+-- ---- a number that is returned
 
 capabilities_fit : (a b c : Bool)
     → (if a then 1 else 0) + (if b then 2 else 0) + (if c then 4 else 0) < 2 ^ 32

@@ -122,7 +122,7 @@ pub refusal_fits : (s : State) (c : ℕ) (k : Command) (r : Refusal) → refusal
     → IsRefusal r
 refusal_fits s c k r e = first_fits (rows_of s c k) r (rows_fit s c k) e
 
--- what an accepted command changes keeps well-formedness, and makes and takes no controller
+-- what an accepted command changes preserves well-formedness, and adds or removes no controller
 pub effect_keeps : (s : State) (c : ℕ) (k : Command) → refusal_of s c k ≡ None → IsWellFormed s
     → IsWellFormed (effect_of s c k)
 effect_keeps s c k accepted w = (sound k).keeps s c accepted w
@@ -144,7 +144,7 @@ pub step_keeps : (s : State) (c : ℕ) (k : Command) (cid : ℕ) → namespace_o
 step_keeps s c k cid a b w =
     step_by_keeps (refusal_of s c k) s c k cid refl (refusal_fits s c k) a b w
 
--- no command makes or takes a controller
+-- no command adds or removes a controller
 step_by_controllers : (o : Option Refusal) (s : State) (c : ℕ) (k : Command) (cid : ℕ)
     → length (step_by o s c k cid).state.controllers ≡ length s.controllers
 step_by_controllers None s c k cid = length-changed_at _ (effect_of s c k).controllers c

@@ -1,4 +1,4 @@
--- The capacity that is in use, when a namespace comes or goes.
+-- The capacity that is in use when a namespace is added or removed.
 use Rattle.std.proofs.Common.{◌≡◌, ◌∙◌, ℕ, ◌+◌, ◌==◌, List, [], ◌∷◌, map, length, cond, Bool, true}
 use Rattle.std.proofs.Common.{false, Option, Some, None, refl, sym, ap, arith, Ordering}
 use Rattle.std.specs.Prelude.{sum_by}
@@ -45,7 +45,7 @@ unfolding total
 used-insert m k v none = ap total (entries-insert nat_cmp_total m k v)
     ∙ total-put k v (map_of.entries m) (sym (get-entries m k) ∙ none)
 
--- what is taken away gives its capacity back
+-- a namespace that is removed frees its capacity
 put_back : (m : Namespaces) (n : ℕ) (v : Namespace) → map_of.get m n ≡ Some v
     → map_of.insert (map_of.remove m n) n v ≡ m
 put_back m n v found =

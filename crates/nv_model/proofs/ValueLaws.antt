@@ -81,7 +81,7 @@ pub same_values : (m n : FeatureValues)
     → ((q : ValueKey) → map_of.get m q ≡ map_of.get n q) → m ≡ n
 same_values m n = same_map key_cmp_total key_cmp-IsAntisymmetric m n
 
--- what isn't there can be taken away
+-- removing a missing value changes nothing
 pub removed_absent : (m : FeatureValues) (k : ValueKey) → map_of.get m k ≡ None
     → map_of.remove m k ≡ m
 removed_absent m k none =
@@ -92,7 +92,7 @@ removed_absent m k none =
     at_test q true e = sym (ap (map_of.get m) (same_key q k e) ∙ none)
     at_test q false e = refl
 
--- what is there can be put there
+-- writing a value that is there changes nothing
 pub put_back : (m : FeatureValues) (k : ValueKey) (o : Option FeatureValue) → map_of.get m k ≡ o
     → option_map_or (map_of.insert m k) o (map_of.remove m k) ≡ m
 put_back m k None e = removed_absent m k e

@@ -12,7 +12,7 @@ abbrev pub answer_by : Option Refusal → Reply → Result Reply Refusal
 answer_by None reply = Ok reply
 answer_by (Some r) reply = Err r
 
--- the same, where entries of logs that differ in the phase tag alone count as the same
+-- the answer, where entries of logs that differ only in the phase tag are considered equal
 abbrev pub answer_without_phases : Result Reply Refusal → Result Reply Refusal
 answer_without_phases (Ok reply) = Ok (without_phases reply)
 answer_without_phases (Err r) = Err r

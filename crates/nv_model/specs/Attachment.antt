@@ -20,11 +20,11 @@ use Rattle.nv_model.specs.declared.row.Row.{Row}
 
 -- ---- the list of controller identifiers
 
--- the list names the controller
+-- the controller is in the list
 abbrev pub is_listed : List ℕ → Controller → Bool
 is_listed ids x = list_any (λ id. id == x.identity.cntlid) ids
 
--- each number is below the next one
+-- the numbers strictly ascend
 abbrev pub is_ascending : List ℕ → Bool
 is_ascending ids = list_all (λ p. nat_lt p.0 p.1) (zip ids (drop 1 ids))
 
@@ -32,7 +32,7 @@ is_ascending ids = list_all (λ p. nat_lt p.0 p.1) (zip ids (drop 1 ids))
 abbrev pub is_known : State → ℕ → Bool
 is_known s id = list_any (λ x. id == x.identity.cntlid) s.controllers
 
--- it names some controllers of the subsystem, in ascending order
+-- the list has some controllers of the subsystem, in ascending order
 abbrev pub is_list_of : State → List ℕ → Bool
 is_list_of s ids = not (length ids == 0) && is_ascending ids && list_all (is_known s) ids
 
@@ -41,11 +41,11 @@ is_list_of s ids = not (length ids == 0) && is_ascending ids && list_all (is_kno
 abbrev pub has_attached : ℕ → Controller → Bool
 has_attached n x = map_of.contains_key x.attached n
 
--- a namespace that one controller at most may have attached
+-- a namespace that at most one controller may have attached
 abbrev pub is_private : State → ℕ → Bool
 is_private s n = option_map_or (λ x. not x.shared) (map_of.get s.namespaces n) false
 
--- what an attach and a detach have in common
+-- the rows that an attach and a detach share
 abbrev pub first_rows : State → ℕ → List ℕ → List Row
 first_rows s n ids =
     row (not (is_valid s n)) InvalidNamespaceOrFormat
@@ -61,7 +61,7 @@ has_one_attached s n ids = list_any (λ x. is_listed ids x && has_attached n x) 
 abbrev pub lacks_one_attached : State → ℕ → List ℕ → Bool
 lacks_one_attached s n ids = list_any (λ x. is_listed ids x && not (has_attached n x)) s.controllers
 
--- how many controllers would have it attached, with the listed ones
+-- how many controllers have it attached or are listed
 abbrev pub count_with : State → ℕ → List ℕ → ℕ
 count_with s n ids = count_by (λ x. has_attached n x || is_listed ids x) s.controllers
 
@@ -81,30 +81,30 @@ attachment_rows s n detach ids = if detach then detach_rows s n ids else attach_
 
 -- ---- effects
 
--- with an NSID: its Error Recovery is at the default
+-- a controller after a namespace was attached, with its Error Recovery at the default
 abbrev pub with_one : ℕ → Controller → Attached
 with_one n x = record {
   nsids = map_of.insert x.attached n tt;
   values = map_of.insert x.values (recovery_key n) (first_value x.rules (recovery_key n));
 }
 
--- as it is
+-- a controller that doesn't change
 abbrev pub unchanged : Controller → Attached
 unchanged x = record { nsids = x.attached; values = x.values }
 
--- a listed controller has the namespace attached
+-- a controller after an attach: if it is listed, it has the namespace attached
 abbrev pub more : ℕ → List ℕ → Controller → Attached
 more n ids x = if is_listed ids x then with_one n x else unchanged x
 
--- a listed controller doesn't have it attached
+-- a controller after a detach: if it is listed, it doesn't have the namespace attached
 abbrev pub fewer : ℕ → List ℕ → Controller → Attached
 fewer n ids x = if is_listed ids x then without n x else unchanged x
 
--- all listed controllers have the namespace attached
+-- the state after an attach: all listed controllers have the namespace attached
 abbrev pub attached : State → ℕ → List ℕ → State
 attached s n ids = with_attached s (more n ids)
 
--- none of the listed controllers has it attached
+-- the state after a detach: no listed controller has it attached
 abbrev pub detached : State → ℕ → List ℕ → State
 detached s n ids = with_attached s (fewer n ids)
 

@@ -8,7 +8,7 @@ use Rattle.std.specs.declared.cmp.Ordering.{Ordering}
 use Rattle.nv_model.specs.Values.{FeatureValues, ValueKey}
 use Rattle.nv_model.specs.declared.feature_value.FeatureValue.{FeatureValue}
 
--- what a key has afterwards, by the key and what it had
+-- the value of a key after a change, given the key and its value before
 abbrev pub Change : Type 0
 Change = ValueKey → Option FeatureValue → Option FeatureValue
 
@@ -16,11 +16,11 @@ abbrev pub changed_at : Change → FeatureValues → ValueKey → FeatureValues
 changed_at change values k =
     option_map_or (map_of.insert values k) (change k (map_of.get values k)) (map_of.remove values k)
 
--- each key of a list
+-- changes the value of each key of a list
 abbrev pub changed : Change → List ValueKey → FeatureValues → FeatureValues
 changed change keys values = fold (changed_at change) values keys
 
--- what each of some keys has is changed, where it has something
+-- changes the values of some keys, if they have any
 abbrev pub changed_at_keys : {K X : Type 0} {R : K → K → Ordering} → List K → (X → X)
     → map_of.FinMap R X
     → map_of.FinMap R X

@@ -22,8 +22,6 @@ identity_view i = record {
   crypto_erase = i.crypto_erase;
 }
 
--- ---- the codes of keys and values
-
 abbrev pub value_key_code : Coded ValueKey
 value_key_code = code_by (ℕ × (ℕ × ℕ)) (coded× coded_ℕ (coded× coded_ℕ coded_ℕ))
     (λ k. (k.fid, (k.nsid, k.selector)))

@@ -1,4 +1,4 @@
--- Rows of conditions that may refuse a command, and what they ask.
+-- Rows of conditions that may refuse a command, and the definitions that they use.
 use Rattle.std.specs.Prelude.{ℕ, ◌==◌, ◌&&◌, ◌||◌, Bool, bit_and, false, nat_lt, not, Option, slice_get}
 use Rattle.std.specs.Prelude.{◌*◌, ◌^◌, nat_le, List, [], ◌∷◌, if◌then◌else◌, Some, None}
 use Rattle.std.specs.Option.{option_map_or}
@@ -13,20 +13,20 @@ use Rattle.nv_command.specs.declared.refusal.Refusal.{Refusal}
 use Rattle.nv_command.specs.declared.status_code.StatusCode.{StatusCode}
 use Rattle.nv_model.specs.declared.row.Row.{Row}
 
--- metadata can lie at the end of the blocks of a format that has some, where bit 0 of mc is 1
+-- metadata can be at the end of the blocks of a format that has some, if bit 0 of mc is 1
 abbrev pub may_extend : ℕ → Format → Bool → Bool
 may_extend mc format extended = not extended || (nat_lt 0 format.ms && (bit_and mc 1 == 1))
 
--- the format with an index
+-- the format at an index
 abbrev pub format_at : State → ℕ → Option Format
 format_at s index = slice_get s.formats index
 
--- the table has the format, and metadata can lie at the end of its logical blocks where it shall
+-- the table has the format and, if metadata is to be at the end of its logical blocks, allows that
 abbrev pub can_have : State → ℕ → Bool → Bool
 can_have s index extended =
     option_map_or (λ f. may_extend s.mc f extended) (format_at s index) false
 
--- MDTS: the most pages of 4,096 bytes that a command of a controller moves, as a power of two
+-- MDTS: the greatest number of 4,096-byte pages that a controller's command transfers, as a power of two
 abbrev pub mdts_of : State → ℕ → ℕ
 mdts_of s c = option_map_or (λ x. x.identity.numbers.mdts) (controller_at s c) 0
 
@@ -41,26 +41,26 @@ limit_of s c = 4096 * 2 ^ mdts_of s c
 abbrev pub is_valid : State → ℕ → Bool
 is_valid s n = nat_le 1 n && nat_le n s.nn
 
--- the NSIDs that are attached to a controller, ascending
+-- the NSIDs that are attached to a controller, in ascending order
 abbrev pub active_nsids : State → ℕ → List ℕ
 active_nsids s c = option_map_or (λ x. ascending x.attached) (controller_at s c) []
 
 abbrev pub is_active : State → ℕ → ℕ → Bool
 is_active s c n = option_map_or (λ x. map_of.contains_key x.attached n) (controller_at s c) false
 
--- the NSIDs that a command concerns: for the broadcast one all that are active on the controller
+-- the NSIDs that a command concerns; for the broadcast NSID these are all that are active on the controller
 abbrev pub concerned : State → ℕ → ℕ → List ℕ
 concerned s c n = if n == broadcast_nsid then above 0 (active_nsids s c) else n ∷ []
 
--- an NSID that a namespace has
+-- an NSID with a namespace
 abbrev pub is_allocated : State → ℕ → Bool
 is_allocated s n = map_of.contains_key s.namespaces n
 
--- the least NSID that no namespace has
+-- the least NSID without a namespace
 abbrev pub free_nsid : State → Option ℕ
 free_nsid s = find (λ n. not (is_allocated s n)) (range_with_len 1 s.nn)
 
--- a row with nothing specific to its command
+-- a row whose refusal has no command specific information
 abbrev pub row : Bool → StatusCode → Row
 row when code = record { when = when; refusal = refusal_by code }
 

@@ -4,7 +4,7 @@ use Rattle.std.specs.Coded.{Coded, code_by, coded×, coded_ℕ, coded_bool, code
 use Rattle.nv_layout.specs.declared.error_entry.ErrorEntry.{ErrorEntry}
 use Rattle.nv_layout.specs.declared.status.Status.{Status}
 
--- the entries newest first, and how many there may be
+-- the entries, newest first, and how many there may be
 pub record Log : Type 0 where
   pub most : ℕ
   pub entries : List ErrorEntry

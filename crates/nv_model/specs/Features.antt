@@ -1,4 +1,4 @@
--- Get Features and Set Features: when they are refused, what they answer, and what they change.
+-- Get Features and Set Features: when they are refused, what they return, and what they change.
 use Rattle.std.specs.Prelude.{ℕ, ◌+◌, ◌==◌, ◌&&◌, ◌||◌, not, nat_lt, Bool, true, List, [], ◌∷◌}
 use Rattle.std.specs.Prelude.{Option, None, option_map, unwrap_or, if◌then◌else◌}
 use Rattle.std.specs.List.{fold, list_any}
@@ -32,20 +32,20 @@ abbrev pub rule_at : State → ℕ → Feature → FeatureRule
 rule_at s c f =
     option_map_or (λ x. rule_of x.rules f) (controller_at s c) (default_rule (row_of f).fid)
 
--- the feature with an identifier, where the controller supports it
+-- the feature with an identifier, if the controller supports it
 abbrev pub supported_at : State → ℕ → ℕ → Option Feature
 supported_at s c fid =
     option_map_or (λ x. supported x.rules x.identity.numbers.vwc fid) (controller_at s c) None
 
 -- ---- rows
 
--- an identifier of no supported feature; else the feature's rows
+-- a refusal if the identifier is not that of a supported feature, and otherwise the feature's rows
 abbrev pub supported_rows : State → ℕ → ℕ → (Feature → List Row) → List Row
 supported_rows s c fid rows =
     option_map_or rows (supported_at s c fid) (row true InvalidFieldInCommand ∷ [])
 
--- a select above 3; a selector that the feature doesn't have; and where each namespace has a value
--- of its own, an NSID that is not valid, or not active
+-- a select above 3; a selector that the feature doesn't have; and, if each namespace has a value of
+-- its own, an NSID that is not valid, or not active
 abbrev pub get_rows : State → ℕ → FeatureQuery → Feature → List Row
 get_rows s c q f =
     row (nat_lt 3 q.sel) InvalidFieldInCommand
@@ -74,7 +74,7 @@ set_feature_rows s c x = supported_rows s c x.fid (set_rows s c x)
 
 -- ---- replies
 
--- what can be done with a feature: bit 0 save, bit 1 a value for each namespace, bit 2 change
+-- what can be done with a feature: save it (bit 0), give each namespace a value of its own (bit 1), change it (bit 2)
 abbrev pub capabilities : FeatureRule → Feature → ℕ
 capabilities rule f =
     (if rule.saveable then 1 else 0) + (if (row_of f).per_namespace then 2 else 0)
@@ -88,12 +88,12 @@ selected rule f sel selector x =
     else if sel == 2 then unwrap_or x.saved (default_of rule selector)
     else capabilities rule f
 
--- the same of a controller's feature under a selector
+-- what a select names for a controller's feature, under a selector
 abbrev pub told_under : ℕ → Feature → ℕ → ℕ → Controller → ℕ
 told_under selector f sel n x = option_map_or (selected (rule_of x.rules f) f sel selector)
     (map_of.get x.values (key_of f n selector)) 0
 
--- and under that of CDW11
+-- what a select names for a controller's feature, under the selector in CDW11
 abbrev pub told : FeatureQuery → Feature → Controller → ℕ
 told q f x =
     if is_get_selector f q.cdw11 then told_under (selector_in f q.cdw11) f q.sel q.nsid x else 0
@@ -104,7 +104,7 @@ feature_number s c q =
 
 -- ---- effects
 
--- the NSIDs whose values a set changes
+-- the NSIDs whose values a Set changes
 abbrev pub changed_nsids : State → ℕ → ℕ → Feature → List ℕ
 changed_nsids s c n f = if (row_of f).per_namespace then concerned s c n else 0 ∷ []
 
@@ -112,13 +112,13 @@ changed_nsids s c n f = if (row_of f).per_namespace then concerned s c n else 0 
 abbrev pub is_set : Feature → ℕ → ℕ → Bool
 is_set f dword selector = list_any (λ x. x == selector) (selectors_set f dword)
 
--- where a Set is for the key's selector, a value that is there is written over by what is stored
--- of the dword
+-- if a Set is for the key's selector, an existing value is overwritten by the part of the dword
+-- that is stored
 abbrev pub write : Feature → ℕ → Bool → Change
 write f dword save k old =
     if is_set f dword k.selector then option_map (written (stored f dword) save) old else old
 
--- for an NSID, and for each of some
+-- a Set for one NSID, and for each of several
 abbrev pub with_value : Feature → ℕ → Bool → FeatureValues → ℕ → FeatureValues
 with_value f value save values n = changed (write f value save) (keys_of f n) values
 

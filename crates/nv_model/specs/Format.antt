@@ -4,6 +4,7 @@ use Rattle.std.specs.List.{list_any}
 use Rattle.std.specs.Option.{option_map_or}
 use Rattle.std.specs.FinMap as map_of
 use Rattle.nv_command.specs.Nsid.{broadcast_nsid}
+use Rattle.nv_command.specs.declared.format.NewFormat.{NewFormat}
 use Rattle.nv_command.specs.declared.status_code.StatusCode.TheVariants.{InvalidFieldInCommand}
 use Rattle.nv_command.specs.declared.status_code.StatusCode.TheVariants.{InvalidFormat}
 use Rattle.nv_command.specs.declared.status_code.StatusCode.TheVariants.{InvalidNamespaceOrFormat}
@@ -11,17 +12,7 @@ use Rattle.nv_model.specs.declared.namespace.Namespace.{Namespace}
 use Rattle.nv_model.specs.Change.{changed_at_keys}
 use Rattle.nv_model.specs.Conditions.{can_have, format_at, concerned, is_active, is_valid, row}
 use Rattle.nv_model.specs.State.{State, controller_at}
-use Rattle.nv_model.specs.declared.new_format.NewFormat.{NewFormat}
 use Rattle.nv_model.specs.declared.row.Row.{Row}
-
-abbrev pub new_format : ℕ → Bool → ℕ → Bool → ℕ → NewFormat
-new_format lbaf mset pi pil ses = record {
-  lbaf = lbaf;
-  mset = mset;
-  pi = pi;
-  pil = pil;
-  ses = ses;
-}
 
 -- a namespace with a capacity below a size
 abbrev pub is_below : State → ℕ → ℕ → Bool
@@ -37,13 +28,13 @@ has_one_below s lbaf ns =
 abbrev pub can_erase_by_key : State → ℕ → Bool
 can_erase_by_key s c = option_map_or (λ x. x.identity.crypto_erase) (controller_at s c) false
 
-abbrev pub format_rows : State → ℕ → ℕ → NewFormat → List Row
-format_rows s c n f =
-    row (not (is_valid s n || n == broadcast_nsid)) InvalidNamespaceOrFormat
-    ∷ row (not (is_active s c n || n == broadcast_nsid)) InvalidFieldInCommand
+abbrev pub format_rows : State → ℕ → NewFormat → List Row
+format_rows s c f =
+    row (not (is_valid s f.nsid || f.nsid == broadcast_nsid)) InvalidNamespaceOrFormat
+    ∷ row (not (is_active s c f.nsid || f.nsid == broadcast_nsid)) InvalidFieldInCommand
     ∷ row (not (can_have s f.lbaf f.mset)) InvalidFormat
     ∷ row (not (f.pi == 0) || f.pil) InvalidFormat
-    ∷ row (has_one_below s f.lbaf (concerned s c n)) InvalidFormat
+    ∷ row (has_one_below s f.lbaf (concerned s c f.nsid)) InvalidFormat
     ∷ row (nat_lt 2 f.ses || (f.ses == 2 && not (can_erase_by_key s c))) InvalidFieldInCommand
     ∷ []
 
@@ -51,8 +42,8 @@ format_rows s c n f =
 abbrev pub in_format : ℕ → Bool → Namespace → Namespace
 in_format lbaf mset x = record x { format = lbaf; extended = mset }
 
-abbrev pub formatted : State → ℕ → ℕ → NewFormat → State
-formatted s c n f =
+abbrev pub formatted : State → ℕ → NewFormat → State
+formatted s c f =
     record s {
-      namespaces = changed_at_keys (concerned s c n) (in_format f.lbaf f.mset) s.namespaces;
+      namespaces = changed_at_keys (concerned s c f.nsid) (in_format f.lbaf f.mset) s.namespaces;
     }

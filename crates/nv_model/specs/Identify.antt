@@ -1,4 +1,4 @@
--- The Identify commands: when they are refused, and what they answer.
+-- The Identify commands: when they are refused, and what they return.
 use Rattle.std.specs.Prelude.{ℕ, ◌+◌, ◌-◌, ◌==◌, ◌||◌, not, nat_le, List, [], ◌∷◌, ◌++◌, length}
 use Rattle.std.specs.Prelude.{map, replicate, if◌then◌else◌}
 use Rattle.std.specs.Option.{option_map_or}
@@ -40,11 +40,11 @@ lbaf_of f = record { ms = f.ms; lbads = f.lbads; rp = f.rp }
 abbrev pub no_lbaf : Lbaf
 no_lbaf = record { ms = 0; lbads = 0; rp = 0 }
 
--- the formats, and zeros up to sixteen
+-- the formats, followed by zeros up to sixteen
 abbrev pub lbafs_of : List Format → List Lbaf
 lbafs_of fs = map lbaf_of fs ++ replicate (16 - length fs) no_lbaf
 
--- a namespace that isn't there: zeros
+-- a namespace that doesn't exist: zeros
 abbrev pub blank : IdNs
 blank = record {
   nsze = 0;
@@ -61,16 +61,16 @@ blank = record {
   lbafs = replicate 16 no_lbaf;
 }
 
--- what all namespaces have in common: the formats (their number less one) and how metadata may lie
+-- what all namespaces have in common: the formats (their number less one) and how metadata can be placed
 abbrev pub common_of : List Format → ℕ → IdNs
 common_of formats mc =
     record blank { nlbaf = length formats - 1; mc = mc; lbafs = lbafs_of formats }
 
--- FLBAS: the format, and bit 4 where metadata lies at the end of each logical block
+-- FLBAS: the format, and bit 4 if metadata is at the end of each logical block
 abbrev pub flbas_of : Namespace → ℕ
 flbas_of x = x.format + (if x.extended then 16 else 0)
 
--- what is told of a namespace
+-- the data of a namespace
 abbrev pub id_ns_of : List Format → ℕ → Namespace → IdNs
 id_ns_of formats mc x = record (common_of formats mc) {
   nsze = blocks formats x;
@@ -80,11 +80,11 @@ id_ns_of formats mc x = record (common_of formats mc) {
   nvmcap = x.capacity;
 }
 
--- the namespace where it is allocated, and zeros elsewhere
+-- the data of the namespace if it is allocated, and otherwise zeros
 abbrev pub allocated_namespace : State → ℕ → IdNs
 allocated_namespace s n = option_map_or (id_ns_of s.formats s.mc) (map_of.get s.namespaces n) blank
 
--- the namespace where it is attached to the controller, and zeros elsewhere
+-- the data of the namespace if it is attached to the controller, and otherwise zeros
 abbrev pub active_namespace : State → ℕ → ℕ → IdNs
 active_namespace s c n = if is_active s c n then allocated_namespace s n else blank
 

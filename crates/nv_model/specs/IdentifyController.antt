@@ -1,4 +1,4 @@
--- What Identify tells of a controller.
+-- The Identify data of a controller.
 use Rattle.std.specs.Prelude.{ℕ, nat_le, List, ◌++◌, length, replicate, take, if◌then◌else◌}
 use Rattle.std.specs.Option.{option_map_or}
 use Rattle.nv_layout.specs.declared.id_ctrl.IdCtrl.{IdCtrl}
@@ -7,7 +7,7 @@ use Rattle.nv_command.specs.declared.reply.Reply.TheVariants as reply
 use Rattle.nv_model.specs.WellFormed.{unallocated}
 use Rattle.nv_model.specs.State.{Controller, State, controller_at}
 
--- a text with padding after it, so many bytes in all
+-- a text with padding after it, `size` bytes in all
 abbrev pub padded : ℕ → ℕ → List ℕ → List ℕ
 padded size padding text = take size (text ++ replicate size padding)
 
@@ -15,12 +15,12 @@ padded size padding text = take size (text ++ replicate size padding)
 abbrev pub cmic_of : State → ℕ
 cmic_of s = if nat_le 2 (length s.controllers) then 0x02 else 0
 
--- FNA bit 2: a format can erase by a key
+-- FNA bit 2: a format can erase by destroying a key
 abbrev pub fna_of : Controller → ℕ
 fna_of x = if x.identity.crypto_erase then 0x04 else 0
 
--- VER is 1.4; OACS has Format NVM and Namespace Management; FRMW one slot; LPA offsets into logs;
--- entries have 64 and 16 bytes; ONCS has saved features
+-- VER is 1.4; OACS has Format NVM and Namespace Management; FRMW has one slot; LPA has offsets into
+-- logs; entries have 64 and 16 bytes; ONCS has saved features
 abbrev pub id_ctrl_of : State → Controller → IdCtrl
 id_ctrl_of s x = record {
   vid = x.identity.numbers.vid;
@@ -52,7 +52,7 @@ id_ctrl_of s x = record {
   subnqn = padded 256 0 s.subnqn;
 }
 
--- a controller that isn't there: zeros
+-- a controller that doesn't exist: zeros
 abbrev pub no_controller : IdCtrl
 no_controller = record {
   vid = 0;

@@ -1,4 +1,4 @@
--- Get Log Page: when it is refused, and what it answers.
+-- Get Log Page: when it is refused, and what it returns.
 use Rattle.std.specs.Prelude.{ℕ, ◌+◌, ◌-◌, ◌*◌, ◌%◌, ◌==◌, ◌||◌, not, nat_lt, Bool, List, [], ◌∷◌}
 use Rattle.std.specs.Prelude.{◌++◌, length, replicate, if◌then◌else◌}
 use Rattle.std.specs.Option.{option_map_or}
@@ -28,11 +28,11 @@ is_log lid = is_error_log lid || lid == 0x02
 abbrev pub entry_count : State → ℕ → ℕ
 entry_count s c = option_map_or (λ x. x.identity.numbers.elpe + 1) (controller_at s c) 1
 
--- the bytes of a log
+-- the length of a log in bytes
 abbrev pub log_length : State → ℕ → ℕ → ℕ
 log_length s c lid = if is_error_log lid then 64 * entry_count s c else 512
 
--- more bytes than the controller moves at a time; another log; an NSID other than 0 and the
+-- more bytes than the controller transfers at a time; another log; an NSID other than 0 and the
 -- broadcast one; an offset past the end of the log, or inside a dword
 abbrev pub log_rows : State → ℕ → LogQuery → List Row
 log_rows s c q =
@@ -44,11 +44,11 @@ log_rows s c q =
 
 -- ---- replies
 
--- the errors of a controller newest first, and entries without one up to ELPE + 1
+-- the errors of a controller, newest first, followed by entries without an error up to ELPE + 1
 abbrev pub errors_of : Controller → List ErrorEntry
 errors_of x = x.log ++ replicate (x.identity.numbers.elpe + 1 - length x.log) no_entry
 
--- a health log: what the file gives, and how many commands were refused
+-- the health log: what the file says, and how many commands were refused
 abbrev pub health_of : SmartBase → ℕ → Smart
 health_of base refusals = record {
   critical_warning = base.critical_warning;
@@ -74,7 +74,7 @@ health_of base refusals = record {
 abbrev pub smart_of : Controller → Smart
 smart_of x = health_of x.smart x.refusals
 
--- what a file gives that says nothing of it
+-- the health log of a file that says nothing about it
 abbrev pub zero_smart : SmartBase
 zero_smart = record {
   critical_warning = 0;
@@ -98,7 +98,7 @@ zero_smart = record {
   sensors = replicate 8 0;
 }
 
--- of a controller that isn't there
+-- the health log of a controller that doesn't exist
 abbrev pub no_health : Smart
 no_health = health_of zero_smart 0
 

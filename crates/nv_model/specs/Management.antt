@@ -5,6 +5,7 @@ use Rattle.std.specs.Option.{option_map_or}
 use Rattle.std.specs.FinMap as map_of
 use Rattle.nv_command.specs.StatusCode.{status_of_code}
 use Rattle.nv_command.specs.Nsid.{broadcast_nsid}
+use Rattle.nv_command.specs.declared.management.NewNamespace.{NewNamespace}
 use Rattle.nv_command.specs.declared.refusal.Refusal.{Refusal}
 use Rattle.nv_command.specs.declared.status_code.StatusCode.TheVariants.{InvalidFieldInCommand}
 use Rattle.nv_command.specs.declared.status_code.StatusCode.TheVariants.{InvalidFormat}
@@ -19,19 +20,9 @@ use Rattle.nv_model.specs.Conditions.{free_nsid, is_allocated, is_valid}
 use Rattle.nv_model.specs.Conditions.{row}
 use Rattle.nv_model.specs.State.{Controller, Nsids, State}
 use Rattle.nv_model.specs.Values.{FeatureValues, is_alone, recovery_key}
-use Rattle.nv_model.specs.declared.new_namespace.NewNamespace.{NewNamespace}
 use Rattle.nv_model.specs.declared.row.Row.{Row}
 
 -- ---- create
-
-abbrev pub wanted : ℕ → ℕ → ℕ → ℕ → ℕ → NewNamespace
-wanted nsze ncap flbas dps nmic = record {
-  nsze = nsze;
-  ncap = ncap;
-  flbas = flbas;
-  dps = dps;
-  nmic = nmic;
-}
 
 -- FLBAS 3:0: the index of the format
 abbrev pub format_index : ℕ → ℕ

@@ -6,35 +6,34 @@ use Rattle.nv_command.specs.declared.command.Command.TheVariants.{AllocatedNames
 use Rattle.nv_command.specs.declared.command.Command.TheVariants.{AllocatedList, Create, Delete}
 use Rattle.nv_command.specs.declared.command.Command.TheVariants.{Attachment, Format, GetFeature}
 use Rattle.nv_command.specs.declared.command.Command.TheVariants.{SetFeature, GetLog}
+use Rattle.nv_command.specs.declared.management.NewNamespace.{NewNamespace}
 use Rattle.nv_command.specs.declared.reply.Reply.{Reply}
 use Rattle.nv_command.specs.declared.reply.Reply.TheVariants.{Done, Number}
 use Rattle.nv_model.specs.Attachment.{attachment_rows, with_attachments}
 use Rattle.nv_model.specs.Features.{feature_number, get_feature_rows, set_feature_rows, with_feature}
-use Rattle.nv_model.specs.Format.{format_rows, formatted, new_format}
+use Rattle.nv_model.specs.Format.{format_rows, formatted}
 use Rattle.nv_model.specs.Identify.{active_list_reply, active_reply, active_rows, allocated_list_reply}
 use Rattle.nv_model.specs.Identify.{allocated_reply, allocated_rows, list_rows}
 use Rattle.nv_model.specs.IdentifyController.{controller_reply}
 use Rattle.nv_model.specs.Logs.{log_reply, log_rows}
-use Rattle.nv_model.specs.Management.{create_rows, created, created_nsid, delete_rows, deleted, wanted}
+use Rattle.nv_model.specs.Management.{create_rows, created, created_nsid, delete_rows, deleted}
 use Rattle.nv_model.specs.State.{State}
-use Rattle.nv_model.specs.declared.new_format.NewFormat.{NewFormat}
-use Rattle.nv_model.specs.declared.new_namespace.NewNamespace.{NewNamespace}
 use Rattle.nv_model.specs.declared.row.Row.{Row}
 use Rattle.nv_command.specs.declared.refusal.Refusal.{Refusal}
 use Rattle.nv_model.specs.Conditions.{first_refusal}
 
--- in state s, of a command of controller c: the rows by which it is refused, and where none applies
--- what it is answered and the state after it
+-- for a command of controller c in state s: the rows by which it is refused and, if none applies,
+-- its reply and the state after it
 pub record Meaning : Type 0 where
   pub rows : State → ℕ → List Row
   pub reply : State → ℕ → Reply
   pub effect : State → ℕ → State
 
--- it tells something, and changes nothing
+-- it returns something, and changes nothing
 abbrev pub telling : (State → ℕ → List Row) → (State → ℕ → Reply) → Meaning
 telling rows told = record { rows = rows; reply = told; effect = λ s c. s }
 
--- it changes something, and answers that it is done
+-- it changes something, and returns success
 abbrev pub changing : (State → ℕ → List Row) → (State → ℕ → State) → Meaning
 changing rows after = record { rows = rows; reply = λ s c. Done; effect = after }
 
@@ -45,9 +44,6 @@ creating w = record {
   effect = λ s c. created s w;
 }
 
-abbrev pub formatting : ℕ → NewFormat → Meaning
-formatting n f = changing (λ s c. format_rows s c n f) (λ s c. formatted s c n f)
-
 abbrev pub meaning_of : Command → Meaning
 meaning_of IdentifyController = telling (λ s c. []) (λ s c. controller_reply s c)
 meaning_of (IdentifyNamespace n) = telling (λ s c. active_rows s n) (λ s c. active_reply s c n)
@@ -57,11 +53,11 @@ meaning_of (ActiveList after) =
     telling (λ s c. list_rows after) (λ s c. active_list_reply s c after)
 meaning_of (AllocatedList after) =
     telling (λ s c. list_rows after) (λ s c. allocated_list_reply s after)
-meaning_of (Create nsze ncap flbas dps nmic) = creating (wanted nsze ncap flbas dps nmic)
+meaning_of (Create w) = creating w
 meaning_of (Delete n) = changing (λ s c. delete_rows s n) (λ s c. deleted s n)
 meaning_of (Attachment n detach ids) =
     changing (λ s c. attachment_rows s n detach ids) (λ s c. with_attachments s n detach ids)
-meaning_of (Format n lbaf mset pi pil ses) = formatting n (new_format lbaf mset pi pil ses)
+meaning_of (Format f) = changing (λ s c. format_rows s c f) (λ s c. formatted s c f)
 meaning_of (GetFeature q) =
     telling (λ s c. get_feature_rows s c q) (λ s c. Number (feature_number s c q))
 meaning_of (SetFeature x) =

@@ -1,4 +1,4 @@
--- The ranges of what a subsystem is made of.
+-- The ranges of the parts of a subsystem, and the greatest numbers.
 use Rattle.std.specs.Prelude.{ℕ, ◌≡◌, ◌-◌, ◌^◌, ◌<◌, ◌≤◌, Bool, true, false, not, ◌&&◌, List, length}
 use Rattle.std.specs.Prelude.{All, bit_and, nat_le, ◌==◌, slice_index, IsSomeAnd}
 use Rattle.std.specs.List.{list_all}
@@ -13,25 +13,25 @@ use Rattle.nv_model.specs.Values.{AreDefaults, are_lists, default_at}
 use Rattle.nv_model.specs.State.{Identity}
 use Rattle.nv_layout.specs.Limits.{most_nsids}
 
--- the greatest value of a count, where it stays
+-- the greatest value of a count, at which it stays
 abbrev pub greatest_count : ℕ
 greatest_count = 18446744073709551615
 
--- the greatest integer that a file can spell
+-- the greatest integer that a file can hold
 abbrev pub greatest_integer : ℕ
 greatest_integer = 9223372036854775807
 
--- the command identifiers that a host gives in turn, 0 to FFFEh: FFFFh stands for no command
+-- the number of command identifiers that a host uses in turn, 0 to FFFEh: FFFFh stands for no command
 abbrev pub serial_count : ℕ
 serial_count = 65535
 
--- 1 to most bytes, each 20h to 7Eh and the last one not a space
+-- a text of 1 to `most` bytes, each from 20h to 7Eh, of which the last is not a space
 abbrev pub is_text : ℕ → List ℕ → Bool
 is_text most s =
     (nat_le 1 (length s) && nat_le (length s) most)
     && (list_all (λ b. nat_le 32 b && nat_le b 126) s && not (slice_index s (length s - 1) == 32))
 
--- The greatest NSID, the capacity in bytes, where metadata can lie, and the name of the subsystem.
+-- The greatest NSID, the capacity in bytes, where metadata can be placed, and the name of the subsystem.
 pub record AreTopKeys (last_nsid capacity metadata : ℕ) (name : List ℕ) : Type 0 where
   pub nn : (1 ≤ last_nsid) × (last_nsid ≤ most_nsids)
   pub tnvmcap : capacity ≤ greatest_integer
@@ -43,8 +43,8 @@ pub record IsFormat (f : Format) : Type 0 where
   pub ms : f.ms ≤ 65535
   pub rp : f.rp ≤ 3
 
--- One of the features, with defaults that are values of it: lists of Temperature Threshold, one number
--- of any other. Error Recovery is never saveable.
+-- One of the features, with defaults that are values of it: lists for Temperature Threshold, and
+-- one number for any other. Error Recovery is never saveable.
 pub record IsFeatureRule (r : FeatureRule) : Type 0 where
   pub lists : are_lists r.defaults ≡ (r.fid == 0x04)
   pub defaults : AreDefaults r.defaults
@@ -74,7 +74,7 @@ pub record IsSmart (s : SmartBase) : Type 0 where
   pub critical_comp_time : s.critical_comp_time ≤ 4294967295
   pub sensors : (length s.sensors ≡ 8) × All (λ n. n ≤ 65535) s.sensors
 
--- The numbers that a controller says of itself.
+-- The numbers that a controller reports about itself.
 pub record IsIdentityNumbers (n : IdentityNumbers) : Type 0 where
   pub vid : n.vid ≤ 65535
   pub ssvid : n.ssvid ≤ 65535
@@ -93,7 +93,7 @@ pub record IsIdentity (i : Identity) : Type 0 where
   pub fr : is_text 8 i.fr ≡ true
   pub numbers : IsIdentityNumbers i.numbers
 
--- A namespace has at least one block of its format, and extended blocks only where format and
+-- A namespace has at least one block of its format, and extended blocks only if the format and the
 -- subsystem allow them.
 pub record IsInFormat (mc : ℕ) (f : Format) (n : Namespace) : Type 0 where
   pub capacity : (2 ^ f.lbads ≤ n.capacity) × (n.capacity ≤ greatest_integer)

@@ -1,4 +1,4 @@
--- An NVM subsystem as a value: what commands read and change, and nothing of how they travel.
+-- An NVM subsystem as a value: what commands read and change, without how they are transferred.
 use Rattle.std.specs.Prelude.{ℕ, Bool, List, zero, suc, [], ◌∷◌, Option, slice_get}
 use Rattle.std.specs.Ordering.{nat_cmp}
 use Rattle.std.specs.FinMap as map_of
@@ -18,16 +18,16 @@ pub record Identity : Type 0 where
   pub numbers : IdentityNumbers
   pub crypto_erase : Bool
 
--- what finds what by its NSID
+-- maps from NSIDs
 abbrev pub Namespaces : Type 0
 Namespaces = map_of.FinMap nat_cmp Namespace
 
 abbrev pub Nsids : Type 0
 Nsids = set_of.FinSet nat_cmp
 
--- a controller: what its file table gives, its error log newest first, how many commands it refused
--- and how many it took, the NSIDs that are attached to it, and the values of its features. A step
--- books entries without phase tags; the entries of a subsystem in memory have them
+-- a controller: what its table in the file says, its error log, newest first, how many commands it
+-- refused and how many it took, the NSIDs that are attached to it, and the values of its features.
+-- A step logs entries without phase tags; the entries of a subsystem in memory have them
 pub record Controller : Type 0 where
   pub identity : Identity
   pub rules : FeatureRules
@@ -38,7 +38,7 @@ pub record Controller : Type 0 where
   pub attached : Nsids
   pub values : FeatureValues
 
--- a subsystem: the greatest NSID, the capacity in bytes, how metadata may lie, the name, the
+-- a subsystem: the greatest NSID, the capacity in bytes, how metadata can be placed, the name, the
 -- formats, the controllers, and the namespaces by their NSIDs
 pub record State : Type 0 where
   pub nn : ℕ
@@ -52,15 +52,15 @@ pub record State : Type 0 where
 abbrev pub controller_at : State → ℕ → Option Controller
 controller_at s c = slice_get s.controllers c
 
--- the NSIDs of a set, ascending
+-- the NSIDs of a set, in ascending order
 abbrev pub ascending : Nsids → List ℕ
 ascending ns = map_of.keys ns
 
--- the allocated NSIDs, ascending
+-- the allocated NSIDs, in ascending order
 abbrev pub allocated_nsids : State → List ℕ
 allocated_nsids s = map_of.keys s.namespaces
 
--- a list with the element at a place changed, and a subsystem with such a controller
+-- a list with the element at an index changed, and a subsystem with such a controller
 abbrev pub changed_at : {A : Type 0} → List A → ℕ → (A → A) → List A
 changed_at [] n f = []
 changed_at (x ∷ xs) zero f = f x ∷ xs

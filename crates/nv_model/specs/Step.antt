@@ -1,4 +1,4 @@
--- What one command does: its answer, and the state after it.
+-- The effect of one command or a reset: the answer, and the state after it.
 use Rattle.std.specs.Prelude.{ℕ, false, Bool, List, length, map, slice_index_or, if◌then◌else◌, ◌+◌, ◌%◌}
 use Rattle.std.specs.Prelude.{min, ◌∷◌, take, Option, Some, None, Result, Ok, Err}
 use Rattle.std.specs.List.{fold, range_with_len}
@@ -14,8 +14,8 @@ use Rattle.nv_command.specs.declared.reply.Reply.{Reply}
 use Rattle.nv_model.specs.Meaning.{effect_of, refusal_of, reply_of}
 use Rattle.nv_model.specs.Ranges.{greatest_count, serial_count}
 
--- the entry of a refusal: no field of the command is told, and no logical block, and here no phase
--- tag
+-- the log entry of a refusal: it names no field of the command and no logical block, and here it
+-- has no phase tag
 abbrev pub log_entry : ℕ → ℕ → ℕ → Refusal → ErrorEntry
 log_entry count cid nsid r = record {
   count = count;
@@ -30,12 +30,12 @@ log_entry count cid nsid r = record {
   specific = r.specific;
 }
 
--- each current value becomes the saved one, or the default of its key where nothing was saved
+-- each current value becomes the saved one, or the default of its key if none was saved
 abbrev pub all_restored : FeatureRules → FeatureValues → FeatureValues
 all_restored rules values = map_of.from_entries
     (map (λ e. (e.0, restored (first_value rules e.0).current e.1)) (map_of.entries values))
 
--- all else of the controller stays
+-- nothing else of the controller changes
 abbrev pub with_restored : Controller → Controller
 with_restored x = record x { values = all_restored x.rules x.values }
 
@@ -43,7 +43,7 @@ with_restored x = record x { values = all_restored x.rules x.values }
 abbrev pub reset : State → ℕ → State
 reset s c = with_controller s c with_restored
 
--- controller c is reset where it is enabled
+-- controller c is reset if it is enabled
 abbrev pub reset_if : List Bool → State → ℕ → State
 reset_if enabled s c = if slice_index_or enabled c false then reset s c else s
 
@@ -51,11 +51,11 @@ reset_if enabled s c = if slice_index_or enabled c false then reset s c else s
 abbrev pub reset_where : List Bool → State → State
 reset_where enabled s = fold (reset_if enabled) s (range_with_len 0 (length enabled))
 
--- one more, up to the greatest count
+-- one more than a count, up to the greatest count
 abbrev pub next_count : ℕ → ℕ
 next_count n = min (n + 1) greatest_count
 
--- a controller with one refusal more: the newest entry stands first, and ELPE + 1 are kept
+-- a controller after another refusal: its entry is the newest, and ELPE + 1 entries are kept
 abbrev pub with_refusal : ℕ → ℕ → Refusal → Controller → Controller
 with_refusal nsid cid r x =
     let refusals = next_count x.refusals in
@@ -90,6 +90,6 @@ step_by (Some r) s c k cid = record {
 abbrev pub step : State → ℕ → Command → ℕ → Step
 step s c k cid = step_by (refusal_of s c k) s c k cid
 
--- the command identifier after one: FFFFh is never used
+-- the next command identifier: FFFFh is never used
 abbrev pub next_serial : ℕ → ℕ
 next_serial serial = (serial + 1) % serial_count

@@ -1,4 +1,5 @@
--- What holds of every subsystem that a file gives, and after every command.
+-- What holds for every subsystem from a file, and after every command; the unallocated capacity,
+-- and the features that a controller supports.
 use Rattle.std.specs.Prelude.{ℕ, ◌-◌, ◌/◌, ◌^◌, List, sum_by, slice_get, Bool, true, ◌==◌, Option, Some}
 use Rattle.std.specs.Prelude.{None, bit_and, if◌then◌else◌, ◌≡◌, ◌≢◌, ◌+◌, ◌≤◌, ◌&&◌, min, false, length}
 use Rattle.std.specs.Prelude.{count_by, All, AllPairs, IsSomeAnd}
@@ -18,11 +19,11 @@ use Rattle.nv_model.specs.declared.feature_rule.FeatureRule.{FeatureRule}
 use Rattle.nv_model.specs.declared.feature_value.FeatureValue.{FeatureValue}
 use Rattle.nv_layout.specs.ErrorEntry.{ErrorEntryFits}
 
--- the capacities of all namespaces, added up
+-- the sum of the capacities of all namespaces
 abbrev pub used : Namespaces → ℕ
 used namespaces = sum_by (λ x. x.capacity) (map_of.values namespaces)
 
--- the capacity that no namespace has: UNVMCAP
+-- the unallocated capacity: UNVMCAP
 abbrev pub unallocated : State → ℕ
 unallocated s = s.tnvmcap - used s.namespaces
 
@@ -30,8 +31,8 @@ unallocated s = s.tnvmcap - used s.namespaces
 abbrev pub blocks : List Format → Namespace → ℕ
 blocks formats x = option_map_or (λ f. x.capacity / 2 ^ f.lbads) (slice_get formats x.format) 0
 
--- by the file's rules and VWC: Temperature Threshold where the file has a table of it, Volatile
--- Write Cache where there is such a cache (VWC bit 0), and each other one
+-- whether a feature is supported, by the file's rules and VWC: Temperature Threshold if the file has a
+-- table for it, Volatile Write Cache if there is such a cache (VWC bit 0), and every other one
 abbrev pub is_supported : FeatureRules → ℕ → Feature → Bool
 is_supported rules vwc TemperatureThreshold =
     map_of.contains_key rules (row_of TemperatureThreshold).fid
@@ -43,21 +44,21 @@ abbrev pub supported : FeatureRules → ℕ → ℕ → Option Feature
 supported rules vwc fid =
     option_map_or (λ f. if is_supported rules vwc f then Some f else None) (feature_of fid) None
 
--- each rule stands under its feature identifier
+-- each rule has its feature identifier as its key
 abbrev pub AreRules : FeatureRules → Type 0
 AreRules rules = (fid : ℕ) (r : FeatureRule) → map_of.get rules fid ≡ Some r
     → IsFeatureRule r × (r.fid ≡ fid)
 
--- what a feature may have, the saved value too
+-- the values that a feature may have, including the saved one
 abbrev pub may_have : Feature → FeatureValue → Bool
 may_have f x = is_value f x.current && option_map_or (is_value f) x.saved true
 
--- a value under the key of a feature that may have it
+-- a value that the feature of its key may have
 abbrev pub is_value_at : ValueKey → FeatureValue → Bool
 is_value_at k x = option_map_or (λ f. may_have f x) (feature_of k.fid) false
 
--- the NSIDs under which a feature has values: the attached ones where each namespace has a value of
--- its own, and else 0 alone
+-- the NSIDs under which a feature has values: the attached ones if each namespace has a value of
+-- its own, and otherwise only 0
 abbrev pub is_nsid_of : Nsids → Feature → ℕ → Bool
 is_nsid_of attached f nsid =
     if (row_of f).per_namespace then map_of.contains_key attached nsid else nsid == 0
@@ -68,15 +69,15 @@ has_value rules vwc attached k = option_map_or
     (λ f. is_supported rules vwc f && (is_selector f k.selector && is_nsid_of attached f k.nsid))
     (feature_of k.fid) false
 
--- exactly these keys have a value, and one that their feature may have
+-- exactly these keys have a value, which their feature may have
 pub record AreValues (rules : FeatureRules) (vwc : ℕ) (attached : Nsids) (values : FeatureValues)
     : Type 0 where
   pub keys : (k : ValueKey) → map_of.contains_key values k ≡ has_value rules vwc attached k
   pub sound : (k : ValueKey) (x : FeatureValue) → map_of.get values k ≡ Some x
       → is_value_at k x ≡ true
 
--- a controller of the subsystem: what its file table gives is in range, it has only namespaces of
--- the subsystem, and its log has the newest of its refusals
+-- a controller of the subsystem: its table in the file is in range, it has only namespaces of the
+-- subsystem, and its log has the newest of its refusals
 pub record IsController (namespaces : Namespaces) (x : Controller) : Type 0 where
   pub identity : IsIdentity x.identity
   pub rules : AreRules x.rules

@@ -6,14 +6,15 @@ ghost use Rattle.nv_model.specs.Values.{default_at};
 /// The values of a feature before any is set.
 #[derive(Clone, Copy, Debug, PartialEq, Eq)]
 pub enum Defaults {
-    /// Of a feature of one value.
+    /// The default of a feature with one value.
     One(u32),
-    /// Of Temperature Threshold, each list by TMPSEL, in Kelvin.
+    /// The defaults of Temperature Threshold, each list by TMPSEL, in kelvins.
     Thresholds { over: [u16; 9], under: [u16; 9] },
 }
 
 impl Defaults {
-    /// The default under a selector: of thresholds that is TMPSEL, plus 16 for those under.
+    /// Returns the default under a selector. For thresholds this is TMPSEL, plus 16 for those
+    /// under.
     pub fn at(self, selector: u8) -> u32
         ensures { result ≡ default_at self selector }
     {

@@ -5,7 +5,7 @@ ghost use Rattle.nv_model.specs.Values.{at_default, restored, written};
 
 use crate::feature_rule::FeatureRule;
 
-/// The current value of a feature, and the saved one where one was saved. Section "Feature Values".
+/// The current value of a feature, and the saved one if one was saved. Section "Feature Values".
 #[derive(Clone, Copy, Debug, PartialEq, Eq)]
 pub struct FeatureValue {
     pub current: u32,
@@ -13,7 +13,7 @@ pub struct FeatureValue {
 }
 
 impl FeatureValue {
-    /// The value under a selector before any is set.
+    /// Returns the value under a selector before any is set.
     pub fn at_default(rule: FeatureRule, selector: u8) -> FeatureValue
         ensures { result ≡ at_default rule selector }
     {
@@ -23,7 +23,7 @@ impl FeatureValue {
         }
     }
 
-    /// With another current value, which is saved too where that is asked for.
+    /// Returns it with another current value, which is also saved if `save` is set.
     pub fn written(self, value: u32, save: bool) -> FeatureValue
         ensures { result ≡ written value save self }
     {
@@ -33,7 +33,7 @@ impl FeatureValue {
         }
     }
 
-    /// With the saved value as the current one, or the default where nothing was saved.
+    /// Returns it with the saved value as the current one, or with the default if none was saved.
     pub fn restored(self, default: u32) -> FeatureValue
         ensures { result ≡ restored default self }
     {

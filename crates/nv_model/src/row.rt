@@ -5,7 +5,7 @@ ghost use Rattle.nv_model.specs.Conditions.{row};
 
 use nv_command::{Refusal, StatusCode};
 
-/// A condition, and the refusal where it holds.
+/// A condition, and the refusal if it holds.
 #[derive(Clone, Copy, Debug, PartialEq, Eq)]
 pub struct Row {
     pub when: bool,
@@ -13,7 +13,7 @@ pub struct Row {
 }
 
 impl Row {
-    /// A row with nothing specific to its command.
+    /// Creates a row whose refusal has no command specific information.
     pub fn new(when: bool, code: StatusCode) -> Row
         ensures { result ≡ row when code }
     {

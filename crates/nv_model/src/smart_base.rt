@@ -1,6 +1,6 @@
-//! What a file gives of a health log.
+//! What a file says about a health log.
 
-/// The counters of the health log that the file gives ("SMART / Health Information").
+/// The counters of the health log that the file sets. Section "SMART / Health Information".
 #[derive(Clone, Copy, Debug, PartialEq, Eq)]
 pub struct Counters {
     /// Thousands of 512 bytes that hosts read.
@@ -17,7 +17,7 @@ pub struct Counters {
     pub media_errors: u64,
 }
 
-/// What the file gives of the health log ("SMART / Health Information").
+/// What the file says about the health log. Section "SMART / Health Information".
 #[derive(Clone, Copy, Debug, PartialEq, Eq)]
 pub struct SmartBase {
     /// The bits of the warnings.
@@ -35,6 +35,6 @@ pub struct SmartBase {
     pub warning_temp_time: u32,
     /// Minutes at a critical temperature.
     pub critical_comp_time: u32,
-    /// The temperature sensors in Kelvin; 0 is a sensor that isn't there.
+    /// The temperature sensors, in kelvins. 0 means that there is no such sensor.
     pub sensors: [u16; 8],
 }

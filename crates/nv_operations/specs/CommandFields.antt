@@ -9,17 +9,19 @@ use Rattle.nv_command.specs.declared.command.Command.TheVariants.{GetLog, Identi
 use Rattle.nv_command.specs.declared.command.Command.TheVariants.{IdentifyNamespace, SetFeature}
 use Rattle.nv_command.specs.declared.features.FeatureQuery.{FeatureQuery}
 use Rattle.nv_command.specs.declared.features.FeatureSetting.{FeatureSetting}
+use Rattle.nv_command.specs.declared.format.NewFormat.{NewFormat}
 use Rattle.nv_command.specs.declared.logs.LogQuery.{LogQuery}
+use Rattle.nv_command.specs.declared.management.NewNamespace.{NewNamespace}
 use Rattle.nv_operations.specs.Field.{Field, number, numbers}
 
-abbrev pub fields_of_creation : ℕ → ℕ → ℕ → ℕ → ℕ → List Field
-fields_of_creation nsze ncap flbas dps nmic =
+abbrev pub fields_of_creation : NewNamespace → List Field
+fields_of_creation w =
     number (codes "create") 0
-    ∷ number (codes "nsze") nsze
-    ∷ number (codes "ncap") ncap
-    ∷ number (codes "flbas") flbas
-    ∷ number (codes "dps") dps
-    ∷ number (codes "nmic") nmic
+    ∷ number (codes "nsze") w.nsze
+    ∷ number (codes "ncap") w.ncap
+    ∷ number (codes "flbas") w.flbas
+    ∷ number (codes "dps") w.dps
+    ∷ number (codes "nmic") w.nmic
     ∷ []
 
 abbrev pub fields_of_attachment : ℕ → Bool → List ℕ → List Field
@@ -28,14 +30,14 @@ fields_of_attachment nsid detach cntlids =
     ∷ numbers (codes "cntlids") cntlids
     ∷ []
 
-abbrev pub fields_of_format : ℕ → ℕ → Bool → ℕ → Bool → ℕ → List Field
-fields_of_format nsid lbaf mset pi pil ses =
-    number (codes "format") nsid
-    ∷ number (codes "lbaf") lbaf
-    ∷ number (codes "mset") (bit mset)
-    ∷ number (codes "pi") pi
-    ∷ number (codes "pil") (bit pil)
-    ∷ number (codes "ses") ses
+abbrev pub fields_of_format : NewFormat → List Field
+fields_of_format f =
+    number (codes "format") f.nsid
+    ∷ number (codes "lbaf") f.lbaf
+    ∷ number (codes "mset") (bit f.mset)
+    ∷ number (codes "pi") f.pi
+    ∷ number (codes "pil") (bit f.pil)
+    ∷ number (codes "ses") f.ses
     ∷ []
 
 abbrev pub fields_of_query : FeatureQuery → List Field
@@ -69,10 +71,10 @@ fields_of_command (IdentifyNamespace n) = number (codes "identify_namespace") n 
 fields_of_command (AllocatedNamespace n) = number (codes "allocated_namespace") n ∷ []
 fields_of_command (ActiveList after) = number (codes "active_list") after ∷ []
 fields_of_command (AllocatedList after) = number (codes "allocated_list") after ∷ []
-fields_of_command (Create nsze ncap flbas dps nmic) = fields_of_creation nsze ncap flbas dps nmic
+fields_of_command (Create w) = fields_of_creation w
 fields_of_command (Delete n) = number (codes "delete") n ∷ []
 fields_of_command (Attachment n detach ids) = fields_of_attachment n detach ids
-fields_of_command (Format n lbaf mset pi pil ses) = fields_of_format n lbaf mset pi pil ses
+fields_of_command (Format f) = fields_of_format f
 fields_of_command (GetFeature q) = fields_of_query q
 fields_of_command (SetFeature x) = fields_of_setting x
 fields_of_command (GetLog q) = fields_of_log_query q

@@ -1,5 +1,5 @@
 -- The operations: the words that name them, and the fields that their lines may have.
-use Rattle.std.specs.Prelude.{ℕ, Bool, true, ◌&&◌, List, [], ◌∷◌, Option, codes, find}
+use Rattle.std.specs.Prelude.{ℕ, Bool, true, ◌&&◌, List, [], ◌∷◌, ◌++◌, Option, codes, find, map}
 use Rattle.std.specs.Str.{bytes_eq}
 use Rattle.nv_operations.specs.Commands.{command_rows, command_word}
 use Rattle.nv_operations.specs.ControllerOperations.{controller_rows, controller_word}
@@ -21,9 +21,13 @@ use Rattle.nv_operations.specs.declared.operation.Operation.TheVariants.{Load, M
 use Rattle.nv_operations.specs.declared.operation.Operation.TheVariants.{Sizes, Spread, Store, Walk}
 use Rattle.nv_operations.specs.declared.operation.Operation.TheVariants.{BringUp, Controller, Controllers}
 use Rattle.nv_operations.specs.declared.operation.Operation.TheVariants.{Driver, Subsystem}
-use Rattle.nv_operations.specs.declared.operation.TheConstants.{OPERATIONS}
+use Rattle.nv_operations.specs.declared.commands.CommandOperation.TheVariants as command
+use Rattle.nv_operations.specs.declared.controller_operation.ControllerOperation.TheVariants as asked
+use Rattle.nv_operations.specs.declared.driver_operation.DriverOperation.TheVariants as driven
 use Rattle.nv_operations.specs.declared.record.RecordKind.{RecordKind}
 use Rattle.nv_operations.specs.declared.record.RecordKind.TheVariants as kind
+use Rattle.nv_operations.specs.declared.registers.RegisterOperation.TheVariants as register
+use Rattle.nv_operations.specs.declared.rings.RingOperation.TheVariants as ring
 
 abbrev pub word_of : Operation → List ℕ
 word_of (Put k) = codes "put"
@@ -56,8 +60,28 @@ is_for second o = true
 abbrev pub is_named : List ℕ → List ℕ → Operation → Bool
 is_named first second o = bytes_eq first (word_of o) && is_for second o
 
+abbrev pub records : List RecordKind
+records =
+    kind.Sqe ∷ kind.Cqe ∷ kind.Status ∷ kind.Lbaf ∷ kind.IdNs ∷ kind.IdCtrl ∷ kind.NsList ∷ kind.CtrlList
+    ∷ kind.Smart ∷ kind.ErrorEntry ∷ []
+
+-- each operation, which its words name
+abbrev pub operations : List Operation
+operations =
+    map Put records
+    ++ map Get records
+    ++ Memory ∷ Sizes ∷ Load ∷ Store ∷ Page ∷ Build ∷ Walk ∷ Spread ∷ CopyOut ∷ CopyIn ∷ []
+    ++ map Register (register.PowerOn ∷ register.Read ∷ register.Write ∷ register.State ∷ register.Fail ∷ [])
+    ++ map Command (command.Read ∷ command.Transfer ∷ command.HostData ∷ command.StatusName ∷ [])
+    ++ map Ring (ring.Begin ∷ ring.Renew ∷ ring.Zero ∷ ring.Submit ∷ ring.Tail ∷ ring.Take ∷ ring.Post
+    ∷ ring.Collect ∷ ring.Free ∷ ring.Tell ∷ ring.Head ∷ ring.State ∷ [])
+    ++ Subsystem ∷ Controllers ∷ []
+    ++ map Controller (asked.Read ∷ asked.Write ∷ asked.Turn ∷ asked.Counts ∷ asked.LogEntry ∷ [])
+    ++ BringUp ∷ []
+    ++ map Driver (driven.Passthrough ∷ driven.Reset ∷ [])
+
 abbrev pub operation_named : List ℕ → List ℕ → Option Operation
-operation_named first second = find (is_named first second) OPERATIONS
+operation_named first second = find (is_named first second) operations
 
 abbrev pub words_used : Operation → ℕ
 words_used (Put k) = 2

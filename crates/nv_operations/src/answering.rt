@@ -10,7 +10,7 @@ use crate::refusal::Refusal;
 use crate::session::Session;
 use crate::shown::push_fields;
 use crate::slip::Fault;
-use crate::word::{is_skipped_line, split_words};
+use nv_line::{is_skipped_line, split_words};
 use std::alloc::{AllocError, Global};
 
 /// What a line asks for.

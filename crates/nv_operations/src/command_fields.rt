@@ -11,8 +11,8 @@ use crate::field::Field;
 use crate::fields::Fields;
 use crate::list_records::wide_cntlids;
 use crate::value::Value;
-use nv_command::{Command, FeatureQuery, FeatureSetting, LogQuery};
-use nv_layout::{ControllerIds, FourBits, ThreeBits};
+use nv_command::{Command, FeatureQuery, FeatureSetting, LogQuery, NewFormat, NewNamespace};
+use nv_layout::ControllerIds;
 use std::alloc::{AllocError, Global};
 
 /// What is asked of a feature. Section "Get Features command".
@@ -52,37 +52,30 @@ fn log_fields(asked: LogQuery) -> [Field; 4]
 }
 
 /// What is chosen of a namespace to create. Section "Namespace Management command".
-fn creation_fields(nsze: u64, ncap: u64, flbas: u8, dps: u8, nmic: u8) -> [Field; 6]
-    ensures { result ≡ fields_of_creation nsze ncap flbas dps nmic }
+fn creation_fields(wanted: NewNamespace) -> [Field; 6]
+    ensures { result ≡ fields_of_creation wanted }
 {
     [
         Field::number("create", 0),
-        Field::number("nsze", nsze),
-        Field::number("ncap", ncap),
-        Field::number("flbas", u64::from(flbas)),
-        Field::number("dps", u64::from(dps)),
-        Field::number("nmic", u64::from(nmic)),
+        Field::number("nsze", wanted.nsze),
+        Field::number("ncap", wanted.ncap),
+        Field::number("flbas", u64::from(wanted.flbas)),
+        Field::number("dps", u64::from(wanted.dps)),
+        Field::number("nmic", u64::from(wanted.nmic)),
     ]
 }
 
 /// How a namespace is to be formatted. Section "Format NVM command".
-fn format_fields(
-    nsid: u32,
-    lbaf: FourBits,
-    mset: bool,
-    pi: ThreeBits,
-    pil: bool,
-    ses: ThreeBits,
-) -> [Field; 6]
-    ensures { result ≡ fields_of_format nsid lbaf mset pi pil ses }
+fn format_fields(asked: NewFormat) -> [Field; 6]
+    ensures { result ≡ fields_of_format asked }
 {
     [
-        Field::number("format", u64::from(nsid)),
-        Field::number("lbaf", u64::from(lbaf.get())),
-        Field::number("mset", u64::from(mset)),
-        Field::number("pi", u64::from(pi.get())),
-        Field::number("pil", u64::from(pil)),
-        Field::number("ses", u64::from(ses.get())),
+        Field::number("format", u64::from(asked.nsid)),
+        Field::number("lbaf", u64::from(asked.lbaf.get())),
+        Field::number("mset", u64::from(asked.mset)),
+        Field::number("pi", u64::from(asked.pi.get())),
+        Field::number("pil", u64::from(asked.pil)),
+        Field::number("ses", u64::from(asked.ses.get())),
     ]
 }
 
@@ -121,29 +114,13 @@ pub(crate) fn command_fields(alloc: Global, command: &Command) -> Result<Fields,
         Command::AllocatedNamespace { .. } => name_alone(alloc, "allocated_namespace", nsid),
         Command::ActiveList { .. } => name_alone(alloc, "active_list", nsid),
         Command::AllocatedList { .. } => name_alone(alloc, "allocated_list", nsid),
-        Command::Create {
-            nsze,
-            ncap,
-            flbas,
-            dps,
-            nmic,
-        } => Ok(Fields::of(Vec::from_array(
+        Command::Create(wanted) => Ok(Fields::of(Vec::from_array(
             alloc,
-            creation_fields(*nsze, *ncap, *flbas, *dps, *nmic),
+            creation_fields(*wanted),
         )?)),
         Command::Delete { .. } => name_alone(alloc, "delete", nsid),
         Command::Attachment { detach, list, .. } => attachment_fields(alloc, nsid, *detach, list),
-        Command::Format {
-            lbaf,
-            mset,
-            pi,
-            pil,
-            ses,
-            ..
-        } => Ok(Fields::of(Vec::from_array(
-            alloc,
-            format_fields(nsid, *lbaf, *mset, *pi, *pil, *ses),
-        )?)),
+        Command::Format(asked) => Ok(Fields::of(Vec::from_array(alloc, format_fields(*asked))?)),
         Command::GetFeature(asked) => Ok(Fields::of(Vec::from_array(alloc, query_fields(*asked))?)),
         Command::SetFeature(asked) => Ok(Fields::of(Vec::from_array(
             alloc,

@@ -38,7 +38,6 @@ mod shown;
 mod slip;
 mod transfers;
 mod value;
-mod word;
 mod words;
 
 pub use answering::{Request, read_line};

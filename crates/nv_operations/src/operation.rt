@@ -56,7 +56,7 @@ pub enum Operation {
 }
 
 /// Every operation.
-pub const OPERATIONS: [Operation; 61] = [
+const OPERATIONS: [Operation; 61] = [
     Operation::Put(RecordKind::Sqe),
     Operation::Put(RecordKind::Cqe),
     Operation::Put(RecordKind::Status),

@@ -4,6 +4,7 @@ ghost use Rattle.std.specs.Prelude.{◌≡◌, length};
 
 use crate::checks::{check_bytes, check_text};
 use nv_host::*;
+use std::alloc::Global;
 use std::process::Abort;
 
 /// A load into these bytes fits, or leaves the memory.
@@ -22,12 +23,12 @@ fn check_store(rt: &impl Abort, mem: &mut FlatMemory, addr: u64, bytes: &[u8], f
 
 #[test]
 #[tactic(auto, unfolding(nv_host::specs::Pages::IsPageSize))]
-fn pages_that_are_lent(rt: HostRuntime) {
+fn pages_that_meet(rt: HostRuntime) {
     let Ok(mut mem) = FlatMemory::new(rt.alloc(), 4096, 3) else {
         assert!(rt; false, "out of memory");
         return;
     };
-    mem.page_mut(1)[4095] = 9;
+    check_store(&rt, &mut mem, 0x1fff, &[9], true);
     let mut two = [7; 2];
     check_load(&rt, &mem, 0x1fff, &mut two, true);
     check_bytes(&rt, &two, &[9, 0], "across pages");
@@ -51,7 +52,7 @@ fn check_take(rt: &impl Abort, pages: &mut PageSet, want: Option<PageNo>) {
 }
 
 #[test]
-#[tactic(auto, using(nv_host::specs::inner::PageSets::contains_of_insert, nv_host::specs::inner::PageSets::contains_of_remove, std::proofs::lemmas::Bool::Decides::nat_tests))]
+#[tactic(auto, using(crate::proofs::SetLaws::given, crate::proofs::SetLaws::taken, crate::proofs::SetLaws::nat_tests))]
 fn pages_given_in_reverse(rt: HostRuntime) {
     let Ok(mut pages) = PageSet::new(rt.alloc(), 0, 2) else {
         assert!(rt; false, "out of memory");
@@ -87,14 +88,18 @@ fn errors_as_text(rt: HostRuntime) {
     check_text(&rt, memory.as_str(), "out of memory", "an error");
 }
 
+/// A memory of sixteen pages.
+#[tactic(auto, unfolding(nv_host::specs::Pages::IsPageSize))]
+fn sixteen_pages(alloc: Global) -> Result<FlatMemory, Memory> {
+    FlatMemory::new(alloc, 4096, 16)
+}
+
 /// The crate page's example.
 #[test]
-#[tactic(auto, using(nv_host::specs::inner::PageSets::contains_of_remove, std::proofs::lemmas::Bool::Decides::nat_tests), unfolding(nv_host::specs::Pages::IsPageSize))]
+#[tactic(auto, using(crate::proofs::SetLaws::taken, crate::proofs::SetLaws::nat_tests))]
 fn page_taken_and_filled(rt: HostRuntime) {
-    let (Ok(mut mem), Ok(mut free)) = (
-        FlatMemory::new(rt.alloc(), 4096, 16),
-        PageSet::new(rt.alloc(), 4, 12),
-    ) else {
+    let (Ok(mut mem), Ok(mut free)) = (sixteen_pages(rt.alloc()), PageSet::new(rt.alloc(), 4, 12))
+    else {
         assert!(rt; false, "out of memory");
         return;
     };

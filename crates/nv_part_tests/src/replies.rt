@@ -87,14 +87,14 @@ fn replies_to_features_and_formats(rt: HostRuntime) {
     room.read(&set, 5, &[]);
     assert!(rt; matches!(room.reply(), Reply::Done));
     room.keep(&Reply::Number(7));
-    let format = Command::Format {
+    let format = Command::Format(NewFormat {
         nsid: 7,
         lbaf: FourBits::low(0),
         mset: false,
         pi: ThreeBits::low(0),
         pil: false,
         ses: ThreeBits::low(0),
-    };
+    });
     room.read(&format, 5, &[]);
     assert!(rt; matches!(room.reply(), Reply::Done));
 }
@@ -107,13 +107,13 @@ fn replies_of_management(rt: HostRuntime) {
     Reply::Done.put(&mut page);
     check_bytes(&rt, &page, &[0xee; 4096], "no page");
     let mut room = ReplyRoom::new();
-    let create = Command::Create {
+    let create = Command::Create(NewNamespace {
         nsze: 9,
         ncap: 9,
         flbas: 0,
         dps: 0,
         nmic: 1,
-    };
+    });
     room.read(&create, 4, &[]);
     match room.reply() {
         Reply::Number(nsid) => check_number(&rt, u64::from(nsid), 4, "of a creation"),

@@ -1,4 +1,4 @@
--- From what a call answers to how long it is.
+-- From the result of a call to its length.
 use Rattle.std.proofs.Common.{◌≡◌, ℕ, ◌≤◌, List, Result, Ok, Err, length, string_bytes}
 use Rattle.std.specs.Prelude.{OnOk, String}
 use Rattle.std.specs.Result.{IfOk}

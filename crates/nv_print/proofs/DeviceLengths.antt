@@ -1,4 +1,4 @@
--- How long what is shown of a device is.
+-- How long the text and the JSON of a device are.
 use Rattle.std.proofs.Common.{◌≡◌, ℕ, zero, suc, ◌+◌, ◌*◌, ◌/◌, ◌%◌, ◌^◌, ◌<◌, ◌≤◌, arith, Bool, true, false, refl}
 use Rattle.std.proofs.Common.{List, [], ◌∷◌, ◌++◌, length, length-append, get_or}
 use Rattle.std.specs.Prelude.{codes, ◌==◌, nat_le, if◌then◌else◌}

@@ -1,4 +1,4 @@
--- One field more.
+-- Texts to which one more field is added.
 use Rattle.std.proofs.Common.{◌≡◌, ◌∙◌, ℕ, ◌+◌, ◌<◌, ap, ap₂, append_assoc, sym, List, [], ◌∷◌, ◌++◌, length, take}
 use Rattle.std.proofs.Common.{get_or}
 use Rattle.std.proofs.lemmas.List.{flat_map_more, take_more}
@@ -9,17 +9,21 @@ use Rattle.nv_print.specs.Field.{Field}
 pub and_field : {x y : Field} {xs ys : List Field} → x ≡ y → xs ≡ ys → x ∷ xs ≡ y ∷ ys
 and_field e es = ap₂ (λ x xs. x ∷ xs) e es
 
+-- one field alone
+pub and_last : {x y : Field} → x ≡ y → x ∷ [] ≡ y ∷ []
+and_last e = ap (λ x. x ∷ []) e
+
 -- a text that was added to three times
 pub three_more : (text a b c : List ℕ) → ((text ++ a) ++ b) ++ c ≡ text ++ (a ++ (b ++ c))
 three_more text a b c = append_assoc (text ++ a) b c ∙ append_assoc text a (b ++ c)
 
--- a text that a list's elements were added to, and one more
+-- a text to which the texts of a list's elements were added, and one more
 pub flat_map_next : {A : Type 0} (f : A → List ℕ) (text : List ℕ) (xs : List A) (i : ℕ) (d : A) → i < length xs
     → (text ++ flat_map f (take i xs)) ++ f (get_or xs i d) ≡ text ++ flat_map f (take (i + 1) xs)
 flat_map_next f text xs i d h = flat_map_more f text (take i xs) (get_or xs i d)
     ∙ ap (λ ys. text ++ flat_map f ys) (sym (take_more xs i d h))
 
--- a text that the parts of a field's line were added to
+-- a text to which the parts of a field's line were added
 pub line_more : (text key room colon value end : List ℕ)
     → (((text ++ key) ++ (room ++ colon)) ++ value) ++ end ≡ text ++ ((key ++ room) ++ (colon ++ (value ++ end)))
 line_more text key room colon value end =
@@ -29,7 +33,7 @@ line_more text key room colon value end =
     (ap (λ rest. key ++ rest) (append_assoc room colon (value ++ end))
     ∙ sym (append_assoc key room (colon ++ (value ++ end))))
 
--- a text that the parts of a field within a line were added to
+-- a text to which the parts of a field within a line were added
 pub within_more : (text key value : List ℕ)
     → (((text ++ 32 ∷ []) ++ key) ++ 58 ∷ []) ++ value ≡ text ++ (32 ∷ (key ++ 58 ∷ value))
 within_more text key value =

@@ -1,4 +1,4 @@
--- One item more of those that are chosen.
+-- One more of the items that are chosen.
 use Rattle.std.proofs.Common.{◌≡◌, ◌∙◌, ℕ, ◌+◌, ◌<◌, ap, refl, sym, Bool, true, false, List, [], ◌∷◌, ◌++◌, length}
 use Rattle.std.proofs.Common.{take, get_or, map}
 use Rattle.std.specs.Prelude.{filter, if◌then◌else◌}
@@ -11,7 +11,7 @@ chosen : {A : Type 0} (b : Bool) (data_of : A → Data) (x : A)
 chosen true data_of x = refl
 chosen false data_of x = refl
 
--- what stands for those of a list's elements that are chosen, and one more
+-- the data of those elements of a list that are chosen, and one more
 pub chosen_next : {A : Type 0} (test : A → Bool) (data_of : A → Data) (xs : List A) (i : ℕ) (d : A) → i < length xs
     → map data_of (filter test (take i xs)) ++ (if test (get_or xs i d) then data_of (get_or xs i d) ∷ [] else [])
     ≡ map data_of (filter test (take (i + 1) xs))

@@ -12,7 +12,7 @@ use Rattle.serde_json.specs.Written.{comma_if, compact_text, items_text, members
 use Rattle.nv_print.specs.Field.{Field, object_of, shape_data, with_fields}
 use Rattle.nv_print.proofs.Lengths.{quoted_length}
 
--- what a member adds at most: its key, a colon, its value and a comma
+-- the greatest length that a member adds: its key, a colon, its value and a comma
 abbrev pub member_length : List ℕ → Data → ℕ
 member_length k d = length (quoted k) + length (compact_text d) + 2
 
@@ -46,7 +46,7 @@ put_length later k d no_members = omega (arith, one_member later k d no_members,
 put_length later k d (member l e ms) =
     placed (slice_cmp nat_cmp k l) later k l d e ms (put k d ms) (put_length true k d ms)
 
--- what fields add at most
+-- the greatest length that fields add
 abbrev pub members_length : List Field → ℕ
 members_length [] = 0
 members_length (f ∷ fields) = member_length f.key (shape_data f.shape) + members_length fields
@@ -64,7 +64,7 @@ with_fields_length (f ∷ fields) ms =
 pub object_length : (fields : List Field) → length (compact_text (object_of fields)) ≤ 2 + members_length fields
 object_length fields = omega (arith, with_fields_length fields no_members)
 
--- a list whose elements' texts have so many bytes at most
+-- a list in which the text of each element has at most `most` bytes
 pub items_length : {A : Type 0} (data_of : A → Data) (most : ℕ) (later : Bool) (xs : List A)
     → All (λ x. length (compact_text (data_of x)) ≤ most) xs
     → length (items_text later (items_of (map data_of xs))) ≤ 1 + (most + 1) * length xs
@@ -92,7 +92,7 @@ list_object_length key data_of most xs each =
       quoted_length key,
     )
 
--- one item more
+-- one more item
 items_append_length : (later : Bool) (ds : List Data) (d : Data)
     → length (items_text later (items_of (ds ++ d ∷ [])))
     ≤ length (items_text later (items_of ds)) + (length (compact_text d) + 1)

@@ -67,7 +67,7 @@ quoted_length s = omega (arith, length-append (escape s) (34 ∷ []), escape_len
 pub decimal_short : (n : ℕ) → n < 2 ^ 64 → length (decimal n) ≤ 20
 decimal_short n h = length-decimal-le 20 n (omega arith) (omega arith) h
 
--- a number below p sixteens more has one digit more at most
+-- a number below 16 ^ (k + 1) adds at most k + 1 digits
 hexadecimal_onto : (k fuel n : ℕ) (acc : List ℕ) → n < 16 ^ suc k
     → length (digits_onto fuel 16 false n acc) ≤ suc k + length acc
 hexadecimal_onto k zero n acc h = omega arith

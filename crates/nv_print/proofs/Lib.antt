@@ -2,7 +2,6 @@ pub mod Padding
 pub mod Fields
 pub mod Items
 pub mod Sent
-pub mod KeyOrder
 pub mod NoFloats
 pub mod NumberedLines
 pub mod PrintableLaws

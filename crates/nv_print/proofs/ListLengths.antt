@@ -1,4 +1,4 @@
--- How long what is shown of lists is.
+-- How long the texts and the JSON of lists are.
 use Rattle.std.proofs.Common.{ℕ, suc, ◌+◌, ◌*◌, ◌^◌, ◌<◌, ◌≤◌, arith, Bool, true, false, List, [], ◌∷◌, ◌++◌, length}
 use Rattle.std.proofs.Common.{length-append, map, min, get_or, ◌%◌}
 use Rattle.std.specs.Prelude.{codes, ◌==◌, filter, flat_map, if◌then◌else◌, ⊤}
@@ -26,7 +26,7 @@ use Rattle.nv_print.proofs.Lengths.{decimal_length, decimal_short, hexadecimal_s
 use Rattle.nv_print.proofs.RecordLengths.{entry_json, entry_text_length, id_ns_members, id_ns_text, lbaf_json}
 use Rattle.nv_print.proofs.RecordLengths.{lbaf_width}
 
--- lines of so many bytes at most, while their indexes are below a limit
+-- lines of at most `most` bytes each, as long as their indices are below a limit
 lines_length : {A : Type 0} (line : ℕ → A → List ℕ) (fits : A → Type 0) (limit most : ℕ)
     → ((i : ℕ) (x : A) → i < limit → fits x → length (line i x) ≤ most)
     → (i : ℕ) (xs : List A) → i + length xs ≤ limit → All fits xs → length (lines_of line i xs) ≤ most * length xs

@@ -1,4 +1,4 @@
--- A number on the right of some places, and what stands behind a key.
+-- A number at the right of a column, and the text after a key.
 use Rattle.std.proofs.Common.{◌≡◌, ◌∙◌, ℕ, ◌-◌, ◌^◌, ◌≤◌, zero, suc, ap, cond, refl, arith, Bool, false, true, List, []}
 use Rattle.std.proofs.Common.{◌∷◌, ◌++◌, append-nil, drop, length}
 use Rattle.std.specs.Prelude.{◌&&◌, ◌==◌, codes, replicate}
@@ -34,7 +34,7 @@ right_aligned width ds =
     aligned ds (number_padding s false [] (length ds)) (width - length ds) (fill_after_digits s false [] (length ds))
     (omega arith) (omega arith)
 
--- the same of a number, also where no place is wanted
+-- the same for a number, even if the width is 0
 pub right_decimal : (width n : ℕ) → styled_decimal (format_spec 32 3 0 width (2 ^ 64 - 1)) n ≡ right width (decimal n)
 right_decimal width n = at_test (width == 0) refl
   where
@@ -46,7 +46,7 @@ right_decimal width n = at_test (width == 0) refl
         ap (λ (k : ℕ). replicate {A = ℕ} k 32 ++ decimal n) none
     at_test false e = right_aligned width (decimal n)
 
--- no text in so many places
+-- an empty text in a column of n characters
 pub filled : (n : ℕ) → styled_text (format_spec 32 0 0 n (2 ^ 64 - 1)) [] ≡ replicate n 32
 unfolding padded char_count take_chars encode
 filled n = at_test (n == 0) refl
@@ -58,7 +58,7 @@ filled n = at_test (n == 0) refl
     at_test false e =
         let all : n - 0 - 0 ≡ n = omega arith in ap (λ k. repeat k (32 ∷ [])) all ∙ repeated n 32
 
--- digits behind zeros
+-- digits after zeros
 pub zero_padded : (width : ℕ) (ds : List ℕ)
     → padded_integral (format_spec 32 0 4 width (2 ^ 64 - 1)) false [] ds ≡ replicate (width - length ds) 48 ++ ds
 unfolding padded_integral char_count encode
@@ -83,7 +83,7 @@ gap_cut n =
     let within : 20 - n ≤ 22 = omega arith in
     IsCharBoundary-from_ascii (codes "                    : ") (20 - n) ascii within
 
--- what is left of it behind a key
+-- the rest of the gap after a key
 pub gap_is : (room k : ℕ) → room ≡ 20 - k
     → drop (20 - room) (codes "                    : ") ≡ replicate (20 - k) 32 ++ codes ": "
 gap_is room k is =

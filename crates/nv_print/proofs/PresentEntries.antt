@@ -1,4 +1,4 @@
--- What is shown of a log is shown of the entries that it has: those past them hold no error.
+-- The text of a log is that of the entries that it has, because those after them hold no error.
 use Rattle.std.proofs.Common.{◌≡◌, ◌∙◌, ℕ, zero, suc, ◌+◌, ◌-◌, List, [], ◌∷◌, ◌++◌, ap, length, refl, replicate}
 use Rattle.std.proofs.Common.{sym, take}
 use Rattle.std.specs.Prelude.{filter, if◌then◌else◌}

@@ -1,4 +1,4 @@
--- How long what is shown of a record is.
+-- How long the text and the JSON of a record are.
 use Rattle.std.proofs.Common.{◌+◌, ◌*◌, ◌≤◌, arith, length}
 use Rattle.serde_json.specs.Written.{compact_text}
 use Rattle.nv_layout.specs.declared.error_entry.ErrorEntry.{ErrorEntry}

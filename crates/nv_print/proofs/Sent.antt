@@ -1,27 +1,24 @@
 -- From what is sent in turn to what is sent of a whole.
-use Rattle.std.proofs.Common.{◌≡◌, ◌∙◌, ℕ, ◌+◌, ◌<◌, ◌≤◌, ap, arith, refl, sym, subst, true, List, [], ◌∷◌, ◌++◌}
+use Rattle.std.proofs.Common.{◌≡◌, ◌∙◌, ℕ, ◌+◌, ◌<◌, ◌≤◌, ap, arith, sym, subst, List, [], ◌∷◌, ◌++◌}
 use Rattle.std.proofs.Common.{length, take, get_or, map, Some}
-use Rattle.std.specs.Prelude.{nat_lt}
-use Rattle.std.proofs.lemmas.Bool.Decides.{nat_tests}
-use Rattle.std.proofs.lemmas.List.{get_or_read_under, length-map, map_more, take_all}
-use Rattle.std.proofs.lemmas.List.Sums.{AllPass-from_list_all}
+use Rattle.std.proofs.lemmas.List.{length-map, map_more, take_all, take_more}
 use Rattle.serde.specs.Event as event
 use Rattle.serde.specs.Event.{Log, Logs, WritesEach, WritesSeq}
 use Rattle.serde.proofs.Events.{WritesEach-snoc}
-use Rattle.serde_json.specs.Data.{Data, Members, array, no_members, number, object, put, unsigned}
+use Rattle.serde_json.specs.Data.{Data, Members, array, member, no_members, number, object, put, unsigned}
 use Rattle.serde_json.specs.Events.{SendsItems, SendsMembers, SendsValue, items_len, members_len}
 use Rattle.serde_json.specs.View.{items_of}
-use Rattle.nv_print.specs.Field.{Field, field, in_decimal}
-use Rattle.nv_print.specs.inner.Sends.{ArePlaces, SendsField, SendsMember, before, picked}
+use Rattle.nv_print.specs.Field.{Field}
+use Rattle.nv_print.specs.inner.Sends.{SendsField, SendsMember, before}
 
--- ---- one more
+-- ---- one more value
 
 pub each_append : {A : Type 0} (w : A → Log → Log → Type 0) (xs ys : List A) (old mid new : Log)
     → WritesEach w xs old mid → WritesEach w ys mid new → WritesEach w (xs ++ ys) old new
 each_append w [] ys old mid new h k = subst (λ l. WritesEach w ys l new) h k
 each_append w (x ∷ xs) ys old mid new h k = (h.0, h.1, each_append w xs ys h.0 mid new h.2 k)
 
--- values that stand for a list's elements, and one more
+-- the values of a list's elements, and one more
 pub each_next : {A : Type 0} (data_of : A → Data) (xs : List A) (i : ℕ) (d : A) (old mid new : Log) → i < length xs
     → WritesEach SendsValue (map data_of (take i xs)) old mid → SendsValue (data_of (get_or xs i d)) mid new
     → WritesEach SendsValue (map data_of (take (i + 1) xs)) old new
@@ -29,29 +26,16 @@ each_next data_of xs i d old mid new h before this =
     subst (λ ds. WritesEach SendsValue ds old new) (sym (map_more data_of xs i d h))
     (WritesEach-snoc SendsValue (map data_of (take i xs)) (data_of (get_or xs i d)) old mid new before this)
 
-pub place_within : (places : List ℕ) (fields : List Field) (i : ℕ) → ArePlaces places fields → i < length places
-    → get_or places i 0 < length fields
-place_within places fields i all h =
-    let at : nat_lt (get_or places i 0) (length fields) ≡ true =
-    AllPass-from_list_all (λ k. nat_lt k (length fields)) places all i 0 h in
-    grind (arith, nat_tests)
-
-pub fields_next : (fields : List Field) (places : List ℕ) (i : ℕ) (x : Field) (old mid new : Log)
-    → ArePlaces places fields → i < length places → x ≡ get_or fields (get_or places i 0) x
-    → WritesEach SendsField (picked fields (take i places)) old mid → SendsField x mid new
-    → WritesEach SendsField (picked fields (take (i + 1) places)) old new
-fields_next fields places i x old mid new all h is sent this =
-    let none : Field = field [] (in_decimal 0) in
-    let pick : ℕ → Field = λ k. get_or fields k none in
-    let so_far : List Field = picked fields (take i places) in
-    let same : x ≡ get_or fields (get_or places i 0) none =
-    get_or_read_under fields (get_or places i 0) (length fields) x none is
-    (place_within places fields i all h) refl in
+-- fields, and one more
+pub field_next : (fields : List Field) (i : ℕ) (x : Field) (old mid new : Log) → i < length fields
+    → x ≡ get_or fields i x → WritesEach SendsField (take i fields) old mid → SendsField x mid new
+    → WritesEach SendsField (take (i + 1) fields) old new
+field_next fields i x old mid new h is sent this =
     subst (λ fs. WritesEach SendsField fs old new)
-    (sym (map_more pick places i 0 h ∙ ap (λ (f : Field). so_far ++ f ∷ []) (sym same)))
-    (WritesEach-snoc SendsField so_far x old mid new sent this)
+    (sym (take_more fields i x h ∙ ap (λ (f : Field). take i fields ++ f ∷ []) (sym is)))
+    (WritesEach-snoc SendsField (take i fields) x old mid new sent this)
 
--- ---- all of them
+-- ---- all values
 
 pub fields_sent : (fields : List Field) (ms : Members) (old mid new : Log) → WritesEach SendsField fields old mid
     → SendsMembers ms mid new → SendsMembers (before fields ms) old new
@@ -82,6 +66,21 @@ object_sent fields n old first last new e begun each ended =
       fields_sent fields no_members first last new each ended,
     )
 
+-- an object of so many members: fields, among which another stands
+pub among_sent : (key : List ℕ) (d : Data) (ms : Members) (n : ℕ) (some others : List Field)
+    (old first before_it after_it last new : Log) → n ≡ members_len ms
+    → ms ≡ before some (member key d (before others no_members)) → Logs old first (event.map_begins (Some n))
+    → WritesEach SendsField some first before_it → SendsMember key d before_it after_it
+    → WritesEach SendsField others after_it last → Logs last new event.map_ends → SendsValue (object ms) old new
+among_sent key d ms n some others old first before_it after_it last new len same begun each this rest ended =
+    let end = fields_sent others no_members after_it last new rest ended in
+    let later = member key d (before others no_members) in
+    let all = fields_sent some later first before_it new each (this.0, after_it, this.1, this.2, end) in (
+      first,
+      subst (λ m. Logs old first (event.map_begins (Some m))) len begun,
+      subst (λ xs. SendsMembers xs first new) (sym same) all,
+    )
+
 pub array_sent : (ds : List Data) (n : ℕ) (old first last new : Log) → n ≡ length ds
     → Logs old first (event.seq_begins (Some n))
     → WritesEach SendsValue ds first last → Logs last new event.seq_ends → SendsValue (array (items_of ds)) old new
@@ -89,7 +88,7 @@ array_sent ds n old first last new e begun each ended =
     let len : n ≡ items_len (items_of ds) = omega (arith, e, items_of_len ds) in
     (first, subst (λ m. Logs old first (event.seq_begins (Some m))) len begun, items_sent ds first last new each ended)
 
--- a list of values that stand for a list's elements
+-- a list of the values of a list's elements
 pub elements_sent : {A : Type 0} (data_of : A → Data) (xs : List A) (i n : ℕ) (old first last new : Log) → length xs ≤ i
     → n ≡ length xs → Logs old first (event.seq_begins (Some n))
     → WritesEach SendsValue (map data_of (take i xs)) first last → Logs last new event.seq_ends

@@ -1,4 +1,4 @@
--- How long the line of a command that has no record is.
+-- How long the line of a command without a record is.
 use Rattle.std.proofs.Common.{ℕ, ◌+◌, ◌≤◌, arith, Bool, List, [], ◌∷◌, ◌++◌, length, length-append}
 use Rattle.std.specs.Prelude.{codes}
 use Rattle.std.specs.Fmt.{decimal}

@@ -1,4 +1,4 @@
--- What is shown has no float, so its text is known.
+-- No value that is shown has a float, so its text is known.
 use Rattle.std.proofs.Common.{◌≡◌, ℕ, List, [], Some, refl, false, codes, map}
 use Rattle.serde.specs.Event.{Log}
 use Rattle.serde_json.specs.Data.{array, number, unsigned}
@@ -35,7 +35,7 @@ data_no_float (shown.Devices ds) =
     list_no_float (codes "devices") (λ d. object_of (fields_of_device d)) ds (λ d. object_no_float (fields_of_device d))
 data_no_float s = refl
 
--- the text of what was sent
+-- the text of what was serialized
 pub text_of_sent : (s : Shown) (log : Log) (text : List ℕ) → SendsValue (data_of s) (Some []) log → IsTextOf log text
     → text ≡ compact_text (data_of s)
 text_of_sent s log text sent is = text_of_value (data_of s) log text sent is (data_no_float s)

@@ -11,11 +11,11 @@ use Rattle.serde_json.specs.View.{items_of}
 use Rattle.nv_print.specs.Field.{Field, field, as_text, in_decimal, object_of}
 use Rattle.nv_print.specs.Text.{left, right, printable}
 
--- a number of bytes as it is shown: at most 2^64 - 1
+-- a number of bytes as it is shown: 2^64 - 1 if it is greater
 abbrev pub shown_bytes : ℕ → ℕ
 shown_bytes n = min n (2 ^ 64 - 1)
 
--- the bytes of a logical block: 2^LBADS of the format in use, FLBAS 3:0
+-- the size of a logical block: 2^LBADS of the format in use, FLBAS 3:0
 abbrev pub block_size_of : IdNs → ℕ
 block_size_of r =
     option_map_or (λ f. shown_bytes (2 ^ f.lbads)) (slice_get r.lbafs (r.flbas % 16)) 0
@@ -31,7 +31,7 @@ device_of controller nsid identity namespace = record {
   block_size = block_size_of namespace;
 }
 
--- the node of a namespace by its controller: "/dev/nvme0n1"
+-- the node of a controller's namespace, such as "/dev/nvme0n1"
 abbrev pub node_of : ℕ → ℕ → List ℕ
 node_of controller nsid = codes "/dev/nvme" ++ (decimal controller ++ (codes "n" ++ decimal nsid))
 

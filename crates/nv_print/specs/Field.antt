@@ -7,7 +7,7 @@ use Rattle.nv_print.specs.Text.{left}
 use Rattle.nv_print.specs.declared.field.FieldValue.{FieldValue}
 use Rattle.nv_print.specs.declared.field.FieldValue.TheVariants as value
 
--- a value, by the way it is shown
+-- a value, and how it is shown
 pub data Shape : Type 0 where
   in_decimal : ℕ → Shape
   in_hexadecimal : ℕ → Shape
@@ -37,14 +37,14 @@ shape_text (wide n) = decimal n
 shape_text (in_six_digits n) = six_digits n
 shape_text (as_text t) = t
 
--- its key on the left of 20 places, and its value
+-- its key at the left of 20 characters, and its value
 abbrev pub field_line : Field → List ℕ
 field_line f = left 20 f.key ++ (codes ": " ++ (shape_text f.shape ++ 10 ∷ []))
 
 abbrev pub fields_text : List Field → List ℕ
 fields_text fields = flat_map field_line fields
 
--- a number of sixteen bytes is a string in JSON, since a reader may cut it as a number
+-- a number of sixteen bytes is a string in JSON, because a reader may round it as a number
 abbrev pub shape_data : Shape → Data
 shape_data (in_decimal n) = number (unsigned n)
 shape_data (in_hexadecimal n) = number (unsigned n)
@@ -52,7 +52,7 @@ shape_data (wide n) = string (decimal n)
 shape_data (in_six_digits n) = string (six_digits n)
 shape_data (as_text t) = string t
 
--- some members, and each field at its key
+-- some members, with the fields added
 abbrev pub with_fields : List Field → Members → Members
 with_fields [] members = members
 with_fields (f ∷ fields) members = with_fields fields (put f.key (shape_data f.shape) members)

@@ -1,4 +1,4 @@
--- Messages of lines that went wrong.
+-- Messages about lines that went wrong, and the sentences that are shown for commands without a record.
 use Rattle.std.specs.Prelude.{List, ℕ, [], ◌∷◌, ◌++◌, codes, Bool, ◌==◌, Option, Some, None}
 use Rattle.std.specs.Prelude.{if◌then◌else◌}
 use Rattle.std.specs.Fmt.{decimal}
@@ -37,7 +37,7 @@ success words nsid = words ++ (decimal nsid ++ 10 ∷ [])
 abbrev pub feature_text : Feature → List ℕ
 feature_text f = hexadecimal (row_of f).fid ++ (codes " (" ++ ((row_of f).name ++ codes ")"))
 
--- which value a number selects
+-- the value that a number selects
 abbrev pub select_of : ℕ → Option Select
 select_of n =
     if n == 0 then Some select.Current

@@ -1,4 +1,4 @@
--- What is shown of each record: a table of its fields.
+-- How each record is shown: a table of its fields.
 use Rattle.std.specs.Prelude.{ℕ, ◌+◌, List, [], ◌∷◌, codes, ◌%◌, min, map, take, ◌==◌, ◌++◌, flat_map}
 use Rattle.std.specs.Prelude.{if◌then◌else◌, Bool, not, filter, slice_index}
 use Rattle.std.specs.Fmt.{decimal}
@@ -68,7 +68,7 @@ fields_of_lbaf f =
     ∷ field (codes "rp") (in_decimal f.rp)
     ∷ []
 
--- its formats: NLBAF + 1, and at most 16
+-- its formats: NLBAF + 1, but at most 16
 abbrev pub formats_of : IdNs → List Lbaf
 formats_of r = take (min r.nlbaf 15 + 1) r.lbafs
 
@@ -76,14 +76,14 @@ formats_of r = take (min r.nlbaf 15 + 1) r.lbafs
 abbrev pub field_within : Field → List ℕ
 field_within f = 32 ∷ (f.key ++ 58 ∷ shape_text f.shape)
 
--- the key of a format, with its index, on the left of 20 places
+-- the key of a format, with its index, at the left of 20 characters
 abbrev pub lbaf_key : ℕ → List ℕ
 lbaf_key i = codes "lbaf " ++ (right 2 (decimal i) ++ codes "             :")
 
 abbrev pub mark_of : ℕ → ℕ → List ℕ
 mark_of in_use i = if in_use == i then codes " (in use)" else []
 
--- a format by its index: "lbaf  0             : ms:0 lbads:9 rp:0 (in use)"
+-- a format with its index: "lbaf  0             : ms:0 lbads:9 rp:0 (in use)"
 abbrev pub lbaf_line : ℕ → ℕ → Lbaf → List ℕ
 lbaf_line in_use i f =
     lbaf_key i ++ (flat_map field_within (fields_of_lbaf f) ++ (mark_of in_use i ++ 10 ∷ []))
@@ -98,8 +98,8 @@ namespace_data r =
     let formats = array (items_of (map (λ f. object_of (fields_of_lbaf f)) (formats_of r))) in
     object (put (codes "lbafs") formats (members_of (fields_of_id_ns r)))
 
--- the health log: how a controller is, what it has done and what has happened to it, how warm it
--- was and is
+-- the health log: the state of the controller, what it has done and what has happened to it, and
+-- its temperatures
 unfoldable pub fields_of_smart : Smart → List Field
 fields_of_smart s =
     field (codes "critical_warning") (in_hexadecimal s.critical_warning)
@@ -129,7 +129,7 @@ fields_of_smart s =
     ∷ field (codes "temperature_sensor_8") (in_decimal (slice_index s.sensors 7))
     ∷ []
 
--- an entry of the error log, but for its index
+-- an entry of the error log, without its index
 unfoldable pub fields_of_entry : ErrorEntry → List Field
 fields_of_entry e =
     field (codes "error_count") (in_decimal e.count)
@@ -147,7 +147,7 @@ fields_of_entry e =
 abbrev pub holds_error : ErrorEntry → Bool
 holds_error e = not (e.count == 0)
 
--- an entry by its index, where it holds an error
+-- an entry with its index, if it holds an error
 abbrev pub entry_text : ℕ → ErrorEntry → List ℕ
 entry_text i e =
     if holds_error e
@@ -162,7 +162,7 @@ entries_data entries =
     let objects = map (λ e. object_of (fields_of_entry e)) (filter holds_error entries) in
     object (put (codes "errors") (array (items_of objects)) no_members)
 
--- an NSID by its index: "[   0]:0x1"
+-- an NSID with its index: "[   0]:0x1"
 abbrev pub nsid_line : ℕ → ℕ → List ℕ
 nsid_line i nsid =
     codes "[" ++ (right 4 (decimal i) ++ (codes "]:" ++ (hexadecimal nsid ++ 10 ∷ [])))

@@ -29,7 +29,7 @@ text_of (shown.FeatureValue feature select value) = feature_value feature select
 text_of (shown.FeatureSet feature value save) = feature_set feature value save
 text_of shown.Reset = reset_done
 
--- records and lists have a JSON form, a line has none
+-- records and lists have a JSON form, and single lines have none
 abbrev pub has_json : Shown → Bool
 has_json (shown.Controller identity) = true
 has_json (shown.Namespace namespace) = true
@@ -39,7 +39,7 @@ has_json (shown.Errors entries) = true
 has_json (shown.Devices devices) = true
 has_json _ = false
 
--- the JSON value; null where there is none
+-- the JSON value, or null if there is none
 abbrev pub data_of : Shown → Data
 data_of (shown.Controller identity) = object_of (fields_of_id_ctrl identity)
 data_of (shown.Namespace namespace) = namespace_data namespace
@@ -61,6 +61,6 @@ abbrev pub entries_shown : Shown → ℕ
 entries_shown (shown.Errors entries) = length (filter holds_error entries)
 entries_shown _ = 0
 
--- how many bytes a text or JSON has at most
+-- the greatest length of a text or of JSON in bytes
 abbrev pub text_limit : Shown → ℕ
 text_limit shown = 65536 + 512 * devices_shown shown + 1024 * entries_shown shown

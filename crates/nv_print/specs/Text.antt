@@ -8,19 +8,19 @@ use Rattle.std.specs.List.{suffix_len, take_while}
 abbrev pub hexadecimal : ℕ → List ℕ
 hexadecimal n = codes "0x" ++ digits 16 false n
 
--- six hexadecimal digits
+-- six hexadecimal digits, or more if the number needs them
 abbrev pub six_digits : ℕ → List ℕ
 six_digits n = replicate (6 - length (digits 16 false n)) 48 ++ digits 16 false n
 
--- a text on the left of so many places
+-- a text at the left of a column of `width` characters
 abbrev pub left : ℕ → List ℕ → List ℕ
 left width text = text ++ replicate (width - length text) 32
 
--- a text on the right of so many places
+-- a text at the right of a column of `width` characters
 abbrev pub right : ℕ → List ℕ → List ℕ
 right width text = replicate (width - length text) 32 ++ text
 
--- a line for each element, by its index
+-- a line for each element, with its index
 abbrev pub lines_of : {A : Type 0} → (ℕ → A → List ℕ) → ℕ → List A → List ℕ
 lines_of line i [] = []
 lines_of line i (x ∷ xs) = line i x ++ lines_of line (i + 1) xs

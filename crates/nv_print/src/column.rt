@@ -2,7 +2,7 @@
 
 use std::fmt;
 
-/// A text on the left of so many places.
+/// A text at the left of a column of `width` characters.
 #[derive(Clone, Copy)]
 pub(crate) struct Left<'a> {
     pub(crate) text: &'a str,
@@ -22,7 +22,7 @@ impl<'a> fmt::Display for Left<'a> {
     }
 }
 
-/// A number on the right of so many places.
+/// A number at the right of a column of `width` characters.
 #[derive(Clone, Copy)]
 pub(crate) struct Right {
     pub(crate) number: u64,

@@ -13,9 +13,9 @@ pub struct Device {
     pub serial: [u8; 20],
     /// The controller's model number.
     pub model: [u8; 40],
-    /// The namespace's size in bytes, and at most 2^64 - 1.
+    /// The namespace's size in bytes, or 2^64 - 1 if it is greater.
     pub bytes: u64,
-    /// The size of a logical block in bytes, and at most 2^64 - 1.
+    /// The size of a logical block in bytes, or 2^64 - 1 if it is greater.
     pub block_size: u64,
 }
 
@@ -23,7 +23,7 @@ impl Device {
     ghost use Rattle.std.specs.Prelude.{◌≡◌};
     ghost use Rattle.nv_print.specs.Devices.{block_size_of, device_of};
 
-    /// The bytes of a logical block of the format in use.
+    /// Returns the size of a logical block in the format in use.
     fn block_size_of(namespace: &IdNs) -> u64
         ensures { result ≡ block_size_of namespace.now }
     {
@@ -31,7 +31,8 @@ impl Device {
         2u64.saturating_pow(u32::from(format.lbads))
     }
 
-    /// What Identify tells of a controller and of a namespace that is attached to it.
+    /// Creates the device of a namespace that is attached to a controller, from their Identify
+    /// data.
     pub fn new(controller: u16, nsid: u32, identity: &IdCtrl, namespace: &IdNs) -> Device
         ensures { result ≡ device_of controller nsid identity.now namespace.now }
     {

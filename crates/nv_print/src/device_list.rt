@@ -22,7 +22,7 @@ impl Model for DeviceList {
 }
 
 impl DeviceList {
-    /// The list of no devices.
+    /// Creates an empty list.
     pub fn new(alloc: Global) -> DeviceList
         ensures { result ≡ [] }
     {
@@ -31,7 +31,7 @@ impl DeviceList {
         }
     }
 
-    /// Adds a device at the end. Where memory is refused the list stays.
+    /// Adds a device at the end. If memory is refused, the list doesn't change.
     pub fn push(&mut self, device: Device) -> Result<(), AllocError>
         ensures value { OnOk result (self.new ≡ self.old ++ device ∷ []) }
         ensures err { OnErr result (self.new ≡ self.old) }
@@ -40,7 +40,7 @@ impl DeviceList {
         Ok(())
     }
 
-    /// The devices in order.
+    /// Returns the devices in order.
     pub fn as_slice(&self) -> &[Device]
         ensures { result.now ≡ self.now }
     {

@@ -1,11 +1,13 @@
 //! What is shown of devices: a line in columns for each, or an object.
 
 ghost use Rattle.std.specs.Prelude.{◌≡◌, ◌≤◌, ◌+◌, ◌*◌, ◌++◌, IfOk, OnOk, length, string_bytes};
+ghost use Rattle.serde_json.specs.Data.{no_members};
 ghost use Rattle.serde_json.specs.Events.{SendsValue};
 ghost use Rattle.serde_json.specs.Written.{compact_text};
 ghost use Rattle.nv_print.specs.Devices.{device_line, devices_data, devices_text, fields_of_device};
 ghost use Rattle.nv_print.specs.Devices.{node_of};
-ghost use Rattle.nv_print.specs.Field.{object_of};
+ghost use Rattle.nv_print.specs.Field.{members_of, object_of};
+ghost use Rattle.nv_print.specs.inner.Sends.{before};
 
 use crate::column::{Left, Right};
 use crate::device::Device;
@@ -13,9 +15,6 @@ use crate::field::{Field, send_object};
 use crate::printable::printable;
 use serde::Serializer;
 use std::alloc::{AllocError, Global};
-
-/// Where the fields of a device stand, in the order of their keys.
-pub(crate) const DEVICE_ORDER: [usize; 6] = [5, 4, 2, 3, 0, 1];
 
 /// The name of the node of a controller's namespace.
 #[tactic(auto, using(crate::proofs::DeviceLengths::node_short))]
@@ -88,12 +87,12 @@ pub(crate) fn devices_text(alloc: Global, devices: &[Device]) -> Result<String, 
     Ok(text)
 }
 
-/// The fields of a device, whose node has this name.
-#[tactic(auto, using(crate::proofs::DeviceLengths::device_json_length), unfolding(crate::specs::Devices::fields_of_device))]
-fn device_fields<'a>(node: &'a str, device: &'a Device) -> [Field<'a>; 6]
+/// The fields of a device, whose node has this name, in the order of their keys.
+#[tactic(auto, using(crate::proofs::DeviceLengths::device_json_length))]
+fn device_members<'a>(node: &'a str, device: &'a Device) -> [Field<'a>; 6]
     requires name { node.now ≡ node_of device.now.controller device.now.nsid }
     requires short { length node.now ≤ 64 }
-    ensures value { result ≡ fields_of_device device.now }
+    ensures value { members_of (fields_of_device device.now) ≡ before result no_members }
     ensures bound { length (compact_text (object_of (fields_of_device device.now))) ≤ 511 }
 {
     let Device {
@@ -103,12 +102,12 @@ fn device_fields<'a>(node: &'a str, device: &'a Device) -> [Field<'a>; 6]
         ..
     } = *device;
     [
-        Field::text("node", node),
-        Field::ascii("serial", &device.serial),
+        Field::decimal("block_size", block_size),
+        Field::decimal("bytes", bytes),
         Field::ascii("model", &device.model),
         Field::decimal("namespace", u64::from(nsid)),
-        Field::decimal("bytes", bytes),
-        Field::decimal("block_size", block_size),
+        Field::text("node", node),
+        Field::ascii("serial", &device.serial),
     ]
 }
 
@@ -122,7 +121,7 @@ fn send_device<S: Serializer>(device: &Device, alloc: Global, out: &mut S) -> Re
     let Ok(node) = node_of(alloc, device.controller, device.nsid) else {
         return Err(out.custom("no memory"));
     };
-    send_object(&device_fields(&node, device), &DEVICE_ORDER, alloc, out)
+    send_object(&device_members(&node, device), alloc, out)
 }
 
 /// Sends devices to a writer of JSON.

@@ -1,4 +1,4 @@
-//! Messages of lines that went wrong.
+//! Messages about lines that went wrong.
 
 ghost use Rattle.std.specs.Prelude.{◌≡◌, ◌≤◌, IfOk, length, string_bytes};
 ghost use Rattle.nv_print.specs.Message.{message_of};
@@ -10,7 +10,7 @@ use nv_line::LineFault;
 use std::alloc::{AllocError, Global};
 use std::fmt;
 
-/// What is wrong with a line, by its number.
+/// What is wrong with a line, and the line's number.
 #[derive(Clone, Copy, Debug, PartialEq, Eq)]
 pub struct Fault {
     /// The line's number, counted from 1.
@@ -21,7 +21,7 @@ pub struct Fault {
 /// What can be wrong with a line.
 #[derive(Clone, Copy, Debug, PartialEq, Eq)]
 pub enum FaultCause {
-    /// It couldn't be read.
+    /// It couldn't be understood.
     Line(LineFault),
     /// One of its commands was refused with a status.
     Refused(Status),
@@ -44,18 +44,18 @@ impl fmt::Display for FaultCause {
     }
 }
 
-/// The message of a fault, as a string.
+/// Returns the message of a fault, as a string.
 fn string_of(alloc: Global, fault: &Fault) -> Result<String, AllocError>
     ensures { IfOk result (λ t. string_bytes t ≡ message_of fault.now) }
 {
     let Fault { line, cause } = *fault;
-    // Room for what most messages take.
+    // Room for most messages.
     let mut text = String::with_capacity(alloc, 128)?;
     write!(text, "line {line}: {cause}\n")?;
     Ok(text)
 }
 
-/// The message of a fault.
+/// Returns the message of a fault.
 #[tactic(auto, using(crate::proofs::MessageLengths::message_length))]
 pub fn message(alloc: Global, fault: &Fault) -> Result<Vec<u8>, Memory>
     ensures exact { IfOk result (λ bytes. bytes.items ≡ message_of fault.now) }

@@ -1,15 +1,16 @@
-//! Fields of records: keys with values, as lines of text and as members of JSON.
+//! Fields of records: keys with values, which are printed as lines of text and as members of JSON.
 
 ghost use Rattle.std.specs.Prelude.{◌≡◌, ◌-◌, ◌++◌, [], IfOk, OnOk, codes, flat_map, length};
 ghost use Rattle.std.specs.Prelude.{replicate, string_bytes};
 ghost use Rattle.serde.specs.Event.{WritesEach};
+ghost use Rattle.serde_json.specs.Data.{no_members, object};
 ghost use Rattle.serde_json.specs.Events.{SendsValue};
 ghost use Rattle.nv_print.specs.Field.{as_text, field, field_line, fields_text, in_decimal};
-ghost use Rattle.nv_print.specs.Field.{in_hexadecimal, in_six_digits, object_of, shape_data};
+ghost use Rattle.nv_print.specs.Field.{in_hexadecimal, in_six_digits, shape_data};
 ghost use Rattle.nv_print.specs.Field.{shape_of, shape_text, wide};
 ghost use Rattle.nv_print.specs.Records.{field_within};
 ghost use Rattle.nv_print.specs.Text.{printable};
-ghost use Rattle.nv_print.specs.inner.Sends.{AreInOrder, ArePlaces, SendsField, picked};
+ghost use Rattle.nv_print.specs.inner.Sends.{SendsField, before};
 
 use crate::hexadecimal::SixDigits;
 use crate::printable::printable;
@@ -18,7 +19,7 @@ use serde::Serializer;
 use std::alloc::{AllocError, Global};
 use std::marker::Model;
 
-/// The value of a field, by the way it is shown.
+/// The value of a field, and how it is shown.
 #[derive(Clone, Copy)]
 pub(crate) enum FieldValue<'a> {
     Decimal(u64),
@@ -31,7 +32,7 @@ pub(crate) enum FieldValue<'a> {
 }
 
 impl<'a> FieldValue<'a> {
-    /// Adds it to a text, as it is shown.
+    /// Adds it to a text as it is shown.
     fn push(&self, text: &mut String) -> Result<(), AllocError>
         ensures { IfOk result (λ _. string_bytes text.new
             ≡ string_bytes text.old ++ shape_text (shape_of self.now)) }
@@ -49,7 +50,7 @@ impl<'a> FieldValue<'a> {
         }
     }
 
-    /// Sends it to a writer of JSON. A number of sixteen bytes is a string, since readers cut such
+    /// Serializes it. A number of sixteen bytes is a string, because readers of JSON round such
     /// numbers.
     fn send<S: Serializer>(&self, alloc: Global, out: &mut S) -> Result<(), S::Error>
         ensures { OnOk result
@@ -66,7 +67,7 @@ impl<'a> FieldValue<'a> {
     }
 }
 
-/// Sends a number as a string of six hexadecimal digits.
+/// Serializes a number as a string of six hexadecimal digits.
 fn send_six_digits<S: Serializer>(number: u32, alloc: Global, out: &mut S) -> Result<(), S::Error>
     ensures { OnOk result
         (SendsValue (shape_data (in_six_digits number)) (S.written out.old) (S.written out.new)) }
@@ -78,7 +79,7 @@ fn send_six_digits<S: Serializer>(number: u32, alloc: Global, out: &mut S) -> Re
     out.str(&digits)
 }
 
-/// What stands between a key and its value: spaces up to 20 places, a colon and a space.
+/// Returns what is between a key and its value: spaces up to column 20, a colon and a space.
 #[tactic(auto, using(crate::proofs::Padding::gap_cut, crate::proofs::Padding::gap_is))]
 fn gap<'a>(key: &str) -> &'a str
     ensures { result.now ≡ replicate (20 - length key.now) 32 ++ codes ": " }
@@ -88,7 +89,7 @@ fn gap<'a>(key: &str) -> &'a str
     gap
 }
 
-/// A field of a record. A contract sees its key and how its value is shown.
+/// A field of a record. Contracts see its key and how its value is shown.
 #[derive(Drop)]
 pub(crate) struct Field<'a> {
     key: &'static str,
@@ -149,14 +150,15 @@ impl<'a> Field<'a> {
         }
     }
 
-    /// The printable ASCII that bytes begin with, without trailing spaces.
+    /// Creates a field with the printable ASCII at the beginning of some bytes, without trailing
+    /// spaces.
     pub(crate) fn ascii(key: &'static str, bytes: &'a [u8]) -> Field<'a>
         ensures { result ≡ field key.now (as_text (printable bytes.now)) }
     {
         Field::text(key, printable(bytes))
     }
 
-    /// Adds its line to a text: the key on the left of 20 places, and the value.
+    /// Adds its line to a text: the key at the left of 20 characters, and the value.
     #[tactic(auto, using(crate::proofs::Fields::line_more))]
     pub(crate) fn push_line(&self, text: &mut String) -> Result<(), AllocError>
         ensures { IfOk result
@@ -180,7 +182,7 @@ impl<'a> Field<'a> {
         self.value.push(text)
     }
 
-    /// Sends it to a writer of JSON: its key and its value.
+    /// Serializes its key and its value.
     fn send<S: Serializer>(&self, alloc: Global, out: &mut S) -> Result<(), S::Error>
         ensures { OnOk result (SendsField self.now (S.written out.old) (S.written out.new)) }
     {
@@ -201,11 +203,11 @@ pub(crate) fn push_fields(text: &mut String, fields: &[Field<'_>]) -> Result<(),
     Ok(())
 }
 
-/// The text of fields.
+/// Returns the text of fields.
 pub(crate) fn fields_text(alloc: Global, fields: &[Field<'_>]) -> Result<String, AllocError>
     ensures { IfOk result (λ t. string_bytes t ≡ fields_text fields.now) }
 {
-    // Room for what most lines take.
+    // Room for most lines.
     let mut text = String::with_capacity(alloc, fields.len().saturating_mul(32))?;
     push_fields(&mut text, fields)?;
     Ok(text)
@@ -223,35 +225,31 @@ pub(crate) fn push_within(text: &mut String, fields: &[Field<'_>]) -> Result<(),
     Ok(())
 }
 
-/// Sends the fields at some places of a table.
+/// Sends fields as members of an object, one after the other.
 pub(crate) fn send_fields<S: Serializer>(
     fields: &[Field<'_>],
-    places: &[usize],
     alloc: Global,
     out: &mut S,
 ) -> Result<(), S::Error>
-    requires { ArePlaces places.now fields.now }
-    ensures { OnOk result (WritesEach SendsField (picked fields.now places.now)
-        (S.written out.old) (S.written out.new)) }
+    ensures { OnOk result
+        (WritesEach SendsField fields.now (S.written out.old) (S.written out.new)) }
 {
-    for place in places {
-        fields[*place].send(alloc, out)?;
+    for field in fields {
+        field.send(alloc, out)?;
     }
     Ok(())
 }
 
-/// Sends an object of fields, in the order of its members.
+/// Sends an object, whose members these fields are in turn.
 pub(crate) fn send_object<S: Serializer>(
     fields: &[Field<'_>],
-    order: &[usize],
     alloc: Global,
     out: &mut S,
 ) -> Result<(), S::Error>
-    requires { AreInOrder order.now fields.now }
-    ensures { OnOk result
-        (SendsValue (object_of fields.now) (S.written out.old) (S.written out.new)) }
+    ensures { OnOk result (SendsValue (object (before fields.now no_members))
+        (S.written out.old) (S.written out.new)) }
 {
-    out.begin_map(Some(order.len()))?;
-    send_fields(fields, order, alloc, out)?;
+    out.begin_map(Some(fields.len()))?;
+    send_fields(fields, alloc, out)?;
     out.end_map()
 }

@@ -2,7 +2,7 @@
 
 use std::fmt;
 
-/// A number after `0x`, in lower case hexadecimal digits.
+/// A number with `0x` and lower case hexadecimal digits.
 #[derive(Clone, Copy)]
 pub(crate) struct Hexadecimal(pub(crate) u64);
 
@@ -17,7 +17,7 @@ impl fmt::Display for Hexadecimal {
     }
 }
 
-/// A number in six lower case hexadecimal digits, and in more where it needs them.
+/// A number with six lower case hexadecimal digits, or more if it needs them.
 #[derive(Clone, Copy)]
 pub(crate) struct SixDigits(pub(crate) u32);
 

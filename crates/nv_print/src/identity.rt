@@ -7,24 +7,10 @@ ghost use Rattle.nv_print.specs.Records.{fields_of_id_ctrl, fields_of_id_ns, fie
 ghost use Rattle.nv_print.specs.inner.Records.{texts_length};
 
 use crate::field::{Field, send_object};
+use crate::members::{id_ctrl_members, lbaf_members};
 use nv_layout::{IdCtrl, IdNs, Lbaf};
 use serde::Serializer;
 use std::alloc::Global;
-
-/// Where the fields of a controller stand, in the order of their keys.
-pub(crate) const ID_CTRL_ORDER: [usize; 27] = [
-    17, 7, 9, 21, 14, 24, 4, 12, 6, 13, 8, 3, 22, 15, 11, 23, 5, 2, 20, 1, 26, 18, 19, 10, 0, 25,
-    16,
-];
-
-/// Where the fields of a namespace stand whose keys come before "lbafs", in their order.
-pub(crate) const BEFORE_LBAFS: [usize; 3] = [7, 8, 5];
-
-/// Where those stand whose keys come after it, in their order.
-pub(crate) const AFTER_LBAFS: [usize; 8] = [6, 1, 4, 9, 3, 0, 2, 10];
-
-/// Where the fields of a format stand, in the order of their keys.
-pub(crate) const LBAF_ORDER: [usize; 3] = [1, 0, 2];
 
 /// The fields of a controller ("Identify Controller data structure").
 pub(crate) fn id_ctrl_fields<'a>(identity: &'a IdCtrl) -> [Field<'a>; 27]
@@ -72,7 +58,7 @@ pub(crate) fn send_id_ctrl<S: Serializer>(
         (S.written out.old) (S.written out.new)) }
     ensures texts { texts_length identity.now ≡ 324 }
 {
-    send_object(&id_ctrl_fields(identity), &ID_CTRL_ORDER, alloc, out)
+    send_object(&id_ctrl_members(identity), alloc, out)
 }
 
 /// The fields of a namespace before its formats ("Identify Namespace data structure").
@@ -116,5 +102,5 @@ pub(crate) fn send_lbaf<S: Serializer>(
     ensures { OnOk result (SendsValue (object_of (fields_of_lbaf format.now))
         (S.written out.old) (S.written out.new)) }
 {
-    send_object(&lbaf_fields(format), &LBAF_ORDER, alloc, out)
+    send_object(&lbaf_members(format), alloc, out)
 }

@@ -1,7 +1,8 @@
-//! What a line of a script prints: what it shows, as text or as JSON, and the message of a fault.
+//! The texts that a line of a script prints: what it shows, as text or as JSON, and the message of
+//! a fault.
 //!
-//! A record is a table of fields. Its text and its JSON are both made of that table. JSON is what
-//! `serde_json` writes of what the table sends.
+//! A record is shown by its fields: as text in the order of the standard, and as JSON, which
+//! `serde_json` writes, in that of their keys.
 //!
 //! Sections are named as in the NVM Express Base Specification, revision 1.4.
 #![tactic(auto)]
@@ -16,6 +17,7 @@ mod hexadecimal;
 mod identity;
 mod log_fields;
 mod logs;
+mod members;
 mod namespace;
 mod ns_list;
 mod printable;

@@ -6,17 +6,10 @@ ghost use Rattle.nv_print.specs.Field.{object_of};
 ghost use Rattle.nv_print.specs.Records.{fields_of_entry, fields_of_smart};
 
 use crate::field::{Field, send_object};
+use crate::members::{entry_members, smart_members};
 use nv_layout::{ErrorEntry, Smart};
 use serde::Serializer;
 use std::alloc::Global;
-
-/// Where the fields of a health log stand, in the order of their keys.
-pub(crate) const SMART_ORDER: [usize; 25] = [
-    2, 9, 16, 0, 5, 6, 7, 8, 13, 14, 4, 10, 11, 3, 1, 17, 18, 19, 20, 21, 22, 23, 24, 12, 15,
-];
-
-/// Where the fields of an entry of an error log stand, in the order of their keys.
-pub(crate) const ENTRY_ORDER: [usize; 9] = [2, 8, 0, 5, 6, 4, 1, 3, 7];
 
 /// The fields of a health log ("SMART / Health Information"): how a controller is, what it has done
 /// and what has happened to it, how warm it was and is.
@@ -61,7 +54,7 @@ pub(crate) fn send_smart<S: Serializer>(
     ensures { OnOk result (SendsValue (object_of (fields_of_smart smart.now))
         (S.written out.old) (S.written out.new)) }
 {
-    send_object(&smart_fields(smart), &SMART_ORDER, alloc, out)
+    send_object(&smart_members(smart), alloc, out)
 }
 
 /// The fields of an entry of an error log, but for its index ("Error Information").
@@ -91,5 +84,5 @@ pub(crate) fn send_entry<S: Serializer>(
     ensures { OnOk result (SendsValue (object_of (fields_of_entry entry.now))
         (S.written out.old) (S.written out.new)) }
 {
-    send_object(&entry_fields(entry), &ENTRY_ORDER, alloc, out)
+    send_object(&entry_members(entry), alloc, out)
 }

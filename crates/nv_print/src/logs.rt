@@ -1,4 +1,4 @@
-//! What is shown of an error log.
+//! How an error log is shown.
 
 ghost use Rattle.std.specs.Prelude.{◌≡◌, ◌++◌, ◌∷◌, [], IfOk, OnOk, filter, if◌then◌else◌};
 ghost use Rattle.std.specs.Prelude.{length, string_bytes};
@@ -14,14 +14,14 @@ use nv_layout::{ErrorEntries, ErrorEntry};
 use serde::Serializer;
 use std::alloc::{AllocError, Global};
 
-/// Whether an entry holds an error.
+/// Returns whether an entry holds an error.
 fn holds_error(entry: &ErrorEntry) -> bool
     ensures { result ≡ holds_error entry.now }
 {
     entry.count != 0
 }
 
-/// Adds the lines of an entry with its index to a text, if it holds an error.
+/// Adds the lines of an entry with its index to a text if it holds an error.
 fn push_entry(text: &mut String, index: usize, entry: &ErrorEntry) -> Result<(), AllocError>
     ensures { IfOk result
         (λ _. string_bytes text.new ≡ string_bytes text.old ++ entry_text index entry.now) }
@@ -34,11 +34,11 @@ fn push_entry(text: &mut String, index: usize, entry: &ErrorEntry) -> Result<(),
     push_fields(text, &entry_fields(entry))
 }
 
-/// The text of the entries of an error log that hold an error.
+/// Returns the text of the entries of an error log that hold an error.
 pub(crate) fn entries_text(alloc: Global, entries: &ErrorEntries<'_>) -> Result<String, AllocError>
     ensures { IfOk result (λ t. string_bytes t ≡ entries_text entries.now) }
 {
-    // Room for what most entries take.
+    // Room for most entries.
     let mut text = String::with_capacity(alloc, entries.present().saturating_mul(256))?;
     for index in 0..entries.present() {
         push_entry(&mut text, index, &entries.get(index))?;
@@ -46,7 +46,7 @@ pub(crate) fn entries_text(alloc: Global, entries: &ErrorEntries<'_>) -> Result<
     Ok(text)
 }
 
-/// How many entries hold an error.
+/// Returns how many entries hold an error.
 fn errors_count(entries: &ErrorEntries<'_>) -> usize
     ensures { result ≡ length (filter holds_error entries.now) }
 {
@@ -59,7 +59,7 @@ fn errors_count(entries: &ErrorEntries<'_>) -> usize
     count
 }
 
-/// Sends the object of an entry to a writer of JSON, if it holds an error.
+/// Serializes the object of an entry if it holds an error.
 fn send_error<S: Serializer>(entry: &ErrorEntry, alloc: Global, out: &mut S) -> Result<(), S::Error>
     ensures { OnOk result (WritesEach SendsValue
         (if holds_error entry.now then object_of (fields_of_entry entry.now) ∷ [] else [])
@@ -71,7 +71,7 @@ fn send_error<S: Serializer>(entry: &ErrorEntry, alloc: Global, out: &mut S) -> 
     send_entry(entry, alloc, out)
 }
 
-/// Sends the entries of an error log that hold an error to a writer of JSON.
+/// Serializes the entries of an error log that hold an error.
 pub(crate) fn send_entries<S: Serializer>(
     entries: &ErrorEntries<'_>,
     alloc: Global,

@@ -1,4 +1,4 @@
-//! What is shown of a namespace: its fields, and its formats.
+//! How a namespace is shown: its fields, and its formats.
 
 ghost use Rattle.std.specs.Prelude.{◌≡◌, ◌++◌, IfOk, OnOk, map, string_bytes};
 ghost use Rattle.serde_json.specs.Data.{array};
@@ -11,13 +11,14 @@ ghost use Rattle.nv_print.specs.Text.{lines_of};
 
 use crate::column::Right;
 use crate::field::{push_fields, push_within, send_fields};
-use crate::identity::{AFTER_LBAFS, BEFORE_LBAFS, id_ns_fields, lbaf_fields, send_lbaf};
+use crate::identity::{id_ns_fields, lbaf_fields, send_lbaf};
+use crate::members::id_ns_members;
 use nv_layout::{IdNs, Lbaf};
 use serde::Serializer;
 use std::alloc::{AllocError, Global};
 use std::cmp;
 
-/// The formats that a namespace has.
+/// Returns the formats that a namespace has.
 fn formats_of(namespace: &IdNs) -> &[Lbaf]
     ensures { result.now ≡ formats_of namespace.now }
 {
@@ -25,14 +26,14 @@ fn formats_of(namespace: &IdNs) -> &[Lbaf]
     &namespace.lbafs[..count]
 }
 
-/// What stands behind the format in use.
+/// Returns the text after a format, which marks the format in use.
 fn mark_of<'a>(in_use: usize, index: usize) -> &'a str
     ensures { result.now ≡ mark_of in_use index }
 {
     if in_use == index { " (in use)" } else { "" }
 }
 
-/// Adds the line of a format with its index, which tells the one in use.
+/// Adds the line of a format with its index to a text. It marks the format in use.
 #[tactic(auto, using(crate::proofs::Fields::three_more))]
 fn push_format(
     text: &mut String,
@@ -54,7 +55,7 @@ fn push_format(
     Ok(())
 }
 
-/// Adds the lines of formats, which tell the one in use.
+/// Adds the lines of formats to a text. They mark the format in use.
 fn push_formats(text: &mut String, in_use: usize, formats: &[Lbaf]) -> Result<(), AllocError>
     ensures { IfOk result (λ _. string_bytes text.new
         ≡ string_bytes text.old ++ lines_of (lbaf_line in_use) 0 formats.now) }
@@ -65,7 +66,7 @@ fn push_formats(text: &mut String, in_use: usize, formats: &[Lbaf]) -> Result<()
     Ok(())
 }
 
-/// The text of a namespace.
+/// Returns the text of a namespace.
 pub(crate) fn namespace_text(alloc: Global, namespace: &IdNs) -> Result<String, AllocError>
     ensures { IfOk result (λ t. string_bytes t ≡ namespace_text namespace.now) }
 {
@@ -77,7 +78,7 @@ pub(crate) fn namespace_text(alloc: Global, namespace: &IdNs) -> Result<String, 
     Ok(text)
 }
 
-/// Sends the list of a namespace's formats to a writer of JSON.
+/// Serializes the list of a namespace's formats.
 fn send_formats<S: Serializer>(formats: &[Lbaf], alloc: Global, out: &mut S) -> Result<(), S::Error>
     ensures { OnOk result
         (SendsValue (array (items_of (map (λ f. object_of (fields_of_lbaf f)) formats.now)))
@@ -90,7 +91,7 @@ fn send_formats<S: Serializer>(formats: &[Lbaf], alloc: Global, out: &mut S) -> 
     out.end_seq()
 }
 
-/// Sends a namespace to a writer of JSON.
+/// Serializes a namespace.
 pub(crate) fn send_namespace<S: Serializer>(
     namespace: &IdNs,
     alloc: Global,
@@ -99,12 +100,11 @@ pub(crate) fn send_namespace<S: Serializer>(
     ensures { OnOk result
         (SendsValue (namespace_data namespace.now) (S.written out.old) (S.written out.new)) }
 {
-    let fields = id_ns_fields(namespace);
-    // Eleven fields, and the formats.
-    out.begin_map(Some(12))?;
-    send_fields(&fields, &BEFORE_LBAFS, alloc, out)?;
+    let (before_lbafs, after_lbafs) = id_ns_members(namespace);
+    out.begin_map(Some(before_lbafs.len() + 1 + after_lbafs.len()))?;
+    send_fields(&before_lbafs, alloc, out)?;
     out.key("lbafs")?;
     send_formats(formats_of(namespace), alloc, out)?;
-    send_fields(&fields, &AFTER_LBAFS, alloc, out)?;
+    send_fields(&after_lbafs, alloc, out)?;
     out.end_map()
 }

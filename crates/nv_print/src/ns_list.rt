@@ -1,4 +1,4 @@
-//! What is shown of a list of namespaces.
+//! How a list of namespaces is shown.
 
 ghost use Rattle.std.specs.Prelude.{◌≡◌, ◌<◌, ◌^◌, IfOk, OnOk, string_bytes};
 ghost use Rattle.std.specs.List.{All};
@@ -34,12 +34,12 @@ impl fmt::Display for NsidLine {
     }
 }
 
-/// The text of a list of NSIDs.
+/// Returns the text of a list of NSIDs.
 pub(crate) fn nsids_text(alloc: Global, nsids: &[u32]) -> Result<String, AllocError>
     ensures value { IfOk result (λ t. string_bytes t ≡ nsids_text nsids.now) }
     ensures fits { All (λ n. n < 2 ^ 64) nsids.now }
 {
-    // Room for what most lines take.
+    // Room for most lines.
     let mut text = String::with_capacity(alloc, nsids.len().saturating_mul(16))?;
     for index in 0..nsids.len() {
         let line = NsidLine {
@@ -51,7 +51,7 @@ pub(crate) fn nsids_text(alloc: Global, nsids: &[u32]) -> Result<String, AllocEr
     Ok(text)
 }
 
-/// Sends a list of NSIDs to a writer of JSON.
+/// Serializes a list of NSIDs.
 pub(crate) fn send_nsids<S: Serializer>(nsids: &[u32], out: &mut S) -> Result<(), S::Error>
     ensures value { OnOk result
         (SendsValue (nsids_data nsids.now) (S.written out.old) (S.written out.new)) }

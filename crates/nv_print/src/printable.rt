@@ -1,4 +1,4 @@
-//! The part of a text of bytes that is shown.
+//! The part of some bytes that is shown as text.
 
 ghost use Rattle.std.specs.Prelude.{◌≡◌};
 ghost use Rattle.std.specs.List.{prefix_len};
@@ -7,7 +7,7 @@ ghost use Rattle.nv_print.specs.Text.{is_printable, printable};
 
 use std::str;
 
-/// How many bytes of printable ASCII stand at the beginning.
+/// Returns how many bytes at the beginning are printable ASCII.
 fn printable_len(bytes: &[u8]) -> usize
     ensures { result ≡ prefix_len is_printable bytes.now }
 {
@@ -17,7 +17,7 @@ fn printable_len(bytes: &[u8]) -> usize
         .count()
 }
 
-/// The bytes that are shown.
+/// Returns the bytes that are shown.
 fn printable_bytes(bytes: &[u8]) -> &[u8]
     ensures value { result.now ≡ printable bytes.now }
     ensures utf8 { IsUtf8 result.now }
@@ -26,7 +26,7 @@ fn printable_bytes(bytes: &[u8]) -> &[u8]
     beginning.trim_ascii_end()
 }
 
-/// The printable ASCII at the beginning of some bytes, without the spaces at its end.
+/// Returns the printable ASCII at the beginning of some bytes, without the spaces at its end.
 pub(crate) fn printable(bytes: &[u8]) -> &str
     ensures { result.now ≡ printable bytes.now }
 {

@@ -17,7 +17,7 @@ pub enum Select {
 }
 
 impl Select {
-    /// The value that a number selects, where it selects one.
+    /// Returns the value that a number selects, if it selects one.
     pub fn of(select: ThreeBits) -> Option<Select>
         ensures { result ≡ select_of select }
     {

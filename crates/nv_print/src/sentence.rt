@@ -1,4 +1,4 @@
-//! What is shown of a command that has no record: one line.
+//! The single lines that are shown for commands without a record.
 
 ghost use Rattle.std.specs.Prelude.{◌≡◌, IfOk, string_bytes};
 ghost use Rattle.nv_print.specs.Message.{feature_set, feature_value, reset_done, success};
@@ -9,10 +9,10 @@ use nv_layout::Feature;
 use std::alloc::{AllocError, Global};
 use std::fmt;
 
-/// Room for what most lines take.
+/// Room for most lines.
 const ROOM: usize = 128;
 
-/// The line of a command on a namespace that was done.
+/// Returns the line of a successful command on a namespace.
 pub(crate) fn success(alloc: Global, words: &str, nsid: u32) -> Result<String, AllocError>
     ensures { IfOk result (λ t. string_bytes t ≡ success words.now nsid) }
 {
@@ -38,7 +38,7 @@ impl fmt::Display for FeatureName {
     }
 }
 
-/// The line of a value of a feature.
+/// Returns the line of a feature's value.
 pub(crate) fn feature_value(
     alloc: Global,
     feature: Feature,
@@ -54,7 +54,7 @@ pub(crate) fn feature_value(
     Ok(text)
 }
 
-/// The line of a value that a feature was given.
+/// Returns the line of a value that a feature was set to.
 pub(crate) fn feature_set(
     alloc: Global,
     feature: Feature,
@@ -71,7 +71,7 @@ pub(crate) fn feature_set(
     Ok(text)
 }
 
-/// The line of a controller that was reset.
+/// Returns the line of a controller that was reset.
 pub(crate) fn reset(alloc: Global) -> Result<String, AllocError>
     ensures { IfOk result (λ t. string_bytes t ≡ reset_done) }
 {

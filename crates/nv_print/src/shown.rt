@@ -1,4 +1,4 @@
-//! What a line shows, as text and as JSON.
+//! What a line shows, and its text and its JSON.
 
 ghost use Rattle.std.specs.Prelude.{◌≡◌, ◌<◌, ◌≤◌, IfOk, OnOk, length, string_bytes, true};
 ghost use Rattle.serde_json.specs.Events.{SendsValue};
@@ -23,11 +23,11 @@ use std::alloc::{AllocError, Global};
 /// What a line shows.
 #[derive(Drop)]
 pub enum Shown<'a> {
-    /// What a controller is.
+    /// The data of a controller.
     Controller(IdCtrl),
-    /// What a namespace is.
+    /// The data of a namespace.
     Namespace(IdNs),
-    /// NSIDs, ascending.
+    /// NSIDs, in ascending order.
     NsList(NamespaceIds<'a>),
     /// A health log.
     Smart(Smart),
@@ -61,7 +61,7 @@ pub enum Shown<'a> {
         select: Select,
         value: u32,
     },
-    /// A feature was given a value, which may be saved too.
+    /// A feature was set. Its value may also be saved.
     FeatureSet {
         feature: Feature,
         value: u32,
@@ -72,7 +72,7 @@ pub enum Shown<'a> {
 }
 
 impl Shown<'_> {
-    /// Whether it has a JSON form.
+    /// Returns whether it has a JSON form.
     pub fn has_json(&self) -> bool
         ensures { result ≡ has_json self.now }
     {
@@ -88,7 +88,7 @@ impl Shown<'_> {
     }
 }
 
-/// The text of what a line shows, as a string.
+/// Returns the text of what a line shows, as a string.
 fn string_of(alloc: Global, shown: &Shown) -> Result<String, AllocError>
     ensures exact { IfOk result (λ t. string_bytes t ≡ text_of shown.now) }
     ensures bound { IfOk result (λ t. length (string_bytes t) ≤ text_limit shown.now) }
@@ -119,7 +119,7 @@ fn string_of(alloc: Global, shown: &Shown) -> Result<String, AllocError>
     }
 }
 
-/// The text of what a line shows.
+/// Returns the text of what a line shows.
 pub fn text(alloc: Global, shown: &Shown) -> Result<Vec<u8>, Memory>
     ensures exact { IfOk result (λ bytes. bytes.items ≡ text_of shown.now) }
     ensures bound { IfOk result (λ bytes. length bytes.items ≤ text_limit shown.now) }
@@ -130,7 +130,7 @@ pub fn text(alloc: Global, shown: &Shown) -> Result<Vec<u8>, Memory>
     Ok(text.into_bytes())
 }
 
-/// Sends what a line shows to a writer of JSON; null where it has no JSON form.
+/// Serializes what a line shows, or null if it has no JSON form.
 fn send<S: Serializer>(shown: &Shown, alloc: Global, out: &mut S) -> Result<(), S::Error>
     ensures exact { OnOk result
         (SendsValue (data_of shown.now) (S.written out.old) (S.written out.new)) }
@@ -148,7 +148,7 @@ fn send<S: Serializer>(shown: &Shown, alloc: Global, out: &mut S) -> Result<(), 
     }
 }
 
-/// What a line shows, for a writer of JSON.
+/// What a line shows, for `serde_json`.
 #[derive(Clone, Copy)]
 struct ShownData<'a, 'b> {
     shown: &'a Shown<'b>,
@@ -171,13 +171,13 @@ impl Serialize for ShownData<'_, '_> {
     }
 }
 
-/// The JSON of what a line shows, and a newline.
+/// Returns the JSON of what a line shows, and a newline.
 pub fn json(alloc: Global, shown: &Shown) -> Result<Vec<u8>, Memory>
     requires { has_json shown.now ≡ true }
     ensures exact { IfOk result (λ bytes. bytes.items ≡ json_of shown.now) }
     ensures bound { IfOk result (λ bytes. length bytes.items ≤ text_limit shown.now) }
 {
-    // All that is sent has a form in JSON, so what can fail is memory.
+    // Everything that is sent has a form in JSON, so only memory can fail.
     let Ok(mut text) = serde_json::to_string(alloc, &ShownData { shown, alloc }) else {
         return Err(Memory);
     };

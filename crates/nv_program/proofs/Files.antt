@@ -1,4 +1,4 @@
--- What the bytes of a file give.
+-- The results for the bytes of a file.
 use Rattle.std.proofs.Common.{◌≡◌, ◌∙◌, ℕ, ◌+◌, ◌≤◌, List, [], ◌++◌, length, take, ap, subst, arith, refl, IsTrue}
 use Rattle.std.proofs.Common.{Option, None, Some, Result, Ok, Err, IfSome}
 use Rattle.std.proofs.lemmas.List.{length-take, take_all}
@@ -16,7 +16,7 @@ use Rattle.nv_program.specs.declared.stop.Stop.{Stop}
 use Rattle.nv_program.specs.declared.stop.Stop.TheVariants as stop
 use Rattle.nv_subsystem.specs.FromFile.{subsystem}
 
--- a file of which so few bytes came, where one more was asked for, has no more
+-- if fewer bytes of a file were read than were asked for, it has no more
 all_came : (n : ℕ) (bytes : List ℕ) → length (take (n + 1) bytes) ≤ n → take (n + 1) bytes ≡ bytes
 all_came n bytes few = take_all (n + 1) bytes (omega (arith, few, length-take (n + 1) bytes))
 
@@ -28,7 +28,7 @@ came_of (Some all) start bytes none came few =
     let is : bytes ≡ take (most_bytes + 1) all = came ∙ ap (λ s. s ++ take (most_bytes + 1) all) none in
     is ∙ all_came most_bytes all (omega (arith, few, ap (λ (x : List ℕ). length x) is))
 
--- so all of it was read
+-- in this case all of it was read
 pub all_read : {F : Type 0} (remaining : F → Option (List ℕ)) (file : F) (limited : Take F)
     (start bytes : List ℕ) → take_limit limited ≡ most_bytes + 1 → take_inner limited ≡ file → start ≡ []
     → IfSome (take_remaining remaining limited) (λ came. bytes ≡ start ++ came)
@@ -39,13 +39,13 @@ all_read {F} remaining file limited start bytes limit inner none came few =
     (subst (λ (f : F). IfSome (option_map (take (most_bytes + 1)) (remaining f)) P) inner
     (subst (λ (n : ℕ). IfSome (option_map (take n) (remaining (take_inner limited))) P) limit came)) few
 
--- what these bytes give is what the file gives
+-- the result for these bytes is that for the file
 pub in_file : (told : Option (List ℕ)) (bytes : List ℕ) (r : Result State Stop)
     → IfSome told (λ all. bytes ≡ all) → IsSubsystemIn bytes r → IfSome told (λ all. IsSubsystemIn all r)
 in_file None bytes r is gives = tt
 in_file (Some all) bytes r is gives = subst (λ x. IsSubsystemIn x r) is gives
 
--- a file that wasn't read
+-- the result for a file that wasn't read
 pub unread_in : (told : Option (List ℕ)) (why : Stop) → IsTrue (is_unread why)
     → IfSome told (λ all. IsSubsystemIn all (Err why))
 unread_in None why is = tt
@@ -53,13 +53,13 @@ unread_in (Some all) stop.Unreadable is = is
 unread_in (Some all) stop.Memory is = is
 unread_in (Some all) _ is = absurd (cc)
 
--- what refuses the bytes of a file
+-- a refusal of a file's bytes
 pub refused_in : (bytes : List ℕ) (e : SubsystemError) → length bytes ≤ most_bytes
     → IsUnlessMemory (λ (s : State). s) (Err e) (subsystem bytes) → IsSubsystemIn bytes (Err (of_file e))
 refused_in bytes error.Memory few is = refl
 refused_in bytes e few is = (few, is)
 
--- what a file gives is what some file gives
+-- the result for a file is that for some file
 pub of_some : {F : Type 0} (remaining : F → Option (List ℕ)) (file : F) (r : Result State Stop)
     → IfSome (remaining file) (λ all. IsSubsystemIn all r) → IsOfSomeFile remaining r
 of_some remaining file (Ok s) gives = (file, gives)

@@ -1,4 +1,4 @@
--- Why a program stops, and the exit status that it stops with.
+-- Why a program stops, and the exit status with which it stops.
 use Rattle.std.specs.Prelude.{ℕ, Result, Ok, Err}
 use Rattle.std.specs.declared.io.ErrorKind.{ErrorKind}
 use Rattle.std.specs.declared.io.ErrorKind.TheVariants as kind
@@ -23,7 +23,7 @@ exit_status stop.TooLong = 4
 exit_status stop.Write = 5
 exit_status stop.Memory = 6
 
--- want of memory is told as such, and any other fault as what it means there
+-- lack of memory is reported as such, and any other error as what it means there
 abbrev pub unless_memory : ErrorKind → Stop → Stop
 unless_memory kind.OutOfMemory otherwise = stop.Memory
 unless_memory _ otherwise = otherwise
@@ -37,7 +37,7 @@ abbrev pub of_file : SubsystemError → Stop
 of_file error.Memory = stop.Memory
 of_file e = stop.Subsystem e
 
--- the status of a run that came to the end of its script, or why it stopped
+-- the status of a run that reached the end of its script, or why it stopped
 abbrev pub ended : RunEnd → Result ℕ Stop
 ended (end.Status status) = Ok status
 ended (end.Geometry field) = Err (stop.Geometry field)
@@ -47,7 +47,7 @@ ended end.OutWrite = Err stop.Write
 ended end.MessageWrite = Err stop.Write
 ended end.Memory = Err stop.Memory
 
--- the exit status of a program that came to this end
+-- the exit status of a program that ended so
 abbrev pub status_left : Result ℕ Stop → ℕ
 status_left (Ok status) = status
 status_left (Err why) = exit_status why

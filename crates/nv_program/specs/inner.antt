@@ -1,2 +1,2 @@
--- What only contracts inside of the crate say.
+-- What no public contract reaches. Contracts of private functions use it, in other crates too.
 pub mod Asked

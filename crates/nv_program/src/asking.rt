@@ -1,4 +1,4 @@
-//! What the arguments of a program ask for.
+//! Reads what the arguments of a program ask for.
 
 ghost use Rattle.std.specs.Prelude.{◌≡◌, ◌≤◌, IfErr, IfOk, IfSome, IsSome, IsTrue, length, map};
 ghost use Rattle.std.specs.Prelude.{option_map};
@@ -16,17 +16,17 @@ use std::fs::Files;
 use std::io::{self, Read};
 use std::{env, fs};
 
-/// The longest subsystem file in bytes.
+/// The greatest length of a subsystem file, in bytes.
 const MOST_BYTES: u64 = 1_048_576;
 
-/// What stops the program where a file can't be read.
+/// Returns why the program stops if a file can't be read.
 fn unreadable(error: io::Error) -> Stop
     ensures { IsTrue (is_unread result) }
 {
     Stop::of_fault(error, Stop::Unreadable)
 }
 
-/// All bytes of an open file.
+/// Returns all bytes of an open file.
 fn bytes_of<F: Read + Drop>(alloc: Global, file: F) -> Result<Vec<u8>, Stop>
     ensures all { IfSome (F.remaining file) (λ all. IfOk result (λ bytes. bytes.items ≡ all)) }
     ensures few { IfOk result (λ bytes. length bytes.items ≤ most_bytes) }
@@ -44,7 +44,7 @@ fn bytes_of<F: Read + Drop>(alloc: Global, file: F) -> Result<Vec<u8>, Stop>
     Ok(bytes)
 }
 
-/// The subsystem of an open file, of which all is read.
+/// Reads an open file to its end, and returns its subsystem.
 #[tactic(auto, using(crate::proofs::Files::unread_in, crate::proofs::Files::unread))]
 fn subsystem_in<F: Read + Drop>(alloc: Global, file: F) -> Result<Subsystem, Stop>
     ensures exact { IfSome (F.remaining file) (λ all. IsSubsystemIn all result) }
@@ -54,7 +54,7 @@ fn subsystem_in<F: Read + Drop>(alloc: Global, file: F) -> Result<Subsystem, Sto
     Ok(Subsystem::from_toml(alloc, &bytes)?)
 }
 
-/// The subsystem of a file, or the built-in one.
+/// Returns the subsystem of a file, or the built-in one.
 #[tactic(auto, using(crate::proofs::Files::of_some, crate::proofs::Files::no_file, crate::proofs::Files::unread))]
 fn subsystem_at<S: Files>(files: &S, alloc: Global, path: Option<&str>) -> Result<Subsystem, Stop>
     ensures exact { IsSubsystemAt (option_map (λ p. p.now) path.entry) result }
@@ -69,7 +69,7 @@ fn subsystem_at<S: Files>(files: &S, alloc: Global, path: Option<&str>) -> Resul
     }
 }
 
-/// The words that the program was given, of which the first is its name.
+/// Returns the arguments of the program, of which the first is its name.
 pub fn words_given(rt: &HostRuntime) -> Result<Vec<String>, Stop>
     ensures { IfErr result (λ why. IsTrue (is_of_arguments why)) }
 {
@@ -78,8 +78,8 @@ pub fn words_given(rt: &HostRuntime) -> Result<Vec<String>, Stop>
     Ok(words)
 }
 
-/// The subsystem and the geometry that these words ask for, of which the first is the program's
-/// name. A file that they name is read.
+/// Returns the subsystem and the geometry that the arguments ask for, of which the first is the
+/// program's name. If they name a file, it is read.
 pub fn asked(rt: &HostRuntime, words: &[&str]) -> Result<(Subsystem, Geometry), Stop>
     ensures exact { IsAsked (arguments_of (map (λ w. w.now) words.now)) result }
     ensures well_formed { IfOk result (λ asked. IsWellFormed asked.0) }

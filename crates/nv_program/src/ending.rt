@@ -7,8 +7,8 @@ ghost use Rattle.nv_program.specs.Stops.{status_left};
 use crate::stop::Stop;
 use std::process::ExitCode;
 
-/// The exit code of a program that came to this end. Where it stopped, a line on standard error
-/// says why, after the program's name.
+/// Returns the exit code of a program that ended so. If it stopped, it writes a line to standard
+/// error that says why, after the program's name.
 pub fn exit_code(rt: &HostRuntime, program: &str, done: Result<u8, Stop>) -> ExitCode
     ensures { exit_status result ≡ status_left done }
 {

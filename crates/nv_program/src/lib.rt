@@ -1,4 +1,4 @@
-//! What the programs share: what their arguments ask for, and how they end.
+//! Code that the programs share: reading what their arguments ask for, and ending.
 #![tactic(auto)]
 
 mod asking;

@@ -10,6 +10,7 @@ use nv_arguments::ArgumentsFault;
 use nv_script::{GeometryField, RunEnd};
 use nv_subsystem::SubsystemError;
 use std::alloc::AllocError;
+use std::fmt;
 use std::io::{self, ErrorKind};
 use thiserror::Error;
 
@@ -17,31 +18,43 @@ use thiserror::Error;
 #[derive(Clone, Copy, Debug, PartialEq, Eq, Error)]
 pub enum Stop {
     /// The arguments were refused.
-    #[error("arguments")]
     Arguments,
     /// The subsystem file can't be read, or is too long.
-    #[error("subsystem: unreadable")]
     Unreadable,
     /// The subsystem file was refused.
-    #[error("subsystem: {0}")]
     Subsystem(SubsystemError),
     /// The first field of the geometry that is out of its limits.
-    #[error("geometry: {0}")]
     Geometry(GeometryField),
-    #[error("no ready")]
+    /// A controller's CSTS.RDY is not as awaited.
     NoReady,
-    #[error("read fault")]
+    /// The source failed.
     Read,
     /// The source ended in a request.
-    #[error("request cut short")]
     Short,
     /// A request asked for more data than may be.
-    #[error("request too long")]
     TooLong,
-    #[error("write fault")]
+    /// An output failed.
     Write,
-    #[error("out of memory")]
+    /// Memory was refused.
     Memory,
+}
+
+// What the arguments or a run come to is told in their own words.
+impl fmt::Display for Stop {
+    fn fmt<W: fmt::Write>(&self, f: &mut fmt::Formatter<W>) -> fmt::Result {
+        match self {
+            Stop::Arguments => write!(f, "{}", ArgumentsFault::Refused),
+            Stop::Unreadable => f.write_str("subsystem: unreadable"),
+            Stop::Subsystem(error) => write!(f, "subsystem: {error}"),
+            Stop::Geometry(field) => write!(f, "{}", RunEnd::Geometry(*field)),
+            Stop::NoReady => write!(f, "{}", RunEnd::NoReady),
+            Stop::Read => write!(f, "{}", RunEnd::Read),
+            Stop::Short => f.write_str("request cut short"),
+            Stop::TooLong => f.write_str("request too long"),
+            Stop::Write => write!(f, "{}", RunEnd::OutWrite),
+            Stop::Memory => write!(f, "{}", RunEnd::Memory),
+        }
+    }
 }
 
 impl Stop {

@@ -1,4 +1,4 @@
--- What buffers and lists keep while a memory changes, and the places of a buffer.
+-- Buffers and lists in a memory that changes, and the places of a buffer.
 use Rattle.std.proofs.Common.{◌≡◌, ℕ, suc, ◌+◌, ◌*◌, ◌/◌, ◌%◌, ◌<◌, ◌≤◌, List, ◌∷◌, arith, get_or}
 use Rattle.std.proofs.Common.{inl, inr, length, subst, sym}
 use Rattle.std.proofs.Math.Nat.{mul-le-mul_right}
@@ -10,7 +10,7 @@ use Rattle.nv_prp.specs.Place.{AreDistinct}
 use Rattle.nv_prp.proofs.PlaceLaws.{table-same, table_distinct}
 use Rattle.nv_prp.specs.Transfer.{PrpTransfer, place_of, transfer_places}
 
--- a memory that keeps its size keeps its buffers, and its places for lists
+-- if the size of a memory doesn't change, its buffers stay buffers, and its places for lists too
 
 pub buffer_kept : (old new : List ℕ) (page_size : ℕ) (pages : List ℕ) (start len : ℕ) → length new
     ≡ length old
@@ -35,7 +35,7 @@ list_place_kept old new page_size first second start same place = record {
 
 -- ---- the places of a buffer
 
--- those of distinct pages are distinct
+-- the places of distinct pages are distinct
 pub buffer_distinct : (page_size : ℕ) (pages : List ℕ) (start len : ℕ) → 0 < page_size → start + len
     ≤ length pages * page_size
     → AreDistinct pages → AreDistinct (buffer_places page_size pages start len)

@@ -19,7 +19,7 @@ pub page_there : (bytes pages : List ℕ) (page_size start from most : ℕ) → 
 page_there bytes pages page_size start from most some buffer =
     div_below (start + from) page_size (length pages) (omega (arith, buffer.below)) (omega (arith, buffer.enough))
 
--- its address, and the bytes behind it in its page
+-- the address of a byte, and how many bytes come after it in its page
 pub address_of : (page_size : ℕ) (pages : List ℕ) (start from : ℕ)
     → buffer_place page_size pages start from
     ≡ get_or pages ((start + from) / page_size) 0 * page_size + (start + from) % page_size
@@ -41,7 +41,7 @@ pub ruleset one_span = (page_there, address_of, rest_inside, page_times, page_si
 
 -- ---- one span after another
 
--- bytes of one page follow one another
+-- the bytes of one page are consecutive
 in_one_page : (page_size : ℕ) (pages : List ℕ) (start from n k : ℕ)
     → n ≤ page_size - (start + from) % page_size → k < n
     → buffer_place page_size pages start (from + k) ≡ buffer_place page_size pages start from + k
@@ -81,7 +81,7 @@ pub inside_more : (size : ℕ) (spans : List Span) (s : Span) → LieIn size spa
 unfolding LieIn
 inside_more size spans s inside fits = All-push (λ x. x.address + x.len ≤ size) spans s inside fits
 
--- where more bytes are left, the next one begins a page
+-- if more bytes are left, the next one begins a page
 pub next_page_begins : (page_size start from n len : ℕ) → 0 < page_size
     → len ≡ page_size - (start + from) % page_size → n ≤ (start + from) / page_size
     → n + 1 ≤ (start + (from + len)) / page_size
@@ -94,7 +94,7 @@ next_page_begins page_size start from n len some whole few =
     let next = ap (λ m. m / page_size) is ∙ div-mul-add (q + 1) page_size 0 some in
     omega (arith, next, few)
 
--- so there are no more spans than pages
+-- so there are at most as many spans as pages
 pub few_spans : (page_size start from n : ℕ) → IsPageSize page_size → start < page_size → from < most_bytes
     → n ≤ (start + from) / page_size → n < 257
 few_spans page_size start from n is low below few =

@@ -1,4 +1,4 @@
--- Transfers whose entries are those of a buffer.
+-- Transfers whose entries were built for a buffer.
 use Rattle.std.proofs.Common.{◌≡◌, ◌∙◌, ◌⊎◌, ℕ, ◌+◌, ◌-◌, ◌*◌, ◌/◌, ◌%◌, ◌<◌, ◌≤◌, List, None, ap, arith, get_or, inl}
 use Rattle.std.proofs.Common.{inr, length, refl, subst}
 use Rattle.std.proofs.lemmas.Bool.{cases_lt, cases_order, lt-ltb}
@@ -18,7 +18,7 @@ use Rattle.nv_prp.proofs.ListLaws.{base_by_list, whole_room}
 use Rattle.nv_prp.proofs.PageLaws.{base_of_two, pages_span}
 use Rattle.nv_prp.proofs.WriteLaws.{IsWithin, Lies, chain_within, list_even, place_within}
 
--- the entries for a buffer, as far as PRP1
+-- what PRP1 determines of the entries for a buffer
 pub record Begins (t : PrpTransfer) (pages : List ℕ) (start : ℕ) : Type 0 where
   pub size : IsPageSize t.page_size
   pub buffer : IsBuffer t.bytes t.page_size pages start t.len
@@ -28,7 +28,7 @@ begins_at : (t : PrpTransfer) (pages : List ℕ) (start : ℕ) → Begins t page
 begins_at t pages start begins =
     ap (λ n. n % t.page_size) begins.prp1 ∙ mod-mul-add (get_or pages 0 0) t.page_size start begins.buffer.below
 
--- a buffer that is long enough has the data pages
+-- a buffer that is long enough has as many pages as the data
 pub pages_enough : (t : PrpTransfer) (pages : List ℕ) (start : ℕ) → Begins t pages start → data_pages t ≤ length pages
 pages_enough t pages start begins =
     let bounds = page_size_bounds t.page_size begins.size in
@@ -39,7 +39,7 @@ page_has : (t : PrpTransfer) (pages : List ℕ) (start j : ℕ) → Begins t pag
     → HasPage t.bytes t.page_size (get_or pages j 0)
 page_has t pages start j begins below = begins.buffer.inside j 0 (omega (arith, pages_enough t pages start begins))
 
--- PRP1 has no fault, and data page 0 is the buffer's first one: what is left are PRP2, the list, and the other pages
+-- PRP1 has no fault, and data page 0 is the buffer's first one: what remains are PRP2, the list, and the other pages
 is_for : (t : PrpTransfer) (pages : List ℕ) (start : ℕ) → Begins t pages start → 0 < data_pages t → prp2_fault t ≡ None
     → ((n : ℕ) → n < qwords t → qword_fault t n ≡ None)
     → ((j : ℕ) → 0 < j → j < data_pages t → page_base t j ≡ get_or pages j 0 * t.page_size) → IsFor t pages start
@@ -85,7 +85,7 @@ few_pages t pages start begins more few second =
 
 -- ---- more
 
--- a Qword that is used holds the second list page's address, or names a data page
+-- a Qword that is used holds the address of the second list page, or that of a data page
 qword_cases : (space pages n : ℕ) → 0 < space → n < list_qwords space pages
     → ((space < pages - 1) × (n + 1 ≡ space)) ⊎ ((j : ℕ) × (0 < j) × (j < pages) × (naming_number space pages j ≡ n))
 qword_cases space pages n some used =
@@ -137,7 +137,7 @@ qword_of_page old new q p addr same low high =
     let at : q + (addr - q) ≡ addr = omega arith in
     cc (bytes_at-bytes_at new q p (addr - q) 8 (omega arith), bytes_at-bytes_at old q p (addr - q) 8 (omega arith))
 
--- a list whose pages stay names the same data pages
+-- a list whose pages don't change holds the addresses of the same data pages
 pub names_kept : (t : PrpTransfer) (pages : List ℕ) (first second : ℕ) (later : List ℕ) → 2 < data_pages t
     → data_pages t ≤ 257
     → Lies t.page_size (room t) t.prp2 (first * t.page_size) (second * t.page_size) → KeepsList t first second later

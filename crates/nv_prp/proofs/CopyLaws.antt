@@ -9,7 +9,6 @@ use Rattle.std.proofs.lemmas.List.{set_split}
 use Rattle.std.proofs.lemmas.Slice.{take-put_mid}
 use Rattle.nv_host.specs.Bytes.{bytes_at, with_bytes}
 use Rattle.nv_host.proofs.BytesLaws.{bytes_at-bytes_at, length-bytes_at, length-with_bytes}
-use borrow.Rule.Slice.PartMut.{put_mid}
 use Rattle.std.specs.List.{flat_map}
 use Rattle.std.proofs.lemmas.Grind.{same_number_lists}
 use Rattle.nv_prp.specs.Place.{LieIn, places, read_at, span_places, table, written_at}
@@ -20,28 +19,12 @@ pub none_written : (m : List ℕ) (a : ℕ) → with_bytes m a [] ≡ m
 unfolding with_bytes
 none_written m a = let same : a + 0 ≡ a = omega arith in ap (λ n. take a m ++ drop n m) same ∙ take-append-drop a m
 
--- more bytes behind those that were written
+-- more bytes that are written after others
 pub with_more : (m : List ℕ) (a : ℕ) (xs ys : List ℕ) → a + length xs + length ys ≤ length m
     → with_bytes (with_bytes m a xs) (a + length xs) ys ≡ with_bytes m a (xs ++ ys)
 unfolding with_bytes
 with_more m a xs ys inside =
     same_lists _ _ (simp (length-append, length-take, length-drop) (omega arith)) (λ k d h. grind (arith, item_places))
-
--- a page that is written in part
-pub with_part : (m : List ℕ) (q s k : ℕ) (page ys : List ℕ) → page ≡ bytes_at m q (length page)
-    → q + length page ≤ length m
-    → s + k ≤ length page → length ys ≡ k → with_bytes m q (put_mid s k page ys) ≡ with_bytes m (q + s) ys
-unfolding with_bytes bytes_at
-with_part m q s k page ys is inside within same =
-    let p = length page in
-    ap (λ l. with_bytes m q (put_mid s k l ys)) is
-    ∙ same_lists _ _ (simp (length-append, length-take, length-drop) (omega arith))
-    (λ i d h. grind (arith, item_places))
-
--- and stays a page
-pub page_length : (page ys : List ℕ) (s k : ℕ) → s + k ≤ length page → length ys ≡ k
-    → length (put_mid s k page ys) ≡ length page
-page_length page ys s k within same = simp (length-append, length-take, length-drop) (omega arith)
 
 -- ---- the next part of a range
 
@@ -72,9 +55,9 @@ pub ruleset reads = (read_part, read_more, none_read, take-put_mid, length-bytes
 
 pub ruleset writes = (none_written, write_more, length-take, length-drop)
 
-pub ruleset parts = (with_part, page_length, length-with_bytes, length-take, length-drop)
+pub ruleset pieces = (length-with_bytes, length-take, length-drop)
 
--- ---- the next span, and those behind it
+-- ---- the next span, and those after it
 
 abbrev pub none : Span
 none = record { address = 0; len = 0 }

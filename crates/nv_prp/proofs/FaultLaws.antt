@@ -1,4 +1,4 @@
--- A single entry's fault, and which fault of a transfer is the first.
+-- The fault of a single entry, and the first fault of a transfer.
 use Rattle.std.proofs.Common.{◌==◌, if◌then◌else◌, nat_le, ◌≡◌, ◌∙◌, ℕ, ◌+◌, ◌-◌, ◌*◌, ◌/◌, ◌%◌, ◌<◌, ◌≤◌, List, None}
 use Rattle.std.proofs.Common.{Some, ap, arith, length, zero, suc, inl, inr, refl}
 use Rattle.std.proofs.Math.Nat.{mul-add-mod_self_left, mul-mod_left}
@@ -13,7 +13,7 @@ use Rattle.std.specs.Option.{option_or}
 use Rattle.nv_prp.specs.declared.error.PrpError.{PrpError}
 use Rattle.nv_prp.specs.declared.error.PrpError.TheVariants.{Offset, Outside}
 
--- an entry that lies in a memory of whole pages has its page there
+-- if an entry lies in a memory of whole pages, so does its page
 pub entry_inside : (pages page_size size alignment entry : ℕ) → pages * page_size ≡ size → IsPageSize page_size
     → entry < size
     → entry % alignment ≡ 0 → entry_fault page_size size alignment entry ≡ None
@@ -31,7 +31,7 @@ fault_is page_size size alignment entry = refl
 
 pub ruleset entries = (entry_inside, fault_is, page_size_bounds)
 
--- what an entry without a fault is
+-- what holds for an entry without a fault
 pub from_no_fault : (page_size size alignment entry : ℕ) → entry_fault page_size size alignment entry ≡ None
     → (entry % alignment ≡ 0) × (entry - entry % page_size + page_size ≤ size)
 unfolding entry_fault
@@ -39,7 +39,7 @@ from_no_fault page_size size alignment entry none = (grind (arith, nat_tests), g
 
 -- ---- entries that are addresses in a page of the memory
 
--- where a page is whole multiples of k, an address is one where its place in the page is
+-- if the page size is a multiple of k, an address is a multiple of k if and only if its offset in the page is
 pub multiple_stays : (page size x k : ℕ) → size ≡ k * (size / k) → (page * size + x) % k ≡ x % k
 multiple_stays page size x k whole =
     let q = size / k in
@@ -79,7 +79,7 @@ pub next_fault : (t : PrpTransfer) (n m : ℕ) → m ≡ n + 1 → first_qword_f
     → first_qword_fault t m ≡ qword_fault t n
 next_fault t n m e none = grind (arith, nat_tests)
 
--- a fault stays the first one
+-- the first fault stays the first one
 pub fault_stays : (t : PrpTransfer) (e : PrpError) (m n : ℕ) → m ≤ n → first_qword_fault t m ≡ Some e
     → first_qword_fault t n ≡ Some e
 fault_stays t e m zero le h = let is : 0 ≡ m = omega arith in ap (λ k. first_qword_fault t k) is ∙ h
@@ -108,7 +108,7 @@ pub first_is : (t : PrpTransfer) → first_fault t ≡ option_or (prp1_fault t) 
 unfolding first_fault
 first_is t = refl
 
--- of one data page, of two, and of more
+-- one data page, two, and more
 
 pub fault_of_one : (t : PrpTransfer) → data_pages t ≡ 1 → fault_after_prp1 t ≡ None
 unfolding prp2_fault qwords

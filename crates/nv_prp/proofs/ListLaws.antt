@@ -1,4 +1,4 @@
--- The Qwords of a list, by their numbers.
+-- The Qwords of a list, by their indices.
 use Rattle.std.proofs.Common.{◌≡◌, ◌∙◌, ℕ, zero, suc, ◌+◌, ◌-◌, ◌*◌, ◌/◌, ◌%◌, ◌<◌, ◌≤◌, None, Some, ap, arith, length}
 use Rattle.std.specs.Option.{option_or}
 use Rattle.std.proofs.lemmas.Bool.{lt-ltb}
@@ -14,9 +14,9 @@ use Rattle.nv_prp.specs.declared.error.PrpError.{PrpError}
 use Rattle.nv_prp.proofs.FaultLaws.{from_no_fault, each_none, fault_of_list, fault_stays, next_fault}
 use Rattle.nv_prp.proofs.PageLaws.{spans}
 
--- ---- how many Qwords there are up to the page's end
+-- ---- how many Qwords there are to the end of the page
 
--- an address and its place in a page are multiples of 8 at the same time
+-- an address is a multiple of 8 if and only if its offset in the page is
 qwords_stay : (x size : ℕ) → IsPageSize size → x % 8 ≡ 0 → (x % size) % 8 ≡ 0
 qwords_stay x size is even =
     let q = size / 8 in
@@ -60,7 +60,7 @@ list_fault t list =
     ∙ ap (λ o. option_or o (first_qword_fault t (list_qwords (room t) (data_pages t)))) list.prp2
     ∙ ap (λ n. first_qword_fault t n) all
 
--- a fault at a Qword before data page j's or at it is the list's
+-- a fault at the Qword of data page j, or before it, is that of the list
 pub fault_found : (t : PrpTransfer) (e : PrpError) (j m : ℕ) → IsList t → j < data_pages t → m ≤ used_of t (j + 1)
     → first_qword_fault t m ≡ Some e
     → fault_after_prp1 t ≡ Some e

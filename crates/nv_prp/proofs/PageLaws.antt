@@ -1,4 +1,4 @@
--- Data pages by their numbers.
+-- Data pages, by their indices.
 use Rattle.std.proofs.lemmas.Bool.Decides.{nat_tests}
 use Rattle.std.proofs.Common.{◌≡◌, ◌∙◌, ℕ, zero, suc, ◌+◌, ◌-◌, ◌*◌, ◌<◌, ◌≤◌, ◌++◌, ◌∷◌, [], append-nil, ap, arith}
 use Rattle.std.proofs.Common.{length, refl, sym}
@@ -15,12 +15,12 @@ use Rattle.nv_prp.specs.declared.spans.Span.{Span}
 use Rattle.nv_prp.specs.Transfer.{PrpTransfer, data_pages, first_byte, offset, page_base, place_of, span_of, spans_of}
 use Rattle.nv_prp.specs.Transfer.{most_bytes, transfer_places}
 
--- the last data page holds a byte, and no byte lies behind it
+-- the last data page holds a byte, and there is no byte after it
 pub pages_span : (t : PrpTransfer) → 0 < t.page_size
     → (offset t + t.len ≤ data_pages t * t.page_size) × (data_pages t * t.page_size < offset t + t.len + t.page_size)
 pages_span t some = div_ceil_times (offset t + t.len) t.page_size some
 
--- page j of them begins in the transfer
+-- data page j begins in the transfer
 page_begins : (t : PrpTransfer) (j : ℕ) → 0 < t.page_size → j < data_pages t → j * t.page_size < offset t + t.len
 page_begins t j some below = grind (arith, nat_tests)
 
@@ -56,7 +56,7 @@ next_page j size = grind arith
 pub first_bytes_rise : (t : PrpTransfer) (j : ℕ) → first_byte t j ≤ first_byte t (j + 1)
 first_bytes_rise t j = omega (arith, next_page j t.page_size)
 
--- a byte of page j lies as far from the page's first byte as in the transfer
+-- a byte of page j is as far from the page's first byte as in the transfer
 place_after_first : (t : PrpTransfer) (j k : ℕ) → 0 < t.page_size → j < data_pages t
     → k < first_byte t (j + 1) - first_byte t j
     → place_of t (first_byte t j + k) ≡ place_of t (first_byte t j) + k
@@ -89,7 +89,7 @@ later_span t j some later below =
     let one : 1 * t.page_size ≤ j * t.page_size = mul-le-mul_right t.page_size (omega arith) in
     span_with t j (page_base t j) (grind (arith, place_in_page t j (first_byte t j)))
 
--- a table of one more
+-- a table with one more element
 pub table_next : (n : ℕ) (f : ℕ → Span) → table (n + 1) f ≡ table n f ++ f n ∷ []
 table_next n f = table-more n (n + 1) f refl
 

@@ -1,4 +1,4 @@
--- What tables, places and bytes written to them have in common.
+-- Laws of tables, of places, and of the bytes that are written to them.
 use Rattle.std.proofs.Common.{◌≡◌, ◌≢◌, ◌∙◌, ◌⊎◌, ℕ, zero, suc, ◌+◌, ◌-◌, ◌<◌, ◌≤◌, List, [], ◌∷◌}
 use Rattle.std.proofs.Common.{◌++◌, append_assoc, append-nil, ap, arith, drop, get_or, inl, inr}
 use Rattle.std.proofs.Common.{length, length-append, length-drop, length-take, min, refl, set}
@@ -53,7 +53,7 @@ table-same zero f g same = refl
 table-same (suc n) f g same = λ i. table-same n f g (λ k h. same k (omega arith)) i
     ++ same n (omega arith) i ∷ []
 
--- what holds of each value holds of each element
+-- what holds for each value holds for each element
 pub All-table : {X : Type 0} (P : X → Type 0) (n : ℕ) (f : ℕ → X) → ((k : ℕ) → k < n → P (f k))
     → All P (table n f)
 All-table P n f each k d below =
@@ -137,7 +137,7 @@ later_stays bytes (p ∷ at) (b ∷ written) (suc i) same below inside last =
     (λ k h j. let next : get_or at k 0 ≢ get_or at i 0 = last (suc k) (omega arith) (omega arith) in
     next)
 
--- what is written to distinct places of a memory is read from them
+-- what is written to distinct places of a memory is read back from them
 pub read_written : (bytes at written : List ℕ) → length at ≡ length written
     → ((k : ℕ) → k < length at → get_or at k 0 < length bytes) → AreDistinct at
     → read_at (written_at bytes at written) at ≡ written
@@ -168,7 +168,7 @@ length-part : (bytes : List ℕ) (from n : ℕ) → length (bytes_at bytes from 
 unfolding bytes_at
 length-part bytes from n = simp (length-take, length-drop) (omega arith)
 
--- a part at whose bytes nothing was written stays
+-- a part without a place that was written doesn't change
 pub part_stays : (bytes at written : List ℕ) (from n : ℕ)
     → ((k : ℕ) → k < length at → (get_or at k 0 < from) ⊎ (from + n ≤ get_or at k 0))
     → bytes_at (written_at bytes at written) from n ≡ bytes_at bytes from n

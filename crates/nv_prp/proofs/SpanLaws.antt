@@ -12,7 +12,7 @@ use Rattle.nv_prp.proofs.ListLaws.{base_by_list}
 use Rattle.nv_prp.proofs.PageLaws.{base_of_two, first_span, later_span, length_transfer_places, next_page}
 use Rattle.nv_prp.proofs.PageLaws.{places_of_spans}
 
--- a data page but the first is a page of the memory
+-- each data page except the first is a page of the memory
 later_fault : (t : PrpTransfer) (j : ℕ) → IsLegal t → 0 < j → j < data_pages t
     → entry_fault t.page_size (length t.bytes) t.page_size (page_base t j) ≡ None
 unfolding qword_fault prp2_fault qwords naming_qword

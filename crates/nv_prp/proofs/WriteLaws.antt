@@ -18,7 +18,7 @@ use Rattle.nv_prp.specs.Transfer.{list_place, naming_number, qword}
 
 -- ---- one Qword
 
--- what was written is read
+-- what was written is read back
 pub stored_value : (bytes : List ℕ) (addr value : ℕ) → addr + 8 ≤ length bytes → value < 2 ^ 64
     → qword (with_bytes bytes addr (to_le_bytes w64 value)) addr ≡ value
 unfolding qword
@@ -33,7 +33,7 @@ qword_kept : (addr n other : ℕ) (old new : List ℕ) → ChangesOnly addr n ol
 unfolding qword
 qword_kept addr n other old new others apart = ap (λ l. from_le_bytes w64 l) (others other 8 apart)
 
--- ---- where the Qwords of a list lie
+-- ---- the places of a list's Qwords
 
 -- a list in two pages, by their addresses
 pub record Lies (size space start first second : ℕ) : Type 0 where
@@ -43,7 +43,7 @@ pub record Lies (size space start first second : ℕ) : Type 0 where
   pub large : 4096 ≤ size
   pub apart : (first + size ≤ second) ⊎ (second + size ≤ first)
 
--- two pages share no byte
+-- two distinct pages don't overlap
 pages_apart : (size a b : ℕ) → a ≢ b → (a * size + size ≤ b * size) ⊎ (b * size + size ≤ a * size)
 pages_apart size a b other =
     elim (cases_order a b) [
@@ -82,7 +82,7 @@ abbrev pub IsWithin : ℕ → ℕ → ℕ → ℕ → ℕ → Type 0
 IsWithin size first second addr n =
     ((first ≤ addr) × (addr + n ≤ first + size)) ⊎ ((second ≤ addr) × (addr + n ≤ second + size))
 
--- the Qword that names data page j
+-- the Qword that holds the address of data page j
 abbrev pub naming_place : ℕ → ℕ → ℕ → ℕ → ℕ → ℕ
 naming_place space start second count j = list_place space start second (naming_number space count j)
 
@@ -92,7 +92,7 @@ pub place_within : (size space start first second count j behind at : ℕ) → L
     → IsWithin size first second at 8
 place_within size space start first second count j behind at lies few later below same is = grind (arith, nat_tests)
 
--- and so does the last one of the first page
+-- the last Qword of the first page is in one of the pages too
 pub chain_within : (size space start first second at : ℕ) → Lies size space start first second
     → at ≡ start + 8 * (space - 1)
     → IsWithin size first second at 8
@@ -100,7 +100,7 @@ chain_within size space start first second at lies is = inl (omega arith, omega 
 
 -- ---- a list that is written
 
--- the first Qwords name their data pages
+-- the first Qwords hold the addresses of their data pages
 abbrev pub HasNamed : List ℕ → ℕ → ℕ → ℕ → ℕ → List ℕ → ℕ → ℕ → Type 0
 HasNamed bytes size space start second pages count n = (j : ℕ) → 0 < j → j < n
     → qword bytes (naming_place space start second count j) ≡ get_or pages j 0 * size
@@ -132,7 +132,7 @@ chain_names old new size space start first second pages count n at lies few chai
       ∙ named j later (omega arith);
 }
 
--- bytes outside of the pages stay, where only bytes in them change
+-- bytes outside the pages don't change if only bytes in them change
 pub outside_kept : (size first second addr n : ℕ) (all old new : List ℕ) → IsWithin size first second addr n
     → ((from k : ℕ) → IsApart first size from k → IsApart second size from k
     → bytes_at old from k ≡ bytes_at all from k)

@@ -1,5 +1,5 @@
--- A transfer between a memory and a controller, described by two PRP entries: which byte lies
--- where.
+-- A transfer between a memory and a controller, described by two PRP entries: the place of each
+-- byte.
 use Rattle.std.specs.Prelude.{◌≡◌, ℕ, zero, suc, ◌==◌, ◌+◌, ◌-◌, ◌*◌, ◌/◌, ◌%◌, ◌&&◌, ◌<◌, List, None}
 use Rattle.std.specs.Prelude.{Option, Some, if◌then◌else◌, length, min, nat_le, nat_lt}
 use Rattle.std.specs.Int.{div_ceil, from_le_bytes, w64}
@@ -10,7 +10,7 @@ use Rattle.nv_prp.specs.declared.error.PrpError.{PrpError}
 use Rattle.nv_prp.specs.declared.error.PrpError.TheVariants.{Offset, Outside}
 use Rattle.nv_prp.specs.declared.spans.Span.{Span}
 
--- the most bytes of a transfer: 1 MiB
+-- the greatest length of a transfer: 1 MiB
 abbrev pub most_bytes : ℕ
 most_bytes = 1048576
 
@@ -25,32 +25,32 @@ abbrev pub transfer : ℕ → List ℕ → ℕ → ℕ → ℕ → PrpTransfer
 transfer page_size bytes prp1 prp2 len =
     record { page_size = page_size; bytes = bytes; prp1 = prp1; prp2 = prp2; len = len }
 
--- where the first byte lies in its page
+-- the offset of the first byte in its page
 abbrev pub offset : PrpTransfer → ℕ
 offset t = t.prp1 % t.page_size
 
--- in how many pages the bytes lie
+-- how many pages the bytes lie in
 abbrev pub data_pages : PrpTransfer → ℕ
 data_pages t = div_ceil (offset t + t.len) t.page_size
 
--- ---- the list, where there are more than two data pages
+-- ---- the list, if there are more than two data pages
 
 -- the Qword at an address
 unfoldable pub qword : List ℕ → ℕ → ℕ
 qword bytes addr = from_le_bytes w64 (bytes_at bytes addr 8)
 
--- how many Qwords of a list are used, where its first page has room for so many: one for each data
--- page but the first, and one for the address of its second page where they don't fit
+-- how many Qwords of a list are used, if its first page has room for `room`: one for each data page
+-- but the first, and one for the address of its second page if they don't fit
 abbrev pub list_qwords : ℕ → ℕ → ℕ
 list_qwords room pages = if nat_lt room (pages - 1) then pages else pages - 1
 
--- the Qword of a list that holds data page j's address, j from 1 on: in a list of two pages the
--- last Qword of the first one holds the second one's address, and those after it are one number
--- ahead
+-- the index of the list's Qword that holds the address of data page j, for j from 1 on: in a list
+-- of two pages the last Qword of the first page holds the address of the second page, so the Qwords
+-- after it are one further
 abbrev pub naming_number : ℕ → ℕ → ℕ → ℕ
 naming_number room pages j = if nat_le room j && nat_lt room (pages - 1) then j else j - 1
 
--- the place of Qword n of a list that goes on in a second page where the first one's room ends
+-- the address of Qword n of a list that continues at `second` where the room of its first page ends
 abbrev pub list_place : ℕ → ℕ → ℕ → ℕ → ℕ
 list_place room first second n = if nat_lt n room then first + 8 * n else second + 8 * (n - room)
 
@@ -58,11 +58,11 @@ list_place room first second n = if nat_lt n room then first + 8 * n else second
 abbrev pub room : PrpTransfer → ℕ
 room t = (t.page_size - t.prp2 % t.page_size) / 8
 
--- in a list of two pages the last Qword of the first one is the second one's address
+-- in a list of two pages, the last Qword of the first page is the address of the second page
 abbrev pub second_page : PrpTransfer → ℕ
 second_page t = qword t.bytes (t.prp2 + 8 * (room t - 1))
 
--- the place of Qword n of the list
+-- the address of Qword n of the list
 unfoldable pub qword_place : PrpTransfer → ℕ → ℕ
 qword_place t n = list_place (room t) t.prp2 (second_page t) n
 
@@ -70,11 +70,11 @@ qword_place t n = list_place (room t) t.prp2 (second_page t) n
 unfoldable pub qwords : PrpTransfer → ℕ
 qwords t = if nat_lt 2 (data_pages t) then list_qwords (room t) (data_pages t) else 0
 
--- the Qword of the list that holds data page j's address, j from 1 on
+-- the index of the list's Qword that holds the address of data page j, for j from 1 on
 unfoldable pub naming_qword : PrpTransfer → ℕ → ℕ
 naming_qword t j = naming_number (room t) (data_pages t) j
 
--- ---- which byte lies where
+-- ---- the place of each byte
 
 -- where data page j begins
 unfoldable pub page_base : PrpTransfer → ℕ → ℕ
@@ -94,7 +94,7 @@ place_of t i =
 unfoldable pub transfer_places : PrpTransfer → List ℕ
 transfer_places t = table t.len (place_of t)
 
--- the first byte of data page j, or the number of bytes where there is none
+-- the index of the first byte of data page j, or the number of bytes if there is no such page
 abbrev pub first_byte : PrpTransfer → ℕ → ℕ
 first_byte t j = min t.len (j * t.page_size - offset t)
 
@@ -108,8 +108,8 @@ spans_of t = table (data_pages t) (span_of t)
 
 -- ---- which transfers are legal
 
--- an entry is a multiple of its alignment, and its page lies in the memory. The memory is whole
--- pages, so that a Qword lies in it where its page does
+-- an entry is a multiple of its alignment, and its page lies in the memory. The memory consists of
+-- whole pages, so a Qword lies in it if its page does
 unfoldable pub entry_fault : ℕ → ℕ → ℕ → ℕ → Option PrpError
 entry_fault page_size size alignment entry =
     if entry % alignment == 0
@@ -119,7 +119,7 @@ entry_fault page_size size alignment entry =
 abbrev pub prp1_fault : PrpTransfer → Option PrpError
 prp1_fault t = entry_fault t.page_size (length t.bytes) 4 t.prp1
 
--- of one data page PRP2 has no meaning, of two it is the second one, and of more the list's address
+-- PRP2 has no meaning for one data page, is the address of the second of two, and else that of the list
 unfoldable pub prp2_fault : PrpTransfer → Option PrpError
 prp2_fault t =
     if nat_lt 2 (data_pages t)
@@ -138,15 +138,15 @@ pub record IsLegal (t : PrpTransfer) : Type 0 where
   pub prp2 : prp2_fault t ≡ None
   pub list : (n : ℕ) → n < qwords t → qword_fault t n ≡ None
 
--- the fault at the first of the n Qwords that has one
+-- the fault of the first of the n Qwords that has one
 abbrev pub first_qword_fault : PrpTransfer → ℕ → Option PrpError
 first_qword_fault t zero = None
 first_qword_fault t (suc n) = option_or (first_qword_fault t n) (qword_fault t n)
 
--- the fault at the first place from PRP2 on
+-- the first fault from PRP2 on
 abbrev pub fault_after_prp1 : PrpTransfer → Option PrpError
 fault_after_prp1 t = option_or (prp2_fault t) (first_qword_fault t (qwords t))
 
--- the fault at the first place, in the order PRP1, PRP2, then the Qwords in the order of use
+-- the first fault, in the order PRP1, PRP2, and then the Qwords as they are used
 unfoldable pub first_fault : PrpTransfer → Option PrpError
 first_fault t = option_or (prp1_fault t) (fault_after_prp1 t)

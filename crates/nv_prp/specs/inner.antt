@@ -1,4 +1,4 @@
--- What only contracts inside of the crate say.
+-- What no public contract reaches. Contracts of private functions use it, in other crates too.
 pub mod Buffer
 pub mod ListWalk
 pub mod Transfer

@@ -1,4 +1,4 @@
-//! Buffers in pages of the memory.
+//! Buffers in pages of the host's memory.
 
 ghost use Rattle.std.specs.Prelude.{◌≡◌, ◌+◌, ◌-◌, ◌%◌, ◌<◌, ◌≤◌, length, min};
 ghost use Rattle.nv_host.specs.Pages.{IsPageSize};
@@ -11,7 +11,7 @@ use crate::{Span, Spans};
 use nv_host::{HostMemory, PageNo};
 use std::cmp::min;
 
-/// A buffer in pages of the memory.
+/// A buffer in pages of the host's memory.
 #[derive(Clone, Copy, Debug)]
 pub struct Buffer<'a> {
     /// The numbers of its pages, in the order of its bytes.
@@ -21,7 +21,8 @@ pub struct Buffer<'a> {
 }
 
 impl Buffer<'_> {
-    /// Where byte `from` lies, and as many bytes behind it as its page has, up to so many in all.
+    /// Returns the span from byte `from` of the buffer to the end of its page, but of at most
+    /// `most` bytes.
     #[tactic(auto, using(crate::proofs::BufferSpanLaws::one_span))]
     fn span<M: HostMemory>(&self, mem: &M, from: u32, most: u32) -> Span
         requires some { 0 < most }
@@ -46,9 +47,9 @@ impl Buffer<'_> {
     }
 
     /// Finds where the first `len` bytes of the buffer lie in the memory, at most 1,048,576 of
-    /// them: one span for each page that has any.
+    /// them: one span for each page that holds any.
     ///
-    /// The pages lie in the memory, and hold so many bytes from the buffer's offset on.
+    /// The pages must lie in the memory, and hold `len` bytes from the buffer's offset on.
     #[tactic(auto, using(crate::proofs::BufferSpanLaws::spans))]
     pub fn spans<M: HostMemory>(&self, mem: &M, len: u32, spans: &mut Spans)
         requires limit { len ≤ most_bytes }

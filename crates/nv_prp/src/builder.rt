@@ -1,4 +1,4 @@
-//! Transfers built for a buffer in pages.
+//! Builds the PRP entries of a transfer for a buffer in pages.
 
 ghost use Rattle.std.specs.Prelude.{◌≡◌, ◌≢◌, ℕ, ◌+◌, ◌-◌, ◌*◌, ◌/◌, ◌%◌, ◌<◌, ◌≤◌, ◌∷◌, length};
 ghost use Rattle.nv_prp.specs.Buffer.{IsBuffer, IsListPlace, KeepsOutside, StaysFor, buffer_place};
@@ -13,27 +13,29 @@ use crate::pointer::{DataPointer, page_address, qwords_in_page};
 use crate::prp_entry::store_qword;
 use nv_host::{HostMemory, PageNo};
 
-/// Where a list may lie: in two pages of the memory.
+/// The place for a list: two pages of the memory.
 #[derive(Clone, Copy, Debug, PartialEq, Eq)]
 pub struct ListPlace {
     /// The number of the page in which the list begins.
     pub first: PageNo,
-    /// The number of the page in which it goes on, from its first byte, where the first one ends.
+    /// The number of the page in which the list continues, from its first byte on, where the first
+    /// page ends.
     pub second: PageNo,
     /// Where the list begins in the first page, in bytes: a multiple of 8 below the page size.
     pub offset: u32,
 }
 
-/// The PRP entries, PRP1 and PRP2, of a transfer to or from the first `len` bytes of a buffer, from
-/// 1 to 1,048,576 of them. Section "Physical Region Page Entry and List".
+/// Returns the PRP entries, PRP1 and PRP2, of a transfer to or from the first `len` bytes of a
+/// buffer, from 1 to 1,048,576 bytes. Section "Physical Region Page Entry and List".
 ///
-/// PRP2 is 0 for one data page, the second page's address for two, and the list's address for more.
-/// Then the list is written, and bytes outside its two pages stay. While the bytes in these pages
-/// stay, the transfer does, whatever else of the memory changes.
+/// PRP2 is 0 if there is one data page, the address of the second page if there are two, and the
+/// address of the list if there are more. Then the list is written, and bytes outside its two pages
+/// don't change. As long as the bytes in these pages don't change, the transfer stays the same,
+/// whatever else changes in the memory.
 ///
-/// All pages lie in the memory, those of the list too, whether a list is written or not; no two of
-/// them are one. The offsets are multiples of 4 (the buffer) and 8 (the list) below the page size,
-/// and the pages hold `len` bytes from the buffer's offset on.
+/// All pages must lie in the memory, also those of the list if none is written, and must be
+/// distinct. The offsets must be below the page size and multiples of 4 (the buffer) and 8 (the
+/// list), and the pages must hold `len` bytes from the buffer's offset on.
 pub fn build<M: HostMemory>(mem: &mut M, buffer: &Buffer, list: &ListPlace, len: u32) -> (u64, u64)
     requires some { 0 < len }
     requires limit { len ≤ most_bytes }
@@ -50,7 +52,7 @@ pub fn build<M: HostMemory>(mem: &mut M, buffer: &Buffer, list: &ListPlace, len:
         (M.page_len mem.new) buffer.now.pages.now buffer.now.offset i }
     ensures stays { StaysFor (transfer (M.page_len mem.new) (M.bytes mem.new) result.0 result.1 len)
         buffer.now.pages.now buffer.now.offset list.now.first list.now.second }
-    // of one data page PRP2 has no meaning
+    // If there is one data page, PRP2 has no meaning.
     ensures no_prp2 { let t = transfer (M.page_len mem.new)
         (M.bytes mem.new) result.0 result.1 len in
         pages_of t ≡ 1 → result.1 ≡ 0 }
@@ -70,8 +72,8 @@ pub fn build<M: HostMemory>(mem: &mut M, buffer: &Buffer, list: &ListPlace, len:
     }
 }
 
-/// Writes the addresses of a buffer's data pages but the first, and that of the second list page
-/// where there is one. The result is the list's address.
+/// Writes the addresses of all data pages of a buffer but the first, and the address of the second
+/// list page if there is one. Returns the list's address.
 #[tactic(auto, using(crate::proofs::WriteLaws::list_even))]
 fn write_list<M: HostMemory>(mem: &mut M, pages: &[PageNo], list: &ListPlace, count: u32) -> u64
     requires few { count ≤ 257 }

@@ -1,17 +1,17 @@
-//! Bytes copied between a transfer's spans and a slice or a payload, in the order of the transfer.
-//! As in the commands, "out" and "in" are meant from the controller's side.
+//! Copies bytes between a transfer's spans and a slice or a payload, in the order of the transfer.
+//! As in the standard's commands, "out" and "in" are seen from the controller.
 
 ghost use Rattle.std.specs.Prelude.{◌≡◌, ◌<◌, ◌^◌, length};
 ghost use Rattle.nv_prp.specs.Place.{LieIn, places, read_at, written_at};
 
 use crate::range::{read_range, write_range};
 use crate::{Payload, Spans};
-use nv_host::HostMemory;
+use nv_host::{HostMemory, store_inside};
 
-/// Data from the controller to the host: writes a payload's bytes to the memory's spans, span by
-/// span. Of two bytes for one place the later one stays.
+/// Writes the bytes of a payload to the spans of the memory, span by span: data from the controller
+/// to the host. If spans overlap, the later byte stays.
 ///
-/// The spans lie in the memory, and have as many bytes as the payload.
+/// The spans must lie in the memory, and have as many bytes as the payload.
 #[tactic(auto, using(crate::proofs::CopyLaws::lefts))]
 pub fn write_out<M: HostMemory, P: Payload>(mem: &mut M, spans: &Spans, payload: &P)
     requires inside { LieIn (length (M.bytes mem.old)) spans.now }
@@ -29,10 +29,11 @@ pub fn write_out<M: HostMemory, P: Payload>(mem: &mut M, spans: &Spans, payload:
     }
 }
 
-/// Data from the controller to the host: writes the source's bytes to the memory's spans. Of two
-/// bytes for one place the later one stays.
+/// Writes the bytes of `source` to the spans of the memory: data from the controller to the host.
+/// If spans overlap, the later byte stays.
 ///
-/// The spans lie in the memory, and have as many bytes as the source.
+/// The spans must lie in the memory, and have as many bytes as `source`.
+#[tactic(auto, using(crate::proofs::CopyLaws::lefts))]
 pub fn copy_out<M: HostMemory>(mem: &mut M, spans: &Spans, source: &[u8])
     requires inside { LieIn (length (M.bytes mem.old)) spans.now }
     requires len { length (places spans.now) ≡ length source.now }
@@ -40,12 +41,17 @@ pub fn copy_out<M: HostMemory>(mem: &mut M, spans: &Spans, source: &[u8])
     ensures len { length (M.bytes mem.new) ≡ length (M.bytes mem.old) }
     ensures page { M.page_len mem.new ≡ M.page_len mem.old }
 {
-    write_out(mem, spans, &source);
+    let mut at = 0;
+    for span in spans.as_slice() {
+        let end = at + span.len as usize;
+        store_inside(mem, span.address, &source[at..end]);
+        at = end;
+    }
 }
 
-/// Data from the host to the controller: reads the bytes of the memory's spans into `out`.
+/// Reads the bytes of the spans of the memory into `out`: data from the host to the controller.
 ///
-/// The spans lie in the memory, and have as many bytes as `out`.
+/// The spans must lie in the memory, and have as many bytes as `out`.
 #[tactic(auto, using(crate::proofs::CopyLaws::lefts))]
 pub fn copy_in<M: HostMemory>(mem: &M, spans: &Spans, out: &mut [u8])
     requires inside { LieIn (length (M.bytes mem.now)) spans.now }

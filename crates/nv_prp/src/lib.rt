@@ -1,11 +1,11 @@
-//! Physical region page (PRP) entries and lists: built for a buffer in pages, and walked over any
-//! memory.
+//! Physical region page (PRP) entries and lists, which are built for a buffer in pages, and walked
+//! over any memory.
 //!
-//! The host calls [`build`] for the pages of a buffer and puts the two entries that it answers into
-//! a command. The controller calls [`walk`] with these entries and finds the spans of memory that
-//! they describe; with [`copy_out`] it writes data to the host's memory, and with [`copy_in`] it
-//! reads data from there. [`write_out`] writes a [`Payload`], whose bytes needn't stand anywhere.
-//! The host finds the spans of its own pages by [`Buffer::spans`].
+//! The host calls [`build`] for the pages of a buffer, and puts the two entries that it returns
+//! into a command. The controller calls [`walk`] with these entries to find the spans of memory
+//! that they describe; [`copy_out`] writes data to the host's memory there, and [`copy_in`] reads
+//! data from it. [`write_out`] writes a [`Payload`], whose bytes are made as they are needed. The
+//! host finds the spans of its own pages with [`Buffer::spans`].
 //!
 //! ```text
 //! let buffer = Buffer { pages: &[5, 9, 3], offset: 4 };
@@ -17,8 +17,8 @@
 //! copy_out(&mut memory, &spans, &data);
 //! ```
 //!
-//! What these calls do together is said by laws: [`build_then_walk`], [`copy_out_then_in`] and
-//! [`written_one_by_one`], functions that do nothing, and whose contracts are the laws.
+//! Three laws say what these calls do together: [`build_then_walk`], [`copy_out_then_in`] and
+//! [`written_one_by_one`]. They are functions that do nothing, and their contracts are the laws.
 //!
 //! Sections are named as in the NVM Express Base Specification, revision 1.4.
 #![tactic(auto)]

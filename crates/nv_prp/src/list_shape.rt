@@ -1,28 +1,28 @@
-//! Which Qword of a list names which data page.
+//! Which Qword of a list holds the address of which data page.
 
 ghost use Rattle.std.specs.Prelude.{◌≡◌, ◌+◌, ◌*◌, ◌<◌, ◌≤◌, ◌^◌};
 ghost use Rattle.std.specs.Bool.{MatchBool};
 ghost use Rattle.nv_prp.specs.Transfer.{list_place, naming_number};
 
-/// A list of the addresses of so many data pages but the first.
+/// A list of the addresses of `pages` data pages but the first.
 #[derive(Clone, Copy)]
 pub struct ListShape {
-    /// How many Qwords there are to the end of its first page.
+    /// How many Qwords fit between the beginning of the list and the end of its first page.
     pub room: u32,
     pub pages: u32,
 }
 
 impl ListShape {
-    /// Whether the list goes on in a second page, whose address the last Qword of the first one
-    /// holds.
+    /// Returns whether the list continues in a second page, whose address is the last Qword of the
+    /// first one.
     pub(crate) fn has_second_page(self) -> bool
         ensures { MatchBool result (self.room + 1 < self.pages) (self.pages ≤ self.room + 1) }
     {
         self.room < self.pages.saturating_sub(1)
     }
 
-    /// Whether the address of the second page stands between those of a data page and of the one
-    /// before it.
+    /// Returns whether the Qword before a data page's own holds the address of the second list
+    /// page.
     pub(crate) fn chains_before(self, page: u32) -> bool
         ensures { MatchBool result ((page ≡ self.room) × (self.room + 1 < self.pages))
             (page ≡ self.room → self.pages ≤ self.room + 1) }
@@ -30,8 +30,8 @@ impl ListShape {
         page == self.room && self.has_second_page()
     }
 
-    /// The address of the Qword that names a data page, but the first one, in a list that begins at
-    /// `first` and goes on at `second`.
+    /// Returns the address of the Qword that holds the address of a data page other than the first,
+    /// in a list that begins at `first` and continues at `second`.
     #[tactic(auto, using(std::proofs::lemmas::Bool::Decides::nat_tests))]
     pub(crate) fn naming_qword(self, first: u64, second: u64, page: u32) -> u64
         requires later { 0 < page }

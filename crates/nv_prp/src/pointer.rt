@@ -19,7 +19,7 @@ pub struct DataPointer {
     pub len: u32,
 }
 
-/// Where an address lies in its page.
+/// Returns the offset of an address in its page.
 #[tactic(auto, using(nv_host::proofs::PageLaws::page_size_bounds))]
 pub(crate) fn offset_in_page<M: HostMemory>(mem: &M, addr: u64) -> u32
     ensures value { result ≡ addr % M.page_len mem.now }
@@ -28,7 +28,7 @@ pub(crate) fn offset_in_page<M: HostMemory>(mem: &M, addr: u64) -> u32
     (addr % u64::from(mem.page_size())) as u32
 }
 
-/// How many Qwords there are from an address, a multiple of 8, to the end of its page.
+/// Returns how many Qwords there are from an address, a multiple of 8, to the end of its page.
 #[tactic(auto, using(crate::proofs::ListLaws::rooms))]
 pub(crate) fn qwords_in_page<M: HostMemory>(mem: &M, addr: u64) -> u32
     requires { addr % 8 ≡ 0 }
@@ -39,7 +39,7 @@ pub(crate) fn qwords_in_page<M: HostMemory>(mem: &M, addr: u64) -> u32
     (mem.page_size() - offset_in_page(mem, addr)) / 8
 }
 
-/// The address of a page.
+/// Returns the address of a page.
 #[tactic(auto, using(crate::proofs::PageLaws::page_times))]
 pub(crate) fn page_address<M: HostMemory>(mem: &M, page: PageNo) -> u64
     ensures value { result ≡ page * M.page_len mem.now }
@@ -50,7 +50,7 @@ pub(crate) fn page_address<M: HostMemory>(mem: &M, page: PageNo) -> u64
 }
 
 impl DataPointer {
-    /// In how many pages the bytes lie.
+    /// Returns how many pages the bytes lie in.
     #[tactic(auto, using(crate::proofs::PageLaws::page_counts))]
     pub(crate) fn data_pages<M: HostMemory>(self, mem: &M) -> u32
         requires { self.len ≤ most_bytes }
@@ -62,7 +62,8 @@ impl DataPointer {
         (offset_in_page(mem, self.prp1) + self.len).div_ceil(page_size)
     }
 
-    /// The number of a data page's first byte, or of all bytes where there is no such page.
+    /// Returns the index of a data page's first byte, or the number of bytes if there is no such
+    /// page.
     #[tactic(auto, using(crate::proofs::PageLaws::page_times))]
     fn first_byte<M: HostMemory>(self, mem: &M, page: u32) -> u32
         requires { page ≤ 257 }
@@ -73,7 +74,7 @@ impl DataPointer {
         min(self.len, begin)
     }
 
-    /// The bytes of a data page, the first of which lies at this address.
+    /// Returns the span of a data page, whose first byte is at `address`.
     #[tactic(auto, using(crate::proofs::PageLaws::first_bytes_rise))]
     pub(crate) fn span<M: HostMemory>(self, mem: &M, page: u32, address: u64) -> Span
         requires { page < 257 }

@@ -9,7 +9,7 @@ ghost use Rattle.nv_prp.specs.Transfer.{entry_fault, qword};
 use crate::PrpError;
 use nv_host::{HostMemory, load_inside, size_of_memory, store_inside};
 
-/// Whether an entry is a multiple of its alignment and its page lies in the memory.
+/// Checks that an entry is a multiple of its alignment, and that its page lies in the memory.
 #[tactic(auto, using(crate::proofs::FaultLaws::entries))]
 pub(crate) fn check<M: HostMemory>(mem: &M, alignment: u32, entry: u64) -> Result<(), PrpError>
     requires { 0 < alignment }
@@ -29,7 +29,7 @@ pub(crate) fn check<M: HostMemory>(mem: &M, alignment: u32, entry: u64) -> Resul
     Ok(())
 }
 
-/// Whether an entry is the address of a page of the memory.
+/// Checks that an entry is the address of a page of the memory.
 #[tactic(auto, using(nv_host::proofs::PageLaws::page_size_bounds))]
 pub(crate) fn check_page<M: HostMemory>(mem: &M, entry: u64) -> Result<(), PrpError>
     ensures { let fault = entry_fault (M.page_len mem.now) (length (M.bytes mem.now))
@@ -39,7 +39,7 @@ pub(crate) fn check_page<M: HostMemory>(mem: &M, entry: u64) -> Result<(), PrpEr
     check(mem, mem.page_size(), entry)
 }
 
-/// The page's address that the Qword at an address of the memory holds.
+/// Returns the page address in the Qword at an address of the memory.
 pub(crate) fn load_page_address<M: HostMemory>(mem: &M, addr: u64) -> Result<u64, PrpError>
     requires { addr + 8 ≤ length (M.bytes mem.now) }
     ensures value { IfOk result (λ entry. entry ≡ qword (M.bytes mem.now) addr) }
@@ -53,7 +53,7 @@ pub(crate) fn load_page_address<M: HostMemory>(mem: &M, addr: u64) -> Result<u64
     Ok(entry)
 }
 
-/// The Qword at an address.
+/// Returns the Qword at an address.
 #[tactic(auto, unfolding(crate::specs::Transfer::qword))]
 fn load_qword<M: HostMemory>(mem: &M, addr: u64) -> u64
     requires { addr + 8 ≤ length (M.bytes mem.now) }
@@ -64,7 +64,7 @@ fn load_qword<M: HostMemory>(mem: &M, addr: u64) -> u64
     u64::from_le_bytes(bytes)
 }
 
-/// Writes a Qword to an address.
+/// Writes a Qword at an address.
 #[tactic(auto, using(crate::proofs::WriteLaws::stores))]
 pub(crate) fn store_qword<M: HostMemory>(mem: &mut M, addr: u64, value: u64)
     requires { addr + 8 ≤ length (M.bytes mem.old) }

@@ -1,11 +1,11 @@
-//! Ranges of the memory, read and written a page at a time.
+//! Ranges of the memory, read a page at a time and written in pieces.
 
 ghost use Rattle.std.specs.Prelude.{◌≡◌, ◌+◌, ◌*◌, ◌<◌, ◌≤◌, ◌^◌, drop, length, take};
 ghost use Rattle.nv_host.specs.Bytes.{bytes_at, with_bytes};
 ghost use Rattle.nv_host.specs.Pages.{HasPage};
 
 use crate::payload::Payload;
-use nv_host::{HostMemory, PageNo};
+use nv_host::{HostMemory, PageNo, store_inside};
 use std::cmp::min;
 
 /// Bytes of one page that follow one another.
@@ -57,23 +57,33 @@ pub(crate) fn read_range<M: HostMemory>(mem: &M, addr: u64, out: &mut [u8])
     }
 }
 
-/// Writes the bytes of a payload from a place on to a part of a page.
-#[tactic(auto, using(crate::proofs::CopyLaws::parts))]
-fn write_part<M: HostMemory, P: Payload>(mem: &mut M, part: Part, payload: &P, from: usize)
-    requires page { HasPage (M.bytes mem.old) (M.page_len mem.old) part.page }
-    requires within { part.start + part.len ≤ M.page_len mem.old }
-    requires has { from + part.len ≤ length (P.bytes payload.now) }
-    ensures bytes { M.bytes mem.new ≡ with_bytes (M.bytes mem.old)
-        (part.page * M.page_len mem.old + part.start)
-        (take part.len (drop from (P.bytes payload.now))) }
+/// How many bytes of a payload are filled in at once, at most.
+const PIECE: usize = 512;
+
+/// Writes so many bytes of a payload from an address on, all at once.
+#[tactic(auto, using(crate::proofs::CopyLaws::pieces))]
+fn write_piece<M: HostMemory, P: Payload>(
+    mem: &mut M,
+    addr: u64,
+    payload: &P,
+    from: usize,
+    len: usize,
+)
+    requires inside { addr + len ≤ length (M.bytes mem.old) }
+    requires has { from + len ≤ length (P.bytes payload.now) }
+    requires few { len ≤ PIECE }
+    ensures bytes { M.bytes mem.new
+        ≡ with_bytes (M.bytes mem.old) addr (take len (drop from (P.bytes payload.now))) }
     ensures len { length (M.bytes mem.new) ≡ length (M.bytes mem.old) }
     ensures page { M.page_len mem.new ≡ M.page_len mem.old }
 {
-    let page = mem.page_mut(part.page);
-    payload.fill(from, &mut page[part.start..part.start + part.len]);
+    let mut bytes = [0; PIECE];
+    let piece = &mut bytes[..len];
+    payload.fill(from, piece);
+    store_inside(mem, addr, piece);
 }
 
-/// Writes so many bytes of a payload from an address on, a page at a time.
+/// Writes so many bytes of a payload from an address on, piece by piece.
 #[tactic(auto, using(crate::proofs::CopyLaws::writes))]
 pub(crate) fn write_range<M: HostMemory, P: Payload>(
     mem: &mut M,
@@ -93,8 +103,8 @@ pub(crate) fn write_range<M: HostMemory, P: Payload>(
     let mut at = addr;
     let mut done = 0;
     while done < len {
-        let part = first_part(mem, at, len - done);
-        write_part(mem, part, payload, from + done);
+        let part = first_part(mem, at, min(len - done, PIECE));
+        write_piece(mem, at, payload, from + done, part.len);
         at += part.len as u64;
         done += part.len;
     }

@@ -6,10 +6,10 @@ ghost use Rattle.nv_prp.specs.declared.spans.Span.{Span};
 use std::fmt;
 use std::marker::Model;
 
-/// Bytes of the memory that follow one another, all in one page.
+/// Consecutive bytes of the memory, all in one page.
 #[derive(Clone, Copy, Debug, PartialEq, Eq)]
 pub struct Span {
-    /// Where the first one lies: its address in the memory, in bytes.
+    /// The address of the first byte.
     pub address: u64,
     /// How many bytes there are.
     pub len: u32,
@@ -34,7 +34,7 @@ impl Model for Spans {
 }
 
 impl Spans {
-    /// No spans.
+    /// Creates an empty list of spans.
     pub fn new() -> Spans
         ensures { result ≡ [] }
     {
@@ -44,7 +44,7 @@ impl Spans {
         }
     }
 
-    /// The spans in order.
+    /// Returns the spans in order.
     pub fn as_slice(&self) -> &[Span]
         ensures spans { result.now ≡ self.now }
         ensures within { length self.now ≤ 257 }
@@ -52,21 +52,21 @@ impl Spans {
         &self.spans[..self.count]
     }
 
-    /// How many spans there are.
+    /// Returns how many spans there are.
     pub fn len(&self) -> usize
         ensures { result ≡ length self.now }
     {
         self.as_slice().len()
     }
 
-    /// Whether there are no spans.
+    /// Returns whether there are no spans.
     pub fn is_empty(&self) -> bool
         ensures { IsTrue result ↔ (self.now ≡ []) }
     {
         self.as_slice().is_empty()
     }
 
-    /// Takes out all spans.
+    /// Removes all spans.
     pub fn clear(&mut self)
         ensures { self.new ≡ [] }
     {

@@ -1,4 +1,4 @@
-//! The walk over a transfer's entries.
+//! Walks over a transfer's entries.
 
 ghost use Rattle.std.specs.Prelude.{◌≡◌, ◌+◌, ◌-◌, ◌/◌, ◌<◌, ◌≤◌, ◌↔◌, [], IfErr, IfOk, IsOk};
 ghost use Rattle.std.specs.Prelude.{OnErr, OnOk, Some, length};
@@ -16,15 +16,15 @@ use crate::prp_entry::{check, check_page, load_page_address};
 use crate::{PrpError, Spans};
 use nv_host::HostMemory;
 
-/// Finds the spans of the transfer that the command's PRP entries describe, one for each data page.
+/// Finds the spans of the transfer that a command's PRP entries describe, one for each data page.
 /// The transfer has from 1 to 1,048,576 bytes. Section "Physical Region Page Entry and List".
 ///
-/// Of one data page PRP2 has no meaning, and isn't read. Of two it is the second page's address,
-/// and of more the address of a list.
+/// If there is one data page, PRP2 has no meaning and isn't read. If there are two, it is the
+/// address of the second page, and if there are more, the address of a list.
 ///
-/// The error is that of the first entry that has one: PRP1, PRP2, then the list's Qwords in the
-/// order of their use. Of an entry its offset is looked at first. After an error there are no
-/// spans, whatever the spans were before.
+/// The error is that of the first faulty entry, in this order: PRP1, PRP2, and then the list's
+/// Qwords as they are used. The offset of an entry is checked first. After an error `spans` is
+/// empty, whatever it held before.
 #[tactic(auto, using(crate::proofs::SpanLaws::walks))]
 pub fn walk<M: HostMemory>(
     mem: &M,
@@ -57,7 +57,7 @@ pub fn walk<M: HostMemory>(
     }
 }
 
-/// The walk, which leaves the spans of the data pages before a fault.
+/// Walks over the entries. After a fault `spans` holds the spans of the data pages before it.
 #[tactic(auto, using(crate::proofs::FaultLaws::faults, crate::proofs::PageLaws::spans))]
 fn walk_entries<M: HostMemory>(
     mem: &M,
@@ -84,7 +84,7 @@ fn walk_entries<M: HostMemory>(
     }
 }
 
-/// The walk from the list's address on, where there are more than two data pages.
+/// Walks over the list, which there is if there are more than two data pages.
 #[tactic(auto, using(crate::proofs::ListLaws::list_steps))]
 fn walk_list<M: HostMemory>(
     mem: &M,
@@ -115,8 +115,8 @@ fn walk_list<M: HostMemory>(
     Ok(())
 }
 
-/// Where the Qword lies that names a data page. `next` is where the Qword lies that follows those
-/// that were used.
+/// Returns the address of the Qword that holds the address of a data page. `next` is the address of
+/// the Qword after those that were used.
 #[tactic(auto, using(crate::proofs::ListLaws::next_inside))]
 fn naming_qword<M: HostMemory>(
     mem: &M,

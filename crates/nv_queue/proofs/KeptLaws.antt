@@ -1,4 +1,4 @@
--- Whole numbers, and what a ring keeps of them.
+-- Whole numbers, and how a ring keeps them.
 use Rattle.std.proofs.Common.{◌≡◌, ◌≢◌, ℕ, ◌+◌, ◌-◌, ◌*◌, ◌/◌, ◌%◌, ◌==◌, ◌<◌, ◌≤◌, ◌⊎◌, not, inl}
 use Rattle.std.proofs.Common.{inr, sym, ap, ◌∙◌, arith}
 use Rattle.std.proofs.lemmas.Bool.{cases_lt}
@@ -34,7 +34,7 @@ phase_again d n p =
     let times = times_is (n + d) (n / d + 1) d (n % d) e (mod_below n d p) in
     ap (λ x. x % 2 == 0) times ∙ even_after (n / d)
 
--- ---- what is kept of them
+-- ---- how they are kept
 
 pub kept_below : (d n : ℕ) → 0 < d → kept_number d n < 2 * d
 unfolding kept_number
@@ -70,7 +70,7 @@ phase_kept d n p =
     let times = times_is n (r / d + 2 * k) d (r % d) e (mod_below r d p) in
     sym (ap (λ x. x % 2 == 0) times ∙ ap (λ x. x == 0) (add-mul-mod_self_left (r / d) 2 k))
 
--- j numbers further, from the number r that is kept
+-- the number that is j after the kept number r
 further : (d r j : ℕ) → r < 2 * d → j < 2 * d
     → ((r + j < 2 * d) × ((r + j) % (2 * d) ≡ r + j))
     ⊎ ((2 * d ≤ r + j) × ((r + j) % (2 * d) ≡ r + j - 2 * d))
@@ -90,7 +90,7 @@ above_kept d a b j p e l =
     above_further d (kept_number d b) j (kept_number d a) (kept_below d b p) l (kept_more d a b j e)
     (kept_below d a p)
 
--- numbers less than a depth apart stand in two slots
+-- numbers that are less than a depth apart have different slots
 pub slots_apart : (d a b : ℕ) → b < a → a < b + d → slot_of d a ≢ slot_of d b
 slots_apart d a b l h =
     let e : a ≡ b + (a - b) = omega arith in
@@ -106,7 +106,7 @@ slots_apart d a b l h =
     apart_slots d x r h i more less same =
         grind (arith, above_cases d x r h i, slot_cases d x h, slot_cases d r i)
 
--- the slot of a number less than a depth further is reached as that number
+-- the first number in the slot of a number less than a depth ahead is that number
 pub ahead_kept : (d a b j : ℕ) → a ≡ b + j → j < d
     → ahead d (kept_number d b) (slot_of d (kept_number d a)) ≡ j
 ahead_kept d a b j e l =

@@ -32,7 +32,7 @@ pub phase_high : (d n : ℕ) → d ≤ n → n < 2 * d → phase_of d n ≡ fals
 unfolding phase_of
 phase_high d n h i = rw (times_is n 1 d (n - d) (omega arith) (omega arith))
 
--- where n stands
+-- the slot of n
 pub slot_cases : (d n : ℕ) → n < 2 * d
     → ((n < d) × (slot_of d n ≡ n) × (phase_of d n ≡ true))
     ⊎ ((d ≤ n) × (slot_of d n ≡ n - d) × (phase_of d n ≡ false))
@@ -73,7 +73,7 @@ ahead_is : (d n t k q : ℕ) → t + 2 * d - n ≡ q * d + k → k < d → ahead
 unfolding ahead
 ahead_is d n t k q e h = rest_is (t + 2 * d - n) q d k e h
 
--- where the first number in slot t at n or above it lies
+-- how far ahead the first number in slot t is, from n on
 pub ahead_cases : (d n t : ℕ) → n < 2 * d → t < d
     → ((n ≤ t) × (ahead d n t ≡ t - n) × (first_in_slot d n t ≡ t))
     ⊎ (((t < n) × (n ≤ t + d) × (ahead d n t ≡ t + d - n) × (first_in_slot d n t ≡ t + d))
@@ -102,9 +102,9 @@ ahead_below d n t h i = grind (arith, ahead_cases d n t h i)
 pub first_in_slot_below : (d n t : ℕ) → n < 2 * d → t < d → first_in_slot d n t < 2 * d
 first_in_slot_below d n t h i = grind (arith, ahead_cases d n t h i)
 
--- ---- how many numbers lie between
+-- ---- how far numbers are apart
 
--- one more
+-- one number further
 pub above_next : (d n k : ℕ) → n < 2 * d → k < 2 * d → above d n k + 1 < 2 * d
     → above d (next d n) k ≡ above d n k + 1
 above_next d n k h i l =
@@ -115,7 +115,7 @@ above_next d n k h i l =
       above_cases d (next d n) k (next_below d n h) i,
     )
 
--- one less
+-- one number less far
 pub next_above : (d n k : ℕ) → n < 2 * d → k < 2 * d → k ≢ n
     → above d n (next d k) ≡ above d n k - 1
 next_above d n k h i o =
@@ -148,7 +148,7 @@ above_first d n t h i =
       above_cases d (first_in_slot d n t) n (first_in_slot_below d n t h i) h,
     )
 
--- that many fewer
+-- there are that many fewer
 pub first_above : (d a n t : ℕ) → a < 2 * d → n < 2 * d → t < d → ahead d n t ≤ above d a n
     → above d a (first_in_slot d n t) ≡ above d a n - ahead d n t
 first_above d a n t j h i g =
@@ -201,7 +201,7 @@ within_filled d k n t is low =
     let to = first_in_slot_below d k t is.from low in
     record { deep = is.deep; from = is.from; to = to; few = omega arith }
 
--- it is full where the slot after the last is that of the first
+-- a ring is full if the slot after the last one is that of the first
 pub full_slots : (d k n : ℕ) → IsWithinRing d k n
     → (slot_of d (next d n) ≡ slot_of d k) ↔ IsFull d k n
 full_slots d k n is =
@@ -223,7 +223,7 @@ full_slots d k n is =
       )),
     )
 
--- and empty where both are one
+-- a ring is empty if both slots are equal
 pub empty_slots : (d k n : ℕ) → IsWithinRing d k n → (slot_of d k ≡ slot_of d n) ↔ (k ≡ n)
 empty_slots d k n is =
     let few = is.few in (

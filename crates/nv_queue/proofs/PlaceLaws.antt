@@ -26,7 +26,7 @@ pub step_stays : (d s : ℕ) (b : Bool) → s + 1 < d → number_of d (s + 1) b 
 step_stays d s true h = grind (arith, next_cases d (d + s) (omega arith))
 step_stays d s false h = grind (arith, next_cases d s (omega arith))
 
--- how far ahead a slot is, which one behind is met in the other pass
+-- how far ahead a slot is; a slot that is behind is met in the other pass
 pub ahead_behind : (d s t : ℕ) (b : Bool) → s < d → t < s → t + d - s ≡ ahead d (number_of d s b) t
 ahead_behind d s t true h l = grind (arith, ahead_cases d (d + s) t (omega arith) (omega arith))
 ahead_behind d s t false h l = grind (arith, ahead_cases d s t (omega arith) (omega arith))
@@ -45,7 +45,7 @@ pub first_before : (d s t : ℕ) (b : Bool) → t < d → s ≤ t
 first_before d s t true h l = grind (arith, ahead_cases d (d + s) t (omega arith) (omega arith))
 first_before d s t false h l = grind (arith, ahead_cases d s t (omega arith) (omega arith))
 
--- how far ahead the slot of a number less than a depth above is
+-- how far ahead the slot of a number is that is less than a depth ahead
 pub ahead_place : (d s k : ℕ) (b : Bool) → s < d → k < 2 * d → above d (number_of d s b) k < d
     → ahead d k s ≡ above d (number_of d s b) k
 ahead_place d s k b h i f =
@@ -56,7 +56,7 @@ ahead_place d s k b h i f =
 -- the slot and the phase of a place's number
 pub ruleset places = (slot_number_of, phase_number_of, number_below)
 
--- the place of the next number, the way to a slot, and the first place in it
+-- the place of the next number, the way to a slot, and the first place with it
 pub ruleset steps = (step_wraps, step_stays)
 
 pub ruleset ways = (ahead_behind, ahead_before)

@@ -19,7 +19,7 @@ use Rattle.nv_queue.specs.Runs.{EveryRunIsInOrder, Event, Exchange, Happens, IsH
 use Rattle.nv_queue.specs.Runs.{IsNew, Poll, Put, Runs, Tell}
 use Rattle.nv_queue.specs.Runs.{with_head, with_polled, with_put, with_told}
 
--- a moment of a run: `rest` was not polled yet, and the device was told of `known`
+-- a moment of a run: `rest` was not polled yet, and the device knows of `known`
 record Moment : Type 0 where
   bytes : List ℕ
   posted : List Cqe
@@ -48,7 +48,7 @@ exchange_of base d m = record {
   polled = m.polled;
 }
 
--- what holds at each
+-- what holds at each moment
 record KeepsExchange (base d : ℕ) (m : Moment) : Type 0 where
   deep : IsDepth d
   inside : base + 16 * d ≤ length m.bytes
@@ -102,7 +102,7 @@ after_put base d m c keeps fits free =
       ap at (kept_next d n ∙ ap (kept_number d) (sym more)),
     )
 
--- the awaited completion is there exactly where one is left
+-- the awaited completion is there if and only if one is left
 found : (base d : ℕ) (m : Moment) → KeepsExchange base d m
     → IsAwaitedThere m.bytes (exchange_of base d m).host ↔ (length m.polled < length m.posted)
 found base d m keeps =

@@ -1,4 +1,4 @@
--- What the slots of a ring hold as entries are written.
+-- The contents of a ring's slots as entries are written.
 use Rattle.std.proofs.Common.{◌≡◌, ◌≢◌, ℕ, ◌+◌, ◌-◌, ◌*◌, ◌<◌, ◌≤◌, inl, inr, Bool, true, false}
 use Rattle.std.proofs.Common.{not}
 use Rattle.std.proofs.Common.{List, [], ◌∷◌, ◌++◌, length, slice_index_or, Option, None, Some}
@@ -60,7 +60,7 @@ awaited_tag bytes base d posted k p holds e =
           ∙ (there ∙ turned_back (phase_of d n) (phase_of d k) turned)
     ]
 
--- the slot of a number that was not posted has not its phase
+-- the slot of a number that was not posted doesn't have its phase tag
 pub not_posted : (bytes : List ℕ) (base d : ℕ) (posted : List Cqe) (k : ℕ) → 0 < d
     → HoldsPosted bytes base d posted → k ≡ length posted
     → (completion_at bytes base (slot_of d k)).phase ≢ phase_of d k
@@ -73,7 +73,7 @@ pub slot_within : (d n : ℕ) → 0 < d → slot_of d n < d
 unfolding slot_of
 slot_within d n p = mod_below n d p
 
--- the other slots keep their bytes, where each has `size`
+-- the other slots, of `size` bytes each, keep their bytes
 pub other_slot : (bytes : List ℕ) (base size d s t : ℕ) (written : List ℕ)
     → base + size * d ≤ length bytes → length written ≡ size → s < d → t < d → s ≢ t
     → bytes_at (with_bytes bytes (base + size * t) written) (base + size * s) size
@@ -142,7 +142,7 @@ length-with_submission bytes ring c p inside =
     let len = length-bytes_of_sqe c in
     length-with_bytes bytes place (bytes_of_sqe c) (omega arith)
 
--- it stands in its slot, and the others stay
+-- it is in its slot, and the others don't change
 pub push_written : (bytes : List ℕ) (ring : SubmitNumbers) (c : Sqe) → 0 < ring.depth
     → ring.base + 64 * ring.depth ≤ length bytes → SqeFits c
     → WritesSubmission bytes (with_submission bytes ring c) ring.base ring.depth
@@ -159,7 +159,7 @@ push_written bytes ring c p inside fits =
           ap sqe_of_bytes (other_slot bytes base 64 d s t (bytes_of_sqe c) inside len l low o);
     }
 
--- ---- a completion more
+-- ---- one more completion
 
 pub holds_after : (old new : List ℕ) (base d : ℕ) (posted : List Cqe) (c : Cqe) → 0 < d
     → WritesCompletion old new base d (slot_of d (length posted)) (posted_as d (length posted) c)
@@ -213,7 +213,7 @@ holds_one_more old new ring c p is posted number inside fits holds =
     (omega arith) written holds
     )
 
--- completion k is awaited: its slot has its phase exactly where it was posted
+-- completion k is awaited: its slot has its phase tag if and only if it was posted
 pub awaited_posted : (bytes : List ℕ) (ring : CollectNumbers) (posted : List Cqe) (k : ℕ)
     → 1 < ring.depth
     → ring.collected ≡ kept_number ring.depth k → k ≤ length posted → length posted ≤ k + ring.depth
@@ -231,7 +231,7 @@ awaited_posted bytes ring posted k p number l h holds =
       (λ below. posted_tag bytes base d posted k holds below h),
     )
 
--- and then it stands there
+-- in that case it is there
 pub awaited_stands : (bytes : List ℕ) (ring : CollectNumbers) (posted : List Cqe) (k : ℕ)
     (other : Cqe)
     → 1 < ring.depth → ring.collected ≡ kept_number ring.depth k → k < length posted

@@ -15,7 +15,7 @@ use Rattle.nv_queue.specs.Slots.{posted_as, with_completion}
 use Rattle.nv_queue.specs.inner.Slots.{WritesCompletion}
 use Rattle.nv_queue.proofs.SlotLaws.{holds_one_more, not_own, put_written}
 
--- at numbers of the first pass tag 1 stands in the slots below, at those of the second in the rest
+-- for numbers of the first pass, the slots below have tag 1, and for those of the second, the other slots
 tag_cases : (d n s : ℕ) → n < 2 * d
     → ((n < d) × (tag_below d n s ≡ nat_lt s n))
     ⊎ ((d ≤ n) × (tag_below d n s ≡ not (nat_lt s (n - d))))
@@ -35,7 +35,7 @@ tag_cases d n s h =
     if_false_true true = refl
     if_false_true false = refl
 
--- the awaited slot has not the tag that is due
+-- the awaited slot doesn't have the tag that is due
 pub tag_below_here : (d n : ℕ) → n < 2 * d → tag_below d n (slot_of d n) ≡ not (phase_of d n)
 tag_below_here d n h = grind (arith, nat_tests, slot_cases d n h, tag_cases d n (slot_of d n) h)
 
@@ -62,7 +62,7 @@ tag_below_next_other d n s h i o =
       tag_cases d (next d n) s (next_below d n h),
     )
 
--- ---- a completion more
+-- ---- one more completion
 
 pub tags_after : (old new : List ℕ) (base d n : ℕ) (c : Cqe) → n < 2 * d
     → WritesCompletion old new base d (slot_of d n) (posted_as d n c)

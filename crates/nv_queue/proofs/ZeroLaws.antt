@@ -20,7 +20,7 @@ zeros_at : (n a k : ℕ) → a + k ≤ n → bytes_at (replicate n 0) a k ≡ re
 unfolding bytes_at
 zeros_at n a k h = ap (take k) (drop-replicate a n 0) ∙ take-replicate k (n - a) 0 (omega arith)
 
--- where n zeros were written, each part of them is zeros
+-- if n zeros were written, each part of them is zeros
 zeroed_at : (bytes : List ℕ) (base n a k : ℕ) → base + n ≤ length bytes → a + k ≤ n
     → bytes_at (with_bytes bytes base (replicate n 0)) (base + a) k ≡ replicate k 0
 zeroed_at bytes base n a k inside h =
@@ -40,7 +40,7 @@ zero_tag : (d slot : ℕ) → 0 < d → tag_below d 0 slot ≡ false
 unfolding tag_below
 zero_tag d slot h = grind (arith, nat_tests, slot_low d 0 h, phase_low d 0 h)
 
--- zeroed slots have the tags that are due where none was posted
+-- zeroed slots have the tags that are due if nothing was posted
 pub zeroed_tags : (bytes : List ℕ) (base d : ℕ) → base + 16 * d ≤ length bytes
     → HoldsTags (with_bytes bytes base (replicate (16 * d) 0)) base d 0
 zeroed_tags bytes base d inside slot below =
@@ -50,7 +50,7 @@ zeroed_tags bytes base d inside slot below =
 
 -- ---- zeros that are written one part after another
 
--- bytes that are written right behind others are written with them
+-- bytes that are written directly after others are written with them
 written_behind : (bytes : List ℕ) (base at : ℕ) (first second : List ℕ) → at ≡ base + length first
     → at + length second ≤ length bytes
     → with_bytes (with_bytes bytes base first) at second ≡ with_bytes bytes base (first ++ second)
@@ -79,7 +79,7 @@ zeroed_none bytes base =
     let same : base ≡ base + 0 = omega arith in
     sym (take-append-drop base bytes) ∙ ap (λ k. take base bytes ++ drop k bytes) same
 
--- after n slots, one more
+-- after n slots, one more slot
 pub zeroed_more : (old mid new : List ℕ) (base n d at : ℕ) → base + 16 * d ≤ length old → n < d
     → at ≡ base + 16 * n → mid ≡ with_bytes old base (replicate (16 * n) 0)
     → new ≡ with_bytes mid at (replicate 16 0)

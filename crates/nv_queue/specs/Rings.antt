@@ -1,17 +1,17 @@
--- The four sides of a queue pair's rings: where a ring lies, how many slots it has, its numbers.
+-- The four sides of a queue pair's rings: the address of a ring, how many slots it has, and its numbers.
 use Rattle.std.specs.Prelude.{◌≡◌, ℕ, ◌*◌, ◌<◌, Bool, false, true}
 use Rattle.nv_queue.specs.Numbers.{IsDepth, IsFull, IsWithinRing, first_in_slot, next}
 
--- the host's side of a submission ring: the number of the next submission, and up to which number
--- the host knows that submissions were taken
+-- the host's side of a submission ring: the number of the next submission, and the number below
+-- which the host knows that all submissions were taken
 pub record SubmitNumbers : Type 0 where
   pub base : ℕ
   pub depth : ℕ
   pub submitted : ℕ
   pub known : ℕ
 
--- the host's side of a completion ring: the number of the awaited completion, up to which number
--- the device was told that completions were collected, and whether more were since
+-- the host's side of a completion ring: the number of the awaited completion, the number that the
+-- head doorbell was last rung for, and whether more completions were collected since
 pub record CollectNumbers : Type 0 where
   pub base : ℕ
   pub depth : ℕ
@@ -19,30 +19,30 @@ pub record CollectNumbers : Type 0 where
   pub told : ℕ
   pub untold : Bool
 
--- the device's side of a submission ring: the number of the next submission to take, and up to
--- which number the doorbell told of submissions
+-- the device's side of a submission ring: the number of the next submission to take, and the number
+-- that the tail doorbell was last rung for
 pub record FetchNumbers : Type 0 where
   pub base : ℕ
   pub depth : ℕ
   pub fetched : ℕ
   pub rung : ℕ
 
--- the device's side of a completion ring: the number of the next completion, and up to which
--- number the doorbell told that completions were collected
+-- the device's side of a completion ring: the number of the next completion, and the number that
+-- the head doorbell was last rung for
 pub record PostNumbers : Type 0 where
   pub base : ℕ
   pub depth : ℕ
   pub posted : ℕ
   pub told : ℕ
 
--- any of the four: the number that it has come to itself, and up to which one side told the other
+-- any of the four: its own number, and the number that one side last gave the other
 pub record RingNumbers : Type 0 where
   pub base : ℕ
   pub depth : ℕ
   pub own : ℕ
   pub told : ℕ
 
--- ---- what holds of each ring
+-- ---- what holds for each ring
 
 abbrev pub IsSubmitRing : SubmitNumbers → Type 0
 IsSubmitRing ring = IsWithinRing ring.depth ring.known ring.submitted
@@ -53,14 +53,14 @@ IsFetchRing ring = IsWithinRing ring.depth ring.fetched ring.rung
 abbrev pub IsPostRing : PostNumbers → Type 0
 IsPostRing ring = IsWithinRing ring.depth ring.told ring.posted
 
--- the told place lies behind the own one, or ahead of it
+-- the told number is behind the own one, or ahead of it
 abbrev pub IsToldBehind : RingNumbers → Type 0
 IsToldBehind ring = IsWithinRing ring.depth ring.told ring.own
 
 abbrev pub IsToldAhead : RingNumbers → Type 0
 IsToldAhead ring = IsWithinRing ring.depth ring.own ring.told
 
--- a host can collect more than a depth without telling, from a device that doesn't wait for it
+-- a host can collect more than a depth without ringing the doorbell, from a device that doesn't wait for it
 pub record IsCollectRing (ring : CollectNumbers) : Type 0 where
   pub deep : IsDepth ring.depth
   pub collected : ring.collected < 2 * ring.depth
@@ -89,7 +89,7 @@ fetched_one ring = record ring { fetched = next ring.depth ring.fetched }
 abbrev pub posted_one : PostNumbers → PostNumbers
 posted_one ring = record ring { posted = next ring.depth ring.posted }
 
--- ---- a ring after a slot was told, as the first number in it
+-- ---- a ring after a slot was received, which stands for the first number in it
 
 abbrev pub known_to : SubmitNumbers → ℕ → SubmitNumbers
 known_to ring head = record ring { known = first_in_slot ring.depth ring.known head }
@@ -100,7 +100,7 @@ rung_to ring tail = record ring { rung = first_in_slot ring.depth ring.fetched t
 abbrev pub told_to : PostNumbers → ℕ → PostNumbers
 told_to ring head = record ring { told = first_in_slot ring.depth ring.told head }
 
--- all that was collected is told
+-- the head doorbell was rung for all that was collected
 abbrev pub told_all : CollectNumbers → CollectNumbers
 told_all ring = record ring { told = ring.collected; untold = false }
 

@@ -1,4 +1,4 @@
--- Runs over one completion ring: what the device posts on it, and the host polls.
+-- Runs over one completion ring: what the device posts to it, and the host polls.
 use Rattle.std.specs.Prelude.{◌≡◌, ◌↔◌, ◌⊎◌, ℕ, ◌+◌, ◌*◌, ◌<◌, ◌≤◌, false, true, List, [], ◌∷◌}
 use Rattle.std.specs.Prelude.{◌++◌, length}
 use Rattle.nv_layout.specs.Cqe.{CqeFits}
@@ -9,7 +9,7 @@ use Rattle.nv_queue.specs.Rings.{told_all, told_to}
 use Rattle.nv_queue.specs.Slots.{IsAwaitedThere, awaited_completion, completion_at, put_as}
 use Rattle.nv_queue.specs.Slots.{with_completion}
 
--- the device puts a completion, the host polls, the host tells its head by the doorbell
+-- the device puts a completion, the host polls, the host writes its head to the doorbell
 pub data Event : Type 0 where
   Put : Cqe → Event
   Poll : Event
@@ -36,7 +36,7 @@ with_polled x = record x {
   polled = x.polled ++ awaited_completion x.bytes x.host ∷ [];
 }
 
--- the slot of the awaited completion is told
+-- the slot of the awaited completion, which is the head to write
 abbrev pub told_slot : Exchange → ℕ
 told_slot x = slot_of x.host.depth x.host.collected
 
@@ -49,7 +49,7 @@ with_head x = record x { device = told_to x.device (told_slot x) }
 abbrev pub IsHeadTaken : Exchange → Type 0
 IsHeadTaken x = IsSlotBetween x.device.depth x.device.told x.device.posted (told_slot x)
 
--- what an event does, by what `put`, `poll`, `head_to_tell` and `head` ensure
+-- the effect of an event, as `put`, `poll`, `head_to_tell` and `head` promise it
 abbrev pub Happens : Event → Exchange → Exchange → Type 0
 Happens (Put completion) x y =
     CqeFits completion
@@ -66,7 +66,7 @@ abbrev pub Runs : List Event → Exchange → Exchange → Type 0
 Runs [] x y = y ≡ x
 Runs (event ∷ events) x y = (z : Exchange) × Happens event x z × Runs events z y
 
--- a ring that was just made or renewed, in a memory that has it, with phase tag 0 in each slot
+-- a ring that was just created or renewed, in a memory that holds it, with phase tag 0 in each slot
 pub record IsNew (base depth : ℕ) (x : Exchange) : Type 0 where
   pub deep : IsDepth depth
   pub inside : base + 16 * depth ≤ length x.bytes
@@ -76,8 +76,8 @@ pub record IsNew (base depth : ℕ) (x : Exchange) : Type 0 where
   pub posted : x.posted ≡ []
   pub polled : x.polled ≡ []
 
--- What was polled is the first of what was posted, each once and in order. One more is found
--- exactly where one is left, and fewer than a depth are.
+-- What was polled is the beginning of what was posted, each once and in order. Another one is found
+-- if and only if one is left, and fewer than a depth are left.
 pub record IsInOrder (depth : ℕ) (x : Exchange) : Type 0 where
   pub prefix : (rest : List Cqe) × (x.polled ++ rest ≡ x.posted)
   pub found : IsAwaitedThere x.bytes x.host ↔ (length x.polled < length x.posted)

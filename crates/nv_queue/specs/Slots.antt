@@ -1,4 +1,4 @@
--- What the slots of a ring hold.
+-- The contents of the slots of a ring.
 use Rattle.std.specs.Prelude.{◌≡◌, ◌↔◌, ℕ, ◌+◌, ◌*◌, ◌<◌, ◌≤◌, false, List, [], ◌∷◌, ◌++◌, length}
 use Rattle.std.specs.Prelude.{slice_index_or, Option, IfSome, IsNone, IsSome}
 use Rattle.nv_host.specs.Bytes.{bytes_at, with_bytes}
@@ -42,7 +42,7 @@ abbrev pub IsAwaitedThere : List ℕ → CollectNumbers → Type 0
 IsAwaitedThere bytes ring =
     (awaited_completion bytes ring).phase ≡ phase_of ring.depth ring.collected
 
--- a completion as it is posted next
+-- the next completion as it is posted
 abbrev pub put_as : PostNumbers → Cqe → Cqe
 put_as ring completion = posted_as ring.depth ring.posted completion
 
@@ -55,11 +55,11 @@ with_completion bytes ring completion =
     with_bytes bytes (completion_place ring.base ring.depth ring.posted)
     (bytes_of_cqe (put_as ring completion))
 
--- ---- what the slots hold along a run
+-- ---- the contents of the slots along a run
 
--- These completions were posted on the ring, in this order. Each has the phase of its number, and
--- stands in its slot until the number a depth later is posted. A slot that none fell on has phase
--- tag 0.
+-- These completions were posted to the ring, in this order. Each has the phase tag of its number,
+-- and is in its slot until the number a depth later is posted. A slot to which nothing was posted
+-- has phase tag 0.
 pub record HoldsPosted (bytes : List ℕ) (base depth : ℕ) (posted : List Cqe) : Type 0 where
   pub phases : (n : ℕ) (other : Cqe) → n < length posted
       → (slice_index_or posted n other).phase ≡ phase_of depth n
@@ -68,7 +68,7 @@ pub record HoldsPosted (bytes : List ℕ) (base depth : ℕ) (posted : List Cqe)
   pub blank : (slot : ℕ) → length posted ≤ slot → slot < depth
       → (completion_at bytes base slot).phase ≡ false
 
--- where the slots held what was posted, they hold this completion too
+-- if the slots held what was posted, they also hold this completion now
 abbrev pub HoldsOneMore : List ℕ → List ℕ → PostNumbers → Cqe → Type 0
 HoldsOneMore old new ring completion =
     (posted : List Cqe) → ring.posted ≡ kept_number ring.depth (length posted)
@@ -76,7 +76,7 @@ HoldsOneMore old new ring completion =
     → HoldsPosted old ring.base ring.depth posted
     → HoldsPosted new ring.base ring.depth (posted ++ put_as ring completion ∷ [])
 
--- where completion k is awaited, it is collected if it was posted, and nothing if it was not
+-- if completion k is awaited, it is collected if it was posted, and otherwise nothing is
 abbrev pub CollectsPosted : List ℕ → CollectNumbers → Option Cqe → Type 0
 CollectsPosted bytes ring result =
     (posted : List Cqe) (k : ℕ) → ring.collected ≡ kept_number ring.depth k
@@ -84,20 +84,20 @@ CollectsPosted bytes ring result =
     → HoldsPosted bytes ring.base ring.depth posted
     → (IsSome result ↔ (k < length posted)) × IfSome result (λ c. c ≡ slice_index_or posted k c)
 
--- ---- the same of the tags alone, by the number of the next completion as the ring keeps it
+-- ---- the same for the phase tags alone, by the number of the next completion as the ring keeps it
 
 abbrev pub HoldsTags : List ℕ → ℕ → ℕ → ℕ → Type 0
 HoldsTags bytes base depth n =
     (slot : ℕ) → slot < depth → (completion_at bytes base slot).phase ≡ tag_below depth n slot
 
--- where the slots had the tags that are due, they have them after this completion too
+-- if the slots had the phase tags that are due, they have them after this completion too
 abbrev pub KeepsTags : List ℕ → List ℕ → PostNumbers → Cqe → Type 0
 KeepsTags old new ring completion =
     ring.base + 16 * ring.depth ≤ length old → CqeFits completion
     → HoldsTags old ring.base ring.depth ring.posted
     → HoldsTags new ring.base ring.depth (next ring.depth ring.posted)
 
--- where this number is the next to be posted, nothing is collected exactly where it is the awaited
+-- if this number is the next to be posted, nothing is collected if and only if it is the awaited
 -- one
 abbrev pub FindsByTags : List ℕ → CollectNumbers → Option Cqe → Type 0
 FindsByTags bytes ring result =

@@ -39,9 +39,10 @@ impl Model for CompletionRing {
 }
 
 impl CompletionRing {
-    /// A new ring of `depth` slots, 2 to 4,096, from address `base` on. Nothing was collected. The
-    /// host zeroes the slots before the device posts, by `zero`: a completion is told from what a
-    /// slot held before by its phase tag alone. Each `poll` needs all slots in its memory.
+    /// Creates a ring of `depth` slots, from 2 to 4,096, at address `base`. Nothing was collected.
+    /// The host must zero the slots with `zero` before the device posts, because only the phase tag
+    /// distinguishes a completion from what its slot held before. Each `poll` needs all slots in
+    /// the memory.
     pub fn new(base: u64, depth: u16) -> CompletionRing
         requires { IsDepth depth }
         ensures { result
@@ -55,8 +56,8 @@ impl CompletionRing {
         completions
     }
 
-    /// Begins anew: completion number 0 is awaited, and no head is to be told. The host zeroes the
-    /// slots, as for a new ring.
+    /// Begins anew: completion number 0 is awaited, and there is no head to write to the doorbell.
+    /// The host must zero the slots, as for a new ring.
     pub fn renew(&mut self)
         ensures { self.new ≡ renewed_collect self.old }
     {
@@ -64,8 +65,8 @@ impl CompletionRing {
         self.untold = false;
     }
 
-    /// Zeroes its slots, all of which lie in the memory: no slot has the phase tag that is due in a
-    /// ring that begins anew. Section "Completion Queue Entry".
+    /// Zeroes the slots, all of which must lie in the memory. Then no slot has the phase tag that
+    /// is due in a ring that begins anew. Section "Completion Queue Entry".
     #[tactic(auto, using(crate::proofs::ZeroLaws::zeroed_tags))]
     pub fn zero<M: HostMemory>(&self, mem: &mut M)
         requires { self.now.base + 16 * self.now.depth ≤ length (M.bytes mem.old) }
@@ -77,7 +78,7 @@ impl CompletionRing {
         self.ring.zero(mem);
     }
 
-    /// The completion in the awaited slot, if it has the phase tag that is due.
+    /// Returns the completion in the awaited slot if it has the phase tag that is due.
     #[tactic(auto, using(crate::proofs::NumberLaws::slot_below))]
     fn peek<M: HostMemory>(&self, mem: &M) -> Option<Cqe>
         requires { self.now.base + 16 * self.now.depth ≤ length (M.bytes mem.now) }
@@ -96,8 +97,8 @@ impl CompletionRing {
         Some(completion)
     }
 
-    /// Collects the awaited completion. It was posted exactly where its slot has the phase tag of
-    /// its number. Section "Completion Queue Entry". All slots lie in the memory.
+    /// Collects the awaited completion, which was posted if and only if its slot has the phase tag
+    /// of its number. Section "Completion Queue Entry". All slots must lie in the memory.
     #[tactic(auto, using(crate::proofs::TagLaws::finds_by_tags))]
     pub fn poll<M: HostMemory>(&mut self, mem: &M) -> Option<Cqe>
         requires { self.old.base + 16 * self.old.depth ≤ length (M.bytes mem.now) }
@@ -117,7 +118,7 @@ impl CompletionRing {
         completion
     }
 
-    /// The head to write to the head doorbell, which then counts as told. There is none where
+    /// Returns the head to write to the head doorbell, and counts it as written. Returns none if
     /// nothing was collected since the last one. Section "Completion Queue y Head Doorbell".
     pub fn head_to_tell(&mut self) -> Option<u16>
         ensures none { IsNone result ↔ (self.old.untold ≡ false) }

@@ -11,8 +11,8 @@ use nv_host::{HostMemory, load_inside};
 use nv_layout::Sqe;
 use std::marker::Model;
 
-/// The device's side of a submission ring, of 2 to 4,096 slots of 64 bytes, in memory or not.
-/// Section "Submission Queue & Completion Queue Definition".
+/// The device's side of a submission ring, of 2 to 4,096 slots of 64 bytes, which need not lie in
+/// the memory. Section "Submission Queue & Completion Queue Definition".
 #[derive(Drop)]
 pub struct Fetch {
     ring: Ring,
@@ -34,7 +34,7 @@ impl Model for Fetch {
 }
 
 impl Fetch {
-    /// A new ring of `depth` slots, 2 to 4,096, from address `base` on. It is empty.
+    /// Creates an empty ring of `depth` slots, from 2 to 4,096, at address `base`.
     #[tactic(auto, using(crate::proofs::NumberLaws::within_new))]
     pub fn new(base: u64, depth: u16) -> Fetch
         requires { IsDepth depth }
@@ -47,7 +47,7 @@ impl Fetch {
         fetch
     }
 
-    /// Begins anew: the next submission is number 0, and there is none.
+    /// Begins anew: the ring is empty, and the next submission is number 0.
     #[tactic(auto, using(crate::proofs::NumberLaws::within_new))]
     pub fn renew(&mut self)
         ensures { self.new ≡ renewed_fetch self.old }
@@ -55,7 +55,7 @@ impl Fetch {
         self.ring.renew();
     }
 
-    /// Takes a write to the tail doorbell. A tail that names no slot is ignored. Section
+    /// Performs a write to the tail doorbell. A tail that names no slot is ignored. Section
     /// "Submission Queue y Tail Doorbell".
     pub fn tail(&mut self, value: u32)
         ensures rung { value < self.old.depth → self.new ≡ rung_to self.old value }
@@ -66,14 +66,14 @@ impl Fetch {
         }
     }
 
-    /// The slot of the next submission, the SQ head to post.
+    /// Returns the slot of the next submission, which is the SQ head to post.
     pub fn head(&self) -> u16
         ensures { result ≡ slot_of self.now.depth self.now.fetched }
     {
         self.ring.slot()
     }
 
-    /// Whether no submission is left to take. Section "Empty Queue".
+    /// Returns whether the ring is empty. Section "Empty Queue".
     pub fn is_empty(&self) -> bool
         ensures ring { IsFetchRing self.now }
         ensures empty { IsTrue result ↔ (self.now.fetched ≡ self.now.rung) }
@@ -81,7 +81,7 @@ impl Fetch {
         self.ring.is_empty()
     }
 
-    /// Whether the slot of the next submission lies in the memory: the condition of `next`.
+    /// Returns whether the slot of the next submission lies in the memory, which `next` requires.
     pub fn fits<M: HostMemory>(&self, mem: &M) -> bool
         ensures { IsTrue result
             ↔ (submission_place self.now.base self.now.depth self.now.fetched + 64
@@ -90,8 +90,8 @@ impl Fetch {
         self.ring.fits(mem, 64)
     }
 
-    /// Takes the next submission, whose slot lies in the memory, as `fits` tells. There is none
-    /// where the ring is empty.
+    /// Takes the next submission, or returns none if the ring is empty. The slot must lie in the
+    /// memory, as `fits` checks.
     pub fn next<M: HostMemory>(&mut self, mem: &M) -> Option<Sqe>
         requires { submission_place self.old.base self.old.depth self.old.fetched + 64
             ≤ length (M.bytes mem.now) }

@@ -1,18 +1,18 @@
-//! The submission and the completion queue of NVM Express, rings in the host's memory, from the
-//! host's side and from the device's.
+//! The submission queue and the completion queue of NVM Express, as rings in the host's memory,
+//! seen from the host's side and from the device's.
 //!
-//! Submissions and completions have numbers, from 0 since the rings were made or renewed. Number n
-//! stands in slot n modulo the depth. A completion's phase tag is 1 in the first pass over its
-//! ring, and is inverted on each.
+//! Submissions and completions are numbered from 0, since the rings were created or renewed. Number
+//! n is in slot n modulo the depth. A completion's phase tag is 1 in the first pass over its ring,
+//! and is inverted in each later pass.
 //!
-//! A ring has 2 to 4,096 slots, of 64 bytes for submissions and 16 for completions. The host's
-//! rings lie in its memory, and the host zeroes the slots of a completion ring before the device
-//! uses it, by `zero`. The device asks by `fits` before it takes or posts, since a ring that it was
-//! told of may leave the memory.
+//! A ring has 2 to 4,096 slots, of 64 bytes for submissions and of 16 bytes for completions. The
+//! host's rings lie in its memory, and the host zeroes the slots of a completion ring with `zero`
+//! before the device uses it. The device calls `fits` before it takes or posts, because the ring at
+//! the address that the host gave may not lie in the memory.
 //!
 //! # Example
 //!
-//! One command there and back, where `mem` has two zeroed pages of 4,096 bytes:
+//! A command and its completion, where `mem` has two zeroed pages of 4,096 bytes:
 //!
 //! ```
 //! let mut submissions = SubmitRing::new(0, 16);
@@ -60,9 +60,9 @@ pub use fetch::Fetch;
 pub use post::{CqFull, Post};
 pub use submission_ring::{RingFull, SubmitRing};
 
-/// The law of this crate: along any list of posts, polls and told heads on one completion ring,
-/// what was polled is the first of what was posted, each once and in order. It does nothing when
-/// called.
+/// States the law of this crate: for any sequence of posts, polls and heads written to the doorbell
+/// on one completion ring, what was polled is the beginning of what was posted, each once and in
+/// order. The call does nothing.
 pub fn any_run()
     ensures { EveryRunIsInOrder }
 {}

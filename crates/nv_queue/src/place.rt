@@ -4,7 +4,7 @@ ghost use Rattle.std.specs.Prelude.{◌≡◌, ◌<◌, ◌↔◌, IsTrue, false
 ghost use Rattle.nv_queue.specs.Numbers.{IsDepth, IsSlotBetween, above, ahead, first_in_slot, next};
 ghost use Rattle.nv_queue.specs.inner.Numbers.{number_of};
 
-/// A slot, and whether it is met in the second of two passes over the ring.
+/// A slot, and whether it is in the second of two passes over the ring.
 #[derive(Clone, Copy)]
 pub struct Place {
     pub slot: u16,
@@ -12,7 +12,7 @@ pub struct Place {
 }
 
 impl Place {
-    /// The place of number 0.
+    /// Returns the place of number 0.
     pub(crate) fn first() -> Place
         ensures { result ≡ record { slot = 0; second = false } }
     {
@@ -22,7 +22,7 @@ impl Place {
         }
     }
 
-    /// The place of the next number.
+    /// Returns the place of the next number.
     #[tactic(auto, using(crate::proofs::PlaceLaws::steps))]
     pub(crate) fn step(self, depth: u16) -> Place
         requires depth { IsDepth depth }
@@ -44,8 +44,8 @@ impl Place {
         }
     }
 
-    /// Whether a slot is met on the way from here to a place less than the depth ahead, ends
-    /// included.
+    /// Returns whether the way from here to `end`, ends included, passes a slot. `end` is less than
+    /// `depth` ahead.
     #[tactic(auto, using(crate::proofs::PlaceLaws::places, crate::proofs::PlaceLaws::ahead_place))]
     pub(crate) fn meets(self, slot: u16, end: Place, depth: u16) -> bool
         requires depth { IsDepth depth }
@@ -59,7 +59,7 @@ impl Place {
         slot < depth && self.ahead(slot, depth) <= self.ahead(end.slot, depth)
     }
 
-    /// How many places from here to the next one in a slot.
+    /// Returns how far ahead the next place with this slot is.
     #[tactic(auto, using(crate::proofs::PlaceLaws::ways))]
     fn ahead(self, slot: u16, depth: u16) -> u16
         requires depth { IsDepth depth }
@@ -74,7 +74,7 @@ impl Place {
         }
     }
 
-    /// The next place in a slot, this one included.
+    /// Returns the next place with this slot, which may be this one.
     #[tactic(auto, using(crate::proofs::PlaceLaws::firsts))]
     pub(crate) fn reach(self, slot: u16, depth: u16) -> Place
         requires depth { IsDepth depth }

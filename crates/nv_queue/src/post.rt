@@ -17,8 +17,8 @@ use thiserror::Error;
 #[error("the completion ring is full")]
 pub struct CqFull;
 
-/// The device's side of a completion ring, of 2 to 4,096 slots of 16 bytes, in memory or not.
-/// Section "Submission Queue & Completion Queue Definition".
+/// The device's side of a completion ring, of 2 to 4,096 slots of 16 bytes, which need not lie in
+/// the memory. Section "Submission Queue & Completion Queue Definition".
 #[derive(Drop)]
 pub struct Post {
     ring: Ring,
@@ -40,7 +40,7 @@ impl Model for Post {
 }
 
 impl Post {
-    /// A new ring of `depth` slots, 2 to 4,096, from address `base` on. Nothing was posted.
+    /// Creates a ring of `depth` slots, from 2 to 4,096, at address `base`. Nothing was posted.
     #[tactic(auto, using(crate::proofs::NumberLaws::within_new))]
     pub fn new(base: u64, depth: u16) -> Post
         requires { IsDepth depth }
@@ -61,8 +61,8 @@ impl Post {
         self.ring.renew();
     }
 
-    /// Takes a write to the head doorbell. A head that is not reached by freeing posted slots is
-    /// ignored. Section "Completion Queue y Head Doorbell".
+    /// Performs a write to the head doorbell. A head is ignored unless freeing posted slots leads
+    /// to it. Section "Completion Queue y Head Doorbell".
     pub fn head(&mut self, value: u32)
         ensures told { IsSlotBetween self.old.depth self.old.told self.old.posted value
             → self.new ≡ told_to self.old value }
@@ -76,14 +76,14 @@ impl Post {
         }
     }
 
-    /// The phase tag of the next completion. Section "Completion Queue Entry".
+    /// Returns the phase tag of the next completion. Section "Completion Queue Entry".
     pub fn phase(&self) -> bool
         ensures { result ≡ phase_of self.now.depth self.now.posted }
     {
         self.ring.phase()
     }
 
-    /// Whether all but one of the slots hold completions that are not known to be collected.
+    /// Returns whether all slots but one hold completions that are not known to be collected.
     /// Section "Full Queue".
     pub fn is_full(&self) -> bool
         ensures ring { IsPostRing self.now }
@@ -92,7 +92,7 @@ impl Post {
         self.ring.is_full()
     }
 
-    /// Whether the slot of the next completion lies in the memory: the condition of `put`.
+    /// Returns whether the slot of the next completion lies in the memory, which `put` requires.
     pub fn fits<M: HostMemory>(&self, mem: &M) -> bool
         ensures { IsTrue result
             ↔ (completion_place self.now.base self.now.depth self.now.posted + 16
@@ -101,8 +101,8 @@ impl Post {
         self.ring.fits(mem, 16)
     }
 
-    /// Posts a completion with the phase tag that is due in place of its own, and writes no byte
-    /// but those of its slot, which lies in the memory, as `fits` tells. Where the ring is full,
+    /// Posts a completion with the phase tag that is due, whatever its own is. Only the bytes of
+    /// its slot change, which must lie in the memory, as `fits` checks. If the ring is full,
     /// nothing changes.
     #[tactic(auto, using(crate::proofs::TagLaws::posts))]
     pub fn put<M: HostMemory>(&mut self, mem: &mut M, completion: Cqe) -> Result<(), CqFull>

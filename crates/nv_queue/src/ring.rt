@@ -12,8 +12,8 @@ use crate::place::Place;
 use nv_host::{HostMemory, size_of_memory, store_inside};
 use std::marker::Model;
 
-/// A ring as one of the four sides keeps it: its own place, and the place that one side told the
-/// other by a doorbell or by the SQ head of a completion.
+/// A ring as one of the four sides keeps it: its own place, and the place that one side last gave
+/// the other, by a doorbell or by the SQ head of a completion.
 #[derive(Drop)]
 pub struct Ring {
     base: u64,
@@ -41,7 +41,7 @@ impl Model for Ring {
 }
 
 impl Ring {
-    /// A ring whose places are those of number 0.
+    /// Creates a ring whose two places are those of number 0.
     pub(crate) fn new(base: u64, depth: u16) -> Ring
         requires { IsDepth depth }
         ensures { result ≡ record { base = base; depth = depth; own = 0; told = 0 } }
@@ -62,7 +62,7 @@ impl Ring {
         self.told = Place::first();
     }
 
-    /// The slot of the own place.
+    /// Returns the slot of the own place.
     #[tactic(auto, using(crate::proofs::PlaceLaws::places))]
     pub(crate) fn slot(&self) -> u16
         ensures ring { IsRing self.now }
@@ -71,7 +71,7 @@ impl Ring {
         self.own.slot
     }
 
-    /// The phase tag that is due at the own place.
+    /// Returns the phase tag that is due at the own place.
     #[tactic(auto, using(crate::proofs::PlaceLaws::places))]
     pub(crate) fn phase(&self) -> bool
         ensures ring { IsRing self.now }
@@ -91,7 +91,7 @@ impl Ring {
         self.own = self.own.step(self.depth);
     }
 
-    /// Whether the own place is as far above the told one as it may come.
+    /// Returns whether the own place is as far ahead of the told one as it may be.
     #[tactic(auto, using(crate::proofs::PlaceLaws::places, crate::proofs::NumberLaws::full_slots))]
     pub(crate) fn is_full(&self) -> bool
         requires { IsToldBehind self.now }
@@ -100,7 +100,7 @@ impl Ring {
         self.own.step(self.depth).slot == self.told.slot
     }
 
-    /// Whether the own place has come to the told one.
+    /// Returns whether the own place has reached the told one.
     #[tactic(auto, using(crate::proofs::PlaceLaws::places, crate::proofs::NumberLaws::empty_slots))]
     pub(crate) fn is_empty(&self) -> bool
         requires { IsToldAhead self.now }
@@ -109,7 +109,7 @@ impl Ring {
         self.told.slot == self.own.slot
     }
 
-    /// The slot that a doorbell names, if the ring has it.
+    /// Returns the slot that a doorbell names, if the ring has it.
     pub(crate) fn named_slot(&self, value: u32) -> Option<u16>
         ensures none { IsNone result ↔ (self.now.depth ≤ value) }
         ensures slot { IfSome result (λ slot. slot ≡ value) }
@@ -120,7 +120,7 @@ impl Ring {
         Some(value as u16)
     }
 
-    /// Whether a slot is met on the way from the told place to the own one, ends included.
+    /// Returns whether the way from the told place to the own one, ends included, passes a slot.
     #[tactic(auto, using(crate::proofs::PlaceLaws::places, crate::proofs::NumberLaws::ahead_slot))]
     pub(crate) fn may_free(&self, slot: u16) -> bool
         requires { IsToldBehind self.now }
@@ -141,7 +141,7 @@ impl Ring {
         self.told = self.told.reach(slot, self.depth);
     }
 
-    /// Sets the told place to a slot, at the own place or above it.
+    /// Moves the told place to a slot, at or ahead of the own place.
     #[tactic(auto, using(crate::proofs::PlaceLaws::rings))]
     pub(crate) fn fill_to(&mut self, slot: u16)
         requires ahead { IsToldAhead self.old }
@@ -160,7 +160,7 @@ impl Ring {
         self.told = self.own;
     }
 
-    /// Whether the memory has the slot of the own place, where a slot has `size` bytes.
+    /// Returns whether the slot of the own place lies in the memory, if slots have `size` bytes.
     #[tactic(auto, using(crate::proofs::PlaceLaws::places))]
     pub(crate) fn fits<M: HostMemory>(&self, mem: &M, size: u16) -> bool
         ensures { IsTrue result
@@ -172,26 +172,26 @@ impl Ring {
         self.base <= bytes && end <= bytes - self.base
     }
 
-    /// The address of that slot.
+    /// Returns the address of that slot.
     #[tactic(auto, using(crate::proofs::PlaceLaws::places))]
     pub(crate) fn address<M: HostMemory>(&self, mem: &M, size: u16) -> u64
         requires { self.now.base + size * slot_of self.now.depth self.now.own + size
             ≤ length (M.bytes mem.now) }
         ensures { result ≡ self.now.base + size * slot_of self.now.depth self.now.own }
     {
-        // That the memory has the slot bounds the sum.
+        // The sum can't overflow because the slot lies in the memory.
         let _bytes = size_of_memory(mem);
         self.base + u64::from(size) * u64::from(self.own.slot)
     }
 
-    /// Zeroes the slots, of 16 bytes each. All of them lie in the memory.
+    /// Zeroes the slots, of 16 bytes each. All of them must lie in the memory.
     pub(crate) fn zero<M: HostMemory>(&self, mem: &mut M)
         requires { self.now.base + 16 * self.now.depth ≤ length (M.bytes mem.old) }
         ensures bytes { M.bytes mem.new ≡ with_bytes (M.bytes mem.old) self.now.base
             (replicate (16 * self.now.depth) 0) }
         ensures page { M.page_len mem.new ≡ M.page_len mem.old }
     {
-        // That the memory has the slots bounds the sums.
+        // The sums can't overflow because the slots lie in the memory.
         let _bytes = size_of_memory(mem);
         for slot in 0..self.depth {
             let addr = self.base + 16 * u64::from(slot);

@@ -41,8 +41,8 @@ impl Model for SubmitRing {
 }
 
 impl SubmitRing {
-    /// A new ring of `depth` slots, 2 to 4,096, from address `base` on. Nothing was submitted. Each
-    /// `push` needs all slots in its memory; it writes them, so they need no bytes before.
+    /// Creates a ring of `depth` slots, from 2 to 4,096, at address `base`. Nothing was submitted.
+    /// Each `push` needs all slots in the memory. The slots may hold any bytes before.
     #[tactic(auto, using(crate::proofs::NumberLaws::within_new))]
     pub fn new(base: u64, depth: u16) -> SubmitRing
         requires { IsDepth depth }
@@ -63,9 +63,9 @@ impl SubmitRing {
         self.ring.renew();
     }
 
-    /// Submits a command, and answers the new tail, for the tail doorbell. The ring is full where
-    /// all but one of its slots hold commands that are not known to be taken. Then nothing changes.
-    /// All slots lie in the memory.
+    /// Submits a command, and returns the new tail, for the tail doorbell. The ring is full if all
+    /// slots but one hold commands that are not known to be taken. Then nothing changes. All slots
+    /// must lie in the memory.
     #[tactic(auto, using(crate::proofs::NumberLaws::slot_below))]
     pub fn push<M: HostMemory>(&mut self, mem: &mut M, command: &Sqe) -> Result<u16, RingFull>
         requires { self.old.base + 64 * self.old.depth ≤ length (M.bytes mem.old) }
@@ -91,8 +91,8 @@ impl SubmitRing {
         Ok(self.ring.slot())
     }
 
-    /// Whether a head lies from the known head to the tail, as the SQ head of each completion does:
-    /// the condition of `freed`.
+    /// Returns whether a head lies between the known head and the tail, as the SQ head of each
+    /// completion does. `freed` requires it.
     pub fn may_free(&self, head: u16) -> bool
         ensures ring { IsSubmitRing self.now }
         ensures between { IsTrue result
@@ -101,8 +101,8 @@ impl SubmitRing {
         self.ring.may_free(head)
     }
 
-    /// Takes the SQ head of a collected completion: the submissions below it were taken. It is one
-    /// for which `may_free` holds.
+    /// Performs the SQ head of a collected completion: the submissions before it were taken.
+    /// `may_free` must hold for it.
     pub fn freed(&mut self, head: u16)
         requires { IsSlotBetween self.old.depth self.old.known self.old.submitted head }
         ensures { self.new ≡ known_to self.old head }

@@ -1,5 +1,5 @@
--- Registers of several fields as dwords. Bits that no field has read 0 and are ignored where they
--- are written.
+-- Registers with several fields, as dwords. Bits that belong to no field read 0, and are ignored
+-- when they are written.
 use Rattle.std.specs.Prelude.{ℕ, ◌==◌, ◌+◌}
 use Rattle.nv_layout.specs.Bits.{at_bits, bit, bits}
 use Rattle.nv_register.specs.declared.admin_queue_attributes.AdminQueueAttributes.{AdminQueueAttributes}

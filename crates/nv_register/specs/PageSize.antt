@@ -2,6 +2,6 @@
 use Rattle.std.specs.Prelude.{ℕ, ◌+◌, ◌^◌}
 use Rattle.nv_register.specs.declared.controller_configuration.Sizes.{Sizes}
 
--- how many bytes a page has
+-- the size of a page in bytes
 abbrev pub page_size_of : Sizes → ℕ
 page_size_of sizes = 2 ^ (12 + sizes.mps)

@@ -22,7 +22,7 @@ is_fatal Off = false
 is_fatal Failed = true
 is_fatal (Ready rings fatal) = fatal
 
--- the rings of a ready controller after a change
+-- the readiness when the rings of a ready controller change
 abbrev pub with_rings : (Rings → Rings) → Readiness → Readiness
 with_rings change Off = Off
 with_rings change Failed = Failed

@@ -1,4 +1,4 @@
--- Which dword of the registers stands at which offset. The doorbells' stride is four bytes.
+-- Which dword of the registers is at which offset. The doorbell stride is four bytes.
 use Rattle.std.specs.Prelude.{ℕ, ◌==◌, List, [], ◌∷◌, Option, Some, None, if◌then◌else◌}
 use Rattle.nv_register.specs.declared.register.Register.{Register}
 use Rattle.nv_register.specs.declared.register.Register.TheVariants.{CapLow, CapHigh, Vs, Cc, Csts}

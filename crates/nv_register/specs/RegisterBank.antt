@@ -1,4 +1,4 @@
--- The registers of one controller, and what a read and a write of a dword do.
+-- The registers of one controller, and the effect of reading and writing a dword.
 use Rattle.std.specs.Prelude.{ℕ, ◌+◌, ◌*◌, ◌/◌, ◌%◌, ◌^◌, ◌==◌, ◌&&◌, Bool, false}
 use Rattle.std.specs.Prelude.{nat_le, nat_lt, not, if◌then◌else◌}
 use Rattle.std.specs.Option.{option_map_or}
@@ -19,7 +19,7 @@ use Rattle.nv_register.specs.declared.register.Register.TheVariants.{Aqa, AsqLow
 use Rattle.nv_register.specs.declared.register.Register.TheVariants.{AcqHigh, TailDoorbell}
 use Rattle.nv_register.specs.declared.register.Register.TheVariants.{HeadDoorbell}
 
--- after power on
+-- the registers after power on
 abbrev pub new_bank : RegisterBank
 new_bank = record {
   sizes = record { mps = 0; iosqes = 0; iocqes = 0 };
@@ -31,11 +31,11 @@ new_bank = record {
 
 -- ---- reads
 
--- CC, of which EN says whether the controller is enabled
+-- CC, in which EN says whether the controller is enabled
 abbrev pub cc_of : RegisterBank → ControllerConfiguration
 cc_of p = record { en = is_enabled p.readiness; sizes = p.sizes }
 
--- what a register reads; doorbells read 0
+-- the value of a register; doorbells read 0
 abbrev pub value_of : RegisterBank → Register → ℕ
 value_of p CapLow = 0x01010fff
 value_of p CapHigh = 0x00400020
@@ -50,13 +50,13 @@ value_of p AcqHigh = p.acq / 2 ^ 32
 value_of p TailDoorbell = 0
 value_of p HeadDoorbell = 0
 
--- the dword at an offset; 0 where no register begins
+-- the dword at an offset, or 0 if no register begins there
 abbrev pub value_at : RegisterBank → ℕ → ℕ
 value_at p offset = option_map_or (value_of p) (register_at offset) 0
 
 -- ---- enabling
 
--- a queue of so many entries, less one
+-- a queue with less_one + 1 entries
 abbrev pub is_queue : Sizes → ℕ → ℕ → Bool
 is_queue sizes base less_one =
     base % page_size_of sizes == 0 && (nat_le 1 less_one && nat_le less_one 4095)
@@ -68,7 +68,7 @@ can_start p =
     nat_le p.sizes.mps 4
     && (is_queue p.sizes p.asq p.aqa.asqs && is_queue p.sizes p.acq p.aqa.acqs)
 
--- new rings: their numbers begin at 0
+-- new rings, whose numbers begin at 0
 abbrev pub new_rings : RegisterBank → Rings
 new_rings p = record {
   page_size = page_size_of p.sizes;
@@ -76,27 +76,27 @@ new_rings p = record {
   completion = record { base = p.acq; depth = p.aqa.acqs + 1; posted = 0; told = 0 };
 }
 
--- EN was set: ready at once, or a fatal status
+-- EN is set: the controller is ready at once, or has a fatal status
 abbrev pub start : RegisterBank → RegisterBank
 start p = record p { readiness = if can_start p then Ready (new_rings p) false else Failed }
 
--- EN was cleared, which clears RDY and CFS
+-- EN is cleared, which clears RDY and CFS
 abbrev pub stop : RegisterBank → RegisterBank
 stop p = record p { readiness = Off }
 
--- while EN is 1 a write of CC changes EN alone
+-- while EN is 1, a write to CC changes only EN
 abbrev pub with_cc : RegisterBank → ControllerConfiguration → RegisterBank
 with_cc p cc =
     if is_enabled p.readiness then (if cc.en then p else stop p)
     else (if cc.en then start (record p { sizes = cc.sizes }) else record p { sizes = cc.sizes })
 
--- ---- doorbells: both are ignored where the controller is not ready
+-- ---- doorbells: both are ignored if the controller is not ready
 
 -- a tail that names no slot is ignored
 abbrev pub rung_by : FetchNumbers → ℕ → FetchNumbers
 rung_by ring tail = if nat_lt tail ring.depth then rung_to ring tail else ring
 
--- a head that isn't reached by freeing posted slots is ignored
+-- a head is ignored unless freeing posted slots leads to it
 abbrev pub told_by : PostNumbers → ℕ → PostNumbers
 told_by ring head =
     if nat_lt head ring.depth
@@ -111,7 +111,7 @@ with_head head rings = record rings { completion = told_by rings.completion head
 
 -- ---- writes
 
--- an address with another low dword, and with another high one
+-- an address with another low dword, and an address with another high dword
 abbrev pub with_low : ℕ → ℕ → ℕ
 with_low address dword = address / 2 ^ 32 * 2 ^ 32 + dword
 
@@ -137,7 +137,7 @@ with_register p AcqHigh x = unless_enabled p (record p { acq = with_high p.acq x
 with_register p TailDoorbell x = record p { readiness = with_rings (with_tail x) p.readiness }
 with_register p HeadDoorbell x = record p { readiness = with_rings (with_head x) p.readiness }
 
--- a write of the dword at an offset; ignored where no register begins
+-- a write of the dword at an offset, which is ignored if no register begins there
 abbrev pub with_register_at : RegisterBank → ℕ → ℕ → RegisterBank
 with_register_at p offset x = option_map_or (λ r. with_register p r x) (register_at offset) p
 

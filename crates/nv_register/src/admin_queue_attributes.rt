@@ -16,14 +16,14 @@ pub struct AdminQueueAttributes {
 }
 
 impl AdminQueueAttributes {
-    /// The register as a dword.
+    /// Returns the register as a dword.
     pub fn dword(self) -> u32
         ensures { result ≡ aqa_dword self }
     {
         to_bits(self.asqs as u32, 0, 12) + to_bits(self.acqs as u32, 16, 12)
     }
 
-    /// The register that a dword sets.
+    /// Returns the register with the value of a dword.
     pub fn of(dword: u32) -> AdminQueueAttributes
         ensures { result ≡ aqa_of_dword dword }
     {

@@ -19,7 +19,7 @@ pub struct Sizes {
 }
 
 impl Sizes {
-    /// How many bytes a page has, 4,096 to 65,536.
+    /// Returns the size of a page in bytes, from 4,096 to 65,536.
     pub fn page_size(self) -> u32
         requires { self.mps ≤ 4 }
         ensures { result ≡ page_size_of self }
@@ -34,8 +34,8 @@ impl Sizes {
     }
 }
 
-/// Controller Configuration (CC), as far as it is kept. Its other bits read 0. Section "Controller
-/// Configuration".
+/// The bits of Controller Configuration (CC) that are kept. The other bits read 0. Section
+/// "Controller Configuration".
 #[derive(Clone, Copy, Debug, PartialEq, Eq)]
 pub struct ControllerConfiguration {
     /// Enable.
@@ -44,7 +44,7 @@ pub struct ControllerConfiguration {
 }
 
 impl ControllerConfiguration {
-    /// The register as a dword.
+    /// Returns the register as a dword.
     pub fn dword(self) -> u32
         ensures { result ≡ cc_dword self }
     {
@@ -54,7 +54,7 @@ impl ControllerConfiguration {
             + to_bits(self.sizes.iocqes as u32, 20, 4)
     }
 
-    /// The register that a dword sets.
+    /// Returns the register with the value of a dword.
     pub fn of(dword: u32) -> ControllerConfiguration
         ensures { result ≡ cc_of_dword dword }
     {

@@ -5,7 +5,7 @@ ghost use Rattle.nv_register.specs.Dwords.{csts_dword};
 
 use nv_layout::to_bits;
 
-/// Controller Status (CSTS), as far as it is told. Section "Controller Status".
+/// The bits of Controller Status (CSTS) that are reported. Section "Controller Status".
 #[derive(Clone, Copy, Debug, PartialEq, Eq)]
 pub struct ControllerStatus {
     /// Ready.
@@ -15,7 +15,7 @@ pub struct ControllerStatus {
 }
 
 impl ControllerStatus {
-    /// The register as a dword.
+    /// Returns the register as a dword.
     pub fn dword(self) -> u32
         ensures { result ≡ csts_dword self }
     {

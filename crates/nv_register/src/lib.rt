@@ -1,8 +1,9 @@
-//! The registers of a controller, by dword, and the rings that they make of the admin queue pair.
+//! The registers of a controller, by dword, and the rings of its admin queue pair, which they
+//! define.
 //!
-//! A [`RegisterBank`] is what a host sees of one controller: dwords at offsets, of which each is
-//! read and written by a rule of its own. Setting EN with valid values makes both rings new,
-//! clearing it takes them away:
+//! A [`RegisterBank`] is what a host sees of one controller: dwords at offsets, each with its own
+//! rule for reads and writes. Setting EN with valid values creates both rings, and clearing it
+//! removes them:
 //!
 //! ```
 //! let mut bank = RegisterBank::new();

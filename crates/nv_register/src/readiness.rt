@@ -5,13 +5,14 @@ ghost use Rattle.nv_register.specs.Readiness.{is_enabled, is_fatal, is_ready};
 
 use crate::rings::Rings;
 
-/// What a controller's EN, RDY and CFS say, with its rings where it is ready. Sections "Controller
+/// What a controller's EN, RDY and CFS say, and its rings if it is ready. Sections "Controller
 /// Configuration" and "Controller Status".
 #[derive(Drop)]
 pub enum Readiness {
     /// EN is 0.
     Off,
-    /// EN was set with values with which the controller can't start: a fatal status, and not ready.
+    /// EN was set with values with which the controller can't start. It has a fatal status and is
+    /// not ready.
     Failed,
     /// EN is 1, and the controller is ready.
     Ready {
@@ -22,21 +23,21 @@ pub enum Readiness {
 }
 
 impl Readiness {
-    /// Whether EN is 1. Section "Controller Configuration".
+    /// Returns whether EN is 1. Section "Controller Configuration".
     pub fn is_enabled(&self) -> bool
         ensures { result ≡ is_enabled self.now }
     {
         !matches!(self, Readiness::Off)
     }
 
-    /// Whether RDY is 1. Section "Controller Status".
+    /// Returns whether RDY is 1. Section "Controller Status".
     pub fn is_ready(&self) -> bool
         ensures { result ≡ is_ready self.now }
     {
         matches!(self, Readiness::Ready { .. })
     }
 
-    /// Whether CFS is 1. Section "Controller Status".
+    /// Returns whether CFS is 1. Section "Controller Status".
     pub fn is_fatal(&self) -> bool
         ensures { result ≡ is_fatal self.now }
     {

@@ -1,4 +1,4 @@
-//! Which dword of the registers stands at which offset.
+//! Which dword of the registers is at which offset.
 
 ghost use Rattle.std.specs.Prelude.{◌≡◌};
 ghost use Rattle.nv_register.specs.Register.{register_at};
@@ -35,7 +35,8 @@ pub enum Register {
 }
 
 impl Register {
-    /// The register that begins at an offset in bytes; none where no dword of these does.
+    /// Returns the register that begins at an offset in bytes, or none if none of these dwords
+    /// does.
     pub fn at(address: u32) -> Option<Register>
         ensures { result ≡ register_at address }
     {

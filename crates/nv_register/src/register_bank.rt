@@ -16,8 +16,8 @@ use crate::register::Register;
 use crate::rings::Rings;
 use nv_queue::{Fetch, Post};
 
-/// CAP: queues of 4,096 entries at most, contiguous, doorbells side by side, the NVM command set,
-/// pages of 4,096 to 65,536 bytes. Section "Controller Capabilities".
+/// CAP: queues of at most 4,096 entries, contiguous, doorbells next to each other, the NVM command
+/// set, and pages of 4,096 to 65,536 bytes. Section "Controller Capabilities".
 const CAP_LOW: u32 = 0x0101_0fff;
 
 const CAP_HIGH: u32 = 0x0040_0020;
@@ -25,10 +25,10 @@ const CAP_HIGH: u32 = 0x0040_0020;
 /// VS: revision 1.4. Section "Version".
 const VS: u32 = 0x0001_0400;
 
-/// The registers of one controller, and the rings that they make where it is ready.
+/// The registers of one controller, and the rings that they make when it is ready.
 #[derive(Drop)]
 pub struct RegisterBank {
-    /// What CC says beside EN.
+    /// The fields of CC other than EN.
     pub sizes: Sizes,
     pub readiness: Readiness,
     pub aqa: AdminQueueAttributes,
@@ -38,21 +38,21 @@ pub struct RegisterBank {
     pub acq: u64,
 }
 
-/// An address with another low dword.
+/// Replaces the low dword of an address.
 fn low_dword_set(address: u64, dword: u32) -> u64
     ensures { result ≡ with_low address dword }
 {
     (address >> 32 << 32) + dword as u64
 }
 
-/// An address with another high dword.
+/// Replaces the high dword of an address.
 fn high_dword_set(address: u64, dword: u32) -> u64
     ensures { result ≡ with_high address dword }
 {
     ((dword as u64) << 32) + address % (1 << 32)
 }
 
-/// Whether a queue begins at a page and has 2 to 4,096 entries.
+/// Returns whether a queue begins at a page and has 2 to 4,096 entries.
 fn is_queue(sizes: Sizes, base: u64, less_one: u16) -> bool
     requires { sizes.mps ≤ 4 }
     ensures { result ≡ is_queue sizes base less_one }
@@ -61,7 +61,7 @@ fn is_queue(sizes: Sizes, base: u64, less_one: u16) -> bool
 }
 
 impl RegisterBank {
-    /// The registers after power on: the controller is not enabled.
+    /// Creates the registers as they are after power on, with the controller not enabled.
     pub fn new() -> RegisterBank
         ensures { result ≡ new_bank }
     {
@@ -78,14 +78,14 @@ impl RegisterBank {
         }
     }
 
-    /// Whether EN is 1. Section "Controller Configuration".
+    /// Returns whether EN is 1. Section "Controller Configuration".
     pub fn is_enabled(&self) -> bool
         ensures { result ≡ is_enabled self.now.readiness }
     {
         self.readiness.is_enabled()
     }
 
-    /// What CC holds.
+    /// Returns the value of CC.
     fn configuration(&self) -> ControllerConfiguration
         ensures { result ≡ cc_of self.now }
     {
@@ -95,7 +95,7 @@ impl RegisterBank {
         }
     }
 
-    /// What a register reads. Doorbells read 0.
+    /// Returns the value of a register. Doorbells read 0.
     fn value(&self, register: Register) -> u32
         ensures { result ≡ value_of self.now register }
     {
@@ -120,7 +120,7 @@ impl RegisterBank {
         }
     }
 
-    /// The dword at an offset in bytes; 0 where no register begins.
+    /// Returns the dword at an offset in bytes, or 0 if no register begins there.
     pub fn read32(&self, offset: u32) -> u32
         ensures { result ≡ value_at self.now offset }
     {
@@ -130,7 +130,7 @@ impl RegisterBank {
         }
     }
 
-    /// Whether the controller becomes ready with these registers.
+    /// Returns whether the controller becomes ready with these registers.
     fn can_start(&self) -> bool
         ensures { result ≡ can_start self.now }
     {
@@ -139,7 +139,7 @@ impl RegisterBank {
             && is_queue(self.sizes, self.acq, self.aqa.acqs)
     }
 
-    /// The rings that the registers make.
+    /// Returns the rings that the registers make.
     fn new_rings(&self) -> Rings
         requires { can_start self.now ≡ true }
         ensures { result ≡ new_rings self.now }
@@ -172,7 +172,7 @@ impl RegisterBank {
         self.readiness = Readiness::Off;
     }
 
-    /// Takes a write to CC. While EN is 1 only EN changes.
+    /// Performs a write to CC. While EN is 1, only EN changes.
     fn configure(&mut self, cc: ControllerConfiguration)
         ensures { self.new ≡ with_cc self.old cc }
     {
@@ -206,7 +206,8 @@ impl RegisterBank {
         }
     }
 
-    /// Takes a write to a register. The queue's registers take none while EN is 1.
+    /// Performs a write to a register. The registers of the admin queues don't change while EN is
+    /// 1.
     fn set(&mut self, register: Register, dword: u32)
         ensures { self.new ≡ with_register self.old register dword }
     {
@@ -229,7 +230,7 @@ impl RegisterBank {
         }
     }
 
-    /// Whether a write to a register clears an EN that is 1.
+    /// Returns whether a write to a register clears an EN that is 1.
     fn stops_by(&self, register: Register, dword: u32) -> bool
         ensures { result ≡ stops_by self.now register dword }
     {
@@ -239,8 +240,8 @@ impl RegisterBank {
         }
     }
 
-    /// Whether a write of a dword at an offset in bytes clears an EN that is 1, which resets the
-    /// controller. Section "Controller Configuration".
+    /// Returns whether a write of a dword at an offset in bytes clears an EN that is 1, which
+    /// resets the controller. Section "Controller Configuration".
     pub fn stops_at(&self, offset: u32, dword: u32) -> bool
         ensures { result ≡ stops_at self.now offset dword }
     {
@@ -250,8 +251,8 @@ impl RegisterBank {
         }
     }
 
-    /// Writes the dword at an offset in bytes; ignored where no register begins, or where the
-    /// register takes no write.
+    /// Writes the dword at an offset in bytes. The write is ignored if no register begins there or
+    /// if the register is read-only.
     pub fn write32(&mut self, offset: u32, dword: u32)
         ensures { self.new ≡ with_register_at self.old offset dword }
     {

@@ -31,7 +31,7 @@ use Rattle.nv_script.proofs.ListLaws.{begun_all, listing_asked}
 
 -- ---- the commands
 
--- so many commands that ask for these NSIDs
+-- the commands that ask for these NSIDs
 pub commands_are : (ks : List Command) (ns : List ℕ) → length ns < length ks + 1
     → ((k : ℕ) (d : Command) → k < length ns → get_or ks k d ≡ IdentifyNamespace (get_or ns k 0))
     → take (length ns) ks ≡ map IdentifyNamespace ns
@@ -44,7 +44,7 @@ commands_are ks ns few h =
     get_or-take (length ns) ks i IdentifyController b ∙ h i IdentifyController b
     ∙ sym (get_or-map IdentifyNamespace ns i 0 IdentifyController b))
 
--- those of some NSIDs and of more, and of the first ones, the next ones and the rest
+-- the commands for some NSIDs and more, and for the first ones, the next ones and the rest
 pub namespaces_join : (c : ℕ) (ns more : List ℕ)
     → namespace_orders c (ns ++ more) ≡ namespace_orders c ns ++ namespace_orders c more
 namespaces_join c ns more = map-append (λ n. order_of c (IdentifyNamespace n)) ns more
@@ -57,7 +57,7 @@ namespaces_split c ns done rest n e =
     ∙ namespaces_join c done (take n rest ++ drop n rest)
     ∙ ap (λ x. namespace_orders c done ++ x) (namespaces_join c (take n rest) (drop n rest))
 
--- as orders
+-- the same as orders
 orders_are : (c : ℕ) (ns : List ℕ) → map (order_of c) (map IdentifyNamespace ns) ≡ namespace_orders c ns
 orders_are c [] = refl
 orders_are c (n ∷ ns) = ap (λ os. order_of c (IdentifyNamespace n) ∷ os) (orders_are c ns)
@@ -162,7 +162,7 @@ module _ (w : Standing) (c : ℕ) (s : State) (d : DriverValue) (listing : Listi
       ∙ ap (answers_of c w.state (due c w)) are
       ∙ sym (answers c w ns known)
 
-  -- what it leaves, by what the listing was told of it
+  -- what the batch leaves, by what was listed
   pub batch_leaves : {A : Type 0} (r : Result A Stop) (now : State) (after : DriverValue) (told : Listing)
       (given : List Answer)
       → 0 < length ns → now ≡ state_after c s now_due ks → after ≡ after_commands d c (length ks)

@@ -12,12 +12,12 @@ use Rattle.nv_script.specs.inner.Feeding.{Stands}
 use Rattle.nv_script.specs.Results.{Progress, after, whole}
 use Rattle.nv_script.specs.ScriptLines.{Pieces, pieces}
 use Rattle.nv_script.specs.inner.ScriptLines.{buffer_after, buffer_of}
-use Rattle.nv_script.specs.declared.ends.Cut.{Cut}
+use Rattle.nv_script.specs.declared.ends.RunEnd.{RunEnd}
 use Rattle.nv_script.specs.declared.session.Session.{Session}
 use Rattle.nv_script.proofs.PieceLaws.{HasNoNewline, buffer_after-buffer_of, pieces-newline, pieces-others}
 use Rattle.nv_script.proofs.PieceLaws.{taken-more, whole-more}
 
--- the ended lines of these bytes are done, and their last piece is in the buffer
+-- the lines with newlines of these bytes are executed, and the last piece is in the buffer
 abbrev pub Fed : State → List ℕ → Option (List ℕ) → Left → Session → Type 0
 Fed s bytes line left session =
     (line ≡ buffer_of (pieces bytes).last) × Stands (whole s (pieces bytes).ended) left session
@@ -50,7 +50,7 @@ Fed-newline s xs b held left session e is stands =
           (sym (ap (λ (p : Pieces). whole s p.ended) more ∙ whole-more s (pieces xs).ended (pieces xs).last)) stands,
     )
 
--- ---- the first newline of what is left of a piece
+-- ---- the first newline in the rest of a piece
 
 is_newline_at : (rest : List ℕ) (end : ℕ) → IsFirstByte (is_byte 10) rest (Some end) → get_or rest end 0 ≡ 10
 is_newline_at rest end first = let is : eqb (get_or rest end 0) 10 ≡ true = first.1 in grind (arith, nat_tests)
@@ -84,7 +84,7 @@ Fed-executed s bytes done rest end held left session first is stands =
     (Fed-newline s xs b held left session (is_newline_at rest end first) is stands)
 
 -- the line is cut short
-pub cut_at : (cut : Cut) (s : State) (bytes piece done rest : List ℕ) (end : ℕ) (left : Left)
+pub cut_at : (cut : RunEnd) (s : State) (bytes piece done rest : List ℕ) (end : ℕ) (left : Left)
     → piece ≡ done ++ rest → IsFirstByte (is_byte 10) rest (Some end)
     → (let p = pieces ((bytes ++ done) ++ take end rest) in IsCutIn cut (whole s p.ended) p.last left)
     → (i : ℕ) × (i < length piece) × (get_or piece i 0 ≡ 10)

@@ -1,4 +1,4 @@
--- The first two commands of `list` to a controller: what it is, and which NSIDs are attached to it.
+-- The first two commands of `list` to a controller: for its data, and for the NSIDs that are attached to it.
 use Rattle.std.proofs.Common.{◌≡◌, ◌∙◌, ℕ, ◌<◌, ap, sym, subst, refl, List, [], ◌∷◌, ◌++◌, length, Ok, Err}
 use Rattle.std.specs.Prelude.{Contains}
 use Rattle.std.proofs.lemmas.List.Elements.{Contains-append_left}
@@ -43,7 +43,7 @@ module _ (w : Standing) (b new : BusValue) (d after : DriverValue) (listing : Li
       sent b new d after c k answer below a s e ∙ ap (λ (x : State). exchange_of x (serials_of d) o) is.subsystem
       ∙ ap (λ (x : List ℕ). exchange_of w.state x o) is.next
 
-  -- the listing was told of it
+  -- its answer was listed
   told_there : (now : Listing) → now ≡ listing_told c listing (Send k) answer
       → IsListed (asked w o) new.state (serials_of after) now
   told_there now t = record {
@@ -53,7 +53,7 @@ module _ (w : Standing) (b new : BusValue) (d after : DriverValue) (listing : Li
         ∙ ap (λ (x : Exchange). listing_told c w.listing (Send k) x.answer) sent_there;
   }
 
-  -- it was refused, or memory was
+  -- it was refused, or memory was refused
   pub stopped_there : (A : Type 0) (e : Stop) (later : List Order) (now : Listing) → IsHandedOn e (answer ∷ [])
       → ListLeaves {A = A} (Err e) w (o ∷ later) new.state (serials_of after) now
   stopped_there A (stop.Refused status) later now h =

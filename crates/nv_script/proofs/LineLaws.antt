@@ -1,4 +1,4 @@
--- What one line leaves, by how its text was printed.
+-- What one line leaves behind, by how its text was printed.
 use Rattle.std.proofs.Common.{◌≡◌, ◌∙◌, ℕ, ◌+◌, List, [], ◌++◌, length, take, sym, ap, subst, refl, inl, inr}
 use Rattle.std.proofs.Common.{append-nil, arith, Bool, Option, Result, Ok, Err}
 use Rattle.std.specs.Prelude.{IfOk, Vec, unwrap_or}
@@ -13,8 +13,8 @@ use Rattle.nv_script.specs.Outcomes.{outcome_of}
 use Rattle.nv_line.specs.Line.{reading}
 use Rattle.nv_script.specs.Results.{LineResult, Progress, line_result, request_result, result_at, said_at}
 use Rattle.nv_driver.specs.inner.Linked.{serials_of}
-use Rattle.nv_script.specs.declared.ends.Cut.{Cut}
-use Rattle.nv_script.specs.declared.ends.Cut.TheVariants.{Output, Messages}
+use Rattle.nv_script.specs.declared.ends.RunEnd.{RunEnd}
+use Rattle.nv_script.specs.declared.ends.RunEnd.TheVariants.{OutWrite, MessageWrite}
 use Rattle.nv_script.specs.declared.session.Session.{Session}
 use Rattle.nv_line.specs.declared.fault.LineFault.{LineFault}
 use Rattle.nv_line.specs.declared.fault.LineFault.TheVariants as fault
@@ -23,7 +23,7 @@ use Rattle.nv_line.specs.declared.line.Line.TheVariants as line
 use Rattle.nv_line.specs.declared.request.Request.{Request}
 use Rattle.nv_stream.proofs.Taking.{Appends-at, Appends-join}
 
--- a stream that took nothing more
+-- a stream that took nothing else
 took_none : (a b : Option (List ℕ)) (x y : List ℕ) → y ≡ [] → Appends a b x → Appends a b (x ++ y)
 took_none a b x y e h = Appends-at a b x (x ++ y) (sym (ap (λ t. x ++ t) e ∙ append-nil x)) h
 
@@ -36,9 +36,9 @@ module _ {A E Z : Type 0} (p : Progress) (text : List ℕ) (lr : LineResult) (k 
     (next : serials_of session.driver ≡ lr.serials)
     (number : session.number ≡ p.number + 1) (status : session.status ≡ unwrap_or lr.status p.status)
     (all : lr.state ≡ state_amid p.state p.serials (said_at p text) k) where
-  pub message_leaves : (r : Result A Cut) (t : Result (Vec ℕ Z) E) (messages : Option (List ℕ)) (failed : Bool)
+  pub message_leaves : (r : Result A RunEnd) (t : Result (Vec ℕ Z) E) (messages : Option (List ℕ)) (failed : Bool)
       → lr.output ≡ [] → IfOk t (λ (t : Vec ℕ Z). t.items ≡ lr.message)
-      → PrintLeaves r Messages t old.messages messages failed
+      → PrintLeaves r MessageWrite t old.messages messages failed
       → LineLeaves r p text (left_at old.out_before old.out old.messages_before messages new) session
   message_leaves (Ok done) (Ok t) messages failed none is h = record {
     holds = record {
@@ -54,7 +54,7 @@ module _ {A E Z : Type 0} (p : Progress) (text : List ℕ) (lr : LineResult) (k 
     status = status ∙ ap (λ (x : LineResult). unwrap_or x.status p.status) (sym same);
   }
   message_leaves (Ok done) (Err e) messages failed none is h = absurd h
-  message_leaves (Err cut) (Ok t) messages failed none is h =
+  message_leaves (Err end) (Ok t) messages failed none is h =
       subst (λ x. IsCutIn x p text (left_at old.out_before old.out old.messages_before messages new)) (sym h.0) (
         h.1.0,
         (h.1.1.0, ap (λ (x : LineResult). x.message) same ∙ sym is ∙ h.1.1.1),
@@ -65,7 +65,7 @@ module _ {A E Z : Type 0} (p : Progress) (text : List ℕ) (lr : LineResult) (k 
           reached = reached ∙ sym (ap (λ (x : LineResult). x.state) same);
         },
       )
-  message_leaves (Err cut) (Err e) messages failed none is h =
+  message_leaves (Err end) (Err e) messages failed none is h =
       subst (λ x. IsCutIn x p text (left_at old.out_before old.out old.messages_before messages new)) (sym h.0) (
         k,
         record {
@@ -75,8 +75,8 @@ module _ {A E Z : Type 0} (p : Progress) (text : List ℕ) (lr : LineResult) (k 
         },
       )
 
-  pub output_leaves : (r : Result A Cut) (t : Result (Vec ℕ Z) E) (out : Option (List ℕ)) (failed : Bool)
-      → lr.message ≡ [] → IfOk t (λ (t : Vec ℕ Z). t.items ≡ lr.output) → PrintLeaves r Output t old.out out failed
+  pub output_leaves : (r : Result A RunEnd) (t : Result (Vec ℕ Z) E) (out : Option (List ℕ)) (failed : Bool)
+      → lr.message ≡ [] → IfOk t (λ (t : Vec ℕ Z). t.items ≡ lr.output) → PrintLeaves r OutWrite t old.out out failed
       → LineLeaves r p text (left_at old.out_before out old.messages_before old.messages new) session
   output_leaves (Ok done) (Ok t) out failed none is h = record {
     holds = record {
@@ -93,7 +93,7 @@ module _ {A E Z : Type 0} (p : Progress) (text : List ℕ) (lr : LineResult) (k 
     status = status ∙ ap (λ (x : LineResult). unwrap_or x.status p.status) (sym same);
   }
   output_leaves (Ok done) (Err e) out failed none is h = absurd h
-  output_leaves (Err cut) (Ok t) out failed none is h =
+  output_leaves (Err end) (Ok t) out failed none is h =
       subst (λ x. IsCutIn x p text (left_at old.out_before out old.messages_before old.messages new)) (sym h.0) (
         h.1.0,
         (h.1.1.0, ap (λ (x : LineResult). x.output) same ∙ sym is ∙ h.1.1.1),
@@ -103,7 +103,7 @@ module _ {A E Z : Type 0} (p : Progress) (text : List ℕ) (lr : LineResult) (k 
           reached = reached ∙ sym (ap (λ (x : LineResult). x.state) same);
         },
       )
-  output_leaves (Err cut) (Err e) out failed none is h =
+  output_leaves (Err end) (Err e) out failed none is h =
       subst (λ x. IsCutIn x p text (left_at old.out_before out old.messages_before old.messages new)) (sym h.0) (
         k,
         record {
@@ -113,7 +113,7 @@ module _ {A E Z : Type 0} (p : Progress) (text : List ℕ) (lr : LineResult) (k 
         },
       )
 
--- ---- what the line said
+-- ---- the meaning of the line
 
 abbrev Said : Type 0
 Said = Result Line LineFault
@@ -127,7 +127,7 @@ pub fault_said : (f : LineFault) (said : Said) → (f ≡ fault.Memory → ⊥) 
 fault_said f said other (inl e) = absurd (other (cc))
 fault_said f said other (inr e) = sym e
 
--- at the place where the run stands
+-- its meaning at the place of the run
 pub said_here : (p : Progress) (text : List ℕ) (s : State) (controllers : ℕ) (said : Said) → s ≡ p.state
     → controllers ≡ length s.controllers → reading text controllers ≡ said → said_at p text ≡ said
 said_here p text s controllers said es ec e = ap (λ (x : State). reading text (length x.controllers)) (sym es)

@@ -1,4 +1,4 @@
--- What a new driver, its commands and its resets make of command identifiers.
+-- The effect of a new driver, its commands and its resets on command identifiers.
 use Rattle.std.proofs.Common.{◌≡◌, ◌∙◌, ℕ, ◌<◌, ap, length, subst, sym, Result, Ok}
 use Rattle.std.specs.Prelude.{replicate}
 use Rattle.std.proofs.lemmas.List.{length-map, length-replicate}
@@ -11,7 +11,8 @@ use Rattle.nv_model.specs.Step.{reset}
 use Rattle.nv_model.specs.Step.{step}
 use Rattle.nv_bus.specs.Bus.{BusValue}
 use Rattle.nv_driver.specs.Driver.{after_command, after_reset, new_driver, pair_at}
-use Rattle.nv_driver.specs.inner.Linked.{IsLinked, serials_of}
+use Rattle.nv_driver.specs.Linked.{IsLinked}
+use Rattle.nv_driver.specs.inner.Linked.{serials_of}
 use Rattle.nv_driver.specs.QueuePair.{QueuePair}
 use Rattle.nv_driver.specs.Settled.{DriverValue}
 use Rattle.nv_driver.specs.declared.geometry.Geometry.{Geometry}
@@ -56,7 +57,7 @@ pub was_reset : (b new : BusValue) (d after : DriverValue) (c : ℕ) → new.sta
 was_reset b new d after c s is =
     let same = serials_reset d after c is in λ i. exchange_with (Ok Done) (s i) (same i)
 
--- a command leaves as many queue pairs
+-- a command doesn't change the number of queue pairs
 pub still_known : (d after : DriverValue) (ctrl : ℕ) → after ≡ after_command d ctrl → ctrl < length d.pairs
     → ctrl < length after.pairs
 still_known d after ctrl e below = subst (λ n. ctrl < n) (sym (same_pairs d after ctrl e)) below

@@ -1,4 +1,4 @@
--- How the parts of `list` make the whole.
+-- How the parts of `list` form the whole.
 use Rattle.std.proofs.Common.{◌≡◌, ◌∙◌, ℕ, ◌+◌, ◌<◌, ap, drop, get_or, length, map, refl, sym, subst, List, [], ◌∷◌}
 use Rattle.std.proofs.Common.{◌++◌, append_assoc, append-nil, Result, Ok, Err}
 use Rattle.std.specs.Prelude.{Contains}
@@ -28,20 +28,20 @@ pub begun_all : (w : Standing) (orders : List Order) (s : State) (serials : List
 begun_all w orders s serials state next =
     record { done = orders; later = []; split = sym (append-nil orders); subsystem = state; next = next }
 
--- what some orders and more are answered
+-- the answers to some orders and to more
 answers-append : (w : Standing) (orders more : List Order)
     → answers_to w (orders ++ more) ≡ answers_to w orders ++ answers_to (asked_all w orders) more
 answers-append w [] more = refl
 answers-append w (o ∷ os) more =
     ap (λ xs. (exchange_of w.state w.serials o).answer ∷ xs) (answers-append (asked w o) os more)
 
--- the listing is told of what all of them are answered
+-- the answers to all of them are listed
 pub listing_asked : (w : Standing) (orders : List Order)
     → (asked_all w orders).listing ≡ listing_of w.listing orders (answers_to w orders)
 listing_asked w [] = refl
 listing_asked w (o ∷ os) = listing_asked (asked w o) os
 
--- of the first of the rest it is told first
+-- the answer to the first of the rest is listed first
 pub told_more : (c : ℕ) (l : Listing) (ks : List Command) (xs : List Answer) (i : ℕ) (dk : Command) (da : Answer)
     → i < length ks → i < length xs
     → listing_of l (map (order_of c) (drop i ks)) (drop i xs)
@@ -52,7 +52,7 @@ told_more c l ks xs i dk da some answered =
     ∙ at_drop_more (listing_of l (order_of c (get_or ks i dk) ∷ map (order_of c) (drop (i + 1) ks))) xs i da answered
 
 module _ (w : Standing) (done all : List Order) where
-  -- amid some commands after those that were done, with the rest after them
+  -- a state among some commands that come after those that were executed and before the rest
   begun_within : (orders rest : List Order) (s : State) (serials : List ℕ) → all ≡ done ++ (orders ++ rest)
       → AreBegun (asked_all w done) orders s serials → AreBegun w all s serials
   begun_within orders rest s serials is h = record {
@@ -64,7 +64,7 @@ module _ (w : Standing) (done all : List Order) where
     next = h.next ∙ ap (λ (x : Standing). x.serials) (sym (fold-append asked w done h.done));
   }
 
-  -- and what some of them are answered
+  -- the answers to some of them
   answered_within : (orders rest : List Order) (a : Answer) → all ≡ done ++ (orders ++ rest)
       → Contains (answers_to (asked_all w done) orders) a → Contains (answers_to w all) a
   answered_within orders rest a is h =

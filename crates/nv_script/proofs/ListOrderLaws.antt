@@ -59,7 +59,7 @@ pub same_orders : (s now : State) (c : ℕ) → IsAlike s now → orders_of_cont
 same_orders s now c h =
     ap (λ ns. order_of c IdentifyController ∷ order_of c (ActiveList 0) ∷ namespace_orders c (above 0 ns)) (h.active c)
 
--- those of a controller and of the later ones
+-- the orders of a controller and of the later ones
 abbrev pub orders_from : State → ℕ → ℕ → List Order
 orders_from s i n = flat_map (orders_of_controller s) (range_with_len i (n - i))
 

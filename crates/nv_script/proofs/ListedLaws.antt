@@ -1,4 +1,4 @@
--- What `list` leaves, by where it stands.
+-- What `list` leaves behind, by its state.
 use Rattle.std.proofs.Common.{◌∙◌, ℕ, ap, subst, sym, List, length, take, Some, Ok, Err}
 use Rattle.std.proofs.Math.Seq.{take-append_seam}
 use Rattle.nv_line.specs.declared.request.Query.TheVariants as query
@@ -49,7 +49,7 @@ module _ (s now : State) (serials next : List ℕ) (ok : IsWellFormed s) where
         },
       )
 
-  -- memory was refused, for no command is
+  -- memory was refused, because no command is refused
   pub list_stopped : (A : Type 0) (e : Stop) (listing : Listing)
       → ListLeaves {A = A} (Err e) first (orders_of_list s) now next listing
       → StopLeaves e query.List s serials now next

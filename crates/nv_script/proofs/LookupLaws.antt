@@ -1,4 +1,4 @@
--- No command of `list` is refused, and which commands follow does not change.
+-- No command of `list` is refused, and its commands don't depend on those before.
 use Rattle.std.proofs.Common.{◌≡◌, ◌∙◌, ℕ, arith, ap, sym, subst, refl, List, [], ◌∷◌, Ok, Err, get_or, map}
 use Rattle.std.specs.Prelude.{Contains}
 use Rattle.std.specs.List.{AllByRecursion}
@@ -18,7 +18,7 @@ use Rattle.nv_script.specs.inner.Listing.{Standing, answers_to, asked, asked_all
 use Rattle.nv_script.specs.Outcomes.{outcome_after, outcome_of}
 use Rattle.nv_script.proofs.OutcomeLaws.{accepted_with}
 
--- an act that `list` has done where NSIDs go up to nn
+-- an act of `list`, if NSIDs go up to nn
 pub data IsLookupAct (nn : ℕ) : Act → Type 0 where
   sends : {k : Command} → IsLookup nn k → IsLookupAct nn (Send k)
 
@@ -28,7 +28,7 @@ AreLookups nn orders = AllByRecursion (λ (o : Order). IsLookupAct nn o.act) ord
 lookups_at : (nn now : ℕ) (orders : List Order) → now ≡ nn → AreLookups nn orders → AreLookups now orders
 lookups_at nn now orders e h = subst (λ n. AreLookups n orders) (sym e) h
 
--- ---- what stays
+-- ---- what doesn't change
 
 -- the state after a command of list
 act_alike : (s : State) (serials : List ℕ) (c : ℕ) {a : Act} → IsLookupAct s.nn a
@@ -55,7 +55,7 @@ accepted s serials c (sends {k} h) = (reply_of s c k, looked_received s c (get_o
 abbrev ok : Reply → Answer
 ok r = Ok r
 
--- so their outcome is where `list` stands, and its replies are all that they are answered
+-- so their outcome is the state of `list`, and its replies are all their answers
 pub record AreAccepted (w : Standing) (orders : List Order) : Type 0 where
   pub replies : List Reply
   pub outcome : outcome_of w.state w.serials orders

@@ -6,7 +6,7 @@ use Rattle.nv_command.specs.declared.reply.Reply.{Reply}
 use Rattle.nv_script.specs.Outcomes.{Exchange, Order, exchange_of}
 use Rattle.nv_script.specs.Outcomes.{Outcome, outcome_after, outcome_of}
 
--- commands that were all accepted, and some of which the last one was refused
+-- commands that were all accepted, and commands of which the last one was refused
 abbrev pub accepted_with : List Reply → State → List ℕ → Outcome
 accepted_with replies s serials = record { replies = replies; refusal = None; state = s; serials = serials }
 

@@ -1,4 +1,4 @@
--- Bytes cut at their newlines.
+-- Bytes that are split at their newlines.
 use Rattle.std.proofs.Common.{◌≡◌, ℕ, suc, ◌+◌, ◌<◌, List, [], ◌∷◌, ◌++◌, length, take, drop, get_or, sym, ap, ◌∙◌}
 use Rattle.std.proofs.Common.{refl, Bool, true, false, eqb, cond, append_assoc, append-nil, arith, fold}
 use Rattle.std.proofs.lemmas.List.{take_more, take-append-drop, length-append}
@@ -12,15 +12,15 @@ use Rattle.nv_script.specs.Results.{after, start, whole}
 use Rattle.nv_script.specs.ScriptLines.{Pieces, as_line, pieces, with_byte}
 use Rattle.nv_script.specs.inner.ScriptLines.{buffer_after, buffer_of}
 
--- a piece of which one byte more was read
+-- a piece with one more byte read
 pub taken-more : (bytes piece : List ℕ) (i : ℕ) → i < length piece
     → bytes ++ take (i + 1) piece ≡ (bytes ++ take i piece) ++ get_or piece i 0 ∷ []
 taken-more bytes piece i h =
     ap (λ t. bytes ++ t) (take_more piece i 0 h) ∙ sym (append_assoc bytes (take i piece) (get_or piece i 0 ∷ []))
 
--- ---- one byte more
+-- ---- one more byte
 
--- a line is ended, or has one byte more
+-- a line ends, or has one more byte
 abbrev pub with_line : Pieces → Pieces
 with_line p = record { ended = p.ended ++ p.last ∷ []; last = [] }
 
@@ -59,12 +59,12 @@ pub pieces-others : (xs bytes : List ℕ) → HasNoNewline bytes
     → pieces (xs ++ bytes) ≡ record { ended = (pieces xs).ended; last = (pieces xs).last ++ bytes }
 pieces-others xs bytes none = pieces-append xs bytes ∙ fold-others (pieces xs) bytes none
 
--- one line more
+-- one more line
 pub whole-more : (s : State) (lines : List (List ℕ)) (line : List ℕ)
     → whole s (lines ++ line ∷ []) ≡ after (whole s lines) line
 whole-more s lines line = fold-append after (start s) lines (line ∷ [])
 
--- ---- a line that was ended stays
+-- ---- a line that has ended stays
 
 abbrev More : Pieces → List ℕ → Pieces → Type 0
 More p bytes q = (later : List (List ℕ)) × ((fold with_byte q bytes).ended ≡ p.ended ++ later)
@@ -88,7 +88,7 @@ line-among xs ys b e =
     pieces-append (xs ++ b ∷ []) ys ∙ ap (λ x. fold with_byte x ys) (pieces-newline xs b e) in
     (s.0, ap (λ (x : Pieces). x.ended) q ∙ s.1 ∙ append_assoc p.ended (p.last ∷ []) s.0)
 
--- the same where the newline stands at an index of a further piece
+-- the same if the newline is at an index of another piece
 pub piece-among : (bytes piece : List ℕ) (i : ℕ) → i < length piece → get_or piece i 0 ≡ 10
     → (later : List (List ℕ))
     × ((pieces (bytes ++ piece)).ended
@@ -107,7 +107,7 @@ pub as_line-some : (piece : List ℕ) → 0 < length piece → as_line piece ≡
 as_line-some [] h = absurd (omega arith)
 as_line-some (b ∷ bs) h = refl
 
--- what is held of a line, some bytes on
+-- the buffer of a line, after more bytes
 pub buffer_after-buffer_of : (line bytes : List ℕ) → buffer_after (buffer_of line) bytes ≡ buffer_of (line ++ bytes)
 buffer_after-buffer_of line bytes = at_test (nat_le (length line) 4095) refl
   where
@@ -163,7 +163,7 @@ size-fed : (p : Pieces) (bytes : List ℕ) → size (fold with_byte p bytes) ≡
 size-fed p [] = omega arith
 size-fed p (b ∷ bytes) = omega (arith, size-fed (with_byte p b) bytes, size-byte p b)
 
--- the pieces are the bytes
+-- the pieces have as many bytes as the script
 pub length-pieces : (bytes : List ℕ)
     → length (joined_lines (pieces bytes).ended) + length (pieces bytes).last ≡ length bytes
 unfolding size

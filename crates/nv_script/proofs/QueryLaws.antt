@@ -1,4 +1,4 @@
--- What a query leaves, by how far its orders were carried out.
+-- What a query leaves behind, by how many of its orders were carried out.
 use Rattle.std.proofs.Common.{◌≡◌, ◌∙◌, ℕ, ◌+◌, arith, ap, sym, refl, List, [], ◌∷◌, length, get_or, Option, None, Some}
 use Rattle.std.proofs.Common.{Result, Ok, Err}
 use Rattle.std.specs.Option.{option_map_or}
@@ -34,12 +34,12 @@ use Rattle.nv_script.proofs.OutcomeLaws.{accepted_first, accepted_with, refused_
 
 -- ---- the second command is known from the first reply
 
--- the reply of an answer, and of a refusal any
+-- the reply in an answer, or any reply for a refusal
 reply_or_done : Result Reply Status → Reply
 reply_or_done (Ok r) = r
 reply_or_done (Err status) = reply.Done
 
--- the structure tells how many errors a controller keeps
+-- Identify Controller says how many errors a controller keeps
 kept_told : (s : State) (o : Option Controller)
     → (option_map_or (id_ctrl_of s) o no_controller).elpe + 1 ≡ option_map_or (λ x. x.identity.numbers.elpe + 1) o 1
 kept_told s None = refl
@@ -60,7 +60,7 @@ module _ (s : State) (serials : List ℕ) (c : ℕ) where
   second_is_next (ask.Do act) reply e = refl
   second_is_next (ask.ErrorLog entries) reply e = errors_next entries (refusal_of s c IdentifyController) reply e
 
--- ---- where an outcome leads
+-- ---- the state after an outcome
 
 reached : (o : Outcome) (s : State) (serials : List ℕ) → s ≡ o.state → serials ≡ o.serials → IsReached o s serials
 reached o s serials state next = record { subsystem = state; next = next }
@@ -110,7 +110,7 @@ module _ (s now : State) (serials next : List ℕ) (q : Question) where
         ∙ ap (λ x. outcome_after (Ok reply) now next (outcome_of now next (later_orders q.controller x)))
         (sym (is ∙ second_is_next s serials q.controller q.ask reply (ap (λ (x : Exchange). x.answer) e)))
 
-  -- the first was all
+  -- the first order was the only one
   pub one_accepted : (reply : Reply) → exchange_with (Ok reply) now next ≡ exchange_of s serials first
       → None ≡ next_command q.ask reply
       → outcome_of s serials (orders_of s (One q)) ≡ accepted_with (reply ∷ []) now next

@@ -1,4 +1,4 @@
--- How the pieces of a run make the whole run.
+-- How the pieces of a run form the whole run.
 use Rattle.std.proofs.Common.{Bool, false, ◌||◌, ◌==◌, ◌≡◌, ◌∙◌, ℕ, ◌+◌, ◌<◌, ◌≤◌, List, [], ◌∷◌, ◌++◌, length, take}
 use Rattle.std.proofs.Common.{sym, ap, subst, append-nil, arith, inl, inr, ◌≢◌, ◌↔◌, refl, Option, None, Some}
 use Rattle.std.proofs.Common.{Err}
@@ -7,7 +7,7 @@ use Rattle.std.specs.Io.KnownBytes.{Appends, Consumes, IsAtEnd, Keeps}
 use Rattle.std.proofs.lemmas.Bool.Decides.{nat_tests}
 use Rattle.std.proofs.lemmas.List.{length-append, length-take-le}
 use Rattle.nv_model.specs.State.{State}
-use Rattle.nv_script.specs.Cuts.{IsCutShort, Holds, Left}
+use Rattle.nv_script.specs.Cuts.{AreFailed, IsCutShort, Holds, Left}
 use Rattle.nv_driver.specs.inner.Driver.{error_without}
 use Rattle.nv_driver.specs.Geometry.{fault_of}
 use Rattle.nv_driver.specs.declared.error.DriverError.{DriverError}
@@ -15,43 +15,42 @@ use Rattle.nv_driver.specs.declared.error.DriverError.TheVariants as error
 use Rattle.nv_driver.specs.declared.geometry.Geometry.{Geometry as DriverGeometry}
 use Rattle.nv_driver.specs.declared.geometry_field.GeometryField.{GeometryField}
 use Rattle.nv_script.specs.Ends.{AllEnabled, AreFaults, Headline, IsEndOf, IsRun, Leaves, LeavesAll, RunState, Runs}
-use Rattle.nv_script.specs.Ends.{RunsFrom, WasRead, begun, end_with, end_without, left_by}
+use Rattle.nv_script.specs.Ends.{RunsFrom, WasRead, begun, end_without, left_by}
 use Rattle.nv_script.specs.inner.Feeding.{LastLeaves, PieceLeaves, Stands}
 use Rattle.nv_script.specs.Results.{Progress, whole}
 use Rattle.nv_script.specs.ScriptLines.{IsReadToEnd, as_line, has_stopped, pieces, script_lines}
 use Rattle.nv_driver.specs.inner.Linked.{serials_of}
 use Rattle.nv_stream.specs.Streams.{IsFresh, SourceState}
-use Rattle.nv_script.specs.declared.ends.Cut.{Cut}
-use Rattle.nv_script.specs.declared.ends.Cut.TheVariants as cut
 use Rattle.nv_script.specs.declared.ends.RunEnd.{RunEnd}
-use Rattle.nv_script.specs.declared.ends.RunEnd.TheVariants.{Status, Geometry, NoReady, Memory}
-use Rattle.nv_script.specs.declared.ends.SessionEnd.{SessionEnd}
-use Rattle.nv_script.specs.declared.ends.SessionEnd.TheVariants as ended
+use Rattle.nv_script.specs.declared.ends.RunEnd.TheVariants.{Status, Geometry, NoReady, Read}
+use Rattle.nv_script.specs.declared.ends.RunEnd.TheVariants.{OutWrite, MessageWrite, Memory}
 use Rattle.nv_script.specs.declared.session.Session.{Session}
 use Rattle.nv_stream.specs.Streams.{read_size}
 use Rattle.nv_script.proofs.PieceLaws.{as_line-some, length-joined, length-pieces, piece-among}
 use Rattle.nv_stream.proofs.Taking.{Appends-same, Consumes-join, Consumes-nothing, Consumes-same, length-taken}
 
--- a script was read to its end: a read gave no byte, and one more might have been made
-pub read_to_end : (reads : ℕ) (script : SourceState) (count : ℕ) → script.has_failed ≡ false
-    → script.calls ≢ reads → script.has_ended ≡ (count == 0) → (count ≡ 0 → IsAtEnd script.to_come) → count ≡ 0
-    → IsReadToEnd reads script
-read_to_end reads script count not_failed one_more ended at_end none = record {
-  not_stopped = grind (arith, nat_tests, not_failed, one_more);
-  has_ended = grind (arith, nat_tests, ended, none);
-  at_end = at_end none;
-}
+-- a script was read to its end: a read after so many calls gave no byte, and one more might have been made
+pub read_to_end : (reads call before : ℕ) (script : SourceState) (count : ℕ) → before ≡ call
+    → script.calls ≡ before + 1 → (call + 1 ≡ reads → ⊥) → script.has_failed ≡ false
+    → script.has_ended ≡ (count == 0) → (count ≡ 0 → IsAtEnd script.to_come) → count ≡ 0 → IsReadToEnd reads script
+read_to_end reads call before script count calls next one_more not_failed ended at_end none =
+    let more : script.calls ≢ reads = λ e. one_more (omega (arith, e, next, calls)) in
+    record {
+      not_stopped = grind (arith, nat_tests, not_failed, more);
+      has_ended = grind (arith, nat_tests, ended, none);
+      at_end = at_end none;
+    }
 
 -- the last piece was a line
 pub last_line : (bytes : List ℕ) → 0 < length (pieces bytes).last
     → script_lines bytes ≡ (pieces bytes).ended ++ (pieces bytes).last ∷ []
 last_line bytes h = ap (λ x. (pieces bytes).ended ++ x) (as_line-some (pieces bytes).last h)
 
--- or there was none
+-- there was no last piece
 pub no_last : (bytes : List ℕ) → as_line (pieces bytes).last ≡ [] → script_lines bytes ≡ (pieces bytes).ended
 no_last bytes e = ap (λ x. (pieces bytes).ended ++ x) e ∙ append-nil (pieces bytes).ended
 
--- a run that stands after all lines
+-- a run is after all lines
 pub ends_whole : (s : State) (bytes : List ℕ) (q : Progress) (left : Left) (session : Session)
     → whole s (script_lines bytes) ≡ q → Stands q left session
     → LeavesAll session.status s bytes left
@@ -80,52 +79,42 @@ stands_first s left session eo em es er en et = record {
   status = et;
 }
 
--- what is told and was read to its end is what was read
+-- if the bytes are known and were read to their end, they are what was read
 read_whole : (old new : Option (List ℕ)) (bytes : List ℕ) (P : List ℕ → Type 0) → Consumes old new bytes → IsAtEnd new
     → P bytes → IfSome old P
 read_whole None new bytes P h k p = tt
 read_whole (Some xs) None bytes P h k p = absurd h
 read_whole (Some xs) (Some ys) bytes P h k p = subst P (sym (h ∙ ap (λ z. bytes ++ z) k ∙ append-nil bytes)) p
 
--- the end that a status is of
-is_status : (e : SessionEnd) (status : ℕ) → end_with e ≡ Status status → e ≡ ended.Status status
-is_status (ended.Status n) status h = cc
-is_status ended.Read status h = absurd (cc)
-is_status (ended.Cut cut.Output) status h = absurd (cc)
-is_status (ended.Cut cut.Messages) status h = absurd (cc)
-is_status (ended.Cut cut.Memory) status h = absurd (cc)
-is_status (ended.Cut cut.NoReady) status h = absurd (cc)
-
-headline_with : (reads : ℕ) (e : SessionEnd) (old new : RunState) → RunsFrom (begun old) reads e old new
-    → Headline (end_with e) old new
-headline_with reads e old new h status is =
-    let same = is_status e status is in
-    let left = subst (λ x. Leaves x reads new.script (begun old) h.bytes (left_by old new)) same h.left in
-    let end = subst (λ x. IsEndOf x reads new) same h.end_of in
+headline_with : (reads : ℕ) (end : RunEnd) (old new : RunState) → RunsFrom (begun old) reads end old new
+    → Headline end old new
+headline_with reads end old new h status is =
+    let left = subst (λ x. Leaves x reads new.script (begun old) h.bytes (left_by old new)) is h.left in
+    let ended = subst (λ x. IsEndOf x reads new) is h.end_of in
     read_whole old.script.to_come new.script.to_come h.bytes
-    (λ script. LeavesAll status (begun old) script (left_by old new)) h.was_read.first end.0.at_end left
+    (λ script. LeavesAll status (begun old) script (left_by old new)) h.was_read.first ended.0.at_end left
 
 -- in the last piece
-pub last_cut : (cut : Cut) (reads : ℕ) (script : SourceState) (s : State) (bytes : List ℕ) (left : Left)
-    → IsReadToEnd reads script → LastLeaves (Err cut) s bytes left → IsCutShort cut reads script s bytes left
-last_cut cut reads script s bytes left end h =
+pub last_cut : (end : RunEnd) (reads : ℕ) (script : SourceState) (s : State) (bytes : List ℕ) (left : Left)
+    → IsReadToEnd reads script → LastLeaves (Err end) s bytes left → IsCutShort end reads script s bytes left
+last_cut end reads script s bytes left read h =
     let ended = (pieces bytes).ended in
     let last = (pieces bytes).last in
     record {
       before = ended;
       line = last;
       later = [];
-      lines = inr (end, h.0);
+      lines = inr (read, h.0);
       beginning = h.1;
       ahead = omega (arith, length-joined ended last, length-pieces bytes);
     }
 
 -- in a line of a further piece
-pub piece_cut : (cut : Cut) (reads : ℕ) (script : SourceState) (s : State) (bytes piece : List ℕ)
+pub piece_cut : (end : RunEnd) (reads : ℕ) (script : SourceState) (s : State) (bytes piece : List ℕ)
     (line : Option (List ℕ)) (left : Left) (session : Session) → length piece ≤ read_size
-    → PieceLeaves {A = Unit {0}} (Err cut) s bytes piece line left session
-    → IsCutShort cut reads script s (bytes ++ piece) left
-piece_cut cut reads script s bytes piece line left session small h =
+    → PieceLeaves {A = Unit {0}} (Err end) s bytes piece line left session
+    → IsCutShort end reads script s (bytes ++ piece) left
+piece_cut end reads script s bytes piece line left session small h =
     let i = h.0 in
     let xs = bytes ++ take i piece in
     let among = piece-among bytes piece i h.1 h.2 in
@@ -145,6 +134,27 @@ piece_cut cut reads script s bytes piece line left session small h =
       );
     }
 
+-- what a run leaves that was cut short in a line
+pub cut_leaves : (end : RunEnd) (reads : ℕ) (script : SourceState) (s : State) (bytes : List ℕ) (left : Left)
+    → IsCutShort end reads script s bytes left → Leaves end reads script s bytes left
+cut_leaves (Status status) reads script s bytes left h = absurd h.beginning
+cut_leaves Read reads script s bytes left h = absurd h.beginning
+cut_leaves (Geometry field) reads script s bytes left h = h
+cut_leaves NoReady reads script s bytes left h = h
+cut_leaves OutWrite reads script s bytes left h = h
+cut_leaves MessageWrite reads script s bytes left h = h
+cut_leaves Memory reads script s bytes left h = h
+
+pub cut_ends : (end : RunEnd) (reads : ℕ) (now : RunState) → AreFailed end now.out.has_failed now.messages.has_failed
+    → IsEndOf end reads now
+cut_ends (Status status) reads now h = absurd h
+cut_ends Read reads now h = absurd h
+cut_ends (Geometry field) reads now h = h
+cut_ends NoReady reads now h = h
+cut_ends OutWrite reads now h = h
+cut_ends MessageWrite reads now h = h
+cut_ends Memory reads now h = h
+
 -- reads, one after another
 pub read_more : (old mid new : SourceState) (bytes buf : List ℕ) (count : ℕ) → WasRead old mid bytes
     → Consumes mid.to_come new.to_come (take count buf) → count ≤ length buf → new.given ≡ mid.given + count
@@ -162,7 +172,7 @@ read_none old mid new bytes buf count h k z e =
     subst (WasRead old new) (ap (λ c. bytes ++ take c buf) z ∙ append-nil bytes)
     (read_more old mid new bytes buf count h k bound e)
 
--- an error gave nothing
+-- a read that failed returned nothing
 pub read_fault : (old mid new : SourceState) (bytes : List ℕ) → WasRead old mid bytes → Keeps mid.to_come new.to_come
     → new.given ≡ mid.given + 0 → WasRead old new bytes
 read_fault old mid new bytes h k e = record {
@@ -173,40 +183,36 @@ read_fault old mid new bytes h k e = record {
 
 -- ---- with or without a driver
 
--- what the end of a run is by an error of the driver's
+-- the end of a run after an error of the driver
 abbrev pub Gives : DriverError → RunEnd → Type 0
 Gives e end = ((field : GeometryField) → e ≡ error.Geometry field → end ≡ Geometry field)
     × (e ≡ error.Memory → end ≡ Memory) × (e ≡ error.NoReady → end ≡ NoReady)
 
--- where there is no driver
+-- there is no driver
 pub without : (fault : Option GeometryField) (e : DriverError) (end : RunEnd) → e ≡ error_without fault → Gives e end
     → end ≡ end_without fault
 without (Some field) e end same gives = gives.0 field same
 without None e end same gives = gives.1 same
 
 -- a driver was brought up before
-pub with_driver : (g : DriverGeometry) (reads : ℕ) (end : RunEnd) (e : SessionEnd) (old new : RunState) (s : State)
-    (enabled : List Bool) → fault_of g ≡ None → s ≡ begun old → end ≡ end_with e
-    → RunsFrom s reads e (record old { subsystem = s; enabled = enabled }) new → AllEnabled new
+pub with_driver : (g : DriverGeometry) (reads : ℕ) (end : RunEnd) (old new : RunState) (s : State)
+    (enabled : List Bool) → fault_of g ≡ None → s ≡ begun old
+    → RunsFrom s reads end (record old { subsystem = s; enabled = enabled }) new → AllEnabled new
     → Runs g reads end old new
-with_driver g reads end e old new s enabled is same ends runs all =
+with_driver g reads end old new s enabled is same runs all =
     inr (
       is,
       all,
-      (
-        e,
-        ends,
-        record {
-          bytes = runs.bytes;
-          was_read = runs.was_read;
-          left = subst (λ (x : State). Leaves e reads new.script x runs.bytes (left_by old new)) same runs.left;
-          end_of = runs.end_of;
-          calls = runs.calls;
-        },
-      ),
+      record {
+        bytes = runs.bytes;
+        was_read = runs.was_read;
+        left = subst (λ (x : State). Leaves end reads new.script x runs.bytes (left_by old new)) same runs.left;
+        end_of = runs.end_of;
+        calls = runs.calls;
+      },
     )
 
--- ---- the headline
+-- ---- the main promise
 
 headline_without : (o : Option GeometryField) (old new : RunState) → Headline (end_without o) old new
 headline_without None old new status e = absurd (cc)
@@ -217,7 +223,7 @@ runs_headline : (g : DriverGeometry) (reads : ℕ) (end : RunEnd) (old new : Run
 runs_headline g reads end old new (inl h) =
     subst (λ x. Headline x old new) (sym h.0) (headline_without (fault_of g) old new)
 runs_headline g reads end old new (inr h) =
-    subst (λ x. Headline x old new) (sym h.2.1) (headline_with reads h.2.0 old new h.2.2)
+    headline_with reads end old new h.2
 
 -- ---- the geometry
 
@@ -227,27 +233,19 @@ geometry_without None field = (λ e. absurd (cc), λ e. absurd (cc))
 geometry_without (Some f) field =
     (λ e. let same : f ≡ field = cc in ap Some same, λ e. let same : f ≡ field = cc in ap Geometry same)
 
-geometry_with : (e : SessionEnd) (field : GeometryField) → end_with e ≢ Geometry field
-geometry_with (ended.Status status) field h = cc
-geometry_with ended.Read field h = cc
-geometry_with (ended.Cut cut.Output) field h = cc
-geometry_with (ended.Cut cut.Messages) field h = cc
-geometry_with (ended.Cut cut.Memory) field h = cc
-geometry_with (ended.Cut cut.NoReady) field h = cc
-
 runs_geometry : (g : DriverGeometry) (reads : ℕ) (end : RunEnd) (old new : RunState) (field : GeometryField)
     → Runs g reads end old new → (end ≡ Geometry field) ↔ (fault_of g ≡ Some field)
 runs_geometry g reads end old new field (inl h) =
     subst (λ x. (x ≡ Geometry field) ↔ (fault_of g ≡ Some field)) (sym h.0) (geometry_without (fault_of g) field)
 runs_geometry g reads end old new field (inr h) = (
-  λ e. absurd (geometry_with h.2.0 field (sym h.2.1 ∙ e)),
+  λ e. absurd (subst (λ x. IsEndOf x reads new) e h.2.end_of),
   λ e. let within = h.0 in absurd (cc),
 )
 
 -- ---- the faults
 
-faults_with : (reads : ℕ) (e : SessionEnd) (now : RunState) → IsEndOf e reads now → AreFaults reads (end_with e) now
-faults_with reads (ended.Status status) now h =
+faults_with : (reads : ℕ) (end : RunEnd) (now : RunState) → IsEndOf end reads now → AreFaults reads end now
+faults_with reads (Status status) now h =
     let stopped = h.0.not_stopped in
     let out = h.1 in
     let messages = h.2 in
@@ -257,7 +255,7 @@ faults_with reads (ended.Status status) now h =
       message_write = (λ e. absurd (cc), λ k. absurd (cc));
       read_fault = (λ e. absurd (cc), λ k. let stops = k.0 in absurd (cc));
     }
-faults_with reads ended.Read now h =
+faults_with reads Read now h =
     let out = h.1 in
     let messages = h.2 in
     record {
@@ -266,7 +264,7 @@ faults_with reads ended.Read now h =
       message_write = (λ e. absurd (cc), λ k. absurd (cc));
       read_fault = (λ e. (h.0, h.1, h.2, λ m. absurd (cc)), λ k. refl);
     }
-faults_with reads (ended.Cut cut.Output) now h =
+faults_with reads OutWrite now h =
     let out = h.0 in
     let messages = h.1 in
     record {
@@ -275,7 +273,7 @@ faults_with reads (ended.Cut cut.Output) now h =
       message_write = (λ e. absurd (cc), λ k. absurd (cc));
       read_fault = (λ e. absurd (cc), λ k. let well = k.1 in absurd (cc));
     }
-faults_with reads (ended.Cut cut.Messages) now h =
+faults_with reads MessageWrite now h =
     let out = h.0 in
     let messages = h.1 in
     record {
@@ -284,7 +282,7 @@ faults_with reads (ended.Cut cut.Messages) now h =
       message_write = (λ e. messages, λ k. refl);
       read_fault = (λ e. absurd (cc), λ k. let well = k.2 in absurd (cc));
     }
-faults_with reads (ended.Cut cut.Memory) now h =
+faults_with reads Memory now h =
     let out = h.0 in
     let messages = h.1 in
     record {
@@ -293,7 +291,8 @@ faults_with reads (ended.Cut cut.Memory) now h =
       message_write = (λ e. absurd (cc), λ k. absurd (cc));
       read_fault = (λ e. absurd (cc), λ k. absurd (k.3 refl));
     }
-faults_with reads (ended.Cut cut.NoReady) now h = absurd h
+faults_with reads (Geometry field) now h = absurd h
+faults_with reads NoReady now h = absurd h
 
 -- a source that has not stopped, and sinks that have not failed
 pub record IsWell (reads : ℕ) (now : RunState) : Type 0 where
@@ -326,7 +325,7 @@ faults_without (Some field) reads now well =
       message_write = (λ e. absurd (cc), λ k. absurd (cc));
       read_fault = (λ e. absurd (cc), λ k. let stops = k.0 in absurd (cc));
     }
-faults_without None reads now well = faults_with reads (ended.Cut cut.Memory) now (well.out, well.messages)
+faults_without None reads now well = faults_with reads Memory now (well.out, well.messages)
 
 faults : (g : DriverGeometry) (reads : ℕ) (end : RunEnd) (old new : RunState) → IsWell reads old
     → Runs g reads end old new → AreFaults reads end new
@@ -334,7 +333,7 @@ faults g reads end old new well (inl h) =
     subst (λ x. AreFaults reads x new) (sym h.0)
     (faults_without (fault_of g) reads new (subst (IsWell reads) (sym h.1) well))
 faults g reads end old new well (inr h) =
-    subst (λ x. AreFaults reads x new) (sym h.2.1) (faults_with reads h.2.0 new h.2.2.end_of)
+    faults_with reads end new h.2.end_of
 
 -- all that a run promises follows from how it ends
 pub is_run : (g : DriverGeometry) (reads : ℕ) (end : RunEnd) (old new : RunState) → IsWell reads old

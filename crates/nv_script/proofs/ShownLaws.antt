@@ -1,4 +1,4 @@
--- What is accepted is shown.
+-- Whatever is accepted is shown.
 use Rattle.std.proofs.Common.{◌≡◌, ◌∙◌, ℕ, ◌/◌, ◌≤◌, zero, suc, arith, ap, refl, sym, Bool, true, false, List, []}
 use Rattle.std.proofs.Common.{◌∷◌, ◌++◌, append-nil, append_assoc, length, get_or, map, Option, None, Some}
 use Rattle.std.proofs.Common.{Result, Ok, Err}
@@ -103,7 +103,7 @@ set_is_shown (Some g) f value save e = refl
 -- ---- one controller is asked
 
 module _ (s : State) (serials : List ℕ) (c : ℕ) (show : List Reply → Option Shown) (k : Command) where
-  -- what follows where the command is the last one
+  -- what follows if the command is the last one
   abbrev left : Option Refusal → State → List ℕ → Outcome
   left refusal now next =
       outcome_after (answer_received k (step_by refusal s c k (get_or serials c 0)).answer) now next
@@ -115,7 +115,7 @@ module _ (s : State) (serials : List ℕ) (c : ℕ) (show : List Reply → Optio
   by_refusal None now next is e = is refl
   by_refusal (Some r) now next is e = absurd (cc e)
 
-  -- the last command is shown if its reply is, where it is accepted
+  -- the last command is shown if its reply is shown, and if it is accepted
   last_is_shown : (refusal_of s c k ≡ None → IsSome (show (received k (reply_of s c k) ∷ [])))
       → (outcome_of s serials (order_of c k ∷ [])).refusal ≡ None
       → IsSome (show (outcome_of s serials (order_of c k ∷ [])).replies)
@@ -173,7 +173,7 @@ module _ (s : State) (serials : List ℕ) (c : ℕ) (l : Listing) where
   abbrev Tells : Act → Reply → Type 0
   Tells a reply = places_in (listing_told c l a (Ok reply)) ≡ places_in l ++ asked_place c a
 
-  -- what an accepted act is answered is listed, where it asks for a namespace
+  -- the answer to an accepted act is listed if it asks for a namespace
   identity_told : (reply : Reply) → Tells (Send command.IdentifyController) reply
   identity_told (reply.Controller identity) = sym (append-nil (places_in l))
   identity_told r = sym (append-nil (places_in l))

@@ -1,4 +1,4 @@
--- What the streams and the subsystem hold after some lines, and where a line was cut short.
+-- The state of the streams and of the subsystem after some lines, and where a line was cut short.
 use Rattle.std.specs.Prelude.{◌≡◌, ℕ, ◌+◌, ◌<◌, Bool, true, false, List, [], ◌∷◌, ◌++◌, length}
 use Rattle.std.specs.Prelude.{take, flat_map, Option, Result, Ok, Err}
 use Rattle.std.specs.Io.KnownBytes.{Appends}
@@ -8,15 +8,15 @@ use Rattle.nv_script.specs.Outcomes.{outcome_of}
 use Rattle.nv_script.specs.Results.{Progress, result_at, said_at, whole}
 use Rattle.nv_script.specs.ScriptLines.{AreRead}
 use Rattle.nv_stream.specs.Streams.{IsBeginning, SourceState}
-use Rattle.nv_script.specs.declared.ends.Cut.{Cut}
-use Rattle.nv_script.specs.declared.ends.Cut.TheVariants.{Output, Messages, Memory, NoReady}
+use Rattle.nv_script.specs.declared.ends.RunEnd.{RunEnd}
+use Rattle.nv_script.specs.declared.ends.RunEnd.TheVariants.{OutWrite, MessageWrite, Memory}
 use Rattle.nv_line.specs.declared.fault.LineFault.{LineFault}
 use Rattle.nv_line.specs.declared.line.Line.{Line}
 use Rattle.nv_line.specs.declared.line.Line.TheVariants as line
 use Rattle.nv_stream.specs.Streams.{read_size}
 
--- the streams and the subsystem: what each sink had taken before a run and has taken since, where
--- that is told
+-- the streams and the subsystem: what each sink had taken before a run and has taken since, if that
+-- is known
 pub record Left : Type 0 where
   pub out_before : Option (List ℕ)
   pub out : Option (List ℕ)
@@ -34,13 +34,13 @@ left_at out_before out messages_before messages state = record {
   state = state;
 }
 
--- the streams took these texts, and the subsystem is this
+-- the streams have taken these texts, and this is the state of the subsystem
 pub record Holds (left : Left) (output messages : List ℕ) (state : State) : Type 0 where
   pub took_output : Appends left.out_before left.out output
   pub took_messages : Appends left.messages_before left.messages messages
   pub reached : left.state ≡ state
 
--- they are those of all these lines
+-- the texts and the state after all these lines
 abbrev pub HoldsWhole : State → List (List ℕ) → Left → Type 0
 HoldsWhole s lines left =
     Holds left (whole s lines).output (whole s lines).messages (whole s lines).state
@@ -52,47 +52,47 @@ state_amid s serials (Ok (line.Request r)) k =
     (outcome_of s serials (take k (orders_of s r.query))).state
 state_amid s serials (Err fault) k = s
 
--- The beginnings, at a line after p. The output failed: the texts before the line stand whole, and
--- a beginning of its output; the subsystem is that after the line.
+-- How a line after p is cut short. The output failed: the texts before the line are complete,
+-- followed by a beginning of its output; the subsystem is in the state after the line.
 abbrev pub IsOutputBeginning : Progress → List ℕ → Left → Type 0
 IsOutputBeginning p line left = (part : List ℕ) × IsBeginning part (result_at p line).output
     × Holds left (p.output ++ part) p.messages (result_at p line).state
 
--- the same, where the messages failed
+-- the messages failed: the texts before the line are complete, followed by a beginning of its message
 abbrev pub IsMessageBeginning : Progress → List ℕ → Left → Type 0
 IsMessageBeginning p line left = (part : List ℕ) × IsBeginning part (result_at p line).message
     × Holds left p.output (p.messages ++ part) (result_at p line).state
 
--- memory was refused: nothing of the line stands, and some of its orders were carried out
+-- memory was refused: nothing of the line is written, and some of its orders were carried out
 abbrev pub IsMemoryBeginning : Progress → List ℕ → Left → Type 0
 IsMemoryBeginning p line left = (k : ℕ)
     × Holds left p.output p.messages (state_amid p.state p.serials (said_at p line) k)
 
--- how a run is cut short in a line after p; each controller of a lawful bus is ready
-abbrev pub IsCutIn : Cut → Progress → List ℕ → Left → Type 0
-IsCutIn Output p line left = IsOutputBeginning p line left
-IsCutIn Messages p line left = IsMessageBeginning p line left
+-- what an end in a line after p leaves; no other end than these three cuts a line short
+abbrev pub IsCutIn : RunEnd → Progress → List ℕ → Left → Type 0
+IsCutIn OutWrite p line left = IsOutputBeginning p line left
+IsCutIn MessageWrite p line left = IsMessageBeginning p line left
 IsCutIn Memory p line left = IsMemoryBeginning p line left
-IsCutIn NoReady p line left = ⊥
+IsCutIn _ p line left = ⊥
 
 -- whether the output and the messages have failed there
-abbrev pub AreFailed : Cut → Bool → Bool → Type 0
-AreFailed Output out messages = (out ≡ true) × (messages ≡ false)
-AreFailed Messages out messages = (out ≡ false) × (messages ≡ true)
+abbrev pub AreFailed : RunEnd → Bool → Bool → Type 0
+AreFailed OutWrite out messages = (out ≡ true) × (messages ≡ false)
+AreFailed MessageWrite out messages = (out ≡ false) × (messages ≡ true)
 AreFailed Memory out messages = (out ≡ false) × (messages ≡ false)
-AreFailed NoReady out messages = ⊥
+AreFailed _ out messages = ⊥
 
--- the bytes of these lines, with the newlines that ended them
+-- the bytes of these lines, each with its newline
 abbrev pub joined_lines : List (List ℕ) → List ℕ
 joined_lines lines = flat_map (λ line. line ++ 10 ∷ []) lines
 
 -- a run that read these bytes was cut short in one of the lines that were read, and had read at most
 -- 4,095 bytes past that line's newline
-pub record IsCutShort (cut : Cut) (reads : ℕ) (script : SourceState) (s : State) (bytes : List ℕ)
+pub record IsCutShort (end : RunEnd) (reads : ℕ) (script : SourceState) (s : State) (bytes : List ℕ)
     (left : Left) : Type 0 where
   pub before : List (List ℕ)
   pub line : List ℕ
   pub later : List (List ℕ)
   pub lines : AreRead reads script bytes (before ++ line ∷ later)
-  pub beginning : IsCutIn cut (whole s before) line left
+  pub beginning : IsCutIn end (whole s before) line left
   pub ahead : length bytes < length (joined_lines (before ++ line ∷ [])) + read_size

@@ -1,4 +1,4 @@
--- What is accepted is shown.
+-- Whatever is accepted is shown.
 use Rattle.std.specs.Prelude.{◌≡◌, ℕ, List, None, Ok, IsSome, flat_map, length, map}
 use Rattle.std.specs.List.{range_with_len}
 use Rattle.nv_bits.specs.Above.{above}
@@ -10,13 +10,13 @@ use Rattle.nv_script.specs.Orders.{orders_of, orders_of_list}
 use Rattle.nv_script.specs.Outcomes.{outcome_of}
 use Rattle.nv_script.specs.Shown.{listing_of, no_listing, shown_of}
 
--- a query of which no order is refused shows something
+-- a query shows something if none of its orders is refused
 abbrev pub IsShown : State → List ℕ → Query → Type 0
 IsShown s serials q =
     let o = outcome_of s serials (orders_of s q) in
     o.refusal ≡ None → IsSome (shown_of (orders_of s q) q o.replies)
 
--- a namespace of a controller, by the two numbers
+-- the two numbers of a controller's namespace
 abbrev pub place_of : Device → ℕ × ℕ
 place_of d = (d.controller, d.nsid)
 
@@ -24,7 +24,7 @@ place_of d = (d.controller, d.nsid)
 abbrev pub places_of : State → ℕ → List (ℕ × ℕ)
 places_of s c = map (λ n. (c, n)) (above 0 (active_nsids s c))
 
--- `list`, where no order of it is refused, shows the namespaces of each controller, in order
+-- `list` shows the namespaces of each controller in order, if none of its orders is refused
 abbrev pub IsListed : State → List ℕ → Type 0
 IsListed s serials =
     let o = outcome_of s serials (orders_of_list s) in

@@ -12,12 +12,9 @@ use Rattle.nv_script.specs.Cuts.{AreFailed, IsCutShort, HoldsWhole, Left, left_a
 use Rattle.nv_script.specs.Results.{whole}
 use Rattle.nv_script.specs.ScriptLines.{IsReadToEnd, has_stopped, pieces, script_lines}
 use Rattle.nv_stream.specs.Streams.{SinkState, SourceState}
-use Rattle.nv_script.specs.declared.ends.Cut.TheVariants as cut
 use Rattle.nv_script.specs.declared.ends.RunEnd.{RunEnd}
 use Rattle.nv_script.specs.declared.ends.RunEnd.TheVariants.{Status, Geometry, NoReady, Read}
 use Rattle.nv_script.specs.declared.ends.RunEnd.TheVariants.{OutWrite, MessageWrite, Memory}
-use Rattle.nv_script.specs.declared.ends.SessionEnd.{SessionEnd}
-use Rattle.nv_script.specs.declared.ends.SessionEnd.TheVariants as ended
 
 -- what a run works on: the subsystem, which of its controllers are enabled, and the streams
 pub record RunState : Type 0 where
@@ -61,38 +58,30 @@ LeavesAll status s bytes left =
     (status ≡ (whole s (script_lines bytes)).status) × HoldsWhole s (script_lines bytes) left
 
 -- What each end of a run with a driver leaves, where it began at s and read these bytes of a
--- script. A status: all lines. A read fault: the lines whose newline was read.
-abbrev pub Leaves : SessionEnd → ℕ → SourceState → State → List ℕ → Left → Type 0
-Leaves (ended.Status status) reads script s bytes left = LeavesAll status s bytes left
-Leaves ended.Read reads script s bytes left = HoldsWhole s (pieces bytes).ended left
-Leaves (ended.Cut cut) reads script s bytes left = IsCutShort cut reads script s bytes left
+-- script. A status: all lines. A read fault: the lines whose newline was read. Any other cut it short
+-- in a line.
+abbrev pub Leaves : RunEnd → ℕ → SourceState → State → List ℕ → Left → Type 0
+Leaves (Status status) reads script s bytes left = LeavesAll status s bytes left
+Leaves Read reads script s bytes left = HoldsWhole s (pieces bytes).ended left
+Leaves end reads script s bytes left = IsCutShort end reads script s bytes left
 
 -- Which end it is: a write's exactly where that sink has failed; Read exactly where no write
 -- failed, no memory was refused and the source has stopped; a status only where the script was read
 -- to its end
-abbrev pub IsEndOf : SessionEnd → ℕ → RunState → Type 0
-IsEndOf (ended.Status status) reads now = IsReadToEnd reads now.script
+abbrev pub IsEndOf : RunEnd → ℕ → RunState → Type 0
+IsEndOf (Status status) reads now = IsReadToEnd reads now.script
     × (now.out.has_failed ≡ false) × (now.messages.has_failed ≡ false)
-IsEndOf ended.Read reads now = (has_stopped reads now.script ≡ true)
+IsEndOf Read reads now = (has_stopped reads now.script ≡ true)
     × (now.out.has_failed ≡ false) × (now.messages.has_failed ≡ false)
-IsEndOf (ended.Cut cut) reads now = AreFailed cut now.out.has_failed now.messages.has_failed
+IsEndOf end reads now = AreFailed end now.out.has_failed now.messages.has_failed
 
 -- a run of at most so many reads, which began at s
-pub record RunsFrom (s : State) (reads : ℕ) (end : SessionEnd) (old new : RunState) : Type 0 where
+pub record RunsFrom (s : State) (reads : ℕ) (end : RunEnd) (old new : RunState) : Type 0 where
   pub bytes : List ℕ
   pub was_read : WasRead old.script new.script bytes
   pub left : Leaves end reads new.script s bytes (left_by old new)
   pub end_of : IsEndOf end reads new
   pub calls : new.script.calls ≤ reads
-
--- the end of a run with a driver
-abbrev pub end_with : SessionEnd → RunEnd
-end_with (ended.Status status) = Status status
-end_with ended.Read = Read
-end_with (ended.Cut cut.Output) = OutWrite
-end_with (ended.Cut cut.Messages) = MessageWrite
-end_with (ended.Cut cut.Memory) = Memory
-end_with (ended.Cut cut.NoReady) = NoReady
 
 -- the end of a run that got no driver or no room for answers: the first field of the geometry that
 -- is out of its limits, or, where no field is, want of memory
@@ -105,8 +94,7 @@ end_without None = Memory
 abbrev pub Runs : DriverGeometry → ℕ → RunEnd → RunState → RunState → Type 0
 Runs g reads end old new =
     ((end ≡ end_without (fault_of g)) × (new ≡ old))
-    ⊎ ((fault_of g ≡ None) × AllEnabled new
-    × ((e : SessionEnd) × (end ≡ end_with e) × RunsFrom (begun old) reads e old new))
+    ⊎ ((fault_of g ≡ None) × AllEnabled new × RunsFrom (begun old) reads end old new)
 
 -- the headline: a script that is told and was read to its end leaves what the fold over its lines
 -- says

@@ -1,4 +1,4 @@
--- What a query has controllers do.
+-- What a query makes controllers do.
 use Rattle.std.specs.Prelude.{ℕ, ◌*◌, max, min, List, [], ◌∷◌, Option, Some, None, flat_map, length, map}
 use Rattle.std.specs.List.{range_with_len}
 use Rattle.nv_bits.specs.Above.{above}
@@ -19,13 +19,13 @@ use Rattle.nv_line.specs.declared.request.Question.{Question}
 
 -- ---- one controller is asked
 
--- what is done first for what a controller is asked
+-- the first act for what a controller is asked
 abbrev pub first_act : Ask → Act
 first_act (ask.Do act) = act
 first_act (ask.ErrorLog entries) = Send IdentifyController
 
--- the entries of an error log, 16 dwords each: so many, as far as a controller keeps them, and one
--- at least
+-- the command for `entries` entries of an error log, 16 dwords each, but no more than a controller
+-- keeps, and at least one
 abbrev pub errors_command : ℕ → ℕ → Command
 errors_command entries kept = GetLog (record {
   lid = 0x01;
@@ -34,7 +34,7 @@ errors_command entries kept = GetLog (record {
   dwords = 16 * max (min entries kept) 1;
 })
 
--- the command that follows on the first act, if any, at a controller that keeps so many errors
+-- the command that follows the first act, if any, for a controller that keeps `kept` errors
 abbrev pub second_command : ℕ → Ask → Option Command
 second_command kept (ask.ErrorLog entries) = Some (errors_command entries kept)
 second_command kept _ = None
@@ -53,7 +53,7 @@ orders_of_one s q =
 abbrev pub namespace_orders : ℕ → List ℕ → List Order
 namespace_orders c nsids = map (λ n. order_of c (IdentifyNamespace n)) nsids
 
--- what the controller is, which NSIDs are attached to it, and what each of these namespaces is
+-- the commands for a controller's data, for its attached NSIDs, and for the data of each of these namespaces
 abbrev pub orders_of_controller : State → ℕ → List Order
 orders_of_controller s c =
     order_of c IdentifyController ∷ order_of c (ActiveList 0)
@@ -62,7 +62,7 @@ orders_of_controller s c =
 abbrev pub orders_of_list : State → List Order
 orders_of_list s = flat_map (orders_of_controller s) (range_with_len 0 (length s.controllers))
 
--- the orders that a query stands for
+-- the orders of a query
 abbrev pub orders_of : State → Query → List Order
 orders_of s (query.One question) = orders_of_one s question
 orders_of s query.List = orders_of_list s

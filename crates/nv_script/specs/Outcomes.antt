@@ -1,4 +1,4 @@
--- What orders come to, one after the other.
+-- The outcome of one act at a controller, and of orders, one after another.
 use Rattle.std.specs.Prelude.{ℕ, List, Result, Ok, slice_index, slice_set, [], ◌∷◌, Option, Some, None}
 use Rattle.std.specs.Prelude.{Err}
 use Rattle.nv_layout.specs.declared.status.Status.{Status}
@@ -11,7 +11,7 @@ use Rattle.nv_command.specs.declared.command.Command.{Command}
 use Rattle.nv_line.specs.declared.request.Act.{Act}
 use Rattle.nv_line.specs.declared.request.Act.TheVariants.{Send, Reset}
 
--- an act at a controller, which is named by its place in the subsystem's file
+-- an act at a controller, which is given by its place in the subsystem's file
 pub record Order : Type 0 where
   pub controller : ℕ
   pub act : Act
@@ -20,8 +20,8 @@ pub record Order : Type 0 where
 abbrev pub order_of : ℕ → Command → Order
 order_of c k = record { controller = c; act = Send k }
 
--- the answer to an act as the host gets it, and the state and the serials of the controllers after
--- it
+-- the answer to an act as the host receives it, and the state and the serials of the controllers
+-- after it
 pub record Exchange : Type 0 where
   pub answer : Result Reply Status
   pub state : State
@@ -30,7 +30,7 @@ pub record Exchange : Type 0 where
 abbrev pub exchange_with : Result Reply Status → State → List ℕ → Exchange
 exchange_with answer s serials = record { answer = answer; state = s; serials = serials }
 
--- what an act at controller c comes to; a reset is always done, and takes no command identifier
+-- the outcome of an act at controller c; a reset always succeeds, and takes no command identifier
 abbrev pub exchange_by : Act → State → List ℕ → ℕ → Exchange
 exchange_by (Send k) s serials c =
     let serial = slice_index serials c in
@@ -39,18 +39,18 @@ exchange_by (Send k) s serials c =
     (slice_set serials c (next_serial serial))
 exchange_by Reset s serials c = exchange_with (Ok Done) (reset s c) serials
 
--- what an order comes to
+-- the outcome of an order
 abbrev pub exchange_of : State → List ℕ → Order → Exchange
 exchange_of s serials o = exchange_by o.act s serials o.controller
 
--- the replies up to the first refusal, and where that leaves the subsystem and the serials
+-- the replies up to the first refusal, and the state and the serials after them
 pub record Outcome : Type 0 where
   pub replies : List Reply
   pub refusal : Option Status
   pub state : State
   pub serials : List ℕ
 
--- a refusal ends the list; a reply goes before those of the later orders
+-- a refusal ends the list; a reply comes before those of the later orders
 abbrev pub outcome_after : Result Reply Status → State → List ℕ → Outcome → Outcome
 outcome_after (Err status) s serials later = record {
   replies = [];
@@ -60,7 +60,7 @@ outcome_after (Err status) s serials later = record {
 }
 outcome_after (Ok reply) s serials later = record later { replies = reply ∷ later.replies }
 
--- the outcome of orders, one after the other up to the first refusal
+-- the outcome of orders, one after another up to the first refusal
 abbrev pub outcome_of : State → List ℕ → List Order → Outcome
 outcome_of s serials [] = record { replies = []; refusal = None; state = s; serials = serials }
 outcome_of s serials (o ∷ os) =

@@ -1,4 +1,4 @@
--- What a line prints and does, and a script line by line.
+-- What a line prints and does, and a script as a fold over its lines.
 use Rattle.std.specs.Prelude.{ℕ, ◌+◌, List, [], ◌++◌, length, replicate, Option, None, Some, Result}
 use Rattle.std.specs.Prelude.{Ok, Err, unwrap_or, fold}
 use Rattle.nv_layout.specs.declared.status.Status.{Status}
@@ -16,8 +16,8 @@ use Rattle.nv_line.specs.declared.line.Line.{Line}
 use Rattle.nv_line.specs.declared.line.Line.TheVariants as line
 use Rattle.nv_line.specs.declared.request.Request.{Request}
 
--- what a line prints, on one of the two streams at most; its status, if it has one; and what it
--- leaves
+-- what a line prints, on at most one of the two streams; its status, if it has one; and the state
+-- after it
 pub record LineResult : Type 0 where
   pub output : List ℕ
   pub message : List ℕ
@@ -25,11 +25,11 @@ pub record LineResult : Type 0 where
   pub state : State
   pub serials : List ℕ
 
--- the message of what is wrong with the line of this number
+-- the message about what is wrong with the line of this number
 abbrev pub message_at : ℕ → FaultCause → List ℕ
 message_at number cause = message_of (record { line = number; cause = cause })
 
--- what a request prints in state s by these replies, in its format
+-- what a request in state s prints for these replies, in its format
 abbrev pub output_for : State → Request → List Reply → List ℕ
 output_for s r replies = output_of r.format (shown_of (orders_of s r.query) r.query replies)
 
@@ -53,7 +53,7 @@ answer_result (Some status) number s r o = record {
 abbrev pub request_result : ℕ → State → Request → Outcome → LineResult
 request_result number s r o = answer_result o.refusal number s r o
 
--- a line that stands for no order
+-- a line without orders
 abbrev pub quiet_result : State → List ℕ → List ℕ → Option ℕ → LineResult
 quiet_result s serials message status = record {
   output = [];
@@ -63,7 +63,7 @@ quiet_result s serials message status = record {
   serials = serials;
 }
 
--- the line of this number
+-- the result of the line with this number
 abbrev pub line_result : State → List ℕ → ℕ → Result Line LineFault → LineResult
 line_result s serials number (Ok line.Skipped) = quiet_result s serials [] None
 line_result s serials number (Ok (line.Request r)) =
@@ -71,8 +71,8 @@ line_result s serials number (Ok (line.Request r)) =
 line_result s serials number (Err fault) =
     quiet_result s serials (message_at number (cause.Line fault)) (Some 1)
 
--- where a script stands between two lines: what was printed, the status of the last line that has
--- one, the subsystem, the next serial of each controller, and how many lines there were
+-- the progress of a script between two lines: what was printed, the status of the last line that
+-- has one, the subsystem, the next serial of each controller, and how many lines there were
 pub record Progress : Type 0 where
   pub output : List ℕ
   pub messages : List ℕ
@@ -81,11 +81,11 @@ pub record Progress : Type 0 where
   pub serials : List ℕ
   pub number : ℕ
 
--- what the next line says
+-- the meaning of the next line
 abbrev pub said_at : Progress → List ℕ → Result Line LineFault
 said_at p line = reading line (length p.state.controllers)
 
--- what it comes to
+-- its result
 abbrev pub result_at : Progress → List ℕ → LineResult
 result_at p line = line_result p.state p.serials (p.number + 1) (said_at p line)
 
@@ -102,7 +102,7 @@ progress_with p r = record {
 abbrev pub after : Progress → List ℕ → Progress
 after p line = progress_with p (result_at p line)
 
--- before the first line: serials are 0
+-- before the first line: all serials are 0
 abbrev pub start : State → Progress
 start s = record {
   output = [];

@@ -38,24 +38,24 @@ feature_value _ _ value = None
 abbrev pub feature_set : Option Feature → ℕ → Bool → Option Shown
 feature_set f value save = option_map (λ f. shown.FeatureSet f value save) f
 
--- what is shown by a number: the NSID of a new namespace, or the value of a feature
+-- what a number shows: the NSID of a new namespace, or the value of a feature
 abbrev pub shown_number : Ask → ℕ → Option Shown
-shown_number (ask.Do (Send (Create nsze ncap flbas dps nmic))) nsid = Some (shown.Created nsid)
+shown_number (ask.Do (Send (Create w))) nsid = Some (shown.Created nsid)
 shown_number (ask.Do (Send (GetFeature q))) value =
     feature_value (feature_of q.fid) (select_of q.sel) value
 shown_number _ number = None
 
--- what is shown where it is done
+-- what a success without a value shows
 abbrev pub shown_done : Ask → Option Shown
 shown_done (ask.Do (Send (Attachment nsid detach ids))) =
     Some (if detach then shown.Detached nsid else shown.Attached nsid)
 shown_done (ask.Do (Send (Delete nsid))) = Some (shown.Deleted nsid)
-shown_done (ask.Do (Send (Format nsid lbaf mset pi pil ses))) = Some (shown.Formatted nsid)
+shown_done (ask.Do (Send (Format f))) = Some (shown.Formatted f.nsid)
 shown_done (ask.Do (Send (SetFeature x))) = feature_set (feature_of x.fid) x.value x.save
 shown_done (ask.Do Reset) = Some shown.Reset
 shown_done _ = None
 
--- what an ask shows by the last reply to it
+-- what an ask shows after the last reply to it
 abbrev pub shown_by : Ask → Reply → Option Shown
 shown_by a (reply.Controller identity) = Some (shown.Controller identity)
 shown_by a (reply.List nsids) = Some (shown.NsList nsids)
@@ -65,7 +65,7 @@ shown_by a (reply.Errors errors) = Some (shown.Errors errors)
 shown_by a (reply.Number number) = shown_number a number
 shown_by a reply.Done = shown_done a
 
--- by the replies in order
+-- what an ask shows after the replies to it, in order
 abbrev pub shown_of_one : Ask → List Reply → Option Shown
 shown_of_one a [] = None
 shown_of_one a (reply ∷ []) = shown_by a reply
@@ -76,7 +76,7 @@ shown_of_one a (reply ∷ next ∷ later) = shown_of_one a (next ∷ later)
 abbrev pub no_listing : Listing
 no_listing = record { identity = no_controller; devices = [] }
 
--- with the answer to an act at controller c; a refusal tells nothing
+-- the listing with the answer to an act at controller c; a refusal adds nothing
 abbrev pub listing_told : ℕ → Listing → Act → Result Reply Status → Listing
 listing_told c l (Send IdentifyController) (Ok (reply.Controller identity)) =
     record l { identity = identity }
@@ -84,21 +84,21 @@ listing_told c l (Send (IdentifyNamespace n)) (Ok (reply.Namespace namespace)) =
     record l { devices = l.devices ++ device_of c n l.identity namespace ∷ [] }
 listing_told c l _ _ = l
 
--- with the answers to some orders
+-- the listing with the answers to some orders
 abbrev pub listing_of : Listing → List Order → List (Result Reply Status) → Listing
 listing_of l (order ∷ orders) (answer ∷ answers) =
     listing_of (listing_told order.controller l order.act answer) orders answers
 listing_of l _ _ = l
 
--- ---- what is shown, and how it is written
+-- ---- what is shown, and how it is printed
 
--- what a query shows by the replies to these orders of it
+-- what a query shows after the replies to these orders of it
 abbrev pub shown_of : List Order → Query → List Reply → Option Shown
 shown_of orders (query.One question) replies = shown_of_one question.ask replies
 shown_of orders query.List replies =
     Some (shown.Devices (listing_of no_listing orders (map Ok replies)).devices)
 
--- as JSON where that is asked for and there is a JSON form, and else as text
+-- as JSON if that is asked for and there is a JSON form, and otherwise as text
 abbrev pub written : OutputFormat → Shown → List ℕ
 written Normal shown = text_of shown
 written Json shown = if has_json shown then json_of shown else text_of shown

@@ -3,7 +3,6 @@
 ghost use Rattle.std.specs.Prelude.{◌≡◌};
 ghost use Rattle.nv_driver.specs.declared.error.DriverError.TheVariants as error;
 ghost use Rattle.nv_driver.specs.declared.geometry_field.GeometryField.{GeometryField};
-ghost use Rattle.nv_script.specs.Ends.{end_with};
 ghost use Rattle.nv_script.specs.declared.ends.RunEnd.TheVariants as end;
 
 use nv_driver::{DriverError, GeometryField};
@@ -33,11 +32,11 @@ impl fmt::Display for RunEnd {
     fn fmt<W: fmt::Write>(&self, f: &mut fmt::Formatter<W>) -> fmt::Result {
         match self {
             RunEnd::Status(status) => write!(f, "status {status}"),
-            RunEnd::Geometry(field) => write!(f, "geometry: {field}"),
-            RunEnd::NoReady => f.write_str("no ready"),
+            RunEnd::Geometry(field) => write!(f, "{}", DriverError::Geometry(*field)),
+            RunEnd::NoReady => write!(f, "{}", DriverError::NoReady),
             RunEnd::Read => f.write_str("read fault"),
             RunEnd::OutWrite | RunEnd::MessageWrite => f.write_str("write fault"),
-            RunEnd::Memory => f.write_str("out of memory"),
+            RunEnd::Memory => write!(f, "{}", DriverError::Memory),
         }
     }
 }
@@ -53,45 +52,6 @@ impl From<DriverError> for RunEnd {
             DriverError::Geometry(field) => RunEnd::Geometry(field),
             DriverError::Memory => RunEnd::Memory,
             DriverError::NoReady => RunEnd::NoReady,
-        }
-    }
-}
-
-/// What cut a run short in a line.
-#[derive(Clone, Copy)]
-pub enum Cut {
-    /// The output failed.
-    Output,
-    /// The messages failed.
-    Messages,
-    /// Memory was refused.
-    Memory,
-    /// A controller isn't ready after a reset: a bus that keeps its contract has none.
-    NoReady,
-}
-
-/// How a run with a driver ended.
-#[derive(Clone, Copy)]
-pub enum SessionEnd {
-    /// The script's end, with the status of its last line that has one.
-    Status(u8),
-    /// The source failed, or was asked as often as it may be.
-    Read,
-    /// A line was cut short.
-    Cut(Cut),
-}
-
-impl From<SessionEnd> for RunEnd {
-    ghost from_gives = { λ ended end. end ≡ end_with ended };
-
-    fn from(ended: SessionEnd) -> RunEnd {
-        match ended {
-            SessionEnd::Status(status) => RunEnd::Status(status),
-            SessionEnd::Read => RunEnd::Read,
-            SessionEnd::Cut(Cut::Output) => RunEnd::OutWrite,
-            SessionEnd::Cut(Cut::Messages) => RunEnd::MessageWrite,
-            SessionEnd::Cut(Cut::Memory) => RunEnd::Memory,
-            SessionEnd::Cut(Cut::NoReady) => RunEnd::NoReady,
         }
     }
 }

@@ -1,4 +1,4 @@
-//! One line: its commands, its text, and the write of it.
+//! Executes one line: its commands, its text, and the write of that text.
 
 ghost use Rattle.std.specs.Prelude.{◌≡◌, ◌+◌, ◌<◌, ◌^◌, ℕ, List, Option, false, IfOk, length};
 ghost use Rattle.std.specs.Option.{option_copied};
@@ -8,9 +8,9 @@ ghost use Rattle.nv_line.specs.LineFault.{IsUnlessMemory};
 ghost use Rattle.nv_line.specs.Line.{IsKnown, reading};
 ghost use Rattle.nv_script.specs.Results.{Progress};
 ghost use Rattle.nv_script.specs.inner.ScriptLines.{buffer_of};
-ghost use Rattle.nv_driver.specs.inner.Linked.{IsLinked};
+ghost use Rattle.nv_driver.specs.Linked.{IsLinked};
 
-use crate::ends::Cut;
+use crate::ends::RunEnd;
 use crate::performing::{Stop, perform};
 use crate::session::Session;
 use nv_bus::Bus;
@@ -19,14 +19,15 @@ use nv_print::{Fault, FaultCause, Memory, message};
 use nv_stream::{Sink, write_all};
 use std::alloc::Global;
 
-/// Writes a line's text, made before its first byte goes out. `fault` is the cut if the sink fails.
-fn print<S: Sink>(sink: &mut S, text: Result<Vec<u8>, Memory>, fault: Cut) -> Result<(), Cut>
+/// Writes a line's text, made before its first byte goes out. `fault` is the end of the run if the
+/// sink fails.
+fn print<S: Sink>(sink: &mut S, text: Result<Vec<u8>, Memory>, fault: RunEnd) -> Result<(), RunEnd>
     requires { (S.state sink.old).has_failed ≡ false }
     ensures { PrintLeaves result fault text (S.state sink.old).taken (S.state sink.new).taken
         (S.state sink.new).has_failed }
 {
     match text {
-        Err(_) => Err(Cut::Memory),
+        Err(_) => Err(RunEnd::Memory),
         Ok(text) => {
             if write_all(sink, &text) {
                 Ok(())
@@ -37,7 +38,8 @@ fn print<S: Sink>(sink: &mut S, text: Result<Vec<u8>, Memory>, fault: Cut) -> Re
     }
 }
 
-/// What a line says, as far as there was room for it. Listed controllers are put in the place.
+/// Reads a line, or reports that there was no room for it. Listed controllers are written to
+/// `place`.
 fn read_buffer<'a>(
     reader: &mut LineReader<'_>,
     line: Option<&[u8]>,
@@ -54,7 +56,7 @@ fn read_buffer<'a>(
     }
 }
 
-/// Executes one line; `None` is a line above 4,095 bytes.
+/// Executes one line. `None` is a line of more than 4,095 bytes.
 pub(crate) fn execute_line<B: Bus, O: Sink, M: Sink>(
     alloc: Global,
     bus: &mut B,
@@ -63,12 +65,12 @@ pub(crate) fn execute_line<B: Bus, O: Sink, M: Sink>(
     messages: &mut M,
     reader: &mut LineReader<'_>,
     line: Option<&[u8]>,
-) -> Result<(), Cut>
+) -> Result<(), RunEnd>
     requires out_ready { (O.state out.old).has_failed ≡ false }
     requires messages_ready { (M.state messages.old).has_failed ≡ false }
     requires linked { IsLinked (B.meaning bus.old) session.old.driver }
     requires number { session.old.number + 1 < 2 ^ 64 }
-    // Where the run stood after p, it then stands after p and this line, or is cut short in it.
+    // If the run was at p, it is then after p and this line, or was cut short in this line.
     ensures left { (text : List ℕ) (p : Progress) (o m : Option (List ℕ))
         → option_copied line.entry ≡ buffer_of text
         → Stands p
@@ -86,14 +88,14 @@ pub(crate) fn execute_line<B: Bus, O: Sink, M: Sink>(
     let said = match read_buffer(reader, line, bus.controllers(), &mut session.listed) {
         Ok(said) => said,
         Err(fault) => match fault {
-            LineFault::Memory => return Err(Cut::Memory),
+            LineFault::Memory => return Err(RunEnd::Memory),
             fault => {
                 session.status = 1;
                 let fault = Fault {
                     line: session.number,
                     cause: FaultCause::Line(fault),
                 };
-                return print(messages, message(alloc, &fault), Cut::Messages);
+                return print(messages, message(alloc, &fault), RunEnd::MessageWrite);
             }
         },
     };
@@ -108,17 +110,17 @@ pub(crate) fn execute_line<B: Bus, O: Sink, M: Sink>(
         ) {
             Ok(text) => {
                 session.status = 0;
-                print(out, Ok(text), Cut::Output)
+                print(out, Ok(text), RunEnd::OutWrite)
             }
-            Err(Stop::Memory) => Err(Cut::Memory),
-            Err(Stop::NoReady) => Err(Cut::NoReady),
+            Err(Stop::Memory) => Err(RunEnd::Memory),
+            Err(Stop::NoReady) => Err(RunEnd::NoReady),
             Err(Stop::Refused(status)) => {
                 session.status = 2;
                 let fault = Fault {
                     line: session.number,
                     cause: FaultCause::Refused(status),
                 };
-                print(messages, message(alloc, &fault), Cut::Messages)
+                print(messages, message(alloc, &fault), RunEnd::MessageWrite)
             }
         },
     }

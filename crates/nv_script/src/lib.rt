@@ -1,4 +1,5 @@
-//! Scripts of command lines: the commands that a line sends, and what a run of a script leaves.
+//! Scripts of command lines: the commands that a line sends, and what a run of a script leaves
+//! behind.
 #![tactic(auto)]
 
 mod ends;

@@ -1,4 +1,4 @@
-//! One line of a script, as far as there is room for it.
+//! One line of a script, if there is room for it.
 
 ghost use Rattle.std.specs.Prelude.{◌≡◌, ◌≤◌, [], List, ℕ, Option, Some, None, if◌then◌else◌, take};
 ghost use Rattle.std.specs.Prelude.{IsTrue, ◌↔◌};
@@ -9,7 +9,7 @@ ghost use Rattle.nv_line.specs.Word.{line_limit};
 use nv_line::LINE_LIMIT;
 use std::marker::Model;
 
-/// A line, or that it has more than 4,095 bytes.
+/// A line, or the fact that it has more than 4,095 bytes.
 #[derive(Drop)]
 pub struct LineBuffer {
     bytes: [u8; LINE_LIMIT],
@@ -55,7 +55,7 @@ impl LineBuffer {
         self.is_too_long = false;
     }
 
-    /// The line; `None` where it is too long.
+    /// Returns the line, or `None` if it is too long.
     pub(crate) fn line(&self) -> Option<&[u8]>
         ensures { option_copied result ≡ self.now }
     {

@@ -1,4 +1,4 @@
-//! `list`: each controller is asked for the namespaces that are attached to it.
+//! Executes `list`: it asks each controller for the namespaces that are attached to it.
 
 ghost use Rattle.std.specs.Prelude.{◌≡◌, ◌<◌, ◌≤◌, ℕ, All, IfErr, IfOk, IsOk, OnOk, length, map};
 ghost use Rattle.std.specs.Prelude.{slice_index, slice_index_or, [], ◌∷◌};
@@ -6,7 +6,8 @@ ghost use Rattle.nv_command.specs.declared.command.Command.{Command};
 ghost use Rattle.nv_command.specs.declared.command.Command.TheVariants.{IdentifyNamespace};
 ghost use Rattle.nv_model.specs.IdentifyController.{no_controller};
 ghost use Rattle.nv_script.specs.Outcomes.{order_of};
-ghost use Rattle.nv_driver.specs.inner.Linked.{IsLinked, serials_of};
+ghost use Rattle.nv_driver.specs.Linked.{IsLinked};
+ghost use Rattle.nv_driver.specs.inner.Linked.{serials_of};
 ghost use Rattle.nv_script.specs.inner.Listing.{IsHandedOn, IsListed, ListLeaves, Standing};
 ghost use Rattle.nv_script.specs.inner.Listing.{nsids_told};
 ghost use Rattle.nv_script.specs.Orders.{namespace_orders, orders_of_controller};
@@ -24,7 +25,7 @@ use nv_print::{Device, DeviceList};
 use std::alloc::Global;
 use std::array;
 
-/// What is told of a controller before any is asked: zeros.
+/// Returns the controller's data before any controller is asked, which is all zeros.
 fn no_controller() -> IdCtrl
     ensures { result ≡ no_controller }
 {
@@ -59,7 +60,7 @@ fn no_controller() -> IdCtrl
     }
 }
 
-/// What the controller that was asked last is, and the devices so far.
+/// The data of the controller that was asked last, and the devices so far.
 #[derive(Drop)]
 pub struct Listing {
     pub identity: IdCtrl,
@@ -67,7 +68,7 @@ pub struct Listing {
 }
 
 impl Listing {
-    /// Before the first command.
+    /// Creates a listing before the first command.
     fn new(alloc: Global) -> Listing
         ensures { result ≡ no_listing }
     {
@@ -77,7 +78,7 @@ impl Listing {
         }
     }
 
-    /// Keeps what the answer to a command of a controller tells. A refusal is handed on.
+    /// Keeps the answer to a command of a controller. A refusal is returned.
     fn tell(&mut self, ctrl: u16, command: &Command, answer: Answer) -> Result<(), Stop>
         ensures accepted { OnOk result (IsOk answer.entry) }
         ensures told { OnOk result
@@ -97,7 +98,7 @@ impl Listing {
         Ok(())
     }
 
-    /// Keeps what the answers to some commands of a controller tell. A refusal is handed on.
+    /// Keeps the answers to some commands of a controller. A refusal is returned.
     fn tell_all(
         &mut self,
         ctrl: u16,
@@ -117,7 +118,7 @@ impl Listing {
     }
 }
 
-/// The NSIDs that a reply tells.
+/// Returns the NSIDs in a reply.
 fn nsids_in<'a>(reply: &'a Reply) -> &'a [u32]
     ensures { result.now ≡ nsids_told reply.now }
 {
@@ -127,7 +128,8 @@ fn nsids_in<'a>(reply: &'a Reply) -> &'a [u32]
     }
 }
 
-/// The commands that ask a controller for namespaces, with commands of no account after them.
+/// Returns the commands that ask a controller for namespaces, followed by commands that aren't
+/// sent.
 fn commands_for(nsids: &[u32]) -> [Command<'static>; BATCH]
     requires len { length nsids.now ≤ BATCH }
     ensures { (k : ℕ) (d : Command) → k < length nsids.now
@@ -191,7 +193,7 @@ fn list_namespaces<B: Bus>(
     Ok(())
 }
 
-/// Asks a controller what it is, for the NSIDs that are attached to it, and for each of these
+/// Asks a controller for its data, for the NSIDs that are attached to it, and for each of these
 /// namespaces.
 fn list_controller<B: Bus>(
     bus: &mut B,
@@ -220,7 +222,7 @@ fn list_controller<B: Bus>(
     list_namespaces(bus, driver, batch, ctrl, nsids_in(&attached), listing)
 }
 
-/// The namespaces that are attached to each controller.
+/// Returns the namespaces that are attached to each controller.
 pub(crate) fn list<B: Bus>(
     alloc: Global,
     bus: &mut B,

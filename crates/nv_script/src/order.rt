@@ -1,4 +1,4 @@
-//! The command that follows on the first act of a question.
+//! The command that follows the first act of a question.
 
 ghost use Rattle.std.specs.Prelude.{◌≡◌, ◌+◌, IfSome};
 ghost use Rattle.nv_command.specs.Logs.{IsSendable};
@@ -9,8 +9,8 @@ use nv_command::{Command, DwordCount, ERROR_INFORMATION, LogQuery, Reply};
 use nv_line::Ask;
 use std::cmp;
 
-/// The command for the entries of an error log: so many, as far as a controller keeps them, and one
-/// at least.
+/// Returns the command for `entries` entries of an error log, but no more than a controller keeps,
+/// and at least one.
 fn errors_command<'a>(entries: u32, elpe: u8) -> Command<'a>
     ensures command { result ≡ errors_command entries (elpe + 1) }
     ensures sendable { IsSendable result }
@@ -25,7 +25,7 @@ fn errors_command<'a>(entries: u32, elpe: u8) -> Command<'a>
     })
 }
 
-/// The command that follows on the reply to the first one, if any: the controller tells how many
+/// Returns the command that follows the reply to the first one, if any: a controller says how many
 /// errors it keeps before they are asked for.
 pub(crate) fn next_command<'a>(ask: &Ask, reply: &Reply) -> Option<Command<'a>>
     ensures command { result ≡ next_command ask.now reply.now }

@@ -3,7 +3,8 @@
 ghost use Rattle.std.specs.Prelude.{◌≡◌, ◌<◌, IfOk, IsOk, length};
 ghost use Rattle.nv_line.specs.Request.{IsQueryKnown, IsQuestionKnown};
 ghost use Rattle.nv_line.specs.declared.request.Query.TheVariants.{One};
-ghost use Rattle.nv_driver.specs.inner.Linked.{IsLinked, serials_of};
+ghost use Rattle.nv_driver.specs.Linked.{IsLinked};
+ghost use Rattle.nv_driver.specs.inner.Linked.{serials_of};
 ghost use Rattle.nv_line.specs.Ask.{IsAskable, IsDoable};
 ghost use Rattle.nv_script.specs.Orders.{first_act};
 ghost use Rattle.nv_script.specs.inner.Performing.{OrderLeaves, QueryLeaves, RequestLeaves};

@@ -1,4 +1,4 @@
-//! The run of a script, line by line as its newlines are read.
+//! Runs a script, line by line as its newlines are read.
 
 ghost use Rattle.std.specs.Prelude.{◌≡◌, ◌≢◌, ◌↔◌, ◌+◌, ◌<◌, ◌≤◌, ◌^◌, List, Option, Some, ℕ};
 ghost use Rattle.std.specs.Prelude.{false, true, length, OnOk};
@@ -9,12 +9,12 @@ ghost use Rattle.nv_script.specs.Ends.{IsRun, RunsFrom, run_state};
 ghost use Rattle.nv_script.specs.inner.Feeding.{IsFailureOf, LastLeaves, PieceLeaves, Stands};
 ghost use Rattle.nv_script.specs.ScriptLines.{read_limit, pieces};
 ghost use Rattle.nv_script.specs.inner.ScriptLines.{buffer_of};
-ghost use Rattle.nv_driver.specs.inner.Linked.{IsLinked};
+ghost use Rattle.nv_driver.specs.Linked.{IsLinked};
 ghost use Rattle.nv_script.specs.inner.Link.{IsFirst};
 ghost use Rattle.nv_script.specs.Results.{whole};
 ghost use Rattle.nv_stream.specs.Streams.{IsFresh};
 
-use crate::ends::{Cut, RunEnd, SessionEnd};
+use crate::ends::RunEnd;
 use crate::executing::execute_line;
 use crate::line_buffer::LineBuffer;
 use crate::session::Session;
@@ -26,11 +26,11 @@ use nv_line::LineReader;
 use nv_stream::{READ_SIZE, Sink, Source};
 use std::alloc::Global;
 
-/// Room for the lines that one piece of a script ends, and their words. It is had at once, so that
-/// a run of many lines holds no more than one of a few.
+/// The size of the memory for the lines that end in one piece of a script, and for their words. It
+/// is allocated at once, so a run of many lines uses no more than one of a few.
 const LINE_ROOM: usize = 32_768;
 
-/// Room for lines and their words, which grows where they need more than is had at once.
+/// Creates the memory for lines and their words, which grows if they need more.
 fn line_room(alloc: Global) -> Bump {
     match Bump::try_with_capacity(alloc, LINE_ROOM) {
         Ok(room) => room,
@@ -38,7 +38,7 @@ fn line_room(alloc: Global) -> Bump {
     }
 }
 
-/// Executes the lines that a piece of a script ends, and holds what follows its last newline.
+/// Executes the lines that end in a piece of a script, and keeps what follows its last newline.
 fn feed<B: Bus, O: Sink, M: Sink>(
     alloc: Global,
     bus: &mut B,
@@ -47,7 +47,7 @@ fn feed<B: Bus, O: Sink, M: Sink>(
     messages: &mut M,
     line: &mut LineBuffer,
     piece: &[u8],
-) -> Result<(), Cut>
+) -> Result<(), RunEnd>
     requires out_ready { (O.state out.old).has_failed ≡ false }
     requires messages_ready { (M.state messages.old).has_failed ≡ false }
     requires linked { IsLinked (B.meaning bus.old) session.old.driver }
@@ -86,7 +86,7 @@ fn finish<B: Bus, O: Sink, M: Sink>(
     out: &mut O,
     messages: &mut M,
     line: &LineBuffer,
-) -> Result<u8, Cut>
+) -> Result<u8, RunEnd>
     requires out_ready { (O.state out.old).has_failed ≡ false }
     requires messages_ready { (M.state messages.old).has_failed ≡ false }
     requires linked { IsLinked (B.meaning bus.old) session.old.driver }
@@ -111,7 +111,7 @@ fn finish<B: Bus, O: Sink, M: Sink>(
     Ok(session.status)
 }
 
-/// Runs a script with at most this many reads: each line is executed once its newline is read.
+/// Runs a script with at most this many reads. Each line is executed when its newline is read.
 fn run_session<B: Bus, R: Source, O: Sink, M: Sink>(
     alloc: Global,
     bus: &mut B,
@@ -120,7 +120,7 @@ fn run_session<B: Bus, R: Source, O: Sink, M: Sink>(
     out: &mut O,
     messages: &mut M,
     reads: u32,
-) -> SessionEnd
+) -> RunEnd
     requires linked { IsLinked (B.meaning bus.old) session.old.driver }
     requires first { IsFirst (B.meaning bus.old).state session.old }
     requires fresh_script { IsFresh (R.state script.old) }
@@ -138,30 +138,30 @@ fn run_session<B: Bus, R: Source, O: Sink, M: Sink>(
     let mut piece = [0u8; READ_SIZE];
     for call in 0..reads {
         let Some(count) = script.read(&mut piece) else {
-            return SessionEnd::Read;
+            return RunEnd::Read;
         };
         if count == 0 {
             if call + 1 == reads {
-                return SessionEnd::Read;
+                return RunEnd::Read;
             }
             return match finish(alloc, bus, session, out, messages, &line) {
-                Ok(status) => SessionEnd::Status(status),
-                Err(cut) => SessionEnd::Cut(cut),
+                Ok(status) => RunEnd::Status(status),
+                Err(cut) => cut,
             };
         }
         let piece = &piece[..count];
         if let Err(cut) = feed(alloc, bus, session, out, messages, &mut line, piece) {
-            return SessionEnd::Cut(cut);
+            return cut;
         }
     }
-    SessionEnd::Read
+    RunEnd::Read
 }
 
-/// The most reads of one run.
+/// The greatest number of reads of one run.
 pub const READ_LIMIT: u32 = u32::MAX;
 
-/// Runs a script as `run` does, with at most this many reads. The last read's bytes count, and a
-/// read fault follows it whatever it gave.
+/// Runs a script as `run` does, with at most this many reads. The bytes of the last read count, and
+/// after it the run ends as after a failed read, whatever it returned.
 pub fn run_within<B: Bus, R: Source, O: Sink, M: Sink>(
     alloc: Global,
     bus: &mut B,
@@ -176,28 +176,27 @@ pub fn run_within<B: Bus, R: Source, O: Sink, M: Sink>(
     requires fresh_out { (O.state out.old).has_failed ≡ false }
     requires fresh_messages { (M.state messages.old).has_failed ≡ false }
     requires some_read { 0 < reads }
-    // The headline, each end with what it leaves, and when each fault comes.
+    // The main promise: how the run ends, what each end leaves behind, and when each fault comes.
     ensures run { IsRun geometry reads result
         (run_state (B.meaning bus.old) (R.state script.old) (O.state out.old)
         (M.state messages.old))
         (run_state (B.meaning bus.new) (R.state script.new) (O.state out.new)
         (M.state messages.new)) }
-    // The bus can be run on again.
+    // The bus can be used for another run.
     ensures bus { IsBus (B.meaning bus.new) }
 {
     match Session::begin(alloc, bus, geometry) {
-        Ok(mut session) => {
-            RunEnd::from(run_session(alloc, bus, &mut session, script, out, messages, reads))
-        }
+        Ok(mut session) => run_session(alloc, bus, &mut session, script, out, messages, reads),
         Err(end) => end,
     }
 }
 
-/// Runs a script on the subsystem of a bus, by a driver of this geometry: each controller that is
-/// enabled is reset, and then the lines are executed in order, each as soon as its newline is read,
-/// with the texts of what they ask on `out` and the messages of faults and refusals on `messages`.
-/// At most 4,294,967,295 reads are made, and none after one that gave no byte or failed. Where the
-/// geometry is out of its limits, nothing is read or written and the subsystem stays.
+/// Runs a script on the subsystem of a bus, with a driver of this geometry. Each controller that is
+/// enabled is reset. Then the lines are executed in order, each as soon as its newline is read. The
+/// texts of what they ask for are written to `out`, and the messages about faults and refusals to
+/// `messages`. At most 4,294,967,295 reads are made, and none after one that returned no byte or
+/// failed. If the geometry is outside its limits, nothing is read or written, and the subsystem
+/// doesn't change.
 pub fn run<B: Bus, R: Source, O: Sink, M: Sink>(
     alloc: Global,
     bus: &mut B,
@@ -210,13 +209,13 @@ pub fn run<B: Bus, R: Source, O: Sink, M: Sink>(
     requires fresh_script { IsFresh (R.state script.old) }
     requires fresh_out { (O.state out.old).has_failed ≡ false }
     requires fresh_messages { (M.state messages.old).has_failed ≡ false }
-    // The headline, each end with what it leaves, and when each fault comes.
+    // The main promise: how the run ends, what each end leaves behind, and when each fault comes.
     ensures run { IsRun geometry read_limit result
         (run_state (B.meaning bus.old) (R.state script.old) (O.state out.old)
         (M.state messages.old))
         (run_state (B.meaning bus.new) (R.state script.new) (O.state out.new)
         (M.state messages.new)) }
-    // The bus can be run on again.
+    // The bus can be used for another run.
     ensures bus { IsBus (B.meaning bus.new) }
 {
     run_within(alloc, bus, geometry, script, out, messages, READ_LIMIT)

@@ -10,7 +10,7 @@ use std::array;
 /// How many namespaces a controller is asked for at a time.
 pub const BATCH: usize = 16;
 
-/// Room for the answers to the commands of one request. It is made once for a run.
+/// Storage for the answers to the commands of one request. It is allocated once for a run.
 #[derive(Drop)]
 pub struct Answers {
     pub first: AnswerSlot,
@@ -19,7 +19,7 @@ pub struct Answers {
 }
 
 impl Answers {
-    /// Room with no answers yet.
+    /// Creates storage without answers.
     fn new(alloc: Global) -> Result<Answers, AllocError> {
         Ok(Answers {
             first: AnswerSlot::new(),
@@ -29,7 +29,7 @@ impl Answers {
     }
 }
 
-/// Where a run stands between two lines: the driver of its bus, room for answers and for the
+/// The state of a run between two lines: the driver of its bus, storage for answers and for the
 /// controllers that a line lists, how many lines there were, and the status of the last one that
 /// has one.
 #[derive(Drop)]
@@ -47,12 +47,12 @@ impl Session {
     ghost use Rattle.nv_driver.specs.Geometry.{fault_of};
     ghost use Rattle.nv_model.specs.Step.{reset_where};
     ghost use Rattle.nv_script.specs.Ends.{end_without};
-    ghost use Rattle.nv_driver.specs.inner.Linked.{IsLinked};
+    ghost use Rattle.nv_driver.specs.Linked.{IsLinked};
     ghost use Rattle.nv_script.specs.inner.Link.{IsFirst};
 
-    /// Before the first line: there is room for answers, and a driver of this geometry is brought
-    /// up, by which each controller that was enabled is reset. Where there is none, the bus is
-    /// untouched.
+    /// Creates the state before the first line: allocates storage for answers, and brings up a
+    /// driver of this geometry, which resets each controller that was enabled. If it fails, the bus
+    /// is untouched.
     pub(crate) fn begin<B: Bus>(
         alloc: Global,
         bus: &mut B,

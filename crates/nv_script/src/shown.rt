@@ -1,4 +1,4 @@
-//! What a query shows, and how it is written.
+//! What a query shows, and how it is printed.
 
 ghost use Rattle.std.specs.Prelude.{◌≡◌, IfOk};
 ghost use Rattle.nv_layout.specs.Feature.{feature_of};
@@ -13,7 +13,7 @@ use nv_line::{Act, Ask, OutputFormat};
 use nv_print::{Memory, Select, Shown, json, text};
 use std::alloc::Global;
 
-/// The value of a feature, where both identifiers have a meaning.
+/// Returns the value of a feature, if both identifiers have a meaning.
 fn feature_value<'a>(fid: u8, sel: ThreeBits, value: u32) -> Option<Shown<'a>>
     ensures { result ≡ feature_value (feature_of fid) (select_of sel) value }
 {
@@ -26,7 +26,7 @@ fn feature_value<'a>(fid: u8, sel: ThreeBits, value: u32) -> Option<Shown<'a>>
     })
 }
 
-/// The value that a feature was given, where its identifier has a meaning.
+/// Returns the value that a feature was set to, if its identifier has a meaning.
 fn feature_set<'a>(fid: u8, value: u32, save: bool) -> Option<Shown<'a>>
     ensures { result ≡ feature_set (feature_of fid) value save }
 {
@@ -38,12 +38,12 @@ fn feature_set<'a>(fid: u8, value: u32, save: bool) -> Option<Shown<'a>>
     })
 }
 
-/// What is shown by a number: the NSID of a new namespace, or the value of a feature.
+/// Returns what a number shows: the NSID of a new namespace, or the value of a feature.
 fn shown_number<'a>(ask: &Ask, number: u32) -> Option<Shown<'a>>
     ensures { result ≡ shown_number ask.now number }
 {
     match ask {
-        Ask::Do(Act::Send(Command::Create { .. })) => Some(Shown::Created { nsid: number }),
+        Ask::Do(Act::Send(Command::Create(_))) => Some(Shown::Created { nsid: number }),
         Ask::Do(Act::Send(Command::GetFeature(asked))) => {
             feature_value(asked.fid, asked.sel, number)
         }
@@ -51,7 +51,7 @@ fn shown_number<'a>(ask: &Ask, number: u32) -> Option<Shown<'a>>
     }
 }
 
-/// What is shown where it is done.
+/// Returns what a success without a value shows.
 fn shown_done<'a>(ask: &Ask) -> Option<Shown<'a>>
     ensures { result ≡ shown_done ask.now }
 {
@@ -64,7 +64,7 @@ fn shown_done<'a>(ask: &Ask) -> Option<Shown<'a>>
             }
         }
         Ask::Do(Act::Send(Command::Delete { nsid })) => Some(Shown::Deleted { nsid: *nsid }),
-        Ask::Do(Act::Send(Command::Format { nsid, .. })) => Some(Shown::Formatted { nsid: *nsid }),
+        Ask::Do(Act::Send(Command::Format(asked))) => Some(Shown::Formatted { nsid: asked.nsid }),
         Ask::Do(Act::Send(Command::SetFeature(asked))) => {
             feature_set(asked.fid, asked.value, asked.save)
         }
@@ -73,7 +73,7 @@ fn shown_done<'a>(ask: &Ask) -> Option<Shown<'a>>
     }
 }
 
-/// What an ask shows by the last reply to it.
+/// Returns what an ask shows after the last reply to it.
 pub(crate) fn shown<'a>(ask: &Ask, reply: Reply<'a>) -> Option<Shown<'a>>
     ensures { result ≡ shown_by ask.now reply.entry }
 {
@@ -88,8 +88,8 @@ pub(crate) fn shown<'a>(ask: &Ask, reply: Reply<'a>) -> Option<Shown<'a>>
     }
 }
 
-/// Writes what is shown in a format: as JSON where that is asked for and there is a JSON form, and
-/// else as text. Nothing is written where nothing is shown.
+/// Returns the text of what is shown in a format: as JSON if that is asked for and there is a JSON
+/// form, and otherwise as text. It is empty if nothing is shown.
 pub(crate) fn write(
     alloc: Global,
     format: OutputFormat,
@@ -107,8 +107,9 @@ pub(crate) fn write(
     }
 }
 
-/// Whatever is accepted is shown: a query of which no order is refused shows something, and `list`
-/// each namespace that is attached to each controller. It does nothing when it is called.
+/// States a law: whatever is accepted is shown. A query of which no order is refused shows
+/// something, and `list` shows each namespace that is attached to each controller. The call does
+/// nothing.
 pub fn each_is_shown()
     ensures { EachIsShown }
 {}

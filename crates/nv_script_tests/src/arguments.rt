@@ -1,6 +1,6 @@
-//! The program's arguments.
+//! The numbers of the program's arguments. Those that it refuses are rows of its own tests.
 
-use nv_arguments::{Arguments, ArgumentsFault};
+use nv_arguments::Arguments;
 use nv_script::Geometry;
 
 #[test]
@@ -53,27 +53,4 @@ fn leaves_limits_to_the_driver(rt: HostRuntime) {
         Ok(said) => assert!(rt; said.geometry.depth == 4_294_967_295),
         Err(_) => assert!(rt; false),
     }
-}
-
-#[test]
-fn refuses_what_the_program_does_not_take(rt: HostRuntime) {
-    for words in [
-        ["nvme-script", "two.toml"],
-        ["nvme-script", "--subsystem"],
-        ["nvme-script", "--script=one.nvme"],
-        ["nvme-script", "--depth="],
-        ["nvme-script", "--depth=-1"],
-        ["nvme-script", "--depth=08"],
-        ["nvme-script", "--depth=4294967296"],
-    ] {
-        let said = Arguments::read(rt.alloc(), &words);
-        assert!(rt; said == Err(ArgumentsFault::Refused));
-    }
-}
-
-#[test]
-fn refuses_an_option_written_twice(rt: HostRuntime) {
-    let words = ["nvme-script", "--depth=8", "--depth=8"];
-    let said = Arguments::read(rt.alloc(), &words);
-    assert!(rt; said == Err(ArgumentsFault::Refused));
 }

@@ -1,57 +1,35 @@
-//! A run of a script in memory.
+//! Runs of scripts over the subsystem of a file.
+
+ghost use Rattle.std.specs.Prelude.{◌≡◌, false};
+ghost use Rattle.nv_stream.specs.Streams.{IsFresh};
 
 use nv_controller::Machine;
-use nv_script::{Geometry, OverRead, OverWrite, RunEnd, run};
+use nv_script::{Geometry, RunEnd, Sink, Source, run};
 use nv_subsystem::Subsystem;
 use std::alloc::{AllocError, Global};
 use std::test::Fail;
 
-/// What a run left.
-#[derive(Drop)]
-pub struct Outcome {
-    pub end: RunEnd,
-    pub out: Vec<u8>,
-    pub messages: Vec<u8>,
-    /// The controllers, as the run left them.
-    pub machine: Machine,
-}
-
-/// Runs a script on the subsystem of a file, by a driver of this geometry.
-pub fn run_at(
+/// Runs a script on the subsystem of a file after power on, by a driver of this geometry.
+pub(crate) fn run_over<R: Source, O: Sink, M: Sink>(
     alloc: Global,
     file: &str,
     geometry: Geometry,
-    script: &[u8],
-) -> Result<Outcome, Fail> {
+    script: &mut R,
+    out: &mut O,
+    messages: &mut M,
+) -> Result<RunEnd, Fail>
+    requires fresh_script { IsFresh (R.state script.old) }
+    requires fresh_out { (O.state out.old).has_failed ≡ false }
+    requires fresh_messages { (M.state messages.old).has_failed ≡ false }
+{
     let subsystem = Subsystem::from_toml(alloc, file.as_bytes())?;
     let mut machine = Machine::new(alloc, subsystem)?;
-    let mut script = OverRead::new(script);
-    let mut out = OverWrite::new(Vec::new(alloc));
-    let mut messages = OverWrite::new(Vec::new(alloc));
-    let end = run(
-        alloc,
-        &mut machine,
-        geometry,
-        &mut script,
-        &mut out,
-        &mut messages,
-    );
-    Ok(Outcome {
-        end,
-        out: out.into_inner(),
-        messages: messages.into_inner(),
-        machine,
-    })
-}
-
-/// Runs a script on the subsystem of a file, by a driver of the default geometry.
-pub fn run_script(alloc: Global, file: &str, script: &[u8]) -> Result<Outcome, Fail> {
-    run_at(alloc, file, Geometry::default(), script)
+    Ok(run(alloc, &mut machine, geometry, script, out, messages))
 }
 
 /// Geometries of every kind: the least and the greatest depth, each page size, and data from the
 /// first, the second and the last place of a page on.
-pub fn geometries(alloc: Global) -> Result<Vec<Geometry>, AllocError> {
+pub(crate) fn geometries(alloc: Global) -> Result<Vec<Geometry>, AllocError> {
     let mut geometries = Vec::new(alloc);
     for page_size in [4096, 8192, 16384, 32768, 65536] {
         for depth in [2, 4096] {

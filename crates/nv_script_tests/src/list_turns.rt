@@ -1,23 +1,93 @@
 //! In how many turns `list` asks controllers.
 
-ghost use Rattle.std.specs.Prelude.{◌≡◌, All, IfOk};
-ghost use Rattle.nv_bus.specs.Bus.{IsBus};
+ghost use Rattle.std.specs.Prelude.{◌≡◌};
 
-use crate::list::{shared_file, shared_namespaces};
-use crate::listed::lines_of;
-use crate::turn_counts::TurnCounts;
-use nv_controller::Machine;
+use nv_controller::{Bus, Machine};
+use nv_host::HostMemory;
 use nv_script::{Geometry, OverRead, OverWrite, RunEnd, run};
 use nv_subsystem::Subsystem;
-use std::alloc::Global;
+use std::alloc::{AllocError, Global};
 use std::process::Abort;
 use std::test::Fail;
 
-/// What the turns of `list` took, over two controllers with forty namespaces each.
-fn turns_of_list(rt: &impl Abort, alloc: Global, geometry: Geometry) -> Result<TurnCounts, Fail> {
-    let file = shared_file(alloc)?;
-    let want = lines_of(alloc, &shared_namespaces(alloc)?)?;
-    let subsystem = Subsystem::from_toml(alloc, file.as_bytes())?;
+/// How many turns are kept.
+const KEPT: usize = 16;
+
+/// The controllers of a subsystem, how many turns they had, and how many entries each of the first
+/// ones took.
+#[derive(Drop)]
+struct TurnCounts {
+    machine: Machine,
+    taken: [u16; KEPT],
+    turns: usize,
+}
+
+impl TurnCounts {
+    /// Controllers that had no turn yet.
+    fn new(machine: Machine) -> TurnCounts
+        ensures { ⟦<TurnCounts as Bus>⟧.meaning result ≡ machine }
+    {
+        TurnCounts {
+            machine,
+            taken: [0; KEPT],
+            turns: 0,
+        }
+    }
+}
+
+impl Bus for TurnCounts {
+    ghost meaning = { λ t. t.machine };
+
+    fn controllers(&self) -> u16 {
+        self.machine.controllers()
+    }
+
+    fn read32(&self, ctrl: u16, offset: u32) -> u32 {
+        self.machine.read32(ctrl, offset)
+    }
+
+    fn write32(&mut self, ctrl: u16, offset: u32, dword: u32) {
+        self.machine.write32(ctrl, offset, dword)
+    }
+
+    fn turn<M: HostMemory>(&mut self, ctrl: u16, mem: &mut M, most: u16) -> u16 {
+        let count = self.machine.turn(ctrl, mem, most);
+        if self.turns < KEPT {
+            self.taken[self.turns] = count;
+        }
+        self.turns = self.turns.saturating_add(1);
+        count
+    }
+}
+
+/// A file of two controllers and forty namespaces that both have.
+fn shared_file(alloc: Global) -> Result<String, AllocError> {
+    let mut file = String::new(alloc);
+    write!(
+        file,
+        "version = 1\nnn = 40\ntnvmcap = 20480\nsubnqn = \"n\"\n"
+    )?;
+    write!(file, "[[format]]\nlbads = 9\n")?;
+    for cntlid in [7, 3] {
+        write!(file, "[[controller]]\ncntlid = {cntlid}\n")?;
+        write!(file, "sn = \"S\"\nmn = \"M\"\nfr = \"1\"\n")?;
+    }
+    for nsid in 1..41u32 {
+        write!(file, "[[namespace]]\nnsid = {nsid}\nbytes = 512\n")?;
+        write!(file, "format = 0\nshared = true\ncontrollers = [3, 7]\n")?;
+    }
+    Ok(file)
+}
+
+/// `list` has so many turns over these controllers, the first of which take so many entries.
+fn expect_turns(
+    rt: &impl Abort,
+    alloc: Global,
+    geometry: Geometry,
+    turns: usize,
+    taken: [u16; KEPT],
+) -> Result<(), Fail> {
+    let subsystem = Subsystem::from_toml(alloc, shared_file(alloc)?.as_bytes())?;
     let mut bus = TurnCounts::new(Machine::new(alloc, subsystem)?);
     let mut script = OverRead::new(b"list\n".as_slice());
     let mut out = OverWrite::new(Vec::new(alloc));
@@ -31,11 +101,15 @@ fn turns_of_list(rt: &impl Abort, alloc: Global, geometry: Geometry) -> Result<T
         &mut messages,
     );
     assert!(rt; end == RunEnd::Status(0));
-    assert!(rt; out.into_inner().as_slice() == want.as_bytes());
+    // A line has 120 bytes.
+    assert_eq!(rt; out.into_inner().len(), 9600);
     assert!(rt; messages.into_inner().is_empty());
-    Ok(bus)
+    assert_eq!(rt; bus.turns, turns);
+    assert_eq!(rt; bus.taken, taken);
+    Ok(())
 }
 
+/// Each controller is asked who it is, which namespaces it has, and what each of them is.
 #[test]
 fn asks_for_sixteen_namespaces_at_a_time(rt: HostRuntime) -> Result<(), Fail> {
     let geometry = Geometry {
@@ -44,11 +118,8 @@ fn asks_for_sixteen_namespaces_at_a_time(rt: HostRuntime) -> Result<(), Fail> {
         pace: 16,
         ..Geometry::default()
     };
-    let bus = turns_of_list(&rt, rt.alloc(), geometry)?;
-    assert_eq!(rt; bus.turns, 10);
-    let want = [1, 1, 16, 16, 8, 1, 1, 16, 16, 8, 0, 0, 0, 0, 0, 0];
-    assert_eq!(rt; bus.taken(), want.as_slice());
-    Ok(())
+    let taken = [1, 1, 16, 16, 8, 1, 1, 16, 16, 8, 0, 0, 0, 0, 0, 0];
+    expect_turns(&rt, rt.alloc(), geometry, 10, taken)
 }
 
 #[test]
@@ -57,8 +128,5 @@ fn asks_for_one_namespace_at_a_time_where_the_window_is_one(rt: HostRuntime) -> 
         depth: 2,
         ..Geometry::default()
     };
-    let bus = turns_of_list(&rt, rt.alloc(), geometry)?;
-    assert_eq!(rt; bus.turns, 84);
-    assert_eq!(rt; bus.taken(), [1; 16].as_slice());
-    Ok(())
+    expect_turns(&rt, rt.alloc(), geometry, 84, [1; KEPT])
 }

@@ -1,244 +1,352 @@
-//! Streams that end and fail.
+//! Readers and writers of the standard library as the streams of a run: they give and take pieces, end
+//! and fail. Each call of a stream is one call of what it stands over. In `nv_failing_tests` each call
+//! fails in turn.
 
-ghost use Rattle.std.specs.Prelude.{◌≡◌, None, false};
-ghost use Rattle.nv_stream.specs.Streams.{IsFresh};
+ghost use Rattle.std.specs.Prelude.{◌≤◌, length};
 
-use crate::files::second_version;
-use crate::harness::geometries;
-use nv_controller::Machine;
-use nv_script::{Geometry, OverRead, OverWrite, RunEnd, Sink, Source, run};
-use nv_subsystem::{DEMO, Subsystem};
+use crate::harness::{geometries, run_over};
+use nv_script::{Geometry, OverRead, OverWrite, Retrying, RunEnd};
+use nv_stream::{Held, OverHeld, write_all};
+use nv_subsystem::DEMO;
 use std::alloc::Global;
 use std::cmp;
+use std::io::{self, ErrorKind, Read, Write};
 use std::process::Abort;
 use std::test::Fail;
 
-/// A source that gives one piece a read, and fails after the last. An empty piece is an end.
-#[derive(Drop)]
-struct PieceSource<'a> {
-    pieces: &'a [&'a [u8]],
-    failed: bool,
-    ended: bool,
-    calls: u64,
-    given: u64,
+/// What a reader or writer answers to one call.
+#[derive(Clone, Copy)]
+enum Turn<'a> {
+    /// A reader gives these bytes.
+    Gives(&'a [u8]),
+    /// A writer takes this many bytes at most.
+    Takes(usize),
+    /// It fails, and a flush that comes before it too.
+    Fails(ErrorKind),
 }
 
-impl<'a> PieceSource<'a> {
-    fn new(pieces: &'a [&'a [u8]]) -> PieceSource<'a>
-        ensures { IsFresh (⟦<PieceSource<'a> as Source>⟧.state result) }
-    {
-        PieceSource {
-            pieces,
-            failed: false,
-            ended: false,
+/// It was interrupted.
+const INTERRUPTED: Turn<'static> = Turn::Fails(ErrorKind::Interrupted);
+
+/// A reader that takes one turn a call, and gives no byte after the last.
+#[derive(Drop)]
+struct TurnReader<'a> {
+    turns: &'a [Turn<'a>],
+    calls: usize,
+    given: usize,
+}
+
+impl<'a> TurnReader<'a> {
+    fn new(turns: &'a [Turn<'a>]) -> TurnReader<'a> {
+        TurnReader {
+            turns,
             calls: 0,
             given: 0,
         }
     }
 }
 
-impl<'a> Source for PieceSource<'a> {
-    ghost state = { λ s. record {
-      to_come = None;
-      has_failed = s.failed;
-      has_ended = s.ended;
-      calls = s.calls;
-      given = s.given;
-    } };
-
-    fn read(&mut self, buf: &mut [u8]) -> Option<usize> {
-        let piece = self.pieces.get(self.calls as usize).copied();
-        self.calls += 1;
-        let Some(piece) = piece else {
-            self.failed = true;
-            return None;
-        };
-        let count = cmp::min(piece.len(), buf.len());
-        buf[..count].copy_from_slice(&piece[..count]);
-        self.ended = count == 0;
-        self.given += count as u64;
-        Some(count)
-    }
-}
-
-/// A sink that takes seven bytes at most, one a write. Then it fails: it takes none, or answers an
-/// error.
-#[derive(Drop)]
-struct CutSink {
-    bytes: [u8; 7],
-    len: usize,
-    takes_none: bool,
-    failed: bool,
-    calls: u64,
-}
-
-impl CutSink {
-    fn new(takes_none: bool) -> CutSink
-        ensures { (⟦<CutSink as Sink>⟧.state result).has_failed ≡ false }
-    {
-        CutSink {
-            bytes: [0; 7],
-            len: 0,
-            takes_none,
-            failed: false,
-            calls: 0,
-        }
-    }
-}
-
-impl Sink for CutSink {
-    ghost state = { λ s. record { taken = None; has_failed = s.failed } };
-
-    fn write(&mut self, bytes: &[u8]) -> Option<usize> {
+impl<'a> Read for TurnReader<'a> {
+    fn read(&mut self, buf: &mut [u8]) -> io::Result<usize> {
+        let turn = self.turns.get(self.calls).copied();
         self.calls = self.calls.saturating_add(1);
-        if self.len >= 7 {
-            self.failed = true;
-            return if self.takes_none { Some(0) } else { None };
+        match turn {
+            Some(Turn::Gives(bytes)) => {
+                let count = cmp::min(bytes.len(), buf.len());
+                buf[..count].copy_from_slice(&bytes[..count]);
+                self.given = self.given.saturating_add(count);
+                Ok(count)
+            }
+            Some(Turn::Fails(kind)) => Err(io::Error::from(kind)),
+            Some(Turn::Takes(_)) | None => Ok(0),
         }
-        self.bytes[self.len] = bytes[0];
-        self.len += 1;
-        Some(1)
     }
 }
 
-impl CutSink {
-    /// One that fails at once.
-    fn full() -> CutSink
-        ensures { (⟦<CutSink as Sink>⟧.state result).has_failed ≡ false }
-    {
-        CutSink {
-            bytes: [0; 7],
-            len: 7,
-            takes_none: false,
-            failed: false,
+/// A writer that takes one turn a call, and whatever it is offered after the last, up to 64 bytes.
+#[derive(Drop)]
+struct TurnWriter<'a> {
+    turns: &'a [Turn<'a>],
+    bytes: [u8; 64],
+    len: usize,
+    calls: usize,
+    flushes: usize,
+    ghost room: { len ≤ 64 },
+}
+
+impl<'a> TurnWriter<'a> {
+    fn new(turns: &'a [Turn<'a>]) -> TurnWriter<'a> {
+        TurnWriter {
+            turns,
+            bytes: [0; 64],
+            len: 0,
             calls: 0,
+            flushes: 0,
+        }
+    }
+
+    /// Takes so many bytes at most, and up to 64 in all.
+    fn take(&mut self, bytes: &[u8], most: usize) -> usize
+        ensures { result ≤ length bytes.now }
+    {
+        let count = cmp::min(cmp::min(bytes.len(), most), 64 - self.len);
+        self.bytes[self.len..self.len + count].copy_from_slice(&bytes[..count]);
+        self.len += count;
+        count
+    }
+
+    /// It took these bytes, in so many calls.
+    fn check(&self, rt: &impl Abort, want: (&str, usize)) {
+        let (text, calls) = want;
+        assert!(rt; &self.bytes[..self.len] == text.as_bytes());
+        assert_eq!(rt; self.calls, calls);
+    }
+}
+
+impl<'a> Write for TurnWriter<'a> {
+    fn write(&mut self, buf: &[u8]) -> io::Result<usize> {
+        let turn = self.turns.get(self.calls).copied();
+        self.calls = self.calls.saturating_add(1);
+        match turn {
+            Some(Turn::Takes(most)) => Ok(self.take(buf, most)),
+            Some(Turn::Fails(kind)) => Err(io::Error::from(kind)),
+            Some(Turn::Gives(_)) => Ok(0),
+            None => Ok(self.take(buf, 64)),
+        }
+    }
+
+    fn flush(&mut self) -> io::Result<()> {
+        self.flushes = self.flushes.saturating_add(1);
+        match self.turns.get(self.calls) {
+            Some(Turn::Fails(kind)) => Err(io::Error::from(*kind)),
+            _ => Ok(()),
         }
     }
 }
 
-/// A run whose script fails in its second line carries out the first.
-fn expect_cut_script(
+/// What a reader gives, and after how many calls the run ends, with what it wrote.
+#[derive(Clone, Copy)]
+struct Reads<'a> {
+    turns: &'a [Turn<'a>],
+    calls: usize,
+    end: RunEnd,
+    out: &'a str,
+    messages: &'a str,
+}
+
+fn expect_reads(
     rt: &impl Abort,
     alloc: Global,
     file: &str,
     geometry: Geometry,
+    row: &Reads<'_>,
 ) -> Result<(), Fail> {
-    let subsystem = Subsystem::from_toml(alloc, file.as_bytes())?;
-    let mut machine = Machine::new(alloc, subsystem)?;
-    let pieces: [&[u8]; 2] = [b"list-ns /dev/nvme0\nlist-", b"ns /dev/nvme0"];
-    let mut script = PieceSource::new(&pieces);
+    let mut reader = TurnReader::new(row.turns);
+    let mut script = OverRead::new(&mut reader);
     let mut out = OverWrite::new(Vec::new(alloc));
     let mut messages = OverWrite::new(Vec::new(alloc));
-    let end = run(
-        alloc,
-        &mut machine,
-        geometry,
-        &mut script,
-        &mut out,
-        &mut messages,
-    );
-    assert!(rt; end == RunEnd::Read);
-    assert!(rt; script.calls == 3);
-    assert!(rt; out.into_inner().as_slice() == "[   0]:0x1\n[   1]:0x3\n".as_bytes());
-    assert!(rt; messages.into_inner().is_empty());
+    let end = run_over(alloc, file, geometry, &mut script, &mut out, &mut messages)?;
+    assert!(rt; end == row.end);
+    assert_eq!(rt; reader.calls, row.calls);
+    assert!(rt; out.into_inner().as_slice() == row.out.as_bytes());
+    assert!(rt; messages.into_inner().as_slice() == row.messages.as_bytes());
     Ok(())
 }
 
 #[test]
 fn runs_only_the_lines_before_a_failing_read(rt: HostRuntime) -> Result<(), Fail> {
+    let row = Reads {
+        turns: &[
+            Turn::Gives(b"list-ns /dev/nvme0\nlist-"),
+            Turn::Gives(b"ns /dev/nvme0"),
+            Turn::Fails(ErrorKind::Other),
+        ],
+        calls: 3,
+        end: RunEnd::Read,
+        out: "[   0]:0x1\n[   1]:0x3\n",
+        messages: "",
+    };
     for geometry in &geometries(rt.alloc())? {
-        expect_cut_script(&rt, rt.alloc(), DEMO, *geometry)?;
+        expect_reads(&rt, rt.alloc(), DEMO, *geometry, &row)?;
     }
-    let second = second_version(rt.alloc(), DEMO)?;
-    expect_cut_script(&rt, rt.alloc(), second.as_str(), Geometry::default())
+    let second = DEMO.replace(rt.alloc(), "version = 1", "version = 2")?;
+    expect_reads(&rt, rt.alloc(), second.as_str(), Geometry::default(), &row)
 }
 
 #[test]
-fn reads_no_more_after_the_end(rt: HostRuntime) -> Result<(), Fail> {
-    let alloc = rt.alloc();
-    let subsystem = Subsystem::from_toml(alloc, DEMO.as_bytes())?;
-    let mut machine = Machine::new(alloc, subsystem)?;
-    let pieces: [&[u8]; 4] = [b"list-ns /dev/nvme0 ", b"-n 3", b"", b"\nbogus\n"];
-    let mut script = PieceSource::new(&pieces);
-    let mut out = OverWrite::new(Vec::new(alloc));
-    let mut messages = OverWrite::new(Vec::new(alloc));
-    let end = run(
-        alloc,
-        &mut machine,
-        Geometry::default(),
-        &mut script,
-        &mut out,
-        &mut messages,
-    );
-    assert!(rt; end == RunEnd::Status(0));
-    assert!(rt; script.calls == 3);
-    assert!(rt; out.into_inner().as_slice() == "[   0]:0x3\n".as_bytes());
-    assert!(rt; messages.into_inner().is_empty());
+fn reads_up_to_the_first_empty_piece_and_tries_none_again(rt: HostRuntime) -> Result<(), Fail> {
+    for row in [
+        Reads {
+            turns: &[
+                Turn::Gives(b"list-ns /dev/nvme0 "),
+                Turn::Gives(b"-n 3"),
+                Turn::Gives(b""),
+                Turn::Gives(b"\nbogus\n"),
+            ],
+            calls: 3,
+            end: RunEnd::Status(0),
+            out: "[   0]:0x3\n",
+            messages: "",
+        },
+        Reads {
+            turns: &[
+                Turn::Gives(b"list-ns /d"),
+                Turn::Gives(b"ev/nvme0 -n 3\nbog"),
+                Turn::Gives(b"us"),
+                Turn::Gives(b""),
+                Turn::Gives(b"\nlist-ns /dev/nvme0\n"),
+            ],
+            calls: 4,
+            end: RunEnd::Status(1),
+            out: "[   0]:0x3\n",
+            messages: "line 2: usage error\n",
+        },
+        Reads {
+            turns: &[
+                Turn::Gives(b"list-ns /dev/nvme0 -n 3\nlist-ns"),
+                INTERRUPTED,
+                Turn::Gives(b" /dev/nvme0\n"),
+            ],
+            calls: 2,
+            end: RunEnd::Read,
+            out: "[   0]:0x3\n",
+            messages: "",
+        },
+    ] {
+        expect_reads(&rt, rt.alloc(), DEMO, Geometry::default(), &row)?;
+    }
     Ok(())
 }
 
-/// A run whose output fails leaves a beginning of it.
-fn expect_cut_output(
+/// What writers answer, and what they took, in how many calls, when the run of two lines ends.
+#[derive(Clone, Copy)]
+struct Writes<'a> {
+    out: &'a [Turn<'a>],
+    messages: &'a [Turn<'a>],
+    end: RunEnd,
+    written: &'a str,
+    writes: usize,
+    told: &'a str,
+    tells: usize,
+}
+
+fn expect_writes(
     rt: &impl Abort,
     alloc: Global,
     file: &str,
     geometry: Geometry,
-    takes_none: bool,
+    row: &Writes<'_>,
 ) -> Result<(), Fail> {
-    let subsystem = Subsystem::from_toml(alloc, file.as_bytes())?;
-    let mut machine = Machine::new(alloc, subsystem)?;
     let mut script = OverRead::new(b"list-ns /dev/nvme0\nbogus\n".as_slice());
-    let mut out = CutSink::new(takes_none);
-    let mut messages = OverWrite::new(Vec::new(alloc));
-    let end = run(
-        alloc,
-        &mut machine,
-        geometry,
-        &mut script,
-        &mut out,
-        &mut messages,
-    );
-    assert!(rt; end == RunEnd::OutWrite);
-    assert!(rt; out.calls == 8);
-    assert!(rt; out.bytes.as_slice() == "[   0]:".as_bytes());
-    assert!(rt; messages.into_inner().is_empty());
+    let mut out = OverWrite::new(TurnWriter::new(row.out));
+    let mut messages = OverWrite::new(TurnWriter::new(row.messages));
+    let end = run_over(alloc, file, geometry, &mut script, &mut out, &mut messages)?;
+    assert!(rt; end == row.end);
+    out.into_inner().check(rt, (row.written, row.writes));
+    messages.into_inner().check(rt, (row.told, row.tells));
+    Ok(())
+}
+
+/// All that the two lines print, and what is said of the second.
+const LISTED: &str = "[   0]:0x1\n[   1]:0x3\n";
+
+const TOLD: &str = "line 2: usage error\n";
+
+/// One byte is taken.
+const ONE: Turn<'static> = Turn::Takes(1);
+
+#[test]
+fn leaves_a_beginning_of_the_output(rt: HostRuntime) -> Result<(), Fail> {
+    let second = DEMO.replace(rt.alloc(), "version = 1", "version = 2")?;
+    for row in [
+        Writes {
+            out: &[
+                ONE,
+                ONE,
+                ONE,
+                ONE,
+                ONE,
+                ONE,
+                ONE,
+                Turn::Fails(ErrorKind::Other),
+            ],
+            messages: &[],
+            end: RunEnd::OutWrite,
+            written: "[   0]:",
+            writes: 8,
+            told: "",
+            tells: 0,
+        },
+        Writes {
+            out: &[ONE, ONE, ONE, ONE, ONE, ONE, ONE, Turn::Takes(0)],
+            messages: &[],
+            end: RunEnd::OutWrite,
+            written: "[   0]:",
+            writes: 8,
+            told: "",
+            tells: 0,
+        },
+    ] {
+        for geometry in &geometries(rt.alloc())? {
+            expect_writes(&rt, rt.alloc(), DEMO, *geometry, &row)?;
+        }
+        expect_writes(&rt, rt.alloc(), second.as_str(), Geometry::default(), &row)?;
+    }
     Ok(())
 }
 
 #[test]
-fn leaves_a_beginning_of_the_output(rt: HostRuntime) -> Result<(), Fail> {
-    for geometry in &geometries(rt.alloc())? {
-        for takes_none in [false, true] {
-            expect_cut_output(&rt, rt.alloc(), DEMO, *geometry, takes_none)?;
-        }
+fn writes_the_rest_and_tries_no_failing_write_again(rt: HostRuntime) -> Result<(), Fail> {
+    for row in [
+        Writes {
+            out: &[ONE, Turn::Takes(11)],
+            messages: &[Turn::Takes(3)],
+            end: RunEnd::Status(1),
+            written: "[   0]:0x1\n[   1]:0x3\n",
+            writes: 3,
+            told: "line 2: usage error\n",
+            tells: 2,
+        },
+        Writes {
+            out: &[Turn::Takes(7), INTERRUPTED],
+            messages: &[],
+            end: RunEnd::OutWrite,
+            written: "[   0]:",
+            writes: 2,
+            told: "",
+            tells: 0,
+        },
+        Writes {
+            out: &[Turn::Takes(7), Turn::Takes(0)],
+            messages: &[],
+            end: RunEnd::OutWrite,
+            written: "[   0]:",
+            writes: 2,
+            told: "",
+            tells: 0,
+        },
+        Writes {
+            out: &[],
+            messages: &[Turn::Takes(7), Turn::Fails(ErrorKind::Other)],
+            end: RunEnd::MessageWrite,
+            written: "[   0]:0x1\n[   1]:0x3\n",
+            writes: 1,
+            told: "line 2:",
+            tells: 2,
+        },
+        Writes {
+            out: &[],
+            messages: &[Turn::Takes(7), Turn::Takes(0)],
+            end: RunEnd::MessageWrite,
+            written: "[   0]:0x1\n[   1]:0x3\n",
+            writes: 1,
+            told: "line 2:",
+            tells: 2,
+        },
+    ] {
+        expect_writes(&rt, rt.alloc(), DEMO, Geometry::default(), &row)?;
     }
-    let second = second_version(rt.alloc(), DEMO)?;
-    expect_cut_output(&rt, rt.alloc(), second.as_str(), Geometry::default(), true)
-}
-
-/// A script in pieces, over an output that fails at once: how many bytes were given.
-fn given_before_a_full_output(
-    rt: &impl Abort,
-    alloc: Global,
-    pieces: &[&[u8]],
-) -> Result<u64, Fail> {
-    let subsystem = Subsystem::from_toml(alloc, DEMO.as_bytes())?;
-    let mut machine = Machine::new(alloc, subsystem)?;
-    let mut script = PieceSource::new(pieces);
-    let mut out = CutSink::full();
-    let mut messages = OverWrite::new(Vec::new(alloc));
-    let end = run(
-        alloc,
-        &mut machine,
-        Geometry::default(),
-        &mut script,
-        &mut out,
-        &mut messages,
-    );
-    assert!(rt; end == RunEnd::OutWrite);
-    assert!(rt; out.calls == 1);
-    assert!(rt; messages.into_inner().is_empty());
-    Ok(script.given)
+    Ok(())
 }
 
 /// A line of 22 bytes, and 100,000 bytes of comments.
@@ -251,59 +359,112 @@ fn line_and_comments(alloc: Global) -> Result<Vec<u8>, Fail> {
     Ok(script)
 }
 
-/// A first piece of so many bytes, and pieces of 4,096 bytes after it.
-fn pieces<'a>(alloc: Global, script: &'a [u8], first: usize) -> Result<Vec<&'a [u8]>, Fail> {
-    let first = cmp::min(first, script.len());
-    let mut pieces = Vec::new(alloc);
-    pieces.push(&script[..first])?;
-    for piece in script[first..].chunks(4096) {
-        pieces.push(piece)?;
+/// How many bytes of this script a reader gave, whose first piece has so many and the others 4,096,
+/// where the first write fails.
+fn given_before_a_failing_write(
+    rt: &impl Abort,
+    alloc: Global,
+    first: usize,
+) -> Result<usize, Fail> {
+    let bytes = line_and_comments(alloc)?;
+    assert!(rt; bytes.len() == 100_022 && first < 100_022);
+    let mut turns = Vec::new(alloc);
+    turns.push(Turn::Gives(&bytes[..first]))?;
+    for piece in bytes[first..].chunks(4096) {
+        turns.push(Turn::Gives(piece))?;
     }
-    Ok(pieces)
+    let mut reader = TurnReader::new(&turns);
+    let mut script = OverRead::new(&mut reader);
+    let mut out = OverWrite::new(TurnWriter::new(&[Turn::Fails(ErrorKind::Other)]));
+    let mut messages = OverWrite::new(Vec::new(alloc));
+    let plain = Geometry::default();
+    let end = run_over(alloc, DEMO, plain, &mut script, &mut out, &mut messages)?;
+    assert!(rt; end == RunEnd::OutWrite);
+    out.into_inner().check(rt, ("", 1));
+    assert!(rt; messages.into_inner().is_empty());
+    Ok(reader.given)
 }
 
 /// After a failing write in a line of 22 bytes, 4,095 bytes past it were read at most: the rest of
 /// the piece in which its newline came.
 #[test]
 fn reads_no_more_than_a_piece_past_a_failing_write(rt: HostRuntime) -> Result<(), Fail> {
-    let script = line_and_comments(rt.alloc())?;
-    assert_eq!(rt; script.len(), 100_022);
-    let pieces = pieces(rt.alloc(), &script, 21)?;
-    assert_eq!(rt; given_before_a_full_output(&rt, rt.alloc(), &pieces)?, 4117);
+    assert_eq!(rt; given_before_a_failing_write(&rt, rt.alloc(), 21)?, 4117);
+    assert_eq!(rt; given_before_a_failing_write(&rt, rt.alloc(), 4096)?, 4096);
     Ok(())
 }
 
 #[test]
-fn reads_one_piece_where_the_first_write_fails(rt: HostRuntime) -> Result<(), Fail> {
-    let script = line_and_comments(rt.alloc())?;
-    let pieces = pieces(rt.alloc(), &script, 4096)?;
-    assert_eq!(rt; given_before_a_full_output(&rt, rt.alloc(), &pieces)?, 4096);
-    Ok(())
-}
-
-#[test]
-fn leaves_a_beginning_of_the_messages(rt: HostRuntime) -> Result<(), Fail> {
+fn writes_again_after_interrupted_writes(rt: HostRuntime) -> Result<(), Fail> {
     let alloc = rt.alloc();
-    for takes_none in [false, true] {
-        let subsystem = Subsystem::from_toml(alloc, DEMO.as_bytes())?;
-        let mut machine = Machine::new(alloc, subsystem)?;
-        let mut script = OverRead::new(
-            b"list-ns /dev/nvme0 -n 3\nbogus\nlist-ns /dev/nvme0\n".as_slice(),
-        );
-        let mut out = OverWrite::new(Vec::new(alloc));
-        let mut messages = CutSink::new(takes_none);
-        let end = run(
-            alloc,
-            &mut machine,
-            Geometry::default(),
-            &mut script,
-            &mut out,
-            &mut messages,
-        );
-        assert!(rt; end == RunEnd::MessageWrite);
-        assert!(rt; messages.calls == 8);
-        assert!(rt; messages.bytes.as_slice() == "line 2:".as_bytes());
-        assert!(rt; out.into_inner().as_slice() == "[   0]:0x3\n".as_bytes());
+    let turns = [
+        INTERRUPTED,
+        Turn::Takes(7),
+        INTERRUPTED,
+        INTERRUPTED,
+        Turn::Takes(64),
+    ];
+    let mut output = TurnWriter::new(&turns);
+    let mut told = TurnWriter::new(&turns);
+    let mut script = OverRead::new(b"list-ns /dev/nvme0\nbogus\n".as_slice());
+    let mut out = OverWrite::new(Retrying::new(&mut output));
+    let mut messages = OverWrite::new(Retrying::new(&mut told));
+    let plain = Geometry::default();
+    let end = run_over(alloc, DEMO, plain, &mut script, &mut out, &mut messages)?;
+    assert!(rt; end == RunEnd::Status(1));
+    output.check(&rt, (LISTED, 5));
+    told.check(&rt, (TOLD, 5));
+    Ok(())
+}
+
+#[test]
+fn tries_no_write_again_after_another_error(rt: HostRuntime) -> Result<(), Fail> {
+    let turns = [
+        INTERRUPTED,
+        Turn::Fails(ErrorKind::PermissionDenied),
+        Turn::Takes(64),
+    ];
+    let mut inner = TurnWriter::new(&turns);
+    let mut writer = Retrying::new(&mut inner);
+    match writer.write(b"abc") {
+        Ok(_) => assert!(rt; false),
+        Err(error) => assert!(rt; error.kind() == ErrorKind::PermissionDenied),
     }
+    assert!(rt; writer.flush().is_ok());
+    inner.check(&rt, ("", 2));
+    assert_eq!(rt; inner.flushes, 1);
+    Ok(())
+}
+
+#[test]
+fn writes_what_it_takes_to_a_shared_writer(rt: HostRuntime) -> Result<(), Fail> {
+    let turns = [Turn::Takes(2), Turn::Takes(64), Turn::Takes(1)];
+    let mut inner = TurnWriter::new(&turns);
+    {
+        let held = Held::new(&mut inner);
+        let mut first = OverHeld::new(&held);
+        let mut second = OverHeld::new(&held);
+        assert!(rt; write_all(&mut first, b"abc"));
+        assert!(rt; write_all(&mut second, b"de"));
+        assert!(rt; held.flush());
+    }
+    inner.check(&rt, ("abcde", 4));
+    assert_eq!(rt; inner.flushes, 1);
+    Ok(())
+}
+
+#[test]
+fn takes_nothing_after_a_failing_flush_of_a_shared_writer(rt: HostRuntime) -> Result<(), Fail> {
+    let turns = [Turn::Takes(64), INTERRUPTED];
+    let mut inner = TurnWriter::new(&turns);
+    {
+        let held = Held::new(&mut inner);
+        let mut out = OverHeld::new(&held);
+        let is_written = write_all(&mut out, b"abc");
+        assert!(rt; !held.flush());
+        assert!(rt; is_written && !write_all(&mut out, b"de"));
+        assert!(rt; !held.flush());
+    }
+    inner.check(&rt, ("abc", 1));
     Ok(())
 }

@@ -1,4 +1,4 @@
--- What one read after another leaves.
+-- What one read after another leaves behind.
 use Rattle.std.proofs.Common.{◌≡◌, ◌≢◌, ◌∙◌, ℕ, ◌+◌, ◌<◌, ◌≤◌, List, [], ◌∷◌, ◌++◌, ap, append-nil, arith, length}
 use Rattle.std.proofs.Common.{refl, subst, sym, take}
 use Rattle.std.proofs.Math.Seq.{take-append-add, take-length}
@@ -21,7 +21,7 @@ take_part a k n xs ys low few =
     ∙ ap (λ m. take (m + n) (take a xs ++ ys)) (sym (length-take-le a xs low))
     ∙ take-append-add (take a xs) ys n
 
--- a further read fills more of a buffer
+-- another read fills more of a buffer
 pub fills_more : {n more : ℕ} {old mid new : SourceState} {buf : List ℕ} (k : ℕ) (part : List ℕ)
     → Fills n old mid buf → n ≤ length buf
     → more ≤ length part → Consumes mid.to_come new.to_come (take more part) → new.given ≡ mid.given + more
@@ -54,7 +54,7 @@ reads_both {n} {old} {mid} {new} {header} {buf} first fills few = record {
   given = omega (arith, first.given, fills.given, length-append header (take n buf), length-take-le n buf few);
 }
 
--- of which not all came: a buffer for them wasn't filled
+-- a header and data that is incomplete: a buffer for the data wasn't filled
 pub data_cut : {n len : ℕ} {header : List ℕ} {h : Header} (sent buf : List ℕ) → length header ≡ 72
     → h ≡ header_of header → h.length ≤ 1048576 → len ≡ sent_length h → len ≤ h.length → length sent ≡ 1048576
     → length buf ≡ length (take len sent) → n < length buf → IsCutShort (request header (take n buf))
@@ -63,7 +63,7 @@ data_cut {n} {len} {header} sent buf long said small is few room same part =
     IsCutShort.in_data (record { header = long; small = rw (← said) small })
     (rw (← said) (omega (arith, length-take-le n buf (omega (arith, part)), part, same, all, is)))
 
--- what begins with a byte isn't empty
+-- a list that begins with a byte isn't empty
 pub not_empty : (xs ys : List ℕ) → 0 < length xs → xs ++ ys ≢ []
 not_empty [] ys some same = absurd (omega arith)
 not_empty (x ∷ xs) ys some same = absurd (cc)

@@ -1,4 +1,4 @@
--- How one request after another makes the whole serving.
+-- How one request after another forms the whole service.
 use Rattle.std.proofs.Common.{◌≡◌, ◌≢◌, ◌∙◌, ℕ, ◌+◌, ◌≤◌, false, true, List, [], ◌∷◌, ◌++◌, ap, append-nil, arith}
 use Rattle.std.proofs.Common.{inl, inr, length}
 use Rattle.std.proofs.Common.{refl, subst, sym}
@@ -36,7 +36,7 @@ use Rattle.nv_serve.specs.declared.ends.ServeEnd.TheVariants as stop
 use Rattle.nv_serve.specs.declared.ends.RequestsEnd.{RequestsEnd}
 use Rattle.nv_serve.specs.declared.ends.RequestsEnd.TheVariants.{Done, Short, Read, Write}
 
--- these requests were read and done
+-- these requests were read and executed
 pub record Stands (p now : Point) (old new : SourceState) (requests : List Request)
     (answers : List Answer) : Type 0 where
   pub answered : AreAnswered p requests answers
@@ -44,12 +44,12 @@ pub record Stands (p now : Point) (old new : SourceState) (requests : List Reque
   pub was_read : Consumes old.to_come new.to_come (flat_map bytes_of requests)
   pub count : new.given ≡ old.given + length (flat_map bytes_of requests)
 
--- none so far
+-- no request so far
 pub stands_first : (p : Point) (source : SourceState) → Stands p p source source [] []
 stands_first p source =
     record { answered = tt; reached = refl; was_read = Consumes-same source.to_come; count = omega arith }
 
--- one more
+-- one more request
 answered_more : (p : Point) (requests : List Request) (answers : List Answer) (r : Request) (a : Answer)
     → AreAnswered p requests answers → IsWhole r → IsAnswer (after_all p requests) r a
     → AreAnswered p (requests ++ r ∷ []) (answers ++ a ∷ [])
@@ -99,7 +99,7 @@ taken_more old mid new answers a so_far wrote ready =
       not_failed = ready;
     }
 
--- or a beginning of it
+-- a beginning of its answer was written
 pub taken_part : (old mid new : SinkState) (answers : List Answer) (a : Answer) → HasTaken old mid answers
     → WritesAll false mid.taken new.taken (answer_bytes a) → new.has_failed ≡ true
     → HasTakenPart old new (answers ++ a ∷ [])
@@ -113,7 +113,7 @@ taken_part old mid new answers a so_far wrote failed = record {
   failed = failed;
 }
 
--- a request has at most so many bytes
+-- the greatest length of a request in bytes
 pub request_few : {r : Request} → IsWhole r → length (bytes_of r) ≤ 72 + most_data
 request_few {r} whole =
     let few = sent_few (header_of r.header).kind (header_of r.header) in
@@ -136,7 +136,7 @@ still_open ready = record { not_failed = ready.not_failed; not_ended = ready.not
 
 module _ (p : Point) {now : Point} {old mid : SourceState} {requests : List Request} {answers : List Answer}
     (stands : Stands p now old mid requests answers) (before after : Streams) (same : before.source ≡ old) where
-  -- serving is at one of them, where a rest was read
+  -- serving has reached one of the ends, after a rest was read
   pub ends_at : (end : RequestsEnd) (rest : Request) (last : List Answer) → Reads rest mid after.source
       → IsRest rest last → IsEnd end rest requests (answers ++ last) before after
       → IsServed p end now.subsystem before after
@@ -182,7 +182,7 @@ module _ (p : Point) {now : Point} {old mid : SourceState} {requests : List Requ
     ends_full here ready many = ends_at Read (request [] []) [] (rw here (nothing mid)) (IsRest.none refl refl)
         (inr (refl, ready, many), all)
 
-  -- where the last answer wasn't written, nothing more was read
+  -- if the last answer wasn't written, nothing more was read
   pub ends_unwritten : after.source ≡ mid → IsOpen after.source → HasTakenPart before.out after.out answers
       → IsServed p Write now.subsystem before after
   ends_unwritten here ready part =
@@ -198,7 +198,7 @@ pub begun_is : (b now : BusValue) {d : DriverValue} (g : Geometry) (more : ℕ)
 begun_is b now g more state value =
     let serials = ap serials_of value ∙ first_serials g (length b.banks) in λ i. point (state i) (serials i)
 
--- or why there is none
+-- why there is no driver
 pub end_is : (fault : Option GeometryField) (e : DriverError) (end : ServeEnd) → e ≡ error_without fault
     → ((field : GeometryField) → e ≡ error.Geometry field → end ≡ stop.Geometry field)
     × (e ≡ error.Memory → end ≡ stop.Memory) × (e ≡ error.NoReady → end ≡ stop.NoReady)

@@ -1,13 +1,18 @@
 -- What requests leave, one after another.
-use Rattle.std.proofs.Common.{◌≡◌, ◌∙◌, ℕ, ◌<◌, List, ap, length}
+use Rattle.std.proofs.Common.{◌≡◌, ◌∙◌, ℕ, ◌<◌, List, ap, arith, length, refl, subst, sym, true}
 use Rattle.nv_layout.specs.declared.sqe.Sqe.{Sqe}
 use Rattle.nv_model.specs.Step.{reset}
 use Rattle.nv_bus.specs.Bus.{BusValue}
-use Rattle.nv_driver.specs.Alone.{entry_step}
+use Rattle.nv_bus.specs.Entry.{told_by}
+use Rattle.nv_bus.specs.declared.told.Told.{Told}
+use Rattle.nv_driver.specs.Alone.{IsReceived, asked_in, entry_step}
 use Rattle.nv_driver.specs.Driver.{after_command, after_reset as driver_reset, pair_at}
 use Rattle.nv_driver.specs.Settled.{DriverValue}
 use Rattle.nv_driver.proofs.LinkedLaws.{serial_at, serials_after, serials_reset}
-use Rattle.nv_serve.specs.Serving.{after_entry, after_reset, point}
+use Rattle.nv_serve.specs.Answer.{Answer}
+use Rattle.nv_serve.specs.Serving.{IsAnswerByKind, IsAnswerIf, IsAnswerToHeader, IsReturned, Point, after_entry}
+use Rattle.nv_serve.specs.Serving.{after_header, after_if, after_kind, after_reset, has_controller, point}
+use Rattle.nv_serve.specs.declared.header.Header.{Header}
 use Rattle.nv_serve.specs.inner.Serving.{point_of}
 
 -- an entry was sent
@@ -25,3 +30,29 @@ pub reset_on : (b b' : BusValue) (d : DriverValue) {d' : DriverValue} (c : ℕ) 
     → d' ≡ driver_reset d c → point_of b' d' ≡ after_reset (point_of b d) c
 reset_on b b' d {d'} c state driver =
     let next = serials_reset d d' c driver in λ i. point (state i) (next i)
+
+-- a header whose controller is there does what its kind says
+pub left_by : (p : Point) (h : Header) (bytes : List ℕ) {after : Point} → h.controller < length p.serials
+    → after ≡ after_kind h.kind p h bytes → after ≡ after_header p h bytes
+left_by p h bytes below is =
+    let there : has_controller p h ≡ true = grind (arith) in is ∙ sym (ap (λ b. after_if b p h bytes) there)
+
+-- and is answered so
+pub answered_by : (p : Point) (h : Header) (bytes : List ℕ) (a : Answer) → h.controller < length p.serials
+    → IsAnswerByKind h.kind p h bytes a → IsAnswerToHeader p h bytes a
+answered_by p h bytes a below is =
+    let there : has_controller p h ≡ true = grind (arith) in subst (λ b. IsAnswerIf b p h bytes a) (sym there) is
+
+-- what an entry returned
+pub returned_by : (b : BusValue) (d : DriverValue) (c : ℕ) (e : Sqe) (bytes : List ℕ) {told : Told} (out : List ℕ)
+    → c < length d.pairs → told ≡ told_by (entry_step b.state c e bytes (pair_at d.pairs c).serial).answer
+    → IsReceived (asked_in b.state c e bytes) (entry_step b.state c e bytes (pair_at d.pairs c).serial).answer out
+    → IsReturned (point_of b d) c e bytes (length out) told out
+returned_by b d c e bytes out below answer received =
+    let at = serial_at d c below in
+    record {
+      told_is = answer ∙ ap (λ n. told_by (entry_step b.state c e bytes n).answer) at;
+      received =
+          subst (λ n. IsReceived (asked_in b.state c e bytes) (entry_step b.state c e bytes n).answer out) at received;
+      room = refl;
+    }

@@ -1,4 +1,4 @@
--- An answer's bytes: a header, and what came.
+-- The bytes of an answer: a header, and the data from the controller.
 use Rattle.std.specs.Prelude.{ℕ, ◌++◌, List, [], ◌∷◌}
 use Rattle.nv_layout.specs.Parts.{laid_out, number}
 use Rattle.nv_layout.specs.Status.{number_of_status}
@@ -21,7 +21,7 @@ bytes_of_header h = laid_out 12
     ∷ number 8 4 h.length
     ∷ [])
 
--- with no data and no status of a command
+-- a header with no data and no status of a command
 abbrev pub bare : Outcome → AnswerHeader
 bare outcome = record { dword0 = 0; status = success; outcome = outcome; length = 0 }
 

@@ -1,4 +1,4 @@
--- A request's bytes: a header, and what the host sends with it.
+-- The bytes of a request: a header, and the data from the host.
 use Rattle.std.specs.Prelude.{◌≡◌, ℕ, Bool, ◌==◌, ◌<◌, ◌≤◌, ◌++◌, List, [], drop, if◌then◌else◌, length, take}
 use Rattle.nv_layout.specs.Bits.{bits}
 use Rattle.nv_layout.specs.Parts.{number_at}
@@ -11,7 +11,7 @@ use Rattle.nv_serve.specs.declared.header.Kind.TheVariants.{Entry, Reset, List a
 abbrev pub header_size : ℕ
 header_size = 72
 
--- the most bytes of data: as many as a controller may move for one command
+-- the greatest length of data in bytes: as much as a controller may transfer for one command
 abbrev pub most_data : ℕ
 most_data = 1048576
 
@@ -26,7 +26,7 @@ header_of bytes = record {
   entry = sqe_of_bytes (take 64 (drop 8 bytes));
 }
 
--- the host sends data with an entry where the lowest bit of its opcode is 1
+-- the host sends data with an entry if the lowest bit of its opcode is 1
 abbrev pub sends_data : Sqe → Bool
 sends_data e = bits 0 1 e.opcode == 1
 
@@ -38,7 +38,7 @@ sent_by_kind kind h = 0
 abbrev pub sent_length : Header → ℕ
 sent_length h = sent_by_kind h.kind h
 
--- how many come back
+-- how many bytes of data come back
 abbrev pub wanted_by_kind : Kind → Header → ℕ
 wanted_by_kind Entry h = if sends_data h.entry then 0 else h.length
 wanted_by_kind ListKind h = h.length
@@ -55,17 +55,17 @@ pub record Request : Type 0 where
 abbrev pub bytes_of : Request → List ℕ
 bytes_of r = r.header ++ r.payload
 
--- its header is whole, and asks for no more data than may be
+-- its header is complete, and asks for no more data than is allowed
 pub record HasHeader (r : Request) : Type 0 where
   pub header : length r.header ≡ header_size
   pub small : (header_of r.header).length ≤ most_data
 
--- all of it was read
+-- the whole request was read
 pub record IsWhole (r : Request) : Type 0 where
   pub begun : HasHeader r
   pub payload : length r.payload ≡ sent_length (header_of r.header)
 
--- its header asks for more data than may be
+-- its header asks for more data than is allowed
 pub record IsTooLong (r : Request) : Type 0 where
   pub header : length r.header ≡ header_size
   pub long : most_data < (header_of r.header).length

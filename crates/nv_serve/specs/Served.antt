@@ -1,4 +1,4 @@
--- What serving requests leaves, by its end.
+-- What serving requests leaves behind, by how it ended.
 use Rattle.std.specs.Prelude.{◌≡◌, ◌≢◌, ℕ, ◌+◌, false, true, List, [], ◌∷◌, ◌++◌, ◌⊎◌, Option, None, Some, flat_map}
 use Rattle.std.specs.Prelude.{length}
 use Rattle.std.specs.Prelude.{replicate}
@@ -20,7 +20,7 @@ use Rattle.nv_serve.specs.declared.ends.RequestsEnd.TheVariants.{Done, Short, To
 use Rattle.nv_serve.specs.declared.ends.ServeEnd.{ServeEnd}
 use Rattle.nv_serve.specs.declared.ends.ServeEnd.TheVariants.{Geometry, Memory, Requests}
 
--- the most requests of one serving
+-- the greatest number of requests that one call serves
 abbrev pub request_limit : ℕ
 request_limit = 4294967295
 
@@ -35,7 +35,7 @@ streams source out = record { source = source; out = out }
 abbrev pub too_long : Answer
 too_long = record { header = bare outcome.TooLong; payload = [] }
 
--- what was read of a further request, and what it was answered: only one that is too long has an answer
+-- what was read of a further request, and the answer to it: it has one only if it is too long
 pub data IsRest (r : Request) (last : List Answer) : Type 0 where
   none : bytes_of r ≡ [] → last ≡ [] → IsRest r last
   cut : IsCutShort r → last ≡ [] → IsRest r last
@@ -49,7 +49,7 @@ pub record HasTaken (old new : SinkState) (said : List Answer) : Type 0 where
   pub taken : Appends old.taken new.taken (texts said)
   pub not_failed : new.has_failed ≡ false
 
--- or it took all before the last and a beginning of that, and failed
+-- the sink took all answers before the last one and a beginning of that one, and failed
 pub record HasTakenPart (old new : SinkState) (said : List Answer) : Type 0 where
   pub before : List Answer
   pub last : Answer
@@ -64,9 +64,9 @@ pub record IsOpen (source : SourceState) : Type 0 where
   pub not_failed : source.has_failed ≡ false
   pub not_ended : source.has_ended ≡ false
 
--- The source ended between two requests, or in one. A request was too long. The source failed, or there
--- were as many requests as there may be. The sink failed, and nothing is read while an answer isn't out.
--- Each controller of a lawful bus is ready.
+-- The source ended between two requests, or inside one. A request was too long. The source failed,
+-- or the greatest number of requests was reached. The sink failed, and nothing is read before an
+-- answer is written. Each controller of a lawful bus is ready.
 abbrev pub IsEnd : RequestsEnd → Request → List Request → List Answer → Streams → Streams → Type 0
 IsEnd Done rest requests said old new =
     (bytes_of rest ≡ []) × HasEnded new.source × HasTaken old.out new.out said
@@ -81,8 +81,8 @@ IsEnd Write rest requests said old new =
     (IsTooLong rest ⊎ (bytes_of rest ≡ [])) × IsOpen new.source × HasTakenPart old.out new.out said
 IsEnd NoReady rest requests said old new = ⊥
 
--- Requests were served from p on: those that were read whole are answered in order, and the subsystem
--- is that after them. Of what was read further nothing was executed.
+-- Requests were served from p on: those that were read completely are answered in order, and the
+-- subsystem is in the state after them. Nothing of what was read further was executed.
 pub record IsServed (p : Point) (end : RequestsEnd) (s : State) (old new : Streams) : Type 0 where
   pub requests : List Request
   pub answers : List Answer
@@ -97,8 +97,8 @@ pub record IsServed (p : Point) (end : RequestsEnd) (s : State) (old new : Strea
   pub rest_is : IsRest rest last
   pub end_is : IsEnd end rest requests (answers ++ last) old new
 
--- the end where there is no driver or no room: the first field of the geometry that is out of its
--- limits, or want of memory
+-- the end if there is no driver or no memory: the first field of the geometry that is outside its
+-- limits, or lack of memory
 abbrev pub end_without : Option GeometryField → ServeEnd
 end_without (Some field) = Geometry field
 end_without None = Memory
@@ -107,7 +107,7 @@ end_without None = Memory
 abbrev pub begun : BusValue → Point
 begun b = point (reset_where (enabled_in b.banks) b.state) (replicate (length b.banks) 0)
 
--- Without a driver nothing changes. With one the geometry occurs nowhere else.
+-- Without a driver nothing changes. With a driver, the geometry has no effect on the result.
 abbrev pub Serves : DriverGeometry → ServeEnd → BusValue → BusValue → Streams → Streams → Type 0
 Serves g end b b' old new =
     ((end ≡ end_without (fault_of g)) × (b' ≡ b) × (new ≡ old))

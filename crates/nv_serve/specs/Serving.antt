@@ -1,4 +1,4 @@
--- What requests do, one after another: a fold that knows the subsystem and the command identifiers.
+-- The effect of requests, one after another: a fold over the subsystem and the command identifiers.
 use Rattle.std.specs.Prelude.{◌≡◌, ℕ, Bool, true, false, List, [], ◌∷◌, length, nat_lt, slice_set}
 use Rattle.std.specs.Prelude.{slice_index_or, fold}
 use Rattle.nv_layout.specs.declared.sqe.Sqe.{Sqe}
@@ -29,7 +29,7 @@ point subsystem serials = record { subsystem = subsystem; serials = serials }
 abbrev pub serial_at : Point → ℕ → ℕ
 serial_at p c = slice_index_or p.serials c 0
 
--- an entry on a controller, with the bytes that the host sends
+-- an entry on controller c, with the host's bytes
 abbrev pub step_at : Point → ℕ → Sqe → List ℕ → Step
 step_at p c e bytes = entry_step p.subsystem c e bytes (serial_at p c)
 
@@ -45,7 +45,7 @@ after_reset p c = point (reset p.subsystem c) p.serials
 abbrev pub list_entry : Sqe
 list_entry = entry_of (ActiveList 0) 0
 
--- ---- what a request leaves
+-- ---- the state after a request
 
 abbrev pub after_kind : Kind → Point → Header → List ℕ → Point
 after_kind Entry p h bytes = after_entry p h.controller h.entry bytes
@@ -53,7 +53,7 @@ after_kind Reset p h bytes = after_reset p h.controller
 after_kind ListKind p h bytes = after_entry p h.controller list_entry []
 after_kind Unknown p h bytes = p
 
--- nothing changes where its controller isn't there
+-- nothing changes if its controller doesn't exist
 abbrev pub after_if : Bool → Point → Header → List ℕ → Point
 after_if true p h bytes = after_kind h.kind p h bytes
 after_if false p h bytes = p
@@ -70,9 +70,9 @@ after_one p r = after_header p (header_of r.header) r.payload
 abbrev pub after_all : Point → List Request → Point
 after_all p requests = fold after_one p requests
 
--- ---- what it is answered
+-- ---- the answer to a request
 
--- a completion, and as many bytes as were wanted of those that came
+-- a completion, and as much of the data that came back as was wanted
 pub record IsReturned (p : Point) (c : ℕ) (e : Sqe) (bytes : List ℕ) (n : ℕ) (told : Told)
     (payload : List ℕ) : Type 0 where
   pub told_is : told ≡ told_by (step_at p c e bytes).answer
@@ -91,7 +91,7 @@ IsAnswerByKind Entry p h bytes a =
     (told : Told) × IsReturned p h.controller h.entry bytes (wanted_length h) told a.payload
     × (a.header ≡ returned told.dword0 told.status (wanted_length h))
 IsAnswerByKind Reset p h bytes a = IsBare a (bare Answered)
--- a list tells how many controllers there are
+-- a list says how many controllers there are
 IsAnswerByKind ListKind p h bytes a =
     (told : Told) × IsReturned p h.controller list_entry [] (wanted_length h) told a.payload
     × (a.header ≡ returned (length p.serials) told.status (wanted_length h))
@@ -107,7 +107,7 @@ IsAnswerToHeader p h bytes a = IsAnswerIf (has_controller p h) p h bytes a
 abbrev pub IsAnswer : Point → Request → Answer → Type 0
 IsAnswer p r a = IsAnswerToHeader p (header_of r.header) r.payload a
 
--- each of these requests is whole, and has its answer
+-- each of these requests is complete and has its answer
 abbrev pub AreAnswered : Point → List Request → List Answer → Type 0
 AreAnswered p [] [] = Unit {0}
 AreAnswered p [] (a ∷ answers) = ⊥

@@ -7,21 +7,21 @@ ghost use Rattle.nv_serve.specs.Answer.{bare, bytes_of_header, outcome_number};
 use byteorder::{ByteOrder, LittleEndian};
 use nv_layout::Status;
 
-/// What became of a request.
+/// What happened to a request.
 #[derive(Clone, Copy, Debug, PartialEq, Eq)]
 pub enum Outcome {
-    /// 0: the controller did what it says; of an entry the status tells.
+    /// 0: the controller did what the request says. For an entry, the status says how it ended.
     Answered,
-    /// 1: there is no such controller.
+    /// 1: the controller doesn't exist.
     NoController,
-    /// 2: there is no such kind of request.
+    /// 2: the kind of request doesn't exist.
     NoKind,
-    /// 3: the request asks for more data than may be. It is the last one.
+    /// 3: the request asks for more data than is allowed. It is the last one.
     TooLong,
 }
 
 impl Outcome {
-    /// Its number.
+    /// Returns its number.
     pub fn number(self) -> u16
         ensures { result ≡ outcome_number self }
     {
@@ -47,7 +47,7 @@ pub struct AnswerHeader {
 }
 
 impl AnswerHeader {
-    /// With no data and no status of a command.
+    /// Returns a header with no data and no status of a command.
     pub(crate) fn bare(outcome: Outcome) -> AnswerHeader
         ensures { result ≡ bare outcome }
     {
@@ -59,7 +59,7 @@ impl AnswerHeader {
         }
     }
 
-    /// Of a completion, before so many bytes of data.
+    /// Returns the header of a completion that `length` bytes of data follow.
     pub(crate) fn returned(dword0: u32, status: Status, length: u32) -> AnswerHeader
         ensures { result ≡ record {
           dword0 = dword0;

@@ -12,15 +12,15 @@ use nv_driver::{DriverError, GeometryField};
 pub enum RequestsEnd {
     /// The source ended between two requests.
     Done,
-    /// The source ended in a request, of which nothing was executed.
+    /// The source ended inside a request, which was not executed.
     Short,
-    /// A request asked for more data than may be.
+    /// A request asked for more data than is allowed.
     TooLong,
-    /// The source failed, or there were as many requests as there may be.
+    /// The source failed, or the greatest number of requests was reached.
     Read,
     /// The sink failed.
     Write,
-    /// A controller isn't ready after a reset: a bus that keeps its contract has none.
+    /// A controller isn't ready after a reset. A bus that keeps its contract never causes this.
     NoReady,
 }
 
@@ -29,11 +29,12 @@ pub enum RequestsEnd {
 pub enum ServeEnd {
     /// The requests ended.
     Requests(RequestsEnd),
-    /// The first field of the geometry that is out of its limits. Nothing was read or written.
+    /// The first field of the geometry that is outside its limits. Nothing was read or written.
     Geometry(GeometryField),
-    /// A controller's CSTS.RDY is not as awaited: a bus that keeps its contract has no such end.
+    /// A controller's CSTS.RDY doesn't have the expected value. A bus that keeps its contract never
+    /// causes this.
     NoReady,
-    /// Memory was refused. Nothing was read or written.
+    /// There was no memory. Nothing was read or written.
     Memory,
 }
 

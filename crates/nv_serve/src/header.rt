@@ -8,20 +8,20 @@ ghost use Rattle.nv_serve.specs.Header.{wanted_length};
 use byteorder::{ByteOrder, LittleEndian};
 use nv_layout::{Sqe, bits_of};
 
-/// How many bytes a request's header has.
+/// The size of a request's header, in bytes.
 pub const HEADER_SIZE: usize = 72;
 
-/// The most bytes of a request's data, and of an answer's.
+/// The greatest length of a request's data, and of an answer's, in bytes.
 pub const MOST_DATA: u32 = 1_048_576;
 
-/// What a request is for.
+/// The purpose of a request.
 #[derive(Clone, Copy, Debug, PartialEq, Eq)]
 pub enum Kind {
-    /// 0: an entry is sent.
+    /// 0: sends an entry.
     Entry,
-    /// 1: the controller is reset.
+    /// 1: resets the controller.
     Reset,
-    /// 2: how many controllers there are, and the active namespaces of this one.
+    /// 2: asks how many controllers there are, and which namespaces of this one are active.
     List,
     /// Any other number.
     Unknown,
@@ -45,13 +45,13 @@ impl From<u16> for Kind {
 pub struct Header {
     pub controller: u16,
     pub kind: Kind,
-    /// How many bytes of data follow where the host sends data, and else how many are wanted.
+    /// How many bytes of data follow if the host sends data, and otherwise how many are wanted.
     pub length: u32,
-    /// A submission queue entry. Its command identifier and its data pointer are the driver's.
+    /// A submission queue entry. The driver sets its command identifier and its data pointer.
     pub entry: Sqe,
 }
 
-/// Reads an entry: each of its fields fits its bits.
+/// Reads an entry. Each of its fields fits its bits.
 #[tactic(auto, unfolding(nv_layout::specs::Sqe::sqe_of_bytes))]
 fn read_entry(bytes: &[u8; 64]) -> Sqe
     ensures value { result ≡ sqe_of_bytes bytes.now }
@@ -77,15 +77,15 @@ impl Header {
         }
     }
 
-    /// Whether the host sends data with the entry: bit 0 of its opcode. Section "Submission Queue
-    /// Entry".
+    /// Returns whether the host sends data with the entry, which is bit 0 of its opcode. Section
+    /// "Submission Queue Entry".
     fn sends_data(&self) -> bool
         ensures { result ≡ sends_data self.now.entry }
     {
         bits_of(u32::from(self.entry.opcode), 0, 1) == 1
     }
 
-    /// How many bytes of data follow the header.
+    /// Returns how many bytes of data follow the header.
     pub fn sent_length(&self) -> u32
         ensures length { result ≡ sent_length self.now }
         ensures few { result ≤ self.now.length }
@@ -96,7 +96,7 @@ impl Header {
         }
     }
 
-    /// How many bytes of data the answer has.
+    /// Returns how many bytes of data the answer has.
     pub fn wanted_length(&self) -> u32
         ensures length { result ≡ wanted_length self.now }
         ensures few { result ≤ self.now.length }

@@ -1,4 +1,4 @@
-//! Requests to controllers, entry by entry: what a stream of them is answered.
+//! Serves requests to controllers, entry by entry: the answers to a stream of requests.
 #![tactic(auto)]
 
 mod answer;

@@ -10,27 +10,27 @@ use nv_stream::{READ_SIZE, Source};
 /// How far a buffer was filled.
 pub(crate) enum Filled {
     Whole,
-    /// The source ended after so many bytes.
+    /// The source ended after this many bytes.
     Ended(usize),
-    /// The source failed after so many bytes.
+    /// The source failed after this many bytes.
     Failed(usize),
 }
 
 /// What was read of a request.
 pub(crate) enum Taken {
-    /// All of it.
+    /// The whole request.
     Request(Header),
     /// Nothing: the source has ended.
     Nothing,
-    /// A part: the source ended in it.
+    /// A part of it: the source ended inside the request.
     Short,
-    /// Its header, which asks for more data than may be.
+    /// Its header, which asks for more data than is allowed.
     TooLong,
-    /// A part, or nothing: the source failed.
+    /// A part of it, or nothing: the source failed.
     Failed,
 }
 
-/// Reads as many bytes as a buffer has room for, in as many reads as it takes.
+/// Fills a buffer, in as many reads as it takes.
 fn fill<R: Source>(source: &mut R, buf: &mut [u8]) -> Filled
     requires ready { IsReady (R.state source.old) }
     requires room { (R.state source.old).given + length buf.old < 2 ^ 64 }

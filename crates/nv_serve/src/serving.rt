@@ -1,9 +1,9 @@
-//! Serving requests, one after another.
+//! Serves requests, one after another.
 
 ghost use Rattle.std.specs.Prelude.{◌≡◌, IfOk, false, length, not};
 ghost use Rattle.nv_bus.specs.Bus.{IsBus};
 ghost use Rattle.nv_driver.specs.Driver.{HasEntryPages};
-ghost use Rattle.nv_driver.specs.inner.Linked.{IsLinked};
+ghost use Rattle.nv_driver.specs.Linked.{IsLinked};
 ghost use Rattle.nv_stream.specs.Streams.{IsFresh, WritesAll};
 ghost use Rattle.nv_serve.specs.Answer.{bytes_of};
 ghost use Rattle.nv_serve.specs.Header.{most_data};
@@ -20,10 +20,10 @@ use nv_driver::{Driver, Geometry};
 use nv_stream::{Sink, Source, write_all};
 use std::alloc::{AllocError, Global};
 
-/// The most requests of one serving.
+/// The greatest number of requests that one call serves.
 pub const REQUEST_LIMIT: u32 = u32::MAX;
 
-/// Writes an answer. After a failing write the sink has taken a beginning of it.
+/// Writes an answer. If a write fails, the sink has taken a beginning of the answer.
 fn respond<S: Sink>(out: &mut S, header: &AnswerHeader, payload: &[u8]) -> bool
     requires { (S.state out.old).has_failed ≡ false }
     ensures text { WritesAll result (S.state out.old).taken (S.state out.new).taken
@@ -35,7 +35,7 @@ fn respond<S: Sink>(out: &mut S, header: &AnswerHeader, payload: &[u8]) -> bool
     write_all(out, &bytes) && write_all(out, payload)
 }
 
-/// Answers requests until they end. Their data stands in `sent`, that of answers in `received`.
+/// Answers requests until they end. `sent` holds their data, and `received` that of the answers.
 fn serve_all<B: Bus, R: Source, O: Sink>(
     bus: &mut B,
     driver: &mut Driver,
@@ -83,17 +83,18 @@ fn serve_all<B: Bus, R: Source, O: Sink>(
     RequestsEnd::Read
 }
 
-/// Room for this many bytes.
+/// Creates a buffer of `len` bytes.
 fn room(alloc: Global, len: usize) -> Result<Vec<u8>, AllocError>
     ensures { IfOk result (λ bytes. length bytes.items ≡ len) }
 {
     vec![in alloc; 0u8; len]
 }
 
-/// Answers requests to the controllers of a bus, by a driver of this geometry: each controller that
-/// is enabled is reset, and then each request is done and answered once it was read whole, before
-/// more is read. At most 4,294,967,295 requests are served. Where the geometry is out of its
-/// limits or memory is refused, nothing is read or written and the subsystem stays.
+/// Answers requests to the controllers of a bus, with a driver of this geometry. Each controller
+/// that is enabled is reset. Then each request is executed and answered when it was read
+/// completely, before more is read. At most 4,294,967,295 requests are served. If the geometry is
+/// outside its limits or memory is refused, nothing is read or written, and the subsystem doesn't
+/// change.
 pub fn serve<B: Bus, R: Source, O: Sink>(
     alloc: Global,
     bus: &mut B,
@@ -107,7 +108,7 @@ pub fn serve<B: Bus, R: Source, O: Sink>(
     ensures serves { Serves geometry result (B.meaning bus.old) (B.meaning bus.new)
         (streams (R.state source.old) (O.state out.old))
         (streams (R.state source.new) (O.state out.new)) }
-    // The bus can be served again.
+    // The bus can be used to serve again.
     ensures bus { IsBus (B.meaning bus.new) }
 {
     if let Err(field) = geometry.check() {

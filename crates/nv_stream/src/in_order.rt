@@ -1,5 +1,5 @@
-//! Streams in one order: what was written is out before more of a script is awaited, and before a
-//! message is.
+//! Streams that keep an order: what was written is flushed before more of a script is read, and
+//! before a message is written.
 
 ghost use Rattle.std.specs.Prelude.{◌≡◌, ◌≤◌, IfSome, None, false, length};
 ghost use Rattle.nv_stream.specs.inner.Streams.{IsWritten};
@@ -9,7 +9,7 @@ use crate::streams::{Sink, Source};
 use std::cell::{Cell, RefCell};
 use std::io::Write;
 
-/// Hands bytes to a writer: how many it took, or `None` where it failed.
+/// Passes bytes to a writer. Returns how many it took, or `None` if it failed.
 fn write_to<W: Write>(writer: &mut W, bytes: &[u8]) -> Option<usize>
     ensures bound { IfSome result (λ n. n ≤ length bytes.now) }
     ensures bytes { Takes (W.contents writer.old) (W.contents writer.new) result bytes.now }
@@ -17,8 +17,7 @@ fn write_to<W: Write>(writer: &mut W, bytes: &[u8]) -> Option<usize>
     writer.write(bytes).ok()
 }
 
-/// A writer that holds bytes back, and whether a write or a flush of it has failed. Several streams
-/// share it.
+/// A buffered writer, and whether a write or a flush of it has failed. Several streams share it.
 #[derive(Drop)]
 pub struct Held<W> {
     writer: RefCell<W>,
@@ -33,7 +32,7 @@ impl<W: Write> Held<W> {
         }
     }
 
-    /// Hands bytes to the writer: how many it took, or `None` where it has failed.
+    /// Passes bytes to the writer. Returns how many it took, or `None` if it has failed.
     fn write(&self, bytes: &[u8]) -> Option<usize>
         ensures bound { IfSome result (λ n. n ≤ length bytes.now) }
         ensures written { IsWritten W.contents result bytes.now }
@@ -47,7 +46,7 @@ impl<W: Write> Held<W> {
         write_to(&mut *writer, bytes)
     }
 
-    /// Puts out what the writer holds. Answers whether all that it took is out.
+    /// Flushes the writer. Returns whether everything that it took was written.
     pub fn flush(&self) -> bool {
         let is_out = match self.writer.try_borrow_mut() {
             Ok(mut writer) => writer.flush().is_ok(),
@@ -60,7 +59,7 @@ impl<W: Write> Held<W> {
     }
 }
 
-/// A sink over a writer that holds bytes back. What it took is not told.
+/// A sink over a buffered writer. Its contract doesn't say what it took.
 #[derive(Drop)]
 pub struct OverHeld<'a, W> {
     held: &'a Held<W>,
@@ -96,7 +95,7 @@ impl<'a, W: Write> Sink for OverHeld<'a, W> {
     }
 }
 
-/// A source before whose reads all that a writer holds is put out.
+/// A source that flushes a writer before each read.
 #[derive(Drop)]
 pub struct SourceAfter<'a, R, W> {
     source: R,
@@ -120,7 +119,7 @@ impl<'a, R: Source, W: Write> Source for SourceAfter<'a, R, W> {
     }
 }
 
-/// A sink before whose writes all that a writer holds is put out.
+/// A sink that flushes a writer before each write.
 #[derive(Drop)]
 pub struct SinkAfter<'a, S, W> {
     sink: S,

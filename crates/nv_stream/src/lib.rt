@@ -1,4 +1,4 @@
-//! Where bytes come from and where they go: sources and sinks, over readers and writers of std.
+//! Sources and sinks of bytes, over readers and writers of std.
 #![tactic(auto)]
 
 mod in_order;

@@ -1,4 +1,4 @@
-//! A writer whose interrupted writes are made again.
+//! A writer that repeats interrupted writes.
 
 ghost use Rattle.std.specs.Prelude.{◌≡◌, ◌≢◌, IfErr};
 ghost use Rattle.std.specs.Io.{WritesAtMost};
@@ -8,7 +8,7 @@ ghost use Rattle.std.specs.declared.io.ErrorKind.TheVariants.{Interrupted};
 
 use std::io::{self, ErrorKind, Write};
 
-/// A writer that makes a write again where a signal interrupts it, and after no other error.
+/// A writer that repeats a write if a signal interrupts it, and after no other error.
 #[derive(Drop)]
 pub struct Retrying<W> {
     writer: W,

@@ -1,4 +1,4 @@
-//! Where a script comes from, and where its texts go.
+//! The sources of scripts, and the sinks of their texts.
 
 ghost use Rattle.std.specs.Prelude.{◌≡◌, ◌+◌, ◌^◌, ◌<◌, ◌≤◌, length, is_none, IfSome, unwrap_or};
 ghost use Rattle.std.specs.Prelude.{false};
@@ -8,16 +8,16 @@ ghost use Rattle.nv_stream.specs.Streams.{is_failure};
 
 use std::io::{Read, Write};
 
-/// The most bytes that one read is asked for.
+/// The greatest number of bytes that one read asks for.
 pub const READ_SIZE: usize = 4096;
 
-/// Gives bytes in pieces. An error gives none.
+/// Provides bytes in pieces. A read that fails provides none.
 pub trait Source {
-    // What it gives, and what became of it.
+    // What it provides, and how it ended.
     ghost state: { Self → SourceState };
 
-    /// The number of bytes given, from the buffer's front on: 0 is the end. `None` is an error. The
-    /// buffer has 1 to 4,096 bytes, and no read follows an end or an error.
+    /// Reads bytes to the beginning of the buffer, and returns how many. 0 is the end, and `None`
+    /// an error. The buffer has 1 to 4,096 bytes, and no read follows an end or an error.
     fn read(&mut self, buf: &mut [u8]) -> Option<usize>
         requires some { 0 < length buf.old }
         requires most { length buf.old ≤ read_size }
@@ -33,13 +33,13 @@ pub trait Source {
         ensures count { (state self.new).given ≡ (state self.old).given + unwrap_or result 0 };
 }
 
-/// Takes bytes in pieces. An error takes none.
+/// Takes bytes in pieces. A write that fails takes none.
 pub trait Sink {
-    // What it took, and what became of it.
+    // What it took, and whether it failed.
     ghost state: { Self → SinkState };
 
-    /// The number of bytes taken, from the first on: 0 is a failure. `None` is an error. At least
-    /// one byte is offered, and no write follows a failure or an error.
+    /// Writes bytes from the beginning of `bytes`, and returns how many. 0 is a failure, and `None`
+    /// an error. At least one byte is offered, and no write follows a failure or an error.
     fn write(&mut self, bytes: &[u8]) -> Option<usize>
         requires some { 0 < length bytes.now }
         requires not_failed { (state self.old).has_failed ≡ false }
@@ -48,7 +48,8 @@ pub trait Sink {
         ensures failure { (state self.new).has_failed ≡ is_failure result };
 }
 
-/// A source over any reader of std. An error of the reader is its error, and isn't tried again.
+/// A source over any reader of std. An error of the reader is its error, and the read isn't
+/// repeated.
 #[derive(Drop)]
 pub struct OverRead<R> {
     reader: R,
@@ -98,7 +99,8 @@ impl<R: Read> Source for OverRead<R> {
     }
 }
 
-/// A sink over any writer of std. An error of the writer is its error, and isn't tried again.
+/// A sink over any writer of std. An error of the writer is its error, and the write isn't
+/// repeated.
 #[derive(Drop)]
 pub struct OverWrite<W> {
     writer: W,
@@ -116,7 +118,7 @@ impl<W: Write> OverWrite<W> {
         }
     }
 
-    /// The writer, with what it took.
+    /// Returns the writer, with what it took.
     pub fn into_inner(self) -> W
         ensures { W.contents result ≡ (⟦<OverWrite<W> as Sink>⟧.state self).taken }
     {

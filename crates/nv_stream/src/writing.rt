@@ -1,12 +1,12 @@
-//! Whole texts, in as many writes as they take.
+//! Writes whole texts, in as many writes as they take.
 
 ghost use Rattle.std.specs.Prelude.{◌≡◌, false, not};
 ghost use Rattle.nv_stream.specs.Streams.{WritesAll};
 
 use crate::streams::Sink;
 
-/// Writes a text, in as many writes as it takes. After a failing write the sink has taken a
-/// beginning of it.
+/// Writes a text, in as many writes as it takes. Returns false if a write fails; then the sink has
+/// taken a beginning of the text.
 pub fn write_all<S: Sink>(sink: &mut S, text: &[u8]) -> bool
     requires { (S.state sink.old).has_failed ≡ false }
     ensures text { WritesAll result (S.state sink.old).taken (S.state sink.new).taken text.now }

@@ -1,4 +1,4 @@
--- The capacities of the namespaces of a file, added up.
+-- The sum of the capacities of a file's namespaces.
 use Rattle.std.proofs.Common.{◌≡◌, ◌≢◌, ◌∙◌, zero, suc, ◌+◌, List, [], ◌∷◌, get_or, None, sym, arith}
 use Rattle.std.specs.Prelude.{All, AllPairs, sum_by}
 use Rattle.std.specs.List.{fold}

@@ -1,4 +1,4 @@
--- A loop over controllers that changes what is attached to each.
+-- A loop over controllers that changes the attachments of each.
 use Rattle.std.proofs.Common.{◌≡◌, ◌∙◌, ℕ, ◌+◌, ◌<◌, ◌++◌, Bool, true, false, List, length, map, take, drop, set}
 use Rattle.std.proofs.Common.{get_or, refl, add-one}
 use Rattle.std.specs.Prelude.{All, if◌then◌else◌}
@@ -31,7 +31,7 @@ module _ (to : Controller → Attached) (old now : List code.Controller) (i : �
         All-set (IsSized nn) now i y (sized nn (now_all i d h)) now_all;
   }
 
--- which of two it is
+-- which of two changes it is
 pub chosen : (b : Bool) (p q : Controller → Attached) (x : Controller) → b ≡ true
     → with_nsids p x ≡ with_nsids (λ y. if b then p y else q y) x
 chosen true p q x e = refl

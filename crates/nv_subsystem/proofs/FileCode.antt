@@ -1,4 +1,4 @@
--- The parts of the subsystem that are made of a file.
+-- The parts of the subsystem that are made from a file.
 use Rattle.std.proofs.Common.{◌≡◌, ◌∙◌, ℕ, ◌+◌, ◌<◌, ◌≤◌, List, [], ◌∷◌, refl, map, length, get_or, Some, sym, ap}
 use Rattle.std.proofs.Common.{subst, arith}
 use Rattle.std.specs.Prelude.{All, sum_by}
@@ -95,7 +95,7 @@ pub within_capacity : (f : File) → IsFile (file_view f)
     → sum_by (λ n. n.namespace.capacity) f.namespaces.items ≤ f.tnvmcap
 within_capacity f h = omega (arith, h.capacities, sum_of_views f.namespaces.items)
 
--- what they leave is what is unallocated
+-- the capacity that they leave is the unallocated one
 pub adds_up : (f : File) (left : ℕ) → IsFile (file_view f)
     → left + sum_by (λ n. n.namespace.capacity) f.namespaces.items ≡ f.tnvmcap
     → left + used (state_of (file_view f)).namespaces ≡ f.tnvmcap

@@ -1,4 +1,4 @@
--- The rules and the values of features that a file gives.
+-- The rules and the values of features in a file.
 use Rattle.std.proofs.Common.{◌≡◌, ◌∙◌, ℕ, zero, suc, ◌==◌, ◌&&◌, ◌||◌, Bool, true, false, not, cond, List, [], ◌∷◌}
 use Rattle.std.proofs.Common.{Some, is_some, refl, sym, ap, subst, arith}
 use Rattle.std.specs.Prelude.{All, find, map, if◌then◌else◌}
@@ -10,10 +10,9 @@ use Rattle.std.specs.FinMap as map_of
 use Rattle.std.specs.FinMap.{get-empty}
 use Rattle.std.proofs.lemmas.Bool.Decides.{nat_tests}
 use Rattle.nv_bits.proofs.NumberLaws.{get_of_insert}
-use Rattle.nv_layout.specs.Feature.{feature_of, is_selector, row_of}
+use Rattle.nv_layout.specs.Feature.{feature_of, features, is_selector, row_of}
 use Rattle.nv_layout.proofs.FeatureTableLaws.{feature_at}
 use Rattle.nv_layout.specs.declared.feature.Feature.{Feature}
-use Rattle.nv_layout.specs.declared.feature.TheConstants.Feature.{ALL}
 use Rattle.nv_file.specs.FileValue.{NamespaceValue, is_attached_to}
 use Rattle.nv_model.specs.Ranges.{IsFeatureRule}
 use Rattle.nv_model.specs.declared.feature_rule.FeatureRule.{FeatureRule}
@@ -52,7 +51,7 @@ are_rules rs all = some_rules map_of.empty rs
 
 -- ---- defaults
 
--- a supported feature that no namespace has for itself
+-- a supported feature without a value for each namespace
 abbrev has_default : FeatureRules → ℕ → Feature → Bool
 has_default rules vwc f = is_supported rules vwc f && not (row_of f).per_namespace
 
@@ -128,12 +127,12 @@ module _ (rules : FeatureRules) (vwc : ℕ) where
       at_test true = sound_fill are f (row_of f).selectors m all
       at_test false = all
 
-  -- ---- they are those of all keys
+  -- ---- they are the values of all keys
 
   abbrev no_nsids : Nsids
   no_nsids = map_of.empty
 
-  -- what a key of the feature has
+  -- the value of the feature's key
   abbrev at_start : ValueKey → Feature → Bool
   at_start q f = is_supported rules vwc f && (is_selector f q.selector
       && (if (row_of f).per_namespace
@@ -210,7 +209,7 @@ module _ (rules : FeatureRules) (vwc : ℕ) where
   is_same : (a b : ℕ) → (a == b) ≡ true → a ≡ b
   is_same a b e = grind (arith, nat_tests)
 
-  -- a test of those with an identifier is that of the first one
+  -- a test of the features with an identifier is that of the first one
   rest_alike : (a : ℕ) (p : Feature → Bool) (f : Feature) → (row_of f).fid ≡ a → (fs : List Feature)
       → list_any (λ g. ((row_of g).fid == a) && p g) fs ≡ true → p f ≡ true
   rest_alike a p f here [] any = absurd (cc any)
@@ -256,12 +255,12 @@ module _ (rules : FeatureRules) (vwc : ℕ) where
 
   pub start_values : AreRules rules → AreValues rules vwc map_of.empty (defaults_of rules vwc)
   start_values are = record {
-    keys = λ q. some_defaults map_of.empty ALL q
-        ∙ or_nothing (list_any (is_default rules vwc q) ALL) (map_of.contains_key nothing q)
+    keys = λ q. some_defaults map_of.empty features q
+        ∙ or_nothing (list_any (is_default rules vwc q) features) (map_of.contains_key nothing q)
         (ap is_some (get-empty key_cmp q))
-        ∙ any_alike (is_default rules vwc q) _ (is_of q) ALL
-        ∙ by_first q.fid (at_start q) ALL;
-    sound = sound_defaults are map_of.empty ALL
+        ∙ any_alike (is_default rules vwc q) _ (is_of q) features
+        ∙ by_first q.fid (at_start q) features;
+    sound = sound_defaults are map_of.empty features
         (λ k x e. absurd (cc (sym (get-empty key_cmp k) ∙ e)));
   }
 

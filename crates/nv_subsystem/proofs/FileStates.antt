@@ -42,7 +42,7 @@ says p (Some e) = p e
 is_nsid : (q n : ℕ) → (q == n) ≡ true → q ≡ n
 is_nsid q n h = grind (arith, nat_tests)
 
--- an NSID that none of them has
+-- an NSID that no namespace has
 absent : (ns : List NamespaceValue) (q : ℕ) → All (λ n. q ≢ n.nsid) ns → entry_at ns q ≡ None
 unfolding entry_at
 absent [] q h = refl
@@ -58,7 +58,7 @@ unfolding Distinct
 alone n ns q h e = absent ns q (λ k d b. subst (λ m. m ≢ (get_or ns k d).nsid)
     (sym (is_nsid q n.nsid e)) (h zero (suc k) d (omega arith) (omega arith)))
 
--- what the map of a file's namespaces has
+-- the entries of the map of a file's namespaces
 found_at : (m : Namespaces) (n : NamespaceValue) (ns : List NamespaceValue) (q : ℕ) (t : Bool)
     → (q == n.nsid) ≡ t → Distinct (n ∷ ns)
     → or_else (entry_at ns q) (cond t (Some n.namespace) (map_of.get m q)) ≡ or_else
@@ -106,7 +106,7 @@ marked m (n ∷ ns) cntlid q d =
     (marked_one m n cntlid q (is_attached_to cntlid n) refl)
     ∙ marked_at n ns cntlid q (is_some (map_of.get m q)) (q == n.nsid) refl d
 
--- what holds of each namespace of the file holds of the one with an NSID, which has that NSID
+-- what holds for each namespace of the file holds for the one with an NSID, which has that NSID
 at_nsid : (P : NamespaceValue → Type 0) (ns : List NamespaceValue) (q : ℕ) (e : NamespaceValue)
     → All P ns → entry_at ns q ≡ Some e → P e × (e.nsid ≡ q)
 unfolding entry_at
@@ -120,7 +120,7 @@ at_nsid P (n ∷ ns) q e all is = at_test (q == n.nsid) refl is (at_nsid P ns q 
         in subst (λ x. P x × (x.nsid ≡ q)) same (all zero n (omega arith), sym (is_nsid q n.nsid h))
     at_test false h w rest = rest w
 
--- a list of one number at most attaches to one controller at most
+-- a list of at most one number attaches to at most one controller
 one_number : (zs : List ℤ) (a b : ℕ) → length zs ≤ 1 → list_any (λ z. int_eq z (pos a)) zs ≡ true
     → list_any (λ z. int_eq z (pos b)) zs ≡ true → a ≡ b
 one_number [] a b h i j = absurd (cc i)
@@ -157,7 +157,7 @@ one_passes p (x ∷ xs) h = at_test (p x) refl (one_passes p xs
 
 -- ---- the state
 
--- what the state has under an NSID
+-- the namespace in the state with an NSID
 namespaces_of : (ns : List NamespaceValue) (q : ℕ) → AllPairs (λ a b. a.nsid ≢ b.nsid) ns
     → map_of.get (fold with_namespace map_of.empty ns) q ≡ or_else (entry_at ns q) None
 unfolding Distinct

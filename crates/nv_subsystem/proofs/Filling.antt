@@ -1,4 +1,4 @@
--- A list that is filled from the front over copies of one element.
+-- A list of copies of one element that is filled from its beginning.
 use Rattle.std.proofs.Common.{◌≡◌, ℕ, suc, ◌+◌, ◌-◌, ◌<◌, ◌∙◌, sym, ap, refl, arith, List, [], ◌∷◌, ◌++◌, length, map}
 use Rattle.std.proofs.Common.{take, set, get_or}
 use Rattle.std.specs.Prelude.{replicate}
@@ -9,7 +9,7 @@ put_first : {Y : Type 0} (ys : List Y) (n : ℕ) (z y : Y)
 put_first [] n z y = refl
 put_first (x ∷ ys) n z y = ap (λ t. x ∷ t) (put_first ys n z y)
 
--- one more, mapped from the next of a list
+-- one more element, mapped from the next one of a list
 pub filled : {X Y : Type 0} (f : X → Y) (xs : List X) (i n : ℕ) (d : X) (z : Y) (ys : List Y)
     → i < length xs → i < n → ys ≡ map f (take i xs) ++ replicate (n - i) z
     → set ys i (f (get_or xs i d)) ≡ map f (take (i + 1) xs) ++ replicate (n - (i + 1)) z

@@ -11,4 +11,3 @@ pub mod FileStates
 pub mod FileCode
 pub mod NumbersAbove
 pub mod ValueTableLaws
-pub mod Restoring

@@ -1,4 +1,4 @@
--- The numbers of a map above one, listed one by one.
+-- The numbers of a map above a given one, listed one by one.
 use Rattle.std.proofs.Common.{append_assoc, append-nil, ◌≡◌, ◌∙◌, ℕ, ◌+◌, ◌≤◌, ap, sym, refl, arith, List, [], ◌∷◌}
 use Rattle.std.proofs.Common.{◌++◌, length, nat_lt}
 use Rattle.std.specs.FinMap as map_of
@@ -8,7 +8,7 @@ use Rattle.std.proofs.lemmas.List.Sums.{count_by-le-length, length-filter}
 use Rattle.nv_bits.specs.Numbers.{NumberMap}
 use Rattle.nv_bits.specs.Above.{above}
 
--- so many are listed, and those above the last one are left
+-- `count` numbers are listed, and those above the last one are left
 pub record Lists {A : Type 0} (m : NumberMap A) (after : ℕ) (list : List ℕ) (last count : ℕ) : Type 0 where
   pub len : length list ≡ count
   pub rest : list ++ above last (map_of.keys m) ≡ above after (map_of.keys m)
@@ -25,7 +25,7 @@ module _ {A : Type 0} (m : NumberMap A) (after : ℕ) (list : List ℕ) (last co
   pub none_left : above last (map_of.keys m) ≡ [] → list ≡ above after (map_of.keys m)
   none_left none = sym (append-nil list) ∙ ap (λ t. list ++ t) (sym none) ∙ so_far.rest
 
-  -- there are no more than the map has
+  -- there are no more numbers than the map has
   pub all_left : map_of.len m ≤ count → list ≡ above after (map_of.keys m)
   all_left full = none_left (empty (above last (map_of.keys m))
       (omega (

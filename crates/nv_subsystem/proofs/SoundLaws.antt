@@ -1,4 +1,4 @@
--- Slots and the running total, when a namespace comes or goes.
+-- Slots and the running total when a namespace is added or removed.
 use Rattle.std.proofs.Common.{◌≡◌, ◌∙◌, ℕ, ◌+◌, ◌-◌, ◌==◌, ◌<◌, ◌≤◌, Bool, true, false, cond, List, length, Option}
 use Rattle.std.proofs.Common.{Some, None, is_some, refl, sym, ap, arith}
 use Rattle.std.specs.Prelude.{All}

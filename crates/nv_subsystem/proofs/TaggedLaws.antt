@@ -43,7 +43,7 @@ use Rattle.nv_model.specs.Format.{in_format}
 use Rattle.nv_model.specs.IdentifyController.{id_ctrl_of, no_controller}
 use Rattle.nv_model.specs.Conditions.{limit_of}
 use Rattle.nv_model.specs.Logs.{errors_of, no_health, smart_of}
-use Rattle.nv_model.specs.Management.{Attached, new_namespace, wanted, with_nsids, without, without_all, without_any}
+use Rattle.nv_model.specs.Management.{Attached, new_namespace, with_nsids, without, without_all, without_any}
 use Rattle.nv_model.specs.Management.{without_one}
 use Rattle.nv_model.specs.Conditions.{concerned, free_nsid, is_allocated, is_valid}
 use Rattle.nv_model.specs.Meaning.{refusal_of, rows_of}
@@ -60,13 +60,13 @@ use Rattle.nv_subsystem.specs.Tagged.{booked, newest_tagged, settled, untagged, 
 
 -- ---- logs
 
--- the newest entry that is kept has the tag
+-- the newest entry in the log has the tag
 pub newest_of_taken : (phase : Bool) (most : ℕ) (e : ErrorEntry) (es : List ErrorEntry)
     → newest_tagged phase (take most (e ∷ es)) ≡ take most (with_phase phase e ∷ es)
 newest_of_taken phase zero e es = refl
 newest_of_taken phase (suc most) e es = refl
 
--- and without tags it is the entry alone
+-- without tags it is only the entry
 newest_untagged : (phase : Bool) (most : ℕ) (e : ErrorEntry) (es : List ErrorEntry) → without_phase e ≡ e
     → map without_phase (newest_tagged phase (take most (e ∷ es))) ≡ take most (e ∷ map without_phase es)
 newest_untagged phase zero e es bare = refl
@@ -85,7 +85,7 @@ errors_untagged x =
 
 -- ---- controllers
 
--- what reads one controller, and not its log
+-- a function that reads one controller, and not its log
 module _ {A : Type 0} (read : List Controller → ℕ → A)
     (first : (x : Controller) (xs ys : List Controller) → read (untagged_log x ∷ xs) zero ≡ read (x ∷ ys) zero)
     (later : (x : Controller) (xs : List Controller) (c : ℕ) → read (x ∷ xs) (suc c) ≡ read xs c) where
@@ -112,7 +112,7 @@ with_untagged : (f g : Controller → Controller)
     → untagged (with_controller s c f) ≡ with_controller (untagged s) c g
 with_untagged f g same s c = ap (of_controllers s) (changed_untagged f g same s.controllers c)
 
--- and of each
+-- changes of each controller
 each_untagged : (f : Controller → Controller)
     → ((x : Controller) → untagged_log (f x) ≡ f (untagged_log x)) → (xs : List Controller)
     → map untagged_log (map f xs) ≡ map f (map untagged_log xs)
@@ -163,7 +163,7 @@ module _ (s : State) (c : ℕ) where
   abbrev rows_in : Command → List Controller → ℕ → List Row
   rows_in k xs c = rows_of (of_controllers s xs) c k
 
-  -- those of an attachment read all controllers, and all others at most their own
+  -- the rows of an attachment read all controllers, and all others at most their own
   rows_untagged : (k : Command) → rows_of (untagged s) c k ≡ rows_of s c k
   rows_untagged (Attachment n detach ids) = attachment_same s n ids detach
   rows_untagged k = read_untagged (rows_in k) (λ x xs ys. refl) (λ x xs c. refl) s.controllers c
@@ -209,7 +209,7 @@ module _ (s : State) (c : ℕ) where
   health_untagged = read_untagged (λ xs c. option_map_or smart_of (slice_get xs c) no_health)
       (λ x xs ys. refl) (λ x xs c. refl) s.controllers c
 
-  -- a log has tags, and what the controller is counts all controllers
+  -- a log has tags, and the Identify data of a controller counts all controllers
   pub reply_untagged : (k : Command) → without_phases (reply_of s c k) ≡ reply_of (untagged s) c k
   reply_untagged IdentifyController = ap reply.Controller (sym controller_told)
   reply_untagged (GetLog q) =
@@ -259,9 +259,7 @@ module _ (s : State) (c : ℕ) where
       (λ x xs ys. refl) (λ x xs c. refl) s.controllers c
 
   pub effect_untagged : (k : Command) → untagged (effect_of s c k) ≡ effect_of (untagged s) c k
-  effect_untagged (Create nsze ncap flbas dps nmic) =
-      let w = wanted nsze ncap flbas dps nmic in
-      mapped_untagged _
+  effect_untagged (Create w) = mapped_untagged _
       (λ n. record (untagged s) { namespaces = map_of.insert s.namespaces n (new_namespace s w) })
       s (λ n. refl) (free_nsid s)
   effect_untagged (Delete n) = chosen_untagged (n == broadcast_nsid) (without_all s) (without_one s n) _ _
@@ -269,9 +267,9 @@ module _ (s : State) (c : ℕ) where
       (attached_untagged s (map_of.remove s.namespaces n) (without n) (λ x. refl))
   effect_untagged (Attachment n true ids) = attached_untagged s s.namespaces (fewer n ids) (λ x. refl)
   effect_untagged (Attachment n false ids) = attached_untagged s s.namespaces (more n ids) (λ x. refl)
-  effect_untagged (Format n lbaf mset pi pil ses) =
-      ap (λ ns. record (untagged s) { namespaces = changed_at_keys ns (in_format lbaf mset) s.namespaces })
-      (sym (concerned_untagged n))
+  effect_untagged (Format f) =
+      ap (λ ns. record (untagged s) { namespaces = changed_at_keys ns (in_format f.lbaf f.mset) s.namespaces })
+      (sym (concerned_untagged f.nsid))
   effect_untagged (SetFeature k) = mapped_untagged _
       (λ f. with_controller (untagged s) c (with_values f k.value k.save (changed_nsids (untagged s) c k.nsid f)))
       s (λ f. with_untagged _ (with_values f k.value k.save (changed_nsids s c k.nsid f)) (λ x. refl) s c
@@ -279,7 +277,7 @@ module _ (s : State) (c : ℕ) where
       (feature_of k.fid)
   effect_untagged k = refl
 
--- ---- refusals that are booked, and the step
+-- ---- refusals that are logged, and the step
 
 pub counted_untagged : (s : State) (c : ℕ) → untagged (with_command s c) ≡ with_command (untagged s) c
 counted_untagged s c = with_untagged _ (λ x. record x { commands = next_count x.commands }) (λ x. refl) s c
@@ -308,7 +306,7 @@ settled_by None s c k origin =
     counted_untagged (effect_of s c k) c ∙ ap (λ t. with_command t c) (effect_untagged s c k)
 settled_by (Some r) s c k origin = booked_untagged s c _ origin r
 
--- what a command settles to is the step without tags
+-- the state after a command is that of the step, without tags
 pub settled_untagged : (s : State) (c : ℕ) (k : Command) (origin : Origin) (o : Option Refusal) → o ≡ refusal_of s c k
     → untagged (settled s c k origin o) ≡ (step (untagged s) c k origin.cid).state
 settled_untagged s c k origin o is =
@@ -371,7 +369,7 @@ module _ (s : State) where
     capacities = w.capacities;
   }
 
-  -- a subsystem is well formed where it is so without tags
+  -- a subsystem is well formed if it is so without tags
   pub untagged_back : IsWellFormed (untagged s) → IsWellFormed s
   untagged_back w =
       let at = λ (k : ℕ) (d : Controller). get_or-map untagged_log s.controllers k d (untagged_log d) in

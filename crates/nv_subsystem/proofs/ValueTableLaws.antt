@@ -1,418 +1,350 @@
--- The map that slots of values stand for.
-use Rattle.std.proofs.Common.{◌≡◌, ◌∙◌, ℕ, zero, suc, ◌+◌, ◌-◌, ◌*◌, ◌/◌, ◌%◌, ◌<◌, ◌≤◌, ◌==◌, ◌&&◌, Bool, true}
-use Rattle.std.proofs.Common.{false, cond, List, [], ◌∷◌, map, Option, Some, None, is_some, refl, sym}
-use Rattle.std.proofs.Common.{ap, subst, arith}
+-- Laws of the tables that hold the values of features.
+use Rattle.std.proofs.Common.{◌≡◌, ◌≢◌, ◌∙◌, ℕ, ◌+◌, ◌*◌, ◌/◌, ◌%◌, ◌==◌, ◌&&◌, Bool, true, false, cond}
+use Rattle.std.proofs.Common.{List, [], ◌∷◌, ◌++◌, map, Option, Some, None, is_some, refl, sym, ap, subst, arith}
 use Rattle.std.specs.Prelude.{nat_lt, option_map, if◌then◌else◌}
-use Rattle.std.specs.Option.{option_map_or}
-use Rattle.std.proofs.lemmas.Bool.{and_parts, ltb-true}
+use Rattle.std.specs.Option.{option_map_or, option_or}
 use Rattle.std.proofs.lemmas.Bool.Decides.{nat_tests}
 use Rattle.std.specs.Ordering.{nat_cmp}
-use Rattle.std.specs.Cmp.{both_ways, nat_cmp_total, unsigned_tied}
+use Rattle.std.specs.Cmp.{unsigned_tied}
 use Rattle.std.specs.FinMap as map_of
-use Rattle.std.specs.FinMap.{empty_of_len, get-empty, get-entries, get-from_entries, len-remove}
+use Rattle.std.specs.FinMap.{get-empty, get-entries, get-from_entries}
 use Rattle.std.specs.FinMap.Entries.{find}
-use Rattle.nv_bits.proofs.NumberLaws.{contains-insert, contains-remove, get_of_insert, get_of_remove}
-use Rattle.nv_bits.specs.Numbers.{NumberMap}
+use Rattle.nv_bits.proofs.NumberLaws.{get_of_insert, get_of_remove}
+use Rattle.nv_bits.specs.Numbers.{IsOf, NumberMap}
 use Rattle.nv_bits.specs.Slots.{RangeMap}
-use Rattle.nv_layout.specs.Feature.{is_selector, row_of, stored}
-use Rattle.nv_layout.proofs.FeatureTableLaws.{fid_below, of_namespaces}
-use Rattle.nv_layout.proofs.FeatureTableLaws.{selector_below}
+use Rattle.nv_layout.specs.Feature.{is_selector, row_of}
+use Rattle.nv_layout.proofs.FeatureTableLaws.{of_namespaces, other_identifier, selector_below}
 use Rattle.nv_layout.specs.declared.feature.Feature.{Feature}
 use Rattle.nv_layout.specs.declared.feature.Feature.TheVariants.{ErrorRecovery}
-use Rattle.nv_model.specs.Values.{FeatureValues, ValueKey, is_alone, key_cmp, key_of}
+use Rattle.nv_model.specs.Values.{FeatureRules, FeatureValues, ValueKey, first_value, is_alone, key_cmp, key_of}
+use Rattle.nv_model.specs.Values.{default_of, recovery_key, restored, rule_for}
 use Rattle.nv_model.specs.Change.{changed_at}
 use Rattle.nv_model.specs.Features.{is_set, write}
-use Rattle.nv_model.specs.Values.{written}
-use Rattle.nv_model.proofs.ValueLaws.{is_itself, is_key, key_cmp_total, put_back, removed_absent}
-use Rattle.nv_model.proofs.ValueLaws.{same_key, same_values}
+use Rattle.nv_model.specs.Step.{all_restored}
+use Rattle.nv_model.proofs.ResetLaws.{get-all_restored}
+use Rattle.nv_model.proofs.ValueLaws.{by_numbers, is_key, key_cmp_total, put_back, removed_absent, same_values}
 use Rattle.nv_model.proofs.ValueLaws.{value_of_insert, value_of_remove, value_of_retain}
-use Rattle.nv_subsystem.specs.ValueTable.{IsTable, ValueTable, key_at, slots_alone, values_of}
-use Rattle.nv_subsystem.specs.inner.ValueTable.{slot_of}
+use Rattle.nv_subsystem.specs.ValueTable.{AreTables, IsOver, ValueTable, key_at, keyed, values_of}
+use Rattle.nv_subsystem.specs.inner.ValueTable.{AreRestored, restored_at}
 use Rattle.nv_model.specs.declared.feature_value.FeatureValue.{FeatureValue}
 
-abbrev Numbered : Type 0
-Numbered = NumberMap FeatureValue
+abbrev Table : Type 0
+Table = NumberMap FeatureValue
 
--- ---- a slot and its key
+-- ---- what the tables have for a key
 
-not_zero : (n : ℕ) → 0 < n → (n == 0) ≡ false
-not_zero n h = grind (arith, nat_tests)
+-- only where a test says so
+abbrev if_so : Bool → Option FeatureValue → Option FeatureValue
+if_so b o = cond b o None
 
-slot_of_nsid : (f n : ℕ) → 0 < n → slot_of (record { fid = f; nsid = n; selector = 0 }) ≡ n + 383
-slot_of_nsid f n h = ap (λ b. if b then f * 32 + 0 else n + 383) (not_zero n h)
-
-at_least : (n : ℕ) → nat_lt n slots_alone ≡ false → 384 ≤ n
-at_least n e = grind (arith, nat_tests)
-
-slot-key : (n : ℕ) → slot_of (key_at n) ≡ n
-slot-key n = by (nat_lt n slots_alone) refl
+find_append : (q : ValueKey) (xs ys : List (ValueKey × FeatureValue))
+    → find key_cmp q (xs ++ ys) ≡ option_or (find key_cmp q xs) (find key_cmp q ys)
+find_append q [] ys = refl
+find_append q (x ∷ xs) ys = at_test (is_key q x.0) (find key_cmp q (xs ++ ys)) (find_append q xs ys)
   where
-    by : (b : Bool) → nat_lt n slots_alone ≡ b
-        → slot_of (if b then record { fid = n / 32; nsid = 0; selector = n % 32 }
-        else record { fid = (row_of ErrorRecovery).fid; nsid = n - 383; selector = 0 }) ≡ n
-    by true e = omega arith
-    by false e =
-        let far = at_least n e in
-        let back : (n - 383) + 383 ≡ n = omega arith in
-        slot_of_nsid 5 (n - 383) (omega arith) ∙ back
+    at_test : (b : Bool) (o : Option FeatureValue) → o ≡ option_or (find key_cmp q xs) (find key_cmp q ys)
+        → cond b (Some x.1) o ≡ option_or (cond b (Some x.1) (find key_cmp q xs)) (find key_cmp q ys)
+    at_test true o e = refl
+    at_test false o e = e
 
--- a key that has a slot
-abbrev pub is_kept : ValueKey → Bool
-is_kept q = is_key q (key_at (slot_of q))
-
-key_at_alone : (n : ℕ) → n < slots_alone
-    → key_at n ≡ record { fid = n / 32; nsid = 0; selector = n % 32 }
-key_at_alone n h = ap (λ b. if b then record { fid = n / 32; nsid = 0; selector = n % 32 }
-    else record { fid = (row_of ErrorRecovery).fid; nsid = n - 383; selector = 0 }) is
+-- a table has for a key what the key's number has, where the key is that of a number
+find_keyed : (key : ℕ → ValueKey) (q : ValueKey) (is : Bool) (n : ℕ)
+    → ((m : ℕ) → is_key q (key m) ≡ (is && (n == m))) → (es : List (ℕ × FeatureValue))
+    → find key_cmp q (map (λ e. (key e.0, e.1)) es) ≡ if_so is (find nat_cmp n es)
+find_keyed key q true n fits [] = refl
+find_keyed key q false n fits [] = refl
+find_keyed key q is n fits (e ∷ es) =
+    (λ i. cond (fits e.0 i) (Some e.1) (find_keyed key q is n fits es i))
+    ∙ at_test is (n == e.0)
+    ∙ ap (λ t. if_so is (cond t (Some e.1) (find nat_cmp n es))) (sym (unsigned_tied n e.0))
   where
-    is : nat_lt n slots_alone ≡ true
-    is = grind (arith, nat_tests)
+    at_test : (b same : Bool) → cond (b && same) (Some e.1) (if_so b (find nat_cmp n es))
+        ≡ if_so b (cond same (Some e.1) (find nat_cmp n es))
+    at_test true same = refl
+    at_test false same = refl
 
-key_at_nsid : (n : ℕ) → 0 < n
-    → key_at (n + 383) ≡ record { fid = (row_of ErrorRecovery).fid; nsid = n; selector = 0 }
-key_at_nsid n h =
-    ap (λ b. if b then record { fid = (n + 383) / 32; nsid = 0; selector = (n + 383) % 32 }
-    else record { fid = (row_of ErrorRecovery).fid; nsid = (n + 383) - 383; selector = 0 }) far
-    ∙ ap (λ m. record { fid = (row_of ErrorRecovery).fid; nsid = m; selector = 0 }) back
-  where
-    far : nat_lt (n + 383) slots_alone ≡ false
-    far = grind (arith, nat_tests)
+-- Error Recovery has values by NSID, and any other feature by feature and selector
+abbrev pub value_at : Table → Table → ValueKey → Option FeatureValue
+value_at by_nsid by_feature q = option_or
+    (if_so ((q.fid == 5) && (q.selector == 0)) (map_of.get by_nsid q.nsid))
+    (if_so ((q.nsid == 0) && nat_lt q.selector 32) (map_of.get by_feature (q.fid * 32 + q.selector)))
 
-    back : (n + 383) - 383 ≡ n
-    back = omega arith
+of_nsid : (q : ValueKey) (n : ℕ)
+    → is_key q (recovery_key n) ≡ (((q.fid == 5) && (q.selector == 0)) && (q.nsid == n))
+of_nsid q n = grind (arith, nat_tests, by_numbers q (recovery_key n))
 
-kept_alone : (a s : ℕ) → a < 12 → s < 32
-    → key_at (slot_of (record { fid = a; nsid = 0; selector = s }))
-    ≡ record { fid = a; nsid = 0; selector = s }
-kept_alone a s h l =
-    key_at_alone (a * 32 + s) (omega arith) ∙ λ i. record { fid = over i; nsid = 0; selector = rest i }
-  where
-    over : (a * 32 + s) / 32 ≡ a
-    over = omega arith
+of_place : (q : ValueKey) (n : ℕ) → is_key q (key_at n)
+    ≡ (((q.nsid == 0) && nat_lt q.selector 32) && ((q.fid * 32 + q.selector) == n))
+of_place q n = grind (arith, nat_tests, by_numbers q (key_at n))
 
-    rest : (a * 32 + s) % 32 ≡ s
-    rest = omega arith
-
-kept_recovery : (n : ℕ) → key_at (slot_of (record { fid = 5; nsid = n; selector = 0 }))
-    ≡ record { fid = 5; nsid = n; selector = 0 }
-kept_recovery n = by (n == 0) refl
-  where
-    by : (b : Bool) → (n == 0) ≡ b
-        → key_at (slot_of (record { fid = 5; nsid = n; selector = 0 }))
-        ≡ record { fid = 5; nsid = n; selector = 0 }
-    by true e =
-        let none : n ≡ 0 = grind (arith, nat_tests) in
-        subst (λ m. key_at (slot_of (record { fid = 5; nsid = m; selector = 0 }))
-        ≡ record { fid = 5; nsid = m; selector = 0 }) (sym none) refl
-    by false e =
-        let some : 0 < n = grind (arith, nat_tests) in
-        ap key_at (slot_of_nsid 5 n some) ∙ key_at_nsid n some
-
--- each key of a feature has one
-kept_key : (f : Feature) (n s : ℕ) → is_selector f s ≡ true
-    → key_at (slot_of (key_of f n s)) ≡ key_of f n s
-kept_key f n s has = by (row_of f).per_namespace refl
-  where
-    only : (t : ℕ) → is_selector ErrorRecovery t ≡ true → t ≡ 0
-    only t e = grind (arith, nat_tests)
-
-    by : (b : Bool) → (row_of f).per_namespace ≡ b
-        → key_at (slot_of (record { fid = (row_of f).fid; nsid = if b then n else 0; selector = s }))
-        ≡ record { fid = (row_of f).fid; nsid = if b then n else 0; selector = s }
-    by true e =
-        let same = of_namespaces f e in
-        let none = only s (subst (λ g. is_selector g s ≡ true) same has) in
-        subst (λ g. key_at (slot_of (record { fid = (row_of g).fid; nsid = n; selector = s }))
-        ≡ record { fid = (row_of g).fid; nsid = n; selector = s }) (sym same)
-        (subst (λ t. key_at (slot_of (record { fid = 5; nsid = n; selector = t }))
-        ≡ record { fid = 5; nsid = n; selector = t }) (sym none) (kept_recovery n))
-    by false e = kept_alone (row_of f).fid s (fid_below f) (selector_below f s has)
-
-pub is_kept_key : (f : Feature) (n s : ℕ) → is_selector f s ≡ true → is_kept (key_of f n s) ≡ true
-is_kept_key f n s has =
-    ap (is_key (key_of f n s)) (kept_key f n s has) ∙ is_itself (key_of f n s)
-
--- ---- where a key is found
-
-fits : (q : ValueKey) (n : ℕ) → is_key q (key_at n) ≡ (is_kept q && (slot_of q == n))
-fits q n = both_ways (is_key q (key_at n)) (is_kept q && (slot_of q == n)) there back
-  where
-    same_numbers : (a b : ℕ) → a ≡ b → (a == b) ≡ true
-    same_numbers a b e = grind (arith, nat_tests)
-
-    is_same : (a b : ℕ) → (a == b) ≡ true → a ≡ b
-    is_same a b e = grind (arith, nat_tests)
-
-    there : is_key q (key_at n) ≡ true → (is_kept q && (slot_of q == n)) ≡ true
-    there e =
-        let here : slot_of q ≡ n = ap slot_of (same_key q (key_at n) e) ∙ slot-key n in
-        let kept : is_kept q ≡ true = ap (λ m. is_key q (key_at m)) here ∙ e in
-        λ i. kept i && same_numbers (slot_of q) n here i
-
-    back : (is_kept q && (slot_of q == n)) ≡ true → is_key q (key_at n) ≡ true
-    back e =
-        let parts = and_parts (is_kept q) (slot_of q == n) e in
-        ap (λ m. is_key q (key_at m)) (sym (is_same (slot_of q) n parts.1)) ∙ parts.0
-
-find_at : (q : ValueKey) (b : Bool) (n : ℕ) → ((m : ℕ) → is_key q (key_at m) ≡ (b && (n == m)))
-    → (es : List (ℕ × FeatureValue))
-    → find key_cmp q (map (λ e. (key_at e.0, e.1)) es) ≡ cond b (find nat_cmp n es) None
-find_at q true n fits [] = refl
-find_at q false n fits [] = refl
-find_at q b n fits (e ∷ es) =
-    (λ i. cond (fits e.0 i) (Some e.1) (find_at q b n fits es i))
-    ∙ at_test b
-    ∙ ap (λ t. cond b (cond t (Some e.1) (find nat_cmp n es)) None) (sym (unsigned_tied n e.0))
-  where
-    at_test : (b : Bool) → cond (b && (n == e.0)) (Some e.1) (cond b (find nat_cmp n es) None)
-        ≡ cond b (cond (n == e.0) (Some e.1) (find nat_cmp n es)) None
-    at_test true = refl
-    at_test false = refl
-
-pub get_in : (m : Numbered) (q : ValueKey)
-    → map_of.get (values_of m) q ≡ cond (is_kept q) (map_of.get m (slot_of q)) None
-get_in m q =
+pub get_in : (by_nsid by_feature : Table) (q : ValueKey)
+    → map_of.get (values_of by_nsid by_feature) q ≡ value_at by_nsid by_feature q
+get_in by_nsid by_feature q =
     get-from_entries key_cmp_total _ q
-    ∙ find_at q (is_kept q) (slot_of q) (fits q) (map_of.entries m)
-    ∙ ap (λ o. cond (is_kept q) o None) (sym (get-entries m (slot_of q)))
-
-pub get_of_key : (m : Numbered) (k : ValueKey) → is_kept k ≡ true
-    → map_of.get (values_of m) k ≡ map_of.get m (slot_of k)
-get_of_key m k e = get_in m k ∙ ap (λ b. cond b (map_of.get m (slot_of k)) None) e
-
--- ---- the slots, changed
-
--- where the slot of a key has something else
-module _ (m changed : Numbered) (k : ValueKey) (o : Option FeatureValue) (kept : is_kept k ≡ true)
-    (is : (n : ℕ) → map_of.get changed n ≡ cond (n == slot_of k) o (map_of.get m n)) where
-  at_key : (q : ValueKey)
-      → map_of.get (values_of changed) q ≡ cond (is_key q k) o (map_of.get (values_of m) q)
-  at_key q =
-      get_in changed q ∙ ap (λ p. cond (is_kept q) p None) (is (slot_of q))
-      ∙ spread (is_kept q) (slot_of q == slot_of k)
-      ∙ (λ i. cond (sym is_slot i) o (sym (get_in m q) i))
-    where
-      spread : (a b : Bool) → cond a (cond b o (map_of.get m (slot_of q))) None
-          ≡ cond (a && b) o (cond a (map_of.get m (slot_of q)) None)
-      spread true true = refl
-      spread true false = refl
-      spread false b = refl
-
-      is_slot : is_key q k ≡ (is_kept q && (slot_of q == slot_of k))
-      is_slot = ap (is_key q) (same_key k (key_at (slot_of k)) kept) ∙ fits q (slot_of k)
-
-pub slot_inserted : (m : Numbered) (k : ValueKey) (x : FeatureValue) → is_kept k ≡ true
-    → values_of (map_of.insert m (slot_of k) x) ≡ map_of.insert (values_of m) k x
-slot_inserted m k x kept = same_values _ _ (λ q.
-    at_key m (map_of.insert m (slot_of k) x) k (Some x) kept (get_of_insert m (slot_of k) x) q
-    ∙ sym (value_of_insert (values_of m) k x q))
-
-pub slot_removed : (m : Numbered) (k : ValueKey) → is_kept k ≡ true
-    → values_of (map_of.remove m (slot_of k)) ≡ map_of.remove (values_of m) k
-slot_removed m k kept = same_values _ _ (λ q.
-    at_key m (map_of.remove m (slot_of k)) k None kept (get_of_remove m (slot_of k)) q
-    ∙ sym (value_of_remove (values_of m) k q))
-
--- where only the slots of keys without an NSID are left
-pub alone_left : (m left : Numbered)
-    → ((n : ℕ) → map_of.get left n ≡ cond (nat_lt n slots_alone) (map_of.get m n) None)
-    → values_of left ≡ map_of.retain_keys (values_of m) is_alone
-alone_left m left is = same_values _ _ (λ q.
-    get_in left q ∙ ap (λ p. cond (is_kept q) p None) (is (slot_of q))
-    ∙ at_test q (is_kept q) refl
-    ∙ ap (λ o. cond (is_alone q) o None) (sym (get_in m q))
-    ∙ sym (value_of_retain (values_of m) is_alone q))
+    ∙ find_append q (keyed recovery_key by_nsid) (keyed key_at by_feature)
+    ∙ λ i. option_or
+    (found recovery_key ((q.fid == 5) && (q.selector == 0)) q.nsid (of_nsid q) by_nsid i)
+    (found key_at ((q.nsid == 0) && nat_lt q.selector 32) (q.fid * 32 + q.selector) (of_place q) by_feature i)
   where
-    is_same : (a b : ℕ) → (a == b) ≡ true → a ≡ b
-    is_same a b e = grind (arith, nat_tests)
+    found : (key : ℕ → ValueKey) (is : Bool) (n : ℕ) → ((m : ℕ) → is_key q (key m) ≡ (is && (n == m)))
+        → (table : Table) → find key_cmp q (keyed key table) ≡ if_so is (map_of.get table n)
+    found key is n fits table = find_keyed key q is n fits (map_of.entries table)
+        ∙ ap (if_so is) (sym (get-entries table n))
 
-    -- the slots of such keys come first
-    first : (q : ValueKey) → is_kept q ≡ true → nat_lt (slot_of q) slots_alone ≡ is_alone q
-    first q kept = by (nat_lt (slot_of q) slots_alone) refl
-      where
-        by : (b : Bool) → nat_lt (slot_of q) slots_alone ≡ b → b ≡ is_alone q
-        by true e =
-            let near : slot_of q < slots_alone = ltb-true (slot_of q) slots_alone e in
-            sym (ap is_alone (same_key q (key_at (slot_of q)) kept
-            ∙ key_at_alone (slot_of q) near))
-        by false e =
-            let far = at_least (slot_of q) e in
-            let here : key_at (slot_of q) ≡ record {
-              fid = (row_of ErrorRecovery).fid;
-              nsid = slot_of q - 383;
-              selector = 0;
-            } = ap (λ b. if b then record {
-              fid = slot_of q / 32;
-              nsid = 0;
-              selector = slot_of q % 32;
-            } else record {
-              fid = (row_of ErrorRecovery).fid;
-              nsid = slot_of q - 383;
-              selector = 0;
-            }) e in
-            sym (ap is_alone (same_key q (key_at (slot_of q)) kept ∙ here)
-            ∙ not_zero (slot_of q - 383) (omega arith))
-
-    at_test : (q : ValueKey) (b : Bool) → is_kept q ≡ b
-        → cond b (cond (nat_lt (slot_of q) slots_alone) (map_of.get m (slot_of q)) None) None
-        ≡ cond (is_alone q) (cond b (map_of.get m (slot_of q)) None) None
-    at_test q true kept = ap (λ t. cond t (map_of.get m (slot_of q)) None) (first q kept)
-    at_test q false kept = none (is_alone q)
-      where
-        no_value : Option FeatureValue
-        no_value = None
-
-        none : (t : Bool) → None ≡ cond t no_value no_value
-        none true = refl
-        none false = refl
+-- ---- one value
 
 abbrev pub in_values : ℕ → FeatureValues → ValueTable
 in_values nn values = record { nn = nn; values = values }
 
-pub no_values : values_of map_of.empty ≡ map_of.empty
-no_values = same_values _ _ (λ q. get_in map_of.empty q
-    ∙ ap (λ o. cond (is_kept q) o None) (get-empty nat_cmp (slot_of q))
-    ∙ none (is_kept q) ∙ sym (get-empty key_cmp q))
+abbrev pub in_tables : RangeMap FeatureValue → RangeMap FeatureValue → FeatureValues
+in_tables by_nsid by_feature = values_of by_nsid.values by_feature.values
+
+-- the key of a feature's value, by the table that has it
+key_of_nsid : (f : Feature) (n s : ℕ) → is_selector f s ≡ true → (row_of f).per_namespace ≡ true
+    → key_of f n s ≡ recovery_key n
+key_of_nsid f n s known per =
+    let same = of_namespaces f per in
+    let none = only s (subst (λ g. is_selector g s ≡ true) same known) in
+    ap (λ g. key_of g n s) same ∙ ap (key_of ErrorRecovery n) none
   where
-    no_value : Option FeatureValue
-    no_value = None
+    only : (t : ℕ) → is_selector ErrorRecovery t ≡ true → t ≡ 0
+    only t e = grind (arith, nat_tests)
 
-    none : (b : Bool) → cond b no_value no_value ≡ no_value
-    none true = refl
-    none false = refl
-
--- ---- tables
-
-none_of : {A : Type 0} (o : Option A) → is_some o ≡ false → o ≡ None
-none_of None e = refl
-none_of (Some x) e = absurd (cc e)
-
-is_slot_of : (f : Feature) (n s : ℕ) → (row_of f).per_namespace ≡ true → 0 < n
-    → slot_of (key_of f n s) ≡ n + 383
-is_slot_of f n s per h =
-    ap (λ b. slot_of (record { fid = (row_of f).fid; nsid = if b then n else 0; selector = s })) per
-    ∙ ap (λ b. if b then (row_of f).fid * 32 + s else n + 383) (not_zero n h)
-
-pub slot_below : (f : Feature) (n s : ℕ) → is_selector f s ≡ true
-    → slot_of (key_of f n s) < slots_alone + (key_of f n s).nsid
-slot_below f n s has = by ((key_of f n s).nsid) (fid_below f) (selector_below f s has)
-  where
-    by : (m : ℕ) → (row_of f).fid < 12 → s < 32
-        → slot_of (record { fid = (row_of f).fid; nsid = m; selector = s }) < slots_alone + m
-    by m few low = at_test (m == 0) refl
-      where
-        at_test : (b : Bool) → (m == 0) ≡ b
-            → (if b then (row_of f).fid * 32 + s else m + 383) < slots_alone + m
-        at_test true e = omega arith
-        at_test false e = omega arith
-
--- a namespace above the greatest has no slot, and no value
-pub absent_above : (m : RangeMap FeatureValue) → IsTable m → (f : Feature) (n s : ℕ)
-    → is_selector f s ≡ true → (row_of f).per_namespace ≡ true → m.count < n + 384
-    → map_of.get (values_of m.values) (key_of f n s) ≡ None
-absent_above m is f n s has per above =
-    get_of_key m.values (key_of f n s) (is_kept_key f n s has)
-    ∙ ap (map_of.get m.values) (is_slot_of f n s per (omega (arith, is.count)))
-    ∙ none_of (map_of.get m.values (n + 383)) (empty (map_of.contains_key m.values (n + 383)) refl)
-  where
-    empty : (b : Bool) → map_of.contains_key m.values (n + 383) ≡ b → b ≡ false
-    empty true e = absurd (omega (arith, is.within (n + 383) e))
-    empty false e = refl
-
-pub table_inserted : (m : RangeMap FeatureValue) (n : ℕ) (x : FeatureValue) → IsTable m
-    → n < m.count → IsTable (record m { values = map_of.insert m.values n x })
-table_inserted m n x is h = record {
-  first = is.first;
-  count = is.count;
-  room = is.room;
-  within = λ q e. at_test q (q == n) refl (sym (contains-insert m.values n x q) ∙ e);
+key_of_place : (f : Feature) (n s : ℕ) → is_selector f s ≡ true → (row_of f).per_namespace ≡ false
+    → key_of f n s ≡ key_at ((row_of f).fid * 32 + s)
+key_of_place f n s known alone = λ i. record {
+  fid = row i;
+  nsid = if alone i then n else 0;
+  selector = column i;
 }
   where
-    at_test : (q : ℕ) (b : Bool) → (q == n) ≡ b → cond b true (map_of.contains_key m.values q) ≡ true
-        → q < m.count
-    at_test q true same e = let here : q ≡ n = grind (arith, nat_tests) in omega arith
-    at_test q false same e = is.within q e
+    row : (row_of f).fid ≡ ((row_of f).fid * 32 + s) / 32
+    row = omega (arith, selector_below f s known)
 
-pub table_removed : (m : RangeMap FeatureValue) (n : ℕ) → IsTable m
-    → IsTable (record m { values = map_of.remove m.values n })
-table_removed m n is = record {
-  first = is.first;
-  count = is.count;
-  room = is.room;
-  within = λ q e. at_test q (q == n) (sym (contains-remove m.values n q) ∙ e);
+    column : s ≡ ((row_of f).fid * 32 + s) % 32
+    column = omega (arith, selector_below f s known)
+
+-- its row is not that of Error Recovery
+other_row : (f : Feature) (s : ℕ) → is_selector f s ≡ true → (row_of f).per_namespace ≡ false
+    → ((row_of f).fid * 32 + s) / 32 ≢ 5
+other_row f s known alone =
+    grind (arith, nat_tests, selector_below f s known, other_identifier f alone)
+
+module _ (by_nsid by_feature : Table) where
+  abbrev both : FeatureValues
+  both = values_of by_nsid by_feature
+
+  pub inserted_nsid : (n : ℕ) (x : FeatureValue) → values_of (map_of.insert by_nsid n x) by_feature
+      ≡ map_of.insert both (recovery_key n) x
+  inserted_nsid n x = same_values _ _ (λ q. grind (
+    arith,
+    nat_tests,
+    of_nsid q n,
+    get_in (map_of.insert by_nsid n x) by_feature q,
+    get_in by_nsid by_feature q,
+    value_of_insert both (recovery_key n) x q,
+    get_of_insert by_nsid n x q.nsid,
+  ))
+
+  pub inserted_place : (n : ℕ) (x : FeatureValue) → n / 32 ≢ 5
+      → values_of by_nsid (map_of.insert by_feature n x) ≡ map_of.insert both (key_at n) x
+  inserted_place n x other = same_values _ _ (λ q. grind (
+    arith,
+    nat_tests,
+    of_place q n,
+    get_in by_nsid (map_of.insert by_feature n x) q,
+    get_in by_nsid by_feature q,
+    value_of_insert both (key_at n) x q,
+    get_of_insert by_feature n x (q.fid * 32 + q.selector),
+  ))
+
+  pub removed_nsid : map_of.get by_feature 160 ≡ None → (n : ℕ)
+      → values_of (map_of.remove by_nsid n) by_feature ≡ map_of.remove both (recovery_key n)
+  removed_nsid apart n = same_values _ _ (λ q. grind (
+    arith,
+    nat_tests,
+    of_nsid q n,
+    get_in (map_of.remove by_nsid n) by_feature q,
+    get_in by_nsid by_feature q,
+    value_of_remove both (recovery_key n) q,
+    get_of_remove by_nsid n q.nsid,
+  ))
+
+  pub cleared : map_of.get by_nsid 0 ≡ None
+      → values_of map_of.empty by_feature ≡ map_of.retain_keys both is_alone
+  cleared none = same_values _ _ (λ q. grind (
+    arith,
+    nat_tests,
+    get_in map_of.empty by_feature q,
+    get_in by_nsid by_feature q,
+    value_of_retain both is_alone q,
+    get-empty {X = FeatureValue} nat_cmp q.nsid,
+  ))
+
+  pub got_nsid : map_of.get by_feature 160 ≡ None → (n : ℕ)
+      → map_of.get both (recovery_key n) ≡ map_of.get by_nsid n
+  got_nsid apart n = grind (arith, nat_tests, get_in by_nsid by_feature (recovery_key n))
+
+  pub got_place : (n : ℕ) → n / 32 ≢ 5 → map_of.get both (key_at n) ≡ map_of.get by_feature n
+  got_place n other = grind (arith, nat_tests, get_in by_nsid by_feature (key_at n))
+
+pub no_values : values_of map_of.empty map_of.empty ≡ map_of.empty
+no_values = same_values _ _ (λ q. grind (
+  arith,
+  get_in map_of.empty map_of.empty q,
+  get-empty {X = FeatureValue} key_cmp q,
+  get-empty {X = FeatureValue} nat_cmp q.nsid,
+  get-empty {X = FeatureValue} nat_cmp (q.fid * 32 + q.selector),
+))
+
+-- ---- by the feature
+
+module _ (by_nsid by_feature : RangeMap FeatureValue) (f : Feature) (n s : ℕ) (known : is_selector f s ≡ true) where
+  pub got_recovery : AreTables by_nsid by_feature → (row_of f).per_namespace ≡ true
+      → map_of.get (in_tables by_nsid by_feature) (key_of f n s) ≡ map_of.get by_nsid.values n
+  got_recovery are per = ap (map_of.get (in_tables by_nsid by_feature)) (key_of_nsid f n s known per)
+      ∙ got_nsid by_nsid.values by_feature.values are.apart n
+
+  pub got_feature : (row_of f).per_namespace ≡ false
+      → map_of.get (in_tables by_nsid by_feature) (key_of f n s)
+      ≡ map_of.get by_feature.values ((row_of f).fid * 32 + s)
+  got_feature alone = ap (map_of.get (in_tables by_nsid by_feature)) (key_of_place f n s known alone)
+      ∙ got_place by_nsid.values by_feature.values ((row_of f).fid * 32 + s) (other_row f s known alone)
+
+  pub inserted_recovery : (x : FeatureValue) → (row_of f).per_namespace ≡ true
+      → values_of (map_of.insert by_nsid.values n x) by_feature.values
+      ≡ map_of.insert (in_tables by_nsid by_feature) (key_of f n s) x
+  inserted_recovery x per = inserted_nsid by_nsid.values by_feature.values n x
+      ∙ ap (λ k. map_of.insert (in_tables by_nsid by_feature) k x) (sym (key_of_nsid f n s known per))
+
+  pub inserted_feature : (x : FeatureValue) → (row_of f).per_namespace ≡ false
+      → values_of by_nsid.values (map_of.insert by_feature.values ((row_of f).fid * 32 + s) x)
+      ≡ map_of.insert (in_tables by_nsid by_feature) (key_of f n s) x
+  inserted_feature x alone =
+      inserted_place by_nsid.values by_feature.values ((row_of f).fid * 32 + s) x (other_row f s known alone)
+      ∙ ap (λ k. map_of.insert (in_tables by_nsid by_feature) k x) (sym (key_of_place f n s known alone))
+
+  pub still_apart : (x : FeatureValue) → (row_of f).per_namespace ≡ false → AreTables by_nsid by_feature
+      → map_of.get (map_of.insert by_feature.values ((row_of f).fid * 32 + s) x) 160 ≡ None
+  still_apart x alone are = grind (
+    arith,
+    nat_tests,
+    other_row f s known alone,
+    are.apart,
+    get_of_insert by_feature.values ((row_of f).fid * 32 + s) x 160,
+  )
+
+-- ---- tables stay within their numbers
+
+module _ (least numbers : ℕ) where
+  pub over-empty : (first count : ℕ) → first ≡ least → count ≡ numbers
+      → IsOver least numbers (record { first = first; count = count; values = map_of.empty })
+  over-empty first count at_least so_many = record {
+    first = at_least;
+    count = so_many;
+    within = λ n e. absurd (cc (sym e ∙ ap is_some (get-empty {X = FeatureValue} nat_cmp n)));
+  }
+
+  module _ (table : RangeMap FeatureValue) (over : IsOver least numbers table) where
+    pub over-insert : (n : ℕ) (x : FeatureValue) → IsOf least numbers n
+        → IsOver least numbers (record table { values = map_of.insert table.values n x })
+    over-insert n x is = record {
+      first = over.first;
+      count = over.count;
+      within = λ q e. grind (arith, nat_tests, over.within q, get_of_insert table.values n x q);
+    }
+
+    pub over-remove : (n : ℕ) → IsOver least numbers (record table { values = map_of.remove table.values n })
+    over-remove n = record {
+      first = over.first;
+      count = over.count;
+      within = λ q e. grind (arith, nat_tests, over.within q, get_of_remove table.values n q);
+    }
+
+pub no_nsid_zero : (table : RangeMap FeatureValue) → IsOver 1 table.count table → map_of.get table.values 0 ≡ None
+no_nsid_zero table over = grind (arith, over.within 0)
+
+-- ---- restored tables
+
+pub none_restored : (default : ℕ → ℕ) (old : RangeMap FeatureValue) → AreRestored default 0 old old
+none_restored default old = record { first = refl; count = refl; values = λ n. grind (arith, nat_tests) }
+
+pub next_restored : (default : ℕ → ℕ) (i k d : ℕ) (old now : RangeMap FeatureValue)
+    → AreRestored default i old now → k ≡ old.first + i → d ≡ default k
+    → AreRestored default (i + 1) old (record now { values = restored_at d now.values k })
+next_restored default i k d old now so_far here is = record {
+  first = so_far.first;
+  count = so_far.count;
+  values = λ q. grind (arith, nat_tests, get_of_insert, so_far.values q);
 }
-  where
-    at_test : (q : ℕ) (b : Bool) → cond b false (map_of.contains_key m.values q) ≡ true → q < m.count
-    at_test q true e = absurd (cc e)
-    at_test q false e = is.within q e
 
--- a write where there is nothing, or for another selector
+module _ (least numbers : ℕ) (default : ℕ → ℕ) (old new : RangeMap FeatureValue)
+    (over : IsOver least numbers old) (done : AreRestored default old.count old new) where
+  -- no other number has a value
+  all_restored_in : (n : ℕ)
+      → map_of.get new.values n ≡ option_map (restored (default n)) (map_of.get old.values n)
+  all_restored_in n = grind (arith, nat_tests, over.within n, done.values n, over.first, over.count)
+
+  over_restored : IsOver least numbers new
+  over_restored = record {
+    first = done.first ∙ over.first;
+    count = done.count ∙ over.count;
+    within = λ n e. over.within n (grind (arith, nat_tests, all_restored_in n));
+  }
+
+-- a change that goes by the feature and the selector of a key
+changed_in_both : (change : ℕ → ℕ → FeatureValue → FeatureValue) (by_nsid by_feature nsids features : Table)
+    (q : ValueKey) (place : ℕ) → place ≡ q.fid * 32 + q.selector
+    → map_of.get nsids q.nsid ≡ option_map (change 5 0) (map_of.get by_nsid q.nsid)
+    → map_of.get features place ≡ option_map (change (place / 32) (place % 32)) (map_of.get by_feature place)
+    → value_at nsids features q ≡ option_map (change q.fid q.selector) (value_at by_nsid by_feature q)
+changed_in_both change by_nsid by_feature nsids features q place here recovery other = grind (arith, nat_tests)
+
+module _ (rules : FeatureRules) (recovery : ℕ) (by_nsid by_feature nsids features : RangeMap FeatureValue)
+    (are : AreTables by_nsid by_feature) (is : recovery ≡ (first_value rules (recovery_key 0)).current)
+    (recoveries : AreRestored (λ _. recovery) by_nsid.count by_nsid nsids)
+    (others : AreRestored (λ n. (first_value rules (key_at n)).current) by_feature.count by_feature features) where
+  abbrev default_of_place : ℕ → ℕ
+  default_of_place n = (first_value rules (key_at n)).current
+
+  restored_place : (n : ℕ) → map_of.get features.values n
+      ≡ option_map (restored (default_of_place n)) (map_of.get by_feature.values n)
+  restored_place = all_restored_in 0 384 default_of_place by_feature features are.rows others
+
+  restored_nsid : (n : ℕ) → map_of.get nsids.values n ≡ option_map (restored recovery) (map_of.get by_nsid.values n)
+  restored_nsid = all_restored_in 1 by_nsid.count (λ _. recovery) by_nsid nsids are.nsids recoveries
+
+  pub tables_restored : AreTables nsids features
+  tables_restored = record {
+    nsids = subst (λ m. IsOver 1 m nsids) (sym recoveries.count)
+        (over_restored 1 by_nsid.count (λ _. recovery) by_nsid nsids are.nsids recoveries);
+    rows = over_restored 0 384 default_of_place by_feature features are.rows others;
+    apart = restored_place 160 ∙ ap (option_map (restored (default_of_place 160))) are.apart;
+  }
+
+  pub values_restored : in_tables nsids features ≡ all_restored rules (in_tables by_nsid by_feature)
+  values_restored = same_values _ _ (λ q.
+      get_in nsids.values features.values q
+      ∙ changed_in_both (λ f s. restored (default_of (rule_for rules f) s)) by_nsid.values by_feature.values
+      nsids.values features.values q (q.fid * 32 + q.selector) refl
+      (restored_nsid q.nsid ∙ ap (λ d. option_map (restored d) (map_of.get by_nsid.values q.nsid)) is)
+      (restored_place (q.fid * 32 + q.selector))
+      ∙ ap (option_map (restored (first_value rules q).current))
+      (sym (get_in by_nsid.values by_feature.values q))
+      ∙ sym (get-all_restored rules (in_tables by_nsid by_feature) q))
+
+-- ---- writes
+
+-- a write where there is no value, or for another selector
 pub written_absent : (f : Feature) (dword : ℕ) (save : Bool) (values : FeatureValues) (k : ValueKey)
     → map_of.get values k ≡ None → changed_at (write f dword save) values k ≡ values
-written_absent f dword save values k none =
-    ap (λ o. option_map_or (map_of.insert values k)
-    (if is_set f dword k.selector then option_map (written (stored f dword) save) o else o)
-    (map_of.remove values k)) none
-    ∙ ap (λ o. option_map_or (map_of.insert values k) o (map_of.remove values k))
-    (nothing (is_set f dword k.selector))
-    ∙ removed_absent values k none
+written_absent f dword save values k none = rw none (by (is_set f dword k.selector))
   where
-    nothing : (b : Bool) → (if b then option_map (written (stored f dword) save) None else None)
-        ≡ None
-    nothing true = refl
-    nothing false = refl
+    by : (b : Bool) → option_map_or (map_of.insert values k) (if b then None else None) (map_of.remove values k)
+        ≡ values
+    by true = removed_absent values k none
+    by false = removed_absent values k none
 
 pub written_apart : (f : Feature) (dword : ℕ) (save : Bool) (values : FeatureValues) (k : ValueKey)
     → is_set f dword k.selector ≡ false → changed_at (write f dword save) values k ≡ values
-written_apart f dword save values k apart =
-    ap (λ b. option_map_or (map_of.insert values k)
-    (if b then option_map (written (stored f dword) save) (map_of.get values k)
-    else map_of.get values k) (map_of.remove values k)) apart
-    ∙ put_back values k (map_of.get values k) refl
-
-pub len_smaller : (m : Numbered) (k : ℕ) → map_of.contains_key m k ≡ true
-    → map_of.len (map_of.remove m k) < map_of.len m
-len_smaller m k has =
-    omega (
-      arith,
-      len-remove nat_cmp_total m k ∙ ap (λ b. cond b (map_of.len m - 1) (map_of.len m)) has,
-      some (map_of.len m) refl,
-    )
-  where
-    some : (n : ℕ) → map_of.len m ≡ n → 0 < n
-    some zero e =
-        let none = ap (λ (t : Numbered). map_of.contains_key t k) (empty_of_len m e)
-        ∙ ap is_some (get-empty nat_cmp k) in
-        absurd (cc (sym has ∙ none))
-    some (suc n) e = omega arith
-
--- ---- the slots of namespaces, cleared
-
-pub other_kept : (m : Numbered) (k : ℕ) → 383 < k → (n : ℕ) → nat_lt n slots_alone ≡ true
-    → map_of.get (map_of.remove m k) n ≡ map_of.get m n
-other_kept m k h n low =
-    get_of_remove m k n ∙ ap (λ b. cond b None (map_of.get m n)) other
-  where
-    other : (n == k) ≡ false
-    other = grind (arith, nat_tests)
-
-pub all_cleared : (m left : Numbered)
-    → ((n : ℕ) → nat_lt n slots_alone ≡ true → map_of.get left n ≡ map_of.get m n)
-    → ((n : ℕ) → 383 < n → map_of.contains_key left n ≡ false)
-    → values_of left ≡ map_of.retain_keys (values_of m) is_alone
-all_cleared m left same none = alone_left m left (λ n. by n (nat_lt n slots_alone) refl)
-  where
-    by : (n : ℕ) (b : Bool) → nat_lt n slots_alone ≡ b
-        → map_of.get left n ≡ cond b (map_of.get m n) None
-    by n true e = same n e
-    by n false e = none_of (map_of.get left n) (none n (omega (arith, at_least n e)))
-
-pub slot_within : (m : RangeMap FeatureValue) → IsTable m → (f : Feature) (n s slot : ℕ)
-    → ((row_of f).per_namespace ≡ true → n ≤ m.count - 384)
-    → slot < slots_alone + (key_of f n s).nsid → slot < m.count
-slot_within m is f n s slot few near = by (row_of f).per_namespace refl near
-  where
-    by : (b : Bool) → (row_of f).per_namespace ≡ b → slot < slots_alone + (if b then n else 0)
-        → slot < m.count
-    by true e near = omega (arith, few e, is.count)
-    by false e near = omega (arith, is.count)
+written_apart f dword save values k apart = rw apart (put_back values k (map_of.get values k) refl)

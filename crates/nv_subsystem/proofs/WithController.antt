@@ -9,7 +9,7 @@ use Rattle.nv_model.proofs.ChangedAtLaws.{views_changed}
 abbrev pub with_controllers : State → List Controller → State
 with_controllers s cs = record s { controllers = cs }
 
--- the state is seen through its fields, and one of its controllers was written as f says
+-- the state is given by its fields, and one of its controllers was changed by f
 pub controller_written : (s fields : State) (xs : List code.Controller) (i : ℕ)
     (old new : code.Controller) (f : Controller → Controller)
     → with_controllers fields (map controller_view xs) ≡ s → i < length s.controllers

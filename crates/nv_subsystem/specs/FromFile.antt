@@ -1,4 +1,4 @@
--- The subsystem that a file gives: nothing was refused or counted yet.
+-- The subsystem of a file: nothing was refused or counted yet.
 use Rattle.std.specs.Prelude.{ℕ, ◌&&◌, not, List, [], map, Some, Result, Ok, if◌then◌else◌}
 use Rattle.std.specs.List.{fold}
 use Rattle.std.specs.FinMap as map_of
@@ -6,9 +6,8 @@ use Rattle.nv_file.specs.declared.error.SubsystemError.{SubsystemError}
 use Rattle.nv_layout.specs.Steps.{◌>>=◌}
 use Rattle.nv_file.specs.File.{file}
 use Rattle.nv_file.specs.FileValue.{ControllerValue, FileValue, NamespaceValue, is_attached_to}
-use Rattle.nv_layout.specs.Feature.{row_of}
+use Rattle.nv_layout.specs.Feature.{features, row_of}
 use Rattle.nv_layout.specs.declared.feature.Feature.{Feature}
-use Rattle.nv_layout.specs.declared.feature.TheConstants.Feature.{ALL}
 use Rattle.nv_model.specs.declared.feature_rule.FeatureRule.{FeatureRule}
 use Rattle.nv_model.specs.Change.{Change, changed}
 use Rattle.nv_model.specs.Values.{FeatureRules, first_value}
@@ -26,14 +25,14 @@ with_rule rules r = map_of.insert rules r.fid r
 abbrev pub fill : FeatureRules → Change
 fill rules k old = Some (first_value rules k)
 
--- a supported feature that no namespace has for itself is at its defaults
+-- a supported feature is at its defaults, if it has no value for each namespace
 abbrev pub with_default : FeatureRules → ℕ → FeatureValues → Feature → FeatureValues
 with_default rules vwc values f =
     if is_supported rules vwc f && not (row_of f).per_namespace
     then changed (fill rules) (keys_of f 0) values
     else values
 
--- so is Error Recovery for an attached namespace
+-- Error Recovery for an attached namespace is at its default
 abbrev pub with_recovery : ℕ → FeatureRules → FeatureValues → NamespaceValue → FeatureValues
 with_recovery cntlid rules values n =
     if is_attached_to cntlid n
@@ -44,7 +43,7 @@ abbrev pub rules_of : List FeatureRule → FeatureRules
 rules_of rules = fold with_rule map_of.empty rules
 
 abbrev pub defaults_of : FeatureRules → ℕ → FeatureValues
-defaults_of rules vwc = fold (with_default rules vwc) map_of.empty ALL
+defaults_of rules vwc = fold (with_default rules vwc) map_of.empty features
 
 abbrev pub with_attachment : ℕ → Nsids → NamespaceValue → Nsids
 with_attachment cntlid nsids n =

@@ -1,4 +1,4 @@
--- What is true of the parts of every subsystem in memory, so that its calls are safe.
+-- What holds for the parts of every subsystem in memory, so that its calls are safe.
 use Rattle.std.specs.Prelude.{◌≡◌, ℕ, ◌+◌, ◌<◌, ◌≤◌, List, length, Some, All}
 use Rattle.std.specs.FinMap as map_of
 use Rattle.nv_bits.specs.Slots.{RangeMap}

@@ -1,4 +1,4 @@
--- The codes of a state and its parts, by which a proof tells values apart.
+-- The codes of a state and its parts, by which a proof distinguishes values.
 use Rattle.std.specs.Prelude.{◌≡◌, ℕ, Bool, List, ◌⊎◌, refl}
 use Rattle.std.proofs.Common.{inl, inr}
 use Rattle.std.specs.FinMap as map_of

@@ -1,5 +1,5 @@
--- The phase tags that the entries of error logs hold: a subsystem in memory is a state whose logs
--- have them, and the abstract step's state is the same without them.
+-- The phase tags in the entries of error logs: a subsystem in memory is a state whose logs have
+-- them, and the abstract step's state is the same without them.
 use Rattle.std.specs.Prelude.{ℕ, Bool, List, [], ◌∷◌, map, Option, None, Some}
 use Rattle.nv_command.specs.Form.{namespace_of}
 use Rattle.nv_command.specs.declared.command.Command.{Command}
@@ -30,7 +30,7 @@ abbrev pub newest_tagged : Bool → List ErrorEntry → List ErrorEntry
 newest_tagged phase [] = []
 newest_tagged phase (e ∷ es) = with_phase phase e ∷ es
 
--- a controller with one refusal more, whose entry has the phase tag of the command's completion
+-- a controller after another refusal, whose entry has the phase tag of the command's completion
 abbrev pub with_booked : ℕ → Origin → Refusal → Controller → Controller
 with_booked nsid origin r x =
     let refusing = with_refusal nsid origin.cid r x in
@@ -40,7 +40,7 @@ with_booked nsid origin r x =
 abbrev pub booked : State → ℕ → ℕ → Origin → Refusal → State
 booked s c nsid origin r = with_controller s c (with_booked nsid origin r)
 
--- the state after a command of controller c, by why it is refused
+-- the state after a command of controller c, given why it is refused, if it is
 abbrev pub settled : State → ℕ → Command → Origin → Option Refusal → State
 settled s c k origin None = with_command (effect_of s c k) c
 settled s c k origin (Some r) = with_command (booked s c (namespace_of k) origin r) c

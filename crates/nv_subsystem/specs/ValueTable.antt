@@ -1,17 +1,16 @@
--- The slots that stand for the values of features.
-use Rattle.std.specs.Prelude.{◌≡◌, ℕ, ◌-◌, ◌/◌, ◌%◌, ◌^◌, ◌<◌, ◌≤◌, nat_lt, map, refl, true}
-use Rattle.std.specs.Prelude.{if◌then◌else◌}
+-- The tables that hold the values of features.
+use Rattle.std.specs.Prelude.{◌≡◌, ℕ, ◌*◌, ◌/◌, ◌%◌, List, map, ◌++◌, refl, true, None}
 use Rattle.std.specs.Coded.{Coded, code_by, coded×, coded_ℕ}
 use Rattle.std.specs.FinMap as map_of
-use Rattle.nv_bits.specs.Numbers.{NumberMap}
+use Rattle.nv_bits.specs.Numbers.{IsOf, NumberMap}
 use Rattle.nv_bits.specs.Slots.{RangeMap}
 use Rattle.nv_layout.specs.Feature.{row_of}
 use Rattle.nv_layout.specs.declared.feature.Feature.TheVariants.{ErrorRecovery}
-use Rattle.nv_model.specs.Values.{FeatureValues, ValueKey}
+use Rattle.nv_model.specs.Values.{FeatureValues, ValueKey, recovery_key}
 use Rattle.nv_model.specs.Codes.{feature_values_code}
 use Rattle.nv_model.specs.declared.feature_value.FeatureValue.{FeatureValue}
 
--- the values, where NSIDs go up to a greatest one
+-- the values of features, and the greatest NSID
 pub record ValueTable : Type 0 where
   pub nn : ℕ
   pub values : FeatureValues
@@ -20,22 +19,28 @@ abbrev pub value_table_code : Coded ValueTable
 value_table_code = code_by (ℕ × FeatureValues) (coded× coded_ℕ feature_values_code)
     (λ t. (t.nn, t.values)) (λ p. record { nn = p.0; values = p.1 }) (λ _. refl)
 
--- the slots of keys without an NSID: 32 selectors for each feature identifier below 12
-abbrev pub slots_alone : ℕ
-slots_alone = 384
-
--- the key of a slot
+-- the table by feature and selector has a row for each feature identifier below 12, of the
+-- selectors below 32
 abbrev pub key_at : ℕ → ValueKey
-key_at n = if nat_lt n slots_alone
-    then record { fid = n / 32; nsid = 0; selector = n % 32 }
-    else record { fid = (row_of ErrorRecovery).fid; nsid = n - 383; selector = 0 }
+key_at place = record { fid = place / 32; nsid = 0; selector = place % 32 }
 
-abbrev pub values_of : NumberMap FeatureValue → FeatureValues
-values_of slots = map_of.from_entries (map (λ e. (key_at e.0, e.1)) (map_of.entries slots))
+-- what a table has, each value under its key
+abbrev pub keyed : (ℕ → ValueKey) → NumberMap FeatureValue → List (ValueKey × FeatureValue)
+keyed key table = map (λ e. (key e.0, e.1)) (map_of.entries table)
 
--- slots for all keys without an NSID, and one for each NSID from 1 on
-pub record IsTable (slots : RangeMap FeatureValue) : Type 0 where
-  pub first : slots.first ≡ 0
-  pub count : slots_alone ≤ slots.count
-  pub room : slots.count ≤ 2 ^ 32
-  pub within : (n : ℕ) → map_of.contains_key slots.values n ≡ true → n < slots.count
+-- the values of both tables: Error Recovery's by NSID, all others by feature and selector
+abbrev pub values_of : NumberMap FeatureValue → NumberMap FeatureValue → FeatureValues
+values_of by_nsid by_feature =
+    map_of.from_entries (keyed recovery_key by_nsid ++ keyed key_at by_feature)
+
+-- a slot for each of so many numbers from the least one on, and values there alone
+pub record IsOver (least numbers : ℕ) (table : RangeMap FeatureValue) : Type 0 where
+  pub first : table.first ≡ least
+  pub count : table.count ≡ numbers
+  pub within : (n : ℕ) → map_of.contains_key table.values n ≡ true → IsOf least numbers n
+
+-- one table has the NSIDs from 1 on, and the other all rows, where that of Error Recovery is empty
+pub record AreTables (by_nsid by_feature : RangeMap FeatureValue) : Type 0 where
+  pub nsids : IsOver 1 by_nsid.count by_nsid
+  pub rows : IsOver 0 (12 * 32) by_feature
+  pub apart : map_of.get by_feature.values ((row_of ErrorRecovery).fid * 32) ≡ None

@@ -20,14 +20,14 @@ use crate::subsystem::Subsystem;
 use nv_command::{Refusal, StatusCode};
 use nv_model::Row;
 
-/// Whether a list of controller identifiers names the controller.
+/// Returns whether a list of controller identifiers names the controller.
 fn is_listed(ids: &[u16], controller: &Controller) -> bool
     ensures { result ≡ is_listed ids.now (controller_view controller.now) }
 {
     ids.iter().any(|id| *id == controller.identity.cntlid)
 }
 
-/// Whether each number is below the next one.
+/// Returns whether the numbers strictly ascend.
 fn is_ascending(ids: &[u16]) -> bool
     ensures { result ≡ is_ascending ids.now }
 {
@@ -90,7 +90,7 @@ pub(crate) fn detach_all(controllers: &mut [Controller])
 }
 
 impl Subsystem {
-    /// Whether a controller has the identifier.
+    /// Returns whether a controller has the identifier.
     fn is_known(&self, id: u16) -> bool
         ensures { result ≡ is_known self.now id }
     {
@@ -99,7 +99,7 @@ impl Subsystem {
             .any(|controller| id == controller.identity.cntlid)
     }
 
-    /// Whether a list names some controllers, in ascending order.
+    /// Returns whether a list names some controllers, in ascending order.
     fn is_list_of(&self, ids: &[u16]) -> bool
         ensures { result ≡ is_list_of self.now ids.now }
     {
@@ -109,7 +109,7 @@ impl Subsystem {
         is_ascending(ids) && ids.iter().all(|id| self.is_known(*id))
     }
 
-    /// Whether one controller at most may have the namespace attached.
+    /// Returns whether at most one controller may have the namespace attached.
     fn is_private(&self, nsid: u32) -> bool
         ensures { result ≡ is_private self.now nsid }
     {
@@ -119,7 +119,7 @@ impl Subsystem {
         }
     }
 
-    /// Whether a listed controller has the namespace attached.
+    /// Returns whether any listed controller has the namespace attached.
     fn has_one_attached(&self, nsid: u32, ids: &[u16]) -> bool
         ensures { result ≡ has_one_attached self.now nsid ids.now }
     {
@@ -127,7 +127,7 @@ impl Subsystem {
             && controller.attached.contains(nsid))
     }
 
-    /// Whether a listed controller doesn't have it attached.
+    /// Returns whether any listed controller doesn't have the namespace attached.
     fn lacks_one_attached(&self, nsid: u32, ids: &[u16]) -> bool
         ensures { result ≡ lacks_one_attached self.now nsid ids.now }
     {
@@ -135,7 +135,7 @@ impl Subsystem {
             && !controller.attached.contains(nsid))
     }
 
-    /// How many controllers would have the namespace attached, with the listed ones.
+    /// Returns how many controllers have the namespace attached or are listed.
     fn count_with(&self, nsid: u32, ids: &[u16]) -> usize
         ensures { result ≡ count_with self.now nsid ids.now }
     {
@@ -147,7 +147,7 @@ impl Subsystem {
             .count()
     }
 
-    /// What an attach and a detach have in common: the rows for the NSID and for the list.
+    /// Returns the rows that an attach and a detach share, for the NSID and for the list.
     fn first_rows(&self, nsid: u32, ids: &[u16]) -> [Row; 3]
         ensures { result ≡ first_rows self.now nsid ids.now }
     {
@@ -161,7 +161,8 @@ impl Subsystem {
         ]
     }
 
-    /// Why an attach is refused. The conditions go in the order of the rows.
+    /// Refuses an attach by the first condition that holds. The conditions are in the order of the
+    /// rows.
     fn check_attach(&self, nsid: u32, ids: &[u16]) -> Result<(), Refusal>
         ensures { Checks (attach_rows self.now nsid ids.now) result }
     {
@@ -177,7 +178,8 @@ impl Subsystem {
         check(&[valid, allocated, listed, new, alone])
     }
 
-    /// Why a detach is refused. The conditions go in the order of the rows.
+    /// Refuses a detach by the first condition that holds. The conditions are in the order of the
+    /// rows.
     fn check_detach(&self, nsid: u32, ids: &[u16]) -> Result<(), Refusal>
         ensures { Checks (detach_rows self.now nsid ids.now) result }
     {
@@ -189,7 +191,7 @@ impl Subsystem {
         check(&[valid, allocated, listed, attached])
     }
 
-    /// Why an attach or a detach is refused.
+    /// Refuses an attach or a detach by the first condition that holds.
     pub(crate) fn check_attachment(
         &self,
         nsid: u32,

@@ -1,4 +1,4 @@
-//! The namespaces of a subsystem, and the capacity that they leave.
+//! The namespaces of a subsystem, and the capacity that they leave unallocated.
 
 ghost use Rattle.std.specs.Prelude.{◌≡◌, ◌≤◌, ◌<◌, false};
 ghost use Rattle.std.specs.FinMap as map_of;
@@ -11,14 +11,14 @@ use nv_layout::FourBits;
 use nv_model::Namespace;
 
 impl Subsystem {
-    /// The bytes of capacity that no namespace has.
+    /// Returns the unallocated capacity in bytes.
     pub(crate) fn unallocated(&self) -> u64
         ensures { result ≡ unallocated self.now }
     {
         self.unallocated
     }
 
-    /// Gives a free NSID a namespace, for whose capacity there is room.
+    /// Inserts a namespace under a free NSID. There must be room for its capacity.
     pub(crate) fn insert_namespace(&mut self, nsid: u32, namespace: Namespace)
         requires nsid { (1 ≤ nsid) × (nsid ≤ self.old.nn) }
         requires free { is_allocated self.old nsid ≡ false }
@@ -32,7 +32,7 @@ impl Subsystem {
         self.unallocated -= namespace.capacity;
     }
 
-    /// Takes a namespace away, and its capacity back.
+    /// Removes a namespace and frees its capacity.
     pub(crate) fn remove_namespace(&mut self, nsid: u32)
         ensures { self.new ≡ record self.old {
           namespaces = map_of.remove self.old.namespaces nsid;
@@ -43,7 +43,7 @@ impl Subsystem {
         }
     }
 
-    /// Changes the format of a namespace, where there is one. Its capacity stays.
+    /// Changes the format of a namespace, if there is one. Its capacity stays the same.
     pub(crate) fn change_format(&mut self, nsid: u32, lbaf: FourBits, extended: bool)
         ensures { self.new ≡ record self.old {
           namespaces = with_format lbaf extended self.old.namespaces nsid;
@@ -59,7 +59,7 @@ impl Subsystem {
         }
     }
 
-    /// Takes all namespaces away, and their capacities back.
+    /// Removes all namespaces and frees their capacities.
     pub(crate) fn clear_namespaces(&mut self)
         ensures { self.new ≡ record self.old { namespaces = map_of.empty } }
     {

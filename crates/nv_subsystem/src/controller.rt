@@ -18,7 +18,7 @@ use nv_command::Refusal;
 use nv_layout::Feature;
 use nv_model::{FeatureRule, FeatureValue, Identity, Origin, SmartBase};
 
-/// A controller: what its file table gives, and what its commands change.
+/// A controller: what its table in the file says, and what its commands change.
 #[derive(Drop)]
 pub struct Controller {
     pub identity: Identity,
@@ -28,20 +28,20 @@ pub struct Controller {
     pub log: ErrorLog,
     pub refusals: u64,
     pub commands: u64,
-    /// The NSIDs of the attached namespaces, out of 1 to NN.
+    /// The NSIDs of the attached namespaces, from 1 to NN.
     pub attached: BitSet,
     pub values: FeatureValues,
 }
 
-/// How a controller treats the feature with an identifier: by its rule, or by what stands for a
-/// missing one.
+/// Returns how a controller treats the feature with an identifier: its rule, or the default rule if
+/// it has none.
 pub(crate) fn rule_for(rules: &Slots<FeatureRule>, fid: u8) -> FeatureRule
     ensures { result ≡ rule_for rules.now.values fid }
 {
     rules.get(u32::from(fid)).unwrap_or(default_rule(fid))
 }
 
-/// How a controller treats a feature.
+/// Returns how a controller treats a feature.
 pub(crate) fn rule_of(rules: &Slots<FeatureRule>, feature: Feature) -> FeatureRule
     ensures { result ≡ rule_of rules.now.values feature }
 {
@@ -49,7 +49,7 @@ pub(crate) fn rule_of(rules: &Slots<FeatureRule>, feature: Feature) -> FeatureRu
 }
 
 impl Controller {
-    /// Attaches a namespace: its Error Recovery is at the default.
+    /// Attaches a namespace, with its Error Recovery at the default.
     pub(crate) fn attach(&mut self, nsid: u32)
         requires { (nn : ℕ) × IsSized nn self.old × IsOf 1 nn nsid }
         ensures view { controller_view self.new
@@ -66,7 +66,7 @@ impl Controller {
         );
     }
 
-    /// Detaches a namespace: its Error Recovery goes too.
+    /// Detaches a namespace and removes its Error Recovery.
     pub(crate) fn detach(&mut self, nsid: u32)
         ensures view { controller_view self.new
             ≡ with_nsids (without nsid) (controller_view self.old) }
@@ -97,7 +97,7 @@ impl Controller {
         self.commands = self.commands.saturating_add(1);
     }
 
-    /// Books a refusal as the newest entry of the error log, with its phase tag.
+    /// Records a refusal as the newest entry of the error log, with its phase tag.
     pub(crate) fn book(&mut self, origin: Origin, nsid: u32, refusal: Refusal)
         requires { self.old.log.most ≡ self.old.identity.numbers.elpe + 1 }
         ensures refusal { controller_view self.new

@@ -13,8 +13,8 @@ use nv_model::Origin;
 use std::alloc::{AllocError, Global};
 use std::marker::Model;
 
-/// The newest refusals of a controller, newest first, in room that was made once. Each entry has
-/// the phase tag of its completion.
+/// The newest refusals of a controller, newest first. The memory for them is allocated once. Each
+/// entry has the phase tag of its completion.
 #[derive(Drop)]
 pub struct ErrorLog {
     entries: HeapCircularBuffer<ErrorEntry>,
@@ -37,8 +37,8 @@ impl Model for ErrorLog {
         (length l.entries.items ≤ l.entries.capacity) × (l.entries.capacity ≤ 256) };
 }
 
-/// The entry of a refusal of a command of the admin queue: no field of the command and no logical
-/// block is told. Section "Error Information (Log Identifier 01h)".
+/// Returns the log entry for a refused command of the admin queue. It names no field of the command
+/// and no logical block. Section "Error Information (Log Identifier 01h)".
 fn log_entry(count: u64, origin: Origin, nsid: u32, refusal: Refusal) -> ErrorEntry
     ensures { result ≡ with_phase origin.phase (log_entry count origin.cid nsid refusal) }
 {
@@ -57,7 +57,7 @@ fn log_entry(count: u64, origin: Origin, nsid: u32, refusal: Refusal) -> ErrorEn
 }
 
 impl ErrorLog {
-    /// An empty log with room for this many entries.
+    /// Creates an empty log with room for `most` entries.
     pub(crate) fn new(alloc: Global, most: u16) -> Result<ErrorLog, AllocError>
         requires { most ≤ 256 }
         ensures { IfOk result (λ l. l ≡ record { most = most; entries = [] }) }
@@ -66,7 +66,7 @@ impl ErrorLog {
         Ok(ErrorLog { entries })
     }
 
-    /// Books a refusal as the newest entry, in place of the oldest where the log is full.
+    /// Records a refusal as the newest entry. If the log is full, it replaces the oldest.
     pub(crate) fn book(&mut self, count: u64, origin: Origin, nsid: u32, refusal: Refusal)
         ensures { self.new ≡ record self.old {
           entries = take self.old.most
@@ -85,8 +85,8 @@ impl ErrorLog {
         self.entries.get(index).copied()
     }
 
-    /// All entries where they stand, newest first, and as many without an error as there is room
-    /// for.
+    /// Returns all entries, newest first, borrowed, and then entries without an error for the rest
+    /// of the room.
     pub(crate) fn entries(&self) -> ErrorEntries<'_>
         ensures { result
             ≡ self.now.entries ++ replicate (self.now.most - length self.now.entries) no_entry }

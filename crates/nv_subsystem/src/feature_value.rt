@@ -8,14 +8,14 @@ use nv_bits::Slots;
 use nv_layout::Feature;
 use nv_model::{Defaults, FeatureRule};
 
-/// The default under a selector.
+/// Returns the default under a selector.
 pub(crate) fn default_of(rule: FeatureRule, selector: u8) -> u32
     ensures { result ≡ default_of rule selector }
 {
     rule.defaults.at(selector)
 }
 
-/// How a controller treats a feature that has no table in the file.
+/// Returns how a controller treats a feature that has no table in the file.
 pub(crate) fn default_rule(fid: u8) -> FeatureRule
     ensures { result ≡ default_rule fid }
 {
@@ -27,7 +27,7 @@ pub(crate) fn default_rule(fid: u8) -> FeatureRule
     }
 }
 
-/// Whether a controller with these rules and this Volatile Write Cache field has a feature.
+/// Returns whether a controller with these rules and this Volatile Write Cache field has a feature.
 pub(crate) fn is_supported(rules: &Slots<FeatureRule>, vwc: u8, feature: Feature) -> bool
     ensures { result ≡ is_supported rules.now.values vwc feature }
 {

@@ -1,17 +1,16 @@
 //! The values of the features of a controller.
 
-ghost use Rattle.std.specs.Prelude.{◌≡◌, ◌+◌, ◌^◌, ◌≤◌, ◌<◌, true, All, IfOk, IfSome, map};
+ghost use Rattle.std.specs.Prelude.{◌≡◌, ◌+◌, ◌*◌, ◌≤◌, ◌<◌, true, IfOk, IfSome};
 ghost use Rattle.std.specs.FinMap as map_of;
 ghost use Rattle.nv_bits.specs.Numbers.{IsOf};
 ghost use Rattle.nv_layout.specs.Feature.{is_selector, row_of};
-ghost use Rattle.nv_model.specs.Change.{changed, changed_at};
-ghost use Rattle.nv_model.specs.Values.{first_value};
+ghost use Rattle.nv_layout.specs.Limits.{most_nsids};
+ghost use Rattle.nv_model.specs.Change.{changed_at};
+ghost use Rattle.nv_model.specs.Values.{first_value, is_alone, key_of, recovery_key};
 ghost use Rattle.nv_model.specs.Features.{write};
 ghost use Rattle.nv_model.specs.Step.{all_restored};
-ghost use Rattle.nv_model.specs.Values.{is_alone, key_of, recovery_key};
 ghost use Rattle.nv_subsystem.specs.ValueTable.{key_at};
-ghost use Rattle.nv_subsystem.specs.inner.ValueTable.{slot_of};
-ghost use Rattle.nv_layout.specs.Limits.{most_nsids};
+ghost use Rattle.nv_subsystem.specs.inner.ValueTable.{AreRestored, restored_at};
 
 use crate::controller::{rule_for, rule_of};
 use crate::feature_value::default_of;
@@ -25,56 +24,80 @@ use std::marker::Model;
 /// One more than the greatest feature identifier.
 pub const FEATURE_LIMIT: u32 = 12;
 
-/// The slots of values without an NSID: 32 selectors for each feature identifier.
-const SLOTS_ALONE: u32 = 384;
+/// The length of a row of selectors: those of every feature are below it.
+const SELECTOR_LIMIT: u32 = 32;
 
-/// The values of the features of a controller, in room that is made once. Each has a slot by its
-/// feature and its selector, or by its NSID where each namespace has a value of its own.
+/// The values of the features of a controller, in room that is made once.
 #[derive(Drop)]
 pub struct FeatureValues {
-    slots: Slots<FeatureValue>,
+    /// Those of Error Recovery, which each namespace has for itself, by NSID.
+    by_nsid: Slots<FeatureValue>,
+    /// All others, by feature and selector.
+    by_feature: Slots<FeatureValue>,
 }
 
 impl Model for FeatureValues {
-    ghost use Rattle.std.specs.Prelude.{◌-◌};
-    ghost use Rattle.nv_subsystem.specs.ValueTable.{IsTable, ValueTable, slots_alone};
-    ghost use Rattle.nv_subsystem.specs.ValueTable.{value_table_code, values_of};
+    ghost use Rattle.nv_subsystem.specs.ValueTable.{AreTables, ValueTable, value_table_code, values_of};
 
     ghost Value = { ValueTable };
 
     ghost coded = { value_table_code };
 
-    ghost view = { λ s. record {
-      nn = s.slots.count - slots_alone;
-      values = values_of s.slots.values;
+    ghost view = { λ t. record {
+      nn = t.by_nsid.count;
+      values = values_of t.by_nsid.values t.by_feature.values;
     } };
 
-    ghost invariant = { λ s. IsTable s.slots };
+    ghost invariant = { λ t. AreTables t.by_nsid t.by_feature };
 }
 
-/// The slot of a value.
-fn slot(feature: Feature, nsid: u32, selector: u8) -> u32
-    requires room { (row_of feature).per_namespace ≡ true → nsid + 384 ≤ 2 ^ 32 }
-    requires known { is_selector feature selector ≡ true }
-    ensures value { result ≡ slot_of (key_of feature nsid selector) }
-    ensures near { result < 384 + (key_of feature nsid selector).nsid }
+/// The place of a feature's value under a selector.
+fn place(feature: Feature, selector: u8) -> u32
+    requires { is_selector feature selector ≡ true }
+    ensures value { result ≡ (row_of feature).fid * 32 + selector }
+    ensures within { result < 12 * 32 }
 {
-    if feature.is_per_namespace() && nsid > 0 {
-        nsid + (SLOTS_ALONE - 1)
-    } else {
-        u32::from(feature.fid()) * 32 + u32::from(selector)
+    u32::from(feature.fid()) * SELECTOR_LIMIT + u32::from(selector)
+}
+
+/// The default of the value at a place.
+fn default_at(rules: &Slots<FeatureRule>, place: u32) -> u32
+    requires { place < 12 * 32 }
+    ensures { result ≡ (first_value rules.now.values (key_at place)).current }
+{
+    let rule = rule_for(rules, (place / SELECTOR_LIMIT) as u8);
+    default_of(rule, (place % SELECTOR_LIMIT) as u8)
+}
+
+/// Makes the saved value of a number current, or the default where nothing was saved.
+fn restore_one(table: &mut Slots<FeatureValue>, number: u32, default: u32)
+    ensures { table.new ≡ record table.old {
+      values = restored_at default table.old.values number;
+    } }
+{
+    if let Some(value) = table.get(number) {
+        table.insert(number, value.restored(default));
     }
 }
 
-/// The default of the value in a slot.
-fn default_in(rules: &Slots<FeatureRule>, number: u32) -> u32
-    ensures { result ≡ (first_value rules.now.values (key_at number)).current }
+/// Restores the value of each NSID.
+fn restore_recoveries(table: &mut Slots<FeatureValue>, default: u32)
+    ensures { AreRestored (λ _. default) table.old.count table.old table.new }
 {
-    if number < SLOTS_ALONE {
-        let rule = rule_for(rules, (number / 32) as u8);
-        default_of(rule, (number % 32) as u8)
-    } else {
-        default_of(rule_of(rules, Feature::ErrorRecovery), 0)
+    for k in 0..table.count() {
+        let nsid = table.first() + k;
+        restore_one(table, nsid, default);
+    }
+}
+
+/// Restores the value at each place.
+fn restore_features(table: &mut Slots<FeatureValue>, rules: &Slots<FeatureRule>)
+    requires { (table.old.first ≡ 0) × (table.old.count ≡ 12 * 32) }
+    ensures { AreRestored (λ place. (first_value rules.now.values (key_at place)).current)
+        table.old.count table.old table.new }
+{
+    for place in 0..table.count() {
+        restore_one(table, place, default_at(rules, place));
     }
 }
 
@@ -84,8 +107,12 @@ impl FeatureValues {
         requires { nn ≤ most_nsids }
         ensures { IfOk result (λ s. s ≡ record { nn = nn; values = map_of.empty }) }
     {
-        let slots = Slots::new(alloc, 0, SLOTS_ALONE + nn)?;
-        Ok(FeatureValues { slots })
+        let by_nsid = Slots::new(alloc, 1, nn)?;
+        let by_feature = Slots::new(alloc, 0, FEATURE_LIMIT * SELECTOR_LIMIT)?;
+        Ok(FeatureValues {
+            by_nsid,
+            by_feature,
+        })
     }
 
     /// The value of a feature under a selector: that for the namespace where each has one of its
@@ -94,25 +121,29 @@ impl FeatureValues {
         requires { is_selector feature selector ≡ true }
         ensures value { result ≡ map_of.get self.now.values (key_of feature nsid selector) }
         ensures in_range { IfSome result
-            (λ _. (row_of feature).per_namespace ≡ true → nsid ≤ self.now.nn) }
+            (λ _. (row_of feature).per_namespace ≡ true → IsOf 1 self.now.nn nsid) }
     {
-        let nn = self.slots.count() - SLOTS_ALONE;
-        if feature.is_per_namespace() && nsid > nn {
-            return None;
+        if feature.is_per_namespace() {
+            self.by_nsid.get(nsid)
+        } else {
+            self.by_feature.get(place(feature, selector))
         }
-        self.slots.get(slot(feature, nsid, selector))
     }
 
     /// Gives a feature a value under a selector: that for the namespace where each has one of its
     /// own.
     pub(crate) fn insert(&mut self, feature: Feature, nsid: u32, selector: u8, value: FeatureValue)
         requires known { is_selector feature selector ≡ true }
-        requires in_range { (row_of feature).per_namespace ≡ true → nsid ≤ self.old.nn }
+        requires in_range { (row_of feature).per_namespace ≡ true → IsOf 1 self.old.nn nsid }
         ensures { self.new ≡ record self.old {
           values = map_of.insert self.old.values (key_of feature nsid selector) value;
         } }
     {
-        self.slots.insert(slot(feature, nsid, selector), value);
+        if feature.is_per_namespace() {
+            self.by_nsid.insert(nsid, value);
+        } else {
+            self.by_feature.insert(place(feature, selector), value);
+        }
     }
 
     /// Writes over the value of a feature under a selector, where it is there and the Set is for
@@ -139,9 +170,7 @@ impl FeatureValues {
           values = map_of.remove self.old.values (recovery_key nsid);
         } }
     {
-        if nsid <= self.slots.count() - SLOTS_ALONE {
-            self.slots.remove(slot(Feature::ErrorRecovery, nsid, 0));
-        }
+        self.by_nsid.remove(nsid);
     }
 
     /// Takes away what any namespace has.
@@ -150,21 +179,17 @@ impl FeatureValues {
           values = map_of.retain_keys self.old.values is_alone;
         } }
     {
-        while let Some(number) = self.slots.next_above(SLOTS_ALONE - 1) {
-            self.slots.remove(number);
-        }
+        self.by_nsid.clear();
     }
+
     /// Makes each saved value current, or the default where nothing was saved.
     pub(crate) fn restore(&mut self, rules: &Slots<FeatureRule>)
         ensures { self.new ≡ record self.old {
           values = all_restored rules.now.values self.old.values;
         } }
     {
-        for number in 0..self.slots.count() {
-            if let Some(value) = self.slots.get(number) {
-                let restored = value.restored(default_in(rules, number));
-                self.slots.insert(number, restored);
-            }
-        }
+        let recovery = default_of(rule_of(rules, Feature::ErrorRecovery), 0);
+        restore_recoveries(&mut self.by_nsid, recovery);
+        restore_features(&mut self.by_feature, rules);
     }
 }

@@ -1,4 +1,4 @@
-//! Get Features and Set Features: when they are refused, what they answer, and what they change.
+//! Get Features and Set Features: when they are refused, what they return, and what they change.
 //! Sections "Get Features command" and "Set Features command".
 
 ghost use Rattle.std.specs.Prelude.{◌≡◌, ◌<◌, ℕ, true, length, map, All};
@@ -24,8 +24,8 @@ use nv_command::{BROADCAST_NSID, FeatureQuery, FeatureSetting, Refusal, StatusCo
 use nv_layout::{Feature, ThreeBits};
 use nv_model::{FeatureRule, FeatureValue, Row};
 
-/// What can be done with a feature: bit 0 save it, bit 1 give each namespace a value of its own,
-/// bit 2 change it.
+/// Returns what can be done with a feature: save it (bit 0), give each namespace a value of its own
+/// (bit 1), and change it (bit 2).
 fn capabilities(rule: FeatureRule, feature: Feature) -> u32
     ensures { result ≡ capabilities rule feature }
 {
@@ -35,7 +35,7 @@ fn capabilities(rule: FeatureRule, feature: Feature) -> u32
     saveable + per_namespace + changeable
 }
 
-/// What a select names: the current value, the default, the saved one, or the capabilities.
+/// Returns what a select names: the current value, the default, the saved one, or the capabilities.
 fn selected(
     rule: FeatureRule,
     feature: Feature,
@@ -54,7 +54,7 @@ fn selected(
     }
 }
 
-/// Writes over a feature's values under some selectors, where they are there.
+/// Overwrites those of a feature's values under some selectors that exist.
 fn write_selectors(
     values: &mut FeatureValues,
     feature: Feature,
@@ -73,7 +73,7 @@ fn write_selectors(
     }
 }
 
-/// Writes over a feature's values for some namespaces, where they are there.
+/// Overwrites those of a feature's values for some namespaces that exist.
 fn write_each(values: &mut FeatureValues, feature: Feature, asked: FeatureSetting, nsids: &[u32])
     ensures { values.new ≡ record values.old {
       values = fold (with_value feature asked.value asked.save) values.old.values nsids.now;
@@ -85,7 +85,7 @@ fn write_each(values: &mut FeatureValues, feature: Feature, asked: FeatureSettin
 }
 
 impl Controller {
-    /// What a Get Features answers.
+    /// Returns the result of a Get Features.
     fn told(&self, asked: FeatureQuery, feature: Feature) -> u32
         ensures { result ≡ told asked feature (controller_view self.now) }
     {
@@ -100,7 +100,7 @@ impl Controller {
         }
     }
 
-    /// Writes over a feature's values for some namespaces, where they are there.
+    /// Overwrites those of a feature's values for some namespaces that exist.
     fn write(&mut self, feature: Feature, asked: FeatureSetting, nsids: &[u32])
         ensures view { controller_view self.new
             ≡ with_values feature asked.value asked.save nsids.now (controller_view self.old) }
@@ -111,7 +111,7 @@ impl Controller {
 }
 
 impl Subsystem {
-    /// How a controller treats a feature.
+    /// Returns how a controller treats a feature.
     fn rule(&self, ctrl: u16, feature: Feature) -> FeatureRule
         requires { ctrl < length self.now.controllers }
         ensures { result ≡ rule_at self.now ctrl feature }
@@ -119,7 +119,7 @@ impl Subsystem {
         rule_of(&self.controllers[ctrl as usize].rules, feature)
     }
 
-    /// The feature with an identifier, where a controller supports it.
+    /// Returns the feature with an identifier if a controller supports it.
     fn supported(&self, ctrl: u16, fid: u8) -> Option<Feature>
         requires { ctrl < length self.now.controllers }
         ensures { result ≡ supported_at self.now ctrl fid }
@@ -132,8 +132,8 @@ impl Subsystem {
         }
     }
 
-    /// Why a Get Features of a supported feature is refused. The conditions go in the order of the
-    /// rows.
+    /// Refuses a Get Features of a supported feature by the first condition that holds. The
+    /// conditions are in the order of the rows.
     fn check_get(&self, ctrl: u16, asked: FeatureQuery, feature: Feature) -> Result<(), Refusal>
         requires { ctrl < length self.now.controllers }
         ensures { Checks (get_rows self.now ctrl asked feature) result }
@@ -156,7 +156,7 @@ impl Subsystem {
         ])
     }
 
-    /// Why a Get Features is refused.
+    /// Refuses a Get Features by the first condition that holds.
     pub(crate) fn check_get_feature(&self, ctrl: u16, asked: FeatureQuery) -> Result<(), Refusal>
         requires { ctrl < length self.now.controllers }
         ensures { Checks (get_feature_rows self.now ctrl asked) result }
@@ -167,8 +167,8 @@ impl Subsystem {
         }
     }
 
-    /// Why a Set Features of a supported feature is refused. The conditions go in the order of the
-    /// rows.
+    /// Refuses a Set Features of a supported feature by the first condition that holds. The
+    /// conditions are in the order of the rows.
     fn check_set(&self, ctrl: u16, asked: FeatureSetting, feature: Feature) -> Result<(), Refusal>
         requires { ctrl < length self.now.controllers }
         ensures { Checks (set_rows self.now ctrl asked feature) result }
@@ -202,7 +202,7 @@ impl Subsystem {
         ])
     }
 
-    /// Why a Set Features is refused.
+    /// Refuses a Set Features by the first condition that holds.
     pub(crate) fn check_set_feature(&self, ctrl: u16, asked: FeatureSetting) -> Result<(), Refusal>
         requires { ctrl < length self.now.controllers }
         ensures { Checks (set_feature_rows self.now ctrl asked) result }
@@ -213,7 +213,7 @@ impl Subsystem {
         }
     }
 
-    /// The number that a Get Features answers.
+    /// Returns the number that a Get Features returns.
     pub(crate) fn feature_number(&self, ctrl: u16, asked: FeatureQuery) -> u32
         requires { ctrl < length self.now.controllers }
         ensures { result ≡ feature_number self.now ctrl asked }
@@ -224,7 +224,7 @@ impl Subsystem {
         }
     }
 
-    /// Writes over a feature's values for some namespaces.
+    /// Overwrites those of a feature's values for some namespaces that exist.
     fn write_values(&mut self, ctrl: u16, feature: Feature, asked: FeatureSetting, nsids: &[u32])
         requires { ctrl < length self.old.controllers }
         ensures { self.new ≡ with_controller self.old ctrl
@@ -234,8 +234,8 @@ impl Subsystem {
         controller.write(feature, asked, nsids);
     }
 
-    /// Gives a feature another value: for the namespace, or for all active ones, where each has one
-    /// of its own.
+    /// Sets a feature. If each namespace has a value of its own, it sets that of the namespace, or
+    /// of all active ones.
     pub(crate) fn set_feature(&mut self, ctrl: u16, asked: FeatureSetting)
         requires { ctrl < length self.old.controllers }
         ensures { self.new ≡ with_feature self.old ctrl asked }

@@ -10,12 +10,12 @@ ghost use Rattle.nv_model.specs.inner.Conditions.{Checks};
 
 use crate::row::check;
 use crate::subsystem::Subsystem;
-use nv_command::{BROADCAST_NSID, Refusal, StatusCode};
+use nv_command::{BROADCAST_NSID, NewFormat, Refusal, StatusCode};
 use nv_layout::FourBits;
-use nv_model::{NewFormat, Row};
+use nv_model::Row;
 
 impl Subsystem {
-    /// Whether a namespace has a capacity below a size.
+    /// Returns whether a namespace has a capacity less than `size`.
     fn is_below(&self, size: u64, nsid: u32) -> bool
         ensures { result ≡ is_below self.now size nsid }
     {
@@ -25,14 +25,14 @@ impl Subsystem {
         }
     }
 
-    /// Whether one of some namespaces has a capacity below a size.
+    /// Returns whether any of some namespaces has a capacity less than `size`.
     fn one_is_below(&self, size: u64, nsids: &[u32]) -> bool
         ensures { result ≡ list_any (is_below self.now size) nsids.now }
     {
         nsids.iter().any(|nsid| self.is_below(size, *nsid))
     }
 
-    /// Whether one of some namespaces has no room for a logical block of the format.
+    /// Returns whether any of some namespaces has no room for a logical block of the format.
     fn has_one_below(&self, lbaf: FourBits, nsids: &[u32]) -> bool
         ensures { result ≡ has_one_below self.now lbaf nsids.now }
     {
@@ -42,7 +42,7 @@ impl Subsystem {
         }
     }
 
-    /// Whether one of the namespaces concerned has no room for a logical block.
+    /// Returns whether any of the namespaces that are concerned has no room for a logical block.
     fn leaves_one_below(&self, ctrl: u16, nsid: u32, lbaf: FourBits) -> bool
         requires { ctrl < length self.now.controllers }
         ensures { result ≡ has_one_below self.now lbaf (concerned self.now ctrl nsid) }
@@ -51,7 +51,7 @@ impl Subsystem {
         self.has_one_below(lbaf, concerned.as_slice())
     }
 
-    /// Whether a controller can erase by a key (FNA bit 2).
+    /// Returns whether a controller can erase by destroying a key (FNA bit 2).
     fn can_erase_by_key(&self, ctrl: u16) -> bool
         requires { ctrl < length self.now.controllers }
         ensures { result ≡ can_erase_by_key self.now ctrl }
@@ -60,15 +60,11 @@ impl Subsystem {
     }
 
     /// Why a format is refused. The conditions go in the order of the rows.
-    pub(crate) fn check_format(
-        &self,
-        ctrl: u16,
-        nsid: u32,
-        asked: &NewFormat,
-    ) -> Result<(), Refusal>
+    pub(crate) fn check_format(&self, ctrl: u16, asked: &NewFormat) -> Result<(), Refusal>
         requires { ctrl < length self.now.controllers }
-        ensures { Checks (format_rows self.now ctrl nsid asked.now) result }
+        ensures { Checks (format_rows self.now ctrl asked.now) result }
     {
+        let nsid = asked.nsid;
         let all = nsid == BROADCAST_NSID;
         let ses = asked.ses.get();
         check(&[
@@ -108,11 +104,16 @@ impl Subsystem {
     }
 
     /// Formats a namespace, and all that are active on the controller for the broadcast NSID.
-    pub(crate) fn format(&mut self, ctrl: u16, nsid: u32, asked: &NewFormat)
+    pub(crate) fn format(&mut self, ctrl: u16, asked: &NewFormat)
         requires { ctrl < length self.old.controllers }
-        ensures { self.new ≡ formatted self.old ctrl nsid asked.now }
+        ensures { self.new ≡ formatted self.old ctrl asked.now }
     {
-        let NewFormat { lbaf, mset, .. } = *asked;
+        let NewFormat {
+            nsid,
+            lbaf,
+            mset,
+            ..
+        } = *asked;
         let concerned = self.concerned(ctrl, nsid);
         self.format_each(concerned.as_slice(), lbaf, mset);
     }

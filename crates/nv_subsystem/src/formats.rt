@@ -7,7 +7,7 @@ use crate::subsystem::Subsystem;
 use nv_model::Format;
 
 impl Subsystem {
-    /// The format with an index.
+    /// Returns the format at an index.
     pub(crate) fn format_at(&self, index: u8) -> Option<Format>
         ensures value { result ≡ format_at self.now index }
         ensures small { IfSome result (λ f. f.lbads ≤ 16) }
@@ -15,8 +15,8 @@ impl Subsystem {
         self.formats.get(index as usize).copied()
     }
 
-    /// Whether the table has the format, and metadata can lie at the end of its logical blocks
-    /// where it shall.
+    /// Returns whether the table has the format and, if metadata is to be at the end of its logical
+    /// blocks, allows that.
     pub(crate) fn can_have(&self, index: u8, extended: bool) -> bool
         ensures { result ≡ can_have self.now index extended }
     {

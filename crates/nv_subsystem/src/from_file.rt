@@ -1,4 +1,4 @@
-//! The subsystem that a file gives.
+//! Creates a subsystem from a file.
 
 ghost use Rattle.std.specs.Prelude.{◌≡◌, ◌≤◌, ◌+◌, true, false, IfOk, IfErr, map, sum_by, All};
 ghost use Rattle.std.specs.List.{fold};
@@ -26,7 +26,7 @@ use nv_layout::Feature;
 use nv_model::{FeatureRule, FeatureValue, Identity, Namespace};
 use std::alloc::Global;
 
-/// The bytes of capacity that the namespaces of a file leave.
+/// Returns the bytes of capacity that the namespaces of a file leave unallocated.
 pub(crate) fn unallocated(tnvmcap: u64, entries: &[NamespaceEntry]) -> u64
     requires { sum_by (λ n. n.namespace.capacity) entries.now ≤ tnvmcap }
     ensures { result + sum_by (λ n. n.namespace.capacity) entries.now ≡ tnvmcap }
@@ -35,7 +35,7 @@ pub(crate) fn unallocated(tnvmcap: u64, entries: &[NamespaceEntry]) -> u64
     tnvmcap - used
 }
 
-/// Puts each namespace into its slot.
+/// Inserts each namespace into its slot.
 fn fill(slots: &mut Slots<Namespace>, entries: &[NamespaceEntry])
     requires { All (λ n. IsOf slots.old.first slots.old.count n.nsid) entries.now }
     ensures { slots.new ≡ record slots.old {
@@ -47,7 +47,7 @@ fn fill(slots: &mut Slots<Namespace>, entries: &[NamespaceEntry])
     }
 }
 
-/// The namespaces of a file in their slots.
+/// Returns the namespaces of a file in their slots.
 pub(crate) fn slots(
     alloc: Global,
     nn: u32,
@@ -82,7 +82,7 @@ fn attach_all(attached: &mut BitSet, cntlid: u16, entries: &[NamespaceEntry])
     }
 }
 
-/// Puts the rule of each feature that has a table into its slot.
+/// Inserts the rule of each feature that has a table into its slot.
 fn fill_rules(slots: &mut Slots<FeatureRule>, rules: &[FeatureRule])
     requires { All (λ r. IsOf slots.old.first slots.old.count r.fid) rules.now }
     ensures { slots.new ≡ record slots.old { values = fold with_rule slots.old.values rules.now } }
@@ -92,7 +92,7 @@ fn fill_rules(slots: &mut Slots<FeatureRule>, rules: &[FeatureRule])
     }
 }
 
-/// The rules of the features that have a table, in their slots.
+/// Returns the rules of the features that have a table, in their slots.
 fn rule_slots(alloc: Global, rules: &[FeatureRule]) -> Result<Slots<FeatureRule>, SubsystemError>
     requires { All IsFeatureRule rules.now }
     ensures value { IfOk result (λ slots. slots.values ≡ rules_of rules.now) }
@@ -103,7 +103,8 @@ fn rule_slots(alloc: Global, rules: &[FeatureRule]) -> Result<Slots<FeatureRule>
     Ok(slots)
 }
 
-/// Gives a feature that no namespace has for itself its defaults under some selectors.
+/// Sets the defaults of a feature under some selectors. The feature has no value for each
+/// namespace.
 fn fill_selectors(
     values: &mut FeatureValues,
     rules: &Slots<FeatureRule>,
@@ -128,7 +129,7 @@ fn fill_selectors(
     }
 }
 
-/// Gives a supported feature that no namespace has for itself its defaults.
+/// Sets the defaults of a feature if it is supported and has no value for each namespace.
 fn fill_default(values: &mut FeatureValues, rules: &Slots<FeatureRule>, vwc: u8, feature: Feature)
     ensures { values.new ≡ record values.old {
       values = with_default rules.now.values vwc values.old.values feature;
@@ -139,7 +140,7 @@ fn fill_default(values: &mut FeatureValues, rules: &Slots<FeatureRule>, vwc: u8,
     }
 }
 
-/// Gives each of some features its default.
+/// Sets the default of each of some features.
 fn fill_defaults(
     values: &mut FeatureValues,
     rules: &Slots<FeatureRule>,
@@ -155,8 +156,8 @@ fn fill_defaults(
     }
 }
 
-/// Gives each namespace that the file attaches to the controller with this identifier a value of
-/// Error Recovery.
+/// Sets the value of Error Recovery of each namespace that the file attaches to the controller with
+/// this identifier.
 fn fill_recoveries(
     values: &mut FeatureValues,
     rules: &Slots<FeatureRule>,
@@ -177,7 +178,7 @@ fn fill_recoveries(
     }
 }
 
-/// The values of the features of a controller of a file, all at their defaults.
+/// Returns the values of the features of a controller of a file, all at their defaults.
 fn feature_values(
     alloc: Global,
     nn: u32,
@@ -201,7 +202,7 @@ fn feature_values(
     Ok(values)
 }
 
-/// A controller of a file, before its first command.
+/// Returns a controller of a file, before its first command.
 fn controller(
     alloc: Global,
     nn: u32,
@@ -234,7 +235,7 @@ fn controller(
     })
 }
 
-/// The controllers of a file, before their first commands.
+/// Returns the controllers of a file, before their first commands.
 pub(crate) fn controllers(
     alloc: Global,
     nn: u32,

@@ -1,4 +1,4 @@
-//! The Identify commands: when they are refused, and what they answer. Section "Identify command".
+//! The Identify commands: when they are refused, and what they return. Section "Identify command".
 
 ghost use Rattle.std.specs.Prelude.{◌≡◌, ◌≤◌, ◌<◌, length, All};
 ghost use Rattle.nv_model.specs.WellFormed.{blocks};
@@ -17,10 +17,10 @@ use nv_command::{BROADCAST_NSID, Refusal, Reply, StatusCode};
 use nv_layout::{IdNs, Lbaf, NsList};
 use nv_model::{Format, Namespace};
 
-/// The least NSID after which no list can be asked for.
+/// The least NSID after which no list can be requested.
 pub const LIST_LIMIT: u32 = 0xffff_fffe;
 
-/// Why a list after an NSID is refused.
+/// Refuses a list after an NSID by the first condition that holds.
 pub(crate) fn check_list(after: u32) -> Result<(), Refusal>
     ensures { Checks (list_rows after) result }
 {
@@ -28,7 +28,7 @@ pub(crate) fn check_list(after: u32) -> Result<(), Refusal>
 }
 
 impl Subsystem {
-    /// Why an active namespace is refused.
+    /// Refuses an Identify of an active namespace by the first condition that holds.
     pub(crate) fn check_active(&self, nsid: u32) -> Result<(), Refusal>
         ensures { Checks (active_rows self.now nsid) result }
     {
@@ -38,14 +38,14 @@ impl Subsystem {
         )
     }
 
-    /// Why an allocated namespace is refused.
+    /// Refuses an Identify of an allocated namespace by the first condition that holds.
     pub(crate) fn check_allocated(&self, nsid: u32) -> Result<(), Refusal>
         ensures { Checks (allocated_rows self.now nsid) result }
     {
         refuse_if(!self.is_valid(nsid), StatusCode::InvalidNamespaceOrFormat)
     }
 
-    /// An allocated namespace; zeros where there is none.
+    /// Returns the data of an allocated namespace, or zeros if there is none.
     fn allocated(&self, nsid: u32) -> IdNs
         ensures { result ≡ allocated_namespace self.now nsid }
     {
@@ -55,7 +55,7 @@ impl Subsystem {
         }
     }
 
-    /// Whether a namespace is attached to a controller.
+    /// Returns whether a namespace is attached to a controller.
     pub(crate) fn is_active(&self, ctrl: u16, nsid: u32) -> bool
         requires { ctrl < length self.now.controllers }
         ensures { result ≡ is_active self.now ctrl nsid }
@@ -63,7 +63,7 @@ impl Subsystem {
         self.controllers[ctrl as usize].attached.contains(nsid)
     }
 
-    /// A namespace that is attached to a controller; zeros where it isn't.
+    /// Returns the data of a namespace that is attached to a controller, or zeros if it isn't.
     fn active(&self, ctrl: u16, nsid: u32) -> IdNs
         requires { ctrl < length self.now.controllers }
         ensures { result ≡ active_namespace self.now ctrl nsid }
@@ -75,7 +75,8 @@ impl Subsystem {
         }
     }
 
-    /// An active namespace; what all have in common for the broadcast NSID.
+    /// Returns the reply for an active namespace, or for the broadcast NSID what all have in
+    /// common.
     pub(crate) fn active_reply<'a>(&self, ctrl: u16, nsid: u32) -> Reply<'a>
         requires { ctrl < length self.now.controllers }
         ensures { result ≡ active_reply self.now ctrl nsid }
@@ -87,14 +88,15 @@ impl Subsystem {
         }
     }
 
-    /// An allocated namespace.
+    /// Returns the reply for an allocated namespace.
     pub(crate) fn allocated_reply<'a>(&self, nsid: u32) -> Reply<'a>
         ensures { result ≡ allocated_reply self.now nsid }
     {
         Reply::Namespace(self.allocated(nsid))
     }
 
-    /// The NSIDs above one that are attached to a controller, in a list that is made for them.
+    /// Returns the reply with the NSIDs above `after` that are attached to a controller. It writes
+    /// them to `list`.
     pub(crate) fn active_list_reply<'a>(
         &self,
         ctrl: u16,
@@ -108,7 +110,7 @@ impl Subsystem {
         Reply::List(list.ids())
     }
 
-    /// The allocated NSIDs above one, in a list that is made for them.
+    /// Returns the reply with the allocated NSIDs above `after`. It writes them to `list`.
     pub(crate) fn allocated_list_reply<'a>(&self, after: u32, list: &'a mut NsList) -> Reply<'a>
         ensures { result ≡ allocated_list_reply self.now after }
     {
@@ -117,7 +119,7 @@ impl Subsystem {
     }
 }
 
-/// A format as Identify lists it.
+/// Returns a format as Identify lists it.
 fn lbaf(format: &Format) -> Lbaf
     ensures { result ≡ lbaf_of format.now }
 {
@@ -134,7 +136,7 @@ const NO_LBAF: Lbaf = Lbaf {
     rp: 0,
 };
 
-/// The formats, and zeros up to sixteen.
+/// Returns the formats, followed by zeros up to sixteen.
 fn lbafs(formats: &[Format]) -> [Lbaf; 16]
     requires { length formats.now ≤ 16 }
     ensures { result ≡ lbafs_of formats.now }
@@ -146,7 +148,7 @@ fn lbafs(formats: &[Format]) -> [Lbaf; 16]
     lbafs
 }
 
-/// A namespace that isn't there.
+/// Returns the data of a namespace that doesn't exist.
 fn blank_namespace() -> IdNs
     ensures { result ≡ blank }
 {
@@ -166,7 +168,7 @@ fn blank_namespace() -> IdNs
     }
 }
 
-/// What all namespaces have in common.
+/// Returns the data that all namespaces have in common.
 fn common(formats: &[Format], mc: u8) -> IdNs
     requires formats { (1 ≤ length formats.now) × (length formats.now ≤ 16) }
     ensures { result ≡ common_of formats.now mc }
@@ -179,7 +181,7 @@ fn common(formats: &[Format], mc: u8) -> IdNs
     }
 }
 
-/// The size of a namespace in logical blocks of its format, rounded down.
+/// Returns the size of a namespace in logical blocks of its format, rounded down.
 fn block_count(formats: &[Format], namespace: &Namespace) -> u64
     requires { All (λ f. f.lbads ≤ 16) formats.now }
     ensures { result ≡ blocks formats.now namespace.now }
@@ -190,7 +192,7 @@ fn block_count(formats: &[Format], namespace: &Namespace) -> u64
     }
 }
 
-/// What is told of a namespace.
+/// Returns the data of a namespace.
 fn describe(formats: &[Format], mc: u8, namespace: &Namespace) -> IdNs
     requires formats { (1 ≤ length formats.now) × (length formats.now ≤ 16) }
     requires block_sizes { All (λ f. f.lbads ≤ 16) formats.now }

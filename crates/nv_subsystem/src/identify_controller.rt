@@ -1,4 +1,4 @@
-//! What Identify tells of a controller. Section "Identify Controller data structure (CNS 01h)".
+//! The Identify data of a controller. Section "Identify Controller data structure (CNS 01h)".
 
 ghost use Rattle.std.specs.Prelude.{◌≡◌, ◌<◌, length};
 ghost use Rattle.nv_subsystem.specs.inner.ControllerView.{controller_view};
@@ -10,7 +10,7 @@ use crate::subsystem::Subsystem;
 use nv_command::Reply;
 use nv_layout::IdCtrl;
 
-/// A text with padding after it.
+/// Returns a text with padding after it.
 fn padded<const N: usize>(text: &[u8], padding: u8) -> [u8; N]
     ensures { result ≡ padded N padding text.now }
 {
@@ -21,7 +21,7 @@ fn padded<const N: usize>(text: &[u8], padding: u8) -> [u8; N]
 }
 
 impl Controller {
-    /// What it can do at a format: bit 2 erase by a key.
+    /// Returns FNA, which says what a format can do: erase by destroying a key (bit 2).
     fn fna(&self) -> u8
         ensures { result ≡ fna_of (controller_view self.now) }
     {
@@ -30,16 +30,17 @@ impl Controller {
 }
 
 impl Subsystem {
-    /// How it shares namespaces: bit 1 where it has two controllers or more.
+    /// Returns CMIC, which says how namespaces are shared: bit 1 if there are two controllers or
+    /// more.
     fn cmic(&self) -> u8
         ensures { result ≡ cmic_of self.now }
     {
         if self.controllers.len() >= 2 { 0x02 } else { 0 }
     }
 
-    /// What is told of a controller: version 1.4, with Format NVM and Namespace Management (OACS),
-    /// one firmware slot (FRMW), offsets into logs (LPA), entries of 64 and of 16 bytes (SQES,
-    /// CQES), and values of features that are saved (ONCS).
+    /// Returns the data of a controller: version 1.4, with Format NVM and Namespace Management
+    /// (OACS), one firmware slot (FRMW), offsets into logs (LPA), entries of 64 and of 16 bytes
+    /// (SQES, CQES), and feature values that can be saved (ONCS).
     fn id_ctrl(&self, controller: &Controller) -> IdCtrl
         ensures { result ≡ id_ctrl_of self.now (controller_view controller.now) }
     {
@@ -76,7 +77,7 @@ impl Subsystem {
         }
     }
 
-    /// A controller.
+    /// Returns the reply with a controller's data.
     pub(crate) fn controller_reply<'a>(&self, ctrl: u16) -> Reply<'a>
         requires { ctrl < length self.now.controllers }
         ensures { result ≡ controller_reply self.now ctrl }

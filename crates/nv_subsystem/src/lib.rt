@@ -1,5 +1,5 @@
-//! An NVM subsystem: its file, its namespaces, and what each command does to it. What a caller
-//! writes of commands and reads of replies is passed on, so that no other crate has to be named:
+//! An NVM subsystem: its file, its namespaces, and what each command does to it. The types that
+//! commands and replies are made of are re-exported, so you need no other crate:
 //!
 //! ```
 //! use nv_subsystem::{Command, DEMO, Origin, Reply, ReplyRoom, Subsystem, SubsystemError};
@@ -42,7 +42,7 @@ mod subsystem;
 
 pub use nv_command::{
     BROADCAST_NSID, Command, DwordCount, ERROR_INFORMATION, FeatureQuery, FeatureSetting, HEALTH,
-    LogQuery, Refusal, Reply, ReplyRoom, StatusCode,
+    LogQuery, NewFormat, NewNamespace, Refusal, Reply, ReplyRoom, StatusCode,
 };
 pub use nv_file::{DEMO, Key, SubsystemError, TableName};
 pub use nv_layout::{ControllerIds, FourBits, NsList, ThreeBits};

@@ -1,4 +1,4 @@
-//! The logs of a controller: when a Get Log Page is refused, and what it answers. Section "Get Log
+//! The logs of a controller: when a Get Log Page is refused, and what it returns. Section "Get Log
 //! Page command".
 
 ghost use Rattle.std.specs.Prelude.{◌≡◌, ◌+◌, ◌<◌, ◌≤◌, length};
@@ -15,7 +15,7 @@ use nv_layout::{ErrorEntries, Smart};
 use nv_model::Row;
 
 impl Controller {
-    /// The error log, newest first, with entries without an error up to ELPE + 1.
+    /// Returns the error log, newest first, with entries without an error up to ELPE + 1.
     fn errors(&self) -> ErrorEntries<'_>
         requires { self.now.log.most ≡ self.now.identity.numbers.elpe + 1 }
         ensures { result ≡ errors_of (controller_view self.now) }
@@ -23,7 +23,7 @@ impl Controller {
         self.log.entries()
     }
 
-    /// The health log: what the file gives, and how many commands were refused.
+    /// Returns the health log: what the file says, and how many commands were refused.
     fn health(&self) -> Smart
         ensures { result ≡ smart_of (controller_view self.now) }
     {
@@ -54,7 +54,7 @@ impl Controller {
 }
 
 impl Subsystem {
-    /// The bytes of a log.
+    /// Returns the length of a log in bytes.
     fn log_length(&self, ctrl: u16, lid: u8) -> u64
         requires { ctrl < length self.now.controllers }
         ensures { result ≡ log_length self.now ctrl lid }
@@ -67,7 +67,8 @@ impl Subsystem {
         }
     }
 
-    /// Why a log is refused. The conditions go in the order of the rows.
+    /// Refuses a Get Log Page by the first condition that holds. The conditions are in the order of
+    /// the rows.
     pub(crate) fn check_log(&self, ctrl: u16, asked: LogQuery) -> Result<(), Refusal>
         requires { ctrl < length self.now.controllers }
         ensures { Checks (log_rows self.now ctrl asked) result }
@@ -98,7 +99,7 @@ impl Subsystem {
         ])
     }
 
-    /// A log of a controller.
+    /// Returns the reply with a log of a controller.
     pub(crate) fn log_reply(&self, ctrl: u16, lid: u8) -> Reply<'_>
         requires { ctrl < length self.now.controllers }
         ensures { result ≡ log_reply self.now ctrl lid }

@@ -1,4 +1,4 @@
-//! Namespace Management: when a create or a delete is refused, what it answers, and what it
+//! Namespace Management: when a create or a delete is refused, what it returns, and what it
 //! changes. Section "Namespace Management command".
 
 ghost use Rattle.std.specs.Prelude.{◌≡◌, ◌≤◌, None};
@@ -13,24 +13,25 @@ ghost use Rattle.nv_model.specs.inner.Conditions.{Checks};
 use crate::attachment::{detach_all, detach_everywhere};
 use crate::row::check;
 use crate::subsystem::Subsystem;
-use nv_command::{BROADCAST_NSID, Refusal, StatusCode};
-use nv_model::{Namespace, NewNamespace, Row};
+use nv_command::{BROADCAST_NSID, NewNamespace, Refusal, StatusCode};
+use nv_model::{Namespace, Row};
 
-/// The index of the format (FLBAS 3:0).
+/// Returns the index of the format (FLBAS 3:0).
 fn format_index(flbas: u8) -> u8
     ensures { result ≡ format_index flbas }
 {
     flbas & 0x0f
 }
 
-/// Whether metadata is to lie at the end of each logical block (FLBAS bit 4).
+/// Returns whether metadata is to lie at the end of each logical block (FLBAS bit 4).
 fn is_extended(flbas: u8) -> bool
     ensures { result ≡ is_extended flbas }
 {
     flbas & 0x10 != 0
 }
 
-/// The refusal of a create that needs so many bytes. They are told, as far as 64 bits go.
+/// Returns the refusal of a create that needs `bytes` bytes. It reports this number, or the
+/// greatest one of 64 bits.
 fn capacity_refusal(bytes: u128) -> Refusal
     ensures { result ≡ capacity_refusal bytes }
 {
@@ -41,7 +42,7 @@ fn capacity_refusal(bytes: u128) -> Refusal
 }
 
 impl Subsystem {
-    /// The bytes of the logical blocks that are asked for, without their metadata.
+    /// Returns how many bytes the requested logical blocks have, without their metadata.
     fn bytes_needed(&self, wanted: &NewNamespace) -> u128
         ensures { result ≡ bytes_needed self.now wanted.now }
     {
@@ -52,14 +53,15 @@ impl Subsystem {
         }
     }
 
-    /// The least free NSID of 1 to NN.
+    /// Returns the least free NSID from 1 to NN.
     fn free_nsid(&self) -> Option<u32>
         ensures { result ≡ free_nsid self.now }
     {
         self.slots.lowest_free()
     }
 
-    /// Why a create is refused. The conditions go in the order of the rows.
+    /// Refuses a create by the first condition that holds. The conditions are in the order of the
+    /// rows.
     pub(crate) fn check_create(&self, wanted: &NewNamespace) -> Result<(), Refusal>
         ensures { Checks (create_rows self.now wanted.now) result }
     {
@@ -92,14 +94,14 @@ impl Subsystem {
         ])
     }
 
-    /// The NSID that a create answers.
+    /// Returns the NSID that a create returns.
     pub(crate) fn created_nsid(&self) -> u32
         ensures { result ≡ created_nsid self.now }
     {
         self.free_nsid().unwrap_or(0)
     }
 
-    /// The namespace that a create makes.
+    /// Returns the namespace that a create makes.
     fn new_namespace(&self, wanted: &NewNamespace) -> Namespace
         requires { bytes_needed self.now wanted.now ≤ unallocated self.now }
         ensures { result ≡ new_namespace self.now wanted.now }
@@ -115,7 +117,7 @@ impl Subsystem {
         }
     }
 
-    /// Makes a namespace of the least free NSID, attached to no controller.
+    /// Creates a namespace with the least free NSID. It is attached to no controller.
     pub(crate) fn create(&mut self, wanted: &NewNamespace)
         requires { first_refusal (create_rows self.old wanted.now) ≡ None }
         ensures { self.new ≡ created self.old wanted.now }
@@ -126,7 +128,7 @@ impl Subsystem {
         }
     }
 
-    /// Why a delete is refused.
+    /// Refuses a delete by the first condition that holds.
     pub(crate) fn check_delete(&self, nsid: u32) -> Result<(), Refusal>
         ensures { Checks (delete_rows self.now nsid) result }
     {
@@ -143,7 +145,7 @@ impl Subsystem {
         ])
     }
 
-    /// Deletes a namespace, and with it its attachments.
+    /// Deletes a namespace and its attachments.
     fn delete_one(&mut self, nsid: u32)
         ensures { self.new ≡ without_one self.old nsid }
     {
@@ -151,7 +153,7 @@ impl Subsystem {
         self.remove_namespace(nsid);
     }
 
-    /// Deletes all namespaces, and with them all attachments.
+    /// Deletes all namespaces and their attachments.
     fn delete_all(&mut self)
         ensures { self.new ≡ without_all self.old }
     {
@@ -159,7 +161,7 @@ impl Subsystem {
         self.clear_namespaces();
     }
 
-    /// Deletes a namespace, and all of them for the broadcast NSID.
+    /// Deletes a namespace, or for the broadcast NSID all of them.
     pub(crate) fn delete(&mut self, nsid: u32)
         ensures { self.new ≡ deleted self.old nsid }
     {

@@ -13,7 +13,7 @@ use nv_command::BROADCAST_NSID;
 use nv_layout::NsList;
 use nv_model::Namespace;
 
-/// The attached NSIDs above one.
+/// Writes the attached NSIDs above `after` to `list`.
 pub(crate) fn attached_above(attached: &BitSet, after: u32, list: &mut NsList)
     requires { attached.now.count ≤ most_nsids }
     ensures { list.new ≡ above after (ascending attached.now.members) }
@@ -29,7 +29,7 @@ pub(crate) fn attached_above(attached: &BitSet, after: u32, list: &mut NsList)
     }
 }
 
-/// The allocated NSIDs above one.
+/// Writes the allocated NSIDs above `after` to `list`.
 pub(crate) fn allocated_above(slots: &Slots<Namespace>, after: u32, list: &mut NsList)
     requires { slots.now.count ≤ most_nsids }
     ensures { list.new ≡ above after (map_of.keys slots.now.values) }
@@ -46,8 +46,8 @@ pub(crate) fn allocated_above(slots: &Slots<Namespace>, after: u32, list: &mut N
 }
 
 impl Subsystem {
-    /// The NSIDs that a command concerns: for the broadcast one all that are active on the
-    /// controller.
+    /// Returns the NSIDs that a command concerns. For the broadcast NSID these are all that are
+    /// active on the controller.
     pub(crate) fn concerned(&self, ctrl: u16, nsid: u32) -> NsList
         requires { ctrl < length self.now.controllers }
         ensures { result ≡ concerned self.now ctrl nsid }

@@ -10,7 +10,7 @@ use crate::controller::Controller;
 use crate::subsystem::Subsystem;
 
 impl Controller {
-    /// Gives each feature its saved value, or its default.
+    /// Restores each feature to its saved value, or to its default.
     fn reset(&mut self)
         ensures view { controller_view self.new ≡ with_restored (controller_view self.old) }
         ensures sized { (nn : ℕ) → IsSized nn self.old → IsSized nn self.new }
@@ -20,8 +20,9 @@ impl Controller {
 }
 
 impl Subsystem {
-    /// Resets a controller: each of its features has its saved value again, or its default where
-    /// nothing was saved. All else stays. Sections "Controller Level Reset" and "Feature Values".
+    /// Resets a controller: each of its features is restored to its saved value, or to its default
+    /// if none was saved. Nothing else changes. Sections "Controller Level Reset" and "Feature
+    /// Values".
     pub fn reset(&mut self, ctrl: u16)
         requires { ctrl < length self.old.controllers }
         ensures state { self.new ≡ reset self.old ctrl }

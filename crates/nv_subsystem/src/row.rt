@@ -19,7 +19,7 @@ pub(crate) fn check(rows: &[Row]) -> Result<(), Refusal>
     Ok(())
 }
 
-/// One row: refuses with a code, and nothing specific to the command, where a condition holds.
+/// Refuses with a code, and no command specific value, if a condition holds. This is one row.
 pub(crate) fn refuse_if(when: bool, code: StatusCode) -> Result<(), Refusal>
     ensures { Checks (row when code ∷ []) result }
 {

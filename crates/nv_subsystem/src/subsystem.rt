@@ -1,8 +1,10 @@
 //! A subsystem, and what its commands do.
 
-ghost use Rattle.std.specs.Prelude.{◌≡◌, ◌<◌, ◌≤◌, ◌^◌, ℕ, length, None, IfOk, IfErr};
+ghost use Rattle.std.specs.Prelude.{◌≡◌, ◌<◌, ◌≤◌, ◌^◌, ℕ, length, None, IfOk, IfErr, false};
+ghost use Rattle.std.specs.Str.{is_utf8};
 ghost use Rattle.nv_model.specs.LogEntry.{counts_of, log_entry_of};
 ghost use Rattle.nv_file.specs.Fault.{IsUnlessMemory};
+ghost use Rattle.nv_file.specs.File.{IsBlankText, no_version};
 ghost use Rattle.nv_file.specs.FileValue.{file_view};
 ghost use Rattle.nv_subsystem.specs.FromFile.{state_of, subsystem};
 ghost use Rattle.nv_subsystem.specs.Tagged.{booked, settled, untagged};
@@ -25,7 +27,7 @@ use nv_bits::Slots;
 use nv_command::{Command, Refusal, Reply, ReplyRoom};
 use nv_file::{File, SubsystemError};
 use nv_layout::{ErrorEntry, NsList};
-use nv_model::{Format, Namespace, NewFormat, NewNamespace, Origin};
+use nv_model::{Format, Namespace, Origin};
 use std::alloc::Global;
 use std::marker::Model;
 
@@ -33,13 +35,13 @@ use std::marker::Model;
 #[derive(Drop)]
 pub struct Subsystem {
     pub(crate) tnvmcap: u64,
-    /// The bytes of capacity that no namespace has.
+    /// The unallocated capacity in bytes.
     pub(crate) unallocated: u64,
     pub(crate) mc: u8,
     pub(crate) subnqn: String,
     pub(crate) formats: Vec<Format>,
     pub(crate) controllers: Vec<Controller>,
-    /// The namespaces by NSID, out of 1 to NN.
+    /// The namespaces by NSID, from 1 to NN.
     pub(crate) slots: Slots<Namespace>,
 }
 
@@ -72,7 +74,7 @@ impl Model for Subsystem {
 }
 
 impl Subsystem {
-    /// The subsystem of a file.
+    /// Creates the subsystem of a file.
     fn from_file(alloc: Global, file: File) -> Result<Subsystem, SubsystemError>
         requires { IsFile (file_view file) }
         ensures state { IfOk result (λ s. s ≡ state_of (file_view file)) }
@@ -93,10 +95,13 @@ impl Subsystem {
     }
 
     /// Reads a subsystem file: the subsystem that its tables give, or its first fault, unless
-    /// memory runs out.
+    /// memory runs out. What is found before anything is allocated is answered whatever memory there
+    /// is, as `File::from_toml` does.
     #[tactic(auto, unfolding(crate::specs::FromFile::subsystem))]
     pub fn from_toml(alloc: Global, bytes: &[u8]) -> Result<Subsystem, SubsystemError>
         ensures exact { IsUnlessMemory (λ s. s) result (subsystem bytes.now) }
+        ensures text { is_utf8 bytes.now ≡ false → result ≡ Err SubsystemError.NotToml }
+        ensures blank { IsBlankText bytes.now → result ≡ Err no_version }
         ensures well_formed { IfOk result IsWellFormed }
     {
         let file = File::from_toml(alloc, bytes)?;
@@ -104,14 +109,14 @@ impl Subsystem {
         Ok(subsystem)
     }
 
-    /// The number of controllers.
+    /// Returns the number of controllers.
     pub fn controllers(&self) -> u16
         ensures { result ≡ length self.now.controllers }
     {
         self.controllers.len() as u16
     }
 
-    /// How many commands a controller refused, and how many it took.
+    /// Returns how many commands a controller refused, and how many it took.
     pub fn counts(&self, ctrl: u16) -> (u64, u64)
         requires { ctrl < length self.now.controllers }
         ensures { result ≡ counts_of self.now ctrl }
@@ -120,8 +125,9 @@ impl Subsystem {
         (controller.refusals, controller.commands)
     }
 
-    /// MDTS of a controller: the most pages of 4,096 bytes that a command moves, as a power of two.
-    /// Section "Identify Controller data structure (CNS 01h)", Maximum Data Transfer Size.
+    /// Returns the MDTS of a controller: the greatest number of 4,096-byte pages that a command
+    /// transfers, as a power of two. Section "Identify Controller data structure (CNS 01h)",
+    /// Maximum Data Transfer Size.
     pub fn mdts(&self, ctrl: u16) -> u8
         requires { ctrl < length self.now.controllers }
         ensures value { result ≡ mdts_of self.now ctrl }
@@ -130,8 +136,8 @@ impl Subsystem {
         self.controllers[ctrl as usize].identity.numbers.mdts
     }
 
-    /// How many bytes of data a command of a controller has at most. Section "Identify Controller
-    /// data structure (CNS 01h)", Maximum Data Transfer Size.
+    /// Returns the greatest length of the data of a controller's command, in bytes. Section
+    /// "Identify Controller data structure (CNS 01h)", Maximum Data Transfer Size.
     #[tactic(auto, using(nv_model::proofs::LimitLaws::limit_within))]
     pub fn limit(&self, ctrl: u16) -> u64
         requires { ctrl < length self.now.controllers }
@@ -141,8 +147,8 @@ impl Subsystem {
         4096 * (1 << self.mdts(ctrl))
     }
 
-    /// The entry of a controller's error log at this index, from the newest on, with the phase tag
-    /// that its completion had. "Error Information (Log Identifier 01h)".
+    /// Returns the entry of a controller's error log at an index, counted from the newest, with the
+    /// phase tag that its completion had. Section "Error Information (Log Identifier 01h)".
     pub fn log_entry(&self, ctrl: u16, index: usize) -> Option<ErrorEntry>
         requires { ctrl < length self.now.controllers }
         ensures { result ≡ log_entry_of self.now ctrl index }
@@ -150,14 +156,14 @@ impl Subsystem {
         self.controllers[ctrl as usize].log.get(index)
     }
 
-    /// Whether the subsystem could have a namespace of this NSID.
+    /// Returns whether the subsystem could have a namespace of this NSID.
     pub(crate) fn is_valid(&self, nsid: u32) -> bool
         ensures { result ≡ is_valid self.now nsid }
     {
         1 <= nsid && nsid <= self.slots.count()
     }
 
-    /// Why a command of a controller is refused: the first of its rows that applies.
+    /// Refuses a command of a controller by the first of its rows that applies.
     fn check(&self, ctrl: u16, command: &Command) -> Result<(), Refusal>
         requires { ctrl < length self.now.controllers }
         ensures { Checks (rows_of self.now ctrl command.now) result }
@@ -168,33 +174,20 @@ impl Subsystem {
             Command::AllocatedNamespace { nsid } => self.check_allocated(*nsid),
             Command::ActiveList { after } => check_list(*after),
             Command::AllocatedList { after } => check_list(*after),
-            Command::Create {
-                nsze,
-                ncap,
-                flbas,
-                dps,
-                nmic,
-            } => self.check_create(&NewNamespace::new(*nsze, *ncap, *flbas, *dps, *nmic)),
+            Command::Create(wanted) => self.check_create(wanted),
             Command::Delete { nsid } => self.check_delete(*nsid),
             Command::Attachment { nsid, detach, list } => {
                 self.check_attachment(*nsid, *detach, list.as_slice())
             }
-            Command::Format {
-                nsid,
-                lbaf,
-                mset,
-                pi,
-                pil,
-                ses,
-            } => self.check_format(ctrl, *nsid, &NewFormat::new(*lbaf, *mset, *pi, *pil, *ses)),
+            Command::Format(asked) => self.check_format(ctrl, asked),
             Command::GetFeature(asked) => self.check_get_feature(ctrl, *asked),
             Command::SetFeature(asked) => self.check_set_feature(ctrl, *asked),
             Command::GetLog(asked) => self.check_log(ctrl, *asked),
         }
     }
 
-    /// What a command that isn't refused is answered. A list is made in the place for one; a log
-    /// stands where it is.
+    /// Returns the reply to a command that isn't refused. A list is written to `list`; a log is
+    /// borrowed.
     fn reply<'a>(&'a self, ctrl: u16, command: &Command, list: &'a mut NsList) -> Reply<'a>
         requires { ctrl < length self.now.controllers }
         ensures { result ≡ reply_of self.now ctrl command.now }
@@ -205,17 +198,17 @@ impl Subsystem {
             Command::AllocatedNamespace { nsid } => self.allocated_reply(*nsid),
             Command::ActiveList { after } => self.active_list_reply(ctrl, *after, list),
             Command::AllocatedList { after } => self.allocated_list_reply(*after, list),
-            Command::Create { .. } => Reply::Number(self.created_nsid()),
+            Command::Create(_) => Reply::Number(self.created_nsid()),
             Command::Delete { nsid: _ } => Reply::Done,
             Command::Attachment { .. } => Reply::Done,
-            Command::Format { .. } => Reply::Done,
+            Command::Format(_) => Reply::Done,
             Command::GetFeature(asked) => Reply::Number(self.feature_number(ctrl, *asked)),
             Command::SetFeature(_) => Reply::Done,
             Command::GetLog(asked) => self.log_reply(ctrl, asked.lid),
         }
     }
 
-    /// What a command that isn't refused changes.
+    /// Makes the changes of a command that isn't refused.
     fn apply(&mut self, ctrl: u16, command: &Command)
         requires ctrl { ctrl < length self.old.controllers }
         requires accepted { refusal_of self.old ctrl command.now ≡ None }
@@ -227,25 +220,12 @@ impl Subsystem {
             Command::AllocatedNamespace { nsid: _ } => {}
             Command::ActiveList { after: _ } => {}
             Command::AllocatedList { after: _ } => {}
-            Command::Create {
-                nsze,
-                ncap,
-                flbas,
-                dps,
-                nmic,
-            } => self.create(&NewNamespace::new(*nsze, *ncap, *flbas, *dps, *nmic)),
+            Command::Create(wanted) => self.create(wanted),
             Command::Delete { nsid } => self.delete(*nsid),
             Command::Attachment { nsid, detach, list } => {
                 self.change_attachment(*nsid, *detach, list.as_slice());
             }
-            Command::Format {
-                nsid,
-                lbaf,
-                mset,
-                pi,
-                pil,
-                ses,
-            } => self.format(ctrl, *nsid, &NewFormat::new(*lbaf, *mset, *pi, *pil, *ses)),
+            Command::Format(asked) => self.format(ctrl, asked),
             Command::GetFeature(_) => {}
             Command::SetFeature(asked) => self.set_feature(ctrl, *asked),
             Command::GetLog(_) => {}
@@ -261,7 +241,7 @@ impl Subsystem {
         controller.count_command();
     }
 
-    /// Books a refusal in the error log of a controller.
+    /// Records a refusal in the error log of a controller.
     fn book(&mut self, ctrl: u16, origin: Origin, nsid: u32, refusal: Refusal)
         requires { ctrl < length self.old.controllers }
         ensures state { self.new ≡ booked self.old ctrl nsid origin refusal }
@@ -272,8 +252,8 @@ impl Subsystem {
         controller.book(origin, nsid, refusal);
     }
 
-    /// Books a refusal in the error log of a controller, as its newest entry with the phase tag of
-    /// its completion, and counts the command. Nothing else changes.
+    /// Records a refusal in the error log of a controller, as its newest entry with the phase tag
+    /// of its completion, and counts the command. Nothing else changes.
     pub fn refuse(&mut self, ctrl: u16, origin: Origin, nsid: u32, refusal: Refusal)
         requires { ctrl < length self.old.controllers }
         ensures state { self.new ≡ with_command (booked self.old ctrl nsid origin refusal) ctrl }
@@ -285,8 +265,8 @@ impl Subsystem {
         self.count(ctrl);
     }
 
-    /// What a command of a controller is answered now. A list is made in the place for one, which
-    /// is of no account before, nor after a refusal; a log stands where it is.
+    /// Returns the answer to a command of a controller, without its changes. A list is written to
+    /// `list`, whose contents don't matter before, nor after a refusal; a log is borrowed.
     pub fn answer<'a>(
         &'a self,
         ctrl: u16,
@@ -302,8 +282,8 @@ impl Subsystem {
         Ok(self.reply(ctrl, command, list))
     }
 
-    /// Ends a command that was answered: changes what it changes, or books its refusal in the error
-    /// log of its controller, which counts the command in both cases.
+    /// Completes a command that was answered: makes its changes, or records its refusal in the
+    /// error log of the controller. The controller counts the command in both cases.
     pub fn settle(&mut self, ctrl: u16, command: &Command, origin: Origin, refusal: Option<Refusal>)
         requires ctrl { ctrl < length self.old.controllers }
         requires answered { refusal ≡ refusal_of self.old ctrl command.now }
@@ -320,8 +300,8 @@ impl Subsystem {
         }
     }
 
-    /// Executes a command of a controller, and keeps its reply in the room, of which after a
-    /// refusal the content is of no account. A refusal books itself in that controller's error log;
+    /// Executes a command of a controller, and stores its reply in `room`. After a refusal the
+    /// contents of `room` don't matter. A refusal is recorded in the controller's error log, and
     /// the controller counts the command in both cases.
     pub fn execute<'a>(
         &mut self,
@@ -356,7 +336,7 @@ impl Subsystem {
     }
 }
 
-/// Each reply is one for its command and fits its record. It does nothing when it is called.
+/// States a law: each reply belongs to its command and fits its record. The call does nothing.
 pub fn replies_fit()
     ensures { RepliesFit }
 {}

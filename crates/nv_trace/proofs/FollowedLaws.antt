@@ -1,4 +1,4 @@
--- How what is kept of a controller's rings follows them, along writes and turns.
+-- How the queues that a trace keeps follow a controller's rings, through writes and turns.
 use Rattle.std.proofs.Common.{◌≡◌, ◌≢◌, ◌∙◌, ℕ, zero, suc, ◌+◌, ◌*◌, ◌/◌, ◌%◌, ◌^◌, ◌==◌, ◌<◌, ◌≤◌, ◌⊎◌}
 use Rattle.std.proofs.Common.{Bool, true, false, List, ap, arith, inl, inr, length, refl, subst, sym, zero-add}
 use Rattle.std.proofs.lemmas.Bool.{cases_eq, cases_lt}
@@ -37,7 +37,7 @@ use Rattle.nv_trace.specs.Followed.{AreAhead, AreFollowed, Follows, IsAt}
 use Rattle.nv_trace.specs.inner.Followed.{AreFurther, IsFurther}
 use Rattle.nv_trace.proofs.SlotLaws.{slot_ahead}
 
--- ---- what registers read
+-- ---- the values of registers
 
 -- EN as it was set
 en_by : (en : Bool) (mps sq cq : ℕ)
@@ -59,7 +59,7 @@ en_read c = en_by c.en c.sizes.mps c.sizes.iosqes c.sizes.iocqes
 pub address_read : (address : ℕ) → address / 2 ^ 32 * 2 ^ 32 + address % 2 ^ 32 ≡ address
 address_read address = omega arith
 
--- the sizes of queues, where they have at most 4,096 entries
+-- the sizes of queues, if they have at most 4,096 entries
 pub sizes_read : (q : AdminQueueAttributes) → q.asqs ≤ 4095 → q.acqs ≤ 4095
     → ((aqa_of_dword (aqa_dword q)).asqs ≡ q.asqs) × ((aqa_of_dword (aqa_dword q)).acqs ≡ q.acqs)
 sizes_read q few less = (omega arith, omega arith)
@@ -74,7 +74,7 @@ further_more n q q' q2 so_far one r k at =
     let same : k + n + 1 ≡ k + (n + 1) = omega arith in
     subst (λ m. AreAhead m q2 r) same (one r (k + n) (so_far r k at))
 
--- both rings go on by one slot
+-- both rings move on by one slot
 abbrev Steps : Slots → Slots → Type 0
 Steps old new = (n base depth : ℕ) → IsAt n base depth old → IsAt (n + 1) base depth new
 
@@ -94,7 +94,7 @@ further_one old new submission completion r k at =
 
 -- ---- the rings after a write
 
--- a doorbell changes no number of what is taken or posted
+-- a doorbell changes no number of what was taken or posted
 rung_by_test : (b : Bool) (n t : ℕ) (q : AdminQueues) (r : Rings) → AreAhead n q r
     → AreAhead n q (record r { submission = if b then rung_to r.submission t else r.submission })
 rung_by_test true n t q r at = record { submission = at.submission; completion = at.completion }
@@ -114,7 +114,7 @@ told_ahead n t q r at =
     told_by_test (nat_lt t ring.depth && nat_le (ahead ring.depth ring.told t) (above ring.depth ring.posted ring.told))
     n t q r at
 
--- a controller by whether it is ready
+-- a controller, depending on whether it is ready
 abbrev FollowsBy : AdminQueues → Readiness → Type 0
 FollowsBy q x = (r : Rings) (fatal : Bool) → x ≡ Ready r fatal → AreAhead 0 q r
 
@@ -125,7 +125,7 @@ changed q change keeps Failed at r fatal is = absurd (cc)
 changed q change keeps (Ready s f) at r fatal is =
     let same : change s ≡ r = cc in subst (AreAhead 0 q) same (keeps s (at s f refl))
 
--- a register that takes a write where the controller is off, or none
+-- a register that takes a write if the controller is off, or none
 unless : (q : AdminQueues) (p other : RegisterBank) → other.readiness ≡ p.readiness → FollowsBy q p.readiness
     → (b : Bool) → FollowsBy q (if b then p else other).readiness
 unless q p other same at true = at
@@ -136,13 +136,13 @@ set_is_enabled : (can : Bool) (r : Rings) → is_enabled (if can then Ready r fa
 set_is_enabled true r = refl
 set_is_enabled false r = refl
 
--- registers after a write of CC, by whether EN was 1 and is 1
+-- registers after a write to CC, depending on whether EN was 1 and is 1
 abbrev configured : RegisterBank → Sizes → Bool → Bool → RegisterBank
 configured p sizes was en =
     let set = record p { sizes = sizes } in
     if was then (if en then p else stop p) else (if en then start set else set)
 
--- EN is not set by it
+-- the write doesn't set EN
 kept_by : (q : AdminQueues) (p : RegisterBank) (sizes : Sizes) (was en : Bool) → FollowsBy q p.readiness
     → (was ≡ true) ⊎ (is_enabled (configured p sizes was en).readiness ≡ false)
     → FollowsBy q (configured p sizes was en).readiness
@@ -157,7 +157,7 @@ kept_by q p sizes false true at why =
       | inr off ↦ absurd (cc)
     ]
 
--- or it is
+-- the write sets EN
 started : (q : AdminQueues) (p : RegisterBank) (can : Bool) → (can ≡ true → AreAhead 0 q (new_rings p))
     → FollowsBy q (if can then Ready (new_rings p) false else Failed)
 started q p true at r fatal is = let same : new_rings p ≡ r = cc in subst (AreAhead 0 q) same (at refl)
@@ -193,7 +193,7 @@ kept_in q p x at (Some AcqHigh) why = unless q p _ refl at (is_enabled p.readine
 kept_in q p x at (Some TailDoorbell) why = changed q (with_tail x) (rung_ahead 0 x q) p.readiness at
 kept_in q p x at (Some HeadDoorbell) why = changed q (with_head x) (told_ahead 0 x q) p.readiness at
 
--- no register but CC sets EN
+-- no register except CC sets EN
 still_off : (p other : RegisterBank) → other.readiness ≡ p.readiness → is_enabled p.readiness ≡ false → (b : Bool)
     → is_enabled (if b then p else other).readiness ≡ false
 still_off p other same off true = off
@@ -231,7 +231,8 @@ begun_in q p x off (Some HeadDoorbell) on at = let stays = rings_off (with_head 
 
 -- ---- of all controllers
 
--- where one controller's registers change, what is kept of it follows them if it did, and was set anew else
+-- if one controller's registers change, its queues in the trace still follow them if they did, and otherwise were set
+-- anew
 written : (queues queues' : List (Option AdminQueues)) (banks banks' : List RegisterBank) (c : ℕ)
     → ((d : ℕ) → d ≢ c → slice_index_or queues' d None ≡ slice_index_or queues d None)
     → ((d : ℕ) → d ≢ c → bank_at banks' d ≡ bank_at banks d)
@@ -254,7 +255,7 @@ own_set : (banks banks' : List RegisterBank) (c : ℕ) (p : RegisterBank) → c 
     → banks' ≡ slice_set banks c p → bank_at banks' c ≡ p
 own_set banks banks' c p has is = ap (λ x. bank_at x c) is ∙ get_or-set_same banks c p new_bank has
 
--- an element that was set, where there is one
+-- an element that was set, if there is one
 set_is : (queues queues' : List (Option AdminQueues)) (c : ℕ) (q q' : AdminQueues)
     → queues' ≡ slice_set queues c (Some q') → slice_index_or queues' c None ≡ Some q → q' ≡ q
 set_is queues queues' c q q' is at =
@@ -291,7 +292,7 @@ followed_still queues queues' banks banks' c offset x has is same why at =
     (kept_in q p x (at c q (sym (here c) ∙ there)) (register_at offset) still) in
     written queues queues' banks banks' c (λ d apart. here d) (others_set banks banks' c p' is) kept at
 
--- a write that enables one
+-- a write that enables a controller
 pub followed_anew : (queues queues' : List (Option AdminQueues)) (banks banks' : List RegisterBank) (c offset x : ℕ)
     (q : AdminQueues) → c < length banks
     → banks' ≡ slice_set banks c (with_register_at (bank_at banks c) offset x)

@@ -4,17 +4,17 @@ use Rattle.std.proofs.Math.Nat.{add-mul-mod_self_left, div-add-mod}
 use Rattle.nv_queue.specs.Numbers.{next, slot_of}
 use Rattle.nv_queue.proofs.NumberLaws.{rest_is, slot_low}
 
--- number 0 stands in slot 0
+-- number 0 is in slot 0
 pub slot_first : (d : ℕ) → 0 ≡ slot_of (d + 1) 0
 slot_first d = sym (slot_low (d + 1) 0 (omega arith))
 
--- the next number stands in the next slot
+-- the next number is in the next slot
 pub slot_more : (d n s : ℕ) → s ≡ slot_of (d + 1) n → s < d → s + 1 ≡ slot_of (d + 1) (n + 1)
 unfolding slot_of
 slot_more d n s is few =
     sym (rest_is (n + 1) (n / (d + 1)) (d + 1) (s + 1) (omega (arith, is, div-add-mod n (d + 1))) (omega arith))
 
--- or, at the end, in the first one
+-- or, at the end, in the first slot
 pub slot_wraps : (d n s : ℕ) → s ≡ slot_of (d + 1) n → d ≤ s → 0 ≡ slot_of (d + 1) (n + 1)
 unfolding slot_of
 slot_wraps d n s is all =

@@ -12,27 +12,27 @@ use nv_host::{HostMemory, load_inside};
 use nv_layout::{Cqe, Sqe};
 use nv_register::{AdminQueueAttributes, offset};
 
-/// How many bytes an entry of the submission queue has.
+/// The size of an entry of the submission queue, in bytes.
 const ENTRY_SIZE: u16 = 64;
 
-/// How many bytes a completion has.
+/// The size of an entry of the completion queue, in bytes.
 const COMPLETION_SIZE: u16 = 16;
 
-/// An entry that a controller took, and its completion, as far as the memory has them.
+/// An entry that a controller took, and its completion, if their slots lie in the memory.
 #[derive(Clone, Copy)]
 pub(crate) struct Exchange {
     pub(crate) entry: Option<Sqe>,
     pub(crate) completion: Option<Cqe>,
 }
 
-/// Where the next entry stands that a controller takes, and its completion.
+/// The slots of the next entry that a controller takes, and of its completion.
 #[derive(Clone, Copy)]
 pub(crate) struct AdminQueues {
     submission: Slots,
     completion: Slots,
 }
 
-/// The address in a register of two dwords.
+/// Returns the address in a register of two dwords.
 fn address<B: Bus>(bus: &B, ctrl: u16, low: u32, high: u32) -> u64
     requires { ctrl < length (B.meaning bus.now).banks }
     ensures { result ≡ value_at (bank_at (B.meaning bus.now).banks ctrl) high * 2 ^ 32
@@ -44,7 +44,7 @@ fn address<B: Bus>(bus: &B, ctrl: u16, low: u32, high: u32) -> u64
 }
 
 impl AdminQueues {
-    /// Those that the registers of a controller make which has just been enabled.
+    /// Returns the queues that the registers of a controller describe which has just been enabled.
     pub(crate) fn of<B: Bus>(bus: &B, ctrl: u16) -> AdminQueues
         requires { ctrl < length (B.meaning bus.now).banks }
         ensures { can_start (bank_at (B.meaning bus.now).banks ctrl) ≡ true
@@ -63,7 +63,7 @@ impl AdminQueues {
         }
     }
 
-    /// The next entry, as it stands now; none where its slot doesn't lie in the memory.
+    /// Returns the next entry as it is now, or none if its slot doesn't lie in the memory.
     fn entry<M: HostMemory>(&self, mem: &M) -> Option<Sqe>
         ensures { IsEntryIn result (M.bytes mem.now) self.now.submission }
     {
@@ -73,7 +73,7 @@ impl AdminQueues {
         Some(Sqe::get(&bytes))
     }
 
-    /// Its completion, as it stands now; none where its slot doesn't lie in the memory.
+    /// Returns its completion as it is now, or none if its slot doesn't lie in the memory.
     fn completion<M: HostMemory>(&self, mem: &M) -> Option<Cqe>
         ensures { IsCompletionIn result (M.bytes mem.now) self.now.completion }
     {
@@ -83,7 +83,7 @@ impl AdminQueues {
         Some(Cqe::get(&bytes))
     }
 
-    /// The next entry and its completion; from then on those after them come next.
+    /// Returns the next entry and its completion, and moves on to those after them.
     pub(crate) fn next<M: HostMemory>(&mut self, mem: &M) -> Exchange
         ensures entry { IsEntryIn result.entry (M.bytes mem.now) self.old.submission }
         ensures completion { IsCompletionIn result.completion (M.bytes mem.now)

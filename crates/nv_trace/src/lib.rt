@@ -1,9 +1,9 @@
-//! A bus that can be watched: what a host writes to the registers of controllers, what entries they
-//! take and what completions they post, one line each.
+//! A bus that can be watched: it writes a line for each register write of the host, for each entry
+//! that a controller takes, and for each completion that it posts.
 //!
-//! `Traced` is around any bus and keeps every promise of a bus word for word, since it has the
-//! meaning of the bus that it is around. `Marked` puts a mark before each line of another text, so
-//! that both can go to one place.
+//! `Traced` wraps any bus and keeps every promise of a bus word for word, because its meaning is
+//! that of the bus inside. `Marked` puts a mark before each line of another text, so that both can
+//! go to one place.
 //!
 //! Sections are named as in the NVM Express Base Specification, revision 1.4.
 #![tactic(auto)]

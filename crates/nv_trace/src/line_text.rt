@@ -4,10 +4,10 @@ ghost use Rattle.std.specs.Prelude.{◌≤◌};
 
 use std::{cmp, fmt};
 
-/// The most bytes of a line without its newline.
+/// The greatest length of a line in bytes, without its newline.
 const LINE_ROOM: usize = 319;
 
-/// A line as far as it was written, with room for a newline. What doesn't fit is cut.
+/// A line with room for a newline. What doesn't fit is cut off.
 #[derive(Drop)]
 pub(crate) struct LineText {
     bytes: [u8; 320],
@@ -16,7 +16,7 @@ pub(crate) struct LineText {
 }
 
 impl LineText {
-    /// An empty line.
+    /// Creates an empty line.
     pub(crate) fn new() -> LineText {
         LineText {
             bytes: [0; 320],
@@ -24,7 +24,7 @@ impl LineText {
         }
     }
 
-    /// The line with its newline.
+    /// Returns the line with its newline.
     pub(crate) fn ended(&mut self) -> &[u8] {
         self.bytes[self.len] = b'\n';
         &self.bytes[..self.len + 1]

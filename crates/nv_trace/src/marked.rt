@@ -4,14 +4,15 @@ ghost use Rattle.std.specs.Prelude.{◌≡◌, None};
 
 use nv_stream::{Sink, write_all};
 
-/// What stands before each line.
+/// The mark before each line.
 const MARK: &[u8] = b"| ";
 
-/// A sink that puts `| ` before each line that it is given. What it took is not told.
+/// A sink that writes `| ` before each line that it is given. Its contract doesn't say what it
+/// took.
 #[derive(Drop)]
 pub struct Marked<S: Sink> {
     pub(crate) sink: S,
-    /// Whether what comes next begins a line.
+    /// Whether the next byte begins a line.
     is_at_beginning: bool,
 }
 
@@ -33,7 +34,7 @@ impl<S: Sink> Sink for Marked<S> {
 
     ghost state = { λ s. record { taken = None; has_failed = (S.state s.sink).has_failed } };
 
-    /// Takes at most the rest of the line. The mark is no part of what it takes.
+    /// Takes at most the rest of the line. The mark doesn't count as taken.
     fn write(&mut self, bytes: &[u8]) -> Option<usize> {
         if self.is_at_beginning && !write_all(&mut self.sink, MARK) {
             return None;

@@ -10,7 +10,7 @@ pub(crate) struct Posted {
     pub(crate) completion: Cqe,
 }
 
-/// As `nvme0 posted cid=0x0 status=0x0 success dword0=0x0 sqhd=0x1`.
+/// Writes a line such as `nvme0 posted cid=0x0 status=0x0 success dword0=0x0 sqhd=0x1`.
 impl fmt::Display for Posted {
     fn fmt<W: fmt::Write>(&self, f: &mut fmt::Formatter<W>) -> fmt::Result {
         let completion = &self.completion;

@@ -1,12 +1,11 @@
-//! Where the next slot of a ring stands.
+//! The next slot of a ring.
 
 ghost use Rattle.std.specs.Prelude.{◌≡◌, ◌+◌, ◌*◌, ◌≤◌, ◌↔◌, ℕ, IfSome, IsSome, length};
 ghost use Rattle.nv_trace.specs.Followed.{IsAt};
 
 use nv_host::{HostMemory, size_of_memory};
 
-/// A ring in a host's memory: where it begins, how many slots it has, less one, and the slot that
-/// comes next.
+/// A ring in a host's memory: its address, its number of slots, less one, and the next slot.
 #[derive(Clone, Copy)]
 pub(crate) struct Slots {
     pub(crate) base: u64,
@@ -15,7 +14,7 @@ pub(crate) struct Slots {
 }
 
 impl Slots {
-    /// A ring of which number 0 comes next.
+    /// Creates a ring whose next slot is that of number 0.
     #[tactic(auto, using(crate::proofs::SlotLaws::slots))]
     pub(crate) fn new(base: u64, less_one: u16) -> Slots
         ensures { IsAt 0 base (less_one + 1) result }
@@ -27,7 +26,7 @@ impl Slots {
         }
     }
 
-    /// Goes on to the slot after this one: after the last one that is the first.
+    /// Moves on to the next slot. After the last slot comes the first one.
     #[tactic(auto, using(crate::proofs::SlotLaws::slots))]
     pub(crate) fn step(&mut self)
         ensures { (n base depth : ℕ) → IsAt n base depth self.old
@@ -40,8 +39,8 @@ impl Slots {
         };
     }
 
-    /// The address of the next slot, where each has `size` bytes; none where it doesn't lie in the
-    /// memory.
+    /// Returns the address of the next slot, if slots have `size` bytes, or none if it doesn't lie
+    /// in the memory.
     pub(crate) fn address<M: HostMemory>(&self, mem: &M, size: u16) -> Option<u64>
         ensures inside { IsSome result
             ↔ (self.now.base + size * self.now.next + size ≤ length (M.bytes mem.now)) }

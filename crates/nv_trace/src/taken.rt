@@ -10,7 +10,7 @@ pub(crate) struct Taken {
     pub(crate) entry: Sqe,
 }
 
-/// The command with an opcode. Section "Opcodes for Admin Commands".
+/// Returns the name of the command with an opcode. Section "Opcodes for Admin Commands".
 fn command_of(opcode: u8) -> &'static str {
     match opcode {
         0x02 => "Get Log Page",
@@ -24,7 +24,7 @@ fn command_of(opcode: u8) -> &'static str {
     }
 }
 
-/// Writes a field with its name, where it isn't 0.
+/// Writes a field with its name if it isn't 0.
 fn write_some<W: fmt::Write>(f: &mut fmt::Formatter<W>, name: &str, value: u64) -> fmt::Result {
     if value == 0 {
         return Ok(());
@@ -32,8 +32,8 @@ fn write_some<W: fmt::Write>(f: &mut fmt::Formatter<W>, name: &str, value: u64) 
     write!(f, " {name}={value:#x}")
 }
 
-/// As `nvme0 taken Identify (0x06) cid=0x0 nsid=0x0 prp1=0x4000 prp2=0x0 cdw10=0x2`. Other fields
-/// are left out where they are 0.
+/// Writes a line such as `nvme0 taken Identify (0x06) cid=0x0 nsid=0x0 prp1=0x4000 prp2=0x0
+/// cdw10=0x2`. Other fields are left out if they are 0.
 impl fmt::Display for Taken {
     fn fmt<W: fmt::Write>(&self, f: &mut fmt::Formatter<W>) -> fmt::Result {
         let entry = &self.entry;

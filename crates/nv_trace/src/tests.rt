@@ -1,4 +1,4 @@
-//! What lines say, and what comes of sinks that take little or fail.
+//! Tests the texts of lines, and sinks that take few bytes or fail.
 
 ghost use Rattle.std.specs.Prelude.{◌≡◌, ◌≤◌, None, false};
 
@@ -13,7 +13,7 @@ use nv_stream::{Sink, write_all};
 use std::cmp;
 use std::fmt::{Display, Write};
 
-/// Takes at most so many bytes a write and 32 in all, and fails from then on.
+/// Takes at most `most` bytes a write and 32 in all, and fails from then on.
 #[derive(Drop)]
 pub(crate) struct Small {
     bytes: [u8; 32],
@@ -55,7 +55,7 @@ impl Sink for Small {
     }
 }
 
-/// Whether this is the line of what is said.
+/// Returns whether this is the line of `said`.
 fn is_line<D: Display>(said: &D, text: &str) -> bool {
     let mut line = LineText::new();
     let _ = write!(line, "{said}");

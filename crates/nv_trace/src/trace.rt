@@ -1,4 +1,4 @@
-//! What is said of a bus, and what has to be known for that.
+//! The lines of a trace, and what has to be known for them.
 
 ghost use Rattle.std.specs.Prelude.{◌≡◌, ◌<◌, ℕ, None, Some, false, length, slice_index_or};
 ghost use Rattle.std.specs.Prelude.{slice_set};
@@ -16,19 +16,19 @@ use nv_host::HostMemory;
 use nv_register::{ControllerConfiguration, offset};
 use nv_stream::Sink;
 
-/// The most controllers that a subsystem has.
+/// The greatest number of controllers of a subsystem.
 const MOST_CONTROLLERS: usize = 16;
 
-/// Lines to a sink, and the queues of each controller that was enabled since there is a trace. Of
-/// other controllers, and of those from the seventeenth on, nothing is said of entries and
-/// completions.
+/// Writes lines to a sink, and keeps the queues of each controller that was enabled since the trace
+/// began. For other controllers, and from the seventeenth on, entries and completions are not
+/// traced.
 #[derive(Drop)]
 pub(crate) struct Trace<S: Sink> {
     voice: Voice<S>,
     pub(crate) queues: [Option<AdminQueues>; MOST_CONTROLLERS],
 }
 
-/// Whether a controller is enabled.
+/// Returns whether a controller is enabled.
 #[tactic(auto, using(crate::proofs::FollowedLaws::en_read))]
 pub(crate) fn is_enabled<B: Bus>(bus: &B, ctrl: u16) -> bool
     requires { ctrl < length (B.meaning bus.now).banks }
@@ -37,7 +37,7 @@ pub(crate) fn is_enabled<B: Bus>(bus: &B, ctrl: u16) -> bool
     ControllerConfiguration::of(bus.read32(ctrl, offset::CC)).en
 }
 
-/// Says an entry that a controller took, and its completion.
+/// Writes the lines of an entry that a controller took, and of its completion.
 fn say_exchange<S: Sink>(voice: &mut Voice<S>, ctrl: u16, exchange: Exchange) {
     if let Some(entry) = exchange.entry {
         voice.say(&Taken { ctrl, entry });
@@ -47,8 +47,8 @@ fn say_exchange<S: Sink>(voice: &mut Voice<S>, ctrl: u16, exchange: Exchange) {
     }
 }
 
-/// Says so many entries that a controller took, from its next one on, and their completions, and
-/// answers what comes next after them.
+/// Writes the lines of the next `count` entries that a controller took, and of their completions,
+/// and returns its queues after them.
 fn say_all<M: HostMemory, S: Sink>(
     voice: &mut Voice<S>,
     ctrl: u16,
@@ -76,12 +76,12 @@ impl<S: Sink> Trace<S> {
         }
     }
 
-    /// Whether the sink has failed.
+    /// Returns whether the sink has failed.
     pub(crate) fn is_silent(&self) -> bool {
         self.voice.is_silent()
     }
 
-    /// The queues of a controller, as far as they are known.
+    /// Returns the queues of a controller, if they are known.
     fn queues_of(&self, ctrl: u16) -> Option<AdminQueues>
         ensures { result ≡ slice_index_or self.now.queues ctrl None }
     {
@@ -93,7 +93,7 @@ impl<S: Sink> Trace<S> {
         }
     }
 
-    /// These are the queues of a controller from now on.
+    /// Sets the queues of a controller.
     pub(crate) fn follow(&mut self, ctrl: u16, queues: AdminQueues)
         ensures { self.new.queues ≡ slice_set self.old.queues ctrl (Some queues) }
     {
@@ -103,7 +103,7 @@ impl<S: Sink> Trace<S> {
         }
     }
 
-    /// Says a register write.
+    /// Writes the line of a register write.
     pub(crate) fn wrote(&mut self, ctrl: u16, offset: u32, dword: u32)
         ensures { self.new.queues ≡ self.old.queues }
     {
@@ -115,7 +115,7 @@ impl<S: Sink> Trace<S> {
         self.voice.say(&written);
     }
 
-    /// Says each entry that a turn took, and its completion.
+    /// Writes the lines of the entries that a turn took, and of their completions.
     pub(crate) fn turned<M: HostMemory>(&mut self, ctrl: u16, mem: &M, count: u16)
         ensures { AreFurther ctrl count self.old.queues self.new.queues }
     {

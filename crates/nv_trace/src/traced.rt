@@ -9,24 +9,24 @@ use nv_bus::Bus;
 use nv_host::HostMemory;
 use nv_stream::Sink;
 
-/// A bus that tells a sink what goes over it: each register write, each entry that a turn took and
-/// each completion that it posted, one line each. It is the bus that it is around: nothing of what
-/// it tells, and no failure of the sink, changes what that bus answers. Once the sink has failed,
-/// nothing more is told.
+/// A bus that writes lines to a sink: one for each register write, for each entry that a turn took
+/// and for each completion that it posted. It behaves as the bus inside does: neither the lines nor
+/// a failure of the sink change what that bus returns. After the sink has failed, nothing more is
+/// written.
 ///
-/// Entries and completions are read after the turn, where they stand in the rings. An entry over
-/// which the turn itself wrote data is told as it was left.
+/// Entries and completions are read from the rings after the turn. If the turn itself wrote data
+/// over an entry, the line shows the entry as it was left.
 #[derive(Drop)]
 pub struct Traced<B: Bus, S: Sink> {
     bus: B,
     trace: Trace<S>,
-    // What comes next of each controller's queues is what the bus says of its rings.
+    // The queues that are followed agree with the rings of the bus.
     ghost followed: { AreFollowed trace.queues (B.meaning bus).banks },
 }
 
 impl<B: Bus, S: Sink> Traced<B, S> {
-    /// A trace of a bus. Of a controller that is enabled already, entries and completions are told
-    /// once it is enabled again.
+    /// Creates a trace of a bus. If a controller is enabled already, its entries and completions
+    /// are traced only once it is enabled again.
     pub fn new(bus: B, sink: S) -> Traced<B, S>
         requires { (S.state sink).has_failed ≡ false }
         ensures { ⟦<Traced<B, S> as Bus>⟧.meaning result ≡ B.meaning bus }
@@ -37,14 +37,14 @@ impl<B: Bus, S: Sink> Traced<B, S> {
         }
     }
 
-    /// The bus.
+    /// Returns the bus inside.
     pub fn bus(&self) -> &B
         ensures { B.meaning result.now ≡ ⟦<Traced<B, S> as Bus>⟧.meaning self.now }
     {
         &self.bus
     }
 
-    /// Whether the sink has failed, and nothing more is told.
+    /// Returns whether the sink has failed, after which nothing more is written.
     pub fn is_silent(&self) -> bool {
         self.trace.is_silent()
     }

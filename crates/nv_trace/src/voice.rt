@@ -1,4 +1,4 @@
-//! Lines to a sink, up to its first failure.
+//! Writes lines to a sink, up to its first failure.
 
 ghost use Rattle.std.specs.Prelude.{◌≡◌, false};
 
@@ -6,7 +6,7 @@ use crate::line_text::LineText;
 use nv_stream::{Sink, write_all};
 use std::fmt::{Display, Write};
 
-/// Says lines to a sink. Once the sink has failed it is silent.
+/// Writes lines to a sink. After the sink has failed, it writes nothing.
 #[derive(Drop)]
 pub(crate) struct Voice<S: Sink> {
     pub(crate) sink: S,
@@ -24,12 +24,12 @@ impl<S: Sink> Voice<S> {
         }
     }
 
-    /// Whether the sink has failed.
+    /// Returns whether the sink has failed.
     pub(crate) fn is_silent(&self) -> bool {
         self.is_silent
     }
 
-    /// Says a line.
+    /// Writes a line.
     pub(crate) fn say<D: Display>(&mut self, said: &D) {
         if self.is_silent {
             return;

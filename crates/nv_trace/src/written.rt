@@ -11,8 +11,8 @@ pub(crate) struct Written {
     pub(crate) dword: u32,
 }
 
-/// The name of a register; of one of two dwords with `.low` or `.high`. Section "Register
-/// Definition".
+/// Returns the name of a register. If it is one of two dwords, the name ends with `.low` or
+/// `.high`. Section "Register Definition".
 fn name_of(register: Register) -> &'static str {
     match register {
         Register::CapLow => "CAP.low",
@@ -30,7 +30,7 @@ fn name_of(register: Register) -> &'static str {
     }
 }
 
-/// As `nvme0 write CC=0x460001`.
+/// Writes a line such as `nvme0 write CC=0x460001`.
 impl fmt::Display for Written {
     fn fmt<W: fmt::Write>(&self, f: &mut fmt::Formatter<W>) -> fmt::Result {
         write!(f, "nvme{} write ", self.ctrl)?;

@@ -1,4 +1,5 @@
-//! Reads operations from standard input, a line each, and answers each at once on standard output.
+//! Reads operations from standard input, one in each line, and answers each at once on standard
+//! output.
 #![tactic(auto)]
 
 use nv_operations::Session;
@@ -20,7 +21,7 @@ enum Stop {
 }
 
 impl Stop {
-    /// The exit status.
+    /// Returns the exit status.
     fn status(self) -> u8 {
         match self {
             Stop::Read => 4,
@@ -36,7 +37,7 @@ impl From<AllocError> for Stop {
     }
 }
 
-/// Reads the next line, with its newline if it has one. Answers whether there was a line.
+/// Reads the next line, with its newline if it has one. Returns whether there was a line.
 fn read_line<R: BufRead>(input: &mut R, line: &mut Vec<u8>) -> Result<bool, Stop> {
     line.clear();
     match input.read_until(b'\n', line) {
@@ -48,7 +49,7 @@ fn read_line<R: BufRead>(input: &mut R, line: &mut Vec<u8>) -> Result<bool, Stop
     }
 }
 
-/// The line without its newline.
+/// Returns the line without its newline.
 fn without_newline(line: &[u8]) -> &[u8] {
     match line.split_last() {
         Some((b'\n', rest)) => rest,
@@ -56,7 +57,7 @@ fn without_newline(line: &[u8]) -> &[u8] {
     }
 }
 
-/// Answers line after line.
+/// Answers lines until the input ends.
 fn answer_lines<R: BufRead, W: Write>(
     alloc: Global,
     input: &mut R,

@@ -4,3 +4,4 @@ pub mod CountLaws
 pub mod LogLaws
 pub mod OpenLaws
 pub mod PageLaws
+pub mod TextLaws

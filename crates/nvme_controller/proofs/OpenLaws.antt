@@ -1,26 +1,54 @@
 -- What opening a file answers by what reading it answers.
-use Rattle.std.proofs.Common.{◌≡◌, inl, inr, refl, sym, subst}
+use Rattle.std.proofs.Common.{◌≡◌, ◌∙◌, ◌⊎◌, ap, inl, inr, refl, sym, subst, ℕ, List, [], length}
 use Rattle.std.specs.Prelude.{pos, Option, Some, Result, Ok, Err}
 use Rattle.nv_bus.specs.Bus.{BusValue}
 use Rattle.nv_file.specs.Fault.{IsUnlessMemory}
+use Rattle.nv_file.specs.FaultText.{fault_text}
 use Rattle.nv_file.specs.declared.error.SubsystemError.{SubsystemError}
 use Rattle.nv_file.specs.declared.error.SubsystemError.TheVariants as fault
 use Rattle.nv_model.specs.State.{State}
 use Rattle.nvme_controller.specs.Calls.{Opens, machine_of, number_of}
+use Rattle.nvme_controller.specs.FaultText.{Tells, c_text}
+use Rattle.nvme_controller.specs.inner.FaultText.{IsFaultOf}
+
+-- ---- a machine
 
 pub opened : (file : Result State SubsystemError) (s : State) (m : Option BusValue) → file ≡ Ok s
     → Opens file (pos 0) m (Some (machine_of s))
 opened file s m is = subst (λ f. Opens f (pos 0) m (Some (machine_of s))) (sym is) (inr (refl, refl))
 
-faulty : (file : Result State SubsystemError) (e : SubsystemError) (m : Option BusValue) → file ≡ Err e
-    → Opens file (number_of e) m m
-faulty file e m is = subst (λ f. Opens f (number_of e) m m) (sym is) (inr (refl, refl))
+pub no_text : (file : Result State SubsystemError) (s : State) (bytes : List ℕ) → file ≡ Ok s
+    → bytes ≡ c_text (length bytes) [] → Tells file (pos 0) bytes
+no_text file s bytes is empty = subst (λ f. Tells f (pos 0) bytes) (sym is) (inr (refl, empty))
 
-pub refused : (file : Result State SubsystemError) (e : SubsystemError) (m : Option BusValue)
-    → IsUnlessMemory {X = State} {Y = State} (λ s. s) (Err e) file → Opens file (number_of e) m m
-refused file fault.Memory m is = inl (refl, refl)
-refused file e m is = faulty file e m is
+-- ---- a fault
 
-pub no_memory : (file : Result State SubsystemError) (e : SubsystemError) (m : Option BusValue) → e ≡ fault.Memory
+pub refused : (file : Result State SubsystemError) (e : SubsystemError)
+    → IsUnlessMemory {X = State} {Y = State} (λ s. s) (Err e) file → IsFaultOf file e
+refused file fault.Memory is = inl refl
+refused file e is = inr is
+
+pub no_memory : (file : Result State SubsystemError) (e : SubsystemError) → e ≡ fault.Memory → IsFaultOf file e
+no_memory file e is = inl is
+
+pub fault_opens : (file : Result State SubsystemError) (e : SubsystemError) (m : Option BusValue) → IsFaultOf file e
     → Opens file (number_of e) m m
-no_memory file e m is = subst (λ f. Opens file (number_of f) m m) (sym is) (inl (refl, refl))
+fault_opens file e m (inl is) = subst (λ f. Opens file (number_of f) m m) (sym is) (inl (refl, refl))
+fault_opens file e m (inr is) = subst (λ f. Opens f (number_of e) m m) (sym is) (inr (refl, refl))
+
+same_length : (e : SubsystemError) (old new : List ℕ) → length new ≡ length old
+    → new ≡ c_text (length old) (fault_text e) → new ≡ c_text (length new) (fault_text e)
+same_length e old new same is = is ∙ ap (λ n. c_text n (fault_text e)) (sym same)
+
+pub fault_told : (file : Result State SubsystemError) (e : SubsystemError) (old new : List ℕ) → IsFaultOf file e
+    → length new ≡ length old → new ≡ c_text (length old) (fault_text e) → Tells file (number_of e) new
+fault_told file e old new (inl is) same text =
+    inl (ap number_of is, same_length e old new same text ∙ ap (λ f. c_text (length new) (fault_text f)) is)
+fault_told file e old new (inr is) same text =
+    subst (λ f. Tells f (number_of e) new) (sym is) (inr (refl, same_length e old new same text))
+
+-- or memory for its text is refused
+pub still_a_fault : (file : Result State SubsystemError) (e f : SubsystemError) → IsFaultOf file e
+    → (f ≡ e) ⊎ (f ≡ fault.Memory) → IsFaultOf file f
+still_a_fault file e f is (inl same) = subst (λ x. IsFaultOf file x) (sym same) is
+still_a_fault file e f is (inr memory) = inl memory

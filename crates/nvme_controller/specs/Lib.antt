@@ -1,3 +1,5 @@
 pub mod Calls
+pub mod FaultText
 pub mod Held
 pub mod Open
+pub mod inner

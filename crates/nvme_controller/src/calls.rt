@@ -1,14 +1,17 @@
 //! What a program in C calls. A call takes the machine out of its handle, and puts it back.
 ghost use Rattle.std.specs.Prelude.{◌≡◌, ◌*◌, ◌<◌, IfErr, IfOk, IfSome, None, Option, Some};
-ghost use Rattle.std.specs.Prelude.{length, pos};
+ghost use Rattle.std.specs.Prelude.{ℕ, [], List, length, pos};
 ghost use Rattle.nv_bus.specs.Bus.{BusValue, IsBus};
 ghost use Rattle.nv_host.specs.Pages.{IsPageSize};
 ghost use Rattle.nv_model.specs.LogEntry.{counts_of, log_entry_of};
 ghost use Rattle.nv_subsystem.specs.FromFile.{subsystem};
 ghost use Rattle.nvme_controller.specs.Calls.{ArePages, BytesTurn, EntryTold, Opens};
-ghost use Rattle.nvme_controller.specs.Calls.{Turned, Written, number_of, read_of};
+ghost use Rattle.nvme_controller.specs.Calls.{Turned, Written, read_of};
+ghost use Rattle.nvme_controller.specs.FaultText.{Tells, c_text};
+ghost use Rattle.nvme_controller.specs.inner.FaultText.{IsFaultOf};
 ghost use Rattle.nvme_controller.specs.Open.{Goes, IsOpen};
 
+use crate::fault::{number, put_fault, put_text};
 use crate::handle::Handle;
 use nv_controller::{Bus, Machine};
 use nv_host::{FlatMemory, is_page_size, load_inside, store_inside};
@@ -19,13 +22,14 @@ use std::alloc::Global;
 const ABSENT: u32 = 0xffff_ffff;
 
 /// The machine of a subsystem file, or the file's first fault.
-#[tactic(auto, using(crate::proofs::OpenLaws::opened, crate::proofs::OpenLaws::refused, crate::proofs::OpenLaws::no_memory))]
+#[tactic(auto, using(crate::proofs::OpenLaws::opened, crate::proofs::OpenLaws::no_text, crate::proofs::OpenLaws::refused, crate::proofs::OpenLaws::no_memory))]
 fn machine_of(alloc: Global, file: &[u8]) -> Result<Box<Machine>, SubsystemError>
     ensures bus { IfOk result (λ b. IsBus b.value) }
     ensures value { IfOk result
         (λ b. (m : Option BusValue) → Opens (subsystem file.now) (pos 0) m (Some b.value)) }
-    ensures fault { IfErr result
-        (λ e. (m : Option BusValue) → Opens (subsystem file.now) (number_of e) m m) }
+    ensures text { IfOk result (λ _. (bytes : List ℕ) → bytes ≡ c_text (length bytes) []
+        → Tells (subsystem file.now) (pos 0) bytes) }
+    ensures fault { IfErr result (λ e. IsFaultOf (subsystem file.now) e) }
 {
     let subsystem = Subsystem::from_toml(alloc, file)?;
     let Ok(machine) = Machine::new(alloc, subsystem) else {
@@ -35,38 +39,26 @@ fn machine_of(alloc: Global, file: &[u8]) -> Result<Box<Machine>, SubsystemError
     Ok(place)
 }
 
-/// The number of a fault.
-fn number(fault: SubsystemError) -> i32
-    ensures { result ≡ number_of fault }
-{
-    match fault {
-        SubsystemError::NotToml => 1,
-        SubsystemError::Missing { .. } => 2,
-        SubsystemError::Kind { .. } => 3,
-        SubsystemError::Range { .. } => 4,
-        SubsystemError::Repeated { .. } => 5,
-        SubsystemError::Unknown { .. } => 6,
-        SubsystemError::Capacity => 7,
-        SubsystemError::Attachment => 8,
-        SubsystemError::Memory => 9,
-    }
-}
-
-/// Opens the machine of a subsystem file: 0, or the number of the file's first fault.
-fn open(alloc: Global, file: &[u8], handle: &mut Handle) -> i32
+/// Opens the machine of a subsystem file: 0, or the number of the file's first fault, whose text
+/// goes to `fault`.
+#[tactic(auto, using(crate::proofs::OpenLaws::fault_opens, crate::proofs::OpenLaws::fault_told, crate::proofs::OpenLaws::still_a_fault))]
+fn open(alloc: Global, file: &[u8], handle: &mut Handle, fault: &mut [u8]) -> i32
     ensures opens { Opens (subsystem file.now) result handle.old.machine handle.new.machine }
     ensures open { result ≡ pos 0 → IsOpen handle.new.machine }
+    ensures fault { Tells (subsystem file.now) result fault.new }
 {
     match machine_of(alloc, file) {
         Ok(machine) => {
+            put_text(&[], fault);
             handle.put(machine);
             0
         }
-        Err(error) => number(error),
+        Err(error) => number(put_fault(alloc, error, fault)),
     }
 }
 
-/// Opens the machine of a subsystem file: 0, or the number of the file's first fault.
+/// Opens the machine of a subsystem file: 0, or the number of the file's first fault, whose text
+/// goes to `fault`.
 #[unsafe(no_mangle)]
 pub extern "C" fn nvme_handle_open(
     alloc: Global,
@@ -76,9 +68,9 @@ pub extern "C" fn nvme_handle_open(
 ) -> i32
     ensures opens { Opens (subsystem file.now) result handle.old.machine handle.new.machine }
     ensures open { result ≡ pos 0 → IsOpen handle.new.machine }
-    ensures fault { fault.new ≡ fault.old }
+    ensures fault { Tells (subsystem file.now) result fault.new }
 {
-    open(alloc, file, handle)
+    open(alloc, file, handle, fault)
 }
 
 /// Opens the machine of the demonstration subsystem.
@@ -87,7 +79,7 @@ pub extern "C" fn nvme_handle_demo(alloc: Global, handle: &mut Handle) -> i32
     ensures opens { Opens (subsystem DEMO.now) result handle.old.machine handle.new.machine }
     ensures open { result ≡ pos 0 → IsOpen handle.new.machine }
 {
-    open(alloc, DEMO.as_bytes(), handle)
+    open(alloc, DEMO.as_bytes(), handle, &mut [])
 }
 
 /// Drops the machine.

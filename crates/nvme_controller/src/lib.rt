@@ -5,6 +5,7 @@
 #![tactic(auto)]
 
 mod calls;
+mod fault;
 mod handle;
 mod parts;
 

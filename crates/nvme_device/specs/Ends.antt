@@ -6,7 +6,7 @@ use Rattle.nv_serve.specs.declared.ends.RequestsEnd.TheVariants as requests
 use Rattle.nv_serve.specs.declared.ends.ServeEnd.{ServeEnd}
 use Rattle.nv_serve.specs.declared.ends.ServeEnd.TheVariants.{Requests, Geometry, NoReady, Memory}
 
--- the status where the requests came to their end, or why the program stopped
+-- the status if the requests ended, or why the program stopped
 abbrev pub ended : ServeEnd → Result ℕ Stop
 ended (Requests requests.Done) = Ok 0
 ended (Requests requests.Short) = Err stop.Short

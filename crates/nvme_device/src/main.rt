@@ -1,5 +1,5 @@
-//! Answers requests to the controllers of a model of an NVM subsystem: they come on standard input,
-//! and the answers go to standard output.
+//! Answers requests to the controllers of a model of an NVM subsystem. It reads them from standard
+//! input, and writes the answers to standard output.
 #![tactic(auto)]
 
 ghost use Rattle.std.specs.Prelude.{◌≡◌};
@@ -18,7 +18,7 @@ use nv_trace::Traced;
 use std::io;
 use std::process::ExitCode;
 
-/// The exit status where the requests came to their end, or why the program stopped.
+/// Returns the exit status if the requests ended, or why the program stopped.
 fn status_of(end: ServeEnd) -> Result<u8, Stop>
     ensures { result ≡ ended end }
 {
@@ -35,8 +35,8 @@ fn status_of(end: ServeEnd) -> Result<u8, Stop>
     }
 }
 
-/// Answers the requests over this bus. No stream holds anything back: what was answered is out before
-/// more is awaited.
+/// Answers the requests over this bus. No stream is buffered: each answer is written before more is
+/// read.
 fn serve_requests<B: Bus>(rt: &HostRuntime, bus: &mut B, geometry: Geometry) -> Result<u8, Stop>
     requires { IsBus (B.meaning bus.old) }
 {
@@ -45,8 +45,7 @@ fn serve_requests<B: Bus>(rt: &HostRuntime, bus: &mut B, geometry: Geometry) -> 
     status_of(serve(rt.alloc(), bus, geometry, &mut source, &mut out))
 }
 
-/// Answers the requests, and writes what goes over the bus to standard error where that is asked
-/// for.
+/// Answers the requests, and writes a trace of the bus to standard error if that is asked for.
 fn serve_subsystem(
     rt: &HostRuntime,
     subsystem: Subsystem,
@@ -71,8 +70,7 @@ fn serve_subsystem(
     }
 }
 
-/// Answers the requests with what the arguments ask for, among which the word `--trace` may stand at
-/// any place.
+/// Answers the requests as the arguments say. `--trace` may be anywhere among them.
 fn serve_as_asked(rt: &HostRuntime) -> Result<u8, Stop> {
     let given = words_given(rt)?;
     let words: Vec<&str> = given

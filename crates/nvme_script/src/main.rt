@@ -12,8 +12,8 @@ use nv_subsystem::Subsystem;
 use std::io::{self, BufWriter};
 use std::process::ExitCode;
 
-/// Runs the script on standard input. What lines write is out before more of the script is awaited,
-/// and before a message.
+/// Runs the script on standard input. What lines write is flushed before more of the script is
+/// read, and before a message is written.
 fn run_script(rt: &HostRuntime, subsystem: Subsystem, geometry: Geometry) -> Result<u8, Stop>
     requires { IsWellFormed subsystem }
 {
@@ -41,7 +41,7 @@ fn run_script(rt: &HostRuntime, subsystem: Subsystem, geometry: Geometry) -> Res
     if is_out { Ok(status) } else { Err(Stop::Write) }
 }
 
-/// Runs the script with what the arguments ask for.
+/// Runs the script as the arguments say.
 fn run_as_asked(rt: &HostRuntime) -> Result<u8, Stop> {
     let given = words_given(rt)?;
     let words: Vec<&str> = given.iter().map(|word| word.as_str()).collect(rt.alloc())?;

@@ -1,6 +1,7 @@
 //! Runs a script of `nvme` commands on a model of an NVM subsystem, and writes what goes over the
 //! bus to its controllers: each register write, each entry that was taken and each completion that
-//! was posted. What the script's lines print stands among it, each line after `| `.
+//! was posted. Between them are the texts that the script's lines print, with `| ` before each
+//! line.
 #![tactic(auto)]
 
 ghost use Rattle.nv_model.specs.WellFormed.{IsWellFormed};
@@ -13,8 +14,8 @@ use nv_trace::{Marked, Traced};
 use std::io::{self, BufWriter};
 use std::process::ExitCode;
 
-/// Runs the script on standard input. What is traced and what lines write goes to standard output
-/// and is out before more of the script is awaited.
+/// Runs the script on standard input. The trace and what lines write go to standard output, which
+/// is flushed before more of the script is read.
 fn run_script(rt: &HostRuntime, subsystem: Subsystem, geometry: Geometry) -> Result<u8, Stop>
     requires { IsWellFormed subsystem }
 {
@@ -47,7 +48,7 @@ fn run_script(rt: &HostRuntime, subsystem: Subsystem, geometry: Geometry) -> Res
     }
 }
 
-/// Runs the script with what the arguments ask for.
+/// Runs the script as the arguments say.
 fn run_as_asked(rt: &HostRuntime) -> Result<u8, Stop> {
     let given = words_given(rt)?;
     let words: Vec<&str> = given.iter().map(|word| word.as_str()).collect(rt.alloc())?;

@@ -1,10 +1,10 @@
-//! A sink that holds nothing.
+//! A sink that keeps nothing.
 
 ghost use Rattle.std.specs.Prelude.{None, false};
 
 use nv_script::Sink;
 
-/// Takes any bytes, and counts them.
+/// Counts the bytes that are written to it.
 #[derive(Drop)]
 pub struct CountingSink {
     pub bytes: u64,

@@ -6,25 +6,25 @@ use nv_driver::Geometry;
 use std::io;
 use std::time::Duration;
 
-/// How many lines it writes.
+/// How many lines `list` writes.
 pub const DEVICES: u32 = 16_384;
 
 /// What was measured of one `list`.
 #[derive(Clone, Copy)]
 pub struct MeasuredList {
     pub written: Written,
-    /// What it takes, without making the controllers ready.
+    /// The time without that of making the controllers ready.
     pub time: Duration,
 }
 
 impl MeasuredList {
-    /// Nanoseconds for each line that it writes.
+    /// Returns the nanoseconds for each line that it writes.
     pub(crate) fn a_device(self) -> u128 {
         self.time.as_nanos() / u128::from(DEVICES)
     }
 }
 
-/// Measures one `list` with at most so many commands outstanding.
+/// Measures one `list` with at most `window` commands outstanding.
 pub(crate) fn measure_list(rt: &HostRuntime, window: u32) -> io::Result<MeasuredList> {
     let geometry = Geometry {
         window,

@@ -1,4 +1,4 @@
-//! A line of a script: what it takes to run it, and each of its parts alone.
+//! How long a line of a script takes, and each of its parts alone.
 
 ghost use Rattle.nv_command.specs.Command.{CommandFits};
 ghost use Rattle.nv_command.specs.Logs.{IsSendable};
@@ -31,7 +31,7 @@ pub(crate) fn measure_line(
     kind: LineKind,
 ) -> io::Result<MeasuredLine> {
     let script = kind.line().repeat(rt.alloc(), LINES as usize)?;
-    // The run before the first that counts, so that each finds the memory in the same caches.
+    // A first run that isn't counted, so that each counted run finds the memory in the same caches.
     let _ = time_lines(rt, geometry, kind, b"")?;
     let (_, empty_run) = time_lines(rt, geometry, kind, b"")?;
     let (written, run) = time_lines(rt, geometry, kind, script.as_bytes())?;
@@ -54,7 +54,7 @@ pub(crate) fn measure_line(
     Ok(MeasuredLine { written, times })
 }
 
-/// What a run of a script writes, and what it takes.
+/// Returns what a run of a script writes and how long it takes.
 fn time_lines(
     rt: &HostRuntime,
     geometry: Geometry,
@@ -65,7 +65,7 @@ fn time_lines(
     time_run(rt, subsystem, geometry, script)
 }
 
-/// What it takes a reader to read a line so many times.
+/// Returns how long a reader takes to read a line `LINES` times.
 fn time_readings(rt: &HostRuntime, line: &str) -> io::Result<Duration> {
     let line = line.trim_end().as_bytes();
     let room = Bump::new(rt.alloc());
@@ -78,7 +78,7 @@ fn time_readings(rt: &HostRuntime, line: &str) -> io::Result<Duration> {
     start.elapsed(rt)
 }
 
-/// What it takes to send a command so many times to the first controller.
+/// Returns how long it takes to send a command `LINES` times to the first controller.
 fn time_admin(
     rt: &HostRuntime,
     geometry: Geometry,
@@ -101,7 +101,7 @@ fn time_admin(
     start.elapsed(rt)
 }
 
-/// What it takes the subsystem to execute a command so many times.
+/// Returns how long the subsystem takes to execute a command `LINES` times.
 fn time_commands(rt: &HostRuntime, kind: LineKind, command: &Command) -> io::Result<Duration> {
     let mut subsystem = demo(rt.alloc(), kind.refusals())?;
     let mut room = ReplyRoom::new();

@@ -23,7 +23,7 @@ pub enum LineKind {
     Comment,
 }
 
-/// Each kind of line.
+/// All kinds of line.
 pub const LINE_KINDS: [LineKind; 9] = [
     LineKind::ListNs,
     LineKind::IdNs,
@@ -36,13 +36,13 @@ pub const LINE_KINDS: [LineKind; 9] = [
     LineKind::Comment,
 ];
 
-/// The most commands that a line sends.
+/// The greatest number of commands that a line sends.
 pub const MOST_COMMANDS: u32 = 6;
 
-/// How many dwords four errors have.
+/// The number of dwords of four errors.
 const FOUR_ERRORS: u32 = 64;
 
-/// How many dwords the health has.
+/// The number of dwords of the health log.
 const HEALTH_DWORDS: u32 = 128;
 
 impl LineKind {
@@ -60,7 +60,7 @@ impl LineKind {
         }
     }
 
-    /// A line of this kind, with its newline.
+    /// Returns a line of this kind, with its newline.
     pub(crate) fn line(self) -> &'static str {
         match self {
             LineKind::ListNs => "list-ns /dev/nvme0\n",
@@ -75,7 +75,7 @@ impl LineKind {
         }
     }
 
-    /// How many commands the first controller refused before.
+    /// Returns how many commands the first controller has refused before.
     pub(crate) fn refusals(self) -> u32 {
         match self {
             LineKind::ErrorLog => 4,
@@ -83,8 +83,8 @@ impl LineKind {
         }
     }
 
-    /// The command at a place among those that the line sends, counted from 0. What `list` sends to
-    /// the second controller is sent to the first.
+    /// Returns one of the commands that the line sends, by its place from 0 on. What `list` sends
+    /// to the second controller is sent to the first one here.
     pub(crate) fn command(self, place: u32) -> Option<Command<'static>>
         ensures fits { IfSome result CommandFits }
         ensures sends { IfSome result IsSendable }
@@ -120,7 +120,7 @@ impl LineKind {
     }
 }
 
-/// What `list` sends to two controllers, of which the first has namespaces 1 and 3.
+/// Returns what `list` sends to two controllers, of which the first has namespaces 1 and 3.
 fn list_command(place: u32) -> Option<Command<'static>>
     ensures fits { IfSome result CommandFits }
     ensures sends { IfSome result IsSendable }

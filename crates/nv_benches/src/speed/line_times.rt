@@ -1,4 +1,4 @@
-//! What lines took.
+//! The times of lines.
 
 use std::fmt;
 use std::time::Duration;
@@ -6,26 +6,26 @@ use std::time::Duration;
 /// How many lines are measured together.
 pub const LINES: u32 = 1_000;
 
-/// What so many lines of a kind took together.
+/// The times of `LINES` lines of a kind together.
 #[derive(Clone, Copy)]
 pub struct LineTimes {
-    /// Their run.
+    /// The time of their run.
     pub run: Duration,
-    /// A run of no line.
+    /// The time of a run of an empty script.
     pub empty_run: Duration,
-    /// `LineReader::read` alone.
+    /// The time of `LineReader::read` alone.
     pub reading: Duration,
-    /// `Driver::admin` alone, with the commands in it.
+    /// The time of `Driver::admin` alone, with the commands in it.
     pub admin: Duration,
-    /// `Subsystem::execute` alone.
+    /// The time of `Subsystem::execute` alone.
     pub command: Duration,
 }
 
-/// The heads of the columns of a line's times.
+/// The headings of the columns of a line's times.
 pub const HEADS: &str = "  whole  reading  transport  command  printing";
 
 impl LineTimes {
-    /// The times with those of one more command.
+    /// Adds the times of one more command.
     pub(crate) fn with_command(self, admin: Duration, command: Duration) -> LineTimes {
         LineTimes {
             admin: self.admin.saturating_add(admin),
@@ -34,7 +34,7 @@ impl LineTimes {
         }
     }
 
-    /// The least of each time.
+    /// Returns the least of each time.
     pub(crate) fn least(self, other: LineTimes) -> LineTimes {
         LineTimes {
             run: self.run.min(other.run),
@@ -46,15 +46,15 @@ impl LineTimes {
     }
 }
 
-/// Nanoseconds a line.
+/// Returns the nanoseconds for one line.
 fn a_line(time: Duration) -> u128 {
     time.as_nanos() / u128::from(LINES)
 }
 
 impl fmt::Display for LineTimes {
-    /// Nanoseconds a line. Transport is what the driver takes beside the commands. Printing is what
-    /// the run takes beside reading and the driver: it cuts the line out of the script, makes its
-    /// text and writes it.
+    /// Writes the nanoseconds for one line. Transport is the time of the driver without the
+    /// commands. Printing is the time of the run without reading and the driver: the line is cut
+    /// out of the script, and its text is made and written.
     fn fmt<W: fmt::Write>(&self, f: &mut fmt::Formatter<W>) -> fmt::Result {
         let whole = a_line(self.run.saturating_sub(self.empty_run));
         let reading = a_line(self.reading);

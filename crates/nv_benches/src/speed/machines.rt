@@ -10,13 +10,13 @@ use nv_subsystem::{DEMO, Origin, Subsystem};
 use std::alloc::{AllocError, Global};
 use std::io::{self, ErrorKind};
 
-/// What a command is booked with where no driver sent it.
+/// The origin of a command that no driver sent.
 pub const ORIGIN: Origin = Origin {
     cid: 0,
     phase: true,
 };
 
-/// The subsystem of a file.
+/// Returns the subsystem of a file.
 fn subsystem_of(alloc: Global, file: &str) -> io::Result<Subsystem>
     ensures { IfOk result IsWellFormed }
 {
@@ -26,7 +26,7 @@ fn subsystem_of(alloc: Global, file: &str) -> io::Result<Subsystem>
     Ok(subsystem)
 }
 
-/// The demonstration subsystem, after so many commands that its first controller refused.
+/// Returns the demonstration subsystem, after its first controller has refused `refusals` commands.
 pub(crate) fn demo(alloc: Global, refusals: u32) -> io::Result<Subsystem>
     ensures { IfOk result IsWellFormed }
 {
@@ -43,7 +43,7 @@ pub(crate) fn demo(alloc: Global, refusals: u32) -> io::Result<Subsystem>
     Ok(subsystem)
 }
 
-/// The largest file: sixteen controllers, each of which has the same 1,024 namespaces.
+/// Returns the largest file: sixteen controllers, each with the same 1,024 namespaces.
 fn largest_file(alloc: Global) -> Result<String, AllocError> {
     let mut file = String::new(alloc);
     write!(
@@ -68,7 +68,7 @@ fn largest_file(alloc: Global) -> Result<String, AllocError> {
     Ok(file)
 }
 
-/// The largest subsystem.
+/// Returns the largest subsystem.
 pub(crate) fn largest(alloc: Global) -> io::Result<Subsystem>
     ensures { IfOk result IsWellFormed }
 {
@@ -76,7 +76,7 @@ pub(crate) fn largest(alloc: Global) -> io::Result<Subsystem>
     subsystem_of(alloc, file.as_str())
 }
 
-/// The controllers of a subsystem, after power on.
+/// Returns the controllers of a subsystem after power on.
 pub(crate) fn machine_of(alloc: Global, subsystem: Subsystem) -> io::Result<Machine>
     requires { IsWellFormed subsystem }
     ensures { IfOk result IsBus }

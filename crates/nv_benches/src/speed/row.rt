@@ -5,7 +5,7 @@ use crate::speed::line_kind::{LINE_KINDS, LineKind};
 use crate::speed::shape::{SHAPES, Shape};
 use std::io;
 
-/// How often each row is measured; the least times count.
+/// How often each row is measured. The least times count.
 const ROUNDS: u32 = 20;
 
 /// What was measured of a kind of line at a geometry.

@@ -1,4 +1,4 @@
-//! What a run of a script writes and takes.
+//! What a run of a script writes, and how long it takes.
 
 ghost use Rattle.nv_model.specs.WellFormed.{IsWellFormed};
 
@@ -17,7 +17,7 @@ pub struct Written {
     pub messages: u64,
 }
 
-/// What a run of a script over a subsystem writes, and what it takes.
+/// Returns what a run of a script over a subsystem writes and how long it takes.
 pub(crate) fn time_run(
     rt: &HostRuntime,
     subsystem: Subsystem,

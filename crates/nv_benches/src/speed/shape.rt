@@ -6,15 +6,15 @@ use nv_driver::Geometry;
 #[derive(Clone, Copy)]
 pub enum Shape {
     Default,
-    /// Rings of the least depth.
+    /// Queues of the least depth.
     Shallow,
-    /// Rings of the greatest depth.
+    /// Queues of the greatest depth.
     Deep,
     /// Data that begins with the last dword of the greatest page.
     PageEnd,
 }
 
-/// Each of these geometries.
+/// All of these geometries.
 pub const SHAPES: [Shape; 4] = [Shape::Default, Shape::Shallow, Shape::Deep, Shape::PageEnd];
 
 impl Shape {

@@ -12,7 +12,7 @@ use std::alloc::{AllocError, Global};
 use std::io::{self, ErrorKind};
 use std::time::{Duration, Instant};
 
-/// The most pages that a transfer can have.
+/// The greatest number of pages of a transfer.
 const MOST_PAGES: u32 = 257;
 
 /// What was measured of a transfer.
@@ -22,7 +22,7 @@ pub struct Measured {
     pub times: TransferTimes,
 }
 
-/// So many pages, from page 2 on: pages 0 and 1 are left for the list.
+/// Returns `count` pages from page 2 on, because pages 0 and 1 are left for the list.
 fn buffer_pages(alloc: Global, count: u32) -> Result<Vec<PageNo>, AllocError>
     requires { count < 2 ^ 16 }
     ensures { IfOk result (λ pages. pages.items ≡ table count (λ k. k + 2)) }
@@ -34,7 +34,7 @@ fn buffer_pages(alloc: Global, count: u32) -> Result<Vec<PageNo>, AllocError>
     Ok(pages)
 }
 
-/// Measures a transfer of 1 MiB that begins 4 bytes after a page's first one.
+/// Measures a transfer of 1 MiB that begins 4 bytes into a page.
 pub(crate) fn measure(rt: &HostRuntime, page_size: u32) -> io::Result<Measured>
     requires { IsPageSize page_size }
 {
@@ -91,7 +91,7 @@ fn measure_calls<M: HostMemory>(
     })
 }
 
-/// What it takes to build the transfer so many times.
+/// Returns how long it takes to build the transfer `ROUNDS` times.
 fn time_builds<M: HostMemory>(
     rt: &HostRuntime,
     mem: &mut M,
@@ -113,7 +113,7 @@ fn time_builds<M: HostMemory>(
     start.elapsed(rt)
 }
 
-/// What it takes to walk a transfer so many times.
+/// Returns how long it takes to walk a transfer `ROUNDS` times.
 fn time_walks<M: HostMemory>(
     rt: &HostRuntime,
     mem: &M,
@@ -128,7 +128,7 @@ fn time_walks<M: HostMemory>(
     start.elapsed(rt)
 }
 
-/// What it takes to copy bytes to the spans so many times.
+/// Returns how long it takes to copy bytes to the spans `ROUNDS` times.
 fn time_copies_out<M: HostMemory>(
     rt: &HostRuntime,
     mem: &mut M,
@@ -146,7 +146,7 @@ fn time_copies_out<M: HostMemory>(
     start.elapsed(rt)
 }
 
-/// What it takes to copy bytes from the spans so many times.
+/// Returns how long it takes to copy bytes from the spans `ROUNDS` times.
 fn time_copies_in<M: HostMemory>(
     rt: &HostRuntime,
     mem: &M,

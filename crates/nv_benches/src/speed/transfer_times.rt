@@ -1,15 +1,15 @@
-//! What calls took.
+//! The times of calls.
 
 use std::fmt;
 use std::time::Duration;
 
-/// The bytes of a transfer.
+/// The length of a transfer, in bytes.
 pub const LENGTH: u32 = 1_048_576;
 
 /// How often each call is made.
 pub const ROUNDS: u32 = 64;
 
-/// What the calls of each kind took together.
+/// The times of the calls of each kind together.
 #[derive(Clone, Copy)]
 pub struct TransferTimes {
     pub build: Duration,
@@ -18,7 +18,7 @@ pub struct TransferTimes {
     pub copy_in: Duration,
 }
 
-/// The bytes of the transfers in a second.
+/// Returns the bytes that are transferred in a second.
 fn bytes_per_second(time: Duration) -> u128 {
     let bytes = u128::from(LENGTH) * u128::from(ROUNDS);
     bytes * 1_000_000_000 / time.as_nanos().max(1)

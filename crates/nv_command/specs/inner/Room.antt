@@ -1,16 +1,16 @@
--- The reply that is kept in a room.
+-- The reply in a `ReplyRoom`: what no public contract reaches.
 use Rattle.std.specs.Prelude.{◌≡◌, ℕ, ◌/◌, ◌≤◌}
 use Rattle.nv_command.specs.declared.form.ReplyKind.{ReplyKind}
 use Rattle.nv_command.specs.declared.form.ReplyKind.TheVariants as kind
 
--- the bytes of a page that a reply of a kind has, where it is no log
+-- how many bytes of a page a reply of a kind has, if it is no log
 abbrev pub page_bytes : ReplyKind → ℕ
 page_bytes kind.Controller = 4096
 page_bytes kind.Namespace = 4096
 page_bytes kind.List = 4096
 page_bytes k = 0
 
--- so many bytes a reply of a kind is read from: of the error log at most 256 entries
+-- the number of bytes from which a reply of a kind is read; the error log has at most 256 entries
 abbrev pub IsSizeOf : ReplyKind → ℕ → Type 0
 IsSizeOf kind.Errors n = n / 64 ≤ 256
 IsSizeOf kind.Smart n = n ≡ 512

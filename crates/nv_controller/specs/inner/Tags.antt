@@ -1,4 +1,4 @@
--- What taking an entry books, with the phase tag that its completion has.
+-- What is logged when an entry is taken, with the phase tag of its completion.
 use Rattle.std.specs.Prelude.{ℕ, Bool, Result, Ok, Err}
 use Rattle.nv_layout.specs.declared.sqe.Sqe.{Sqe}
 use Rattle.nv_queue.specs.Numbers.{phase_of}
@@ -22,7 +22,7 @@ settled_unless (Err code) s c e phase =
 settled_unless (Ok call) s c e phase =
     settled s c call.command (origin_of e phase) (refusal_of s c call.command)
 
--- after the next one: its completion has the phase tag of its number
+-- the subsystem after the next entry, whose completion has the phase tag of its number
 abbrev pub settled_next : ℕ → Scene → State
 settled_next c x =
     let ring = x.rings.completion in

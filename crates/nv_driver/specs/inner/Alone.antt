@@ -1,4 +1,5 @@
--- A request of a controller on its way alone, over a queue pair of which no command is outstanding.
+-- A request to a controller on its own, over a queue pair without other outstanding commands: what
+-- no public contract reaches.
 use Rattle.std.specs.Prelude.{◌≡◌, ℕ, ◌+◌, ◌-◌, ◌*◌, ◌<◌, ◌≤◌, List, [], ◌∷◌, get_or, if◌then◌else◌}
 use Rattle.std.specs.Prelude.{length, slice_set}
 use Rattle.nv_host.specs.Bytes.{bytes_at}
@@ -30,15 +31,15 @@ use Rattle.nv_driver.specs.Schedule.{IsPrepared, Sent, IsAnswered, is_success, e
 use Rattle.nv_driver.specs.inner.Schedule.{IsListedAtPlace}
 use Rattle.nv_driver.specs.Settled.{end_of}
 use Rattle.nv_driver.specs.declared.queue_pair.QueuePair.{QueuePair as QueuePairFields}
-use Rattle.nv_driver.specs.Alone.{asked_in, entry_step, IsReceived, Alone, alone, IsAlone}
+use Rattle.nv_driver.specs.Alone.{asked_in, entry_step, IsReceived, Alone, IsAlone}
 
--- and nothing is read where the status is no success
+-- nothing is read unless the status is success
 abbrev pub came_with : Status → List ℕ → List ℕ
 came_with status bytes = if is_success status then bytes else []
 
 -- ---- how it is sent
 
--- the numbers of its data pages and where its data begins, and where a list may lie
+-- the numbers of its data pages, the offset of its data, and the place for a list
 pub record EntryPlace : Type 0 where
   pub pages : List ℕ
   pub offset : ℕ
@@ -59,11 +60,11 @@ place_in pages offset list = record {
 abbrev pub pages_at : EntryPlace → List ℕ
 pages_at at = at.first ∷ at.second ∷ at.pages
 
--- none of them lies before this one
+-- none of them comes before this one
 abbrev pub AreFrom : ℕ → EntryPlace → Type 0
 AreFrom first at = (i d : ℕ) → i < length (pages_at at) → first ≤ get_or (pages_at at) i d
 
--- so many bytes lie there, and a list may, in pages of the memory of which no two are one
+-- `len` bytes and a list fit there, in distinct pages of the memory
 pub record IsPlaceFor (mem : List ℕ) (page_size : ℕ) (at : EntryPlace) (len : ℕ) : Type 0 where
   pub is_size : IsPageSize page_size
   pub buffer : IsBuffer mem page_size at.pages at.offset len
@@ -83,7 +84,7 @@ sent_at at q cid prp1 prp2 = record {
   prp2 = prp2;
 }
 
--- it was made ready, and its entry put in the ring
+-- the pages are prepared, and the entry is in the ring
 pub record IsEntrySubmitted (page_size : ℕ) (at : EntryPlace) (q : Request)
     (old new : QueuePairFields) (before after : List ℕ) : Type 0 where
   pub prp1 : ℕ
@@ -98,7 +99,7 @@ pub record IsEntrySubmitted (page_size : ℕ) (at : EntryPlace) (q : Request)
     serial = next_serial old.serial;
   }
 
--- the completion is the answer's, and the head was told
+-- the completion is that of the answer, and the head doorbell was rung
 pub record IsAnsweredBy (a : Alone) (c : Cqe) (l : QueuePairFields) (now : ℕ) (bytes : List ℕ)
     (bus : BusValue) : Type 0 where
   pub answers : List Answer
@@ -107,7 +108,7 @@ pub record IsAnsweredBy (a : Alone) (c : Cqe) (l : QueuePairFields) (now : ℕ) 
   pub answer : IsAnswered a.run.geometry.page_size a.sent bytes c
       (step_of a.run.controller a.run.bus.state (numbered a.sent)).answer
 
--- bytes before a place stay that are outside the queue pair
+-- bytes before `end` that are outside the queue pair don't change
 abbrev pub KeepsBelow : ℕ → ℕ → QueuePair → List ℕ → List ℕ → Type 0
 KeepsBelow end page_size l old new =
     (from n : ℕ) → from + n ≤ end → IsApart l.sq (end_of page_size l - l.sq) from n
@@ -125,8 +126,8 @@ pub record Side : Type 0 where
 abbrev pub side : BusValue → QueuePairFields → ℕ → List ℕ → Side
 side bus pair now bytes = record { bus = bus; pair = pair; now = now; bytes = bytes }
 
--- an entry can be exchanged over a quiet queue pair, with its data at a place whose first page is the
--- list's, behind the queue pair; data and list begin in their pages where the geometry says
+-- an entry can be exchanged over a queue pair without outstanding commands, with its data at a place after the
+-- queue pair whose first page is the list's; the data and the list begin in their pages where the geometry says
 pub record CanExchange (g : Geometry) (c : ℕ) (e : Sqe) (m : Transfer) (at : EntryPlace)
     (old : Side) : Type 0 where
   pub ready : IsReady g old.bus c old.pair old.now old.bytes
@@ -140,8 +141,8 @@ pub record CanExchange (g : Geometry) (c : ℕ) (e : Sqe) (m : Transfer) (at : E
   pub first : AreFrom at.first at
   pub last : old.pair.pages.first + old.pair.pages.count ≤ at.first
 
--- an entry was sent with the bytes that the host had to send, and its data in pages from one on: what
--- was told and received, and what is left
+-- an entry was sent with the host's bytes, and its data in consecutive pages from this one on: its
+-- completion, the bytes received, and the state after it
 pub record IsExchanged (g : Geometry) (c : ℕ) (e : Sqe) (given : List ℕ) (first_page : ℕ)
     (old new : Side) (told : Told) (out : List ℕ) : Type 0 where
   pub answer : told ≡ told_by (entry_step old.bus.state c e given old.pair.serial).answer

@@ -1,11 +1,11 @@
--- The pages of a command.
+-- The pages of a command: what no public contract reaches.
 use Rattle.std.specs.Prelude.{◌≡◌, ℕ, ◌+◌, ◌<◌, All, AllPairs, List, take, true}
 use Rattle.std.specs.FinSet as set
 use Rattle.nv_host.specs.PageSets.{Pages}
 use Rattle.nv_driver.specs.declared.command_pages.CommandPages.{CommandPages}
 use Rattle.nv_driver.specs.CommandPages.{without}
 
--- all of them: the two of a list, and then those of the data
+-- all pages: the two for a list, and then those of the data
 abbrev pub all_pages : CommandPages → List ℕ
 all_pages p = take (p.data_pages + 2) p.numbers
 

@@ -1,6 +1,6 @@
--- How a driver lays out the host's memory: for each controller in turn its submission ring, its
+-- The layout of the host's memory: what no public contract reaches.
 use Rattle.std.specs.Prelude.{ℕ}
 
--- in how many pages they lie at most
+-- the greatest number of pages of a command's data
 abbrev pub most_data_pages : ℕ
 most_data_pages = 5

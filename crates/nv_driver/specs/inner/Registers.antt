@@ -1,4 +1,4 @@
--- What a driver's controllers have in their registers.
+-- The registers of a driver's controllers: what no public contract reaches.
 use Rattle.std.specs.Prelude.{◌≡◌, ℕ, ◌+◌, ◌-◌, ◌*◌}
 use Rattle.nv_register.specs.RegisterBank.{with_register_at}
 use Rattle.nv_register.specs.declared.register_bank.RegisterBank.{RegisterBank}
@@ -10,11 +10,11 @@ use Rattle.nv_driver.specs.Registers.{mps_of}
 abbrev pub disabled : RegisterBank → RegisterBank
 disabled p = with_register_at p 0x14 0
 
--- AQA of two queues that have so many entries each, less one: no other bit is set
+-- AQA of two queues with less_one + 1 entries each; no other bit is set
 abbrev pub aqa_of_both : ℕ → ℕ
 aqa_of_both less_one = less_one * 0x10000 + less_one
 
--- queues of so many entries, less one, at these addresses
+-- queues with less_one + 1 entries at these addresses
 abbrev pub with_queues : RegisterBank → ℕ → ℕ → ℕ → RegisterBank
 with_queues p less_one sq cq =
     record p { aqa = record { asqs = less_one; acqs = less_one }; asq = sq; acq = cq }

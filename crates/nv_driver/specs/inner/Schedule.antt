@@ -1,4 +1,5 @@
--- Schedules of one controller's commands: submit, ring the doorbell, turn, collect, tell the head,
+-- Schedules of one controller's commands: what no public contract
+-- reaches.
 use Rattle.std.specs.Prelude.{◌≡◌, ℕ, ◌+◌, ◌*◌, ◌<◌, List}
 use Rattle.nv_prp.specs.Transfer.{data_pages}
 use Rattle.nv_driver.specs.Schedule.{Sent, data_length, pointed}

@@ -1,4 +1,4 @@
--- A command that a driver submitted.
+-- A command that a driver submitted: what no public contract reaches.
 use Rattle.std.specs.Prelude.{◌≡◌, ℕ, ◌+◌, ◌*◌, ◌≤◌, List, length}
 use Rattle.std.specs.FinSet as set
 use Rattle.nv_queue.specs.Rings.{submitted_one}
@@ -17,8 +17,8 @@ use Rattle.nv_driver.specs.declared.geometry.Geometry.{Geometry}
 use Rattle.nv_driver.specs.declared.queue_pair.QueuePair.{QueuePair as QueuePairFields}
 use Rattle.nv_driver.specs.Submitting.{sent_by}
 
--- it took its pages, they were made ready, and its entry was put in the ring; a command without
--- data has no page for any, and no data pointer
+-- the command's pages were taken and prepared, and its entry was put in the ring; a command without
+-- data has no pages for it, and no data pointer
 pub record IsSubmitted (g : Geometry) (k : Command) (own : CommandPages) (old new : QueuePairFields)
     (before after : List ℕ) : Type 0 where
   pub prp1 : ℕ

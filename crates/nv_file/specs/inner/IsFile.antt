@@ -1,6 +1,6 @@
--- What holds of whatever a file gives.
+-- What holds of whatever a file gives: what no public contract reaches.
 use Rattle.std.specs.Prelude.{◌≤◌, length}
-use Rattle.nv_file.specs.inner.FileReading.{Top}
+use Rattle.nv_file.specs.inner.TopView.{Top}
 use Rattle.nv_model.specs.Ranges.{AreTopKeys}
 
 pub record IsTop (t : Top) : Type 0 where

@@ -1,4 +1,4 @@
--- A record as bytes: a table of its fields, each at its place.
+-- A record as bytes, which is a table of its fields: what no public contract reaches.
 use Rattle.std.specs.Prelude.{◌≡◌, ℕ, Bool, ◌&&◌, nat_le, ◌+◌, ◌^◌, ◌<◌, List, [], ◌∷◌, length}
 use Rattle.std.specs.List.{AllByRecursion}
 use Rattle.nv_layout.specs.Parts.{Part, place_of, width_of, text_at, number_at, numbers_at, number}
@@ -6,7 +6,7 @@ use Rattle.nv_layout.specs.Parts.{numbers, text}
 
 -- ---- tables
 
--- the fields stand in order, without overlap, from a place on and within the size
+-- the fields are in order and don't overlap, from `from` on and within the size
 abbrev pub is_table : ℕ → ℕ → List Part → Bool
 is_table from size [] = nat_le from size
 is_table from size (p ∷ ps) = nat_le from (place_of p) && is_table (place_of p + width_of p) size ps

@@ -1,4 +1,4 @@
--- What operations on transfers are answered, and what they leave.
+-- What operations on transfers are answered, and what they leave: what no public contract reaches.
 use Rattle.std.specs.Prelude.{MatchOption, Option}
 use Rattle.nv_host.specs.Pages.{PagedBytes}
 use Rattle.nv_operations.specs.declared.refusal.Refusal.{Refusal}

@@ -1,4 +1,4 @@
--- What a program makes of what its arguments ask for.
+-- The subsystem that a program's arguments ask for: what no public contract reaches.
 use Rattle.std.specs.Prelude.{◌≡◌, ◌≤◌, ℕ, List, length, Bool, true, false, IsTrue, Option, IfSome}
 use Rattle.std.specs.Prelude.{Result, Ok, Err}
 use Rattle.nv_model.specs.State.{State}
@@ -6,25 +6,25 @@ use Rattle.nv_program.specs.declared.stop.Stop.{Stop}
 use Rattle.nv_program.specs.declared.stop.Stop.TheVariants as stop
 use Rattle.nv_subsystem.specs.FromFile.{subsystem}
 
--- a stop where a file can't be read, or for want of memory
+-- a stop because a file can't be read, or because there was no memory
 abbrev pub is_unread : Stop → Bool
 is_unread stop.Unreadable = true
 is_unread stop.Memory = true
 is_unread _ = false
 
--- the longest subsystem file in bytes
+-- the greatest length of a subsystem file in bytes
 abbrev pub most_bytes : ℕ
 most_bytes = 1048576
 
--- what the bytes of a file are: a subsystem, or refused, where they are not too many; a read may fail
--- at any time, and so may a growth of memory
+-- the bytes of a file are a subsystem, or are refused, if there are not too many; a read may fail
+-- at any time, and so may an allocation
 abbrev pub IsSubsystemIn : List ℕ → Result State Stop → Type 0
 IsSubsystemIn bytes (Ok s) = (length bytes ≤ most_bytes) × (subsystem bytes ≡ Ok s)
 IsSubsystemIn bytes (Err (stop.Subsystem e)) =
     (length bytes ≤ most_bytes) × (subsystem bytes ≡ Err e)
 IsSubsystemIn bytes (Err why) = IsTrue (is_unread why)
 
--- a subsystem, or a refusal, is that of the bytes which some open file had
+-- a subsystem, or a refusal, is that of the bytes of some open file
 abbrev pub IsOfSomeFile : {F : Type 0} → (F → Option (List ℕ)) → Result State Stop → Type 0
 IsOfSomeFile {F} remaining (Ok s) =
     (file : F) × IfSome (remaining file) (λ bytes. IsSubsystemIn bytes (Ok s))

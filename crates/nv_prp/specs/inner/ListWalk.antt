@@ -1,10 +1,10 @@
--- A list of more than two data pages, as a walk goes over it.
+-- A list of more than two data pages, as the walk reads it.
 use Rattle.std.specs.Prelude.{◌≡◌, ℕ, ◌+◌, ◌-◌, ◌*◌, ◌&&◌, ◌<◌, ◌≤◌, None, if◌then◌else◌, length, nat_lt}
 use Rattle.nv_host.specs.Pages.{IsPageSize}
 use Rattle.nv_prp.specs.Transfer.{PrpTransfer, data_pages, entry_fault, first_qword_fault, page_base}
 use Rattle.nv_prp.specs.Transfer.{qword, room, second_page}
 
--- how many Qwords are used before that of data page j is looked for, and where the next one lies
+-- how many Qwords the walk has used before that of data page j, and the address of the next one
 abbrev pub used : ℕ → ℕ → ℕ → ℕ
 used space pages j = if nat_lt space j && nat_lt space (pages - 1) then j else j - 1
 
@@ -29,13 +29,13 @@ pub record IsList (t : PrpTransfer) : Type 0 where
   pub prp2 : entry_fault t.page_size (length t.bytes) 8 t.prp2 ≡ None
   pub inside : t.prp2 + 8 * room t ≤ length t.bytes
 
--- a walk has come to data page j, and the next Qword lies at this address
+-- a walk has reached data page j, and the next Qword is at this address
 pub record Comes (t : PrpTransfer) (j at : ℕ) : Type 0 where
   pub later : 0 < j
   pub here : at ≡ cursor_of t j
   pub none : first_qword_fault t (used_of t j) ≡ None
 
--- the Qword at this address is the one that names data page j
+-- the Qword at this address holds the address of data page j
 pub record ListTurn (t : PrpTransfer) (j at : ℕ) : Type 0 where
   pub fault : first_qword_fault t (used_of t (j + 1)) ≡ entry_fault t.page_size (length t.bytes)
       t.page_size (qword t.bytes at)

@@ -1,6 +1,7 @@
--- Submissions and completions have numbers, from 0 since their rings were made or renewed. A ring
+-- The numbers of submissions and completions: what no public contract
+-- reaches.
 use Rattle.std.specs.Prelude.{ℕ, ◌+◌, Bool, if◌then◌else◌}
 
--- the number that a slot in the first or the second pass stands for
+-- the number of a slot in the first or the second pass
 abbrev pub number_of : ℕ → ℕ → Bool → ℕ
 number_of depth slot second = if second then depth + slot else slot

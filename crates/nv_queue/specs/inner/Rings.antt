@@ -1,4 +1,5 @@
--- The four sides of a queue pair's rings: where a ring lies, how many slots it has, its numbers.
+-- The four sides of a queue pair's rings: what no public contract
+-- reaches.
 use Rattle.std.specs.Prelude.{◌*◌, ◌<◌}
 use Rattle.nv_queue.specs.Numbers.{IsDepth}
 use Rattle.nv_queue.specs.Rings.{RingNumbers}

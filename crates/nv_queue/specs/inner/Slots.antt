@@ -1,10 +1,10 @@
--- What the slots of a ring hold.
+-- The contents of the slots of a ring: what no public contract reaches.
 use Rattle.std.specs.Prelude.{◌≡◌, ◌≢◌, ℕ, ◌<◌, List}
 use Rattle.nv_layout.specs.declared.cqe.Cqe.{Cqe}
 use Rattle.nv_layout.specs.declared.sqe.Sqe.{Sqe}
 use Rattle.nv_queue.specs.Slots.{submission_at, completion_at}
 
--- ---- one slot is written, and the others stay
+-- ---- one slot is written, and the others don't change
 
 pub record WritesSubmission (old new : List ℕ) (base depth slot : ℕ) (c : Sqe) : Type 0 where
   pub here : submission_at new base slot ≡ c

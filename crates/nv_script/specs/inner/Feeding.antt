@@ -1,4 +1,4 @@
--- What the steps of a run leave: a text, a line, a piece of the script, its last piece.
+-- What each step of a run leaves behind: a text, a line, a piece of the script, and its last piece.
 use Rattle.std.specs.Prelude.{◌≡◌, ℕ, ◌<◌, Bool, true, false, List, [], ◌∷◌, ◌++◌, length, take, Option}
 use Rattle.std.specs.Prelude.{Result, Ok, Err, Vec, slice_index}
 use Rattle.std.specs.Io.KnownBytes.{Appends}
@@ -10,11 +10,11 @@ use Rattle.nv_script.specs.inner.ScriptLines.{buffer_of}
 use Rattle.nv_script.specs.ScriptLines.{pieces, script_lines}
 use Rattle.nv_driver.specs.inner.Linked.{serials_of}
 use Rattle.nv_stream.specs.Streams.{IsBeginning}
-use Rattle.nv_script.specs.declared.ends.Cut.{Cut}
-use Rattle.nv_script.specs.declared.ends.Cut.TheVariants.{Memory}
+use Rattle.nv_script.specs.declared.ends.RunEnd.{RunEnd}
+use Rattle.nv_script.specs.declared.ends.RunEnd.TheVariants.{Memory}
 use Rattle.nv_script.specs.declared.session.Session.{Session}
 
--- a run stands after p
+-- a run is at p
 pub record Stands (p : Progress) (left : Left) (session : Session) : Type 0 where
   pub holds : Holds left p.output p.messages p.state
   pub next : serials_of session.driver ≡ p.serials
@@ -23,40 +23,40 @@ pub record Stands (p : Progress) (left : Left) (session : Session) : Type 0 wher
 
 -- a text that memory sufficed for was written whole, or a beginning of it up to the sink's fault;
 -- nothing is written of one that was refused
-abbrev pub PrintLeaves : {A E Z : Type 0} → Result A Cut → Cut → Result (Vec ℕ Z) E
+abbrev pub PrintLeaves : {A E Z : Type 0} → Result A RunEnd → RunEnd → Result (Vec ℕ Z) E
     → Option (List ℕ) → Option (List ℕ) → Bool → Type 0
 PrintLeaves (Ok done) fault (Ok text) old new failed =
     Appends old new text.items × (failed ≡ false)
-PrintLeaves (Err cut) fault (Ok text) old new failed = (cut ≡ fault)
+PrintLeaves (Err end) fault (Ok text) old new failed = (end ≡ fault)
     × ((part : List ℕ) × IsBeginning part text.items × Appends old new part)
     × (failed ≡ true)
-PrintLeaves (Err cut) fault (Err e) old new failed = (cut ≡ Memory) × (new ≡ old) × (failed ≡ false)
+PrintLeaves (Err end) fault (Err e) old new failed = (end ≡ Memory) × (new ≡ old) × (failed ≡ false)
 PrintLeaves (Ok done) fault (Err e) old new failed = ⊥
 
 -- what one line after p leaves, done or cut short
-abbrev pub LineLeaves : {A : Type 0} → Result A Cut → Progress → List ℕ → Left → Session → Type 0
+abbrev pub LineLeaves : {A : Type 0} → Result A RunEnd → Progress → List ℕ → Left → Session → Type 0
 LineLeaves (Ok done) p line left session = Stands (after p line) left session
-LineLeaves (Err cut) p line left session = IsCutIn cut p line left
+LineLeaves (Err end) p line left session = IsCutIn end p line left
 
 -- no sink has failed, or the one that cut the line short
-abbrev pub IsFailureOf : {A : Type 0} → Result A Cut → Bool → Bool → Type 0
+abbrev pub IsFailureOf : {A : Type 0} → Result A RunEnd → Bool → Bool → Type 0
 IsFailureOf (Ok done) out messages = (out ≡ false) × (messages ≡ false)
-IsFailureOf (Err cut) out messages = AreFailed cut out messages
+IsFailureOf (Err end) out messages = AreFailed end out messages
 
 -- what a further piece of a script leaves, after some bytes: its ended lines are done and its last
 -- piece is in the buffer, or the run was cut short in the line that the newline at an index ended
-abbrev pub PieceLeaves : {A : Type 0} → Result A Cut → State → List ℕ → List ℕ → Option (List ℕ)
+abbrev pub PieceLeaves : {A : Type 0} → Result A RunEnd → State → List ℕ → List ℕ → Option (List ℕ)
     → Left → Session → Type 0
 PieceLeaves (Ok done) s bytes piece line left session =
     let p = pieces (bytes ++ piece) in
     (line ≡ buffer_of p.last) × Stands (whole s p.ended) left session
-PieceLeaves (Err cut) s bytes piece line left session =
+PieceLeaves (Err end) s bytes piece line left session =
     (i : ℕ) × (i < length piece) × (slice_index piece i ≡ 10)
-    × (let p = pieces (bytes ++ take i piece) in IsCutIn cut (whole s p.ended) p.last left)
+    × (let p = pieces (bytes ++ take i piece) in IsCutIn end (whole s p.ended) p.last left)
 
 -- what the last piece of a script leaves, done with this status or cut short
-abbrev pub LastLeaves : Result ℕ Cut → State → List ℕ → Left → Type 0
+abbrev pub LastLeaves : Result ℕ RunEnd → State → List ℕ → Left → Type 0
 LastLeaves (Ok status) s bytes left = LeavesAll status s bytes left
-LastLeaves (Err cut) s bytes left =
+LastLeaves (Err end) s bytes left =
     let p = pieces bytes in
-    (script_lines bytes ≡ p.ended ++ p.last ∷ []) × IsCutIn cut (whole s p.ended) p.last left
+    (script_lines bytes ≡ p.ended ++ p.last ∷ []) × IsCutIn end (whole s p.ended) p.last left

@@ -1,4 +1,4 @@
--- Where `list` stands between two of its orders.
+-- The state of `list` between two of its orders.
 use Rattle.std.specs.Prelude.{◌≡◌, ℕ, Contains, List, [], ◌∷◌, ◌++◌, Result, Ok, Err, fold}
 use Rattle.nv_model.specs.State.{State}
 use Rattle.nv_command.specs.declared.reply.Reply.{Reply}
@@ -16,7 +16,7 @@ pub record Standing : Type 0 where
   pub serials : List ℕ
   pub listing : Listing
 
--- after one order more, refused or not
+-- the state after one more order, refused or not
 abbrev pub asked : Standing → Order → Standing
 asked w o =
     let e = exchange_of w.state w.serials o in
@@ -29,24 +29,24 @@ asked w o =
 abbrev pub asked_all : Standing → List Order → Standing
 asked_all w orders = fold asked w orders
 
--- what the orders are answered, one after the other
+-- the answers to the orders, one after another
 abbrev pub answers_to : Standing → List Order → List Answer
 answers_to w [] = []
 answers_to w (o ∷ os) = (exchange_of w.state w.serials o).answer ∷ answers_to (asked w o) os
 
--- the NSIDs that a reply tells
+-- the NSIDs in a reply
 abbrev pub nsids_told : Reply → List ℕ
 nsids_told (reply.List nsids) = nsids
 nsids_told _ = []
 
--- the subsystem, the serials and the listing are those of a standing
+-- these are the subsystem, the serials and the listing of a standing
 pub record IsListed (w : Standing) (state : State) (serials : List ℕ)
     (listing : Listing) : Type 0 where
   pub subsystem : state ≡ w.state
   pub next : serials ≡ w.serials
   pub listed : listing ≡ w.listing
 
--- the first of some orders were carried out
+-- some of the first orders were carried out
 pub record AreBegun (w : Standing) (orders : List Order) (state : State)
     (serials : List ℕ) : Type 0 where
   pub done : List Order
@@ -55,14 +55,14 @@ pub record AreBegun (w : Standing) (orders : List Order) (state : State)
   pub subsystem : state ≡ (asked_all w done).state
   pub next : serials ≡ (asked_all w done).serials
 
--- a refusal that is handed on is one of the answers
+-- a refusal that is returned is one of the answers
 abbrev pub IsHandedOn : Stop → List Answer → Type 0
 IsHandedOn (stop.Refused status) answers = Contains answers (Err status)
 IsHandedOn stop.Memory answers = Unit {0}
 IsHandedOn stop.NoReady answers = ⊥
 
--- all of some orders were carried out and what they were answered is listed, or one of them was
--- refused so, or memory was refused amid them
+-- all of some orders were carried out and their answers are listed, or one of them was refused so,
+-- or memory was refused among them
 abbrev pub ListLeaves : {A : Type 0} → Result A Stop → Standing → List Order → State → List ℕ
     → Listing → Type 0
 ListLeaves (Ok done) w orders state serials listing =

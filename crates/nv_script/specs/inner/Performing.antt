@@ -1,4 +1,4 @@
--- What performing a request leaves.
+-- What performing a request leaves behind.
 use Rattle.std.specs.Prelude.{◌≡◌, ℕ, List, take, Option, None, Some, Result, Ok, Err, Vec}
 use Rattle.nv_command.specs.declared.reply.Reply.{Reply}
 use Rattle.nv_layout.specs.declared.status.Status.{Status}
@@ -21,12 +21,12 @@ abbrev pub OrderLeaves : Result Reply Status → Order → State → List ℕ �
 OrderLeaves answer o s serials state next =
     exchange_with answer state next ≡ exchange_of s serials o
 
--- the subsystem and the serials are those that an outcome leads to
+-- these are the subsystem and the serials after an outcome
 pub record IsReached (o : Outcome) (state : State) (serials : List ℕ) : Type 0 where
   pub subsystem : state ≡ o.state
   pub next : serials ≡ o.serials
 
--- a query was refused, or memory was, after some of its orders; each controller was ready
+-- a query was refused, or memory was refused, after some of its orders; each controller was ready
 abbrev pub StopLeaves : Stop → Query → State → List ℕ → State → List ℕ → Type 0
 StopLeaves (stop.Refused status) q s serials state next =
     let o = outcome_of s serials (orders_of s q) in

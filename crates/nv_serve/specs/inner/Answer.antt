@@ -1,4 +1,4 @@
--- An answer's bytes: a header, and what came.
+-- The bytes of an answer: what no public contract reaches.
 use Rattle.std.specs.Prelude.{ℕ, List}
 use Rattle.nv_serve.specs.declared.answer.AnswerHeader.{AnswerHeader}
 use Rattle.nv_serve.specs.Answer.{Answer}

@@ -1,4 +1,4 @@
--- What reading one request leaves.
+-- What reading one request leaves behind: what no public contract reaches.
 use Rattle.std.specs.Prelude.{◌≡◌, ◌≢◌, ℕ, ◌+◌, ◌<◌, ◌≤◌, false, List, [], length, take}
 use Rattle.std.specs.Io.KnownBytes.{Consumes}
 use Rattle.nv_layout.specs.Sqe.{SqeFits}
@@ -11,7 +11,7 @@ use Rattle.nv_serve.specs.declared.reading.Taken.{Taken}
 use Rattle.nv_serve.specs.declared.reading.Taken.TheVariants as taken
 use Rattle.nv_serve.specs.Reading.{HasEnded, HasFailed}
 
--- the source can be read on, and made no more reads than it gave bytes
+-- the source can be read further, and made no more reads than it returned bytes
 pub record IsReady (source : SourceState) : Type 0 where
   pub not_failed : source.has_failed ≡ false
   pub not_ended : source.has_ended ≡ false
@@ -35,8 +35,8 @@ pub record Reads (r : Request) (old new : SourceState) : Type 0 where
 abbrev pub request : List ℕ → List ℕ → Request
 request header payload = record { header = header; payload = payload }
 
--- A request was read whole, with its data at the front of a buffer. The source ended before it, or in
--- it. It is too long. The source failed.
+-- A request was read completely, with its data at the beginning of a buffer. The source ended
+-- before it, or inside it. It is too long. The source failed.
 abbrev pub IsTaken : Taken → SourceState → SourceState → List ℕ → List ℕ → Type 0
 IsTaken (taken.Request h) old new header buf =
     let r = request header (take (sent_length h) buf) in

@@ -1,4 +1,5 @@
--- What a trace keeps of the rings of controllers: which slots come next.
+-- What a trace keeps of the rings of controllers: what no public contract
+-- reaches.
 use Rattle.std.specs.Prelude.{◌≡◌, ℕ, ◌+◌, ◌*◌, ◌≤◌, ◌↔◌, List, IfSome, IsSome, MatchOption, Option}
 use Rattle.std.specs.Prelude.{Some, None, length, slice_index_or, slice_set}
 use Rattle.nv_layout.specs.declared.cqe.Cqe.{Cqe}
@@ -9,11 +10,11 @@ use Rattle.nv_trace.specs.declared.admin_queues.AdminQueues.{AdminQueues}
 use Rattle.nv_trace.specs.declared.slots.Slots.{Slots}
 use Rattle.nv_trace.specs.Followed.{AreAhead}
 
--- n entries further along the same rings
+-- n entries later in the same rings
 abbrev pub IsFurther : ℕ → AdminQueues → AdminQueues → Type 0
 IsFurther n old new = (r : Rings) (k : ℕ) → AreAhead k old r → AreAhead (k + n) new r
 
--- what stands in the next slot of a submission ring, and of a completion ring, where the memory reaches it
+-- the contents of the next slot of a submission ring, and of a completion ring, if the slot lies in the memory
 abbrev pub IsEntryIn : Option Sqe → List ℕ → Slots → Type 0
 IsEntryIn found bytes s = (IsSome found ↔ (s.base + 64 * s.next + 64 ≤ length bytes))
     × IfSome found (λ entry. entry ≡ submission_at bytes s.base s.next)
@@ -22,7 +23,7 @@ abbrev pub IsCompletionIn : Option Cqe → List ℕ → Slots → Type 0
 IsCompletionIn found bytes s = (IsSome found ↔ (s.base + 16 * s.next + 16 ≤ length bytes))
     × IfSome found (λ completion. completion ≡ completion_at bytes s.base s.next)
 
--- so many entries of controller c further; the queues of others stay
+-- this number of entries of controller c later; the queues of the others don't change
 abbrev pub AreFurther : ℕ → ℕ → List (Option AdminQueues) → List (Option AdminQueues) → Type 0
 AreFurther c n old new = MatchOption (slice_index_or old c None) (new ≡ old)
     (λ q. (q' : AdminQueues) × IsFurther n q q' × (new ≡ slice_set old c (Some q')))

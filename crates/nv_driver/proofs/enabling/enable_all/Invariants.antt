@@ -7,7 +7,7 @@ use Rattle.nv_driver.specs.Layout.{pair_of, pairs_of}
 use Rattle.nv_driver.specs.Registers.{mps_of}
 use Rattle.nv_driver.proofs.enabling.enable_all.Given as goal
 
--- the controllers below are enabled with zeroed completion rings, and the others as they were
+-- the controllers below are enabled with zeroed completion rings, and the others have not changed
 abbrev pub invariant-loop-ctrl : goal.invariant-loop-ctrl
 invariant-loop-ctrl g l = record {
   bus : IsBus (g.B.Bus.meaning l.bus);

@@ -5,5 +5,5 @@ pub returns-clause-sound : goal.returns-clause-sound
 returns-clause-sound c =
     elim c.if-is_there.branch [
       | then-is_there w ↦ rw w.result-is w.nine.ensures.sound
-      | else-is_there w ↦ rw w.result-is c.requires
+      | else-is_there w ↦ rw w.result-is c.requires.default
     ]

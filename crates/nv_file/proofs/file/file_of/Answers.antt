@@ -1,9 +1,8 @@
-use Rattle.std.proofs.Common.{◌≡◌, arith, ap, sym, ◌∙◌, length}
+use Rattle.std.proofs.Common.{◌≡◌, ap, sym, ◌∙◌, length}
 use Rattle.std.proofs.lemmas.Bool.{leb-true}
 use Rattle.std.proofs.lemmas.List.{length-map}
 use Rattle.nv_file.proofs.Attached.{attached}
 use Rattle.nv_file.proofs.Fused.{capacities}
-use Rattle.nv_file.specs.inner.FileReading.{file_of}
 use Rattle.nv_file.proofs.file.file_of.Goals as goal
 
 pub returns-clause-sound : goal.returns-clause-sound
@@ -33,7 +32,3 @@ returns-clause-sound c =
       capacities = rw capacities (leb-true _ _ fits);
       attachments = attached _ _ attaches;
     }
-
-pub returns-clause-exact : goal.returns-clause-exact
-unfolding file_of
-returns-clause-exact c = grind (arith, capacities)

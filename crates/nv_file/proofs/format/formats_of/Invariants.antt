@@ -1,15 +1,13 @@
-use Rattle.std.proofs.Common.{◌≡◌, [], drop, length}
+use Rattle.std.proofs.Common.{◌≡◌, length}
 use Rattle.std.specs.Prelude.{All}
 use Rattle.nv_model.specs.Ranges.{IsFormat}
-use Rattle.nv_file.specs.inner.KeyReading.{readings}
-use Rattle.nv_file.specs.inner.SectionView.{tables_view}
-use Rattle.nv_file.specs.inner.TableReading.{format_of}
+use Rattle.nv_file.specs.TableChecks.{format_checks, format_value}
+use Rattle.nv_file.proofs.ReadTo.{IsReadTo}
 use Rattle.nv_file.proofs.format.formats_of.Given as goal
 
 abbrev pub invariant-loop-table : goal.invariant-loop-table
 invariant-loop-table l = record {
-  reads : readings (λ _. format_of) l.formats.items (tables_view (drop l.table-index l.tables)) ≡
-      readings (λ _. format_of) [] (tables_view l.tables);
+  read : IsReadTo (λ _. 0) (λ _. format_checks) format_value l.tables l.table-index l.formats.items;
   count : length l.formats.items ≡ l.table-index;
   sound : All IsFormat l.formats.items;
 }

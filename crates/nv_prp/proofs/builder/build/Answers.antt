@@ -10,7 +10,7 @@ use Rattle.nv_prp.proofs.PageLaws.{at_least_one}
 use Rattle.nv_prp.proofs.WriteLaws.{lies_at}
 use Rattle.nv_prp.proofs.builder.build.Goals as goal
 
--- the entries begin with that of the buffer's first byte
+-- PRP1 is the address of the buffer's first byte
 begins : {size start len first rest : ℕ} {bytes pages : List ℕ} (prp2 : ℕ) → IsPageSize size
     → IsBuffer bytes size pages start len
     → first ≡ get_or pages 0 0 * size → rest ≡ start → Begins (transfer size bytes (first + rest) prp2 len) pages start

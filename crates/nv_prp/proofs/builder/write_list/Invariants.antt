@@ -3,7 +3,7 @@ use Rattle.nv_prp.specs.Buffer.{KeepsOutside}
 use Rattle.nv_prp.proofs.WriteLaws.{HasNamed, Lies}
 use Rattle.nv_prp.proofs.builder.write_list.Given as goal
 
--- the first data pages are named, and only bytes of the list's pages are other ones
+-- the list holds the addresses of the first data pages, and only bytes of its pages have changed
 abbrev pub invariant-loop-page : goal.invariant-loop-page
 invariant-loop-page g l =
     let size = g.M.HostMemory.page_len l.initial.mem in

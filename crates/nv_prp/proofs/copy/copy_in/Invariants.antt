@@ -2,7 +2,7 @@ use Rattle.std.proofs.Common.{◌≡◌, ◌+◌, ◌++◌, drop, length, take}
 use Rattle.nv_prp.specs.Place.{places, read_at}
 use Rattle.nv_prp.proofs.copy.copy_in.Given as goal
 
--- what is read so far, and then the bytes of the spans that are left, are the bytes of all spans
+-- the bytes that were read so far, followed by those of the remaining spans, are the bytes of all spans
 abbrev pub invariant-loop-span : goal.invariant-loop-span
 invariant-loop-span g l = record {
   left : l.at + length (places (drop l.span-index l.spans)) ≡ length l.out;

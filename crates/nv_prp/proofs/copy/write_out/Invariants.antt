@@ -2,7 +2,7 @@ use Rattle.std.proofs.Common.{◌≡◌, ◌+◌, drop, length}
 use Rattle.nv_prp.specs.Place.{places, written_at}
 use Rattle.nv_prp.proofs.copy.write_out.Given as goal
 
--- the bytes that are left, written to the spans that are left, are all bytes written to all spans
+-- writing the remaining bytes to the remaining spans gives the same as writing all bytes to all spans
 abbrev pub invariant-loop-span : goal.invariant-loop-span
 invariant-loop-span g l = record {
   left : l.at + length (places (drop l.span-index l.spans)) ≡ length (g.P.Payload.bytes l.payload);

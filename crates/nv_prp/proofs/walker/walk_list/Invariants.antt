@@ -5,7 +5,7 @@ use Rattle.nv_prp.specs.Transfer.{span_of}
 use Rattle.nv_prp.specs.inner.Transfer.{transfer_of}
 use Rattle.nv_prp.proofs.walker.walk_list.Given as goal
 
--- the Qwords so far have no fault, and the spans are those of the data pages that they name
+-- the Qwords so far have no fault, and the spans are those of the data pages whose addresses they hold
 abbrev pub invariant-loop-page : goal.invariant-loop-page
 invariant-loop-page g l =
     let t = transfer_of (g.M.HostMemory.page_len l.mem) (g.M.HostMemory.bytes l.mem) l.pointer in

@@ -3,7 +3,8 @@ use Rattle.std.specs.Prelude.{flat_map}
 use Rattle.std.specs.List.{range_with_len}
 use Rattle.nv_model.proofs.LookupLaws.{IsAlike}
 use Rattle.nv_script.specs.Outcomes.{Order}
-use Rattle.nv_driver.specs.inner.Linked.{IsLinked, serials_of}
+use Rattle.nv_driver.specs.Linked.{IsLinked}
+use Rattle.nv_driver.specs.inner.Linked.{serials_of}
 use Rattle.nv_script.specs.inner.Listing.{IsListed, asked_all}
 use Rattle.nv_script.specs.Orders.{orders_of_controller, orders_of_list}
 use Rattle.nv_script.proofs.ListLaws.{first_standing}

@@ -1,5 +1,6 @@
 use Rattle.std.proofs.Common.{◌≡◌, ◌++◌, length, List, ℕ}
-use Rattle.nv_driver.specs.inner.Linked.{IsLinked, serials_of}
+use Rattle.nv_driver.specs.Linked.{IsLinked}
+use Rattle.nv_driver.specs.inner.Linked.{serials_of}
 use Rattle.nv_script.specs.inner.Listing.{IsListed, Standing, asked_all}
 use Rattle.nv_script.specs.Orders.{namespace_orders}
 use Rattle.nv_script.proofs.listing.list_namespaces.Given as goal

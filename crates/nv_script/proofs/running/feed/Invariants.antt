@@ -1,7 +1,7 @@
 use Rattle.std.proofs.Common.{◌≡◌, ◌≤◌, ◌+◌, ◌++◌, false, length, List, ℕ, Option}
 use Rattle.nv_model.specs.State.{State}
 use Rattle.nv_script.specs.Cuts.{left_at}
-use Rattle.nv_driver.specs.inner.Linked.{IsLinked}
+use Rattle.nv_driver.specs.Linked.{IsLinked}
 use Rattle.nv_script.proofs.FeedLaws.{Fed}
 use Rattle.nv_script.proofs.running.feed.Given as goal
 

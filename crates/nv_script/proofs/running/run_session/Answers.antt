@@ -2,7 +2,9 @@ use Rattle.std.proofs.Common.{◌∙◌, ◌≤◌, ◌++◌, [], arith, length,
 use Rattle.std.proofs.lemmas.Bool.Decides.{nat_tests}
 use Rattle.std.proofs.lemmas.List.{length-take-le}
 use Rattle.nv_stream.specs.Streams.{read_size}
-use Rattle.nv_script.proofs.RunLaws.{last_cut, piece_cut, read_first, read_more, read_none, read_to_end, stands_first}
+use Rattle.nv_script.specs.Ends.{run_state}
+use Rattle.nv_script.proofs.RunLaws.{cut_ends, cut_leaves, last_cut, piece_cut, read_first, read_more, read_none}
+use Rattle.nv_script.proofs.RunLaws.{read_to_end, stands_first}
 use Rattle.nv_script.proofs.running.run_session.Goals as goal
 
 pub returns-in-Ok-clause-runs : goal.returns-in-Ok-clause-runs
@@ -11,17 +13,15 @@ returns-in-Ok-clause-runs g c =
     let run = c.loop-call.invariant.run in
     let read =
     read_none _ _ _ run.0 c.read.new.buf c.in-Some.count run.1 some.bytes.0 c.if-count-eq0.true some.count in
+    let end =
+    read_to_end c.args.reads c.loop-call.call _ (g.R.Source.state c.read.new.self) c.in-Some.count
+    c.loop-call.invariant.calls some.call
+    c.if-call-reads.false some.failure some.end some.bytes.1 c.if-count-eq0.true in
     record {
       bytes = run.0;
       was_read = read;
       left = c.in-Ok.ensures.left (g.B.Bus.meaning c.args.bus.now).state run.0 _ _ run.2 run.3;
-      end_of = (
-        read_to_end c.args.reads (g.R.Source.state c.read.new.self) c.in-Some.count some.failure
-            (λ e. c.if-call-reads.false (omega (arith, e, some.call, c.loop-call.invariant.calls)))
-            some.end some.bytes.1 c.if-count-eq0.true,
-        c.in-Ok.ensures.failure.0,
-        c.in-Ok.ensures.failure.1,
-      );
+      end_of = (end, c.in-Ok.ensures.failure.0, c.in-Ok.ensures.failure.1);
       calls = omega (arith, c.in-Some.ensures.call, c.loop-call.invariant.calls, c.loop-call-test.true);
     }
 
@@ -31,16 +31,19 @@ returns-in-Err-clause-runs g c =
     let run = c.loop-call.invariant.run in
     let s = (g.B.Bus.meaning c.args.bus.now).state in
     let end =
-    read_to_end c.args.reads (g.R.Source.state c.read.new.self) c.in-Some.count some.failure
-    (λ e. c.if-call-reads.false (omega (arith, e, some.call, c.loop-call.invariant.calls)))
-    some.end some.bytes.1 c.if-count-eq0.true in
+    read_to_end c.args.reads c.loop-call.call _ (g.R.Source.state c.read.new.self) c.in-Some.count
+    c.loop-call.invariant.calls some.call
+    c.if-call-reads.false some.failure some.end some.bytes.1 c.if-count-eq0.true in
     let read =
     read_none _ _ _ run.0 c.read.new.buf c.in-Some.count run.1 some.bytes.0 c.if-count-eq0.true some.count in
     record {
       bytes = run.0;
       was_read = read;
-      left = last_cut c.in-Err.cut c.args.reads _ s run.0 _ end (c.in-Err.ensures.left s run.0 _ _ run.2 run.3);
-      end_of = c.in-Err.ensures.failure;
+      left = cut_leaves c.in-Err.cut c.args.reads _ s run.0 _
+          (last_cut c.in-Err.cut c.args.reads _ s run.0 _ end (c.in-Err.ensures.left s run.0 _ _ run.2 run.3));
+      end_of = cut_ends c.in-Err.cut c.args.reads
+          (run_state (g.B.Bus.meaning c.finish.new.bus) (g.R.Source.state c.read.new.self)
+          (g.O.Sink.state c.finish.new.out) (g.M.Sink.state c.finish.new.messages)) c.in-Err.ensures.failure;
       calls = omega (arith, c.in-Some.ensures.call, c.loop-call.invariant.calls, c.loop-call-test.true);
     }
 
@@ -65,8 +68,10 @@ returns-in-Err-feed-clause-runs g c =
       bytes = run.0 ++ piece;
       was_read =
           read_more _ _ _ run.0 c.read.new.buf c.in-Some.count run.1 some.bytes.0 some.bound some.count;
-      left = cut;
-      end_of = c.in-Err-feed.ensures.failure;
+      left = cut_leaves c.in-Err-feed.cut c.args.reads _ s _ _ cut;
+      end_of = cut_ends c.in-Err-feed.cut c.args.reads
+          (run_state (g.B.Bus.meaning c.feed.new.bus) (g.R.Source.state c.read.new.self) (g.O.Sink.state c.feed.new.out)
+          (g.M.Sink.state c.feed.new.messages)) c.in-Err-feed.ensures.failure;
       calls = omega (arith, c.in-Some.ensures.call, c.loop-call.invariant.calls, c.loop-call-test.true);
     }
 

@@ -5,7 +5,7 @@ use Rattle.nv_script.specs.inner.Feeding.{Stands}
 use Rattle.nv_script.specs.Results.{whole}
 use Rattle.nv_script.specs.inner.ScriptLines.{buffer_of}
 use Rattle.nv_script.specs.ScriptLines.{pieces}
-use Rattle.nv_driver.specs.inner.Linked.{IsLinked}
+use Rattle.nv_driver.specs.Linked.{IsLinked}
 use Rattle.nv_stream.specs.Streams.{read_size}
 use Rattle.nv_script.proofs.running.run_session.Given as goal
 

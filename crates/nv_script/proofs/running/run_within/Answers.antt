@@ -12,9 +12,9 @@ returns-in-Ok-clause-run g c =
     let begun = g.B.Bus.meaning c.begin.new.bus in
     let well = fresh_well c.args.reads old c.requires.fresh_script c.requires.some_read c.requires.fresh_out
     c.requires.fresh_messages in
-    is_run c.args.geometry c.args.reads c.from.result old _ well
-    (with_driver c.args.geometry c.args.reads c.from.result c.run_session.result old _ begun.state
-    (enabled_in begun.banks) c.in-Ok.ensures.fault c.in-Ok.ensures.state c.from.ensures c.run_session.ensures.runs
+    is_run c.args.geometry c.args.reads c.run_session.result old _ well
+    (with_driver c.args.geometry c.args.reads c.run_session.result old _ begun.state
+    (enabled_in begun.banks) c.in-Ok.ensures.fault c.in-Ok.ensures.state c.run_session.ensures.runs
     (all_enabled (g.B.Bus.meaning c.run_session.new.bus) c.run_session.new.session.driver c.run_session.ensures.linked))
 
 pub returns-in-Err-clause-run : goal.returns-in-Err-clause-run

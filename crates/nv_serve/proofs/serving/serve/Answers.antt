@@ -8,10 +8,10 @@ use Rattle.nv_serve.proofs.serving.serve.Goals as goal
 
 pub returns-in-Ok-clause-serves : goal.returns-in-Ok-clause-serves
 returns-in-Ok-clause-serves g c =
-    let e = c.in-Ok.ensures in
+    let e = c.in-Ok.ensures.brought in
     let begins =
     begun_is (g.B.Bus.meaning c.args.bus.now) (g.B.Bus.meaning c.bring_up_for_entries.new.bus) c.args.geometry
-    (pages_of_entry c.args.geometry.page_size) e.state e.value in
+    (pages_of_entry c.args.geometry.page_size) e.state e.driver in
     inr (
       without_fault c.args.geometry c.in-Ok.driver e.geometry,
       (
@@ -27,7 +27,7 @@ returns-in-Ok-clause-serves g c =
 pub returns-clause-serves : goal.returns-clause-serves
 returns-clause-serves g c =
     let error = c.in-Err-bring_up_for_entries.error in
-    let e = c.in-Err-bring_up_for_entries.ensures in
+    let e = c.in-Err-bring_up_for_entries.ensures.brought in
     let why = without c.args.geometry error e.geometry e.ready in
     let here = streams (g.R.Source.state c.args.source.now) (g.O.Sink.state c.args.out.now) in
     inl (end_is (fault_of c.args.geometry) error c.from.result why c.from.ensures, e.untouched, refl {a = here})

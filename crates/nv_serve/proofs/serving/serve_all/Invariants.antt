@@ -1,6 +1,6 @@
 use Rattle.std.proofs.Common.{◌≡◌, ◌≤◌, ◌*◌, ◌+◌, false, length, List}
 use Rattle.nv_driver.specs.Driver.{HasEntryPages}
-use Rattle.nv_driver.specs.inner.Linked.{IsLinked}
+use Rattle.nv_driver.specs.Linked.{IsLinked}
 use Rattle.nv_serve.specs.Answer.{Answer}
 use Rattle.nv_serve.specs.Header.{Request, most_data}
 use Rattle.nv_serve.specs.inner.Reading.{IsReady}

@@ -1,4 +1,4 @@
-use Rattle.nv_driver.specs.inner.Linked.{IsLinked}
+use Rattle.nv_driver.specs.Linked.{IsLinked}
 use Rattle.nv_benches.proofs.speed.line.time_admin.Given as goal
 
 abbrev pub invariant-loop-round : goal.invariant-loop-round

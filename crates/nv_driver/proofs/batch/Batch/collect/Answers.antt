@@ -6,7 +6,7 @@ use Rattle.nv_driver.proofs.RoundLaws.{tells_on}
 use Rattle.nv_driver.proofs.batch.Batch.collect.Goals as goal
 use Rattle.nv_driver.proofs.batch.Batch.collect.Goals.{then-self-pace, else-self-pace}
 
--- the head is told once more
+-- the head doorbell is rung once more
 told_once : {pace limit old new : ℕ} (times before : ℕ) → old ≡ before + times * pace → new - old ≡ limit → limit ≡ pace
     → 1 ≤ pace → IsToldByPace pace before new
 told_once {pace} {limit} {old} {new} times before h e f some =

@@ -58,7 +58,8 @@ answer-requires g c =
     let is = c.index-commands-number.is in
     let buffer = c.buffer-buffer.ensures in
     let offset =
-    buffer.offset ∙ c.offset_for-offset.ensures.value ∙ ap (offset_for c.args.self.now.geometry) c.data_length.ensures.length in
+    buffer.offset ∙ c.offset_for-offset.ensures.value
+    ∙ ap (offset_for c.args.self.now.geometry) c.data_length.ensures.length in
     record {
       sends = answer_sends asked.0 next.1 here c.requires.1.0 is;
       buffer = answer_buffer asked.0 next.1 here c.requires.1.0 is buffer.pages offset;
@@ -83,6 +84,7 @@ returns-clause-answers g c =
     let next = is_next asked.0 asked.1.1 c.unwrap-completion.ensures c.poll.ensures.value c.distance.ensures in
     let buffer = c.buffer-buffer.ensures in
     let offset =
-    buffer.offset ∙ c.offset_for-offset.ensures.value ∙ ap (offset_for c.args.self.now.geometry) c.data_length.ensures.length in
+    buffer.offset ∙ c.offset_for-offset.ensures.value
+    ∙ ap (offset_for c.args.self.now.geometry) c.data_length.ensures.length in
     answers_more asked.0 next.1 c.unwrap-pages.ensures c.requires.1.0 c.index-commands-number.is buffer.pages offset
     asked.1.0 c.answer.ensures

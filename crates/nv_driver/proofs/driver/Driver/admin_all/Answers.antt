@@ -8,8 +8,8 @@ use Rattle.nv_driver.proofs.driver.Driver.admin_all.Goals as goal
 
 pub exchange_all-requires : goal.exchange_all-requires
 exchange_all-requires g c κs within =
-    let ready = ready_at c.self.invariant c.requires.bus
-    (c.requires.left ∙ ap banks_of (sym c.self.view_is))
+    let ready = ready_at c.self.invariant c.requires.linked.bus
+    (c.requires.linked.left ∙ ap banks_of (sym c.self.view_is))
     (inside_of _ _ _ _ _ c.requires.ctrl c.self.view_is) c.index_mut-pair.ensures.value in (
       search rules,
       (
@@ -41,8 +41,10 @@ returns-clause-driver g c =
     c.index_mut-pair.ensures.value e.pair e.len e.page
     ∙ ap (λ (d : DriverValue). after_commands d c.args.ctrl n) c.self.view_is
 
-pub returns-clause-left : goal.returns-clause-left
-returns-clause-left g c =
+pub returns-clause-linked : goal.returns-clause-linked
+returns-clause-linked g c =
     let e = c.exchange_all.ensures in
+    let left =
     banks_left c.self.inside.geometry c.self.inside.pairs.items c.args.ctrl c.exchange_all.new.pair
-    _ _ (c.requires.left ∙ ap banks_of (sym c.self.view_is)) e.banks e.ready.bank
+    _ _ (c.requires.linked.left ∙ ap banks_of (sym c.self.view_is)) e.banks e.ready.bank in
+    record { bus = e.ready.bus; left = left }

@@ -1,8 +1,9 @@
-use Rattle.std.proofs.Common.{◌≡◌, ◌∙◌, ◌+◌, ap, arith, length, rules, subst}
+use Rattle.std.proofs.Common.{◌≡◌, ◌∙◌, ◌+◌, ap, arith, length, rules, subst, sym}
 use Rattle.std.specs.Prelude.{if◌then◌else◌}
 use Rattle.nv_driver.specs.Driver.{driver_with}
 use Rattle.nv_driver.specs.Geometry.{IsGeometry}
-use Rattle.nv_driver.specs.Layout.{pages_of_entry}
+use Rattle.nv_driver.specs.Layout.{pages_of_entry, pairs_of}
+use Rattle.nv_driver.specs.Registers.{banks_of, idle_banks}
 use Rattle.nv_driver.specs.declared.geometry.Geometry.{Geometry}
 use Rattle.nv_driver.proofs.MemoryLaws.{all_laid, driver_at_first, has_pairs}
 use Rattle.nv_driver.proofs.driver.Driver.lay_out.Goals as goal
@@ -28,13 +29,14 @@ invariant_of-result g c =
     (omega (arith, c.pages.ensures.few, c.more_pages.ensures.few)) (rw size at c.in_ok-mem.ensures) e.page e.len
     c.in_ok-pairs.ensures.quiet c.in_ok-pairs.ensures.pairs e.settled).driver
 
-pub returns-clause-value : goal.returns-clause-value
-returns-clause-value g c =
+pub returns : goal.returns
+returns g c =
     let e = c.enable_all.ensures in
     let is = c.geometry.view_is in
     let size = ap (λ (q : Geometry). q.page_size) is in
     let same : c.in_ok-geometry.geometry ≡ c.args.geometry = search rules in
     let controllers = length (g.B.Bus.meaning c.args.bus.now).banks in
+    let made =
     (driver_at_first c.in_ok-geometry.geometry (length (g.B.Bus.meaning c.args.bus.now).banks) _
     c.more_pages.result _ _ _ _
     (subst IsGeometry is c.geometry.invariant) c.controllers-controllers.ensures
@@ -43,4 +45,18 @@ returns-clause-value g c =
     c.in_ok-pairs.ensures.quiet c.in_ok-pairs.ensures.pairs e.settled).value
     ∙ ap (driver_with c.in_ok-geometry.geometry controllers) c.more_pages.ensures.pages
     ∙ ap (λ (q : Geometry). driver_with q controllers
-    (if c.args.with_entries then pages_of_entry q.page_size else 0)) same
+    (if c.args.with_entries then pages_of_entry q.page_size else 0)) same in
+    record {
+      brought = record {
+        driver = made;
+        linked = record {
+          bus = e.bus;
+          left = e.banks ∙ ap (λ (q : Geometry). idle_banks q.page_size (pairs_of q controllers)) same
+              ∙ sym (ap banks_of made);
+        };
+        state = e.state;
+        geometry = search rules;
+        ready = search rules;
+        untouched = tt;
+      };
+    }

@@ -13,8 +13,8 @@ pub exchange_entry-requires : goal.exchange_entry-requires
 exchange_entry-requires g c κs within =
     let inside = inside_of _ _ _ _ _ c.requires.ctrl c.self.view_is in
     let here = c.index_mut-pair.ensures.value in
-    let ready = ready_at c.self.invariant c.requires.bus
-    (c.requires.left ∙ ap banks_of (sym c.self.view_is)) inside here in
+    let ready = ready_at c.self.invariant c.requires.linked.bus
+    (c.requires.linked.left ∙ ap banks_of (sym c.self.view_is)) inside here in
     let first = c.pages-first_page.ensures.pages ∙ ap (pages_of c.self.inside.geometry)
     (count_is _ _ _ c.self.view_is c.controllers.ensures) in
     let room = has_room c.self.invariant c.self.view_is c.requires.room first in (
@@ -60,11 +60,13 @@ returns-clause-driver g c =
     ∙ ap (λ (d : DriverValue). after_commands d c.args.ctrl 1) c.self.view_is
     ∙ after_first c.args.self.now c.args.ctrl
 
-pub returns-clause-left : goal.returns-clause-left
-returns-clause-left g c =
+pub returns-clause-linked : goal.returns-clause-linked
+returns-clause-linked g c =
     let e = c.exchange_entry.ensures in
+    let left =
     banks_left c.self.inside.geometry c.self.inside.pairs.items c.args.ctrl c.exchange_entry.new.pair
-    _ _ (c.requires.left ∙ ap banks_of (sym c.self.view_is)) e.banks e.ready.bank
+    _ _ (c.requires.linked.left ∙ ap banks_of (sym c.self.view_is)) e.banks e.ready.bank in
+    record { bus = e.ready.bus; left = left }
 
 pub returns-clause-entries : goal.returns-clause-entries
 returns-clause-entries g c =

@@ -9,7 +9,7 @@ use Rattle.nv_driver.proofs.driver.Driver.reset.Goals as goal
 
 pub reset-requires-clause-ready : goal.reset-requires-clause-ready
 reset-requires-clause-ready g c =
-    ready_at c.self.invariant c.requires.bus (c.requires.left ∙ ap banks_of (sym c.self.view_is))
+    ready_at c.self.invariant c.requires.linked.bus (c.requires.linked.left ∙ ap banks_of (sym c.self.view_is))
     (inside_of _ _ _ _ _ c.requires.ctrl c.self.view_is) c.index_mut-pair.ensures.value
 
 pub reset-requires-clause-placed : goal.reset-requires-clause-placed
@@ -33,8 +33,9 @@ pub returns-clause-entries : goal.returns-clause-entries
 returns-clause-entries g c room =
     subst HasEntryPages (sym (returns-clause-driver g c)) (room_stays_reset c.args.self.now c.args.ctrl room)
 
-pub returns-clause-left : goal.returns-clause-left
-returns-clause-left g c =
+pub returns-clause-linked : goal.returns-clause-linked
+returns-clause-linked g c =
     let e = c.reset.ensures in
-    banks_left c.self.inside.geometry c.self.inside.pairs.items c.args.ctrl c.reset.new.pair _ _
-    (c.requires.left ∙ ap banks_of (sym c.self.view_is)) e.banks e.ready.bank
+    let left = banks_left c.self.inside.geometry c.self.inside.pairs.items c.args.ctrl c.reset.new.pair _ _
+    (c.requires.linked.left ∙ ap banks_of (sym c.self.view_is)) e.banks e.ready.bank in
+    record { bus = e.ready.bus; left = left }

@@ -1,7 +1,10 @@
-use Rattle.std.proofs.Common.{◌≡◌, [], drop}
-use Rattle.nv_file.specs.inner.KeyReading.{element, readings}
+use Rattle.std.proofs.Common.{◌≡◌, true, map, take}
+use Rattle.std.specs.List.{list_all}
+use Rattle.nv_file.specs.KeyChecks.{is_within, number}
 use Rattle.nv_file.proofs.section.Section.each_in_range.Given as goal
 
 abbrev pub invariant-loop-integer : goal.invariant-loop-integer
-invariant-loop-integer l = readings (element l.self.name l.key l.high) l.numbers.items
-    (drop l.integer-index l.integers) ≡ readings (element l.self.name l.key l.high) [] l.integers
+invariant-loop-integer l = record {
+  within : list_all (is_within 0 l.high) (take l.integer-index l.integers) ≡ true;
+  numbers : l.numbers.items ≡ map number (take l.integer-index l.integers);
+}

@@ -3,7 +3,7 @@ use Rattle.nv_prp.specs.Buffer.{buffer_places}
 use Rattle.nv_prp.specs.Place.{LieIn, places}
 use Rattle.nv_prp.proofs.buffer.Buffer.spans.Given as goal
 
--- the spans of the first bytes were found, no more of them than pages
+-- the spans of the first bytes were found, at most as many as pages
 abbrev pub invariant-loop-done : goal.invariant-loop-done
 invariant-loop-done g l = record {
   within : l.done ≤ l.len;

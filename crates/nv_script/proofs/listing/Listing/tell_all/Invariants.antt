@@ -5,7 +5,8 @@ use Rattle.nv_script.specs.Outcomes.{order_of}
 use Rattle.nv_script.specs.Shown.{listing_of}
 use Rattle.nv_script.proofs.listing.Listing.tell_all.Given as goal
 
--- the rest tells the listing so far what all tells it at first; those before were accepted
+-- adding the rest to the listing so far gives the same as adding everything to the first one; the answers before were
+-- accepted
 abbrev pub invariant-loop-i : goal.invariant-loop-i
 invariant-loop-i l = record {
   told : listing_of l.self (map (order_of l.ctrl) (drop l.i l.commands)) (drop l.i l.answers)

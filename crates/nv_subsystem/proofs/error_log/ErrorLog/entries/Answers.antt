@@ -6,7 +6,7 @@ use Rattle.nv_layout.specs.declared.error_entry.ErrorEntry.{ErrorEntry}
 use Rattle.nv_model.specs.ErrorLog.{Log}
 use Rattle.nv_subsystem.proofs.error_log.ErrorLog.entries.Goals as goal
 
--- entries, and as many without an error as make this many
+-- entries, filled up to this number with entries without an error
 abbrev filled : ℕ → List ErrorEntry → List ErrorEntry
 filled most es = es ++ replicate (most - length es) no_entry
 

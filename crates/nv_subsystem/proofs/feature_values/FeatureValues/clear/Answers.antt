@@ -1,30 +1,24 @@
-use Rattle.std.proofs.Common.{◌∙◌, ◌-◌, ap}
+use Rattle.std.proofs.Common.{◌∙◌, ap, refl}
 use Rattle.std.specs.FinMap as map_of
 use Rattle.nv_subsystem.specs.ValueTable.{ValueTable}
 use Rattle.nv_model.specs.Values.{is_alone}
-use Rattle.nv_subsystem.proofs.ValueTableLaws.{all_cleared, in_values, len_smaller, other_kept, table_removed}
+use Rattle.nv_subsystem.proofs.ValueTableLaws.{cleared, in_values, no_nsid_zero, over-empty}
 use Rattle.nv_subsystem.proofs.feature_values.FeatureValues.clear.Goals as goal
 
-pub loop-number-smaller : goal.loop-number-smaller
-loop-number-smaller c =
-    rw c.remove.ensures.values
-    (len_smaller c.loop-number.self-inside.slots.values c.in-Some.number c.in-Some.ensures.least.member)
-
-pub loop-number-preserved : goal.loop-number-preserved
-loop-number-preserved c =
-    let slots = c.loop-number.self-inside.slots in
-    let held = c.loop-number.invariant in
-    rw c.remove.ensures.values (
-      table_removed slots c.in-Some.number held.0,
-      held.1,
-      λ n low. other_kept slots.values c.in-Some.number c.in-Some.ensures.least.later n low ∙ held.2 n low,
-    )
+pub invariant_of-self : goal.invariant_of-self
+invariant_of-self c =
+    let t = c.self.inside in
+    let are = c.self.invariant in
+    rw c.clear.ensures (record {
+      nsids = over-empty 1 t.by_nsid.count t.by_nsid.first t.by_nsid.count are.nsids.first refl;
+      rows = are.rows;
+      apart = are.apart;
+    })
 
 pub returns : goal.returns
 returns c =
-    let first = c.self.inside.slots in
-    let left = c.loop-number.self-inside.slots in
-    let held = c.loop-number.invariant in
-    (λ i. in_values (held.1 i - 384)
-    (all_cleared first.values left.values held.2 c.in_default.ensures.least i))
-    ∙ ap (λ (t : ValueTable). record t { values = map_of.retain_keys t.values is_alone }) c.self.view_is
+    let t = c.self.inside in
+    rw c.clear.ensures
+    (ap (in_values t.by_nsid.count)
+    (cleared t.by_nsid.values t.by_feature.values (no_nsid_zero t.by_nsid c.self.invariant.nsids))
+    ∙ ap (λ (v : ValueTable). record v { values = map_of.retain_keys v.values is_alone }) c.self.view_is)

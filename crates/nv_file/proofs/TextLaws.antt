@@ -1,0 +1,24 @@
+-- Bytes that are no text, and texts of white space and comments alone.
+use Rattle.std.proofs.Common.{◌≡◌, ℕ, List, Bool, true, false, Some, Err}
+use Rattle.std.proofs.lemmas.Str.{IsUtf8-from_is_utf8, is_utf8-from_IsUtf8}
+use Rattle.std.specs.Option.{ok_or}
+use Rattle.std.specs.Str.{IsUtf8, is_utf8}
+use Rattle.toml.specs.Data.{no_members}
+use Rattle.toml.specs.Errors.{IsBlank}
+use Rattle.toml.specs.Parse.{lines, parse_document}
+use Rattle.nv_file.specs.declared.error.SubsystemError.TheVariants.{NotToml}
+use Rattle.nv_file.specs.File.{document}
+
+pub text_document : (bytes text : List ℕ) → text ≡ bytes → IsUtf8 bytes
+    → ok_or (parse_document text) NotToml ≡ document bytes
+unfolding document
+text_document bytes text same is = rw (same, is_utf8-from_IsUtf8 bytes is)
+
+pub no_text : (bytes : List ℕ) (b : Bool) → is_utf8 bytes ≡ b → (IsUtf8 bytes → ⊥) → document bytes ≡ Err NotToml
+unfolding document
+no_text bytes true is never = absurd (never (IsUtf8-from_is_utf8 bytes is))
+no_text bytes false is never = rw is
+
+pub blank_document : (text : List ℕ) → IsBlank text → parse_document text ≡ Some no_members
+unfolding parse_document lines
+blank_document text blank = rw blank

@@ -1,3 +1,0 @@
--- What only contracts inside of the crate say.
-pub mod FlatMemory
-pub mod PageSets

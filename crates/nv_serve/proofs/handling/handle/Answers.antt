@@ -1,0 +1,78 @@
+use Rattle.std.proofs.Common.{◌≡◌, ◌∙◌, ◌++◌, ◌<◌, ◌≤◌, [], ap, arith, drop, length, subst, sym, take}
+use Rattle.std.proofs.Math.Seq.{take-append_seam}
+use Rattle.std.proofs.lemmas.List.{length-map, length-take-le}
+use Rattle.nv_serve.specs.Header.{wanted_length}
+use Rattle.nv_serve.specs.Serving.{IsAnswerByKind, IsReturned, after_entry, returned}
+use Rattle.nv_serve.specs.declared.answer.AnswerHeader.{AnswerHeader}
+use Rattle.nv_serve.specs.declared.header.Kind.TheVariants.{Entry}
+use Rattle.nv_serve.specs.inner.Serving.{point_of}
+use Rattle.nv_serve.proofs.ServingLaws.{answered_by, left_by, reset_on, returned_by, sent_on}
+use Rattle.nv_serve.proofs.handling.handle.Goals as goal
+
+pub returns-in-Entry-clause-answer : goal.returns-in-Entry-clause-answer
+returns-in-Entry-clause-answer g c =
+    let b = g.B.Bus.meaning c.args.bus.now in
+    let d = c.args.driver.now in
+    let h = c.args.header.now in
+    let below : h.controller < length d.pairs =
+    omega (arith, c.if-from-controllers.false, c.from.ensures, c.controllers-controllers.ensures) in
+    let sent = c.passthrough-told.ensures in
+    let told = c.passthrough-told.result in
+    let out = c.passthrough-told.new.out in
+    let rest = drop c.wanted_length-wanted.result c.args.received.now in
+    let wanted = c.wanted_length-wanted in
+    let within : wanted.result ≤ length c.args.received.now =
+    omega (arith, wanted.ensures.few, c.requires.few, c.requires.long) in
+    let full : length out ≡ wanted_length h =
+    sent.room ∙ length-take-le wanted.result c.args.received.now within ∙ wanted.ensures.length in
+    let many : c.returned.result.length ≡ length out =
+    ap (λ (a : AnswerHeader). a.length) c.returned.ensures ∙ c.wanted_length-wanted.ensures.length ∙ sym full in
+    let came = ap (λ n. take n (out ++ rest)) many ∙ take-append_seam out rest in
+    let is = returned_by b d h.controller h.entry c.args.sent.now out below sent.answer sent.out in
+    let by : IsAnswerByKind Entry (point_of b d) h c.args.sent.now (record { header = c.returned.result; payload = out }) = (
+      told,
+      subst (λ n. IsReturned (point_of b d) h.controller h.entry c.args.sent.now n told out) full is,
+      c.returned.ensures ∙ ap (returned told.dword0 told.status) wanted.ensures.length,
+    ) in
+    answered_by (point_of b d) h c.args.sent.now _ (rw (length-map d.pairs _) below)
+    (subst (λ k. IsAnswerByKind k (point_of b d) h c.args.sent.now (record {
+      header = c.returned.result;
+      payload = take c.returned.result.length (out ++ rest);
+    })) (sym c.in-Entry.is) (rw came by))
+
+pub returns-in-Entry-clause-reached : goal.returns-in-Entry-clause-reached
+returns-in-Entry-clause-reached g c =
+    let b = g.B.Bus.meaning c.args.bus.now in
+    let d = c.args.driver.now in
+    let h = c.args.header.now in
+    let below : h.controller < length d.pairs =
+    omega (arith, c.if-from-controllers.false, c.from.ensures, c.controllers-controllers.ensures) in
+    let sent = c.passthrough-told.ensures in
+    left_by (point_of b d) h c.args.sent.now (rw (length-map d.pairs _) below)
+    (rw c.in-Entry.is (sent_on b (g.B.Bus.meaning c.passthrough-told.new.bus) d h.controller h.entry
+    c.args.sent.now below sent.state sent.driver))
+
+pub returns-in_ok-reset-in-Reset-clause-reached : goal.returns-in_ok-reset-in-Reset-clause-reached
+returns-in_ok-reset-in-Reset-clause-reached g c =
+    let b = g.B.Bus.meaning c.args.bus.now in
+    let d = c.args.driver.now in
+    let h = c.args.header.now in
+    let below : h.controller < length d.pairs =
+    omega (arith, c.if-from-controllers.false, c.from.ensures, c.controllers-controllers.ensures) in
+    left_by (point_of b d) h c.args.sent.now (rw (length-map d.pairs _) below)
+    (rw c.in-Reset.is (reset_on b (g.B.Bus.meaning c.reset.new.bus) d h.controller c.reset.ensures.state
+    c.reset.ensures.driver))
+
+pub returns-in-List-clause-reached : goal.returns-in-List-clause-reached
+returns-in-List-clause-reached g c =
+    let b = g.B.Bus.meaning c.args.bus.now in
+    let d = c.args.driver.now in
+    let h = c.args.header.now in
+    let below : h.controller < length d.pairs =
+    omega (arith, c.if-from-controllers.false, c.from.ensures, c.controllers-controllers.ensures) in
+    let sent = c.passthrough-told-in-List.ensures in
+    let b' = g.B.Bus.meaning c.passthrough-told-in-List.new.bus in
+    let d' = c.passthrough-told-in-List.new.self in
+    left_by (point_of b d) h c.args.sent.now (rw (length-map d.pairs _) below)
+    (rw c.in-List.is (subst (λ e. point_of b' d' ≡ after_entry (point_of b d) h.controller e [])
+    c.list_entry.ensures.value (sent_on b b' d h.controller c.list_entry.result [] below sent.state sent.driver)))

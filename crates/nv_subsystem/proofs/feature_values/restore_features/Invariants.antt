@@ -1,0 +1,8 @@
+use Rattle.nv_model.specs.Values.{first_value}
+use Rattle.nv_subsystem.specs.ValueTable.{key_at}
+use Rattle.nv_subsystem.specs.inner.ValueTable.{AreRestored}
+use Rattle.nv_subsystem.proofs.feature_values.restore_features.Given as goal
+
+abbrev pub invariant-loop-place : goal.invariant-loop-place
+invariant-loop-place l =
+    AreRestored (λ place. (first_value l.rules.values (key_at place)).current) l.place l.initial.table l.table

@@ -1,0 +1,2 @@
+-- What only contracts inside of the crate say.
+pub mod FaultText

@@ -1,0 +1,92 @@
+"""Requests to nvme-device and their answers, byte by byte. docs/PASSTHROUGH.md says what they have; the values are
+those of the standard."""
+
+import re
+import struct
+
+from tests.support import Case, program, run
+
+DEVICE = program('nvme_device')
+ENTRY, RESET, LIST = range(3)
+NO_CONTROLLER, NO_KIND, TOO_LONG = range(1, 4)
+
+
+def request(controller=0, kind=ENTRY, length=0, opcode=0, nsid=0, cdw10=0, sent=b''):
+    """A request's bytes. The command identifier and the data pointer of its entry count for nothing."""
+    entry = struct.pack('<BBHIQQQQI20x', opcode, 0, 0xffff, nsid, 0, 0, 3, 5, cdw10)
+    return struct.pack('<HHI', controller, kind, length) + entry + sent
+
+
+def answer(dword0=0, status=0, outcome=0, data=b''):
+    return struct.pack('<IHHI', dword0, status, outcome, len(data)) + data
+
+
+# The namespaces of both controllers, the first one's serial number, a namespace attached to the second, requests that
+# no controller hears of, a reserved opcode with data, and the log that has it: the fifth command of its controller, so
+# that its command identifier is 4.
+ENTRIES = [
+    (request(kind=LIST, length=8), answer(2, data=b'\1\0\0\0\3\0\0\0')),
+    (request(length=24, opcode=0x06, cdw10=1), answer(data=bytes(4) + b'S0'.ljust(20))),
+    (request(length=4, opcode=0x15, nsid=1, sent=b'\1\0\1\0'), answer()),
+    (request(1, LIST, 8), answer(2, data=b'\1\0\0\0\0\0\0\0')),
+    (request(2, length=3, opcode=0x15, sent=b'\t\t\t'), answer(outcome=NO_CONTROLLER)),
+    (request(kind=3, length=3, opcode=0x06, cdw10=1), answer(outcome=NO_KIND)),
+    (request(opcode=0x0a, cdw10=6), answer(1)),
+    (request(length=2, opcode=0xff, nsid=5, sent=b'\t\t'), answer(status=0x6001)),
+    (request(length=12, opcode=0x02, cdw10=0x000f0001), answer(data=b'\1\0\0\0\0\0\0\0\0\0\4\0')),
+]
+# A feature is changed, and has its default again after a reset. The last request is too long.
+RESETS = [
+    (request(opcode=0x09, cdw10=6), answer()),
+    (request(opcode=0x0a, cdw10=6), answer()),
+    (request(kind=RESET), answer()),
+    (request(opcode=0x0a, cdw10=6), answer(1)),
+    (request(length=1048577, opcode=0x06, cdw10=1), answer(outcome=TOO_LONG)),
+]
+
+
+class Requests(Case):
+    def answered(self, rows, *options, status=0, err=b''):
+        """These requests, whole or cut, are answered so."""
+        requests, answers = (b''.join(column) for column in zip(*rows))
+        ended = run(DEVICE, *options, source=requests)
+        self.ends(ended, status, answers, err)
+
+    def sent(self, rows, *options):
+        """How many entries the first controller was sent."""
+        ended = run(DEVICE, '--trace', *options, source=b''.join(asked for asked, _ in rows))
+        return ended.err.count(b'nvme0 taken ')
+
+    def test_entries_and_lists(self):
+        for options in '--page-size 65536', '--depth 2 --offset 4 --list-offset 4088':
+            self.answered(ENTRIES, *options.split())
+            self.assertEqual(self.sent(ENTRIES, *options.split()), 6)
+
+    def test_a_reset_between_entries(self):
+        self.answered(RESETS, status=4, err=b'nvme-device: request too long\n')
+        self.assertEqual(self.sent(RESETS), 3)
+
+    def test_a_request_cut_short_is_not_executed(self):
+        whole, _ = ENTRIES[2]
+        self.answered([(b'', b'')])
+        for length in 1, 71, 72, 75:
+            rows = [(whole[:length], b'')]
+            with self.subTest(length):
+                self.answered(rows, status=4, err=b'nvme-device: request cut short\n')
+                self.assertEqual(self.sent(rows), 0)
+
+    def test_a_geometry_out_of_its_limits(self):
+        self.answered([(bytes(72), b'')], '--depth', '1', status=3, err=b'nvme-device: geometry: depth\n')
+
+    def test_pointers_of_an_entry_by_the_offsets(self):
+        """Get Log Page of 131,072 bytes: data and list begin in their pages where the geometry says."""
+        long_log = request(length=4, opcode=0x02, cdw10=0x7fff0001)
+        for page_size, offset, list_offset in (4096, 4, 4088), (8192, 8188, 8), (32768, 0, 16):
+            options = f'--page-size {page_size} --offset {offset} --list-offset {list_offset}'
+            with self.subTest(options):
+                ended = run(DEVICE, '--trace', *options.split(), source=long_log)
+                self.ends(ended, 0, answer(data=bytes(4)))
+                pointers = rb'nvme0 taken Get Log Page .* prp1=(0x\w+) prp2=(0x\w+) '
+                self.assertRegex(ended.err, pointers)
+                prp1, prp2 = (int(number, 16) for number in re.search(pointers, ended.err).groups())
+                self.assertEqual((prp1 % page_size, prp2 % page_size), (offset, list_offset))
