@@ -274,7 +274,7 @@ static void reads(void) {
 }
 
 /* Each allocation is refused in turn. The call reports it, and everything that was allocated is freed, as it is by
- * closing. */
+ * closing. A turn allocates nothing. */
 static void allocations(void) {
     for (int demo = 0; demo < 2; demo++) {
         int number = NVME_NO_MEMORY;
@@ -297,10 +297,9 @@ static void allocations(void) {
                 identify(memory, 1, 2 * PAGE, 0);
                 nvme_machine_write32(machine, 0, NVME_TAIL_DOORBELL, 1);
                 asked = refused_at = 0;
-                CHECK(nvme_machine_turn(machine, 0, memory, PAGES, PAGE, 1) == 0);
-                CHECK(nvme_machine_read32(machine, 0, NVME_CSTS) == 1 && memory[PAGE] == 0 && memory[2 * PAGE] == 0);
+                CHECK(nvme_machine_turn(machine, 0, memory, PAGES, PAGE, 1) == 1 && status_at(memory + PAGE) == 0);
+                CHECK(asked == 0 && blocks == held);
                 refused_at = -1;
-                CHECK(nvme_machine_turn(machine, 0, memory, PAGES, PAGE, 1) == 1 && blocks == held);
                 nvme_machine_close(machine);
                 CHECK(blocks == had);
             }

@@ -1,5 +1,5 @@
 -- A memory in pages.
-use Rattle.std.specs.Prelude.{ℕ, ◌==◌, ◌+◌, ◌*◌, ◌≤◌, Bool, IsTrue, List, [], ◌∷◌, length}
+use Rattle.std.specs.Prelude.{ℕ, ◌==◌, ◌+◌, ◌*◌, ◌/◌, ◌%◌, ◌^◌, ◌≤◌, ◌&&◌, Bool, IsTrue, List, [], ◌∷◌, length, nat_lt}
 use Rattle.std.specs.List.{list_any}
 
 -- the five sizes that a page can have
@@ -8,6 +8,11 @@ is_page_size size = list_any (λ one. one == size) (4096 ∷ 8192 ∷ 16384 ∷ 
 
 unfoldable pub IsPageSize : ℕ → Type 0
 IsPageSize size = IsTrue (is_page_size size)
+
+-- so many bytes are whole pages of one of the five sizes, fewer than 2 ^ 32
+abbrev pub are_pages : ℕ → ℕ → Bool
+are_pages page_size size =
+    is_page_size page_size && (size % page_size == 0) && nat_lt (size / page_size) (2 ^ 32)
 
 -- page n lies in the memory
 abbrev pub HasPage : List ℕ → ℕ → ℕ → Type 0

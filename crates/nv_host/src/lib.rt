@@ -20,13 +20,15 @@ ghost use Rattle.nv_host.specs.Bytes.{LengthStays, OthersStay, WrittenIsRead};
 mod error;
 mod flat;
 mod inside;
+mod lent;
 mod memory;
 mod page_set;
 
 pub use error::{Memory, OutOfMemoryRange};
 pub use flat::FlatMemory;
 pub use inside::{load_inside, store_inside};
-pub use memory::{HostMemory, is_page_size, size_of_memory};
+pub use lent::{LentBytes, LentMemory, Loan};
+pub use memory::{HostMemory, are_pages, is_page_size, size_of_memory};
 pub use page_set::{PageNo, PageSet};
 
 /// States the laws of loads and stores: a load returns what was stored, and other bytes don't

@@ -3,7 +3,7 @@
 ghost use Rattle.std.specs.Prelude.{◌≡◌, ◌+◌, ◌*◌, ◌≤◌, ◌↔◌, ℕ, IsOk, IsTrue, List, OnErr, OnOk};
 ghost use Rattle.std.specs.Prelude.{length};
 ghost use Rattle.nv_host.specs.Bytes.{bytes_at, with_bytes};
-ghost use Rattle.nv_host.specs.Pages.{HasPage, IsPageSize, is_page_size};
+ghost use Rattle.nv_host.specs.Pages.{HasPage, IsPageSize, are_pages, is_page_size};
 
 use crate::OutOfMemoryRange;
 
@@ -52,6 +52,19 @@ pub fn is_page_size(size: u32) -> bool
     ensures meaning { IsTrue result ↔ IsPageSize size }
 {
     [4096, 8192, 16384, 32768, 65536].contains(&size)
+}
+
+/// How many numbers pages can have.
+const PAGE_NUMBERS: usize = 1 << 32;
+
+/// Whether so many bytes are whole pages of a size that a page can have, fewer than 2^32.
+#[tactic(auto, using(crate::proofs::PageLaws::page_size_bounds))]
+pub fn are_pages(page_size: u32, size: usize) -> bool
+    ensures { result ≡ are_pages page_size size }
+{
+    is_page_size(page_size)
+        && size % page_size as usize == 0
+        && size / (page_size as usize) < PAGE_NUMBERS
 }
 
 /// How many bytes the memory has. They fill whole pages.

@@ -1,7 +1,5 @@
 pub mod AsBox
-pub mod CopyLaws
 pub mod CountLaws
 pub mod LogLaws
 pub mod OpenLaws
-pub mod PageLaws
 pub mod TextLaws

@@ -1,9 +1,9 @@
 -- What the calls of a program in C answer, and what they change.
-use Rattle.std.specs.Prelude.{◌≡◌, ◌*◌, ◌<◌, ◌^◌, ℕ, ℤ, pos, Bool, List, length, nat_lt, replicate, slice_set}
+use Rattle.std.specs.Prelude.{◌≡◌, ◌&&◌, ℕ, ℤ, pos, Bool, List, length, nat_lt, replicate, slice_set}
 use Rattle.std.specs.Prelude.{Option, None, Some, Result, Ok, Err, ◌⊎◌, if◌then◌else◌, MatchBool}
 use Rattle.nv_layout.specs.ErrorEntryBytes.{bytes_of_error_entry}
 use Rattle.nv_layout.specs.declared.error_entry.ErrorEntry.{ErrorEntry}
-use Rattle.nv_host.specs.Pages.{IsPageSize}
+use Rattle.nv_host.specs.Pages.{are_pages}
 use Rattle.nv_register.specs.RegisterBank.{new_bank, value_at, with_register_at}
 use Rattle.nv_model.specs.State.{State}
 use Rattle.nv_bus.specs.Bus.{BusValue, bank_at, state_written}
@@ -72,17 +72,12 @@ pub record BytesTurn (page_size c most count : ℕ) (m : BusValue) (bytes : List
       (bank_at m'.banks c)
   pub len : length bytes' ≡ length bytes
 
--- so many bytes are whole pages of one of the five sizes, fewer than 2^32
-pub record ArePages (page_size size : ℕ) : Type 0 where
-  pub page : IsPageSize page_size
-  pub whole : (pages : ℕ) × (pages < 2 ^ 32) × (pages * page_size ≡ size)
-
--- such a turn, of a controller that there is over whole pages; or nothing was done
+-- such a turn, of a controller that there is over whole pages; else nothing is done
 abbrev pub Turned : ℕ → ℕ → ℕ → ℕ → BusValue → List ℕ → BusValue → List ℕ → Type 0
 Turned c page_size most count m bytes m' bytes' =
+    MatchBool (has m c && are_pages page_size (length bytes))
+    (BytesTurn page_size c most count m bytes m' bytes')
     ((count ≡ 0) × (m' ≡ m) × (bytes' ≡ bytes))
-    ⊎ ((c < length m.banks) × ArePages page_size (length bytes)
-    × BytesTurn page_size c most count m bytes m' bytes')
 
 -- ---- logs
 

@@ -1,11 +1,11 @@
 //! What a program in C calls. A call takes the machine out of its handle, and puts it back.
-ghost use Rattle.std.specs.Prelude.{◌≡◌, ◌*◌, ◌<◌, IfErr, IfOk, IfSome, None, Option, Some};
+ghost use Rattle.std.specs.Prelude.{◌≡◌, ◌<◌, IfErr, IfOk, IfSome, IsTrue, None, Option, Some};
 ghost use Rattle.std.specs.Prelude.{ℕ, [], List, length, pos};
 ghost use Rattle.nv_bus.specs.Bus.{BusValue, IsBus};
-ghost use Rattle.nv_host.specs.Pages.{IsPageSize};
+ghost use Rattle.nv_host.specs.Pages.{are_pages};
 ghost use Rattle.nv_model.specs.LogEntry.{counts_of, log_entry_of};
 ghost use Rattle.nv_subsystem.specs.FromFile.{subsystem};
-ghost use Rattle.nvme_controller.specs.Calls.{ArePages, BytesTurn, EntryTold, Opens};
+ghost use Rattle.nvme_controller.specs.Calls.{BytesTurn, EntryTold, Opens};
 ghost use Rattle.nvme_controller.specs.Calls.{Turned, Written, read_of};
 ghost use Rattle.nvme_controller.specs.FaultText.{Tells, c_text};
 ghost use Rattle.nvme_controller.specs.inner.FaultText.{IsFaultOf};
@@ -14,9 +14,10 @@ ghost use Rattle.nvme_controller.specs.Open.{Goes, IsOpen};
 use crate::fault::{number, put_fault, put_text};
 use crate::handle::Handle;
 use nv_controller::{Bus, Machine};
-use nv_host::{FlatMemory, is_page_size, load_inside, store_inside};
+use nv_host::{LentBytes, LentMemory, Loan, are_pages};
 use nv_subsystem::{DEMO, Subsystem, SubsystemError};
 use std::alloc::Global;
+use std::marker::Brand;
 
 /// What a read of a controller that there isn't gives.
 const ABSENT: u32 = 0xffff_ffff;
@@ -162,64 +163,71 @@ pub extern "C" fn nvme_handle_write32(
     handle.put(machine);
 }
 
-/// How many pages of this size so many bytes are, if they are whole pages.
-#[tactic(auto, using(crate::proofs::PageLaws::are_pages))]
-fn pages_of(size: usize, page_size: u32) -> Option<u32>
-    ensures page { IfSome result (λ _. IsPageSize page_size) }
-    ensures whole { IfSome result (λ pages. pages * page_size ≡ size) }
-    ensures pages { IfSome result (λ _. ArePages page_size size) }
-{
-    if !is_page_size(page_size) {
-        return None;
-    }
-    let pages = size / page_size as usize;
-    if pages > u32::MAX as usize || pages * page_size as usize != size {
-        return None;
-    }
-    Some(pages as u32)
+/// The bytes of a turn, and how many entries it took.
+#[derive(Drop)]
+struct Taken<'a> {
+    count: u16,
+    memory: &'a mut [u8],
 }
 
-/// Lets a controller take entries over a copy of these bytes, and copies back what that leaves.
-#[tactic(auto, using(crate::proofs::CopyLaws::whole_written, crate::proofs::CopyLaws::whole_read))]
-fn turn(machine: &mut Machine, ctrl: u16, memory: &mut [u8], mut copy: FlatMemory, most: u16) -> u16
-    requires bus { IsBus machine.old }
-    requires ctrl { ctrl < length machine.old.banks }
-    requires len { length copy.bytes ≡ length memory.old }
-    ensures turn { BytesTurn copy.page_size ctrl most result
-        machine.old memory.old machine.new memory.new }
-    ensures bus { IsBus machine.new }
-{
-    store_inside(&mut copy, 0, memory);
-    let count = machine.turn(ctrl, &mut copy, most);
-    load_inside(&copy, 0, memory);
-    count
-}
-
-/// Lets a controller take entries over these bytes. Nothing is done where there is no such
-/// controller or page size, or no memory for a copy.
-fn turn_over(
-    alloc: Global,
+/// Lets a controller take entries over these bytes, and gives them back.
+fn turn<'a, L: Loan>(
     machine: &mut Machine,
     ctrl: u16,
-    memory: &mut [u8],
+    memory: &'a mut [u8],
     page_size: u32,
     most: u16,
-) -> u16
+) -> Taken<'a>
+    requires bus { IsBus machine.old }
+    requires ctrl { ctrl < length machine.old.banks }
+    requires pages { IsTrue (are_pages page_size (length memory.old)) }
+    requires loan { memory.ghost_name ≡ L.reference }
+    ensures same_reference { result.memory.ghost_name ≡ memory.entry.ghost_name }
+    ensures turn { BytesTurn page_size ctrl most result.count
+        machine.old memory.old machine.new result.memory.now }
+    ensures bus { IsBus machine.new }
+{
+    let mut lent: LentMemory<'a, L> = LentMemory::new(memory, page_size);
+    let count = machine.turn(ctrl, &mut lent, most);
+    let LentBytes { bytes } = lent.into_bytes();
+    Taken {
+        count,
+        memory: bytes,
+    }
+}
+
+/// The same, by whatever reference the bytes are lent.
+fn lent_turn<'a>(
+    machine: &mut Machine,
+    ctrl: u16,
+    memory: &'a mut [u8],
+    page_size: u32,
+    most: u16,
+) -> Taken<'a>
+    requires bus { IsBus machine.old }
+    requires ctrl { ctrl < length machine.old.banks }
+    requires pages { IsTrue (are_pages page_size (length memory.old)) }
+    ensures same_reference { result.memory.ghost_name ≡ memory.entry.ghost_name }
+    ensures turn { BytesTurn page_size ctrl most result.count
+        machine.old memory.old machine.new result.memory.now }
+    ensures bus { IsBus machine.new }
+{
+    turn::<Brand>(machine, ctrl, memory, page_size, most)
+}
+
+/// Lets a controller take entries over these bytes. Nothing is done if there is no such controller,
+/// or the bytes are not whole pages.
+fn turn_over(machine: &mut Machine, ctrl: u16, memory: &mut [u8], page_size: u32, most: u16) -> u16
     requires { IsBus machine.old }
     ensures turned { Turned ctrl page_size most result
         machine.old memory.old machine.new memory.new }
     ensures bus { IsBus machine.new }
 {
-    if ctrl >= machine.controllers() {
-        return 0;
+    if ctrl < machine.controllers() && are_pages(page_size, memory.len()) {
+        lent_turn(machine, ctrl, memory, page_size, most).count
+    } else {
+        0
     }
-    let Some(pages) = pages_of(memory.len(), page_size) else {
-        return 0;
-    };
-    let Ok(copy) = FlatMemory::new(alloc, page_size, pages) else {
-        return 0;
-    };
-    turn(machine, ctrl, memory, copy, most)
 }
 
 /// Lets a controller take entries over these bytes of the host.
@@ -238,7 +246,7 @@ pub extern "C" fn nvme_handle_turn(
     ensures open { IsOpen handle.new.machine }
 {
     let mut machine = handle.take(alloc);
-    let count = turn_over(alloc, &mut machine, ctrl, memory, page_size, most);
+    let count = turn_over(&mut machine, ctrl, memory, page_size, most);
     handle.put(machine);
     count
 }
